@@ -1,0 +1,2 @@
+//! One end of a QUIC connection.
+#![tactic(auto)]

@@ -1,0 +1,2 @@
+//! The reference machine of a QUIC connection.
+#![tactic(auto)]

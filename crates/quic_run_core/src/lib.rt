@@ -1,0 +1,2 @@
+//! Scripts over two ends of a connection.
+#![tactic(auto)]

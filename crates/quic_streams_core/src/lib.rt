@@ -1,0 +1,2 @@
+//! The two buffers of a QUIC stream.
+#![tactic(auto)]

@@ -1,0 +1,2 @@
+//! Frames, packets, keys and transport parameters of QUIC.
+#![tactic(auto)]

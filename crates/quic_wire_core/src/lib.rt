@@ -1,0 +1,2 @@
+//! Integers and ids of QUIC, and how they stand in bytes.
+#![tactic(auto)]
