@@ -1,0 +1,4 @@
+pub mod Number
+pub mod Keys
+pub mod Header
+pub mod Datagram
