@@ -1,0 +1,4 @@
+pub mod Coding
+pub mod Varint
+pub mod Law
+pub mod ConnectionId

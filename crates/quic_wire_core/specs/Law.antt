@@ -1,0 +1,150 @@
+-- The two directions of the spelling of variable-length integers: what was written is read again, and what is read was spelled so.
+use Rattle.std.proofs.Common.{◌≡◌, ℕ, suc, ◌+◌, ◌*◌, ◌/◌, ◌%◌, ◌-◌, ◌^◌, ◌<◌, ◌≤◌, List, [], ◌∷◌, ◌++◌, length, get_or, take, drop, Option, Some, None, Bool, true, false, cond, ltb, eqb, refl, sym, ap, ◌∙◌, inl, inr, ◌⊎◌, arith}
+use Rattle.std.specs.Int.{Width, w8, w16, w32, w64, byte_len, from_be_bytes, to_be_bytes}
+use Rattle.std.proofs.lemmas.Bool.{cases_lt, ltb-false, le-ltb, lt-ltb, eqb-true, eqb-false}
+use Rattle.std.proofs.lemmas.List.{take_at, drop_at, take-append-drop, length-append, length-take, get_or-take, get_or_past}
+use Rattle.std.proofs.lemmas.Nat.{from_be_bytes-to_be_bytes_2, from_be_bytes-to_be_bytes_4, from_be_bytes-to_be_bytes_8, be_bytes_2, be_bytes_4, be_bytes_8}
+use Rattle.quic_wire_core.specs.Coding.{IsBytes}
+use Rattle.quic_wire_core.specs.Varint.{varint_at, wide_at, shortest, Spells, Begins}
+
+-- the number of a width is read again
+wide_again : (w : Width) (n : ℕ) (rest : List ℕ) → length (to_be_bytes w n) ≡ byte_len w → from_be_bytes w (to_be_bytes w n) ≡ n → wide_at w (to_be_bytes w n ++ rest) ≡ Some (n % 2 ^ (8 * byte_len w - 2), rest)
+wide_again w n rest len back =
+    let long : ltb (length (to_be_bytes w n ++ rest)) (byte_len w) ≡ false = le-ltb _ _ (omega (arith, length-append (to_be_bytes w n) rest)) in
+    rw (long, take_at (to_be_bytes w n) rest (byte_len w) len, drop_at (to_be_bytes w n) rest (byte_len w) len, back) refl
+
+again_8 : (v : ℕ) (rest : List ℕ) → v < 2 ^ 6 → varint_at (v ∷ [] ++ rest) ≡ Some (v, rest)
+again_8 v rest lt =
+    let first : v / 64 ≡ 0 = omega arith in
+    let long : ltb (suc (length rest)) 1 ≡ false = le-ltb _ _ (omega arith) in
+    let same : v % 64 ≡ v = omega arith in
+    rw (first, long, same) refl
+
+again_16 : (v : ℕ) (rest : List ℕ) → v < 2 ^ 14 → varint_at (to_be_bytes w16 (2 ^ 14 + v) ++ rest) ≡ Some (v, rest)
+again_16 v rest lt =
+    let first : (16384 + v) / 256 % 256 / 64 ≡ 1 = omega arith in
+    let same : (16384 + v) % 16384 ≡ v = omega arith in
+    rw first (wide_again w16 (16384 + v) rest refl (from_be_bytes-to_be_bytes_2 (16384 + v) (omega arith)) ∙ rw same refl)
+
+again_32 : (v : ℕ) (rest : List ℕ) → v < 2 ^ 30 → varint_at (to_be_bytes w32 (2 * 2 ^ 30 + v) ++ rest) ≡ Some (v, rest)
+again_32 v rest lt =
+    let first : (2147483648 + v) / 16777216 % 256 / 64 ≡ 2 = omega arith in
+    let same : (2147483648 + v) % 1073741824 ≡ v = omega arith in
+    rw first (wide_again w32 (2147483648 + v) rest refl (from_be_bytes-to_be_bytes_4 (2147483648 + v) (omega arith)) ∙ rw same refl)
+
+again_64 : (v : ℕ) (rest : List ℕ) → v < 2 ^ 62 → varint_at (to_be_bytes w64 (3 * 2 ^ 62 + v) ++ rest) ≡ Some (v, rest)
+again_64 v rest lt =
+    let first : (13835058055282163712 + v) / 72057594037927936 % 256 / 64 ≡ 3 = omega arith in
+    let same : (13835058055282163712 + v) % 4611686018427387904 ≡ v = omega arith in
+    rw first (wide_again w64 (13835058055282163712 + v) rest refl (from_be_bytes-to_be_bytes_8 (13835058055282163712 + v) (omega arith)) ∙ rw same refl)
+
+-- what is spelled so is read so, whatever follows it
+pub spells_again : (v : ℕ) (bytes rest : List ℕ) → Spells v bytes → varint_at (bytes ++ rest) ≡ Some (v, rest)
+spells_again v bytes rest (inl s) = rw s.1 (again_8 v rest s.0)
+spells_again v bytes rest (inr (inl s)) = rw s.1 (again_16 v rest s.0)
+spells_again v bytes rest (inr (inr (inl s))) = rw s.1 (again_32 v rest s.0)
+spells_again v bytes rest (inr (inr (inr s))) = rw s.1 (again_64 v rest s.0)
+
+-- the shortest form is a form
+pub shortest_spells : (v : ℕ) → v < 2 ^ 62 → Spells v (shortest v)
+shortest_spells v lt =
+    elim (cases_lt v 64) [
+      | inl a ↦ rw (lt-ltb v 64 a) (inl (a, refl))
+      | inr a ↦ rw (le-ltb v 64 a) (elim (cases_lt v 16384) [
+        | inl b ↦ rw (lt-ltb v 16384 b) (inr (inl (b, refl)))
+        | inr b ↦ rw (le-ltb v 16384 b) (elim (cases_lt v 1073741824) [
+          | inl c ↦ rw (lt-ltb v 1073741824 c) (inr (inr (inl (c, refl))))
+          | inr c ↦ rw (le-ltb v 1073741824 c) (inr (inr (inr (lt, refl))))
+        ])
+      ])
+    ]
+
+-- what the writer writes is read again
+pub shortest_again : (v : ℕ) (rest : List ℕ) → v < 2 ^ 62 → varint_at (shortest v ++ rest) ≡ Some (v, rest)
+shortest_again v rest lt = spells_again v (shortest v) rest (shortest_spells v lt)
+
+-- What is read is spelled so.
+
+IsBytes-take : (n : ℕ) (bytes : List ℕ) → IsBytes bytes → IsBytes (take n bytes)
+IsBytes-take n bytes h i =
+    elim (cases_lt i n) [
+      | inl lt ↦ rw (get_or-take n bytes i 0 lt) (h i)
+      | inr le ↦ rw (get_or_past (take n bytes) i 0 (omega (arith, length-take n bytes))) (omega arith)
+    ]
+
+-- which way the test went
+chosen : {A : Type 0} (b : Bool) (x y z : A) → cond b x y ≡ z → ((b ≡ true) × (x ≡ z)) ⊎ ((b ≡ false) × (y ≡ z))
+chosen true x y z e = inl (refl, e)
+chosen false x y z e = inr (refl, e)
+
+abbrev some : {A : Type 0} → A → Option A
+some x = Some x
+
+some_is : {A : Type 0} (x y : A) → some x ≡ some y → x ≡ y
+some_is x y e = cc
+
+-- what a read of this width took
+wide_parts : (w : Width) (bytes : List ℕ) (v : ℕ) (rest : List ℕ) → wide_at w bytes ≡ Some (v, rest) → (byte_len w ≤ length bytes) × (from_be_bytes w (take (byte_len w) bytes) % 2 ^ (8 * byte_len w - 2) ≡ v) × (drop (byte_len w) bytes ≡ rest)
+wide_parts w bytes v rest e =
+    elim (chosen (ltb (length bytes) (byte_len w)) None (Some (from_be_bytes w (take (byte_len w) bytes) % 2 ^ (8 * byte_len w - 2), drop (byte_len w) bytes)) (Some (v, rest)) e) [
+      | inl a ↦ absurd (let n = a.1 in cc)
+      | inr a ↦ (let e = some_is (from_be_bytes w (take (byte_len w) bytes) % 2 ^ (8 * byte_len w - 2), drop (byte_len w) bytes) (v, rest) a.1 in (ltb-false _ _ a.0, ap (λ (p : ℕ × List ℕ). p.0) e, ap (λ (p : ℕ × List ℕ). p.1) e))
+    ]
+
+found_w16 : (bytes : List ℕ) (v : ℕ) (rest : List ℕ) → IsBytes bytes → get_or bytes 0 0 / 64 ≡ 1 → wide_at w16 bytes ≡ Some (v, rest) → Begins bytes v rest
+found_w16 bytes v rest h first e =
+    let p = wide_parts w16 bytes v rest e in
+    let fits = IsBytes-take 2 bytes h in
+    let head : get_or (take 2 bytes) 0 0 ≡ get_or bytes 0 0 = get_or-take 2 bytes 0 0 (omega arith) in
+    let tagged : 1 * 2 ^ 14 + v ≡ from_be_bytes w16 (take 2 bytes) = omega (arith, p.1, head, first, fits 0, fits 1) in
+    let small : v < 2 ^ 14 = omega (arith, p.1) in
+    let len : length (take 2 bytes) ≡ 2 = omega (arith, length-take 2 bytes, p.0) in
+    let back = be_bytes_2 (take 2 bytes) (1 * 2 ^ 14 + v) len fits tagged in
+    record { front = take 2 bytes; spells = inr (inl (small, sym back)); parts = sym (take-append-drop 2 bytes) ∙ ap (λ (t : List ℕ). take 2 bytes ++ t) p.2 }
+
+found_w32 : (bytes : List ℕ) (v : ℕ) (rest : List ℕ) → IsBytes bytes → get_or bytes 0 0 / 64 ≡ 2 → wide_at w32 bytes ≡ Some (v, rest) → Begins bytes v rest
+found_w32 bytes v rest h first e =
+    let p = wide_parts w32 bytes v rest e in
+    let fits = IsBytes-take 4 bytes h in
+    let head : get_or (take 4 bytes) 0 0 ≡ get_or bytes 0 0 = get_or-take 4 bytes 0 0 (omega arith) in
+    let tagged : 2 * 2 ^ 30 + v ≡ from_be_bytes w32 (take 4 bytes) = omega (arith, p.1, head, first, fits 0, fits 1, fits 2, fits 3) in
+    let small : v < 2 ^ 30 = omega (arith, p.1) in
+    let len : length (take 4 bytes) ≡ 4 = omega (arith, length-take 4 bytes, p.0) in
+    let back = be_bytes_4 (take 4 bytes) (2 * 2 ^ 30 + v) len fits tagged in
+    record { front = take 4 bytes; spells = inr (inr (inl (small, sym back))); parts = sym (take-append-drop 4 bytes) ∙ ap (λ (t : List ℕ). take 4 bytes ++ t) p.2 }
+
+found_w64 : (bytes : List ℕ) (v : ℕ) (rest : List ℕ) → IsBytes bytes → get_or bytes 0 0 / 64 ≡ 3 → wide_at w64 bytes ≡ Some (v, rest) → Begins bytes v rest
+found_w64 bytes v rest h first e =
+    let p = wide_parts w64 bytes v rest e in
+    let fits = IsBytes-take 8 bytes h in
+    let head : get_or (take 8 bytes) 0 0 ≡ get_or bytes 0 0 = get_or-take 8 bytes 0 0 (omega arith) in
+    let tagged : 3 * 2 ^ 62 + v ≡ from_be_bytes w64 (take 8 bytes) = omega (arith, p.1, head, first, fits 0, fits 1, fits 2, fits 3, fits 4, fits 5, fits 6, fits 7) in
+    let small : v < 2 ^ 62 = omega (arith, p.1) in
+    let len : length (take 8 bytes) ≡ 8 = omega (arith, length-take 8 bytes, p.0) in
+    let back = be_bytes_8 (take 8 bytes) (3 * 2 ^ 62 + v) len fits tagged in
+    record { front = take 8 bytes; spells = inr (inr (inr ((small, sym back)))); parts = sym (take-append-drop 8 bytes) ∙ ap (λ (t : List ℕ). take 8 bytes ++ t) p.2 }
+
+found_w8 : (bytes : List ℕ) (v : ℕ) (rest : List ℕ) → get_or bytes 0 0 / 64 ≡ 0 → wide_at w8 bytes ≡ Some (v, rest) → Begins bytes v rest
+found_w8 [] v rest first e = absurd cc
+found_w8 (b ∷ bytes) v rest first e =
+    let p = wide_parts w8 (b ∷ bytes) v rest e in
+    let same : b ≡ v = omega (arith, p.1, first) in
+    let small : v < 64 = omega (arith, first, same) in
+    record { front = v ∷ []; spells = inl (small, refl); parts = rw same (ap (λ (t : List ℕ). v ∷ t) p.2) }
+
+-- what is read is spelled so
+pub varint_found : (bytes : List ℕ) (v : ℕ) (rest : List ℕ) → IsBytes bytes → varint_at bytes ≡ Some (v, rest) → Begins bytes v rest
+varint_found bytes v rest h e =
+    let t = get_or bytes 0 0 / 64 in
+    let other : Option (ℕ × List ℕ) = cond (eqb t 2) (wide_at w32 bytes) (wide_at w64 bytes) in
+    elim (chosen (eqb t 0) (wide_at w8 bytes) (cond (eqb t 1) (wide_at w16 bytes) other) (Some (v, rest)) e) [
+      | inl a ↦ found_w8 bytes v rest (eqb-true _ _ a.0) a.1
+      | inr a ↦ elim (chosen (eqb t 1) (wide_at w16 bytes) other (Some (v, rest)) a.1) [
+        | inl b ↦ found_w16 bytes v rest h (eqb-true _ _ b.0) b.1
+        | inr b ↦ elim (chosen (eqb t 2) (wide_at w32 bytes) (wide_at w64 bytes) (Some (v, rest)) b.1) [
+          | inl c ↦ found_w32 bytes v rest h (eqb-true _ _ c.0) c.1
+          | inr c ↦ (let ne0 = eqb-false _ _ a.0 in let ne1 = eqb-false _ _ b.0 in let ne2 = eqb-false _ _ c.0 in
+              found_w64 bytes v rest h (omega (arith, h 0, ne0, ne1, ne2)) c.1)
+        ]
+      ]
+    ]

@@ -1,0 +1,148 @@
+//! Variable-length integers (RFC 9000, section 16).
+ghost use Rattle.std.specs.Prelude.{◌≡◌, ◌<◌, ◌^◌, ◌≤◌, [], MatchResult, MatchOption, length, slice_index};
+ghost use Rattle.std.specs.Int.{w8, w16, w32, w64};
+ghost use Rattle.quic_wire_core.specs.Coding.{Takes};
+
+use crate::coding::{Codec, UnexpectedEnd};
+use bytes::{Buf, BufMut};
+use std::alloc::AllocError;
+use std::fmt;
+use std::marker::Model;
+use thiserror::Error;
+
+/// A number below 2^62, which QUIC writes in one, two, four or eight bytes (quinn-proto's `VarInt`).
+///
+/// Contracts see the number itself.
+#[derive(Clone, Copy, Debug, Default, PartialEq, Eq, PartialOrd, Ord, Hash)]
+pub struct VarInt(u64);
+
+impl Model for VarInt {
+    ghost use Rattle.std.specs.Prelude.{ℕ, ◌^◌, ◌<◌};
+
+    ghost Value = { ℕ };
+
+    ghost view = { λ v. v.0 };
+
+    ghost invariant = { λ v. v.0 < 2 ^ 62 };
+
+    ghost inverse = { λ n. record { 0 = n } };
+}
+
+/// The number is 2^62 or above, and has no form as a variable-length integer.
+#[derive(Clone, Copy, Debug, PartialEq, Eq, Error)]
+#[error("value too large for varint encoding")]
+pub struct VarIntBoundsExceeded;
+
+impl VarInt {
+    /// The greatest number, 2^62 - 1.
+    pub const MAX: VarInt = VarInt((1 << 62) - 1);
+
+    /// The most bytes that a number takes.
+    pub const MAX_SIZE: usize = 8;
+
+    /// The number, which always fits.
+    pub fn from_u32(x: u32) -> Self
+        ensures { result ≡ x }
+    {
+        VarInt(u64::from(x))
+    }
+
+    /// The number, or [`VarIntBoundsExceeded`] from 2^62 on.
+    pub fn from_u64(x: u64) -> Result<Self, VarIntBoundsExceeded>
+        ensures { MatchResult result (λ v. v ≡ x) (λ _. 2 ^ 62 ≤ x) }
+    {
+        if x < 1 << 62 {
+            Ok(VarInt(x))
+        } else {
+            Err(VarIntBoundsExceeded)
+        }
+    }
+
+    /// The number, which the caller knows to be below 2^62.
+    pub fn from_u64_unchecked(x: u64) -> Self
+        requires { x < 2 ^ 62 }
+        ensures { result ≡ x }
+    {
+        VarInt(x)
+    }
+
+    /// The number as an integer, which is below 2^62.
+    pub fn into_inner(self) -> u64
+        ensures value { result ≡ self }
+        ensures bound { result < 2 ^ 62 }
+    {
+        self.0
+    }
+}
+
+/// The byte at the front.
+fn peek<B: Buf>(buf: &B) -> Option<u8>
+    ensures { MatchOption result (B.unread buf.now ≡ []) (λ b. (0 < length (B.unread buf.now)) × (b ≡ slice_index (B.unread buf.now) 0)) }
+{
+    buf.chunk().first().copied()
+}
+
+fn u8_of<B: Buf>(buf: &mut B) -> Result<u8, UnexpectedEnd>
+    ensures { Takes w8 result (B.unread buf.old) (B.unread buf.new) }
+{
+    buf.try_get_u8().map_err(|_| UnexpectedEnd)
+}
+
+fn u16_of<B: Buf>(buf: &mut B) -> Result<u16, UnexpectedEnd>
+    ensures { Takes w16 result (B.unread buf.old) (B.unread buf.new) }
+{
+    buf.try_get_u16().map_err(|_| UnexpectedEnd)
+}
+
+fn u32_of<B: Buf>(buf: &mut B) -> Result<u32, UnexpectedEnd>
+    ensures { Takes w32 result (B.unread buf.old) (B.unread buf.new) }
+{
+    buf.try_get_u32().map_err(|_| UnexpectedEnd)
+}
+
+fn u64_of<B: Buf>(buf: &mut B) -> Result<u64, UnexpectedEnd>
+    ensures { Takes w64 result (B.unread buf.old) (B.unread buf.new) }
+{
+    buf.try_get_u64().map_err(|_| UnexpectedEnd)
+}
+
+impl Codec for VarInt {
+    ghost use Rattle.std.specs.Prelude.{◌<◌, ◌^◌};
+    ghost use Rattle.quic_wire_core.specs.Varint.{varint_at, shortest};
+    ghost use Rattle.quic_wire_core.specs.Law.{shortest_again};
+
+    ghost reads = { varint_at };
+
+    ghost spelling = { shortest };
+
+    ghost fits = { λ v. v < 2 ^ 62 };
+
+    ghost again = { shortest_again };
+
+    fn decode<B: Buf>(buf: &mut B) -> Result<VarInt, UnexpectedEnd> {
+        let Some(first) = peek(buf) else {
+            return Err(UnexpectedEnd);
+        };
+        // The two top bits of the first byte tell the width.
+        let x = match first >> 6 {
+            0 => u64::from(u8_of(buf)?),
+            1 => u64::from(u16_of(buf)? & 0x3fff),
+            2 => u64::from(u32_of(buf)? & 0x3fff_ffff),
+            _ => u64_of(buf)? & 0x3fff_ffff_ffff_ffff,
+        };
+        Ok(VarInt(x))
+    }
+
+    fn encode<B: BufMut>(&self, buf: &mut B) -> Result<(), AllocError> {
+        let x = self.0;
+        if x < 1 << 6 {
+            buf.put_u8(x as u8)
+        } else if x < 1 << 14 {
+            buf.put_u16(0b01 << 14 | x as u16)
+        } else if x < 1 << 30 {
+            buf.put_u32(0b10 << 30 | x as u32)
+        } else {
+            buf.put_u64(0b11 << 62 | x)
+        }
+    }
+}
