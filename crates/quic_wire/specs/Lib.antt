@@ -2,3 +2,4 @@ pub mod Number
 pub mod Keys
 pub mod Header
 pub mod Datagram
+pub mod Destination
