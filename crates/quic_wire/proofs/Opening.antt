@@ -76,13 +76,20 @@ mates_open mask hide seal unmask reveal unseal mates n acked x id p near lt =
     ∙ (opened_parts unseal (length id + 1) x (first_byte t.width) id y (seal n (first_byte t.width ∷ (id ++ y)) p) t refl w (sym said.0) said.1
     ∙ finish seal unseal (first_byte t.width) (expanded t x) n (first_byte t.width ∷ (id ++ y)) p (expanded t x == n) mates.packet lt refl)
 
+-- the number's bytes are as many as its width
+pub length_of_bytes : (n acked : ℕ) → n - acked < 2 ^ 31 → length (number_bytes (truncated n acked)) ≡ (truncated n acked).width
+length_of_bytes n acked near =
+    let t = truncated n acked in
+    let few = fewest (n - acked) near in
+    let fits : n % 256 ^ t.width < 256 ^ t.width = below (256 ^ t.width) n (omega (arith, few.enough)) in
+    (value_of_bytes t.width t.residue few.some few.four fits).0
+
 -- the first byte tells how many bytes the number has
 width_of_bytes : (n acked : ℕ) → n - acked < 2 ^ 31 → width_in (first_byte (truncated n acked).width) ≡ length (number_bytes (truncated n acked))
 width_of_bytes n acked near =
     let t = truncated n acked in
     let few = fewest (n - acked) near in
-    let fits : n % 256 ^ t.width < 256 ^ t.width = below (256 ^ t.width) n (omega (arith, few.enough)) in
-    width_of_first t.width few.some few.four ∙ sym (value_of_bytes t.width t.residue few.some few.four fits).0
+    width_of_first t.width few.some few.four ∙ sym (length_of_bytes n acked near)
 
 pub sealed_is_sent : SealedIsSent
 sealed_is_sent mask hide seal keeps n acked was id p near =

@@ -2,7 +2,7 @@
 ghost use Rattle.std.specs.Prelude.{◌≡◌, ℕ, ◌+◌, ◌-◌, ◌/◌, ◌^◌, ◌<◌, ◌≤◌, List, Option, Some, None, IfOk, OnOk, OnErr, MatchResult, ◌++◌, length, take, vec_len, vec_capacity};
 ghost use Rattle.bytes.specs.Filled.{UsesSpare, UsesMaxSpare};
 ghost use Rattle.quic_wire.specs.Number.{truncated, window, width_for, IsFewest, number_bytes, residue_of, expanded, IsExpansion};
-ghost use Rattle.quic_wire.specs.Header.{header_bytes};
+ghost use Rattle.quic_wire.specs.Header.{first_byte, header_bytes};
 ghost use Rattle.quic_wire.specs.Destination.{is_known, decoded};
 
 use crate::reserved::append;
@@ -234,7 +234,7 @@ pub enum HeaderError {
 fn is_known(id: &ConnectionId, known: &[ConnectionId]) -> bool
     ensures { result ≡ is_known id.now known.now }
 {
-    known.iter().any(|x| x.as_slice() == id.as_slice())
+    known.iter().any(|x| id.as_slice() == x.as_slice())
 }
 
 /// The header of a 1-RTT packet (RFC 9000, 17.3.1). Spin, reserved and key phase bits are written 0.
@@ -257,7 +257,7 @@ impl ShortHeader {
 
     /// The first byte: the fixed bit, and how many bytes the number takes.
     fn first_byte(&self) -> u8
-        ensures { result ≡ 64 + (self.now.number.width - 1) }
+        ensures { result ≡ first_byte self.now.number.width }
     {
         FIXED_BIT | (self.number.len() - 1) as u8
     }
