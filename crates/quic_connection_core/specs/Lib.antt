@@ -1,0 +1,11 @@
+pub mod Settings
+pub mod Table
+pub mod Policy
+pub mod Closing
+pub mod Ids
+pub mod Numbers
+pub mod Parts
+pub mod Sending
+pub mod Receiving
+pub mod End
+pub mod Receive

@@ -1,2 +1,16 @@
-//! The reference machine of a QUIC connection.
+//! The reference machine of a QUIC connection: the values that its calls take and answer, what each
+//! call of one end answers and leaves, and runs of two ends over a network.
 #![tactic(auto)]
+
+mod answers;
+mod config;
+mod instant;
+mod run;
+
+pub use answers::{
+    Chunk, ConfigError, DropReason, Failed, FinishError, LostReason, ReadError, ReadableError,
+    Received, State, Transmit, WriteError,
+};
+pub use config::TransportConfig;
+pub use instant::Instant;
+pub use run::{Answer, Call, Delivery, EndView, Nexts, ReadCall, RunEvent, View};

@@ -1,0 +1,93 @@
+-- The calls of one end: what each answers, and what it leaves.
+use Rattle.std.specs.Prelude.{ℕ, ◌≡◌, ◌⊎◌, ◌≢◌, Bool, true, false, List, [], ◌∷◌, Option, Some, None, Result, Ok, Err, alloc_error}
+use Rattle.std.specs.declared.alloc.AllocError.{AllocError}
+use Rattle.quic_wire_core.specs.declared.stream_id.Side.{Side}
+use Rattle.quic_wire_core.specs.declared.stream_id.Dir.{Dir}
+use Rattle.quic_wire_core.specs.declared.stream_id.Dir.TheVariants.{Bi, Uni}
+use Rattle.quic_streams_core.specs.declared.connection.assembler.Chunk.{Chunk}
+use Rattle.quic_connection_core.specs.declared.answers.State.{State}
+use Rattle.quic_connection_core.specs.declared.answers.State.TheVariants as states
+use Rattle.quic_connection_core.specs.declared.answers.WriteError.{WriteError}
+use Rattle.quic_connection_core.specs.declared.answers.ReadError.{ReadError}
+use Rattle.quic_connection_core.specs.declared.answers.ReadError.TheVariants as read_errors
+use Rattle.quic_connection_core.specs.Table.{at}
+use Rattle.quic_connection_core.specs.Sending.{opens, next_id, write_answer, after_written}
+use Rattle.quic_connection_core.specs.Sending as sending
+use Rattle.quic_connection_core.specs.Receiving.{Receiving, after_own_open, accept_answer, after_accept, next_answer, after_next}
+use Rattle.quic_connection_core.specs.End.{End, with_sending, with_receiving}
+
+-- whether an end sends and receives
+abbrev pub is_open : State → Bool
+is_open states.Open = true
+is_open states.Closing = false
+is_open states.Drained = false
+is_open states.Failed = false
+
+-- ---- open
+
+abbrev pub open_if : Bool → Dir → End → Option ℕ
+open_if true dir e = Some (next_id e.side dir e.sending)
+open_if false dir e = None
+
+abbrev pub can_open : State → Dir → End → Bool
+can_open states.Open dir e = opens e.side dir e.sending
+can_open states.Closing dir e = false
+can_open states.Drained dir e = false
+can_open states.Failed dir e = false
+
+-- the id of the stream that is opened, if one may be
+abbrev pub open_answer : Dir → End → Option ℕ
+open_answer dir e = open_if (can_open e.closing.state dir e) dir e
+
+-- an own two-way stream can be read as well
+abbrev pub both_ways : Dir → Receiving → ℕ → Receiving
+both_ways Bi r id = after_own_open r id
+both_ways Uni r id = r
+
+abbrev pub after_open_if : Bool → Dir → End → End
+after_open_if true dir e = record e { sending = sending.after_open e.side dir e.sending; receiving = both_ways dir e.receiving (next_id e.side dir e.sending) }
+after_open_if false dir e = e
+
+abbrev pub after_open : Dir → End → End
+after_open dir e = after_open_if (can_open e.closing.state dir e) dir e
+
+-- ---- accept
+
+abbrev pub end_accepts : Dir → End → Option ℕ
+end_accepts dir e = accept_answer e.side dir e.receiving
+
+abbrev pub end_after_accept : Dir → End → End
+end_after_accept dir e = with_receiving e (after_accept dir e.receiving)
+
+-- ---- write and finish
+
+abbrev pub end_writes : End → ℕ → ℕ → Result ℕ WriteError
+end_writes e id len = write_answer (is_open e.closing.state) e.sending id len
+
+-- what a write leaves, by its answer
+abbrev pub end_after_write : Result ℕ WriteError → End → ℕ → List ℕ → End
+end_after_write answer e id bytes = with_sending e (after_written answer e.sending id bytes)
+
+abbrev pub end_after_finish : End → ℕ → End
+end_after_finish e id = with_sending e (sending.after_finish e.sending id)
+
+-- ---- read
+
+-- what a `next` leaves, by its answer
+abbrev pub end_after_next : Result (Option Chunk) ReadError → End → ℕ → ℕ → End
+end_after_next answer e id most = with_receiving e (after_next answer (at e.receiving.halves id) e.receiving id most)
+
+abbrev pub end_next : End → ℕ → ℕ → Result (Option Chunk) ReadError
+end_next e id most = next_answer (at e.receiving.halves id) most
+
+-- these may be the answers of so many `next`s of a read: each lacks memory, or is what the end answers then
+abbrev pub AreNexts : End → ℕ → List ℕ → List (Result (Option Chunk) ReadError) → Type 0
+AreNexts e id [] [] = Unit {0}
+AreNexts e id (most ∷ mosts) (answer ∷ answers) = ((answer ≡ end_next e id most) ⊎ (answer ≡ Err read_errors.Memory)) × AreNexts (end_after_next answer e id most) id mosts answers
+AreNexts e id [] (answer ∷ answers) = ⊥
+AreNexts e id (most ∷ mosts) [] = ⊥
+
+-- what they leave
+abbrev pub after_nexts : End → ℕ → List ℕ → List (Result (Option Chunk) ReadError) → End
+after_nexts e id (most ∷ mosts) (answer ∷ answers) = after_nexts (end_after_next answer e id most) id mosts answers
+after_nexts e id mosts answers = e

@@ -1,0 +1,112 @@
+-- One end: a record of parts, one for each concern, and beside it the keys and the random source.
+use Rattle.std.specs.Prelude.{◌≡◌, ℕ, Bool, List, [], None}
+use Rattle.quic_wire_core.specs.declared.stream_id.Side.{Side}
+use Rattle.quic_wire.specs.Keys.{OfFirst, OfNumber, Seal, Open}
+use Rattle.quic_wire.specs.declared.crypto.Keys.{Keys}
+use Rattle.quic_wire.specs.Parameters.{ParameterValues}
+use Rattle.quic_connection_core.specs.declared.answers.State.TheVariants as states
+use Rattle.quic_connection_core.specs.Settings.{Settings}
+use Rattle.quic_connection_core.specs.Closing.{Closing, failed}
+use Rattle.quic_connection_core.specs.Ids.{Ids, first_ids}
+use Rattle.quic_connection_core.specs.Numbers.{Numbers, no_numbers}
+use Rattle.quic_connection_core.specs.Parts.{Acknowledging, nothing_to_acknowledge, Tracking, nothing_tracked, Path, first_path, Messages, no_messages, Waiting, nothing_waits}
+use Rattle.quic_connection_core.specs.Sending.{Sending}
+use Rattle.quic_connection_core.specs.Receiving.{Receiving}
+use Rattle.quic_connection_core.specs.Policy.{Policy}
+
+pub record End : Type 0 where
+  pub side : Side
+  pub closing : Closing
+  pub ids : Ids
+  pub numbers : Numbers
+  pub acknowledging : Acknowledging
+  pub tracking : Tracking
+  pub path : Path
+  pub sending : Sending
+  pub receiving : Receiving
+  pub messages : Messages
+  pub waiting : Waiting
+
+-- an end with its keys and its random source
+pub record Whole (H K R : Type 0) : Type 0 where
+  pub keys : Keys H K
+  pub random : R
+  pub end : End
+
+-- the same keys and random source, and another end
+abbrev pub with_end : {H K R : Type 0} → Whole H K R → End → Whole H K R
+with_end w e = record w { end = e }
+
+-- what the keys of an end do: it protects with the local ones, and opens with the remote ones
+abbrev pub policy_of : {H K R : Type 0} → (H → OfFirst) → (H → OfNumber) → (H → OfFirst) → (H → OfNumber) → (K → Seal) → (K → Open) → Whole H K R → Policy
+policy_of masks hides unmasks reveals sealed opened w = record {
+  mask = masks w.keys.header.local;
+  hide = hides w.keys.header.local;
+  seal = sealed w.keys.packet.local;
+  unmask = unmasks w.keys.header.remote;
+  reveal = reveals w.keys.header.remote;
+  unseal = opened w.keys.packet.remote;
+}
+
+-- nothing was sent yet: the peer's parameters are the limits
+abbrev pub first_sending : Settings → ParameterValues → Sending
+first_sending settings theirs = record {
+  halves = [];
+  opened_bi = 0;
+  opened_uni = 0;
+  count_bi = theirs.initial_max_streams_bidi;
+  count_uni = theirs.initial_max_streams_uni;
+  accepted = 0;
+  limit = theirs.initial_max_data;
+  window = settings.send_window;
+  first_limit_bi = theirs.initial_max_stream_data_bidi_remote;
+  first_limit_uni = theirs.initial_max_stream_data_uni;
+}
+
+-- nothing has come yet: the own settings are the limits
+abbrev pub first_receiving : Settings → Receiving
+first_receiving settings = record {
+  halves = [];
+  opened_bi = 0;
+  opened_uni = 0;
+  accepted_bi = 0;
+  accepted_uni = 0;
+  count_bi = settings.max_bidi;
+  count_uni = settings.max_uni;
+  seen = 0;
+  limit = settings.receive_window;
+  stream_limit = settings.stream_receive_window;
+}
+
+-- an end as it is made at a moment
+abbrev pub new_end : Side → Settings → ParameterValues → List ℕ → List ℕ → ℕ → Bool → End
+new_end side settings theirs own_id peer_id now validated = record {
+  side = side;
+  closing = record { clock = now; state = states.Open; reason = None };
+  ids = first_ids own_id peer_id;
+  numbers = no_numbers;
+  acknowledging = nothing_to_acknowledge;
+  tracking = nothing_tracked;
+  path = first_path validated;
+  sending = first_sending settings theirs;
+  receiving = first_receiving settings;
+  messages = no_messages;
+  waiting = nothing_waits;
+}
+
+abbrev pub with_closing : End → Closing → End
+with_closing e c = record e { closing = c }
+
+abbrev pub with_numbers : End → Numbers → End
+with_numbers e n = record e { numbers = n }
+
+abbrev pub with_sending : End → Sending → End
+with_sending e s = record e { sending = s }
+
+abbrev pub with_receiving : End → Receiving → End
+with_receiving e r = record e { receiving = r }
+
+-- an end that met want of memory where it can't say so: it is failed for good, and nothing else is said of it
+pub record HasFailed {H K R : Type 0} (old new : Whole H K R) : Type 0 where
+  pub closing : new.end.closing ≡ failed old.end.closing
+  pub keys : new ≡ with_end old new.end

@@ -1,0 +1,140 @@
+-- The machine of two ends over a network: what each event is answered, and what it leaves.
+use Rattle.std.specs.Prelude.{ℕ, ◌≡◌, ◌≢◌, ◌⊎◌, Bool, true, false, List, [], ◌∷◌, ◌++◌, length, replicate, slice_get, Option, Some, None, Result, Ok, Err, alloc_error}
+use Rattle.std.specs.Option.{option_to_list}
+use Rattle.quic_wire_core.specs.declared.stream_id.Side.{Side}
+use Rattle.quic_wire_core.specs.declared.stream_id.Side.TheVariants.{Client, Server}
+use Rattle.quic_wire_core.specs.StreamId.{other_side}
+use Rattle.quic_connection_core.specs.declared.answers.State.TheVariants as states
+use Rattle.quic_connection_core.specs.declared.answers.WriteError.TheVariants as write_errors
+use Rattle.quic_connection_core.specs.declared.answers.ReadableError.TheVariants as readable_errors
+use Rattle.quic_connection_core.specs.declared.answers.Received.TheVariants as receives
+use Rattle.quic_connection_core.specs.declared.answers.Failed.{Failed}
+use Rattle.quic_connection_core.specs.declared.answers.Transmit.{Transmit}
+use Rattle.quic_connection_core.specs.declared.run.RunEvent.{RunEvent}
+use Rattle.quic_connection_core.specs.declared.run.Call.{Call}
+use Rattle.quic_connection_core.specs.declared.run.Call.TheVariants as calls
+use Rattle.quic_connection_core.specs.declared.run.Answer.{Answer}
+use Rattle.quic_connection_core.specs.declared.run.Answer.TheVariants as answers
+use Rattle.quic_connection_core.specs.declared.run.EndView.{EndView}
+use Rattle.quic_connection_core.specs.declared.run.View.{View}
+use Rattle.quic_connection_core.specs.Policy.{Policy}
+use Rattle.quic_connection_core.specs.End.{End}
+use Rattle.quic_connection_core.specs.Closing.{failed}
+use Rattle.quic_connection_core.specs.Sending.{finish_answer}
+use Rattle.quic_connection_core.specs.Receiving.{read_answer}
+use Rattle.quic_connection_core.specs.Calls.{open_answer, after_open, end_accepts, end_after_accept, end_writes, end_after_write, end_after_finish, AreNexts, after_nexts}
+use Rattle.quic_connection_core.specs.Receive.{received}
+use Rattle.quic_connection_core.specs.Poll.{polled}
+
+-- ---- one call at one end; `theirs` are the datagrams that the other end gave
+
+-- what a delivery is answered: no call is made where there is no such datagram
+abbrev pub IsDelivered : Policy → End → ℕ → Option (List ℕ) → Answer → Type 0
+IsDelivered p e now None a = a ≡ answers.NoDatagram
+IsDelivered p e now (Some d) a = (a ≡ answers.Deliver (received p e now d).answer) ⊎ (a ≡ answers.Deliver receives.Failed)
+
+-- what a read is answered: the stream can't be read, or each `next` answers in turn
+abbrev pub IsRead : End → ℕ → List ℕ → Answer → Type 0
+IsRead e id mosts (answers.Read (Ok nexts)) = (read_answer e.receiving id ≡ Ok tt) × AreNexts e id mosts nexts
+IsRead e id mosts (answers.Read (Err error)) = (read_answer e.receiving id ≡ Err error) ⊎ (error ≡ readable_errors.Memory)
+IsRead e id mosts a = ⊥
+
+-- what a call may be answered: what the machine says, or that memory lacks
+abbrev pub IsAnswer : Policy → End → List (List ℕ) → Call → Answer → Type 0
+IsAnswer p e theirs (calls.Open dir) a = (a ≡ answers.Open (Ok (open_answer dir e))) ⊎ (a ≡ answers.Open (Err alloc_error))
+IsAnswer p e theirs (calls.Accept dir) a = a ≡ answers.Accept (end_accepts dir e)
+IsAnswer p e theirs (calls.Write id bytes) a = (a ≡ answers.Write (end_writes e id (length bytes))) ⊎ (a ≡ answers.Write (Err write_errors.Memory))
+IsAnswer p e theirs (calls.Finish id) a = a ≡ answers.Finish (finish_answer e.sending id)
+IsAnswer p e theirs (calls.Read read) a = IsRead e read.id read.nexts.items a
+IsAnswer p e theirs (calls.Poll now) a = (a ≡ answers.Poll (polled p e now).answer) ⊎ (a ≡ answers.Poll (Err (record {})))
+IsAnswer p e theirs (calls.Deliver delivery) a = IsDelivered p e delivery.now (slice_get theirs delivery.index) a
+
+abbrev pub after_delivered : Policy → End → ℕ → Option (List ℕ) → End
+after_delivered p e now None = e
+after_delivered p e now (Some d) = (received p e now d).end
+
+-- what a call leaves, by its answer, where memory served
+abbrev pub after_call : Policy → End → List (List ℕ) → Call → Answer → End
+after_call p e theirs (calls.Open dir) (answers.Open (Ok id)) = after_open dir e
+after_call p e theirs (calls.Accept dir) a = end_after_accept dir e
+after_call p e theirs (calls.Write id bytes) (answers.Write answer) = end_after_write answer e id bytes
+after_call p e theirs (calls.Finish id) a = end_after_finish e id
+after_call p e theirs (calls.Read read) (answers.Read (Ok nexts)) = after_nexts e read.id read.nexts.items nexts
+after_call p e theirs (calls.Poll now) a = (polled p e now).end
+after_call p e theirs (calls.Deliver delivery) a = after_delivered p e delivery.now (slice_get theirs delivery.index)
+after_call p e theirs call a = e
+
+-- the datagrams that a call gives
+abbrev pub gives : Policy → End → Call → Answer → List (List ℕ)
+gives p e (calls.Poll now) (answers.Poll (Ok (Some transmit))) = option_to_list (polled p e now).datagram
+gives p e call a = []
+
+-- a poll or a delivery lacked memory: the end fails
+abbrev pub fails : Answer → Bool
+fails (answers.Poll (Err failed)) = true
+fails (answers.Deliver receives.Failed) = true
+fails a = false
+
+-- the end that a call leaves: of one that failed, only that it has
+abbrev pub IsLeft : Bool → Policy → End → List (List ℕ) → Call → Answer → End → Type 0
+IsLeft true p e theirs call a next = next.closing ≡ failed e.closing
+IsLeft false p e theirs call a next = next ≡ after_call p e theirs call a
+
+-- ---- two ends
+
+-- both ends, and the datagrams that each has given, in their order
+pub record World : Type 0 where
+  pub client : End
+  pub server : End
+  pub from_client : List (List ℕ)
+  pub from_server : List (List ℕ)
+
+-- what the keys of both ends do
+pub record Policies : Type 0 where
+  pub client : Policy
+  pub server : Policy
+
+abbrev pub policy_at : Side → Policies → Policy
+policy_at Client k = k.client
+policy_at Server k = k.server
+
+abbrev pub end_at : Side → World → End
+end_at Client w = w.client
+end_at Server w = w.server
+
+abbrev pub given_by : Side → World → List (List ℕ)
+given_by Client w = w.from_client
+given_by Server w = w.from_server
+
+-- that end changes, and gives these datagrams
+abbrev pub changed : Side → World → End → List (List ℕ) → World
+changed Client w e ds = record w { client = e; from_client = w.from_client ++ ds }
+changed Server w e ds = record w { server = e; from_server = w.from_server ++ ds }
+
+-- an event may be answered so, and leave the world so
+pub record IsStep (k : Policies) (w : World) (event : RunEvent) (a : Answer) (next : World) : Type 0 where
+  pub answer : IsAnswer (policy_at event.side k) (end_at event.side w) (given_by (other_side event.side) w) event.call a
+  pub end : IsLeft (fails a) (policy_at event.side k) (end_at event.side w) (given_by (other_side event.side) w) event.call a (end_at event.side next)
+  pub others : next ≡ changed event.side w (end_at event.side next) (gives (policy_at event.side k) (end_at event.side w) event.call a)
+
+-- what is seen of an end; what this stage has no call for is not there
+abbrev pub end_view : End → EndView
+end_view e = record {
+  state = e.closing.state;
+  reason = e.closing.reason;
+  validated = e.path.validated;
+  timers = replicate 9 None;
+  window = None;
+  current_mtu = None;
+}
+
+abbrev pub view_of : World → View
+view_of w = record { client = end_view w.client; server = end_view w.server }
+
+-- These answers and views may come of the first of these events, one of each for each event in turn, and leave the world so.
+abbrev pub Follows : Policies → World → List RunEvent → List Answer → List View → World → Type 0
+Follows k w events [] [] end = end ≡ w
+Follows k w (event ∷ events) (a ∷ as) (v ∷ vs) end = (next : World) × IsStep k w event a next × (v ≡ view_of next) × Follows k next events as vs end
+Follows k w [] (a ∷ as) vs end = ⊥
+Follows k w events [] (v ∷ vs) end = ⊥
+Follows k w (event ∷ events) (a ∷ as) [] end = ⊥

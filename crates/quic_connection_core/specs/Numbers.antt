@@ -1,0 +1,70 @@
+-- Packet numbers of an end: those it gives and those it opened (RFC 9000, section 12.3).
+use Rattle.std.specs.Prelude.{ℕ, ◌+◌, ◌-◌, ◌%◌, ◌^◌, max, Bool, nat_lt, ◌==◌, ◌||◌, ◌&&◌, not, List, replicate, slice_index, slice_set, Option, Some, None, unwrap_or}
+
+-- how far below the greatest opened number one still counts as new if it didn't come (one more than that: a duplicate)
+abbrev pub duplicate_span : ℕ
+duplicate_span = 129
+
+-- The numbers opened that can still come again. Two numbers of one residue modulo the span lie a span apart, so the
+-- greatest one of each residue says all: it stands at its residue, one added, and 0 where there is none.
+pub record Opened : Type 0 where
+  -- one above the greatest, 0 at first
+  pub next : ℕ
+  pub places : List ℕ
+
+abbrev pub none_opened : Opened
+none_opened = record { next = 0; places = replicate duplicate_span 0 }
+
+-- whether a number counts as having come before
+abbrev pub is_duplicate : Opened → ℕ → Bool
+is_duplicate o n = nat_lt (n + duplicate_span) o.next || (slice_index o.places (n % duplicate_span) == n + 1)
+
+-- a number that is no duplicate was opened
+abbrev pub with_opened : Opened → ℕ → Opened
+with_opened o n = record { next = max o.next (n + 1); places = slice_set o.places (n % duplicate_span) (n + 1) }
+
+-- the next number to give, the greatest own number that the peer named, the numbers opened, and the greatest whose whole payload was taken
+pub record Numbers : Type 0 where
+  pub next : ℕ
+  pub acknowledged : Option ℕ
+  pub opened : Opened
+  pub taken : Option ℕ
+
+abbrev pub no_numbers : Numbers
+no_numbers = record { next = 0; acknowledged = None; opened = none_opened; taken = None }
+
+-- the number that a packet is expected to have: one above the greatest taken (RFC 9000, A.3)
+abbrev pub after_greatest : Option ℕ → ℕ
+after_greatest None = 0
+after_greatest (Some n) = n + 1
+
+abbrev pub expected : Numbers → ℕ
+expected numbers = after_greatest numbers.taken
+
+-- what a number is cut against (RFC 9000, A.2): the greatest acknowledged, 0 if there is none
+abbrev pub cut_against : Numbers → ℕ
+cut_against numbers = unwrap_or numbers.acknowledged 0
+
+-- how many numbers are kept for closes
+abbrev pub kept_numbers : ℕ
+kept_numbers = 16
+
+-- whether an ordinary datagram may still be numbered: a number stays below 2 ^ 62, and its distance from the greatest acknowledged below 2 ^ 31
+abbrev pub can_number : Numbers → Bool
+can_number numbers = nat_lt (numbers.next + kept_numbers) (2 ^ 62) && nat_lt (numbers.next - cut_against numbers + kept_numbers) (2 ^ 31)
+
+-- the next number is given
+abbrev pub number_given : Numbers → Numbers
+number_given numbers = record numbers { next = numbers.next + 1 }
+
+-- a packet of this number was opened
+abbrev pub number_opened : Numbers → ℕ → Numbers
+number_opened numbers n = record numbers { opened = with_opened numbers.opened n }
+
+abbrev pub greatest_of : Option ℕ → ℕ → ℕ
+greatest_of None n = n
+greatest_of (Some m) n = max m n
+
+-- the whole payload of a packet of this number was taken
+abbrev pub number_taken : Numbers → ℕ → Numbers
+number_taken numbers n = record numbers { taken = Some (greatest_of numbers.taken n) }

@@ -1,0 +1,109 @@
+-- What an end gives when it is polled (RFC 9000, sections 12.2, 13.3 and 14.1).
+use Rattle.std.specs.Prelude.{ℕ, ◌+◌, ◌-◌, ◌≡◌, Bool, true, false, ◌==◌, ◌&&◌, not, if◌then◌else◌, List, [], ◌∷◌, ◌++◌, length, replicate, Option, Some, None, Result, Ok, Err}
+use Rattle.quic_wire_core.specs.declared.shared.EcnCodepoint.{EcnCodepoint}
+use Rattle.quic_wire_core.specs.declared.shared.EcnCodepoint.TheVariants.{Ect0}
+use Rattle.quic_wire.specs.Number.{truncated}
+use Rattle.quic_wire.specs.Value.{FrameValue, StreamValue, padding, stream}
+use Rattle.quic_wire.specs.Writing.{stream_spelling}
+use Rattle.quic_wire.specs.Grammar.{Payload}
+use Rattle.quic_wire.specs.Datagram.{sent}
+use Rattle.quic_streams_core.specs.Buffered.{Buffered, sent_range, writes_length, after_poll, slice}
+use Rattle.quic_connection_core.specs.declared.answers.State.{State}
+use Rattle.quic_connection_core.specs.declared.answers.Failed.{Failed}
+use Rattle.quic_connection_core.specs.declared.answers.Transmit.{Transmit}
+use Rattle.quic_connection_core.specs.declared.answers.State.TheVariants as states
+use Rattle.quic_connection_core.specs.declared.answers.LostReason.TheVariants as reasons
+use Rattle.quic_connection_core.specs.Table.{Table, put}
+use Rattle.quic_connection_core.specs.Closing.{ticked, closed_for}
+use Rattle.quic_connection_core.specs.Numbers.{can_number, cut_against, number_given}
+use Rattle.quic_connection_core.specs.Sending.{Sending, SendHalf, has_pending, written_on}
+use Rattle.quic_connection_core.specs.Policy.{Policy}
+use Rattle.quic_connection_core.specs.End.{End, with_closing, with_numbers, with_sending}
+
+-- the most bytes of a datagram (RFC 9000, section 14.1)
+abbrev pub current_mtu : ℕ
+current_mtu = 1200
+
+-- ---- what is given
+
+-- The datagram of a packet number, a destination id and frames: its payload is a spelling of them (RFC 9000, sections 12.4 and 17.3.1).
+pub record IsDatagram (p : Policy) (acknowledged number : ℕ) (id : List ℕ) (frames : List FrameValue) (datagram : List ℕ) : Type 0 where
+  pub payload : List ℕ
+  pub spells : Payload frames payload
+  pub is : datagram ≡ sent p.mask p.hide p.seal number acknowledged id payload
+
+-- the first stream with something to send
+abbrev pub first_pending : Table SendHalf → Option (ℕ × SendHalf)
+first_pending [] = None
+first_pending (e ∷ es) = if has_pending e.1 then Some e else first_pending es
+
+-- the frame that a half sends where so many bytes are left behind type and id
+abbrev pub frame_of : ℕ → SendHalf → ℕ → StreamValue
+frame_of id h room =
+    let range = sent_range h.buffer room in
+    record { id = id; offset = range.start; fin = h.finished && (range.end == written_on h); bytes = slice h.buffer range }
+
+-- the half after that frame went
+abbrev pub half_after : SendHalf → ℕ → SendHalf
+half_after h room = record h { buffer = after_poll h.buffer room; end_waits = h.end_waits && not (h.finished && ((sent_range h.buffer room).end == written_on h)) }
+
+-- number and payload have four bytes at least, so that the sample stands in the datagram (RFC 9001, section 5.4.2)
+abbrev pub padded : ℕ → List ℕ → List ℕ
+padded width payload = payload ++ replicate (4 - (width + length payload)) 0
+
+-- ---- the answer, the datagram and the end that are left
+
+pub record Polled : Type 0 where
+  pub answer : Result (Option Transmit) Failed
+  pub datagram : Option (List ℕ)
+  pub end : End
+
+abbrev pub gives_nothing : End → Polled
+gives_nothing e = record { answer = Ok None; datagram = None; end = e }
+
+-- a datagram, marked ECT(0) (RFC 9000, section 13.4)
+abbrev pub gives_datagram : List ℕ → End → Polled
+gives_datagram d e = record { answer = Ok (Some (record { size = length d; ecn = Some Ect0 })); datagram = Some d; end = e }
+
+-- how many bytes are left for frames: the datagram's less header, number and tag
+abbrev pub frame_room : End → ℕ
+frame_room e = current_mtu - (1 + length e.ids.active.id + (truncated e.numbers.next (cut_against e.numbers)).width + 16)
+
+-- how many bytes are left behind the type and the id of a stream frame
+abbrev pub stream_room : End → ℕ → ℕ
+stream_room e id = frame_room e - (1 + varint_len id)
+
+-- the payload with one stream frame
+abbrev pub payload_of : End → ℕ → SendHalf → List ℕ
+payload_of e id h =
+    padded (truncated e.numbers.next (cut_against e.numbers)).width (stream_spelling (writes_length h.buffer (stream_room e id)) (frame_of id h (stream_room e id)))
+
+-- the datagram with one stream frame
+abbrev pub datagram_with : Policy → End → ℕ → SendHalf → List ℕ
+datagram_with p e id h = sent p.mask p.hide p.seal e.numbers.next (cut_against e.numbers) e.ids.active.id (payload_of e id h)
+
+-- the end after it went
+abbrev pub after_sent : End → ℕ → SendHalf → End
+after_sent e id h = with_numbers (with_sending e (record e.sending { halves = put e.sending.halves id (half_after h (stream_room e id)) })) (number_given e.numbers)
+
+-- a stream with something to send: where the numbers are used up, the end closes and gives nothing
+abbrev pub sends : Bool → Policy → End → ℕ → SendHalf → Polled
+sends true p e id h = gives_datagram (datagram_with p e id h) (after_sent e id h)
+sends false p e id h = gives_nothing (with_closing e (closed_for reasons.NumberLimit e.closing))
+
+abbrev pub polled_for : Option (ℕ × SendHalf) → Policy → End → Polled
+polled_for None p e = gives_nothing e
+polled_for (Some x) p e = sends (can_number e.numbers) p e x.0 x.1
+
+abbrev pub polled_open : Policy → End → Polled
+polled_open p e = polled_for (first_pending e.sending.halves) p e
+
+abbrev pub polled_in : State → Policy → End → ℕ → Polled
+polled_in states.Open p e now = polled_open p (with_closing e (ticked e.closing now))
+polled_in states.Closing p e now = gives_nothing e
+polled_in states.Drained p e now = gives_nothing e
+polled_in states.Failed p e now = record { answer = Err (record {}); datagram = None; end = e }
+
+-- what an end gives at a moment
+abbrev pub polled : Policy → End → ℕ → Polled
+polled p e now = polled_in e.closing.state p e now

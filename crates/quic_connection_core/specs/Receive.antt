@@ -1,0 +1,177 @@
+-- What an end makes of a datagram that comes (RFC 9000, sections 5.2, 12 and 13.1).
+use Rattle.std.specs.Prelude.{ℕ, ◌+◌, Bool, true, false, ◌==◌, ◌||◌, not, if◌then◌else◌, List, [], ◌∷◌, length, Option, Some, None, Result, Ok, Err}
+use Rattle.quic_wire_core.specs.TransportError.{ErrorValue}
+use Rattle.quic_wire.specs.Value.{FrameValue, padding, stream}
+use Rattle.quic_wire.specs.Items.{items}
+use Rattle.quic_wire.specs.Header.{key_phase, reserved_bits}
+use Rattle.quic_wire.specs.Destination.{decoded, fixed_length_id}
+use Rattle.quic_wire.specs.Datagram.{Opening, opened_packet}
+use Rattle.quic_wire.specs.declared.frame.InvalidFrame.{InvalidFrame}
+use Rattle.quic_wire.specs.declared.packet.HeaderError.{HeaderError}
+use Rattle.quic_wire.specs.declared.packet.HeaderError.TheVariants as headers
+use Rattle.quic_connection_core.specs.declared.answers.State.{State}
+use Rattle.quic_connection_core.specs.declared.answers.State.TheVariants as states
+use Rattle.quic_connection_core.specs.declared.answers.Breach.{Breach}
+use Rattle.quic_connection_core.specs.declared.answers.Breach.TheVariants.{FlowControl, StreamLimit, StreamState, FinalSize, Pieces}
+use Rattle.quic_connection_core.specs.declared.answers.LostReason.{LostReason}
+use Rattle.quic_connection_core.specs.declared.answers.LostReason.TheVariants as reasons
+use Rattle.quic_connection_core.specs.declared.answers.DropReason.{DropReason}
+use Rattle.quic_connection_core.specs.declared.answers.DropReason.TheVariants as drops
+use Rattle.quic_connection_core.specs.declared.answers.Received.{Received}
+use Rattle.quic_connection_core.specs.declared.answers.Received.TheVariants.{Taken, Dropped, Closed}
+use Rattle.quic_connection_core.specs.Closing.{ticked, closed_for}
+use Rattle.quic_connection_core.specs.Ids.{known}
+use Rattle.quic_connection_core.specs.Numbers.{expected, is_duplicate, number_opened, number_taken}
+use Rattle.quic_connection_core.specs.Receiving.{stream_breach, after_stream}
+use Rattle.quic_connection_core.specs.Policy.{Policy}
+use Rattle.quic_connection_core.specs.End.{End, with_closing, with_numbers, with_receiving}
+
+-- how many bytes an own id has
+abbrev pub own_id_length : ℕ
+own_id_length = 8
+
+-- ---- what is wrong with a packet that opened
+
+-- a broken rule with its error, or too many pieces that wait
+pub data Fault : Type 0 where
+  broke : ErrorValue → Fault
+  too_many_pieces : Fault
+
+-- an error that names no frame (RFC 9000, section 20.1)
+abbrev pub plain_error : ℕ → ErrorValue
+plain_error code = record { code = code; frame = None }
+
+-- FLOW_CONTROL_ERROR, STREAM_LIMIT_ERROR, STREAM_STATE_ERROR, FINAL_SIZE_ERROR (RFC 9000, section 20.1)
+abbrev pub fault_of_breach : Breach → Fault
+fault_of_breach FlowControl = broke (plain_error 3)
+fault_of_breach StreamLimit = broke (plain_error 4)
+fault_of_breach StreamState = broke (plain_error 5)
+fault_of_breach FinalSize = broke (plain_error 6)
+fault_of_breach Pieces = too_many_pieces
+
+abbrev pub fault_of : Option Breach → Option Fault
+fault_of None = None
+fault_of (Some b) = Some (fault_of_breach b)
+
+-- FRAME_ENCODING_ERROR in the frame that can't be read
+abbrev pub fault_of_frame : InvalidFrame → Fault
+fault_of_frame x = broke (record { code = 7; frame = x.ty })
+
+-- PROTOCOL_VIOLATION
+abbrev pub violation : Fault
+violation = broke (plain_error 10)
+
+-- INTERNAL_ERROR where too many pieces wait
+abbrev pub error_of : Fault → ErrorValue
+error_of (broke error) = error
+error_of too_many_pieces = plain_error 1
+
+abbrev pub reason_of : Fault → LostReason
+reason_of (broke error) = reasons.Transport error
+reason_of too_many_pieces = reasons.Pieces
+
+-- ---- frames, one after another
+
+-- the end so far, and what was wrong with the frame that was taken last
+pub record Progress : Type 0 where
+  pub end : End
+  pub fault : Option Fault
+
+abbrev pub goes_on : End → Progress
+goes_on e = record { end = e; fault = None }
+
+-- what a frame makes of the end
+abbrev pub take_frame : FrameValue → End → Progress
+take_frame (stream f) e = record { end = with_receiving e (after_stream e.side e.receiving f); fault = fault_of (stream_breach e.side e.receiving f) }
+take_frame f e = goes_on e
+
+abbrev pub take_item : Result FrameValue InvalidFrame → End → Progress
+take_item (Ok f) e = take_frame f e
+take_item (Err x) e = record { end = e; fault = Some (fault_of_frame x) }
+
+-- the next step, unless something was wrong
+abbrev pub unless_fault : Option Fault → Progress → (End → Progress) → Progress
+unless_fault None p next = next p.end
+unless_fault (Some fault) p next = p
+
+abbrev pub behind : Progress → (End → Progress) → Progress
+behind p next = unless_fault p.fault p next
+
+-- all items of a payload, up to the first fault
+abbrev pub take_items : List (Result FrameValue InvalidFrame) → End → Progress
+take_items [] e = goes_on e
+take_items (i ∷ is) e = behind (take_item i e) (take_items is)
+
+-- whether a payload has no frame at all (RFC 9000, section 12.4)
+abbrev pub is_empty : List (Result FrameValue InvalidFrame) → Bool
+is_empty [] = true
+is_empty (i ∷ is) = false
+
+-- the reserved bits have to be 0, and a packet has to have a frame (RFC 9000, sections 17.3.1 and 12.4)
+abbrev pub take_payload : ℕ → List (Result FrameValue InvalidFrame) → End → Progress
+take_payload first is e =
+    if not (reserved_bits first == 0) || is_empty is then record { end = e; fault = Some violation } else take_items is e
+
+-- ---- the answer, and the end that is left
+
+pub record Outcome : Type 0 where
+  pub answer : Received
+  pub end : End
+
+abbrev pub dropped : DropReason → End → Outcome
+dropped reason e = record { answer = Dropped reason; end = e }
+
+-- all frames were taken, or one was at fault: those before it keep their effect
+abbrev pub ends_as : Option Fault → ℕ → End → Outcome
+ends_as None n e = record { answer = Taken; end = with_numbers e (number_taken e.numbers n) }
+ends_as (Some fault) n e = record { answer = Closed (error_of fault); end = with_closing e (closed_for (reason_of fault) e.closing) }
+
+abbrev pub judged : Progress → ℕ → Outcome
+judged p n = ends_as p.fault n p.end
+
+-- a packet that opened at an open end, under a number that didn't come before
+abbrev pub processed : Opening → ℕ → End → Outcome
+processed o now e = judged (take_payload o.first (items o.payload) (with_closing e (ticked e.closing now))) o.number
+
+-- a closing end reads nothing of the packet
+abbrev pub by_state : State → Opening → ℕ → End → Outcome
+by_state states.Open o now e = processed o now e
+by_state states.Closing o now e = dropped drops.Closing e
+by_state states.Drained o now e = dropped drops.Drained e
+by_state states.Failed o now e = dropped drops.Failed e
+
+-- a packet that opened: its key phase is 0, and its number is new
+abbrev pub opened_to : Opening → ℕ → End → Outcome
+opened_to o now e =
+    if key_phase o.first then dropped drops.KeyPhase e
+    else (if is_duplicate e.numbers.opened o.number then dropped drops.Duplicate e
+    else by_state e.closing.state o now (with_numbers e (number_opened e.numbers o.number)))
+
+abbrev pub opened_as : Option Opening → ℕ → End → Outcome
+opened_as None now e = dropped drops.NotOpened e
+opened_as (Some o) now e = opened_to o now e
+
+-- what a datagram opens to at an end, behind an own id
+abbrev pub opening : Policy → End → List ℕ → Option Opening
+opening p e d = opened_packet p.unmask p.reveal p.unseal (own_id_length + 1) (expected e.numbers) d
+
+abbrev pub drop_of : HeaderError → DropReason
+drop_of headers.TooShort = drops.TooShort
+drop_of headers.NotShort = drops.NotShort
+drop_of headers.FixedBit = drops.FixedBit
+drop_of headers.UnknownId = drops.UnknownId
+
+abbrev pub headed : Result (List ℕ) HeaderError → Policy → End → ℕ → List ℕ → Outcome
+headed (Err error) p e now d = dropped (drop_of error) e
+headed (Ok id) p e now d = opened_as (opening p e d) now e
+
+-- an end that is drained or has failed drops all
+abbrev pub received_in : State → Policy → End → ℕ → List ℕ → Outcome
+received_in states.Failed p e now d = dropped drops.Failed e
+received_in states.Drained p e now d = dropped drops.Drained e
+received_in states.Open p e now d = headed (decoded (fixed_length_id own_id_length) (known e.ids) d) p e now d
+received_in states.Closing p e now d = headed (decoded (fixed_length_id own_id_length) (known e.ids) d) p e now d
+
+-- what an end makes of a datagram at a moment
+abbrev pub received : Policy → End → ℕ → List ℕ → Outcome
+received p e now d = received_in e.closing.state p e now d

@@ -1,0 +1,142 @@
+-- The sending halves of the streams of an end (RFC 9000, sections 2, 3.1 and 4).
+use Rattle.std.specs.Prelude.{ℕ, ◌+◌, ◌-◌, ◌*◌, min, Bool, true, false, nat_lt, ◌==◌, ◌&&◌, ◌||◌, not, if◌then◌else◌, List, [], ◌∷◌, length, take, Option, Some, None, is_some, Result, Ok, Err}
+use Rattle.std.specs.List.{sum_by}
+use Rattle.std.specs.Map.{values_of}
+use Rattle.quic_wire_core.specs.declared.stream_id.Side.{Side}
+use Rattle.quic_wire_core.specs.declared.stream_id.Dir.{Dir}
+use Rattle.quic_wire_core.specs.declared.stream_id.Dir.TheVariants.{Bi, Uni}
+use Rattle.quic_wire_core.specs.declared.stream_id.Side.TheVariants.{Client, Server}
+use Rattle.quic_wire_core.specs.StreamId.{stream_id}
+use Rattle.quic_streams_core.specs.Buffered.{Buffered, empty_buffer, after_write}
+use Rattle.quic_connection_core.specs.Table.{Table, at, put, added}
+use Rattle.quic_connection_core.specs.declared.answers.WriteError.{WriteError}
+use Rattle.quic_connection_core.specs.declared.answers.WriteError.TheVariants as write_errors
+use Rattle.quic_connection_core.specs.declared.answers.FinishError.{FinishError}
+use Rattle.quic_connection_core.specs.declared.answers.FinishError.TheVariants as finish_errors
+
+-- a sending half: what was written and may have to go, whether it is finished, whether its end waits to go, and how far the peer lets it come
+pub record SendHalf : Type 0 where
+  pub buffer : Buffered
+  pub finished : Bool
+  pub end_waits : Bool
+  pub limit : ℕ
+
+-- the sending halves by id; how many streams of each kind were opened, and how many may be; what was accepted on all
+-- streams, and how far it may come; and how many bytes may be buffered
+pub record Sending : Type 0 where
+  pub halves : Table SendHalf
+  pub opened_bi : ℕ
+  pub opened_uni : ℕ
+  pub count_bi : ℕ
+  pub count_uni : ℕ
+  pub accepted : ℕ
+  pub limit : ℕ
+  pub window : ℕ
+  -- the first limit of an own stream of each kind
+  pub first_limit_bi : ℕ
+  pub first_limit_uni : ℕ
+
+-- how many bytes were written on a half
+abbrev pub written_on : SendHalf → ℕ
+written_on h = h.buffer.base + length h.buffer.kept
+
+-- the bytes that are buffered on all streams
+abbrev pub buffered : Sending → ℕ
+buffered s = sum_by (λ h. length h.buffer.kept) (values_of s.halves)
+
+-- what limits and send window leave for all streams
+abbrev pub room : Sending → ℕ
+room s = min (s.limit - s.accepted) (s.window - buffered s)
+
+-- whether a half has something to send: bytes never sent, or its end
+abbrev pub has_pending : SendHalf → Bool
+has_pending h = nat_lt h.buffer.unsent (written_on h) || h.end_waits
+
+-- ---- opening (RFC 9000, section 4.6)
+
+abbrev pub opened_of : Dir → Sending → ℕ
+opened_of Bi s = s.opened_bi
+opened_of Uni s = s.opened_uni
+
+abbrev pub count_of : Dir → Sending → ℕ
+count_of Bi s = s.count_bi
+count_of Uni s = s.count_uni
+
+-- Which kinds this stage opens at all: the client one two-way stream.
+abbrev pub may_open : Side → Dir → ℕ → Bool
+may_open Client Bi n = n == 0
+may_open Client Uni n = false
+may_open Server dir n = false
+
+abbrev pub opens : Side → Dir → Sending → Bool
+opens side dir s = may_open side dir (opened_of dir s) && nat_lt (opened_of dir s) (count_of dir s)
+
+-- the id of the stream that is opened next
+abbrev pub next_id : Side → Dir → Sending → ℕ
+next_id side dir s = stream_id side dir (opened_of dir s)
+
+abbrev pub first_limit : Dir → Sending → ℕ
+first_limit Bi s = s.first_limit_bi
+first_limit Uni s = s.first_limit_uni
+
+-- a half on which nothing was written
+abbrev pub new_half : ℕ → SendHalf
+new_half limit = record { buffer = empty_buffer; finished = false; end_waits = false; limit = limit }
+
+abbrev pub one_more : Dir → Sending → Sending
+one_more Bi s = record s { opened_bi = s.opened_bi + 1 }
+one_more Uni s = record s { opened_uni = s.opened_uni + 1 }
+
+-- the next own stream of a kind is opened
+abbrev pub after_open : Side → Dir → Sending → Sending
+after_open side dir s = one_more dir (record s { halves = added s.halves (next_id side dir s) (new_half (first_limit dir s)) })
+
+-- ---- writing
+
+-- what a half takes of so many bytes, where the connection has room
+abbrev pub taken_by : SendHalf → ℕ → ℕ → Result ℕ WriteError
+taken_by h room len =
+    if h.finished then Err write_errors.ClosedStream
+    else (if h.limit - written_on h == 0 then Err write_errors.Blocked
+    else Ok (min len (min room (h.limit - written_on h))))
+
+-- What a write is answered on an open end: an unknown stream, no room on the connection, a finished stream, no room on the stream; else as much as fits.
+abbrev pub written_to : Option SendHalf → ℕ → ℕ → Result ℕ WriteError
+written_to None room len = Err write_errors.ClosedStream
+written_to (Some h) room len = if room == 0 then Err write_errors.Blocked else taken_by h room len
+
+abbrev pub write_answer : Bool → Sending → ℕ → ℕ → Result ℕ WriteError
+write_answer true s id len = written_to (at s.halves id) (room s) len
+write_answer false s id len = Err write_errors.Blocked
+
+-- these bytes go behind those that were written on a half
+abbrev pub grown : SendHalf → List ℕ → SendHalf
+grown h bytes = record h { buffer = after_write h.buffer bytes }
+
+abbrev pub grown_at : Option SendHalf → Table SendHalf → ℕ → List ℕ → Table SendHalf
+grown_at None halves id bytes = halves
+grown_at (Some h) halves id bytes = put halves id (grown h bytes)
+
+-- what a write leaves, by its answer: a refusal leaves all as it was
+abbrev pub after_written : Result ℕ WriteError → Sending → ℕ → List ℕ → Sending
+after_written (Ok n) s id bytes = record s { halves = grown_at (at s.halves id) s.halves id (take n bytes); accepted = s.accepted + n }
+after_written (Err e) s id bytes = s
+
+-- ---- finishing
+
+abbrev pub finish_of : Option SendHalf → Result (Unit {0}) FinishError
+finish_of None = Err finish_errors.ClosedStream
+finish_of (Some h) = if h.finished then Err finish_errors.ClosedStream else Ok tt
+
+abbrev pub finish_answer : Sending → ℕ → Result (Unit {0}) FinishError
+finish_answer s id = finish_of (at s.halves id)
+
+abbrev pub ended : SendHalf → SendHalf
+ended h = record h { finished = true; end_waits = true }
+
+abbrev pub ended_at : Option SendHalf → Table SendHalf → ℕ → Table SendHalf
+ended_at None halves id = halves
+ended_at (Some h) halves id = if h.finished then halves else put halves id (ended h)
+
+abbrev pub after_finish : Sending → ℕ → Sending
+after_finish s id = record s { halves = ended_at (at s.halves id) s.halves id }

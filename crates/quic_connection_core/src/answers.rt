@@ -1,0 +1,169 @@
+//! What the calls of an end answer.
+ghost use Rattle.std.specs.Prelude.{◌≡◌};
+
+use quic_wire_core::{EcnCodepoint, TransportError, VarInt};
+use thiserror::Error;
+
+/// Whether an end is open (RFC 9000, section 10).
+#[derive(Clone, Copy, Debug, PartialEq, Eq)]
+pub enum State {
+    /// It sends and receives.
+    Open,
+    /// It only repeats its close.
+    Closing,
+    /// It sends nothing more, and drops what comes.
+    Drained,
+    /// It met want of memory where it could not say so, and is of no more use.
+    Failed,
+}
+
+/// Why an end is no longer open (quinn-proto's `ConnectionError`).
+#[derive(Debug, Drop)]
+pub enum LostReason {
+    /// The application closed it.
+    Application,
+    /// More than 2048 separate pieces of a stream waited to be read.
+    Pieces,
+    /// Nothing was heard for the idle timeout.
+    Idle,
+    /// A limit of the key was reached.
+    KeyLimit,
+    /// The packet numbers were used up.
+    NumberLimit,
+    /// The peer broke a rule.
+    Transport(TransportError),
+}
+
+/// Why a datagram was dropped; nothing in the end has changed.
+#[derive(Clone, Copy, Debug, PartialEq, Eq)]
+pub enum DropReason {
+    /// Fewer bytes than a short header, a sample and a tag have (RFC 9001, section 5.4.2).
+    TooShort,
+    /// A long header (RFC 9000, section 17.2).
+    NotShort,
+    /// The fixed bit is 0 (RFC 9000, section 17.3.1).
+    FixedBit,
+    /// The destination id is none that is in use.
+    UnknownId,
+    /// The key refused it.
+    NotOpened,
+    /// Another key phase, and keys are never updated here (RFC 9001, section 6).
+    KeyPhase,
+    /// Its number came before, or is too old to tell (RFC 9000, section 13.2.3).
+    Duplicate,
+    /// The end is closing.
+    Closing,
+    /// The end is drained.
+    Drained,
+    /// The end has failed.
+    Failed,
+}
+
+/// What a received datagram comes to.
+#[derive(Debug, Drop)]
+pub enum Received {
+    /// All its frames were taken.
+    Taken,
+    /// It was dropped.
+    Dropped(DropReason),
+    /// It broke a rule, which closed the end.
+    Closed(TransportError),
+    /// Memory lacked: the end has failed for good.
+    Failed,
+}
+
+/// The end has failed: memory lacked now or before.
+#[derive(Clone, Copy, Debug, PartialEq, Eq, Error)]
+#[error("the end has failed")]
+pub struct Failed;
+
+/// A datagram that was given out (quinn-proto's `Transmit`).
+#[derive(Clone, Copy, Debug, PartialEq, Eq)]
+pub struct Transmit {
+    /// How many bytes it has.
+    pub size: usize,
+    /// How it is to be marked.
+    pub ecn: Option<EcnCodepoint>,
+}
+
+/// Why nothing was written (quinn-proto's `WriteError`).
+#[derive(Clone, Copy, Debug, PartialEq, Eq, Error)]
+pub enum WriteError {
+    /// A limit leaves no room, or the end isn't open.
+    #[error("unable to accept further writes")]
+    Blocked,
+    /// The peer asked that nothing more be sent, with this code (RFC 9000, section 3.5).
+    #[error("stopped by peer")]
+    Stopped(VarInt),
+    /// There is no such stream, or it was finished or reset.
+    #[error("closed stream")]
+    ClosedStream,
+    /// Memory lacked; nothing has changed.
+    #[error("out of memory")]
+    Memory,
+}
+
+/// Why a stream was not finished (quinn-proto's `FinishError`).
+#[derive(Clone, Copy, Debug, PartialEq, Eq, Error)]
+pub enum FinishError {
+    /// The peer asked that nothing more be sent, with this code (RFC 9000, section 3.5).
+    #[error("stopped by peer")]
+    Stopped(VarInt),
+    /// There is no such stream, or it was finished or reset.
+    #[error("closed stream")]
+    ClosedStream,
+}
+
+/// Why a stream can't be read (quinn-proto's `ReadableError`).
+#[derive(Clone, Copy, Debug, PartialEq, Eq, Error)]
+pub enum ReadableError {
+    /// There is no such stream, or its end was read.
+    #[error("closed stream")]
+    ClosedStream,
+    /// Memory lacked; nothing has changed.
+    #[error("out of memory")]
+    Memory,
+}
+
+/// Why nothing was read (quinn-proto's `ReadError`).
+#[derive(Clone, Copy, Debug, PartialEq, Eq, Error)]
+pub enum ReadError {
+    /// The next byte hasn't arrived.
+    #[error("blocked")]
+    Blocked,
+    /// The peer reset the stream, with this code (RFC 9000, section 3.2).
+    #[error("reset by peer")]
+    Reset(VarInt),
+    /// Memory lacked; nothing has changed.
+    #[error("out of memory")]
+    Memory,
+}
+
+/// Why no end was made; tested in this order.
+#[derive(Clone, Copy, Debug, PartialEq, Eq, Error)]
+pub enum ConfigError {
+    /// The peer's transport parameters are malformed, or have a value out of range.
+    #[error("the peer's transport parameters can't be read")]
+    Parameters,
+    /// The own id hasn't eight bytes, or the peer's has none.
+    #[error("an id of the wrong length")]
+    IdLength,
+    /// Memory lacked.
+    #[error("out of memory")]
+    Memory,
+}
+
+/// Which rule of streams a frame broke.
+#[derive(Clone, Copy, Debug, PartialEq, Eq)]
+pub enum Breach {
+    /// A limit on bytes (RFC 9000, section 4.1).
+    FlowControl,
+    /// The limit on streams (RFC 9000, section 4.6).
+    StreamLimit,
+    /// A stream on which the peer may not send (RFC 9000, section 19.8).
+    StreamState,
+    /// A final size that can't be (RFC 9000, section 4.5).
+    FinalSize,
+    /// More than 2048 separate pieces wait to be read.
+    Pieces,
+}

@@ -1,0 +1,126 @@
+//! What comes to two ends, and what is answered and seen then.
+ghost use Rattle.std.specs.Prelude.{◌≡◌};
+
+use bytes::Bytes;
+use quic_streams_core::Chunk;
+use quic_wire_core::{Dir, EcnCodepoint, Side, StreamId};
+use std::alloc::AllocError;
+use std::marker::Model;
+
+use crate::answers::{
+    Failed, FinishError, LostReason, ReadError, ReadableError, Received, State, Transmit,
+    WriteError,
+};
+use crate::instant::Instant;
+
+/// One event of a run: a call at one end.
+#[derive(Debug, Drop)]
+pub struct RunEvent {
+    pub side: Side,
+    pub call: Call,
+}
+
+/// What may come to an end.
+#[derive(Debug, Drop)]
+pub enum Call {
+    /// Opens a stream of this kind.
+    Open(Dir),
+    /// Accepts a stream of this kind that the peer opened.
+    Accept(Dir),
+    /// Writes on a stream.
+    Write(StreamId, Bytes),
+    /// Finishes a stream.
+    Finish(StreamId),
+    /// Reads a stream in order: the bounds of each `next`, then `finalize` or a drop.
+    Read(ReadCall),
+    /// Asks for a datagram at this moment.
+    Poll(Instant),
+    /// A datagram of the other end arrives.
+    Deliver(Delivery),
+}
+
+/// A read of a stream.
+#[derive(Debug, Drop)]
+pub struct ReadCall {
+    pub id: StreamId,
+    /// The greatest length of each chunk asked for.
+    pub nexts: Vec<usize>,
+    /// Whether the read ends by `finalize`, and not by a drop.
+    pub finalize: bool,
+}
+
+/// The arrival of a datagram that the other end gave out.
+#[derive(Clone, Copy, Debug)]
+pub struct Delivery {
+    pub now: Instant,
+    pub ecn: Option<EcnCodepoint>,
+    /// Which of the other end's datagrams it is, counted from 0.
+    pub index: usize,
+}
+
+/// What each `next` of a read answered. Contracts see the list.
+#[derive(Debug, Drop)]
+pub struct Nexts {
+    items: Vec<Result<Option<Chunk>, ReadError>>,
+}
+
+impl Model for Nexts {
+    ghost use Rattle.std.specs.Prelude.{List, Option, Result};
+    ghost use Rattle.quic_streams_core.specs.declared.connection.assembler.Chunk.{Chunk};
+    ghost use Rattle.quic_connection_core.specs.declared.answers.ReadError.{ReadError};
+
+    ghost Value = { List (Result (Option Chunk) ReadError) };
+
+    ghost view = { λ n. n.items.items };
+}
+
+impl Nexts {
+    /// These answers.
+    pub fn new(items: Vec<Result<Option<Chunk>, ReadError>>) -> Nexts
+        ensures { result ≡ items.items }
+    {
+        Nexts { items }
+    }
+
+    /// The answers, in their order.
+    pub fn as_slice(&self) -> &[Result<Option<Chunk>, ReadError>]
+        ensures { result.now ≡ self.now }
+    {
+        self.items.as_slice()
+    }
+}
+
+/// What an event is answered: what its call answers.
+#[derive(Debug, Drop)]
+pub enum Answer {
+    Open(Result<Option<StreamId>, AllocError>),
+    Accept(Option<StreamId>),
+    Write(Result<usize, WriteError>),
+    Finish(Result<(), FinishError>),
+    Read(Result<Nexts, ReadableError>),
+    Poll(Result<Option<Transmit>, Failed>),
+    Deliver(Received),
+    /// The other end gave out no such datagram; no call was made.
+    NoDatagram,
+}
+
+/// What is seen of one end after an event. What this stage has no call for is `None`.
+#[derive(Debug, Drop)]
+pub struct EndView {
+    pub state: State,
+    pub reason: Option<LostReason>,
+    pub validated: bool,
+    /// The nine timers.
+    pub timers: [Option<Instant>; 9],
+    /// The congestion window, in bytes.
+    pub window: Option<u64>,
+    /// The size of the largest datagram that is sent, in bytes.
+    pub current_mtu: Option<u16>,
+}
+
+/// What is seen of both ends after an event.
+#[derive(Debug, Drop)]
+pub struct View {
+    pub client: EndView,
+    pub server: EndView,
+}
