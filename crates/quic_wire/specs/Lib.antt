@@ -1,0 +1,7 @@
+pub mod Value
+pub mod FrameTypes
+pub mod Reading
+pub mod Items
+pub mod FrameView
+pub mod Grammar
+pub mod Writing

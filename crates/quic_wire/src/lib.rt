@@ -1,2 +1,4 @@
 //! Frames, packets, keys and transport parameters of QUIC.
 #![tactic(auto)]
+
+pub mod frame;
