@@ -87,14 +87,16 @@ fn stream_of<'a>(ty: u64, bytes: &mut &'a [u8]) -> Result<Stream<'a>, FrameError
 }
 
 /// A frame behind its type.
-#[tactic(auto, unfolding(crate::specs::Reading::body_at))]
 fn body_of<'a>(ty: u64, bytes: &mut &'a [u8]) -> Result<Frame<'a>, FrameError>
     ensures { Reads frame_view result bytes.new.now (body_at ty bytes.old.now) }
 {
     match ty {
         0x00 => Ok(Frame::Padding),
         0x01 => Ok(Frame::Ping),
-        0x08..=0x0f => Ok(Frame::Stream(stream_of(ty, bytes)?)),
+        0x08..=0x0f => match stream_of(ty, bytes) {
+            Ok(stream) => Ok(Frame::Stream(stream)),
+            Err(reason) => Err(reason),
+        },
         _ => Err(FrameError::InvalidId),
     }
 }
