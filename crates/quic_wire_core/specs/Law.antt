@@ -4,7 +4,7 @@ use Rattle.std.specs.Int.{Width, w8, w16, w32, w64, byte_len, from_be_bytes, to_
 use Rattle.std.proofs.lemmas.Bool.{cases_lt, ltb-false, le-ltb, lt-ltb, eqb-true, eqb-false}
 use Rattle.std.proofs.lemmas.List.{take_at, drop_at, take-append-drop, length-append, length-take, get_or-take, get_or_past}
 use Rattle.std.proofs.lemmas.Nat.{from_be_bytes-to_be_bytes_2, from_be_bytes-to_be_bytes_4, from_be_bytes-to_be_bytes_8, be_bytes_2, be_bytes_4, be_bytes_8}
-use Rattle.quic_wire_core.specs.Coding.{IsBytes}
+use Rattle.quic_wire_core.specs.Coding.{IsBytes, fixed_at}
 use Rattle.quic_wire_core.specs.Varint.{varint_at, wide_at, shortest, Spells, Begins}
 
 -- the number of a width is read again
@@ -148,3 +148,27 @@ varint_found bytes v rest h e =
         ]
       ]
     ]
+
+-- Numbers of a fixed width are read again.
+fixed_again : (w : Width) (n : ℕ) (rest : List ℕ) → length (to_be_bytes w n) ≡ byte_len w → from_be_bytes w (to_be_bytes w n) ≡ n → fixed_at w (to_be_bytes w n ++ rest) ≡ Some (n, rest)
+fixed_again w n rest len back =
+    let long : ltb (length (to_be_bytes w n ++ rest)) (byte_len w) ≡ false = le-ltb _ _ (omega (arith, length-append (to_be_bytes w n) rest)) in
+    rw (long, take_at (to_be_bytes w n) rest (byte_len w) len, drop_at (to_be_bytes w n) rest (byte_len w) len, back) refl
+
+-- a byte is read again
+pub fixed_again_8 : (n : ℕ) (rest : List ℕ) → n < 2 ^ 8 → fixed_at w8 (to_be_bytes w8 n ++ rest) ≡ Some (n, rest)
+fixed_again_8 n rest lt =
+    let same : n % 256 ≡ n = omega arith in
+    fixed_again w8 n rest refl (rw same refl)
+
+-- two bytes are read again
+pub fixed_again_16 : (n : ℕ) (rest : List ℕ) → n < 2 ^ 16 → fixed_at w16 (to_be_bytes w16 n ++ rest) ≡ Some (n, rest)
+fixed_again_16 n rest lt = fixed_again w16 n rest refl (from_be_bytes-to_be_bytes_2 n lt)
+
+-- four bytes are read again
+pub fixed_again_32 : (n : ℕ) (rest : List ℕ) → n < 2 ^ 32 → fixed_at w32 (to_be_bytes w32 n ++ rest) ≡ Some (n, rest)
+fixed_again_32 n rest lt = fixed_again w32 n rest refl (from_be_bytes-to_be_bytes_4 n lt)
+
+-- eight bytes are read again
+pub fixed_again_64 : (n : ℕ) (rest : List ℕ) → n < 2 ^ 64 → fixed_at w64 (to_be_bytes w64 n ++ rest) ≡ Some (n, rest)
+fixed_again_64 n rest lt = fixed_again w64 n rest refl (from_be_bytes-to_be_bytes_8 n lt)

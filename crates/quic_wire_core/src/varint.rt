@@ -1,9 +1,7 @@
 //! Variable-length integers (RFC 9000, section 16).
 ghost use Rattle.std.specs.Prelude.{◌≡◌, ◌<◌, ◌^◌, ◌≤◌, [], MatchResult, MatchOption, length, slice_index};
-ghost use Rattle.std.specs.Int.{w8, w16, w32, w64};
-ghost use Rattle.quic_wire_core.specs.Coding.{Takes};
 
-use crate::coding::{Codec, UnexpectedEnd};
+use crate::coding::{u16_of, u32_of, u64_of, u8_of, Codec, UnexpectedEnd};
 use bytes::{Buf, BufMut};
 use std::alloc::AllocError;
 use std::fmt;
@@ -82,30 +80,6 @@ fn peek<B: Buf>(buf: &B) -> Option<u8>
     buf.chunk().first().copied()
 }
 
-fn u8_of<B: Buf>(buf: &mut B) -> Result<u8, UnexpectedEnd>
-    ensures { Takes w8 result (B.unread buf.old) (B.unread buf.new) }
-{
-    buf.try_get_u8().map_err(|_| UnexpectedEnd)
-}
-
-fn u16_of<B: Buf>(buf: &mut B) -> Result<u16, UnexpectedEnd>
-    ensures { Takes w16 result (B.unread buf.old) (B.unread buf.new) }
-{
-    buf.try_get_u16().map_err(|_| UnexpectedEnd)
-}
-
-fn u32_of<B: Buf>(buf: &mut B) -> Result<u32, UnexpectedEnd>
-    ensures { Takes w32 result (B.unread buf.old) (B.unread buf.new) }
-{
-    buf.try_get_u32().map_err(|_| UnexpectedEnd)
-}
-
-fn u64_of<B: Buf>(buf: &mut B) -> Result<u64, UnexpectedEnd>
-    ensures { Takes w64 result (B.unread buf.old) (B.unread buf.new) }
-{
-    buf.try_get_u64().map_err(|_| UnexpectedEnd)
-}
-
 impl Codec for VarInt {
     ghost use Rattle.std.specs.Prelude.{◌<◌, ◌^◌};
     ghost use Rattle.quic_wire_core.specs.Varint.{varint_at, shortest};
@@ -143,6 +117,87 @@ impl Codec for VarInt {
             buf.put_u32(0b10 << 30 | x as u32)
         } else {
             buf.put_u64(0b11 << 62 | x)
+        }
+    }
+}
+
+impl fmt::Display for VarInt {
+    ghost use Rattle.std.specs.Prelude.{Some, decimal};
+
+    ghost output = { λ v. Some (decimal v) };
+
+    fn fmt<W: fmt::Write>(&self, f: &mut fmt::Formatter<W>) -> fmt::Result {
+        self.0.fmt(f)
+    }
+}
+
+impl From<u8> for VarInt {
+    ghost from_gives = { λ x v. v ≡ x };
+
+    fn from(x: u8) -> VarInt {
+        VarInt(u64::from(x))
+    }
+}
+
+impl From<u16> for VarInt {
+    ghost from_gives = { λ x v. v ≡ x };
+
+    fn from(x: u16) -> VarInt {
+        VarInt(u64::from(x))
+    }
+}
+
+impl From<u32> for VarInt {
+    ghost from_gives = { λ x v. v ≡ x };
+
+    fn from(x: u32) -> VarInt {
+        VarInt(u64::from(x))
+    }
+}
+
+impl From<VarInt> for u64 {
+    ghost from_gives = { λ v x. x ≡ v };
+
+    fn from(v: VarInt) -> u64 {
+        v.0
+    }
+}
+
+impl TryFrom<u64> for VarInt {
+    type Error = VarIntBoundsExceeded;
+
+    ghost use Rattle.quic_wire_core.specs.Varint.{BoundedBy};
+
+    ghost try_from_gives = { BoundedBy };
+
+    fn try_from(x: u64) -> Result<VarInt, VarIntBoundsExceeded> {
+        VarInt::from_u64(x)
+    }
+}
+
+impl TryFrom<usize> for VarInt {
+    type Error = VarIntBoundsExceeded;
+
+    ghost use Rattle.quic_wire_core.specs.Varint.{BoundedBy};
+
+    ghost try_from_gives = { BoundedBy };
+
+    fn try_from(x: usize) -> Result<VarInt, VarIntBoundsExceeded> {
+        VarInt::from_u64(x as u64)
+    }
+}
+
+impl TryFrom<u128> for VarInt {
+    type Error = VarIntBoundsExceeded;
+
+    ghost use Rattle.quic_wire_core.specs.Varint.{BoundedBy};
+
+    ghost try_from_gives = { BoundedBy };
+
+    fn try_from(x: u128) -> Result<VarInt, VarIntBoundsExceeded> {
+        match u64::try_from(x) {
+            Ok(x) => VarInt::from_u64(x),
+            Err(_) => Err(VarIntBoundsExceeded),
         }
     }
 }
