@@ -1,1 +1,3 @@
 pub mod FrameKinds
+pub mod FrameShrinks
+pub mod FrameItems

@@ -7,6 +7,7 @@ mod reading;
 pub use iter::Iter;
 // pub use writing::{put_frame, put_stream, size_of_frame, size_of_stream_header, write_frame};
 
+use quic_wire_core::{FrameType, StreamId, VarInt};
 use thiserror::Error;
 
 /// A frame of a payload (quinn-proto's `frame::Frame`).
@@ -28,13 +29,13 @@ impl<'a> Frame<'a> {
 
     /// The frame's type; of a STREAM frame the type that it has where its length isn't written (quinn-proto's
     /// `Frame::ty`).
-    pub fn ty(&self) -> u64
+    pub fn ty(&self) -> FrameType
         ensures { result ≡ type_number (frame_view self.now) }
     {
         match self {
-            Frame::Padding => 0x00,
-            Frame::Ping => 0x01,
-            Frame::Stream(stream) => stream.ty(false),
+            Frame::Padding => FrameType::PADDING,
+            Frame::Ping => FrameType::PING,
+            Frame::Stream(stream) => VarInt::from_u32(stream.ty(false)).into(),
         }
     }
 
@@ -51,7 +52,7 @@ impl<'a> Frame<'a> {
 #[derive(Clone, Copy, Debug, PartialEq, Eq)]
 pub struct Stream<'a> {
     /// The stream's id.
-    pub id: u64,
+    pub id: StreamId,
     /// Where in the stream the bytes begin.
     pub offset: u64,
     /// Whether the stream ends behind these bytes.
@@ -69,7 +70,7 @@ impl<'a> Stream<'a> {
     pub const SIZE_BOUND: usize = 1 + 8 + 8 + 8;
 
     /// The type, with the bits of an offset that isn't 0, of a length that is written and of the end.
-    pub(crate) fn ty(&self, with_length: bool) -> u64
+    pub(crate) fn ty(&self, with_length: bool) -> u32
         ensures { result ≡ type_of (is_stream (has_offset self.now.offset) with_length self.now.fin) }
     {
         let offset = if self.offset == 0 { 0 } else { 4 };
@@ -98,7 +99,7 @@ pub enum FrameError {
 #[error("invalid frame: {reason}")]
 pub struct InvalidFrame {
     /// The frame's type, none where the payload ends within it.
-    pub ty: Option<u64>,
+    pub ty: Option<FrameType>,
     /// Why.
     pub reason: FrameError,
 }

@@ -6,7 +6,7 @@ ghost use Rattle.quic_wire.specs.FrameTypes.{has_bit};
 ghost use Rattle.quic_wire.specs.Items.{frame_at};
 ghost use Rattle.quic_wire.specs.FrameView.{stream_view, frame_view};
 
-use quic_wire_core::{Codec, VarInt};
+use quic_wire_core::{Codec, FrameType, StreamId, VarInt};
 
 use crate::frame::{Frame, FrameError, InvalidFrame, Stream};
 
@@ -75,7 +75,7 @@ fn data_of<'a>(sized: bool, bytes: &mut &'a [u8]) -> Result<&'a [u8], FrameError
 fn stream_of<'a>(ty: u64, bytes: &mut &'a [u8]) -> Result<Stream<'a>, FrameError>
     ensures { Reads stream_view result bytes.new.now (stream_at (has_bit ty 4) (has_bit ty 2) (has_bit ty 1) bytes.old.now) }
 {
-    let id = number_of(bytes)?;
+    let id = StreamId::from(var_of(bytes)?);
     let offset = offset_of(ty & 4 != 0, bytes)?;
     let data = data_of(ty & 2 != 0, bytes)?;
     Ok(Stream {
@@ -106,11 +106,11 @@ fn body_of<'a>(ty: u64, bytes: &mut &'a [u8]) -> Result<Frame<'a>, FrameError>
 pub(crate) fn frame_of<'a>(bytes: &mut &'a [u8]) -> Result<Frame<'a>, InvalidFrame>
     ensures { Reads frame_view result bytes.new.now (frame_at bytes.old.now) }
 {
-    let ty = match number_of(bytes) {
-        Ok(ty) => ty,
+    let ty = match var_of(bytes) {
+        Ok(ty) => FrameType::from(ty),
         Err(reason) => return Err(InvalidFrame { ty: None, reason }),
     };
-    match body_of(ty, bytes) {
+    match body_of(ty.into(), bytes) {
         Ok(frame) => Ok(frame),
         Err(reason) => Err(InvalidFrame {
             ty: Some(ty),
