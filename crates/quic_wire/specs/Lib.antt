@@ -3,3 +3,10 @@ pub mod Keys
 pub mod Header
 pub mod Datagram
 pub mod Destination
+pub mod Value
+pub mod FrameTypes
+pub mod Reading
+pub mod Items
+pub mod FrameView
+pub mod Grammar
+pub mod Writing

@@ -6,3 +6,4 @@ pub mod laws;
 pub mod packet;
 pub mod reserved;
 pub mod sealing;
+pub mod frame;

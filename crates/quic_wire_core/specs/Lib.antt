@@ -5,3 +5,4 @@ pub mod ConnectionId
 pub mod StreamId
 pub mod FrameType
 pub mod TransportError
+pub mod Ecn

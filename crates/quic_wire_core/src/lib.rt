@@ -11,7 +11,7 @@ mod varint;
 
 pub use coding::{Codec, UnexpectedEnd};
 pub use frame_type::FrameType;
-pub use shared::ConnectionId;
+pub use shared::{ConnectionId, EcnCodepoint, MAX_CID_SIZE};
 pub use stream_id::{Dir, Side, StreamId};
 pub use transport_error::{Code, TransportError};
 pub use varint::{VarInt, VarIntBoundsExceeded};

@@ -1,0 +1,116 @@
+-- Type numbers and the kinds that they name.
+use Rattle.std.proofs.Common.{◌≡◌, ℕ, ◌+◌, ◌≤◌, ◌<◌, Bool, true, false, not, ◌&&◌, ◌||◌, ltb, eqb, List, [], ◌∷◌, Result, Ok, Err, refl, sym, ap, subst, ◌∙◌, arith, inl, inr}
+use Rattle.std.specs.Prelude.{if◌then◌else◌, ◌==◌, nat_lt}
+use Rattle.std.specs.List.{list_all}
+use Rattle.std.proofs.lemmas.Bool.{cases_eq, eqb-true, eq-eqb, ne_eqb, le-ltb, lt-ltb}
+use Rattle.quic_wire.specs.declared.frame.FrameError.{FrameError}
+use Rattle.quic_wire.specs.declared.frame.FrameError.TheVariants.{InvalidId}
+use Rattle.quic_wire.specs.Value.{FrameValue, padding, ping}
+use Rattle.quic_wire.specs.FrameTypes.{Kind, is_padding, is_ping, is_stream, is_unknown, frame_types, named, kind_of, type_of, has_bit}
+use Rattle.quic_wire.specs.Reading.{of_kind_at, body_at}
+
+and_first : (a b : Bool) → (a && b) ≡ true → a ≡ true
+and_first true b e = refl
+and_first false b e = e
+
+and_second : (a b : Bool) → (a && b) ≡ true → b ≡ true
+and_second true b e = e
+and_second false b e = absurd cc
+
+-- what a test says of each entry of a list of types, and of an unknown number, it says of the kind that is found
+all_named_if : (test : ℕ → Kind → Bool) (type : ℕ) (x : ℕ × Kind) (xs : List (ℕ × Kind)) (b : Bool) → (type == x.0) ≡ b → (test x.0 x.1 && list_all (λ y. test y.0 y.1) xs) ≡ true
+    → (list_all (λ y. test y.0 y.1) xs ≡ true → test type (named type xs) ≡ true) → test type (if b then x.1 else named type xs) ≡ true
+all_named_if test type x xs true e all rest = rw (eqb-true type x.0 e) (and_first (test x.0 x.1) _ all)
+all_named_if test type x xs false e all rest = rest (and_second (test x.0 x.1) _ all)
+
+all_named : (test : ℕ → Kind → Bool) (type : ℕ) (xs : List (ℕ × Kind)) → test type (is_unknown type) ≡ true → list_all (λ y. test y.0 y.1) xs ≡ true → test type (named type xs) ≡ true
+all_named test type [] none all = none
+all_named test type (x ∷ xs) none all = all_named_if test type x xs (type == x.0) refl all (all_named test type xs none)
+
+-- ---- a kind tells its type
+
+numbers : ℕ → Kind → Bool
+numbers type kind = type_of kind == type
+
+-- the kind that a number names has that number
+pub type_of_kind : (type : ℕ) → type_of (kind_of type) ≡ type
+unfolding kind_of numbers
+type_of_kind type = eqb-true _ _ (all_named numbers type frame_types (eq-eqb type type refl) refl)
+
+-- the eight types of STREAM frames
+pub kind_of_stream : (written sized fin : Bool) → kind_of (type_of (is_stream written sized fin)) ≡ is_stream written sized fin
+unfolding kind_of
+kind_of_stream false false false = refl
+kind_of_stream false false true = refl
+kind_of_stream false true false = refl
+kind_of_stream false true true = refl
+kind_of_stream true false false = refl
+kind_of_stream true false true = refl
+kind_of_stream true true false = refl
+kind_of_stream true true true = refl
+
+at : (P : ℕ → Type 0) (type n : ℕ) → P n → (¬ (type ≡ n) → P type) → P type
+at P type n here there = elim (cases_eq type n) [ | inl e ↦ subst P (sym e) here | inr ne ↦ there ne ]
+
+StreamKind : ℕ → Type 0
+StreamKind type = kind_of type ≡ is_stream (has_bit type 4) (has_bit type 2) (has_bit type 1)
+
+-- the bits of a type from 8 to 15 tell the kind
+pub stream_kind : (type : ℕ) → 8 ≤ type → type < 16 → kind_of type ≡ is_stream (has_bit type 4) (has_bit type 2) (has_bit type 1)
+unfolding kind_of StreamKind
+stream_kind type least most =
+    at StreamKind type 8 refl (λ n8. at StreamKind type 9 refl (λ n9. at StreamKind type 10 refl (λ n10. at StreamKind type 11 refl (λ n11.
+    at StreamKind type 12 refl (λ n12. at StreamKind type 13 refl (λ n13. at StreamKind type 14 refl (λ n14. at StreamKind type 15 refl (λ n15.
+    absurd (omega arith)))))))))
+
+-- ---- which kinds are read
+
+is_read : Kind → Bool
+is_read is_padding = true
+is_read is_ping = true
+is_read (is_stream written sized fin) = true
+is_read kind = false
+
+reads_type : ℕ → Bool
+reads_type type = (type == 0) || ((type == 1) || (not (nat_lt type 8) && nat_lt type 16))
+
+only_read : ℕ → Kind → Bool
+only_read type kind = not (is_read kind) || reads_type type
+
+not_read : (kind : Kind) (bytes : List ℕ) → is_read kind ≡ false → of_kind_at kind bytes ≡ Err InvalidId
+unfolding is_read
+not_read is_padding bytes e = absurd cc
+not_read is_ping bytes e = absurd cc
+not_read (is_stream written sized fin) bytes e = absurd cc
+not_read kind bytes e = refl
+
+or_false : (a b : Bool) → (not a || b) ≡ true → b ≡ false → a ≡ false
+or_false true b e f = absurd cc
+or_false false b e f = refl
+
+-- a type of no kind that is read
+unread : (type : ℕ) (bytes : List ℕ) → reads_type type ≡ false → body_at type bytes ≡ Err InvalidId
+unfolding kind_of body_at only_read is_read reads_type
+unread type bytes e = not_read (kind_of type) bytes (or_false (is_read (kind_of type)) (reads_type type) (all_named only_read type frame_types refl refl) e)
+
+pub body_below : (type : ℕ) (bytes : List ℕ) → ¬ (type ≡ 0) → ¬ (type ≡ 1) → type < 8 → body_at type bytes ≡ Err InvalidId
+unfolding reads_type
+body_below type bytes n0 n1 lt = unread type bytes (rw (ne_eqb type 0 n0, ne_eqb type 1 n1, lt-ltb type 8 lt) refl)
+
+pub body_above : (type : ℕ) (bytes : List ℕ) → 16 ≤ type → body_at type bytes ≡ Err InvalidId
+unfolding reads_type
+body_above type bytes le = unread type bytes (rw (ne_eqb type 0 (λ e. omega arith), ne_eqb type 1 (λ e. omega arith), le-ltb type 8 (omega arith), le-ltb type 16 le) refl)
+
+-- ---- the frame behind a type
+
+pub body_padding : (bytes : List ℕ) → body_at 0 bytes ≡ Ok (padding, bytes)
+unfolding body_at kind_of
+body_padding bytes = refl
+
+pub body_ping : (bytes : List ℕ) → body_at 1 bytes ≡ Ok (ping, bytes)
+unfolding body_at kind_of
+body_ping bytes = refl
+
+pub body_stream : (type : ℕ) (bytes : List ℕ) → 8 ≤ type → type < 16 → body_at type bytes ≡ of_kind_at (is_stream (has_bit type 4) (has_bit type 2) (has_bit type 1)) bytes
+unfolding body_at
+body_stream type bytes least most = ap (λ (k : Kind). of_kind_at k bytes) (stream_kind type least most)

@@ -1,0 +1,76 @@
+-- The form in which each frame is written: each number in its shortest width (RFC 9000, sections 16 and 19).
+use Rattle.std.specs.Prelude.{ℕ, ◌+◌, ◌<◌, ◌^◌, Bool, true, false, not, List, [], ◌∷◌, ◌++◌, length, Option, Some, None, ◌==◌}
+use Rattle.quic_wire_core.specs.Varint.{shortest}
+use Rattle.quic_wire.specs.Value.{StreamValue, FrameValue, padding, ping, stream}
+use Rattle.quic_wire.specs.FrameTypes.{is_padding, is_ping, is_stream, type_of}
+use Rattle.quic_wire.specs.Grammar.{stream_numbers}
+
+-- Numbers, one after another, each in its shortest form.
+abbrev pub written : List ℕ → List ℕ
+written [] = []
+written (n ∷ ns) = shortest n ++ written ns
+
+-- An offset is written where it isn't 0.
+abbrev pub has_offset : ℕ → Bool
+has_offset offset = not (offset == 0)
+
+-- The header of a STREAM frame, with its length or without.
+abbrev pub stream_header : Bool → StreamValue → List ℕ
+stream_header with_length s = written (stream_numbers (has_offset s.offset) with_length s)
+
+-- How a STREAM frame is written, with its length or without.
+unfoldable pub stream_spelling : Bool → StreamValue → List ℕ
+stream_spelling with_length s = stream_header with_length s ++ s.bytes
+
+-- How a frame is written: a STREAM frame with its length.
+abbrev pub spelling : FrameValue → List ℕ
+spelling padding = written (type_of is_padding ∷ [])
+spelling ping = written (type_of is_ping ∷ [])
+spelling (stream s) = stream_spelling true s
+spelling f = []
+
+-- Frames, one behind another.
+abbrev pub spelled_all : List FrameValue → List ℕ
+spelled_all [] = []
+spelled_all (f ∷ fs) = spelling f ++ spelled_all fs
+
+-- The numbers of a STREAM frame have a form.
+abbrev pub StreamFits : StreamValue → Type 0
+StreamFits s = (s.id < 2 ^ 62) × (s.offset < 2 ^ 62) × (length s.bytes < 2 ^ 62)
+
+-- The frame has a form.
+abbrev pub Fits : FrameValue → Type 0
+Fits padding = Unit {0}
+Fits ping = Unit {0}
+Fits (stream s) = StreamFits s
+Fits f = ⊥
+
+-- Each of the frames has a form.
+abbrev pub AllFit : List FrameValue → Type 0
+AllFit [] = Unit {0}
+AllFit (f ∷ fs) = Fits f × AllFit fs
+
+-- How many bytes a number takes.
+abbrev pub width_of : ℕ → ℕ
+width_of n = length (shortest n)
+
+-- How many bytes the offset of a STREAM frame takes.
+abbrev pub offset_width : Bool → ℕ → ℕ
+offset_width true offset = width_of offset
+offset_width false offset = 0
+
+-- How many bytes the length of a STREAM frame takes.
+abbrev pub length_width : Option ℕ → ℕ
+length_width (Some n) = width_of n
+length_width None = 0
+
+-- How many bytes the header of a STREAM frame takes.
+abbrev pub stream_header_size : ℕ → ℕ → Option ℕ → ℕ
+stream_header_size id offset len = 1 + width_of id + offset_width (has_offset offset) offset + length_width len
+
+-- The type of a frame, that of a STREAM frame without a length.
+abbrev pub type_number : FrameValue → ℕ
+type_number padding = type_of is_padding
+type_number ping = type_of is_ping
+type_number (stream s) = type_of (is_stream (has_offset s.offset) false s.fin)
+type_number f = 0

@@ -1,0 +1,105 @@
+//! Frames (RFC 9000, section 19): their values, the reader of a payload and the writers.
+
+mod iter;
+mod reading;
+// mod writing;
+
+pub use iter::Iter;
+// pub use writing::{put_frame, put_stream, size_of_frame, size_of_stream_header, write_frame};
+
+use quic_wire_core::{FrameType, StreamId, VarInt};
+use thiserror::Error;
+
+/// A frame of a payload (quinn-proto's `frame::Frame`).
+#[derive(Debug, Drop)]
+pub enum Frame<'a> {
+    /// Nothing (section 19.1).
+    Padding,
+    /// Asks for an acknowledgement (section 19.2).
+    Ping,
+    /// Bytes of a stream (section 19.8).
+    Stream(Stream<'a>),
+}
+
+impl<'a> Frame<'a> {
+    ghost use Rattle.std.specs.Prelude.{◌≡◌};
+    ghost use Rattle.quic_wire.specs.Value.{asks};
+    ghost use Rattle.quic_wire.specs.FrameView.{frame_view};
+    ghost use Rattle.quic_wire.specs.Writing.{type_number};
+
+    /// The frame's type; of a STREAM frame the type that it has where its length isn't written (quinn-proto's
+    /// `Frame::ty`).
+    pub fn ty(&self) -> FrameType
+        ensures { result ≡ type_number (frame_view self.now) }
+    {
+        match self {
+            Frame::Padding => FrameType::PADDING,
+            Frame::Ping => FrameType::PING,
+            Frame::Stream(stream) => VarInt::from_u32(stream.ty(false)).into(),
+        }
+    }
+
+    /// Whether a packet with this frame asks for an acknowledgement: all frames but PADDING, ACK and the closes do
+    /// (RFC 9000, section 13.2; quinn-proto's `Frame::is_ack_eliciting`).
+    pub fn is_ack_eliciting(&self) -> bool
+        ensures { result ≡ asks (frame_view self.now) }
+    {
+        !matches!(self, Frame::Padding)
+    }
+}
+
+/// Bytes of a stream (section 19.8; quinn-proto's `frame::Stream`).
+#[derive(Clone, Copy, Debug, PartialEq, Eq)]
+pub struct Stream<'a> {
+    /// The stream's id.
+    pub id: StreamId,
+    /// Where in the stream the bytes begin.
+    pub offset: u64,
+    /// Whether the stream ends behind these bytes.
+    pub fin: bool,
+    /// The bytes.
+    pub data: &'a [u8],
+}
+
+impl<'a> Stream<'a> {
+    ghost use Rattle.std.specs.Prelude.{◌≡◌};
+    ghost use Rattle.quic_wire.specs.FrameTypes.{type_of, is_stream};
+    ghost use Rattle.quic_wire.specs.Writing.{has_offset};
+
+    /// The most bytes that stand before the data: type, id, offset and length.
+    pub const SIZE_BOUND: usize = 1 + 8 + 8 + 8;
+
+    /// The type, with the bits of an offset that isn't 0, of a length that is written and of the end.
+    pub(crate) fn ty(&self, with_length: bool) -> u32
+        ensures { result ≡ type_of (is_stream (has_offset self.now.offset) with_length self.now.fin) }
+    {
+        let offset = if self.offset == 0 { 0 } else { 4 };
+        let length = if with_length { 2 } else { 0 };
+        let fin = if self.fin { 1 } else { 0 };
+        0x08 + offset + length + fin
+    }
+}
+
+/// Why bytes are no frame (quinn-proto's `frame::IterErr`).
+#[derive(Clone, Copy, Debug, PartialEq, Eq, Error)]
+pub enum FrameError {
+    /// A field passes the end of the payload.
+    #[error("unexpected end")]
+    UnexpectedEnd,
+    /// A field has a value that its frame doesn't allow.
+    #[error("malformed")]
+    Malformed,
+    /// The type names no frame.
+    #[error("invalid frame ID")]
+    InvalidId,
+}
+
+/// Bytes that are no frame: the type, where it could be read, and why (quinn-proto's `frame::InvalidFrame`).
+#[derive(Clone, Copy, Debug, PartialEq, Eq, Error)]
+#[error("invalid frame: {reason}")]
+pub struct InvalidFrame {
+    /// The frame's type, none where the payload ends within it.
+    pub ty: Option<FrameType>,
+    /// Why.
+    pub reason: FrameError,
+}
