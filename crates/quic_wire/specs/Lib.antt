@@ -1,0 +1,4 @@
+pub mod Parameters
+pub mod ParametersRead
+pub mod ParametersWritten
+pub mod ParametersCode
