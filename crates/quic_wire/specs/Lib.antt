@@ -2,3 +2,5 @@ pub mod Parameters
 pub mod ParametersRead
 pub mod ParametersWritten
 pub mod ParametersCode
+pub mod ParametersSteps
+pub mod ParametersLaw

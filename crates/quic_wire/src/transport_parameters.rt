@@ -5,6 +5,7 @@ ghost use Rattle.quic_wire.specs.ParametersRead.{met_at};
 
 mod error;
 mod id;
+pub mod laws;
 mod reading;
 
 use quic_wire_core::VarInt;

@@ -1,7 +1,7 @@
 use Rattle.std.proofs.Common.{rules, ◌≡◌, ℕ, ◌<◌, length, List, Option, Result, Ok, Err, sym, ◌∙◌, arith}
 use Rattle.std.proofs.lemmas.Result.{err_from_is_err_and}
 use Rattle.quic_wire.specs.ParametersRead.{met_in, none_met}
-use Rattle.quic_wire.proofs.ParametersSteps.{entry_shorter, met_next, met_refused, entry_refused, met_whole}
+use Rattle.quic_wire.specs.ParametersSteps.{entry_shorter, met_next, met_refused, entry_refused, met_whole}
 use Rattle.quic_wire.proofs.transport_parameters.reading.met_of.Goals as goal
 
 pub returns-in_err-entry : goal.returns-in_err-entry
