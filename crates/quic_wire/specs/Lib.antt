@@ -10,3 +10,9 @@ pub mod Items
 pub mod FrameView
 pub mod Grammar
 pub mod Writing
+pub mod Parameters
+pub mod ParametersRead
+pub mod ParametersWritten
+pub mod ParametersCode
+pub mod ParametersSteps
+pub mod ParametersLaw

@@ -7,3 +7,6 @@ pub mod packet;
 pub mod reserved;
 pub mod sealing;
 pub mod frame;
+pub mod transport_parameters;
+
+pub use transport_parameters::{TransportParameters, TransportParametersError};
