@@ -1,0 +1,4 @@
+pub mod First
+pub mod Steps
+pub mod Filled
+pub mod Bytes

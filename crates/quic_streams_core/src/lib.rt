@@ -1,2 +1,7 @@
-//! The two buffers of a QUIC stream.
+//! The two buffers of a QUIC stream: what has arrived and is not read yet ([`Assembler`]), and
+//! what was written and may have to be sent ([`SendBuffer`]).
 #![tactic(auto)]
+
+mod connection;
+
+pub use connection::assembler::{Assembler, Chunk};

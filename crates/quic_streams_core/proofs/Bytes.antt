@@ -1,0 +1,181 @@
+-- The bytes of parts, one by one.
+use Rattle.std.proofs.Common.{◌≡◌, ℕ, ◌+◌, ◌-◌, ◌^◌, ◌<◌, ◌≤◌, ltb, length, List, [], ◌∷◌, take, drop, Bool, true, false, cond, Some, None, Option, refl, sym, ap, ◌∙◌, subst, arith, max, min, length-take, length-drop, suc, zero, get_or, ◌==◌, ◌⊎◌, inl, inr}
+use Rattle.std.specs.List.{slice_get}
+use Rattle.std.specs.Option.{option_or, IfSome, is_some}
+use Rattle.std.proofs.lemmas.Bool.{ltb-true, ltb-false, lt-ltb, le-ltb, eqb-true, eqb-false, cases_order}
+use Rattle.std.proofs.lemmas.List.{get_or-take, get_or-drop}
+use Rattle.std.proofs.lemmas.Option.{slice_get_past, slice_get-get_or}
+use Rattle.quic_streams_core.specs.Arrived.{Part, start, AreApart, byte_from, byte_at, with_part, with_gaps, Keeps, is_next}
+
+-- ---- the elements of a list's parts
+pub get-take : (n i : ℕ) (bs : List ℕ) → i < n → slice_get (take n bs) i ≡ slice_get bs i
+get-take n i bs l = go (ltb i (length bs)) refl
+  where
+    go : (b : Bool) → ltb i (length bs) ≡ b → slice_get (take n bs) i ≡ slice_get bs i
+    go true q =
+        let k = ltb-true i (length bs) q in
+        let lt = length-take n bs in
+        slice_get-get_or (take n bs) i 0 (omega arith) ∙ ap (λ x. Some x) (get_or-take n bs i 0 l) ∙ sym (slice_get-get_or bs i 0 k)
+    go false q =
+        let k = ltb-false i (length bs) q in
+        let lt = length-take n bs in
+        slice_get_past (take n bs) i (omega arith) ∙ sym (slice_get_past bs i k)
+
+pub get-drop : (n i : ℕ) (bs : List ℕ) → slice_get (drop n bs) i ≡ slice_get bs (n + i)
+get-drop n i bs = go (ltb (n + i) (length bs)) refl
+  where
+    go : (b : Bool) → ltb (n + i) (length bs) ≡ b → slice_get (drop n bs) i ≡ slice_get bs (n + i)
+    go true q =
+        let k = ltb-true (n + i) (length bs) q in
+        let lt = length-drop n bs in
+        slice_get-get_or (drop n bs) i 0 (omega arith) ∙ ap (λ x. Some x) (get_or-drop n bs i 0) ∙ sym (slice_get-get_or bs (n + i) 0 k)
+    go false q =
+        let k = ltb-false (n + i) (length bs) q in
+        let lt = length-drop n bs in
+        slice_get_past (drop n bs) i (omega arith) ∙ sym (slice_get_past bs (n + i) k)
+
+-- ---- the byte at an offset of bytes that begin somewhere
+pub from_below : (at : ℕ) (bs : List ℕ) (o : ℕ) → o < at → byte_from at bs o ≡ None
+from_below at bs o l = rw (lt-ltb o at l) refl
+
+pub from_above : (at : ℕ) (bs : List ℕ) (o : ℕ) → at ≤ o → byte_from at bs o ≡ slice_get bs (o - at)
+from_above at bs o l = rw (le-ltb o at l) refl
+
+pub from_behind : (at : ℕ) (bs : List ℕ) (o : ℕ) → at + length bs ≤ o → byte_from at bs o ≡ None
+from_behind at bs o l = from_above at bs o (omega arith) ∙ slice_get_past bs (o - at) (omega arith)
+
+pub from_within : (at : ℕ) (bs : List ℕ) (o : ℕ) → at ≤ o → o < at + length bs → byte_from at bs o ≡ Some (get_or bs (o - at) 0)
+from_within at bs o l m = from_above at bs o l ∙ slice_get-get_or bs (o - at) 0 (omega arith)
+
+-- what stands before n is as it was, and nothing behind
+from_front : (at n : ℕ) (bs : List ℕ) (o : ℕ) → o < n → byte_from at (take (n - at) bs) o ≡ byte_from at bs o
+from_front at n bs o l = go (ltb o at) refl
+  where
+    go : (b : Bool) → ltb o at ≡ b → byte_from at (take (n - at) bs) o ≡ byte_from at bs o
+    go true q = let k = ltb-true o at q in from_below at (take (n - at) bs) o k ∙ sym (from_below at bs o k)
+    go false q = let k = ltb-false o at q in from_above at (take (n - at) bs) o k ∙ get-take (n - at) (o - at) bs (omega arith) ∙ sym (from_above at bs o k)
+
+from_front_behind : (at n : ℕ) (bs : List ℕ) (o : ℕ) → n ≤ o → byte_from at (take (n - at) bs) o ≡ None
+from_front_behind at n bs o l = go (ltb o at) refl
+  where
+    go : (b : Bool) → ltb o at ≡ b → byte_from at (take (n - at) bs) o ≡ None
+    go true q = from_below at (take (n - at) bs) o (ltb-true o at q)
+    go false q =
+        let k = ltb-false o at q in
+        let lt = length-take (n - at) bs in
+        from_behind at (take (n - at) bs) o (omega arith)
+
+-- what stands behind n is as it was
+pub from_back : (at n : ℕ) (bs : List ℕ) (o : ℕ) → n ≤ o → byte_from (max at n) (drop (n - at) bs) o ≡ byte_from at bs o
+from_back at n bs o l = go (ltb o at) refl
+  where
+    go : (b : Bool) → ltb o at ≡ b → byte_from (max at n) (drop (n - at) bs) o ≡ byte_from at bs o
+    go true q = let k = ltb-true o at q in from_below (max at n) (drop (n - at) bs) o (omega arith) ∙ sym (from_below at bs o k)
+    go false q =
+        let k = ltb-false o at q in
+        from_above (max at n) (drop (n - at) bs) o (omega arith) ∙ get-drop (n - at) (o - max at n) bs ∙ ap (λ i. slice_get bs i) (omega arith) ∙ sym (from_above at bs o k)
+
+-- ---- the byte at an offset of parts
+pub at_below : (low : ℕ) (ps : List Part) (o : ℕ) → AreApart low ps → o < low → byte_at ps o ≡ None
+at_below low [] o h l = refl
+at_below low (p ∷ ps) o h l =
+    let big = h.0 in
+    let full = h.1 in
+    rw (from_below (start p) p.1 o (omega arith)) (at_below p.0 ps o h.2 (omega arith))
+
+at_part : (at : ℕ) (bs : List ℕ) (ps : List Part) (o : ℕ) → byte_at (with_part at bs ps) o ≡ option_or (byte_from at bs o) (byte_at ps o)
+at_part at [] ps o = sym (rw (none_of (ltb o at)) refl)
+  where
+    none_of : (b : Bool) → cond b None (slice_get {X = ℕ} [] (o - at)) ≡ None
+    none_of true = refl
+    none_of false = slice_get_past [] (o - at) (omega arith)
+at_part at (b ∷ bs) ps o = let s : at + length (b ∷ bs) - length (b ∷ bs) ≡ at = omega arith in rw s refl
+
+or_none : (o : Option ℕ) → option_or o None ≡ o
+or_none None = refl
+or_none (Some x) = refl
+
+-- an insert: the byte that waited stands, and else the one that came
+pub at_gaps : (low : ℕ) (ps : List Part) (at : ℕ) (bs : List ℕ) (o : ℕ) → AreApart low ps → byte_at (with_gaps ps at bs) o ≡ option_or (byte_at ps o) (byte_from at bs o)
+at_gaps low [] at bs o h = at_part at bs [] o ∙ or_none (byte_from at bs o)
+at_gaps low (p ∷ ps) at bs o h = at_part at (take (start p - at) bs) (p ∷ with_gaps ps (max at p.0) (drop (p.0 - at) bs)) o ∙ go (ltb o (start p)) refl (ltb o p.0) refl (at_gaps p.0 ps (max at p.0) (drop (p.0 - at) bs) o h.2)
+  where
+    go : (b : Bool) → ltb o (start p) ≡ b → (c : Bool) → ltb o p.0 ≡ c → byte_at (with_gaps ps (max at p.0) (drop (p.0 - at) bs)) o ≡ option_or (byte_at ps o) (byte_from (max at p.0) (drop (p.0 - at) bs) o)
+        → option_or (byte_from at (take (start p - at) bs) o) (option_or (byte_from (start p) p.1 o) (byte_at (with_gaps ps (max at p.0) (drop (p.0 - at) bs)) o)) ≡ option_or (option_or (byte_from (start p) p.1 o) (byte_at ps o)) (byte_from at bs o)
+    go true q c r ih =
+        let k = ltb-true o (start p) q in
+        let e1 = from_front at (start p) bs o k in
+        let e2 = from_below (start p) p.1 o k in
+        let e3 = at_below p.0 ps o h.2 (omega arith) in
+        let e4 = from_below (max at p.0) (drop (p.0 - at) bs) o (omega arith) in
+        rw (ih, e1, e2, e3, e4) (or_none (byte_from at bs o))
+    go false q true r ih =
+        let big = h.0 in
+        let k = ltb-false o (start p) q in
+        let m = ltb-true o p.0 r in
+        let e1 = from_front_behind at (start p) bs o k in
+        let e2 = from_within (start p) p.1 o k (omega arith) in
+        rw (e1, e2) refl
+    go false q false r ih =
+        let big = h.0 in
+        let k = ltb-false o (start p) q in
+        let m = ltb-false o p.0 r in
+        let e1 = from_front_behind at (start p) bs o k in
+        let e2 = from_behind (start p) p.1 o (omega arith) in
+        let e3 = from_back at p.0 bs o m in
+        rw (e1, e2, ih, e3) refl
+
+kept_by : (x y : Option ℕ) → IfSome x (λ b. option_or x y ≡ Some b)
+kept_by None y = tt
+kept_by (Some b) y = refl
+
+-- what waits still waits after an insert
+pub gaps_keep : (low : ℕ) (ps : List Part) (at : ℕ) (bs : List ℕ) → AreApart low ps → Keeps ps (with_gaps ps at bs)
+gaps_keep low ps at bs h o = rw (at_gaps low ps at bs o h) (kept_by (byte_at ps o) (byte_from at bs o))
+
+pub keeps_same : (ps : List Part) → Keeps ps ps
+keeps_same ps o = go (byte_at ps o)
+  where
+    go : (x : Option ℕ) → IfSome x (λ b. x ≡ Some b)
+    go None = tt
+    go (Some b) = refl
+
+pub keeps_more : (ps qs rs : List Part) → Keeps ps qs → Keeps qs rs → Keeps ps rs
+keeps_more ps qs rs f g o = go (byte_at ps o) (f o) (g o)
+  where
+    go : (x : Option ℕ) → IfSome x (λ b. byte_at qs o ≡ Some b) → IfSome (byte_at qs o) (λ b. byte_at rs o ≡ Some b) → IfSome x (λ b. byte_at rs o ≡ Some b)
+    go None f g = tt
+    go (Some b) f g = let P : Option ℕ → Type 0 = λ y. IfSome y (λ b. byte_at rs o ≡ Some b) in subst P f g
+
+-- ---- where the stream is read next
+pub next_waits : (read : ℕ) (ps : List Part) → AreApart read ps → is_next ps read ≡ is_some (byte_at ps read)
+next_waits read [] h = refl
+next_waits read (p ∷ ps) h = go (start p == read) refl
+  where
+    go : (b : Bool) → (start p == read) ≡ b → b ≡ is_some (byte_at (p ∷ ps) read)
+    go true q =
+        let big = h.0 in
+        let full = h.1 in
+        let same = eqb-true (start p) read q in
+        let e = from_within (start p) p.1 read (omega arith) (omega arith) in
+        rw e refl
+    go false q =
+        let big = h.0 in
+        let full = h.1 in
+        let other = eqb-false (start p) read q in
+        let below : read < start p = below_of (cases_order read (start p)) in
+        let e1 = from_below (start p) p.1 read below in
+        let e2 = at_below p.0 ps read h.2 (omega arith) in
+        rw (e1, e2) refl
+      where
+        below_of : (read ≡ start p) ⊎ ((read < start p) ⊎ (start p < read)) → read < start p
+        below_of (inl e) = absurd (eqb-false (start p) read q (sym e))
+        below_of (inr (inl l)) = l
+        below_of (inr (inr l)) = absurd (omega (arith, h.0))
+
+pub next_first : (read : ℕ) (ps : List Part) (x : Part) → slice_get ps 0 ≡ Some x → is_next ps read ≡ (start x == read)
+next_first read [] x e = cc
+next_first read (p ∷ ps) x e = let same : p ≡ x = cc in ap (λ z. start z == read) same
+
+pub after_keeps : (low at : ℕ) (ps ns : List Part) (bs : List ℕ) → AreApart low ps → with_gaps ps at bs ≡ ns → Keeps ps ns
+after_keeps low at ps ns bs h e = subst (λ qs. Keeps ps qs) e (gaps_keep low ps at bs h)

@@ -1,0 +1,2 @@
+// The parts of a connection that stand here, as in quinn-proto's `connection`.
+pub(crate) mod assembler;

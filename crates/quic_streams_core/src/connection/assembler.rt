@@ -1,0 +1,255 @@
+// What has arrived of a stream and is not read yet, in parts.
+ghost use Rattle.std.specs.Prelude.{◌≡◌, cond, drop, max, ◌+◌, ◌-◌, ◌≤◌, ◌<◌, ◌^◌, length, [], IfOk, IsOk, OnOk, OnErr, is_some, IsTrue, false};
+ghost use Rattle.std.specs.Option.{option_map};
+ghost use Rattle.std.specs.Map.{lookup};
+ghost use Rattle.std.specs.BTreeMap.{insert_entry, is_at};
+ghost use Rattle.std.specs.Ordering.{nat_cmp};
+ghost use Rattle.quic_streams_core.specs.Arrived.{Arrived, IsLawful, AreApart, Keeps, byte_at, runs_of, with_gaps, after_insert, is_next, given, after_read, cuts, whole_first, after_first, after, span_of, is_held, held_at, gap_at, begins_at, Fits};
+
+use bytes::Bytes;
+use std::alloc::{AllocError, Global};
+use std::collections::BTreeMap;
+use std::marker::Model;
+
+/// Bytes of a stream, with the offset of the first, as quinn-proto's `Chunk`.
+#[derive(Drop)]
+pub struct Chunk {
+    /// The offset in the stream of the first byte.
+    pub offset: u64,
+    /// The bytes.
+    pub bytes: Bytes,
+}
+
+/// What has arrived of a stream and is not read yet (RFC 9000, 2.2), as quinn-proto's `Assembler`.
+///
+/// Offsets wait with their bytes, in parts that do not overlap. Of bytes that come twice the
+/// first stand.
+#[derive(Drop)]
+pub struct Assembler {
+    // By the offset behind a part's last byte: so the part that holds an offset is found by one
+    // look-up, and stays where it is when a read takes its front.
+    parts: BTreeMap<u64, Bytes>,
+    // The offset up to which ordered reads have come.
+    read: u64,
+    // The number of runs, kept so that no insert has to count it.
+    runs: usize,
+    alloc: Global,
+}
+
+impl Model for Assembler {
+    ghost use Rattle.quic_streams_core.specs.Arrived.{Arrived};
+
+    ghost Value = { Arrived };
+
+    ghost use Rattle.quic_streams_core.specs.Inside.{Arranged};
+
+    ghost view = { λ a. record { read = a.read; parts = a.parts.entries } };
+
+    ghost invariant = { Arranged };
+}
+
+// Where the first part that ends behind an offset begins and ends.
+fn first_after(parts: &BTreeMap<u64, Bytes>, at: u64) -> Option<(u64, u64)>
+    requires { at < 2 ^ 62 }
+    ensures { result ≡ option_map span_of (after at parts.now.entries) }
+{
+    let first = at + 1;
+    match parts.range(first..).next() {
+        Some((end, bytes)) => Some((end.saturating_sub(bytes.len() as u64), *end)),
+        None => None,
+    }
+}
+
+// Whether an offset waits; how many of `len` bytes from it on wait in its part, or else in none;
+// and whether a part begins behind these.
+fn span(parts: &BTreeMap<u64, Bytes>, at: u64, len: u64) -> (bool, u64, bool)
+    requires { at + len < 2 ^ 62 }
+    ensures held { result.0 ≡ is_held at (after at parts.now.entries) }
+    ensures count { result.1 ≡ cond result.0 (held_at at len (after at parts.now.entries)) (gap_at at len (after at parts.now.entries)) }
+    ensures joins { result.2 ≡ begins_at (at + result.1) (after at parts.now.entries) }
+{
+    match first_after(parts, at) {
+        None => (false, len, false),
+        Some((start, end)) => {
+            if at < start {
+                let count = (start - at).min(len);
+                (false, count, start == at + count)
+            } else {
+                let count = end.saturating_sub(at).min(len);
+                (true, count, start == at + count)
+            }
+        }
+    }
+}
+
+// How many parts touch a gap: one may end where it begins, and `joins` says whether one begins
+// behind it.
+fn touches(parts: &BTreeMap<u64, Bytes>, at: u64, joins: bool) -> usize
+    ensures { result ≡ cond (is_some (lookup (is_at (nat_cmp at)) parts.now.entries)) 1 0 + cond joins 1 0 }
+{
+    let before = if parts.contains_key(&at) { 1 } else { 0 };
+    if joins { before + 1 } else { before }
+}
+
+// Keeps a part that ends at `end`.
+fn keep(parts: &mut BTreeMap<u64, Bytes>, end: u64, part: Bytes) -> Result<(), AllocError>
+    ensures ok { OnOk result (parts.new.entries ≡ insert_entry nat_cmp parts.old.entries end part) }
+    ensures err { OnErr result (parts.new.entries ≡ parts.old.entries) }
+{
+    let _ = parts.insert(end, part)?;
+    Ok(())
+}
+
+// Whether the first part begins at an offset.
+fn starts_at(parts: &BTreeMap<u64, Bytes>, at: u64) -> bool
+    ensures { result ≡ is_next parts.now.entries at }
+{
+    match parts.first_key_value() {
+        Some((end, bytes)) => end.saturating_sub(bytes.len() as u64) == at,
+        None => false,
+    }
+}
+
+impl Assembler {
+    /// Nothing has arrived, and nothing is read.
+    pub fn new(alloc: Global) -> Self
+        ensures { result ≡ record { read = 0; parts = [] } }
+    {
+        Assembler {
+            parts: BTreeMap::new(alloc),
+            read: 0,
+            runs: 0,
+            alloc,
+        }
+    }
+
+    /// The offset up to which ordered reads have come.
+    pub fn bytes_read(&self) -> u64
+        ensures value { result ≡ self.now.read }
+        ensures lawful { IsLawful self.now }
+    {
+        let _ = &self.parts;
+        self.read
+    }
+
+    /// The number of maximal runs of offsets that wait. Parts that touch are one run.
+    pub fn runs(&self) -> usize
+        ensures { result ≡ runs_of self.now.parts }
+    {
+        self.runs
+    }
+
+    /// Whether a byte waits where the stream is read next.
+    pub fn has_next(&self) -> bool
+        ensures next { result ≡ is_next self.now.parts self.now.read }
+        ensures byte { result ≡ is_some (byte_at self.now.parts self.now.read) }
+    {
+        starts_at(&self.parts, self.read)
+    }
+
+    // Puts a part into a gap.
+    fn fill_gap(&mut self, at: u64, bytes: &[u8], joins: bool) -> Result<(), AllocError>
+        requires above { self.old.read ≤ at }
+        requires some { 0 < length bytes.now }
+        requires small { at + length bytes.now < 2 ^ 62 }
+        requires fits { Fits (at + length bytes.now) (after at self.old.parts) }
+        requires joins { joins ≡ begins_at (at + length bytes.now) (after at self.old.parts) }
+        ensures lawful { IsLawful self.new }
+        ensures ok { OnOk result (self.new ≡ record self.old { parts = insert_entry nat_cmp self.old.parts (at + length bytes.now) bytes.now }) }
+        ensures err { OnErr result (self.new ≡ self.old) }
+    {
+        let end = at + bytes.len() as u64;
+        let touching = touches(&self.parts, at, joins);
+        let part = Bytes::copy_from_slice(self.alloc, bytes)?;
+        keep(&mut self.parts, end, part)?;
+        self.runs = self.runs + 1 - touching;
+        Ok(())
+    }
+
+    // Skips what waits at an offset, or else keeps what fills the gap there, and says how many
+    // bytes that were.
+    fn put_next(&mut self, at: u64, bytes: &[u8]) -> Result<usize, AllocError>
+        requires above { self.old.read ≤ at }
+        requires some { 0 < length bytes.now }
+        requires small { at + length bytes.now < 2 ^ 62 }
+        ensures lawful { IsLawful self.new }
+        ensures read { self.new.read ≡ self.old.read }
+        ensures some { IfOk result (λ n. 0 < n) }
+        ensures within { IfOk result (λ n. n ≤ length bytes.now) }
+        ensures gaps { IfOk result (λ n. with_gaps self.old.parts at bytes.now ≡ with_gaps self.new.parts (at + n) (drop n bytes.now)) }
+        ensures keeps { OnOk result (Keeps self.old.parts self.new.parts) }
+        ensures err { OnErr result (self.new ≡ self.old) }
+    {
+        let (held, count, joins) = span(&self.parts, at, bytes.len() as u64);
+        let count = count as usize;
+        if !held {
+            self.fill_gap(at, &bytes[..count], joins)?;
+        }
+        Ok(count)
+    }
+
+    /// Puts in bytes that came at an offset: those that were not read and do not wait yet.
+    ///
+    /// An `Err` (want of memory) may have put in some of them; what waited still waits.
+    pub fn insert(&mut self, offset: u64, bytes: &[u8]) -> Result<(), AllocError>
+        requires { offset + length bytes.now < 2 ^ 62 }
+        ensures ok { OnOk result (self.new ≡ after_insert self.old offset bytes.now) }
+        ensures read { self.new.read ≡ self.old.read }
+        ensures keeps { Keeps self.old.parts self.new.parts }
+        ensures within { Keeps self.new.parts (after_insert self.old offset bytes.now).parts }
+    {
+        let known = self.read.saturating_sub(offset).min(bytes.len() as u64);
+        let mut taken = known as usize;
+        while taken < bytes.len() {
+            taken += self.put_next(offset + taken as u64, &bytes[taken..])?;
+        }
+        Ok(())
+    }
+
+    // Takes out the first part, which begins where the stream is read next.
+    fn take_first(&mut self) -> Option<Chunk>
+        requires { IsTrue (is_next self.old.parts self.old.read) }
+        ensures chunk { result ≡ whole_first self.old.parts self.old.read }
+        ensures new { self.new ≡ after_first self.old }
+    {
+        let (end, bytes) = self.parts.pop_first()?;
+        if !starts_at(&self.parts, end) {
+            self.runs -= 1;
+        }
+        let offset = self.read;
+        self.read = end;
+        Some(Chunk { offset, bytes })
+    }
+
+    /// Gives the next bytes of the stream, at most `max` of them, and moves behind them: `None`
+    /// where no byte waits there.
+    ///
+    /// A chunk ends where a part ends, and is cut without a copy. Only a read that cuts a part
+    /// may fail (want of memory), and then changes nothing.
+    pub fn read(&mut self, max: usize) -> Result<Option<Chunk>, AllocError>
+        ensures ok { IfOk result (λ chunk. chunk ≡ given self.old.parts self.old.read max) }
+        ensures new { OnOk result (self.new ≡ after_read self.old max) }
+        ensures err { OnErr result (self.new ≡ self.old) }
+        ensures whole { cuts self.old.parts self.old.read max ≡ false → IsOk result }
+    {
+        let Some((end, bytes)) = self.parts.first_key_value() else {
+            return Ok(None);
+        };
+        let (end, len) = (*end, bytes.len());
+        if end.saturating_sub(len as u64) != self.read {
+            return Ok(None);
+        }
+        if len <= max {
+            return Ok(self.take_first());
+        }
+        let offset = self.read;
+        match self.parts.get_mut(&end) {
+            Some(bytes) => {
+                let front = bytes.split_to(max)?;
+                self.read += max as u64;
+                Ok(Some(Chunk { offset, bytes: front }))
+            }
+            None => Ok(None),
+        }
+    }
+}
