@@ -9,3 +9,6 @@ pub mod Sending
 pub mod Receiving
 pub mod End
 pub mod Receive
+pub mod Poll
+pub mod Calls
+pub mod Machine

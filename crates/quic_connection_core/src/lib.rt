@@ -8,7 +8,7 @@ mod instant;
 mod run;
 
 pub use answers::{
-    Chunk, ConfigError, DropReason, Failed, FinishError, LostReason, ReadError, ReadableError,
+    Breach, ConfigError, DropReason, Failed, FinishError, LostReason, ReadError, ReadableError,
     Received, State, Transmit, WriteError,
 };
 pub use config::TransportConfig;
