@@ -172,3 +172,32 @@ fixed_again_32 n rest lt = fixed_again w32 n rest refl (from_be_bytes-to_be_byte
 -- eight bytes are read again
 pub fixed_again_64 : (n : ℕ) (rest : List ℕ) → n < 2 ^ 64 → fixed_at w64 (to_be_bytes w64 n ++ rest) ≡ Some (n, rest)
 fixed_again_64 n rest lt = fixed_again w64 n rest refl (from_be_bytes-to_be_bytes_8 n lt)
+
+-- how long the shortest form is, at most
+shortest_1 : (v : ℕ) → v < 2 ^ 6 → length (shortest v) ≤ 1
+shortest_1 v h = rw (lt-ltb v 64 h) (omega arith)
+
+shortest_2 : (v : ℕ) → v < 2 ^ 14 → length (shortest v) ≤ 2
+shortest_2 v h = elim (cases_lt v 64) [
+  | inl a ↦ (let b = shortest_1 v a in omega arith)
+  | inr a ↦ rw (le-ltb v 64 a, lt-ltb v 16384 h) (omega arith)
+]
+
+shortest_4 : (v : ℕ) → v < 2 ^ 30 → length (shortest v) ≤ 4
+shortest_4 v h = elim (cases_lt v 16384) [
+  | inl a ↦ (let b = shortest_2 v a in omega arith)
+  | inr a ↦ (let n : 64 ≤ v = omega arith in rw (le-ltb v 64 n, le-ltb v 16384 a, lt-ltb v 1073741824 h) (omega arith))
+]
+
+shortest_8 : (v : ℕ) → length (shortest v) ≤ 8
+shortest_8 v = elim (cases_lt v 1073741824) [
+  | inl a ↦ (let b = shortest_4 v a in omega arith)
+  | inr a ↦ (let n : 64 ≤ v = omega arith in let m : 16384 ≤ v = omega arith in rw (le-ltb v 64 n, le-ltb v 16384 m, le-ltb v 1073741824 a) (omega arith))
+]
+
+-- no form is shorter than the shortest
+pub shortest_least : (v : ℕ) (bytes : List ℕ) → Spells v bytes → length (shortest v) ≤ length bytes
+shortest_least v bytes (inl s) = rw s.1 (shortest_1 v s.0)
+shortest_least v bytes (inr (inl s)) = rw s.1 (shortest_2 v s.0)
+shortest_least v bytes (inr (inr (inl s))) = rw s.1 (shortest_4 v s.0)
+shortest_least v bytes (inr (inr (inr s))) = rw s.1 (shortest_8 v)

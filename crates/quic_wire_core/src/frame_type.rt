@@ -1,6 +1,6 @@
 //! Types of frames (RFC 9000, section 19).
 ghost use Rattle.std.specs.Prelude.{◌≡◌};
-ghost use Rattle.quic_wire_core.specs.FrameType.{is_stream_type, is_datagram_type};
+ghost use Rattle.quic_wire_core.specs.FrameType.{all_frame_types, is_stream_type, is_datagram_type};
 
 use std::fmt;
 use std::marker::Model;
@@ -106,6 +106,41 @@ impl FrameType {
 
     /// Asks the peer to acknowledge more or less often (the ACK frequency extension).
     pub const ACK_FREQUENCY: FrameType = FrameType(0xaf);
+
+    /// Each type that has a name here, in the order of their numbers.
+    pub fn all() -> [FrameType; 27]
+        ensures { result ≡ all_frame_types }
+    {
+        [
+            FrameType::PADDING,
+            FrameType::PING,
+            FrameType::ACK,
+            FrameType::ACK_ECN,
+            FrameType::RESET_STREAM,
+            FrameType::STOP_SENDING,
+            FrameType::CRYPTO,
+            FrameType::NEW_TOKEN,
+            FrameType::STREAM,
+            FrameType::MAX_DATA,
+            FrameType::MAX_STREAM_DATA,
+            FrameType::MAX_STREAMS_BIDI,
+            FrameType::MAX_STREAMS_UNI,
+            FrameType::DATA_BLOCKED,
+            FrameType::STREAM_DATA_BLOCKED,
+            FrameType::STREAMS_BLOCKED_BIDI,
+            FrameType::STREAMS_BLOCKED_UNI,
+            FrameType::NEW_CONNECTION_ID,
+            FrameType::RETIRE_CONNECTION_ID,
+            FrameType::PATH_CHALLENGE,
+            FrameType::PATH_RESPONSE,
+            FrameType::CONNECTION_CLOSE,
+            FrameType::APPLICATION_CLOSE,
+            FrameType::HANDSHAKE_DONE,
+            FrameType::IMMEDIATE_ACK,
+            FrameType::DATAGRAM,
+            FrameType::ACK_FREQUENCY,
+        ]
+    }
 
     /// Whether frames of this type carry bytes of a stream: 8 to 15 (RFC 9000, section 19.8).
     pub fn is_stream(self) -> bool

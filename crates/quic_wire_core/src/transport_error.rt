@@ -1,6 +1,6 @@
 //! Errors of the transport, which close a connection (RFC 9000, section 20.1).
-ghost use Rattle.std.specs.Prelude.{◌≡◌, None};
-ghost use Rattle.quic_wire_core.specs.TransportError.{ErrorValue};
+ghost use Rattle.std.specs.Prelude.{◌≡◌};
+ghost use Rattle.quic_wire_core.specs.TransportError.{all_codes, error_in, plain_error};
 
 use std::error::Error;
 use std::fmt;
@@ -79,6 +79,31 @@ impl Code {
 
     /// No path is left that serves.
     pub const NO_VIABLE_PATH: Code = Code(0x10);
+
+    /// Each code that has a name here, in the order of their numbers.
+    pub fn all() -> [Code; 17]
+        ensures { result ≡ all_codes }
+    {
+        [
+            Code::NO_ERROR,
+            Code::INTERNAL_ERROR,
+            Code::CONNECTION_REFUSED,
+            Code::FLOW_CONTROL_ERROR,
+            Code::STREAM_LIMIT_ERROR,
+            Code::STREAM_STATE_ERROR,
+            Code::FINAL_SIZE_ERROR,
+            Code::FRAME_ENCODING_ERROR,
+            Code::TRANSPORT_PARAMETER_ERROR,
+            Code::CONNECTION_ID_LIMIT_ERROR,
+            Code::PROTOCOL_VIOLATION,
+            Code::INVALID_TOKEN,
+            Code::APPLICATION_ERROR,
+            Code::CRYPTO_BUFFER_EXCEEDED,
+            Code::KEY_UPDATE_ERROR,
+            Code::AEAD_LIMIT_REACHED,
+            Code::NO_VIABLE_PATH,
+        ]
+    }
 }
 
 impl From<VarInt> for Code {
@@ -154,8 +179,7 @@ impl Model for TransportError {
 impl TransportError {
     /// An error with this code, the type of the frame that caused it, and this reason.
     pub fn new(code: Code, frame: Option<FrameType>, reason: &'static str) -> Self
-        ensures code { result.code ≡ code }
-        ensures frame { result.frame ≡ frame }
+        ensures { result ≡ error_in code frame }
     {
         TransportError {
             code,
@@ -196,7 +220,7 @@ impl TransportError {
 }
 
 impl From<Code> for TransportError {
-    ghost from_gives = { λ code e. (e.code ≡ code) × (e.frame ≡ None) };
+    ghost from_gives = { λ code e. e ≡ plain_error code };
 
     /// An error with this code, of no frame, and with an empty reason.
     fn from(code: Code) -> TransportError {

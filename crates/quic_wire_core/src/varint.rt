@@ -1,5 +1,5 @@
 //! Variable-length integers (RFC 9000, section 16).
-ghost use Rattle.std.specs.Prelude.{◌≡◌, ◌<◌, ◌^◌, ◌≤◌, [], MatchResult, MatchOption, length, slice_index};
+ghost use Rattle.std.specs.Prelude.{◌≡◌, ◌-◌, ◌<◌, ◌^◌, ◌≤◌, [], MatchResult, MatchOption, length, slice_index};
 
 use crate::coding::{u16_of, u32_of, u64_of, u8_of, Codec, UnexpectedEnd};
 use bytes::{Buf, BufMut};
@@ -37,6 +37,13 @@ impl VarInt {
 
     /// The most bytes that a number takes.
     pub const MAX_SIZE: usize = 8;
+
+    /// The greatest number, as [`VarInt::MAX`].
+    pub fn max_value() -> Self
+        ensures { result ≡ 2 ^ 62 - 1 }
+    {
+        VarInt::MAX
+    }
 
     /// The number, which always fits.
     pub fn from_u32(x: u32) -> Self
