@@ -3,3 +3,5 @@ pub mod Keys
 pub mod Header
 pub mod Datagram
 pub mod Destination
+pub mod Plain
+pub mod PlainLaw

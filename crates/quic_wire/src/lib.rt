@@ -4,5 +4,6 @@
 pub mod crypto;
 pub mod laws;
 pub mod packet;
+pub mod plain;
 pub mod reserved;
 pub mod sealing;
