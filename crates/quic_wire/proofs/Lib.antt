@@ -5,3 +5,5 @@ pub mod Destinations
 pub mod FrameKinds
 pub mod FrameShrinks
 pub mod FrameItems
+pub mod StandIn
+pub mod Mates

@@ -16,3 +16,5 @@ pub mod ParametersWritten
 pub mod ParametersCode
 pub mod ParametersSteps
 pub mod ParametersLaw
+pub mod Plain
+pub mod PlainLaw

@@ -4,6 +4,7 @@
 pub mod crypto;
 pub mod laws;
 pub mod packet;
+pub mod plain;
 pub mod reserved;
 pub mod sealing;
 pub mod frame;

@@ -316,3 +316,63 @@ impl ShortHeader {
         Ok(id)
     }
 }
+
+#[cfg(test)]
+mod tests {
+    use super::*;
+    use std::test::Fail;
+
+    /// The bytes of `n` where numbers up to `acked` are acknowledged.
+    fn bytes_of(rt: &HostRuntime, n: u64, acked: u64) -> Result<Vec<u8>, AllocError>
+        requires above { acked ≤ n }
+        requires near { n - acked < 2 ^ 31 }
+    {
+        let mut out = Vec::new(rt.alloc());
+        PacketNumber::new(n, acked).encode(&mut out)?;
+        Ok(out)
+    }
+
+    #[test]
+    fn numbers_take_the_fewest_bytes(rt: HostRuntime) -> Result<(), Fail> {
+        assert!(rt; bytes_of(&rt, 0x10, 0)?.as_slice() == [0x10]);
+        assert!(rt; bytes_of(&rt, 0x100, 0)?.as_slice() == [0x01, 0x00]);
+        assert!(rt; bytes_of(&rt, 0x10000, 0)?.as_slice() == [0x01, 0x00, 0x00]);
+        // RFC 9000, A.2
+        assert!(rt; bytes_of(&rt, 0xac5c02, 0xabe8b3)?.as_slice() == [0x5c, 0x02]);
+        assert!(rt; bytes_of(&rt, 0xace8fe, 0xabe8b3)?.as_slice() == [0xac, 0xe8, 0xfe]);
+        Ok(())
+    }
+
+    #[test]
+    fn numbers_expand_around_the_expected(rt: HostRuntime) -> Result<(), Fail> {
+        // RFC 9000, A.3
+        let written = PacketNumber::decode(&[0x9b, 0x32]);
+        assert_eq!(rt; written.expand(0xa82f_30eb), 0xa82f_9b32);
+        assert_eq!(rt; written.len(), 2);
+        Ok(())
+    }
+
+    #[test]
+    fn headers_are_written_and_read(rt: HostRuntime) -> Result<(), Fail> {
+        let destination = ConnectionId::new(&[1, 2, 3, 4, 5, 6, 7, 8]);
+        let header = ShortHeader {
+            destination,
+            number: PacketNumber::new(0x100, 0),
+        };
+        let mut out = Vec::new(rt.alloc());
+        header.encode(&mut out)?;
+        assert!(rt; out.as_slice() == [0x41, 1, 2, 3, 4, 5, 6, 7, 8, 1, 0]);
+        assert_eq!(rt; header.len(), 11);
+        out.resize(29, 0)?;
+        let parser = FixedLengthConnectionIdParser::new(8);
+        let known = [ConnectionId::new(&[8, 7]), destination];
+        assert!(rt; ShortHeader::decode(&out, &parser, &known) == Ok(destination));
+        assert!(rt; ShortHeader::decode(&out, &parser, &known[..1]) == Err(HeaderError::UnknownId));
+        assert!(rt; ShortHeader::decode(&out[..28], &parser, &known) == Err(HeaderError::TooShort));
+        out[0] = 0;
+        assert!(rt; ShortHeader::decode(&out, &parser, &known) == Err(HeaderError::FixedBit));
+        out[0] = 0xc0;
+        assert!(rt; ShortHeader::decode(&out, &parser, &known) == Err(HeaderError::NotShort));
+        Ok(())
+    }
+}
