@@ -1,3 +1,6 @@
 pub mod FrameKinds
 pub mod FrameShrinks
 pub mod FrameItems
+pub mod FrameAgain
+pub mod FrameFound
+pub mod FrameWhole
