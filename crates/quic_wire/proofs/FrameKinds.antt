@@ -37,6 +37,14 @@ pub type_of_kind : (type : ℕ) → type_of (kind_of type) ≡ type
 unfolding kind_of numbers
 type_of_kind type = eqb-true _ _ (all_named numbers type frame_types (eq-eqb type type refl) refl)
 
+pub kind_of_padding : kind_of (type_of is_padding) ≡ is_padding
+unfolding kind_of
+kind_of_padding = refl
+
+pub kind_of_ping : kind_of (type_of is_ping) ≡ is_ping
+unfolding kind_of
+kind_of_ping = refl
+
 -- the eight types of STREAM frames
 pub kind_of_stream : (written sized fin : Bool) → kind_of (type_of (is_stream written sized fin)) ≡ is_stream written sized fin
 unfolding kind_of

@@ -7,3 +7,6 @@ pub mod FrameShrinks
 pub mod FrameItems
 pub mod StandIn
 pub mod Mates
+pub mod FrameAgain
+pub mod FrameFound
+pub mod FrameWhole
