@@ -13,7 +13,7 @@ use Rattle.quic_wire.specs.declared.transport_parameters.error.TransportParamete
 use Rattle.quic_wire.specs.declared.transport_parameters.error.TransportParametersError.TheVariants.{Malformed, IllegalValue}
 use Rattle.quic_wire.specs.Parameters.{ParameterValues, id_of, place_of, default_of, most_of, value_of, values_by, AreInRange, EntrySpells, EntriesSpell, standing, Says, ParametersSpell}
 use Rattle.quic_wire.specs.ParametersRead.{◌>>=◌, or_malformed, number_at, entry_at, whole_at, parameter_at, met_at, met_after, met_with, none_met, met_in, values_met, parameters_at}
-use Rattle.quic_wire.specs.ParametersWritten.{places, IsWriteOrder, parameter_of_place, shortest_entry, written_parameter, written_place, written_parameters}
+use Rattle.quic_wire.specs.ParametersWritten.{places, IsWriteOrder, parameter_of_place, shortest_entry, written_value, written_place, written_parameters}
 use Rattle.quic_wire.specs.ParametersSteps.{met_in_step, met_in_nil}
 
 -- ---- the tables of parameters
@@ -269,3 +269,155 @@ spelled_again p bytes h most =
     } in
     let r = spelled_entries (value_of p) most h.entries none_met bytes h.spelled all in
     rw r.reads (ap ok (values_same _ (value_of p) r.gives))
+
+-- ---- what is written is spelled
+
+-- the entry of a parameter, where its value isn't the default
+entries_if : TransportParameterId → ℕ → Bool → List (ℕ × List ℕ)
+entries_if k v true = []
+entries_if k v false = (id_of k, shortest v) ∷ []
+
+entries_at : (TransportParameterId → ℕ) → Option TransportParameterId → List (ℕ × List ℕ)
+entries_at f None = []
+entries_at f (Some k) = entries_if k (f k) (eqb (f k) (default_of k))
+
+entries_of : (TransportParameterId → ℕ) → List ℕ → List (ℕ × List ℕ)
+entries_of f [] = []
+entries_of f (place ∷ order) = entries_at f (parameter_of_place place) ++ entries_of f order
+
+short : (v : ℕ) → v < 2 ^ 62 → length (shortest v) ≤ 8
+short v lt =
+    elim (cases_Bool (ltb v 64)) [
+      | inl a ↦ rw a (omega arith)
+      | inr a ↦ rw a (elim (cases_Bool (ltb v 16384)) [
+          | inl b ↦ rw b (omega arith)
+          | inr b ↦ rw b (elim (cases_Bool (ltb v 1073741824)) [
+              | inl c ↦ rw c (omega arith)
+              | inr c ↦ rw c (omega arith)
+            ])
+        ])
+    ]
+
+entry_spelled : (k : TransportParameterId) (v : ℕ) → v ≤ most_of k → EntrySpells (id_of k, shortest v) (shortest_entry (id_of k) (shortest v))
+entry_spelled k v most =
+    let small : v < 2 ^ 62 = let b = most_below k in omega arith in
+    let len = short v small in
+    (shortest (id_of k), shortest (length (shortest v)), shortest_spells (id_of k) (id_below k), shortest_spells (length (shortest v)) (omega arith), append_assoc (shortest (id_of k)) (shortest (length (shortest v))) (shortest v))
+
+first_spelled : (k : TransportParameterId) (v : ℕ) → v ≤ most_of k → (es : List (ℕ × List ℕ)) (bytes : List ℕ) → EntriesSpell es bytes → (b : Bool)
+    → EntriesSpell (entries_if k v b ++ es) (cond b [] (shortest_entry (id_of k) (shortest v)) ++ bytes)
+unfolding entries_if
+first_spelled k v most es bytes h true = h
+first_spelled k v most es bytes h false = (shortest_entry (id_of k) (shortest v), bytes, entry_spelled k v most, h, refl)
+
+place_spelled : (p : ParameterValues) → AreInRange p → (o : Option TransportParameterId) (es : List (ℕ × List ℕ)) (bytes : List ℕ) → EntriesSpell es bytes → EntriesSpell (entries_at (value_of p) o ++ es) (written_place p o ++ bytes)
+unfolding entries_at
+place_spelled p most None es bytes h = h
+place_spelled p most (Some k) es bytes h = first_spelled k (value_of p k) (most k) es bytes h (eqb (value_of p k) (default_of k))
+
+order_spelled : (p : ParameterValues) → AreInRange p → (order : List ℕ) → EntriesSpell (entries_of (value_of p) order) (written_parameters p order)
+unfolding entries_of
+order_spelled p most [] = refl
+order_spelled p most (place ∷ order) = place_spelled p most (parameter_of_place place) (entries_of (value_of p) order) (written_parameters p order) (order_spelled p most order)
+
+-- ---- each parameter is written once
+
+standing_append : (id : ℕ) (es fs : List (ℕ × List ℕ)) → standing id (es ++ fs) ≡ standing id es ++ standing id fs
+standing_append id [] fs = refl
+standing_append id (e ∷ es) fs =
+    elim (cases_Bool (eqb e.0 id)) [
+      | inl a ↦ rw a (ap (λ (xs : List (List ℕ)). e.1 ∷ xs) (standing_append id es fs))
+      | inr a ↦ rw a (standing_append id es fs)
+    ]
+
+-- the value that a parameter's place writes
+own : ℕ → Bool → List (List ℕ)
+own v true = []
+own v false = shortest v ∷ []
+
+own_same : (k : TransportParameterId) (v : ℕ) (b : Bool) → standing (id_of k) (entries_if k v b) ≡ own v b
+unfolding entries_if own
+own_same k v true = refl
+own_same k v false = standing_same (id_of k) (id_of k, shortest v) [] refl
+
+own_other : (j k : TransportParameterId) (v : ℕ) → (id_of j ≡ id_of k → ⊥) → (b : Bool) → standing (id_of k) (entries_if j v b) ≡ []
+unfolding entries_if
+own_other j k v other true = refl
+own_other j k v other false = standing_other (id_of k) (id_of j, shortest v) [] other
+
+at_own_place : (f : TransportParameterId → ℕ) (k : TransportParameterId) (place : ℕ) → place ≡ place_of k → standing (id_of k) (entries_at f (parameter_of_place place)) ≡ own (f k) (eqb (f k) (default_of k))
+unfolding entries_at
+at_own_place f k place same = ap (λ (o : Option TransportParameterId). standing (id_of k) (entries_at f o)) (ap parameter_of_place same ∙ place_again k) ∙ own_same k (f k) (eqb (f k) (default_of k))
+
+at_other_place : (f : TransportParameterId → ℕ) (k : TransportParameterId) (place : ℕ) → (place ≡ place_of k → ⊥) → (o : Option TransportParameterId) → parameter_of_place place ≡ o → standing (id_of k) (entries_at f o) ≡ []
+unfolding entries_at
+at_other_place f k place other None is = refl
+at_other_place f k place other (Some j) is =
+    own_other j k (f j) (λ same. other (place_is place j is ∙ ap place_of (same_id j k same))) (eqb (f j) (default_of j))
+
+-- how often a place stands in an order
+abbrev times : ℕ → List ℕ → ℕ
+times place order = count_by (λ x. eqb x place) order
+
+times_cons : (place x : ℕ) (order : List ℕ) → times place (x ∷ order) ≡ cond (eqb x place) 1 0 + times place order
+times_cons place x order = sum_by-cons (λ y. cond (eqb y place) 1 0) x order
+
+written_never : (f : TransportParameterId → ℕ) (k : TransportParameterId) (order : List ℕ) → times (place_of k) order ≡ 0 → standing (id_of k) (entries_of f order) ≡ []
+unfolding entries_of
+written_never f k [] none = refl
+written_never f k (place ∷ order) none =
+    let more = times_cons (place_of k) place order in
+    standing_append (id_of k) (entries_at f (parameter_of_place place)) (entries_of f order) ∙ elim (cases_eq place (place_of k)) [
+      | inl same ↦ absurd (let test = eq-eqb place (place_of k) same in let one : times (place_of k) (place ∷ order) ≡ 1 + times (place_of k) order = more ∙ rw test refl in omega arith)
+      | inr other ↦ (let test = ne_eqb place (place_of k) other in
+          let left : times (place_of k) order ≡ 0 = let as_before : times (place_of k) (place ∷ order) ≡ 0 + times (place_of k) order = more ∙ rw test refl in omega arith in
+          rw (at_other_place f k place other (parameter_of_place place) refl, written_never f k order left) refl)
+    ]
+
+written_once : (f : TransportParameterId → ℕ) (k : TransportParameterId) (order : List ℕ) → times (place_of k) order ≡ 1 → standing (id_of k) (entries_of f order) ≡ own (f k) (eqb (f k) (default_of k))
+unfolding entries_of
+written_once f k [] once = absurd (let none : times (place_of k) [] ≡ 0 = refl in omega arith)
+written_once f k (place ∷ order) once =
+    let more = times_cons (place_of k) place order in
+    standing_append (id_of k) (entries_at f (parameter_of_place place)) (entries_of f order) ∙ elim (cases_eq place (place_of k)) [
+      | inl same ↦ (let test = eq-eqb place (place_of k) same in
+          let left : times (place_of k) order ≡ 0 = let one : times (place_of k) (place ∷ order) ≡ 1 + times (place_of k) order = more ∙ rw test refl in omega arith in
+          rw (at_own_place f k place same, written_never f k order left) (append-nil (own (f k) (eqb (f k) (default_of k)))))
+      | inr other ↦ (let test = ne_eqb place (place_of k) other in
+          let left : times (place_of k) order ≡ 1 = let as_before : times (place_of k) (place ∷ order) ≡ 0 + times (place_of k) order = more ∙ rw test refl in omega arith in
+          rw (at_other_place f k place other (parameter_of_place place) refl) (written_once f k order left))
+    ]
+
+place_listed : (k : TransportParameterId) → get_or places (place_of k) 0 ≡ place_of k
+place_listed InitialMaxData = refl
+place_listed InitialMaxStreamDataBidiLocal = refl
+place_listed InitialMaxStreamDataBidiRemote = refl
+place_listed InitialMaxStreamDataUni = refl
+place_listed InitialMaxStreamsBidi = refl
+place_listed InitialMaxStreamsUni = refl
+
+once : (k : TransportParameterId) (order : List ℕ) → IsWriteOrder order → times (place_of k) order ≡ 1
+once k order h =
+    let each = AllPass-from_list_all (λ place. eqb (times place order) 1) places h in
+    let here = each (place_of k) 0 (place_below k) in
+    let listed = ap (λ (place : ℕ). times place order) (place_listed k) in
+    sym listed ∙ eqb-true _ _ here
+
+says_own : (es : List (ℕ × List ℕ)) (k : TransportParameterId) (v : ℕ) → v < 2 ^ 62 → (b : Bool) → eqb v (default_of k) ≡ b → standing (id_of k) es ≡ own v b → Says es k v
+unfolding own
+says_own es k v small true e h = inl (h, eqb-true _ _ e)
+says_own es k v small false e h = inr (shortest v, h, shortest_spells v small)
+
+-- What is written spells the values.
+pub written_spells : (p : ParameterValues) (order : List ℕ) → IsWriteOrder order → AreInRange p → ParametersSpell p (written_parameters p order)
+written_spells p order h most = record {
+  entries = entries_of (value_of p) order;
+  spelled = order_spelled p most order;
+  says = λ k.
+    let small : value_of p k < 2 ^ 62 = let a = most k in let b = most_below k in omega arith in
+    says_own (entries_of (value_of p) order) k (value_of p k) small _ refl (written_once (value_of p) k order (once k order h));
+}
+
+-- What is written, in any order, is read again.
+pub written_again : (p : ParameterValues) (order : List ℕ) → IsWriteOrder order → AreInRange p → parameters_at (written_parameters p order) ≡ Ok p
+written_again p order h most = spelled_again p (written_parameters p order) (written_spells p order h most) most

@@ -29,14 +29,14 @@ parameter_of_place place =
 abbrev pub shortest_entry : ℕ → List ℕ → List ℕ
 shortest_entry id value = shortest id ++ shortest (length value) ++ value
 
--- What a parameter adds to the list: its entry where its value isn't the default.
-abbrev pub written_parameter : ParameterValues → TransportParameterId → List ℕ
-written_parameter p k = if value_of p k == default_of k then [] else shortest_entry (id_of k) (shortest (value_of p k))
+-- What a parameter of this value adds to the list: its entry where the value isn't the default.
+abbrev pub written_value : TransportParameterId → ℕ → List ℕ
+written_value k v = if v == default_of k then [] else shortest_entry (id_of k) (shortest v)
 
 -- What the parameter at a place adds, if there is one.
 abbrev pub written_place : ParameterValues → Option TransportParameterId → List ℕ
 written_place p None = []
-written_place p (Some k) = written_parameter p k
+written_place p (Some k) = written_value k (value_of p k)
 
 -- The list of the parameters in an order of their places.
 abbrev pub written_parameters : ParameterValues → List ℕ → List ℕ

@@ -7,12 +7,15 @@ mod error;
 mod id;
 pub mod laws;
 mod reading;
+mod writing;
 
 use quic_wire_core::VarInt;
+use std::alloc::{AllocError, Global};
 use std::marker::Model;
 
 use crate::transport_parameters::id::TransportParameterId;
 use crate::transport_parameters::reading::met_of;
+use crate::transport_parameters::writing::put_parameter;
 
 pub use error::TransportParametersError;
 
@@ -68,8 +71,10 @@ fn value_at(met: &[Option<VarInt>; 13], parameter: TransportParameterId) -> VarI
 }
 
 impl TransportParameters {
-    ghost use Rattle.std.specs.Prelude.{◌≡◌};
+    ghost use Rattle.std.specs.Prelude.{◌≡◌, IfOk, Ok};
+    ghost use Rattle.quic_wire.specs.Parameters.{value_of, AreInRange};
     ghost use Rattle.quic_wire.specs.ParametersRead.{values_met, parameters_at};
+    ghost use Rattle.quic_wire.specs.ParametersWritten.{IsWriteOrder, written_parameters};
 
     #[tactic(auto, unfolding(crate::specs::ParametersRead::values_met))]
     fn of_met(met: &[Option<VarInt>; 13]) -> Self
@@ -85,11 +90,68 @@ impl TransportParameters {
         }
     }
 
+    fn value(&self, parameter: TransportParameterId) -> VarInt
+        ensures { result ≡ value_of self.now parameter }
+    {
+        match parameter {
+            TransportParameterId::InitialMaxData => self.initial_max_data,
+            TransportParameterId::InitialMaxStreamDataBidiLocal => self.initial_max_stream_data_bidi_local,
+            TransportParameterId::InitialMaxStreamDataBidiRemote => self.initial_max_stream_data_bidi_remote,
+            TransportParameterId::InitialMaxStreamDataUni => self.initial_max_stream_data_uni,
+            TransportParameterId::InitialMaxStreamsBidi => self.initial_max_streams_bidi,
+            TransportParameterId::InitialMaxStreamsUni => self.initial_max_streams_uni,
+        }
+    }
+
+    /// Reads the list of parameters that the peer sent, all of `bytes` (RFC 9000, sections 7.4 and 18).
+    ///
+    /// A parameter that doesn't stand in the list has its default. Parameters of other ids are skipped by their
+    /// lengths, also where they stand more than once. The list is judged entry by entry, and the first refusal is the
+    /// answer. In one entry: [`Malformed`](TransportParametersError::Malformed) where the id, the length or the value
+    /// can't be read, then where the parameter stood before, then where the value isn't an integer that fills its
+    /// length; last [`IllegalValue`](TransportParametersError::IllegalValue) where a count of streams is above 2^60.
     #[tactic(auto, unfolding(crate::specs::ParametersRead::parameters_at))]
     pub fn read(bytes: &[u8]) -> Result<Self, TransportParametersError>
         ensures { result ≡ parameters_at bytes.now }
     {
         let met = met_of(bytes)?;
         Ok(Self::of_met(&met))
+    }
+
+    /// The list of the parameters, in an order of their places (RFC 9000, section 18).
+    ///
+    /// A parameter is written where its value isn't the default. `order` has each of the places 0 to 12 once: those of
+    /// the ids 01, 03, 04, 05, 06, 07, 08, 09, 0a, 0b, 0e, 20 and ff04de1b, of which places 2 to 7 are written.
+    pub fn write(&self, alloc: Global, order: &[u8; 13]) -> Result<Vec<u8>, AllocError>
+        requires { IsWriteOrder order.now }
+        ensures bytes { IfOk result (λ v. v.items ≡ written_parameters self.now order.now) }
+        ensures read_back { AreInRange self.now → IfOk result (λ v. parameters_at v.items ≡ Ok self.now) }
+    {
+        let mut bytes = Vec::new(alloc);
+        for place in order {
+            if let Some(parameter) = TransportParameterId::of_place(*place) {
+                put_parameter(&mut bytes, parameter, self.value(parameter))?;
+            }
+        }
+        Ok(bytes)
+    }
+}
+
+impl Default for TransportParameters {
+    ghost use Rattle.std.specs.Prelude.{◌≡◌};
+    ghost use Rattle.quic_wire.specs.Parameters.{values_by, default_of};
+
+    ghost is_default = { λ p. p ≡ values_by default_of };
+
+    /// The parameters of an empty list.
+    fn default() -> Self {
+        TransportParameters {
+            initial_max_data: TransportParameterId::InitialMaxData.default_value(),
+            initial_max_stream_data_bidi_local: TransportParameterId::InitialMaxStreamDataBidiLocal.default_value(),
+            initial_max_stream_data_bidi_remote: TransportParameterId::InitialMaxStreamDataBidiRemote.default_value(),
+            initial_max_stream_data_uni: TransportParameterId::InitialMaxStreamDataUni.default_value(),
+            initial_max_streams_bidi: TransportParameterId::InitialMaxStreamsBidi.default_value(),
+            initial_max_streams_uni: TransportParameterId::InitialMaxStreamsUni.default_value(),
+        }
     }
 }

@@ -2,8 +2,19 @@
 ghost use Rattle.std.specs.Prelude.{◌≡◌, ℕ, List, Ok};
 ghost use Rattle.quic_wire.specs.Parameters.{ParameterValues, AreInRange, ParametersSpell};
 ghost use Rattle.quic_wire.specs.ParametersRead.{parameters_at};
+ghost use Rattle.quic_wire.specs.ParametersWritten.{IsWriteOrder, written_parameters};
 
 /// Bytes that spell values in range are read as these values.
 pub fn spelled_is_read()
     ensures { (p : ParameterValues) (bytes : List ℕ) → ParametersSpell p bytes → AreInRange p → parameters_at bytes ≡ Ok p }
+{}
+
+/// What is written, in any order, spells the values.
+pub fn written_is_spelled()
+    ensures { (p : ParameterValues) (order : List ℕ) → IsWriteOrder order → AreInRange p → ParametersSpell p (written_parameters p order) }
+{}
+
+/// What is written, in any order, is read as the same values.
+pub fn written_is_read()
+    ensures { (p : ParameterValues) (order : List ℕ) → IsWriteOrder order → AreInRange p → parameters_at (written_parameters p order) ≡ Ok p }
 {}

@@ -1,0 +1,38 @@
+//! Transport parameters to bytes.
+ghost use Rattle.std.specs.Prelude.{◌≡◌, ◌++◌, length, OnOk};
+ghost use Rattle.quic_wire_core.specs.Varint.{shortest};
+ghost use Rattle.quic_wire.specs.ParametersWritten.{written_value};
+
+use quic_wire_core::{Codec, VarInt};
+use std::alloc::AllocError;
+
+use crate::transport_parameters::id::TransportParameterId;
+
+/// The bytes of an integer's shortest form.
+fn size_of(value: VarInt) -> VarInt
+    ensures { result ≡ length (shortest value) }
+{
+    let value = value.into_inner();
+    if value < 1 << 6 {
+        VarInt::from_u32(1)
+    } else if value < 1 << 14 {
+        VarInt::from_u32(2)
+    } else if value < 1 << 30 {
+        VarInt::from_u32(4)
+    } else {
+        VarInt::from_u32(8)
+    }
+}
+
+/// Writes a parameter where its value isn't the default.
+#[tactic(auto, using(std::proofs::Common::append_assoc))]
+pub(crate) fn put_parameter(buf: &mut Vec<u8>, parameter: TransportParameterId, value: VarInt) -> Result<(), AllocError>
+    ensures { OnOk result (buf.new.items ≡ buf.old.items ++ written_value parameter value) }
+{
+    if value.into_inner() == parameter.default_value().into_inner() {
+        return Ok(());
+    }
+    parameter.id().encode(buf)?;
+    size_of(value).encode(buf)?;
+    value.encode(buf)
+}
