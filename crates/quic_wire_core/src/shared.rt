@@ -27,7 +27,7 @@ pub const MAX_CID_SIZE: usize = 20;
 #[derive(Clone, Copy, Debug)]
 pub struct ConnectionId {
     len: u8,
-    bytes: [u8; 20],
+    bytes: [u8; MAX_CID_SIZE],
 }
 
 impl Model for ConnectionId {
@@ -53,7 +53,7 @@ impl ConnectionId {
         requires { length bytes.now ≤ 20 }
         ensures { result ≡ bytes.now }
     {
-        let mut padded = [0; 20];
+        let mut padded = [0; MAX_CID_SIZE];
         padded[..bytes.len()].copy_from_slice(bytes);
         ConnectionId {
             len: bytes.len() as u8,
@@ -68,7 +68,7 @@ impl ConnectionId {
         ensures id { result ≡ take len (B.unread buf.old) }
         ensures rest { B.unread buf.new ≡ drop len (B.unread buf.old) }
     {
-        let mut padded = [0; 20];
+        let mut padded = [0; MAX_CID_SIZE];
         buf.copy_to_slice(&mut padded[..len]);
         ConnectionId {
             len: len as u8,
