@@ -57,15 +57,15 @@ stream_id_bound side dir index h =
 
 -- a bit is 0 or 1
 bit_cases : (n : ℕ) → (n % 2 ≡ 0) ⊎ (n % 2 ≡ 1)
-bit_cases n = elim (cases_lt (n % 2) 1) [ | inl a ↦ inl (omega arith) | inr a ↦ inr (omega arith) ]
+bit_cases n = elim (cases_lt (n % 2) 1) [ inl a ↦ inl (omega arith) | inr a ↦ inr (omega arith) ]
 
 -- the side of an id has its lowest bit
 side_bit_of : (id : ℕ) → side_bit (initiator_of id) ≡ id % 2
-side_bit_of id = elim (bit_cases id) [ | inl e ↦ rw e refl | inr e ↦ rw e refl ]
+side_bit_of id = elim (bit_cases id) [ inl e ↦ rw e refl | inr e ↦ rw e refl ]
 
 -- and its directions have the second
 dir_bit_of : (id : ℕ) → dir_bit (dir_of id) ≡ id / 2 % 2
-dir_bit_of id = elim (bit_cases (id / 2)) [ | inl e ↦ rw e refl | inr e ↦ rw e refl ]
+dir_bit_of id = elim (bit_cases (id / 2)) [ inl e ↦ rw e refl | inr e ↦ rw e refl ]
 
 -- An id is made of its three parts.
 pub stream_id_of_parts : (id : ℕ) → stream_id (initiator_of id) (dir_of id) (index_of id) ≡ id
@@ -85,5 +85,5 @@ pub same_parts : (side : Side) (dir : Dir) (index : ℕ) (side' : Side) (dir' : 
 same_parts side dir index side' dir' index' e = record {
   sides = sym (initiator_of_stream_id side dir index) ∙ ap initiator_of e ∙ initiator_of_stream_id side' dir' index';
   dirs = sym (dir_of_stream_id side dir index) ∙ ap dir_of e ∙ dir_of_stream_id side' dir' index';
-  indices = sym (index_of_stream_id side dir index) ∙ ap index_of e ∙ index_of_stream_id side' dir' index'
+  indices = sym (index_of_stream_id side dir index) ∙ ap index_of e ∙ index_of_stream_id side' dir' index';
 }

@@ -2,10 +2,9 @@
 ghost use Rattle.std.specs.Prelude.{◌≡◌};
 ghost use Rattle.quic_wire_core.specs.FrameType.{all_frame_types, is_stream_type, is_datagram_type};
 
+use crate::varint::VarInt;
 use std::fmt;
 use std::marker::Model;
-
-use crate::varint::VarInt;
 
 /// The type of a frame: a number below 2^62 (quinn-proto's `FrameType`).
 ///
@@ -215,5 +214,26 @@ impl fmt::Display for FrameType {
             other => return write!(f, "unknown frame type {other:#x}"),
         };
         f.write_str(name)
+    }
+}
+
+#[cfg(test)]
+mod tests {
+    use super::*;
+    use std::test::Fail;
+
+    #[test]
+    fn prints_names(rt: HostRuntime) -> Result<(), Fail> {
+        let last = FrameType::from(VarInt::from_u32(0x0f));
+        let other = FrameType::from(VarInt::from_u32(0x2a));
+        let text = format!(in rt.alloc(); "{}, {last}, {other}", FrameType::CONNECTION_CLOSE)?;
+        assert_eq!(rt;
+            text.as_str(),
+            "CONNECTION_CLOSE, STREAM, unknown frame type 0x2a"
+        );
+        assert!(rt; last.is_stream());
+        assert!(rt; !other.is_stream());
+        assert!(rt; FrameType::DATAGRAM.is_datagram());
+        Ok(())
     }
 }

@@ -28,8 +28,7 @@ pub fn shortest_is_form()
 /// No form of an integer is shorter than the one that is written.
 pub fn shortest_is_shortest()
     ensures { (v : ℕ) (bytes : List ℕ) → Spells v bytes → length (shortest v) ≤ length bytes }
-{
-}
+{}
 
 /// A stream id gives back the side, the directions and the place that it was made of.
 pub fn stream_ids_have_parts()
@@ -37,18 +36,15 @@ pub fn stream_ids_have_parts()
     ensures dirs { (side : Side) (dir : Dir) (index : ℕ) → dir_of (stream_id side dir index) ≡ dir }
     ensures indices { (side : Side) (dir : Dir) (index : ℕ) → index_of (stream_id side dir index) ≡ index }
     ensures whole { (id : ℕ) → stream_id (initiator_of id) (dir_of id) (index_of id) ≡ id }
-{
-}
+{}
 
 /// Streams that differ in side, directions or place have different ids.
 pub fn stream_ids_differ()
     ensures { (side : Side) (dir : Dir) (index : ℕ) (side' : Side) (dir' : Dir) (index' : ℕ) → stream_id side dir index ≡ stream_id side' dir' index' → AreSameParts side dir index side' dir' index' }
-{
-}
+{}
 
 /// What `==` answers of two connection ids, and where `cmp` calls them equal: where their bytes are.
 pub fn connection_ids_are_their_bytes()
     ensures eq { (a b : List ℕ) → IsTrue (pointwise nat_eq a b) ↔ a ≡ b }
     ensures cmp { (a b : List ℕ) → (id_cmp a b ≡ Equal) ↔ a ≡ b }
-{
-}
+{}

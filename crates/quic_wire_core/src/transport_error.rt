@@ -2,12 +2,11 @@
 ghost use Rattle.std.specs.Prelude.{◌≡◌};
 ghost use Rattle.quic_wire_core.specs.TransportError.{all_codes, error_in, plain_error};
 
+use crate::frame_type::FrameType;
+use crate::varint::VarInt;
 use std::error::Error;
 use std::fmt;
 use std::marker::Model;
-
-use crate::frame_type::FrameType;
-use crate::varint::VarInt;
 
 /// The code of an error of the transport: a number below 2^62 (RFC 9000, section 20.1; quinn-proto's
 /// `transport_error::Code`).
@@ -249,3 +248,30 @@ impl fmt::Display for TransportError {
 }
 
 impl Error for TransportError {}
+
+#[cfg(test)]
+mod tests {
+    use super::*;
+    use std::test::Fail;
+
+    #[test]
+    fn prints_code_frame_and_reason(rt: HostRuntime) -> Result<(), Fail> {
+        let error = TransportError::new(
+            Code::FLOW_CONTROL_ERROR,
+            Some(FrameType::STREAM),
+            "too much data",
+        );
+        let text = format!(in rt.alloc(); "{error}")?;
+        assert_eq!(rt;
+            text.as_str(),
+            "FLOW_CONTROL_ERROR in STREAM: too much data"
+        );
+        assert_eq!(rt; error.copied().reason(), "too much data");
+        let plain = TransportError::from(Code::from(VarInt::from_u32(0x1234)));
+        let text = format!(in rt.alloc(); "{plain}")?;
+        assert_eq!(rt; text.as_str(), "unknown error 0x1234");
+        assert_eq!(rt; plain.frame(), None);
+        assert_eq!(rt; plain.reason(), "");
+        Ok(())
+    }
+}
