@@ -1,7 +1,6 @@
 -- Which id a datagram that was sent is decoded to.
-use Rattle.std.proofs.Common.{◌≡◌, ℕ, ◌+◌, ◌-◌, ◌/◌, ◌%◌, ◌^◌, ◌<◌, ◌≤◌, List, ◌∷◌, ◌++◌, length, take, drop, Some, true, refl, sym, ◌∙◌, ap, arith, length-append}
-use Rattle.std.specs.Prelude.{nat_eq, nat_le, nat_lt, IsTrue, ◌↔◌}
-use Rattle.std.specs.Cmp.Lexicographic.{pointwise}
+use Rattle.std.proofs.Common.{◌≡◌, ◌+◌, ◌-◌, ◌/◌, ◌<◌, ◌≤◌, ◌∷◌, ◌++◌, length, take, drop, true, refl, ◌∙◌, ap, arith, length-append}
+use Rattle.std.specs.Prelude.{nat_le}
 use Rattle.std.proofs.lemmas.Bool.{le-ltb, le-leb, lt-leb}
 use Rattle.std.proofs.lemmas.Cmp.{nat_list_eq_equiv}
 use Rattle.std.proofs.lemmas.List.{take_at}
@@ -9,7 +8,7 @@ use Rattle.std.proofs.lemmas.Map.Views.{list_any-from_Contains, Contains-from_an
 use Rattle.std.proofs.lemmas.Slice.Eq.{bytes_eq-Decides}
 use Rattle.quic_wire.specs.Number.{truncated, number_bytes}
 use Rattle.quic_wire.specs.Header.{first_byte}
-use Rattle.quic_wire.specs.Destination.{fixed_length_id, is_known, accepted, KnownIsMember, SentIsDecoded, FixedLengthFinds}
+use Rattle.quic_wire.specs.Destination.{accepted, KnownIsMember, SentIsDecoded, FixedLengthFinds}
 use Rattle.quic_wire.proofs.Numbers.{fewest}
 use Rattle.quic_wire.proofs.Opening.{length_of_bytes}
 

@@ -1,7 +1,7 @@
 -- The fewest bytes of a number, and its expansion by the definition.
-use Rattle.std.proofs.Common.{◌≡◌, ℕ, zero, suc, ◌+◌, ◌-◌, ◌*◌, ◌/◌, ◌%◌, ◌^◌, ◌<◌, ◌≤◌, arith, inl, inr}
+use Rattle.std.proofs.Common.{◌≡◌, ℕ, zero, suc, ◌+◌, ◌-◌, ◌*◌, ◌%◌, ◌^◌, ◌<◌, ◌≤◌, arith, inl, inr}
 use Rattle.std.proofs.lemmas.Bool.{cases_lt, le-ltb, lt-ltb}
-use Rattle.quic_wire.specs.Number.{Truncated, window, width_for, IsFewest, truncated, expanded, IsExpansion, NewestOpens}
+use Rattle.quic_wire.specs.Number.{Truncated, window, width_for, IsFewest, expanded, IsExpansion, NewestOpens}
 
 abbrev of : ℕ → ℕ → Truncated
 of width residue = record { width = width; residue = residue }

@@ -6,7 +6,7 @@ use Rattle.std.proofs.lemmas.List.{take_at, drop_at}
 use Rattle.quic_wire.specs.Number.{Truncated, truncated, number_bytes, residue_of, expanded}
 use Rattle.quic_wire.specs.Keys.{OfFirst, OfNumber, Seal, Open, width_in, sample, unshielded, IsHeaderMate, IsMate}
 use Rattle.quic_wire.specs.Header.{first_byte, header_bytes}
-use Rattle.quic_wire.specs.Datagram.{protected, datagram_of, sent, opening_of, truncated_in, opened_under, opened_plain, MatesOpen, SealedIsSent}
+use Rattle.quic_wire.specs.Datagram.{protected, datagram_of, opening_of, truncated_in, opened_under, opened_plain, MatesOpen, SealedIsSent}
 use Rattle.quic_wire.proofs.Numbers.{fewest}
 use Rattle.quic_wire.proofs.Places.{number_in, sample_of, with_header_parts, shielded_parts, header_of, body_of}
 

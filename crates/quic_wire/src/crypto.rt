@@ -59,7 +59,7 @@ pub trait HeaderKey {
 
     /// How many bytes the key samples: 16.
     fn sample_size(&self) -> usize
-        ensures { result ≡ SAMPLE_SIZE }
+        ensures { result ≡ 16 }
     {
         SAMPLE_SIZE
     }
@@ -104,7 +104,7 @@ pub trait PacketKey {
 
     /// How many bytes sealing adds: 16.
     fn tag_len(&self) -> usize
-        ensures { result ≡ TAG_LEN }
+        ensures { result ≡ 16 }
     {
         TAG_LEN
     }

@@ -6,35 +6,29 @@ ghost use Rattle.quic_wire.specs.Destination.{KnownIsMember, SentIsDecoded, Fixe
 /// What one end sealed opens at its mate to the number and the payload where the number's bytes expand to the number, and to nothing else.
 pub fn mates_open()
     ensures { MatesOpen }
-{
-}
+{}
 
 /// The newest number expands to itself where the expected one lies from the greatest acknowledged up to the one behind it.
 pub fn newest_opens()
     ensures { NewestOpens }
-{
-}
+{}
 
 /// Sealing a header and a payload behind other bytes gives the datagram behind them.
 pub fn sealed_is_sent()
     ensures { SealedIsSent }
-{
-}
+{}
 
 /// An id is known where it is one of the known ids.
 pub fn known_is_member()
     ensures { KnownIsMember }
-{
-}
+{}
 
 /// A datagram that was sent to a known id is decoded to that id, by a parser that finds the id in front.
 pub fn sent_is_decoded()
     ensures { SentIsDecoded }
-{
-}
+{}
 
 /// The parser of one length finds ids of that length in front.
 pub fn fixed_length_finds()
     ensures { FixedLengthFinds }
-{
-}
+{}

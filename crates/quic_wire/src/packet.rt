@@ -104,7 +104,7 @@ impl PacketNumber {
         ensures max_spare { UsesMaxSpare result (B.max_spare buf.old) (B.max_spare buf.new) self.width }
     {
         let bytes = self.residue.to_be_bytes();
-        buf.put_slice(&bytes[4 - usize::from(self.width)..])
+        buf.put_slice(&bytes[4 - self.len()..])
     }
 
     /// Appends its bytes, big-endian, for which there is room.
@@ -115,7 +115,7 @@ impl PacketNumber {
         ensures capacity { vec_capacity out.old ≤ vec_capacity out.new }
     {
         let bytes = self.residue.to_be_bytes();
-        append(out, &bytes[4 - usize::from(self.width)..]);
+        append(out, &bytes[4 - self.len()..]);
     }
 
     /// The number that 1 to 4 bytes of a header say.
@@ -334,12 +334,12 @@ mod tests {
 
     #[test]
     fn numbers_take_the_fewest_bytes(rt: HostRuntime) -> Result<(), Fail> {
-        assert!(rt; bytes_of(&rt, 0x10, 0)?.as_slice() == [0x10]);
-        assert!(rt; bytes_of(&rt, 0x100, 0)?.as_slice() == [0x01, 0x00]);
-        assert!(rt; bytes_of(&rt, 0x10000, 0)?.as_slice() == [0x01, 0x00, 0x00]);
+        assert!(rt; bytes_of(&rt, 0x10, 0)?.as_slice() == [0x10].as_slice());
+        assert!(rt; bytes_of(&rt, 0x100, 0)?.as_slice() == [0x01, 0x00].as_slice());
+        assert!(rt; bytes_of(&rt, 0x10000, 0)?.as_slice() == [0x01, 0x00, 0x00].as_slice());
         // RFC 9000, A.2
-        assert!(rt; bytes_of(&rt, 0xac5c02, 0xabe8b3)?.as_slice() == [0x5c, 0x02]);
-        assert!(rt; bytes_of(&rt, 0xace8fe, 0xabe8b3)?.as_slice() == [0xac, 0xe8, 0xfe]);
+        assert!(rt; bytes_of(&rt, 0xac5c02, 0xabe8b3)?.as_slice() == [0x5c, 0x02].as_slice());
+        assert!(rt; bytes_of(&rt, 0xace8fe, 0xabe8b3)?.as_slice() == [0xac, 0xe8, 0xfe].as_slice());
         Ok(())
     }
 
@@ -361,7 +361,7 @@ mod tests {
         };
         let mut out = Vec::new(rt.alloc());
         header.encode(&mut out)?;
-        assert!(rt; out.as_slice() == [0x41, 1, 2, 3, 4, 5, 6, 7, 8, 1, 0]);
+        assert!(rt; out.as_slice() == [0x41, 1, 2, 3, 4, 5, 6, 7, 8, 1, 0].as_slice());
         assert_eq!(rt; header.len(), 11);
         out.resize(29, 0)?;
         let parser = FixedLengthConnectionIdParser::new(8);

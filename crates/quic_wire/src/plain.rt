@@ -130,8 +130,7 @@ impl PacketKey for PlainKey {
 /// The keys of one mark are mates.
 pub fn plain_keys_are_mates()
     ensures { (mark : ℕ) → AreMates mask_first mask_number (plain_sealed mark) mask_first mask_number (plain_opened mark) }
-{
-}
+{}
 
 #[cfg(test)]
 mod tests {
@@ -168,7 +167,7 @@ mod tests {
         out.extend_from_slice(&HELLO)?;
         seal_packet(&mut out, 1, 9, 0, &PlainHeaderKey, &KEY)?;
         assert_eq!(rt; out[0], 9);
-        assert!(rt; out[1..] == SEALED);
+        assert!(rt; &out[1..] == SEALED.as_slice());
         Ok(())
     }
 
@@ -182,7 +181,7 @@ mod tests {
         header.put(&mut out);
         crate::reserved::append(&mut out, &HELLO);
         seal_reserved(&mut out, 0, 9, 0, &PlainHeaderKey, &KEY);
-        assert!(rt; out.as_slice() == SEALED);
+        assert!(rt; out.as_slice() == SEALED.as_slice());
         Ok(())
     }
 
@@ -192,7 +191,7 @@ mod tests {
         let opened = open_packet(&mut datagram, 9, 0, &PlainHeaderKey, &KEY)?;
         assert_eq!(rt; opened.first, 0x40);
         assert_eq!(rt; opened.number, 0);
-        assert!(rt; datagram[opened.start..opened.end] == HELLO);
+        assert!(rt; &datagram[opened.start..opened.end] == HELLO.as_slice());
         assert!(rt; !opened.key_phase());
         assert_eq!(rt; opened.reserved_bits(), 0);
         let mut other = SEALED;

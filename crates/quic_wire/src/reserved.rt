@@ -30,15 +30,11 @@ pub fn varint_size(n: VarInt) -> usize
     ensures some { 1 ≤ result }
     ensures most { result ≤ 8 }
 {
-    let n = n.into_inner();
-    if n < 1 << 6 {
-        1
-    } else if n < 1 << 14 {
-        2
-    } else if n < 1 << 30 {
-        4
-    } else {
-        8
+    match n.into_inner() {
+        0..=0x3f => 1,
+        0x40..=0x3fff => 2,
+        0x4000..=0x3fff_ffff => 4,
+        _ => 8,
     }
 }
 
@@ -74,10 +70,14 @@ mod tests {
         put_varint(&mut out, VarInt::from_u32(15293));
         put_varint(&mut out, VarInt::from_u32(494878333));
         put_varint(&mut out, VarInt::from_u64_unchecked(151288809941952652));
-        assert!(rt; out.as_slice() == [
-            0x25, 0x7b, 0xbd, 0x9d, 0x7f, 0x3e, 0x7d, 0xc2, 0x19, 0x7c, 0x5e, 0xff, 0x14, 0xe8,
-            0x8c,
-        ]);
+        assert!(rt;
+            out.as_slice()
+                == [
+                    0x25, 0x7b, 0xbd, 0x9d, 0x7f, 0x3e, 0x7d, 0xc2, 0x19, 0x7c, 0x5e, 0xff, 0x14,
+                    0xe8, 0x8c,
+                ]
+                .as_slice()
+        );
         assert_eq!(rt; varint_size(VarInt::from_u32(15293)), 2);
         append_zeros(&mut out, 1);
         assert_eq!(rt; out.len(), 16);

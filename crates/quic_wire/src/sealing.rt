@@ -49,7 +49,13 @@ fn protect_behind<H: HeaderKey, K: PacketKey>(
     requires room { start + number_at + 20 ≤ length bytes.old }
     ensures { bytes.new ≡ take start bytes.old ++ protected (H.masks header_key.now) (H.hides header_key.now) (K.sealed packet_key.now) number_at number (drop start (take (length bytes.old - 16) bytes.old)) }
 {
-    protect(&mut bytes[start..], number_at, number, header_key, packet_key);
+    protect(
+        &mut bytes[start..],
+        number_at,
+        number,
+        header_key,
+        packet_key,
+    );
 }
 
 /// Seals the packet that stands in `out` from `start` on, and protects its header. Its number starts `number_at` bytes behind `start`, and the number and the payload have four bytes or more.
