@@ -4,3 +4,4 @@ pub mod FrameItems
 pub mod FrameAgain
 pub mod FrameFound
 pub mod FrameWhole
+pub mod FrameWritten
