@@ -5,3 +5,4 @@ pub mod FrameAgain
 pub mod FrameFound
 pub mod FrameWhole
 pub mod FrameWritten
+pub mod FrameReadBack

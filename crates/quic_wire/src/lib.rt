@@ -2,3 +2,4 @@
 #![tactic(auto)]
 
 pub mod frame;
+pub mod frame_laws;
