@@ -1,8 +1,8 @@
 -- What is written: how it is put together, how long it is, and that it is a form.
-use Rattle.std.proofs.Common.{◌≡◌, ℕ, ◌+◌, ◌≤◌, ◌<◌, ◌^◌, Bool, true, false, not, eqb, List, [], ◌∷◌, ◌++◌, length, refl, sym, ap, ◌∙◌, append_assoc, arith}
+use Rattle.std.proofs.Common.{◌≡◌, ℕ, ◌+◌, ◌≤◌, ◌<◌, ◌^◌, Bool, true, false, not, eqb, List, [], ◌∷◌, ◌++◌, length, take, refl, sym, ap, ◌∙◌, append_assoc, arith}
 use Rattle.std.specs.Prelude.{if◌then◌else◌}
 use Rattle.std.proofs.lemmas.Bool.{eqb-true}
-use Rattle.std.proofs.lemmas.List.{length-append, append-nil}
+use Rattle.std.proofs.lemmas.List.{length-append, append-nil, take_at, take_all}
 use Rattle.quic_wire_core.specs.Varint.{shortest}
 use Rattle.quic_wire_core.specs.Law.{shortest_spells}
 use Rattle.quic_wire.specs.Value.{FrameValue, StreamValue, padding, ping, stream}
@@ -13,6 +13,22 @@ use Rattle.quic_wire.specs.Writing.{written, has_offset, stream_header, stream_s
 pub written_append : (ns ms : List ℕ) → written (ns ++ ms) ≡ written ns ++ written ms
 written_append [] ms = refl
 written_append (n ∷ ns) ms = ap (λ (b : List ℕ). shortest n ++ b) (written_append ns ms) ∙ sym (append_assoc (shortest n) (written ns) (written ms))
+
+-- what was there stands before what is written
+pub stands_0 : (w : List ℕ) → take (length w) w ≡ w
+stands_0 w = take_all (length w) w (omega arith)
+
+pub stands_1 : (w a : List ℕ) → take (length w) (w ++ a) ≡ w
+stands_1 w a = take_at w a (length w) refl
+
+pub stands_2 : (w a b : List ℕ) → take (length w) ((w ++ a) ++ b) ≡ w
+stands_2 w a b = rw (append_assoc w a b) (stands_1 w (a ++ b))
+
+pub stands_3 : (w a b x : List ℕ) → take (length w) (((w ++ a) ++ b) ++ x) ≡ w
+stands_3 w a b x = rw (append_assoc (w ++ a) b x) (stands_2 w a (b ++ x))
+
+pub stands_4 : (w a b x y : List ℕ) → take (length w) ((((w ++ a) ++ b) ++ x) ++ y) ≡ w
+stands_4 w a b x y = rw (append_assoc ((w ++ a) ++ b) x y) (stands_3 w a b (x ++ y))
 
 -- a type of a STREAM frame takes one byte
 pub stream_type_short : (offset sized fin : Bool) → shortest (type_of (is_stream offset sized fin)) ≡ type_of (is_stream offset sized fin) ∷ []

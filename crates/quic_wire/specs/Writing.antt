@@ -1,5 +1,5 @@
 -- The form in which each frame is written: each number in its shortest width (RFC 9000, sections 16 and 19).
-use Rattle.std.specs.Prelude.{ℕ, ◌+◌, ◌<◌, ◌^◌, Bool, true, false, not, List, [], ◌∷◌, ◌++◌, length, Option, Some, None, ◌==◌, if◌then◌else◌}
+use Rattle.std.specs.Prelude.{◌≡◌, ℕ, ◌+◌, ◌<◌, ◌^◌, Bool, true, false, not, List, [], ◌∷◌, ◌++◌, length, take, Option, Some, None, ◌==◌, if◌then◌else◌}
 use Rattle.quic_wire_core.specs.Varint.{shortest}
 use Rattle.quic_wire.specs.Value.{StreamValue, FrameValue, padding, ping, stream}
 use Rattle.quic_wire.specs.FrameTypes.{is_padding, is_ping, is_stream, type_of}
@@ -89,3 +89,7 @@ type_number padding = type_of is_padding
 type_number ping = type_of is_ping
 type_number (stream s) = type_of (is_stream (has_offset s.offset) false s.fin)
 type_number f = 0
+
+-- Bytes begin with these.
+abbrev pub BeginWith : List ℕ → List ℕ → Type 0
+BeginWith front bytes = take (length front) bytes ≡ front

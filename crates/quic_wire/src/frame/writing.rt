@@ -1,10 +1,10 @@
 //! Frames to bytes: each number in its shortest form (RFC 9000, section 16).
-ghost use Rattle.std.specs.Prelude.{◌≡◌, ◌+◌, ◌<◌, ◌≤◌, ◌^◌, ◌++◌, length, OnOk, vec_len, vec_capacity, IfSome, true};
+ghost use Rattle.std.specs.Prelude.{◌≡◌, ◌+◌, ◌<◌, ◌≤◌, ◌^◌, ◌++◌, length, OnOk, OnErr, vec_len, vec_capacity, IfSome, true};
 ghost use Rattle.quic_wire_core.specs.Varint.{shortest};
 ghost use Rattle.quic_wire.specs.FrameView.{stream_view, frame_view};
 ghost use Rattle.quic_wire.specs.Grammar.{offset_numbers, length_numbers};
 ghost use Rattle.quic_wire.specs.FrameTypes.{type_of, is_stream};
-ghost use Rattle.quic_wire.specs.Writing.{written, has_offset, stream_header, stream_spelling, spelling, StreamFits, Fits, width_of, offset_width, length_width, length_if, stream_header_size, stream_size, frame_size};
+ghost use Rattle.quic_wire.specs.Writing.{written, has_offset, stream_header, stream_spelling, spelling, StreamFits, Fits, width_of, offset_width, length_width, length_if, stream_header_size, stream_size, frame_size, BeginWith};
 
 use bytes::BufMut;
 use quic_wire_core::{Codec, StreamId, VarInt};
@@ -15,7 +15,8 @@ use crate::frame::{Frame, Stream};
 /// Writes a number.
 fn write_number<B: BufMut>(buf: &mut B, n: u64) -> Result<(), AllocError>
     requires { n < 2 ^ 62 }
-    ensures { OnOk result (B.written buf.new ≡ B.written buf.old ++ shortest n) }
+    ensures ok { OnOk result (B.written buf.new ≡ B.written buf.old ++ shortest n) }
+    ensures err { OnErr result (B.written buf.new ≡ B.written buf.old) }
 {
     VarInt::from_u64_unchecked(n).encode(buf)
 }
@@ -23,7 +24,8 @@ fn write_number<B: BufMut>(buf: &mut B, n: u64) -> Result<(), AllocError>
 /// Writes the offset of a STREAM frame, where it isn't 0.
 fn write_offset<B: BufMut>(buf: &mut B, offset: u64) -> Result<(), AllocError>
     requires { offset < 2 ^ 62 }
-    ensures { OnOk result (B.written buf.new ≡ B.written buf.old ++ written (offset_numbers (has_offset offset) offset)) }
+    ensures ok { OnOk result (B.written buf.new ≡ B.written buf.old ++ written (offset_numbers (has_offset offset) offset)) }
+    ensures err { OnErr result (B.written buf.new ≡ B.written buf.old) }
 {
     if offset == 0 {
         Ok(())
@@ -33,10 +35,11 @@ fn write_offset<B: BufMut>(buf: &mut B, offset: u64) -> Result<(), AllocError>
 }
 
 /// Writes a STREAM frame with its length.
-#[tactic(auto, using(crate::proofs::FrameWritten::written_append), unfolding(crate::specs::Writing::stream_spelling))]
+#[tactic(auto, using(crate::proofs::FrameWritten::written_append, crate::proofs::FrameWritten::stands_0, crate::proofs::FrameWritten::stands_1, crate::proofs::FrameWritten::stands_2, crate::proofs::FrameWritten::stands_3, crate::proofs::FrameWritten::stands_4), unfolding(crate::specs::Writing::stream_spelling))]
 fn write_stream<B: BufMut>(buf: &mut B, stream: &Stream<'_>) -> Result<(), AllocError>
     requires { StreamFits (stream_view stream.now) }
-    ensures { OnOk result (B.written buf.new ≡ B.written buf.old ++ stream_spelling true (stream_view stream.now)) }
+    ensures ok { OnOk result (B.written buf.new ≡ B.written buf.old ++ stream_spelling true (stream_view stream.now)) }
+    ensures err { OnErr result (BeginWith (B.written buf.old) (B.written buf.new)) }
 {
     write_number(buf, stream.ty(true).into())?;
     write_number(buf, stream.id.into())?;
@@ -46,10 +49,12 @@ fn write_stream<B: BufMut>(buf: &mut B, stream: &Stream<'_>) -> Result<(), Alloc
 }
 
 /// Writes a frame, each number in its shortest form, a STREAM frame with its length. An error comes for want of memory
-/// or of room; a part of the frame may then be written.
+/// or of room; a part of the frame may then be written behind what was there.
+#[tactic(auto, using(crate::proofs::FrameWritten::stands_0))]
 pub fn write_frame<B: BufMut>(frame: &Frame<'_>, buf: &mut B) -> Result<(), AllocError>
     requires { Fits (frame_view frame.now) }
-    ensures { OnOk result (B.written buf.new ≡ B.written buf.old ++ spelling (frame_view frame.now)) }
+    ensures ok { OnOk result (B.written buf.new ≡ B.written buf.old ++ spelling (frame_view frame.now)) }
+    ensures err { OnErr result (BeginWith (B.written buf.old) (B.written buf.new)) }
 {
     match frame {
         Frame::Padding => write_number(buf, 0x00),
