@@ -4,11 +4,11 @@ use Rattle.std.proofs.lemmas.Bool.{le-ltb}
 use Rattle.std.proofs.lemmas.List.{take_at, drop_at, length-append, append-nil}
 use Rattle.quic_wire_core.specs.Law.{spells_again}
 use Rattle.quic_wire.specs.Value.{FrameValue, StreamValue, padding, ping, stream}
-use Rattle.quic_wire.specs.FrameTypes.{Kind, is_padding, is_ping, is_stream, kind_of, type_of}
+use Rattle.quic_wire.specs.FrameTypes.{Kind, is_padding, is_ping, is_stream, IsKnown, kind_of, type_of}
 use Rattle.quic_wire.specs.Reading.{field, var_at, block_at, sized_at, offset_at, data_at, stream_at, as_frame, of_kind_at, body_at}
 use Rattle.quic_wire.specs.Items.{frame_at}
 use Rattle.quic_wire.specs.Grammar.{Numbers, Then, offset_numbers, length_numbers, Ends, OffsetFits, IsStreamForm, IsForm}
-use Rattle.quic_wire.proofs.FrameKinds.{kind_of_stream, kind_of_padding, kind_of_ping}
+use Rattle.quic_wire.proofs.FrameKinds.{kind_of_type}
 
 -- the first number is read, and the others are left
 record Next (n : ℕ) (ns bytes : List ℕ) : Type 0 where
@@ -70,26 +70,26 @@ unfolding body_at
 body_again type kind bytes f rest e h = ap (λ (k : Kind). of_kind_at k bytes) e ∙ h
 
 -- a frame of a type and numbers, whose kind is read
-by_kind : (kind : Kind) (ns bytes rest : List ℕ) (f : FrameValue) → kind_of (type_of kind) ≡ kind → Numbers (type_of kind ∷ ns) bytes
+by_kind : (kind : Kind) (ns bytes rest : List ℕ) (f : FrameValue) → IsKnown kind → Numbers (type_of kind ∷ ns) bytes
     → ((after : List ℕ) → Numbers ns after → of_kind_at kind (after ++ rest) ≡ Ok (f, rest)) → frame_at (bytes ++ rest) ≡ Ok (f, rest)
 unfolding frame_at
 by_kind kind ns bytes rest f known h body =
     let a = next (type_of kind) ns bytes h in
-    rw (a.reads rest, body_again (type_of kind) kind (a.after ++ rest) f rest known (body a.after a.others)) refl
+    rw (a.reads rest, body_again (type_of kind) kind (a.after ++ rest) f rest (kind_of_type kind known) (body a.after a.others)) refl
 
 -- a frame of a type, numbers and a text, whose kind is read
-by_kind_then : (kind : Kind) (ns text bytes rest : List ℕ) (f : FrameValue) → kind_of (type_of kind) ≡ kind → Then (type_of kind ∷ ns) text bytes
+by_kind_then : (kind : Kind) (ns text bytes rest : List ℕ) (f : FrameValue) → IsKnown kind → Then (type_of kind ∷ ns) text bytes
     → ((after : List ℕ) → Numbers ns after → of_kind_at kind (after ++ (text ++ rest)) ≡ Ok (f, rest)) → frame_at (bytes ++ rest) ≡ Ok (f, rest)
 unfolding frame_at
 by_kind_then kind ns text bytes rest f known h body =
     let a = next (type_of kind) ns h.0 h.1 in
     let regrouped : bytes ++ rest ≡ h.0 ++ (text ++ rest) = rw h.2 (append_assoc h.0 text rest) in
-    ap frame_at regrouped ∙ rw (a.reads (text ++ rest), body_again (type_of kind) kind (a.after ++ (text ++ rest)) f rest known (body a.after a.others)) refl
+    ap frame_at regrouped ∙ rw (a.reads (text ++ rest), body_again (type_of kind) kind (a.after ++ (text ++ rest)) f rest (kind_of_type kind known) (body a.after a.others)) refl
 
 pub form_again : (f : FrameValue) (bytes rest : List ℕ) → IsForm f bytes rest → frame_at (bytes ++ rest) ≡ Ok (f, rest)
-form_again padding bytes rest h = by_kind is_padding [] bytes rest padding kind_of_padding h (λ after ns. rw (none_left after rest ns) refl)
-form_again ping bytes rest h = by_kind is_ping [] bytes rest ping kind_of_ping h (λ after ns. rw (none_left after rest ns) refl)
+form_again padding bytes rest h = by_kind is_padding [] bytes rest padding tt h (λ after ns. rw (none_left after rest ns) refl)
+form_again ping bytes rest h = by_kind is_ping [] bytes rest ping tt h (λ after ns. rw (none_left after rest ns) refl)
 form_again (stream s) bytes rest h =
-    by_kind_then (is_stream h.written h.sized s.fin) (s.id ∷ (offset_numbers h.written s.offset ++ length_numbers h.sized s.bytes)) s.bytes bytes rest (stream s) (kind_of_stream h.written h.sized s.fin) h.text
+    by_kind_then (is_stream h.written h.sized s.fin) (s.id ∷ (offset_numbers h.written s.offset ++ length_numbers h.sized s.bytes)) s.bytes bytes rest (stream s) tt h.text
     (λ after ns. ap (as_frame stream) (stream_again s h.written h.sized after rest h.offset h.ends ns))
 form_again f bytes rest h = absurd h

@@ -2,7 +2,7 @@
 use Rattle.std.proofs.Common.{◌≡◌, ℕ, zero, suc, ◌≤◌, ◌<◌, List, [], ◌∷◌, ◌++◌, length, map, Result, Ok, Err, refl, ap, ◌∙◌, arith, ◌⊎◌, inl, inr}
 use Rattle.quic_wire.specs.declared.frame.InvalidFrame.{InvalidFrame}
 use Rattle.quic_wire.specs.Value.{FrameValue}
-use Rattle.quic_wire.specs.Items.{frame_at, first_and, items_within, items}
+use Rattle.quic_wire.specs.Items.{frame_at, first_and, items_within, items, EndsAtRefusal}
 use Rattle.quic_wire.proofs.FrameShrinks.{FrameLeavesFewer, frame_fewer}
 
 same_behind : (k n m : ℕ) (r : Result (FrameValue × List ℕ) InvalidFrame) → k ≤ n → k ≤ m → FrameLeavesFewer (suc k) r
@@ -57,3 +57,18 @@ few_within (suc n) (b ∷ bytes) = few_behind n (frame_at (b ∷ bytes)) (few_wi
 pub items_few : (bytes : List ℕ) → length (items bytes) ≤ length bytes
 unfolding items
 items_few bytes = few_within (length bytes) bytes
+
+ends_behind : (n : ℕ) (r : Result (FrameValue × List ℕ) InvalidFrame) → ((rest : List ℕ) → EndsAtRefusal (items_within n rest)) → EndsAtRefusal (first_and (items_within n) r)
+ends_behind n (Ok x) h = h x.1
+ends_behind n (Err e) h = refl
+
+ends_within : (n : ℕ) (bytes : List ℕ) → EndsAtRefusal (items_within n bytes)
+unfolding items_within
+ends_within zero bytes = tt
+ends_within (suc n) [] = tt
+ends_within (suc n) (b ∷ bytes) = ends_behind n (frame_at (b ∷ bytes)) (ends_within n)
+
+-- nothing comes behind a refusal
+pub items_end : (bytes : List ℕ) → EndsAtRefusal (items bytes)
+unfolding items
+items_end bytes = ends_within (length bytes) bytes

@@ -6,7 +6,7 @@ use Rattle.std.proofs.lemmas.Bool.{cases_eq, eqb-true, eq-eqb, ne_eqb, le-ltb, l
 use Rattle.quic_wire.specs.declared.frame.FrameError.{FrameError}
 use Rattle.quic_wire.specs.declared.frame.FrameError.TheVariants.{InvalidId}
 use Rattle.quic_wire.specs.Value.{FrameValue, padding, ping}
-use Rattle.quic_wire.specs.FrameTypes.{Kind, is_padding, is_ping, is_stream, is_unknown, frame_types, named, kind_of, type_of, has_bit}
+use Rattle.quic_wire.specs.FrameTypes.{Kind, is_padding, is_ping, is_ack, is_reset_stream, is_stop_sending, is_crypto, is_new_token, is_stream, is_max_data, is_max_stream_data, is_max_streams, is_data_blocked, is_stream_data_blocked, is_streams_blocked, is_new_connection_id, is_retire_connection_id, is_path_challenge, is_path_response, is_connection_close, is_application_close, is_handshake_done, is_immediate_ack, is_datagram, is_ack_frequency, is_unknown, IsKnown, frame_types, named, kind_of, type_of, has_bit}
 use Rattle.quic_wire.specs.Reading.{of_kind_at, body_at}
 
 and_first : (a b : Bool) → (a && b) ≡ true → a ≡ true
@@ -37,16 +37,8 @@ pub type_of_kind : (type : ℕ) → type_of (kind_of type) ≡ type
 unfolding kind_of numbers
 type_of_kind type = eqb-true _ _ (all_named numbers type frame_types (eq-eqb type type refl) refl)
 
-pub kind_of_padding : kind_of (type_of is_padding) ≡ is_padding
-unfolding kind_of
-kind_of_padding = refl
-
-pub kind_of_ping : kind_of (type_of is_ping) ≡ is_ping
-unfolding kind_of
-kind_of_ping = refl
-
 -- the eight types of STREAM frames
-pub kind_of_stream : (written sized fin : Bool) → kind_of (type_of (is_stream written sized fin)) ≡ is_stream written sized fin
+kind_of_stream : (written sized fin : Bool) → kind_of (type_of (is_stream written sized fin)) ≡ is_stream written sized fin
 unfolding kind_of
 kind_of_stream false false false = refl
 kind_of_stream false false true = refl
@@ -56,6 +48,39 @@ kind_of_stream true false false = refl
 kind_of_stream true false true = refl
 kind_of_stream true true false = refl
 kind_of_stream true true true = refl
+
+-- the number of a kind names it
+pub kind_of_type : (kind : Kind) → IsKnown kind → kind_of (type_of kind) ≡ kind
+unfolding kind_of
+kind_of_type is_padding h = refl
+kind_of_type is_ping h = refl
+kind_of_type (is_ack true) h = refl
+kind_of_type (is_ack false) h = refl
+kind_of_type is_reset_stream h = refl
+kind_of_type is_stop_sending h = refl
+kind_of_type is_crypto h = refl
+kind_of_type is_new_token h = refl
+kind_of_type (is_stream written sized fin) h = kind_of_stream written sized fin
+kind_of_type is_max_data h = refl
+kind_of_type is_max_stream_data h = refl
+kind_of_type (is_max_streams true) h = refl
+kind_of_type (is_max_streams false) h = refl
+kind_of_type is_data_blocked h = refl
+kind_of_type is_stream_data_blocked h = refl
+kind_of_type (is_streams_blocked true) h = refl
+kind_of_type (is_streams_blocked false) h = refl
+kind_of_type is_new_connection_id h = refl
+kind_of_type is_retire_connection_id h = refl
+kind_of_type is_path_challenge h = refl
+kind_of_type is_path_response h = refl
+kind_of_type is_connection_close h = refl
+kind_of_type is_application_close h = refl
+kind_of_type is_handshake_done h = refl
+kind_of_type is_immediate_ack h = refl
+kind_of_type (is_datagram true) h = refl
+kind_of_type (is_datagram false) h = refl
+kind_of_type is_ack_frequency h = refl
+kind_of_type (is_unknown type) h = absurd h
 
 at : (P : ℕ → Type 0) (type n : ℕ) → P n → (¬ (type ≡ n) → P type) → P type
 at P type n here there = elim (cases_eq type n) [ | inl e ↦ subst P (sym e) here | inr ne ↦ there ne ]

@@ -10,3 +10,5 @@ pub mod Mates
 pub mod FrameAgain
 pub mod FrameFound
 pub mod FrameWhole
+pub mod FrameWritten
+pub mod FrameReadBack

@@ -135,6 +135,11 @@ type_of (is_datagram len) = 0x30 + bit_if len 1
 type_of is_ack_frequency = 0xaf
 type_of (is_unknown type) = type
 
+-- A kind of frame, not a number that names none.
+abbrev pub IsKnown : Kind → Type 0
+IsKnown (is_unknown type) = ⊥
+IsKnown kind = Unit {0}
+
 -- Whether a bit of a type is set (section 19.8).
 abbrev pub has_bit : ℕ → ℕ → Bool
 has_bit type bit = not (bit_and type bit == 0)

@@ -1,5 +1,5 @@
 -- The frames of a payload, up to the first refusal (RFC 9000, section 12.4).
-use Rattle.std.specs.Prelude.{ℕ, zero, suc, List, [], ◌∷◌, length, Option, Some, None, Result, Ok, Err}
+use Rattle.std.specs.Prelude.{◌≡◌, ℕ, zero, suc, List, [], ◌∷◌, length, Option, Some, None, Result, Ok, Err}
 use Rattle.quic_wire.specs.declared.frame.FrameError.{FrameError}
 use Rattle.quic_wire.specs.declared.frame.InvalidFrame.{InvalidFrame}
 use Rattle.quic_wire.specs.Value.{FrameValue}
@@ -33,3 +33,9 @@ items_within (suc n) (b ∷ bytes) = first_and (items_within n) (frame_at (b ∷
 -- The frames of a payload, and behind them the refusal, if there is one. (Each frame takes a byte or more.)
 unfoldable pub items : List ℕ → List (Result FrameValue InvalidFrame)
 items bytes = items_within (length bytes) bytes
+
+-- Frames, and behind them at most one refusal, with nothing behind it.
+abbrev pub EndsAtRefusal : List (Result FrameValue InvalidFrame) → Type 0
+EndsAtRefusal [] = Unit {0}
+EndsAtRefusal (Ok f ∷ others) = EndsAtRefusal others
+EndsAtRefusal (Err e ∷ others) = others ≡ []

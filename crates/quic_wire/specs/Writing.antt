@@ -1,5 +1,5 @@
 -- The form in which each frame is written: each number in its shortest width (RFC 9000, sections 16 and 19).
-use Rattle.std.specs.Prelude.{ℕ, ◌+◌, ◌<◌, ◌^◌, Bool, true, false, not, List, [], ◌∷◌, ◌++◌, length, Option, Some, None, ◌==◌}
+use Rattle.std.specs.Prelude.{◌≡◌, ℕ, ◌+◌, ◌<◌, ◌^◌, Bool, true, false, not, List, [], ◌∷◌, ◌++◌, length, take, Option, Some, None, ◌==◌, if◌then◌else◌}
 use Rattle.quic_wire_core.specs.Varint.{shortest}
 use Rattle.quic_wire.specs.Value.{StreamValue, FrameValue, padding, ping, stream}
 use Rattle.quic_wire.specs.FrameTypes.{is_padding, is_ping, is_stream, type_of}
@@ -55,18 +55,33 @@ abbrev pub width_of : ℕ → ℕ
 width_of n = length (shortest n)
 
 -- How many bytes the offset of a STREAM frame takes.
-abbrev pub offset_width : Bool → ℕ → ℕ
-offset_width true offset = width_of offset
-offset_width false offset = 0
+abbrev pub offset_width : ℕ → ℕ
+offset_width offset = if offset == 0 then 0 else width_of offset
 
 -- How many bytes the length of a STREAM frame takes.
 abbrev pub length_width : Option ℕ → ℕ
 length_width (Some n) = width_of n
 length_width None = 0
 
--- How many bytes the header of a STREAM frame takes.
+-- How many bytes stand before the text of a STREAM frame: type, id, offset and length.
 abbrev pub stream_header_size : ℕ → ℕ → Option ℕ → ℕ
-stream_header_size id offset len = 1 + width_of id + offset_width (has_offset offset) offset + length_width len
+stream_header_size id offset len = 1 + width_of id + offset_width offset + length_width len
+
+-- The length of a text, where it is written.
+abbrev pub length_if : Bool → List ℕ → Option ℕ
+length_if true text = Some (length text)
+length_if false text = None
+
+-- How many bytes a STREAM frame takes, with its length or without.
+abbrev pub stream_size : Bool → StreamValue → ℕ
+stream_size with_length s = stream_header_size s.id s.offset (length_if with_length s.bytes) + length s.bytes
+
+-- How many bytes a frame takes.
+abbrev pub frame_size : FrameValue → ℕ
+frame_size padding = 1
+frame_size ping = 1
+frame_size (stream s) = stream_size true s
+frame_size f = 0
 
 -- The type of a frame, that of a STREAM frame without a length.
 abbrev pub type_number : FrameValue → ℕ
@@ -74,3 +89,7 @@ type_number padding = type_of is_padding
 type_number ping = type_of is_ping
 type_number (stream s) = type_of (is_stream (has_offset s.offset) false s.fin)
 type_number f = 0
+
+-- Bytes begin with these.
+abbrev pub BeginWith : List ℕ → List ℕ → Type 0
+BeginWith front bytes = take (length front) bytes ≡ front

@@ -2,12 +2,12 @@
 
 mod iter;
 mod reading;
-// mod writing;
+mod writing;
 
 pub use iter::Iter;
-// pub use writing::{put_frame, put_stream, size_of_frame, size_of_stream_header, write_frame};
+pub use writing::{put_frame, put_stream, size_of_frame, size_of_stream_header, write_frame};
 
-use quic_wire_core::{FrameType, StreamId, VarInt};
+use quic_wire_core::{Code, FrameType, StreamId, TransportError, VarInt};
 use thiserror::Error;
 
 /// A frame of a payload (quinn-proto's `frame::Frame`).
@@ -102,4 +102,21 @@ pub struct InvalidFrame {
     pub ty: Option<FrameType>,
     /// Why.
     pub reason: FrameError,
+}
+
+impl From<InvalidFrame> for TransportError {
+    ghost use Rattle.std.specs.Prelude.{◌≡◌};
+
+    // FRAME_ENCODING_ERROR is 7 (RFC 9000, section 20.1).
+    ghost from_gives = { λ invalid error. (error.code ≡ 0x07) × (error.frame ≡ invalid.ty) };
+
+    /// FRAME_ENCODING_ERROR, with the type of the frame (RFC 9000, section 12.4).
+    fn from(invalid: InvalidFrame) -> TransportError {
+        let reason = match invalid.reason {
+            FrameError::UnexpectedEnd => "unexpected end",
+            FrameError::Malformed => "malformed",
+            FrameError::InvalidId => "invalid frame ID",
+        };
+        TransportError::new(Code::FRAME_ENCODING_ERROR, invalid.ty, reason)
+    }
 }

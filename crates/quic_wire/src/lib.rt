@@ -11,3 +11,4 @@ pub mod frame;
 pub mod transport_parameters;
 
 pub use transport_parameters::{TransportParameters, TransportParametersError};
+pub mod frame_laws;

@@ -1,0 +1,8 @@
+use Rattle.quic_wire.proofs.FrameWritten.{spelling_length, stream_length}
+use Rattle.quic_wire.proofs.frame_laws.written_has_size.Goals as goal
+
+pub returns-clause-frame : goal.returns-clause-frame
+returns-clause-frame c = spelling_length
+
+pub returns-clause-stream : goal.returns-clause-stream
+returns-clause-stream c = stream_length

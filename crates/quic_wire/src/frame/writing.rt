@@ -1,0 +1,223 @@
+//! Frames to bytes: each number in its shortest form (RFC 9000, section 16).
+ghost use Rattle.std.specs.Prelude.{◌≡◌, ◌+◌, ◌<◌, ◌≤◌, ◌^◌, ◌++◌, length, OnOk, OnErr, vec_len, vec_capacity, IfSome, true};
+ghost use Rattle.quic_wire_core.specs.Varint.{shortest};
+ghost use Rattle.quic_wire.specs.FrameView.{stream_view, frame_view};
+ghost use Rattle.quic_wire.specs.Grammar.{offset_numbers, length_numbers};
+ghost use Rattle.quic_wire.specs.FrameTypes.{type_of, is_stream};
+ghost use Rattle.quic_wire.specs.Writing.{written, has_offset, stream_header, stream_spelling, spelling, StreamFits, Fits, width_of, offset_width, length_width, length_if, stream_header_size, stream_size, frame_size, BeginWith};
+
+use bytes::BufMut;
+use quic_wire_core::{Codec, StreamId, VarInt};
+use std::alloc::AllocError;
+
+use crate::frame::{Frame, Stream};
+
+/// Writes a number.
+fn write_number<B: BufMut>(buf: &mut B, n: u64) -> Result<(), AllocError>
+    requires { n < 2 ^ 62 }
+    ensures ok { OnOk result (B.written buf.new ≡ B.written buf.old ++ shortest n) }
+    ensures err { OnErr result (B.written buf.new ≡ B.written buf.old) }
+{
+    VarInt::from_u64_unchecked(n).encode(buf)
+}
+
+/// Writes the offset of a STREAM frame, where it isn't 0.
+fn write_offset<B: BufMut>(buf: &mut B, offset: u64) -> Result<(), AllocError>
+    requires { offset < 2 ^ 62 }
+    ensures ok { OnOk result (B.written buf.new ≡ B.written buf.old ++ written (offset_numbers (has_offset offset) offset)) }
+    ensures err { OnErr result (B.written buf.new ≡ B.written buf.old) }
+{
+    if offset == 0 {
+        Ok(())
+    } else {
+        write_number(buf, offset)
+    }
+}
+
+/// Writes a STREAM frame with its length.
+#[tactic(auto, using(crate::proofs::FrameWritten::written_append, crate::proofs::FrameWritten::stands_0, crate::proofs::FrameWritten::stands_1, crate::proofs::FrameWritten::stands_2, crate::proofs::FrameWritten::stands_3, crate::proofs::FrameWritten::stands_4), unfolding(crate::specs::Writing::stream_spelling))]
+fn write_stream<B: BufMut>(buf: &mut B, stream: &Stream<'_>) -> Result<(), AllocError>
+    requires { StreamFits (stream_view stream.now) }
+    ensures ok { OnOk result (B.written buf.new ≡ B.written buf.old ++ stream_spelling true (stream_view stream.now)) }
+    ensures err { OnErr result (BeginWith (B.written buf.old) (B.written buf.new)) }
+{
+    write_number(buf, stream.ty(true).into())?;
+    write_number(buf, stream.id.into())?;
+    write_offset(buf, stream.offset)?;
+    write_number(buf, stream.data.len() as u64)?;
+    buf.put_slice(stream.data)
+}
+
+/// Writes a frame, each number in its shortest form, a STREAM frame with its length. An error comes for want of memory
+/// or of room; a part of the frame may then be written behind what was there.
+#[tactic(auto, using(crate::proofs::FrameWritten::stands_0))]
+pub fn write_frame<B: BufMut>(frame: &Frame<'_>, buf: &mut B) -> Result<(), AllocError>
+    requires { Fits (frame_view frame.now) }
+    ensures ok { OnOk result (B.written buf.new ≡ B.written buf.old ++ spelling (frame_view frame.now)) }
+    ensures err { OnErr result (BeginWith (B.written buf.old) (B.written buf.new)) }
+{
+    match frame {
+        Frame::Padding => write_number(buf, 0x00),
+        Frame::Ping => write_number(buf, 0x01),
+        Frame::Stream(stream) => write_stream(buf, stream),
+    }
+}
+
+/// How many bytes a number takes.
+fn size_of_number(n: u64) -> usize
+    requires { n < 2 ^ 62 }
+    ensures size { result ≡ width_of n }
+    ensures bound { result ≤ 8 }
+{
+    if n < 1 << 6 {
+        1
+    } else if n < 1 << 14 {
+        2
+    } else if n < 1 << 30 {
+        4
+    } else {
+        8
+    }
+}
+
+/// How many bytes the offset of a STREAM frame takes: none where it is 0.
+fn size_of_offset(offset: u64) -> usize
+    requires { offset < 2 ^ 62 }
+    ensures size { result ≡ offset_width offset }
+    ensures bound { result ≤ 8 }
+{
+    if offset == 0 { 0 } else { size_of_number(offset) }
+}
+
+/// How many bytes the length of a STREAM frame takes: none where it isn't written.
+fn size_of_length(length: Option<u64>) -> usize
+    requires { IfSome length (λ n. n < 2 ^ 62) }
+    ensures size { result ≡ length_width length }
+    ensures bound { result ≤ 8 }
+{
+    match length {
+        Some(length) => size_of_number(length),
+        None => 0,
+    }
+}
+
+/// How many bytes stand before the data of a STREAM frame: its type, the id, the offset where it isn't 0, and the
+/// length where one is written; at most [`Stream::SIZE_BOUND`].
+pub fn size_of_stream_header(id: StreamId, offset: u64, length: Option<u64>) -> usize
+    requires offset { offset < 2 ^ 62 }
+    requires length { IfSome length (λ n. n < 2 ^ 62) }
+    ensures size { result ≡ stream_header_size id offset length }
+    ensures bound { result ≤ 25 }
+{
+    1 + size_of_number(id.into()) + size_of_offset(offset) + size_of_length(length)
+}
+
+/// How many bytes a frame takes.
+pub fn size_of_frame(frame: &Frame<'_>) -> usize
+    requires { Fits (frame_view frame.now) }
+    ensures { result ≡ frame_size (frame_view frame.now) }
+{
+    match frame {
+        Frame::Padding | Frame::Ping => 1,
+        Frame::Stream(stream) => {
+            let length = stream.data.len();
+            size_of_stream_header(stream.id, stream.offset, Some(length as u64)) + length
+        }
+    }
+}
+
+/// Appends bytes for which there is room.
+fn append(out: &mut Vec<u8>, bytes: &[u8])
+    requires { vec_len out.old + length bytes.now ≤ vec_capacity out.old }
+    ensures items { out.new.items ≡ out.old.items ++ bytes.now }
+    ensures len { vec_len out.new ≡ vec_len out.old + length bytes.now }
+    ensures capacity { vec_capacity out.old ≤ vec_capacity out.new }
+{
+    out.extend_from_slice(bytes).unwrap()
+}
+
+/// Appends a number for which there is room.
+fn put_number(out: &mut Vec<u8>, n: u64)
+    requires form { n < 2 ^ 62 }
+    requires room { vec_len out.old + width_of n ≤ vec_capacity out.old }
+    ensures items { out.new.items ≡ out.old.items ++ shortest n }
+    ensures len { vec_len out.new ≡ vec_len out.old + width_of n }
+    ensures capacity { vec_capacity out.old ≤ vec_capacity out.new }
+{
+    if n < 1 << 6 {
+        append(out, &[n as u8]);
+    } else if n < 1 << 14 {
+        append(out, &(0b01 << 14 | n as u16).to_be_bytes());
+    } else if n < 1 << 30 {
+        append(out, &(0b10 << 30 | n as u32).to_be_bytes());
+    } else {
+        append(out, &(0b11 << 62 | n).to_be_bytes());
+    }
+}
+
+/// Appends the offset of a STREAM frame, where it isn't 0. There is room.
+fn put_offset(out: &mut Vec<u8>, offset: u64)
+    requires form { offset < 2 ^ 62 }
+    requires room { vec_len out.old + offset_width offset ≤ vec_capacity out.old }
+    ensures items { out.new.items ≡ out.old.items ++ written (offset_numbers (has_offset offset) offset) }
+    ensures len { vec_len out.new ≡ vec_len out.old + offset_width offset }
+    ensures capacity { vec_capacity out.old ≤ vec_capacity out.new }
+{
+    if offset != 0 {
+        put_number(out, offset);
+    }
+}
+
+/// Appends the length of the data of a STREAM frame, where it is written. There is room.
+fn put_length(out: &mut Vec<u8>, text: &[u8], with_length: bool)
+    requires form { length text.now < 2 ^ 62 }
+    requires room { vec_len out.old + length_width (length_if with_length text.now) ≤ vec_capacity out.old }
+    ensures items { out.new.items ≡ out.old.items ++ written (length_numbers with_length text.now) }
+    ensures len { vec_len out.new ≡ vec_len out.old + length_width (length_if with_length text.now) }
+    ensures capacity { vec_capacity out.old ≤ vec_capacity out.new }
+{
+    if with_length {
+        put_number(out, text.len() as u64);
+    }
+}
+
+/// Appends the type of a STREAM frame. There is room.
+fn put_stream_type(out: &mut Vec<u8>, stream: &Stream<'_>, with_length: bool)
+    requires room { vec_len out.old + 1 ≤ vec_capacity out.old }
+    ensures items { out.new.items ≡ out.old.items ++ shortest (type_of (is_stream (has_offset stream.now.offset) with_length stream.now.fin)) }
+    ensures len { vec_len out.new ≡ vec_len out.old + 1 }
+    ensures capacity { vec_capacity out.old ≤ vec_capacity out.new }
+{
+    append(out, &[stream.ty(with_length) as u8]);
+}
+
+/// Appends a STREAM frame, with its length or without, for which there is room. One without its length has to be the
+/// last of its packet (RFC 9000, section 19.8; quinn-proto's `StreamMeta::encode`).
+pub fn put_stream(out: &mut Vec<u8>, stream: &Stream<'_>, with_length: bool)
+    requires form { StreamFits (stream_view stream.now) }
+    requires room { vec_len out.old + stream_size with_length (stream_view stream.now) ≤ vec_capacity out.old }
+    ensures items { out.new.items ≡ out.old.items ++ stream_spelling with_length (stream_view stream.now) }
+    ensures len { vec_len out.new ≡ vec_len out.old + stream_size with_length (stream_view stream.now) }
+    ensures capacity { vec_capacity out.old ≤ vec_capacity out.new }
+{
+    put_stream_type(out, stream, with_length);
+    put_number(out, stream.id.into());
+    put_offset(out, stream.offset);
+    put_length(out, stream.data, with_length);
+    append(out, stream.data);
+}
+
+/// Appends a frame, a STREAM frame with its length, for which there is room.
+pub fn put_frame(out: &mut Vec<u8>, frame: &Frame<'_>)
+    requires form { Fits (frame_view frame.now) }
+    requires room { vec_len out.old + frame_size (frame_view frame.now) ≤ vec_capacity out.old }
+    ensures items { out.new.items ≡ out.old.items ++ spelling (frame_view frame.now) }
+    ensures len { vec_len out.new ≡ vec_len out.old + frame_size (frame_view frame.now) }
+    ensures capacity { vec_capacity out.old ≤ vec_capacity out.new }
+{
+    match frame {
+        Frame::Padding => append(out, &[0x00]),
+        Frame::Ping => append(out, &[0x01]),
+        Frame::Stream(stream) => put_stream(out, stream, true),
+    }
+}
