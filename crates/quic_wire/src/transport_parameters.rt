@@ -71,10 +71,10 @@ fn value_at(met: &[Option<VarInt>; 13], parameter: TransportParameterId) -> VarI
 }
 
 impl TransportParameters {
-    ghost use Rattle.std.specs.Prelude.{◌≡◌, IfOk, Ok};
+    ghost use Rattle.std.specs.Prelude.{◌≡◌, ◌++◌, IfOk, OnOk, Ok};
     ghost use Rattle.quic_wire.specs.Parameters.{value_of, AreInRange};
     ghost use Rattle.quic_wire.specs.ParametersRead.{values_met, parameters_at};
-    ghost use Rattle.quic_wire.specs.ParametersWritten.{IsWriteOrder, written_parameters};
+    ghost use Rattle.quic_wire.specs.ParametersWritten.{IsWriteOrder, parameter_of_place, written_place, written_parameters};
 
     #[tactic(auto, unfolding(crate::specs::ParametersRead::values_met))]
     fn of_met(met: &[Option<VarInt>; 13]) -> Self
@@ -100,6 +100,16 @@ impl TransportParameters {
             TransportParameterId::InitialMaxStreamDataUni => self.initial_max_stream_data_uni,
             TransportParameterId::InitialMaxStreamsBidi => self.initial_max_streams_bidi,
             TransportParameterId::InitialMaxStreamsUni => self.initial_max_streams_uni,
+        }
+    }
+
+    /// Writes the parameter at a place, if there is one.
+    fn put_place(&self, buf: &mut Vec<u8>, place: u8) -> Result<(), AllocError>
+        ensures { OnOk result (buf.new.items ≡ buf.old.items ++ written_place self.now (parameter_of_place place)) }
+    {
+        match TransportParameterId::of_place(place) {
+            Some(parameter) => put_parameter(buf, parameter, self.value(parameter)),
+            None => Ok(()),
         }
     }
 
@@ -129,9 +139,7 @@ impl TransportParameters {
     {
         let mut bytes = Vec::new(alloc);
         for place in order {
-            if let Some(parameter) = TransportParameterId::of_place(*place) {
-                put_parameter(&mut bytes, parameter, self.value(parameter))?;
-            }
+            self.put_place(&mut bytes, *place)?;
         }
         Ok(bytes)
     }

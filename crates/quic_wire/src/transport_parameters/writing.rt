@@ -1,7 +1,7 @@
 //! Transport parameters to bytes.
 ghost use Rattle.std.specs.Prelude.{◌≡◌, ◌++◌, length, OnOk};
 ghost use Rattle.quic_wire_core.specs.Varint.{shortest};
-ghost use Rattle.quic_wire.specs.ParametersWritten.{written_value};
+ghost use Rattle.quic_wire.specs.ParametersWritten.{shortest_entry, written_value};
 
 use quic_wire_core::{Codec, VarInt};
 use std::alloc::AllocError;
@@ -24,15 +24,22 @@ fn size_of(value: VarInt) -> VarInt
     }
 }
 
-/// Writes a parameter where its value isn't the default.
+/// Writes an entry, each integer in its shortest form.
 #[tactic(auto, using(std::proofs::Common::append_assoc))]
+fn put_entry(buf: &mut Vec<u8>, id: VarInt, value: VarInt) -> Result<(), AllocError>
+    ensures { OnOk result (buf.new.items ≡ buf.old.items ++ shortest_entry id (shortest value)) }
+{
+    id.encode(buf)?;
+    size_of(value).encode(buf)?;
+    value.encode(buf)
+}
+
+/// Writes a parameter where its value isn't the default.
 pub(crate) fn put_parameter(buf: &mut Vec<u8>, parameter: TransportParameterId, value: VarInt) -> Result<(), AllocError>
     ensures { OnOk result (buf.new.items ≡ buf.old.items ++ written_value parameter value) }
 {
     if value.into_inner() == parameter.default_value().into_inner() {
         return Ok(());
     }
-    parameter.id().encode(buf)?;
-    size_of(value).encode(buf)?;
-    value.encode(buf)
+    put_entry(buf, parameter.id(), value)
 }
