@@ -134,7 +134,7 @@ view_of w = record { client = end_view w.client; server = end_view w.server }
 -- These answers and views may come of the first of these events, one of each for each event in turn, and leave the world so.
 abbrev pub Follows : Policies → World → List RunEvent → List Answer → List View → World → Type 0
 Follows k w events [] [] end = end ≡ w
-Follows k w (event ∷ events) (a ∷ as) (v ∷ vs) end = (next : World) × IsStep k w event a next × (v ≡ view_of next) × Follows k next events as vs end
-Follows k w [] (a ∷ as) vs end = ⊥
+Follows k w (event ∷ events) (a ∷ told) (v ∷ vs) end = (next : World) × IsStep k w event a next × (v ≡ view_of next) × Follows k next events told vs end
+Follows k w [] (a ∷ told) vs end = ⊥
 Follows k w events [] (v ∷ vs) end = ⊥
-Follows k w (event ∷ events) (a ∷ as) [] end = ⊥
+Follows k w (event ∷ events) (a ∷ told) [] end = ⊥

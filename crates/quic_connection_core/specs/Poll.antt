@@ -4,7 +4,7 @@ use Rattle.quic_wire_core.specs.declared.shared.EcnCodepoint.{EcnCodepoint}
 use Rattle.quic_wire_core.specs.declared.shared.EcnCodepoint.TheVariants.{Ect0}
 use Rattle.quic_wire.specs.Number.{truncated}
 use Rattle.quic_wire.specs.Value.{FrameValue, StreamValue, padding, stream}
-use Rattle.quic_wire.specs.Writing.{stream_spelling}
+use Rattle.quic_wire.specs.Writing.{stream_spelling, width_of}
 use Rattle.quic_wire.specs.Grammar.{Payload}
 use Rattle.quic_wire.specs.Datagram.{sent}
 use Rattle.quic_streams_core.specs.Buffered.{Buffered, sent_range, writes_length, after_poll, slice}
@@ -71,7 +71,7 @@ frame_room e = current_mtu - (1 + length e.ids.active.id + (truncated e.numbers.
 
 -- how many bytes are left behind the type and the id of a stream frame
 abbrev pub stream_room : End → ℕ → ℕ
-stream_room e id = frame_room e - (1 + varint_len id)
+stream_room e id = frame_room e - (1 + width_of id)
 
 -- the payload with one stream frame
 abbrev pub payload_of : End → ℕ → SendHalf → List ℕ
