@@ -7,7 +7,8 @@ use Rattle.std.specs.Map.{lookup}
 use Rattle.std.specs.declared.cmp.Ordering.TheVariants.{Less, Greater}
 use Rattle.std.specs.BTreeMap.{insert_entry, is_at}
 use Rattle.std.proofs.lemmas.Bool.{ltb-true, ltb-false, ne_eqb, eqb-true}
-use Rattle.quic_streams_core.specs.Arrived.{Part, start, AreApart, after, Fits, begins_at, runs_behind, runs_of, touching}
+use Rattle.quic_streams_core.specs.Arrived.{Part, start, AreApart, runs_behind, runs_of}
+use Rattle.quic_streams_core.specs.PartSteps.{after, Fits, begins_at, touching}
 
 pub filled_apart : (low at : ℕ) (ps : List Part) (bs : List ℕ) → AreApart low ps → low ≤ at → 0 < length bs → at + length bs < 2 ^ 62 → Fits (at + length bs) (after at ps) → AreApart low (insert_entry nat_cmp ps (at + length bs) bs)
 filled_apart low at [] bs h m l s f = (omega arith, l, s)

@@ -6,7 +6,8 @@ use Rattle.std.specs.declared.cmp.Ordering.TheVariants.{Less, Greater}
 use Rattle.std.specs.BTreeMap.{insert_entry}
 use Rattle.std.proofs.lemmas.List.{drop_all}
 use Rattle.std.proofs.lemmas.Bool.{ltb-true, ltb-false}
-use Rattle.quic_streams_core.specs.Arrived.{Part, start, AreApart, after, with_gaps, with_part, gap_at, is_held, held_at, Fits}
+use Rattle.quic_streams_core.specs.Arrived.{Part, start, AreApart, with_gaps, with_part}
+use Rattle.quic_streams_core.specs.PartSteps.{after, gap_at, is_held, held_at, Fits}
 
 take_none : (n : ℕ) → take {A = ℕ} n [] ≡ []
 take_none n = take_all n [] (omega arith)

@@ -3,5 +3,6 @@
 #![tactic(auto)]
 
 mod connection;
+pub mod laws;
 
 pub use connection::assembler::{Assembler, Chunk};

@@ -4,7 +4,8 @@ ghost use Rattle.std.specs.Option.{option_map};
 ghost use Rattle.std.specs.Map.{lookup};
 ghost use Rattle.std.specs.BTreeMap.{insert_entry, is_at};
 ghost use Rattle.std.specs.Ordering.{nat_cmp};
-ghost use Rattle.quic_streams_core.specs.Arrived.{Arrived, IsLawful, AreApart, Keeps, byte_at, runs_of, with_gaps, after_insert, is_next, given, after_read, cuts, whole_first, after_first, after, span_of, is_held, held_at, gap_at, begins_at, Fits};
+ghost use Rattle.quic_streams_core.specs.Arrived.{Arrived, IsLawful, AreApart, Keeps, byte_at, runs_of, with_gaps, after_insert, is_next, given, after_read, cuts};
+ghost use Rattle.quic_streams_core.specs.PartSteps.{whole_first, after_first, after, span_of, is_held, held_at, gap_at, begins_at, Fits};
 
 use bytes::Bytes;
 use std::alloc::{AllocError, Global};

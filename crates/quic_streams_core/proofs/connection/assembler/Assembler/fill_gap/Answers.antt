@@ -1,5 +1,6 @@
-use Rattle.std.proofs.Common.{rules, ◌≡◌, ◌+◌, arith, sym, ap, subst, ◌∙◌, length, Bool}
-use Rattle.quic_streams_core.specs.Arrived.{Arrived, Fits, after, begins_at}
+use Rattle.std.proofs.Common.{rules, ◌≡◌, ◌+◌, arith, sym, ap, subst, length}
+use Rattle.quic_streams_core.specs.Arrived.{Arrived}
+use Rattle.quic_streams_core.specs.PartSteps.{Fits, after, begins_at}
 use Rattle.quic_streams_core.proofs.Filled.{put_apart, put_runs, runs_fit}
 use Rattle.quic_streams_core.proofs.connection.assembler.Assembler.fill_gap.Goals as goal
 
