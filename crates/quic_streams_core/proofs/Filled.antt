@@ -142,3 +142,12 @@ put_runs low at runs touches joins ps ns bs part h m l f j r t e is =
     let sum = filled_runs low at ps bs h m l f in
     let whole : touches ≡ touching ps at (at + length bs) = t ∙ ap (λ b. cond (is_some (lookup (is_at (nat_cmp at)) ps)) 1 0 + cond b 1 0) j in
     rw (is, e, r) (omega arith)
+
+-- what is read lies below the greatest offset
+pub low_small : (low : ℕ) (ps : List Part) → AreApart low ps → low < 2 ^ 62
+low_small low [] h = h
+low_small low (p ∷ ps) h =
+    let big = h.0 in
+    let full = h.1 in
+    let k = low_small p.0 ps h.2 in
+    omega arith

@@ -2,7 +2,6 @@
 use Rattle.std.specs.Prelude.{◌≡◌, ℕ, ◌+◌, ◌-◌, ◌^◌, ◌<◌, ◌≤◌, ◌==◌, Bool, true, false, cond, ltb, max, min, not, List, [], ◌∷◌, length, take, drop, Option, Some, None, IfSome, count_by}
 use Rattle.std.specs.Option.{option_or, is_some}
 use Rattle.std.specs.List.{slice_get}
-
 use Rattle.quic_streams_core.specs.declared.connection.assembler.Chunk.{Chunk}
 
 -- a part of a stream: the offset behind its last byte, and its bytes

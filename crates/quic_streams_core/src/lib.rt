@@ -6,3 +6,4 @@ mod connection;
 pub mod laws;
 
 pub use connection::assembler::{Assembler, Chunk};
+pub use connection::send_buffer::SendBuffer;

@@ -19,8 +19,8 @@ invariant_of-self-2 c =
     let fits = subst (λ (s : Arrived). Fits (a.at + length a.bytes.now) (after a.at s.parts)) (sym v) c.requires.fits in
     let joins = subst (λ (s : Arrived). a.joins ≡ begins_at (a.at + length a.bytes.now) (after a.at s.parts)) (sym v) c.requires.joins in
     record {
-        apart = put_apart i.read a.at i.parts.entries _ a.bytes.now _ c.self.invariant.apart (omega arith) c.requires.some c.requires.small fits c.in_ok-part.ensures c.in_ok-keep.ensures.ok;
-        counted = put_runs i.read a.at i.runs _ a.joins i.parts.entries _ a.bytes.now _ c.self.invariant.apart (omega arith) c.requires.some fits joins c.self.invariant.counted c.touches-touching.ensures c.in_ok-part.ensures c.in_ok-keep.ensures.ok
+      apart = put_apart i.read a.at i.parts.entries _ a.bytes.now _ c.self.invariant.apart (omega arith) c.requires.some c.requires.small fits c.in_ok-part.ensures c.in_ok-keep.ensures.ok;
+      counted = put_runs i.read a.at i.runs _ a.joins i.parts.entries _ a.bytes.now _ c.self.invariant.apart (omega arith) c.requires.some fits joins c.self.invariant.counted c.touches-touching.ensures c.in_ok-part.ensures c.in_ok-keep.ensures.ok;
     }
 
 pub returns-clause-lawful : goal.returns-clause-lawful
