@@ -1,2 +1,4 @@
 pub mod Arrived
+pub mod Buffered
+pub mod PartSteps
 pub mod Inside
