@@ -5,6 +5,7 @@ pub mod Closing
 pub mod Ids
 pub mod Numbers
 pub mod Parts
+pub mod Buffering
 pub mod Sending
 pub mod Receiving
 pub mod End

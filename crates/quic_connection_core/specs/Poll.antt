@@ -7,7 +7,8 @@ use Rattle.quic_wire.specs.Value.{FrameValue, StreamValue, padding, stream}
 use Rattle.quic_wire.specs.Writing.{stream_spelling, width_of}
 use Rattle.quic_wire.specs.Grammar.{Payload}
 use Rattle.quic_wire.specs.Datagram.{sent}
-use Rattle.quic_streams_core.specs.Buffered.{Buffered, sent_range, writes_length, after_poll, slice}
+use Rattle.quic_streams_core.specs.Buffered.{Buffered, writes_length}
+use Rattle.quic_connection_core.specs.Buffering.{sent_range, after_poll, slice}
 use Rattle.quic_connection_core.specs.declared.answers.State.{State}
 use Rattle.quic_connection_core.specs.declared.answers.Failed.{Failed}
 use Rattle.quic_connection_core.specs.declared.answers.Transmit.{Transmit}

@@ -7,7 +7,8 @@ use Rattle.quic_wire_core.specs.declared.stream_id.Dir.{Dir}
 use Rattle.quic_wire_core.specs.declared.stream_id.Dir.TheVariants.{Bi, Uni}
 use Rattle.quic_wire_core.specs.declared.stream_id.Side.TheVariants.{Client, Server}
 use Rattle.quic_wire_core.specs.StreamId.{stream_id}
-use Rattle.quic_streams_core.specs.Buffered.{Buffered, empty_buffer, after_write}
+use Rattle.quic_streams_core.specs.Buffered.{Buffered}
+use Rattle.quic_connection_core.specs.Buffering.{empty_buffer, after_write}
 use Rattle.quic_connection_core.specs.Table.{Table, at, put, added}
 use Rattle.quic_connection_core.specs.declared.answers.WriteError.{WriteError}
 use Rattle.quic_connection_core.specs.declared.answers.WriteError.TheVariants as write_errors
