@@ -1,2 +1,4 @@
 //! One end of a QUIC connection.
 #![tactic(auto)]
+
+mod streams;
