@@ -6,7 +6,7 @@ use Rattle.quic_wire.specs.declared.crypto.Keys.{Keys}
 use Rattle.quic_wire.specs.Parameters.{ParameterValues}
 use Rattle.quic_connection_core.specs.declared.answers.State.TheVariants as states
 use Rattle.quic_connection_core.specs.Settings.{Settings}
-use Rattle.quic_connection_core.specs.Closing.{Closing, failed}
+use Rattle.quic_connection_core.specs.Closing.{Closing}
 use Rattle.quic_connection_core.specs.Ids.{Ids, first_ids}
 use Rattle.quic_connection_core.specs.Numbers.{Numbers, no_numbers}
 use Rattle.quic_connection_core.specs.Parts.{Acknowledging, nothing_to_acknowledge, Tracking, nothing_tracked, Path, first_path, Messages, no_messages, Waiting, nothing_waits}
@@ -108,5 +108,6 @@ with_receiving e r = record e { receiving = r }
 
 -- an end that met want of memory where it can't say so: it is failed for good, and nothing else is said of it
 pub record HasFailed {H K R : Type 0} (old new : Whole H K R) : Type 0 where
-  pub closing : new.end.closing ≡ failed old.end.closing
+  pub state : new.end.closing.state ≡ states.Failed
+  pub reason : new.end.closing.reason ≡ None
   pub keys : new ≡ with_end old new.end

@@ -1,2 +1,3 @@
 pub mod Arrived
 pub mod Inside
+pub mod Buffered

@@ -1,0 +1,6 @@
+//! One end of a connection.
+
+mod closing;
+mod dedup;
+mod ids;
+mod numbers;
