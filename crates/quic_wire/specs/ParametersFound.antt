@@ -225,5 +225,5 @@ read_found bytes p h e =
     let is = fine_is (values_by (λ k. unwrap_or (met_at a.first k) (default_of k))) p a.then in
     let each : (k : TransportParameterId) → unwrap_or (met_at a.first k) (default_of k) ≡ value_of p k = λ k. sym (value_by (λ k. unwrap_or (met_at a.first k) (default_of k)) k) ∙ ap (λ (q : ParameterValues). value_of q k) is in
     let said : (k : TransportParameterId) → Says f.entries k (unwrap_or (met_at a.first k) (default_of k)) × (unwrap_or (met_at a.first k) (default_of k) ≤ most_of k) =
-        λ k. gives_says f.entries k (met_at a.first k) (subst (λ (o : Option ℕ). Gives o (standing (id_of k) f.entries) (most_of k) (met_at a.first k)) (none_met_at k) (f.at k)) in
+    λ k. gives_says f.entries k (met_at a.first k) (subst (λ (o : Option ℕ). Gives o (standing (id_of k) f.entries) (most_of k) (met_at a.first k)) (none_met_at k) (f.at k)) in
     (record { entries = f.entries; spelled = f.spelled; says = λ k. subst (Says f.entries k) (each k) (said k).0 }, λ k. subst (λ (v : ℕ). v ≤ most_of k) (each k) (said k).1)

@@ -81,8 +81,8 @@ skips : (f : TransportParameterId → ℕ) (met : List (Option ℕ)) (e : ℕ ×
 skips f met e es unknown all = record {
   whole = all.whole;
   at = λ k.
-    let other : e.0 ≡ id_of k → ⊥ = λ same. let known : parameter_at e.0 ≡ Some k = ap parameter_at same ∙ parameter_again k in cc in
-    subst (λ (xs : List (List ℕ)). Makes (met_at met k) xs (default_of k) (f k)) (standing_other (id_of k) e es other) (all.at k);
+      let other : e.0 ≡ id_of k → ⊥ = λ same. let known : parameter_at e.0 ≡ Some k = ap parameter_at same ∙ parameter_again k in cc in
+      subst (λ (xs : List (List ℕ)). Makes (met_at met k) xs (default_of k) (f k)) (standing_other (id_of k) e es other) (all.at k);
 }
 
 -- an entry of a parameter is met
@@ -137,14 +137,14 @@ spelled_entries f most [] met bytes h all = record {
 spelled_entries f most (e ∷ es) met bytes h all =
     let first : entry_at bytes ≡ Ok (e, h.1) = ap entry_at h.4 ∙ entry_again e h.0 h.1 h.2 in
     let known : (o : Option TransportParameterId) → parameter_at e.0 ≡ o → ReadsAll f met bytes =
-        λ o. elim o as (λ p. parameter_at e.0 ≡ p → ReadsAll f met bytes) [
-          | None ↦ λ is. on_entry f met met e bytes h.1 first (ap (λ (p : Option TransportParameterId). met_with met p e.1) is) (spelled_entries f most es met h.1 h.3 (skips f met e es is all))
-          | Some j ↦ λ is. (let same = parameter_is e.0 j is in
-              let alone = first_only f met e es j same all in
-              on_entry f met (set met (place_of j) (Some (f j))) e bytes h.1 first
-              (ap (λ (p : Option TransportParameterId). met_with met p e.1) is ∙ met_after_again met j e.1 (f j) alone.free alone.spells (most j))
-              (spelled_entries f most es (set met (place_of j) (Some (f j))) h.1 h.3 (meets f met e es j same all)))
-        ] in
+    λ o. elim o as (λ p. parameter_at e.0 ≡ p → ReadsAll f met bytes) [
+      | None ↦ λ is. on_entry f met met e bytes h.1 first (ap (λ (p : Option TransportParameterId). met_with met p e.1) is) (spelled_entries f most es met h.1 h.3 (skips f met e es is all))
+      | Some j ↦ λ is. (let same = parameter_is e.0 j is in
+          let alone = first_only f met e es j same all in
+          on_entry f met (set met (place_of j) (Some (f j))) e bytes h.1 first
+          (ap (λ (p : Option TransportParameterId). met_with met p e.1) is ∙ met_after_again met j e.1 (f j) alone.free alone.spells (most j))
+          (spelled_entries f most es (set met (place_of j) (Some (f j))) h.1 h.3 (meets f met e es j same all)))
+    ] in
     known (parameter_at e.0) refl
 
 values_same : (f g : TransportParameterId → ℕ) → ((k : TransportParameterId) → f k ≡ g k) → values_by f ≡ values_by g
@@ -181,12 +181,12 @@ short v lt =
     elim (cases_Bool (ltb v 64)) [
       | inl a ↦ rw a (omega arith)
       | inr a ↦ rw a (elim (cases_Bool (ltb v 16384)) [
-          | inl b ↦ rw b (omega arith)
-          | inr b ↦ rw b (elim (cases_Bool (ltb v 1073741824)) [
-              | inl c ↦ rw c (omega arith)
-              | inr c ↦ rw c (omega arith)
-            ])
+        | inl b ↦ rw b (omega arith)
+        | inr b ↦ rw b (elim (cases_Bool (ltb v 1073741824)) [
+          | inl c ↦ rw c (omega arith)
+          | inr c ↦ rw c (omega arith)
         ])
+      ])
     ]
 
 entry_spelled : (k : TransportParameterId) (v : ℕ) → v ≤ most_of k → EntrySpells (id_of k, shortest v) (shortest_entry (id_of k) (shortest v))
@@ -305,8 +305,8 @@ written_spells p order h most = record {
   entries = entries_of (value_of p) order;
   spelled = order_spelled p most order;
   says = λ k.
-    let small : value_of p k < 2 ^ 62 = let a = most k in let b = most_below k in omega arith in
-    says_own (entries_of (value_of p) order) k (value_of p k) small _ refl (written_once (value_of p) k order (once k order h));
+      let small : value_of p k < 2 ^ 62 = let a = most k in let b = most_below k in omega arith in
+      says_own (entries_of (value_of p) order) k (value_of p k) small _ refl (written_once (value_of p) k order (once k order h));
 }
 
 -- What is written, in any order, is read again.

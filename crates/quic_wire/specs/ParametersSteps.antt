@@ -78,8 +78,8 @@ enough (suc n) zero met (b ∷ bytes) h k = absurd (omega arith)
 enough (suc n) (suc m) met [] h k = refl
 enough (suc n) (suc m) met (b ∷ bytes) h k =
     bind_same (entry_at (b ∷ bytes)) _ _ (λ e is.
-        let shorter : length e.1 ≤ length (b ∷ bytes) - 1 = entry_shorter (b ∷ bytes) e is in
-        bind_same (met_with met (parameter_at e.0.0) e.0.1) _ _ (λ more _. enough n m more e.1 (omega arith) (omega arith)))
+    let shorter : length e.1 ≤ length (b ∷ bytes) - 1 = entry_shorter (b ∷ bytes) e is in
+    bind_same (met_with met (parameter_at e.0.0) e.0.1) _ _ (λ more _. enough n m more e.1 (omega arith) (omega arith)))
 
 pub met_in_nil : (met : List (Option ℕ)) → met_in met [] ≡ Ok met
 unfolding met_in met_within
@@ -90,8 +90,8 @@ met_in_cons : (met : List (Option ℕ)) (b : ℕ) (bytes : List ℕ)
 unfolding met_in met_within
 met_in_cons met b bytes =
     bind_same (entry_at (b ∷ bytes)) _ _ (λ e is.
-        let shorter : length e.1 ≤ length (b ∷ bytes) - 1 = entry_shorter (b ∷ bytes) e is in
-        bind_same (met_with met (parameter_at e.0.0) e.0.1) _ _ (λ more _. enough (length bytes) (length e.1) more e.1 (omega arith) (omega arith)))
+    let shorter : length e.1 ≤ length (b ∷ bytes) - 1 = entry_shorter (b ∷ bytes) e is in
+    bind_same (met_with met (parameter_at e.0.0) e.0.1) _ _ (λ more _. enough (length bytes) (length e.1) more e.1 (omega arith) (omega arith)))
 
 -- an entry, and the list behind it
 pub met_in_step : (met : List (Option ℕ)) (bytes : List ℕ) → 0 < length bytes
