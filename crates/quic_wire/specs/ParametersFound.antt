@@ -1,21 +1,17 @@
 -- What is read is spelled.
-use Rattle.std.proofs.Common.{◌≡◌, ℕ, zero, suc, ◌+◌, ◌-◌, ◌*◌, ◌^◌, ◌≤◌, ◌<◌, Bool, true, false, cond, ltb, eqb, List, [], ◌∷◌, ◌++◌, length, take, drop, get_or, set, Option, Some, None, Result, Ok, Err, refl, sym, ap, ◌∙◌, inl, inr, ◌⊎◌, arith, subst, append_assoc}
+use Rattle.std.proofs.Common.{◌≡◌, ℕ, zero, suc, ◌+◌, ◌≤◌, Bool, true, false, cond, ltb, eqb, List, [], ◌∷◌, ◌++◌, length, take, drop, set, Option, Some, None, Result, Ok, Err, refl, sym, ap, ◌∙◌, inl, inr, ◌⊎◌, arith, subst, append_assoc}
 use Rattle.std.specs.Prelude.{is_some, unwrap_or}
-use Rattle.std.specs.List.{count_by}
-use Rattle.std.proofs.lemmas.Bool.{cases_eq, cases_lt, cases_Bool, ne_eqb, eq-eqb, eqb-true, eqb-false, le-ltb, ltb-false}
-use Rattle.std.proofs.lemmas.List.{take_at, drop_at, take-append-drop, length-append, length-take, append-nil, get_or-drop, get_or-take, get_or_past, get_or-set_same, get_or-set_other, length-set}
-use Rattle.std.proofs.lemmas.List.Sums.{AllPass-from_list_all, sum_by-cons}
+use Rattle.std.proofs.lemmas.Bool.{cases_eq, cases_lt, eqb-true, ltb-false}
+use Rattle.std.proofs.lemmas.List.{drop_at, take-append-drop, length-take, append-nil, get_or-drop, get_or-take, get_or_past, length-set}
 use Rattle.quic_wire_core.specs.Coding.{IsBytes}
-use Rattle.quic_wire_core.specs.Varint.{Spells, Begins, varint_at, shortest}
-use Rattle.quic_wire_core.specs.Law.{spells_again, shortest_spells, varint_found}
+use Rattle.quic_wire_core.specs.Varint.{Spells, Begins, varint_at}
+use Rattle.quic_wire_core.specs.Law.{varint_found}
 use Rattle.quic_wire.specs.declared.transport_parameters.id.TransportParameterId.{TransportParameterId}
-use Rattle.quic_wire.specs.declared.transport_parameters.id.TransportParameterId.TheVariants.{InitialMaxData, InitialMaxStreamDataBidiLocal, InitialMaxStreamDataBidiRemote, InitialMaxStreamDataUni, InitialMaxStreamsBidi, InitialMaxStreamsUni}
 use Rattle.quic_wire.specs.declared.transport_parameters.error.TransportParametersError.{TransportParametersError}
 use Rattle.quic_wire.specs.declared.transport_parameters.error.TransportParametersError.TheVariants.{Malformed, IllegalValue}
 use Rattle.quic_wire.specs.Parameters.{ParameterValues, id_of, place_of, default_of, most_of, value_of, values_by, AreInRange, EntrySpells, EntriesSpell, standing, Says, ParametersSpell}
 use Rattle.quic_wire.specs.ParametersRead.{◌>>=◌, or_malformed, number_at, entry_at, whole_at, parameter_at, met_at, met_after, met_with, met_within, none_met, met_in, values_met, parameters_at}
-use Rattle.quic_wire.specs.ParametersWritten.{places, IsWriteOrder, parameter_of_place, shortest_entry, written_value, written_place, written_parameters}
-use Rattle.quic_wire.specs.ParametersSteps.{entry_shorter, met_in_step, met_in_nil}
+use Rattle.quic_wire.specs.ParametersSteps.{entry_shorter}
 use Rattle.quic_wire.specs.ParametersTable.{some, parameter_again, none_met_at, parameter_is, same_place, same_id, standing_same, standing_other, met_at_same, met_at_other, default_in_range, value_by}
 
 -- ---- what is read is spelled

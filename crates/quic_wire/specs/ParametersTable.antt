@@ -1,20 +1,13 @@
 -- What the tables of transport parameters say together.
-use Rattle.std.proofs.Common.{◌≡◌, ℕ, zero, suc, ◌+◌, ◌-◌, ◌*◌, ◌^◌, ◌≤◌, ◌<◌, Bool, true, false, cond, ltb, eqb, List, [], ◌∷◌, ◌++◌, length, take, drop, get_or, set, Option, Some, None, Result, Ok, Err, refl, sym, ap, ◌∙◌, inl, inr, ◌⊎◌, arith, subst, append_assoc}
-use Rattle.std.specs.Prelude.{is_some, unwrap_or}
-use Rattle.std.specs.List.{count_by}
-use Rattle.std.proofs.lemmas.Bool.{cases_eq, cases_lt, cases_Bool, ne_eqb, eq-eqb, eqb-true, eqb-false, le-ltb, ltb-false}
-use Rattle.std.proofs.lemmas.List.{take_at, drop_at, take-append-drop, length-append, length-take, append-nil, get_or-drop, get_or-take, get_or_past, get_or-set_same, get_or-set_other, length-set}
-use Rattle.std.proofs.lemmas.List.Sums.{AllPass-from_list_all, sum_by-cons}
-use Rattle.quic_wire_core.specs.Coding.{IsBytes}
-use Rattle.quic_wire_core.specs.Varint.{Spells, Begins, varint_at, shortest}
-use Rattle.quic_wire_core.specs.Law.{spells_again, shortest_spells, varint_found}
+use Rattle.std.proofs.Common.{◌≡◌, ℕ, ◌^◌, ◌≤◌, ◌<◌, Bool, true, false, cond, eqb, List, ◌∷◌, length, set, Option, Some, None, Result, Ok, refl, sym, ap, ◌∙◌, arith}
+use Rattle.std.proofs.lemmas.Bool.{ne_eqb, eq-eqb, eqb-true}
+use Rattle.std.proofs.lemmas.List.{get_or-set_same, get_or-set_other}
 use Rattle.quic_wire.specs.declared.transport_parameters.id.TransportParameterId.{TransportParameterId}
 use Rattle.quic_wire.specs.declared.transport_parameters.id.TransportParameterId.TheVariants.{InitialMaxData, InitialMaxStreamDataBidiLocal, InitialMaxStreamDataBidiRemote, InitialMaxStreamDataUni, InitialMaxStreamsBidi, InitialMaxStreamsUni}
 use Rattle.quic_wire.specs.declared.transport_parameters.error.TransportParametersError.{TransportParametersError}
-use Rattle.quic_wire.specs.declared.transport_parameters.error.TransportParametersError.TheVariants.{Malformed, IllegalValue}
-use Rattle.quic_wire.specs.Parameters.{ParameterValues, id_of, place_of, default_of, most_of, value_of, values_by, AreInRange, EntrySpells, EntriesSpell, standing, Says, ParametersSpell}
-use Rattle.quic_wire.specs.ParametersRead.{◌>>=◌, or_malformed, number_at, entry_at, whole_at, parameter_at, met_at, met_after, met_with, met_within, none_met, met_in, values_met, parameters_at}
-use Rattle.quic_wire.specs.ParametersWritten.{places, IsWriteOrder, parameter_of_place, shortest_entry, written_value, written_place, written_parameters}
+use Rattle.quic_wire.specs.Parameters.{ParameterValues, id_of, place_of, default_of, most_of, value_of, values_by, standing}
+use Rattle.quic_wire.specs.ParametersRead.{parameter_at, met_at, none_met}
+use Rattle.quic_wire.specs.ParametersWritten.{parameter_of_place}
 
 -- ---- the tables of parameters
 
