@@ -3,7 +3,13 @@
 
 pub mod crypto;
 pub mod laws;
-pub mod packet;
+mod packet;
 pub mod plain;
 pub mod reserved;
-pub mod sealing;
+mod sealing;
+
+pub use packet::{
+    ConnectionIdParser, FixedLengthConnectionIdParser, HeaderError, PacketNumber, ShortHeader,
+    TooShort,
+};
+pub use sealing::{Opened, open_packet, seal_packet, seal_reserved, width_in};
