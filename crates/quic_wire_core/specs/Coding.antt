@@ -1,5 +1,5 @@
 -- Reading values from bytes.
-use Rattle.std.specs.Prelude.{◌≡◌, ◌<◌, ◌≤◌, ℕ, List, Option, Some, None, Result, Ok, Err, length, take, drop, get_or}
+use Rattle.std.specs.Prelude.{◌≡◌, ◌<◌, ◌≤◌, ℕ, List, Option, Some, None, Result, Ok, Err, length, take, drop, get_or, nat_lt, if◌then◌else◌}
 use Rattle.std.specs.Int.{Width, byte_len, from_be_bytes}
 
 -- What a decoder answers, and what it leaves unread: the value and what follows it, or a refusal that takes nothing.
@@ -15,3 +15,9 @@ Takes w (Err e) old new = (length old < byte_len w) × (new ≡ old)
 -- Each number of the list is a byte.
 abbrev pub IsBytes : List ℕ → Type 0
 IsBytes bytes = (i : ℕ) → get_or bytes i 0 < 256
+
+-- The big-endian number of this width at the front, and what follows it.
+abbrev pub fixed_at : Width → List ℕ → Option (ℕ × List ℕ)
+fixed_at w bytes =
+    if nat_lt (length bytes) (byte_len w) then None
+    else Some (from_be_bytes w (take (byte_len w) bytes), drop (byte_len w) bytes)

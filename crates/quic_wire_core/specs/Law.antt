@@ -4,7 +4,7 @@ use Rattle.std.specs.Int.{Width, w8, w16, w32, w64, byte_len, from_be_bytes, to_
 use Rattle.std.proofs.lemmas.Bool.{cases_lt, ltb-false, le-ltb, lt-ltb, eqb-true, eqb-false}
 use Rattle.std.proofs.lemmas.List.{take_at, drop_at, take-append-drop, length-append, length-take, get_or-take, get_or_past}
 use Rattle.std.proofs.lemmas.Nat.{from_be_bytes-to_be_bytes_2, from_be_bytes-to_be_bytes_4, from_be_bytes-to_be_bytes_8, be_bytes_2, be_bytes_4, be_bytes_8}
-use Rattle.quic_wire_core.specs.Coding.{IsBytes}
+use Rattle.quic_wire_core.specs.Coding.{IsBytes, fixed_at}
 use Rattle.quic_wire_core.specs.Varint.{varint_at, wide_at, shortest, Spells, Begins}
 
 -- the number of a width is read again
@@ -148,3 +148,56 @@ varint_found bytes v rest h e =
         ]
       ]
     ]
+
+-- Numbers of a fixed width are read again.
+fixed_again : (w : Width) (n : ℕ) (rest : List ℕ) → length (to_be_bytes w n) ≡ byte_len w → from_be_bytes w (to_be_bytes w n) ≡ n → fixed_at w (to_be_bytes w n ++ rest) ≡ Some (n, rest)
+fixed_again w n rest len back =
+    let long : ltb (length (to_be_bytes w n ++ rest)) (byte_len w) ≡ false = le-ltb _ _ (omega (arith, length-append (to_be_bytes w n) rest)) in
+    rw (long, take_at (to_be_bytes w n) rest (byte_len w) len, drop_at (to_be_bytes w n) rest (byte_len w) len, back) refl
+
+-- a byte is read again
+pub fixed_again_8 : (n : ℕ) (rest : List ℕ) → n < 2 ^ 8 → fixed_at w8 (to_be_bytes w8 n ++ rest) ≡ Some (n, rest)
+fixed_again_8 n rest lt =
+    let same : n % 256 ≡ n = omega arith in
+    fixed_again w8 n rest refl (rw same refl)
+
+-- two bytes are read again
+pub fixed_again_16 : (n : ℕ) (rest : List ℕ) → n < 2 ^ 16 → fixed_at w16 (to_be_bytes w16 n ++ rest) ≡ Some (n, rest)
+fixed_again_16 n rest lt = fixed_again w16 n rest refl (from_be_bytes-to_be_bytes_2 n lt)
+
+-- four bytes are read again
+pub fixed_again_32 : (n : ℕ) (rest : List ℕ) → n < 2 ^ 32 → fixed_at w32 (to_be_bytes w32 n ++ rest) ≡ Some (n, rest)
+fixed_again_32 n rest lt = fixed_again w32 n rest refl (from_be_bytes-to_be_bytes_4 n lt)
+
+-- eight bytes are read again
+pub fixed_again_64 : (n : ℕ) (rest : List ℕ) → n < 2 ^ 64 → fixed_at w64 (to_be_bytes w64 n ++ rest) ≡ Some (n, rest)
+fixed_again_64 n rest lt = fixed_again w64 n rest refl (from_be_bytes-to_be_bytes_8 n lt)
+
+-- how long the shortest form is, at most
+shortest_1 : (v : ℕ) → v < 2 ^ 6 → length (shortest v) ≤ 1
+shortest_1 v h = rw (lt-ltb v 64 h) (omega arith)
+
+shortest_2 : (v : ℕ) → v < 2 ^ 14 → length (shortest v) ≤ 2
+shortest_2 v h = elim (cases_lt v 64) [
+  | inl a ↦ (let b = shortest_1 v a in omega arith)
+  | inr a ↦ rw (le-ltb v 64 a, lt-ltb v 16384 h) (omega arith)
+]
+
+shortest_4 : (v : ℕ) → v < 2 ^ 30 → length (shortest v) ≤ 4
+shortest_4 v h = elim (cases_lt v 16384) [
+  | inl a ↦ (let b = shortest_2 v a in omega arith)
+  | inr a ↦ (let n : 64 ≤ v = omega arith in rw (le-ltb v 64 n, le-ltb v 16384 a, lt-ltb v 1073741824 h) (omega arith))
+]
+
+shortest_8 : (v : ℕ) → length (shortest v) ≤ 8
+shortest_8 v = elim (cases_lt v 1073741824) [
+  | inl a ↦ (let b = shortest_4 v a in omega arith)
+  | inr a ↦ (let n : 64 ≤ v = omega arith in let m : 16384 ≤ v = omega arith in rw (le-ltb v 64 n, le-ltb v 16384 m, le-ltb v 1073741824 a) (omega arith))
+]
+
+-- no form is shorter than the shortest
+pub shortest_least : (v : ℕ) (bytes : List ℕ) → Spells v bytes → length (shortest v) ≤ length bytes
+shortest_least v bytes (inl s) = rw s.1 (shortest_1 v s.0)
+shortest_least v bytes (inr (inl s)) = rw s.1 (shortest_2 v s.0)
+shortest_least v bytes (inr (inr (inl s))) = rw s.1 (shortest_4 v s.0)
+shortest_least v bytes (inr (inr (inr s))) = rw s.1 (shortest_8 v)

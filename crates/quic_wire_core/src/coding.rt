@@ -1,7 +1,12 @@
 //! Values that are read from bytes and written to them.
 ghost use Rattle.std.specs.Prelude.{◌≡◌, ℕ, ◌++◌, List, Option, Some, None, OnOk, OnErr};
-ghost use Rattle.quic_wire_core.specs.Coding.{Decodes};
+ghost use Rattle.std.specs.Int.{w8, w16, w32, w64};
+ghost use Rattle.quic_wire_core.specs.Coding.{Decodes, Takes};
 
+use crate::frame_type::FrameType;
+use crate::stream_id::StreamId;
+use crate::transport_error::Code;
+use crate::varint::VarInt;
 use bytes::{Buf, BufMut};
 use std::alloc::AllocError;
 use thiserror::Error;
@@ -35,4 +40,242 @@ pub trait Codec: Sized {
 
     // What was written is read again, whatever follows it.
     ghost again: { (x : Self) (rest : List ℕ) → fits x → reads (spelling x ++ rest) ≡ Some (x, rest) };
+}
+
+/// The big-endian number of 1 byte at the front.
+pub(crate) fn u8_of<B: Buf>(buf: &mut B) -> Result<u8, UnexpectedEnd>
+    ensures { Takes w8 result (B.unread buf.old) (B.unread buf.new) }
+{
+    buf.try_get_u8().map_err(|_| UnexpectedEnd)
+}
+
+/// The big-endian number of 2 bytes at the front.
+pub(crate) fn u16_of<B: Buf>(buf: &mut B) -> Result<u16, UnexpectedEnd>
+    ensures { Takes w16 result (B.unread buf.old) (B.unread buf.new) }
+{
+    buf.try_get_u16().map_err(|_| UnexpectedEnd)
+}
+
+/// The big-endian number of 4 bytes at the front.
+pub(crate) fn u32_of<B: Buf>(buf: &mut B) -> Result<u32, UnexpectedEnd>
+    ensures { Takes w32 result (B.unread buf.old) (B.unread buf.new) }
+{
+    buf.try_get_u32().map_err(|_| UnexpectedEnd)
+}
+
+/// The big-endian number of 8 bytes at the front.
+pub(crate) fn u64_of<B: Buf>(buf: &mut B) -> Result<u64, UnexpectedEnd>
+    ensures { Takes w64 result (B.unread buf.old) (B.unread buf.new) }
+{
+    buf.try_get_u64().map_err(|_| UnexpectedEnd)
+}
+
+/// A single byte.
+impl Codec for u8 {
+    ghost use Rattle.std.specs.Prelude.{◌<◌, ◌^◌};
+    ghost use Rattle.std.specs.Int.{w8, to_be_bytes};
+    ghost use Rattle.quic_wire_core.specs.Coding.{fixed_at};
+    ghost use Rattle.quic_wire_core.specs.Law.{fixed_again_8};
+
+    ghost reads = { fixed_at w8 };
+
+    ghost spelling = { to_be_bytes w8 };
+
+    ghost fits = { λ n. n < 2 ^ 8 };
+
+    ghost again = { fixed_again_8 };
+
+    fn decode<B: Buf>(buf: &mut B) -> Result<u8, UnexpectedEnd> {
+        u8_of(buf)
+    }
+
+    fn encode<B: BufMut>(&self, buf: &mut B) -> Result<(), AllocError> {
+        buf.put_u8(*self)
+    }
+}
+
+/// 2 bytes, the most significant first.
+impl Codec for u16 {
+    ghost use Rattle.std.specs.Prelude.{◌<◌, ◌^◌};
+    ghost use Rattle.std.specs.Int.{w16, to_be_bytes};
+    ghost use Rattle.quic_wire_core.specs.Coding.{fixed_at};
+    ghost use Rattle.quic_wire_core.specs.Law.{fixed_again_16};
+
+    ghost reads = { fixed_at w16 };
+
+    ghost spelling = { to_be_bytes w16 };
+
+    ghost fits = { λ n. n < 2 ^ 16 };
+
+    ghost again = { fixed_again_16 };
+
+    fn decode<B: Buf>(buf: &mut B) -> Result<u16, UnexpectedEnd> {
+        u16_of(buf)
+    }
+
+    fn encode<B: BufMut>(&self, buf: &mut B) -> Result<(), AllocError> {
+        buf.put_u16(*self)
+    }
+}
+
+/// 4 bytes, the most significant first.
+impl Codec for u32 {
+    ghost use Rattle.std.specs.Prelude.{◌<◌, ◌^◌};
+    ghost use Rattle.std.specs.Int.{w32, to_be_bytes};
+    ghost use Rattle.quic_wire_core.specs.Coding.{fixed_at};
+    ghost use Rattle.quic_wire_core.specs.Law.{fixed_again_32};
+
+    ghost reads = { fixed_at w32 };
+
+    ghost spelling = { to_be_bytes w32 };
+
+    ghost fits = { λ n. n < 2 ^ 32 };
+
+    ghost again = { fixed_again_32 };
+
+    fn decode<B: Buf>(buf: &mut B) -> Result<u32, UnexpectedEnd> {
+        u32_of(buf)
+    }
+
+    fn encode<B: BufMut>(&self, buf: &mut B) -> Result<(), AllocError> {
+        buf.put_u32(*self)
+    }
+}
+
+/// 8 bytes, the most significant first.
+impl Codec for u64 {
+    ghost use Rattle.std.specs.Prelude.{◌<◌, ◌^◌};
+    ghost use Rattle.std.specs.Int.{w64, to_be_bytes};
+    ghost use Rattle.quic_wire_core.specs.Coding.{fixed_at};
+    ghost use Rattle.quic_wire_core.specs.Law.{fixed_again_64};
+
+    ghost reads = { fixed_at w64 };
+
+    ghost spelling = { to_be_bytes w64 };
+
+    ghost fits = { λ n. n < 2 ^ 64 };
+
+    ghost again = { fixed_again_64 };
+
+    fn decode<B: Buf>(buf: &mut B) -> Result<u64, UnexpectedEnd> {
+        u64_of(buf)
+    }
+
+    fn encode<B: BufMut>(&self, buf: &mut B) -> Result<(), AllocError> {
+        buf.put_u64(*self)
+    }
+}
+
+/// A stream id, as a variable-length integer.
+impl Codec for StreamId {
+    ghost use Rattle.std.specs.Prelude.{◌<◌, ◌^◌};
+    ghost use Rattle.quic_wire_core.specs.Varint.{varint_at, shortest};
+    ghost use Rattle.quic_wire_core.specs.Law.{shortest_again};
+
+    ghost reads = { varint_at };
+
+    ghost spelling = { shortest };
+
+    ghost fits = { λ v. v < 2 ^ 62 };
+
+    ghost again = { shortest_again };
+
+    fn decode<B: Buf>(buf: &mut B) -> Result<StreamId, UnexpectedEnd> {
+        let v = VarInt::decode(buf)?;
+        Ok(StreamId::from(v))
+    }
+
+    fn encode<B: BufMut>(&self, buf: &mut B) -> Result<(), AllocError> {
+        let id = VarInt::from(*self);
+        id.encode(buf)
+    }
+}
+
+/// The type of a frame, as a variable-length integer.
+impl Codec for FrameType {
+    ghost use Rattle.std.specs.Prelude.{◌<◌, ◌^◌};
+    ghost use Rattle.quic_wire_core.specs.Varint.{varint_at, shortest};
+    ghost use Rattle.quic_wire_core.specs.Law.{shortest_again};
+
+    ghost reads = { varint_at };
+
+    ghost spelling = { shortest };
+
+    ghost fits = { λ v. v < 2 ^ 62 };
+
+    ghost again = { shortest_again };
+
+    fn decode<B: Buf>(buf: &mut B) -> Result<FrameType, UnexpectedEnd> {
+        let v = VarInt::decode(buf)?;
+        Ok(FrameType::from(v))
+    }
+
+    fn encode<B: BufMut>(&self, buf: &mut B) -> Result<(), AllocError> {
+        let ty = VarInt::from(*self);
+        ty.encode(buf)
+    }
+}
+
+/// The code of an error, as a variable-length integer.
+impl Codec for Code {
+    ghost use Rattle.std.specs.Prelude.{◌<◌, ◌^◌};
+    ghost use Rattle.quic_wire_core.specs.Varint.{varint_at, shortest};
+    ghost use Rattle.quic_wire_core.specs.Law.{shortest_again};
+
+    ghost reads = { varint_at };
+
+    ghost spelling = { shortest };
+
+    ghost fits = { λ v. v < 2 ^ 62 };
+
+    ghost again = { shortest_again };
+
+    fn decode<B: Buf>(buf: &mut B) -> Result<Code, UnexpectedEnd> {
+        let v = VarInt::decode(buf)?;
+        Ok(Code::from(v))
+    }
+
+    fn encode<B: BufMut>(&self, buf: &mut B) -> Result<(), AllocError> {
+        let code = VarInt::from(*self);
+        code.encode(buf)
+    }
+}
+
+#[cfg(test)]
+mod tests {
+    use super::*;
+    use std::test::Fail;
+
+    #[test]
+    fn widths_are_big_endian(rt: HostRuntime) -> Result<(), Fail> {
+        let mut out = Vec::new(rt.alloc());
+        1u8.encode(&mut out)?;
+        0x0203u16.encode(&mut out)?;
+        0x0405_0607u32.encode(&mut out)?;
+        0x0809_0a0b_0c0d_0e0fu64.encode(&mut out)?;
+        let wanted: [u8; 15] = [1, 2, 3, 4, 5, 6, 7, 8, 9, 10, 11, 12, 13, 14, 15];
+        assert_eq!(rt; out.as_slice(), wanted.as_slice());
+        let mut rest = out.as_slice();
+        assert_eq!(rt; u8::decode(&mut rest)?, 1);
+        assert_eq!(rt; u16::decode(&mut rest)?, 0x0203);
+        assert_eq!(rt; u32::decode(&mut rest)?, 0x0405_0607);
+        assert_eq!(rt; u64::decode(&mut rest)?, 0x0809_0a0b_0c0d_0e0f);
+        assert_eq!(rt; u8::decode(&mut rest), Err(UnexpectedEnd));
+        Ok(())
+    }
+
+    #[test]
+    fn ids_types_and_codes_are_variable_integers(rt: HostRuntime) -> Result<(), Fail> {
+        let mut out = Vec::new(rt.alloc());
+        StreamId::from(VarInt::from_u32(15_293)).encode(&mut out)?;
+        FrameType::ACK_FREQUENCY.encode(&mut out)?;
+        Code::PROTOCOL_VIOLATION.encode(&mut out)?;
+        let wanted: [u8; 5] = [0x7b, 0xbd, 0x40, 0xaf, 0x0a];
+        assert_eq!(rt; out.as_slice(), wanted.as_slice());
+        let mut rest = out.as_slice();
+        assert_eq!(rt; u64::from(StreamId::decode(&mut rest)?), 15_293);
+        assert_eq!(rt; FrameType::decode(&mut rest)?, FrameType::ACK_FREQUENCY);
+        assert_eq!(rt; Code::decode(&mut rest)?, Code::PROTOCOL_VIOLATION);
+        Ok(())
+    }
 }

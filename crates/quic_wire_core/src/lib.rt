@@ -2,10 +2,16 @@
 #![tactic(auto)]
 
 mod coding;
+mod frame_type;
 pub mod laws;
 mod shared;
+mod stream_id;
+mod transport_error;
 mod varint;
 
 pub use coding::{Codec, UnexpectedEnd};
-pub use shared::ConnectionId;
+pub use frame_type::FrameType;
+pub use shared::{ConnectionId, EcnCodepoint, MAX_CID_SIZE};
+pub use stream_id::{Dir, Side, StreamId};
+pub use transport_error::{Code, TransportError};
 pub use varint::{VarInt, VarIntBoundsExceeded};

@@ -1,0 +1,277 @@
+//! Errors of the transport, which close a connection (RFC 9000, section 20.1).
+ghost use Rattle.std.specs.Prelude.{◌≡◌};
+ghost use Rattle.quic_wire_core.specs.TransportError.{all_codes, error_in, plain_error};
+
+use crate::frame_type::FrameType;
+use crate::varint::VarInt;
+use std::error::Error;
+use std::fmt;
+use std::marker::Model;
+
+/// The code of an error of the transport: a number below 2^62 (RFC 9000, section 20.1; quinn-proto's
+/// `transport_error::Code`).
+///
+/// Contracts see the number.
+#[derive(Clone, Copy, Debug, PartialEq, Eq)]
+pub struct Code(u64);
+
+impl Model for Code {
+    ghost use Rattle.std.specs.Prelude.{ℕ, ◌^◌, ◌<◌};
+
+    ghost Value = { ℕ };
+
+    ghost view = { λ code. code.0 };
+
+    ghost invariant = { λ code. code.0 < 2 ^ 62 };
+
+    ghost inverse = { λ n. record { 0 = n } };
+}
+
+impl Code {
+    /// The connection closes without an error.
+    pub const NO_ERROR: Code = Code(0x00);
+
+    /// The end met an error of its own and cannot go on.
+    pub const INTERNAL_ERROR: Code = Code(0x01);
+
+    /// The server refuses the connection.
+    pub const CONNECTION_REFUSED: Code = Code(0x02);
+
+    /// More data came than a limit allows.
+    pub const FLOW_CONTROL_ERROR: Code = Code(0x03);
+
+    /// A frame is of a stream beyond the number that is allowed.
+    pub const STREAM_LIMIT_ERROR: Code = Code(0x04);
+
+    /// A frame is of a stream whose state does not allow it.
+    pub const STREAM_STATE_ERROR: Code = Code(0x05);
+
+    /// The final size of a stream changes, or data lies beyond it.
+    pub const FINAL_SIZE_ERROR: Code = Code(0x06);
+
+    /// A frame is badly formed.
+    pub const FRAME_ENCODING_ERROR: Code = Code(0x07);
+
+    /// The transport parameters are badly formed.
+    pub const TRANSPORT_PARAMETER_ERROR: Code = Code(0x08);
+
+    /// The peer gives more ids than are allowed.
+    pub const CONNECTION_ID_LIMIT_ERROR: Code = Code(0x09);
+
+    /// An error of the peer that no other code names.
+    pub const PROTOCOL_VIOLATION: Code = Code(0x0a);
+
+    /// A token does not serve.
+    pub const INVALID_TOKEN: Code = Code(0x0b);
+
+    /// The application closes the connection.
+    pub const APPLICATION_ERROR: Code = Code(0x0c);
+
+    /// More bytes of the handshake came than there is room for.
+    pub const CRYPTO_BUFFER_EXCEEDED: Code = Code(0x0d);
+
+    /// An update of keys goes wrong.
+    pub const KEY_UPDATE_ERROR: Code = Code(0x0e);
+
+    /// The keys have sealed or refused as many packets as they may.
+    pub const AEAD_LIMIT_REACHED: Code = Code(0x0f);
+
+    /// No path is left that serves.
+    pub const NO_VIABLE_PATH: Code = Code(0x10);
+
+    /// Each code that has a name here, in the order of their numbers.
+    pub fn all() -> [Code; 17]
+        ensures { result ≡ all_codes }
+    {
+        [
+            Code::NO_ERROR,
+            Code::INTERNAL_ERROR,
+            Code::CONNECTION_REFUSED,
+            Code::FLOW_CONTROL_ERROR,
+            Code::STREAM_LIMIT_ERROR,
+            Code::STREAM_STATE_ERROR,
+            Code::FINAL_SIZE_ERROR,
+            Code::FRAME_ENCODING_ERROR,
+            Code::TRANSPORT_PARAMETER_ERROR,
+            Code::CONNECTION_ID_LIMIT_ERROR,
+            Code::PROTOCOL_VIOLATION,
+            Code::INVALID_TOKEN,
+            Code::APPLICATION_ERROR,
+            Code::CRYPTO_BUFFER_EXCEEDED,
+            Code::KEY_UPDATE_ERROR,
+            Code::AEAD_LIMIT_REACHED,
+            Code::NO_VIABLE_PATH,
+        ]
+    }
+}
+
+impl From<VarInt> for Code {
+    ghost from_gives = { λ v code. code ≡ v };
+
+    fn from(v: VarInt) -> Code {
+        Code(v.into_inner())
+    }
+}
+
+impl From<Code> for VarInt {
+    ghost from_gives = { λ code v. v ≡ code };
+
+    fn from(code: Code) -> VarInt {
+        VarInt::from_u64_unchecked(code.0)
+    }
+}
+
+impl From<Code> for u64 {
+    ghost from_gives = { λ code x. x ≡ code };
+
+    fn from(code: Code) -> u64 {
+        code.0
+    }
+}
+
+/// The name of the code in RFC 9000 or its extensions, or `unknown error N`.
+impl fmt::Display for Code {
+    fn fmt<W: fmt::Write>(&self, f: &mut fmt::Formatter<W>) -> fmt::Result {
+        let name = match self.0 {
+            0x00 => "NO_ERROR",
+            0x01 => "INTERNAL_ERROR",
+            0x02 => "CONNECTION_REFUSED",
+            0x03 => "FLOW_CONTROL_ERROR",
+            0x04 => "STREAM_LIMIT_ERROR",
+            0x05 => "STREAM_STATE_ERROR",
+            0x06 => "FINAL_SIZE_ERROR",
+            0x07 => "FRAME_ENCODING_ERROR",
+            0x08 => "TRANSPORT_PARAMETER_ERROR",
+            0x09 => "CONNECTION_ID_LIMIT_ERROR",
+            0x0a => "PROTOCOL_VIOLATION",
+            0x0b => "INVALID_TOKEN",
+            0x0c => "APPLICATION_ERROR",
+            0x0d => "CRYPTO_BUFFER_EXCEEDED",
+            0x0e => "KEY_UPDATE_ERROR",
+            0x0f => "AEAD_LIMIT_REACHED",
+            0x10 => "NO_VIABLE_PATH",
+            other => return write!(f, "unknown error {other:#x}"),
+        };
+        f.write_str(name)
+    }
+}
+
+/// An error of the transport: its code, the type of the frame that caused it, where one did, and a reason for
+/// people to read (quinn-proto's `transport_error::Error`).
+///
+/// Contracts see the code and the type of the frame.
+#[derive(Clone, Debug, Drop)]
+pub struct TransportError {
+    code: Code,
+    frame: Option<FrameType>,
+    reason: &'static str,
+}
+
+impl Model for TransportError {
+    ghost use Rattle.quic_wire_core.specs.TransportError.{ErrorValue};
+
+    ghost Value = { ErrorValue };
+
+    ghost view = { λ e. record { code = e.code; frame = e.frame } };
+}
+
+impl TransportError {
+    /// An error with this code, the type of the frame that caused it, and this reason.
+    pub fn new(code: Code, frame: Option<FrameType>, reason: &'static str) -> Self
+        ensures { result ≡ error_in code frame }
+    {
+        TransportError {
+            code,
+            frame,
+            reason,
+        }
+    }
+
+    /// What went wrong.
+    pub fn code(&self) -> Code
+        ensures { result ≡ self.now.code }
+    {
+        self.code
+    }
+
+    /// The type of the frame that caused the error, where one did.
+    pub fn frame(&self) -> Option<FrameType>
+        ensures { result ≡ self.now.frame }
+    {
+        self.frame
+    }
+
+    /// What people read about the error.
+    pub fn reason(&self) -> &'static str {
+        self.reason
+    }
+
+    /// The same error again, its reason with it.
+    pub fn copied(&self) -> TransportError
+        ensures { result ≡ self.now }
+    {
+        TransportError {
+            code: self.code,
+            frame: self.frame,
+            reason: self.reason,
+        }
+    }
+}
+
+impl From<Code> for TransportError {
+    ghost from_gives = { λ code e. e ≡ plain_error code };
+
+    /// An error with this code, of no frame, and with an empty reason.
+    fn from(code: Code) -> TransportError {
+        TransportError {
+            code,
+            frame: None,
+            reason: "",
+        }
+    }
+}
+
+/// The code, then the type of the frame, and then the reason, where there are.
+impl fmt::Display for TransportError {
+    fn fmt<W: fmt::Write>(&self, f: &mut fmt::Formatter<W>) -> fmt::Result {
+        let code = self.code;
+        write!(f, "{code}")?;
+        if let Some(frame) = self.frame {
+            write!(f, " in {frame}")?;
+        }
+        if !self.reason.is_empty() {
+            let reason = self.reason;
+            write!(f, ": {reason}")?;
+        }
+        Ok(())
+    }
+}
+
+impl Error for TransportError {}
+
+#[cfg(test)]
+mod tests {
+    use super::*;
+    use std::test::Fail;
+
+    #[test]
+    fn prints_code_frame_and_reason(rt: HostRuntime) -> Result<(), Fail> {
+        let error = TransportError::new(
+            Code::FLOW_CONTROL_ERROR,
+            Some(FrameType::STREAM),
+            "too much data",
+        );
+        let text = format!(in rt.alloc(); "{error}")?;
+        assert_eq!(rt;
+            text.as_str(),
+            "FLOW_CONTROL_ERROR in STREAM: too much data"
+        );
+        assert_eq!(rt; error.copied().reason(), "too much data");
+        let plain = TransportError::from(Code::from(VarInt::from_u32(0x1234)));
+        let text = format!(in rt.alloc(); "{plain}")?;
+        assert_eq!(rt; text.as_str(), "unknown error 0x1234");
+        assert_eq!(rt; plain.frame(), None);
+        assert_eq!(rt; plain.reason(), "");
+        Ok(())
+    }
+}
