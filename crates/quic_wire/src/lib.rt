@@ -3,7 +3,7 @@
 
 pub mod crypto;
 pub mod laws;
-pub mod packet;
+mod packet;
 pub mod plain;
 pub mod reserved;
 pub mod sealing;
@@ -12,3 +12,10 @@ pub mod transport_parameters;
 
 pub use transport_parameters::{TransportParameters, TransportParametersError};
 pub mod frame_laws;
+mod sealing;
+
+pub use packet::{
+    ConnectionIdParser, FixedLengthConnectionIdParser, HeaderError, PacketNumber, ShortHeader,
+    TooShort,
+};
+pub use sealing::{Opened, open_packet, seal_packet, seal_reserved, width_in};
