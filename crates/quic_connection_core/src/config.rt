@@ -2,7 +2,7 @@
 ghost use Rattle.std.specs.Prelude.{◌≡◌, ◌<◌, min, ◌^◌};
 ghost use Rattle.quic_connection_core.specs.Settings.{default_settings};
 
-use quic_wire::transport_parameters::TransportParameters;
+use quic_wire::TransportParameters;
 use quic_wire_core::VarInt;
 use std::marker::Model;
 

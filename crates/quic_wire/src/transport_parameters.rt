@@ -13,6 +13,7 @@ use crate::transport_parameters::id::{PLACES, TransportParameterId};
 use crate::transport_parameters::reading::met_of;
 use crate::transport_parameters::writing::put_parameter;
 pub use error::TransportParametersError;
+pub use id::TransportParameterId;
 use quic_wire_core::{Code, Side, TransportError, VarInt};
 use std::alloc::{AllocError, Global};
 use std::marker::Model;

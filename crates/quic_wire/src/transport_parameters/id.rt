@@ -6,7 +6,7 @@ pub(crate) const PLACES: usize = 13;
 
 /// The transport parameters that are read and written (RFC 9000, section 18.2; quinn-proto's `TransportParameterId`).
 #[derive(Clone, Copy, Debug, PartialEq, Eq)]
-pub(crate) enum TransportParameterId {
+pub enum TransportParameterId {
     InitialMaxData,
     InitialMaxStreamDataBidiLocal,
     InitialMaxStreamDataBidiRemote,
