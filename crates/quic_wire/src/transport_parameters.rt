@@ -9,7 +9,7 @@ pub mod laws;
 mod reading;
 mod writing;
 
-use crate::transport_parameters::id::{PLACES, TransportParameterId};
+use crate::transport_parameters::id::PLACES;
 use crate::transport_parameters::reading::met_of;
 use crate::transport_parameters::writing::put_parameter;
 pub use error::TransportParametersError;
