@@ -7,7 +7,8 @@ use Rattle.std.specs.Map.{lookup}
 use Rattle.std.specs.declared.cmp.Ordering.TheVariants.{Less, Greater}
 use Rattle.std.specs.BTreeMap.{insert_entry, is_at}
 use Rattle.std.proofs.lemmas.Bool.{ltb-true, ltb-false, ne_eqb, eqb-true}
-use Rattle.quic_streams_core.specs.Arrived.{Part, start, AreApart, after, Fits, begins_at, runs_behind, runs_of, touching}
+use Rattle.quic_streams_core.specs.Arrived.{Part, start, AreApart, runs_behind, runs_of}
+use Rattle.quic_streams_core.specs.PartSteps.{after, Fits, begins_at, touching}
 
 pub filled_apart : (low at : ℕ) (ps : List Part) (bs : List ℕ) → AreApart low ps → low ≤ at → 0 < length bs → at + length bs < 2 ^ 62 → Fits (at + length bs) (after at ps) → AreApart low (insert_entry nat_cmp ps (at + length bs) bs)
 filled_apart low at [] bs h m l s f = (omega arith, l, s)
@@ -141,3 +142,12 @@ put_runs low at runs touches joins ps ns bs part h m l f j r t e is =
     let sum = filled_runs low at ps bs h m l f in
     let whole : touches ≡ touching ps at (at + length bs) = t ∙ ap (λ b. cond (is_some (lookup (is_at (nat_cmp at)) ps)) 1 0 + cond b 1 0) j in
     rw (is, e, r) (omega arith)
+
+-- what is read lies below the greatest offset
+pub low_small : (low : ℕ) (ps : List Part) → AreApart low ps → low < 2 ^ 62
+low_small low [] h = h
+low_small low (p ∷ ps) h =
+    let big = h.0 in
+    let full = h.1 in
+    let k = low_small p.0 ps h.2 in
+    omega arith

@@ -9,7 +9,8 @@ use Rattle.std.specs.BTreeMap.{is_at}
 use Rattle.std.specs.Map.{set_value, lookup}
 use Rattle.std.proofs.lemmas.Map.Steps.{set_value_same}
 use Rattle.std.proofs.lemmas.Bool.{eq-eqb, lt-ltb, le-ltb}
-use Rattle.quic_streams_core.specs.Arrived.{Part, AreApart, after}
+use Rattle.quic_streams_core.specs.Arrived.{Part, AreApart}
+use Rattle.quic_streams_core.specs.PartSteps.{after}
 
 -- the head of a filter is the first that passes
 pub after_filter : (p : Part → Bool) (at : ℕ) → ((x : Part) → p x ≡ ltb at x.0) → (es : List Part) (x : Part) (rest : List Part) → filter p es ≡ x ∷ rest → after at es ≡ Some x

@@ -2,3 +2,4 @@ pub mod First
 pub mod Steps
 pub mod Filled
 pub mod Bytes
+pub mod Claims

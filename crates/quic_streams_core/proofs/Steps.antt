@@ -6,7 +6,8 @@ use Rattle.std.specs.declared.cmp.Ordering.TheVariants.{Less, Greater}
 use Rattle.std.specs.BTreeMap.{insert_entry}
 use Rattle.std.proofs.lemmas.List.{drop_all}
 use Rattle.std.proofs.lemmas.Bool.{ltb-true, ltb-false}
-use Rattle.quic_streams_core.specs.Arrived.{Part, start, AreApart, after, with_gaps, with_part, gap_at, is_held, held_at, Fits}
+use Rattle.quic_streams_core.specs.Arrived.{Part, start, AreApart, with_gaps, with_part}
+use Rattle.quic_streams_core.specs.PartSteps.{after, gap_at, is_held, held_at, Fits}
 
 take_none : (n : ℕ) → take {A = ℕ} n [] ≡ []
 take_none n = take_all n [] (omega arith)
@@ -168,9 +169,9 @@ filled_is low at ps bs h l f =
     let all : take (length bs) bs ≡ bs = take_all (length bs) bs (omega arith) in
     let none : drop (length bs) bs ≡ [] = drop_all (length bs) bs (omega arith) in
     fills low at (length bs) ps bs h l (gap_fits at (length bs) (after at ps) f)
-        ∙ ap (λ r. with_gaps (insert_entry nat_cmp ps (at + length bs) (take (length bs) bs)) (at + length bs) r) none
-        ∙ none_left (insert_entry nat_cmp ps (at + length bs) (take (length bs) bs)) (at + length bs)
-        ∙ ap (λ r. insert_entry nat_cmp ps (at + length bs) r) all
+    ∙ ap (λ r. with_gaps (insert_entry nat_cmp ps (at + length bs) (take (length bs) bs)) (at + length bs) r) none
+    ∙ none_left (insert_entry nat_cmp ps (at + length bs) (take (length bs) bs)) (at + length bs)
+    ∙ ap (λ r. insert_entry nat_cmp ps (at + length bs) r) all
 
 -- a gap that is filled with the first n bytes, as the call says it
 pub put_gaps : (low at len n : ℕ) (ps ns : List Part) (bs : List ℕ) (held : Bool) → AreApart low ps → 0 < length bs → held ≡ is_held at (after at ps) → held ≡ false → n ≡ cond held (held_at at len (after at ps)) (gap_at at len (after at ps)) → len ≡ length bs → ns ≡ insert_entry nat_cmp ps (at + length (take n bs)) (take n bs) → with_gaps ps at bs ≡ with_gaps ns (at + n) (drop n bs)

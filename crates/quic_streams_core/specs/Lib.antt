@@ -1,3 +1,4 @@
 pub mod Arrived
-pub mod Inside
 pub mod Buffered
+pub mod PartSteps
+pub mod Inside

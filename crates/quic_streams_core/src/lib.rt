@@ -3,5 +3,7 @@
 #![tactic(auto)]
 
 mod connection;
+pub mod laws;
 
 pub use connection::assembler::{Assembler, Chunk};
+pub use connection::send_buffer::SendBuffer;

@@ -4,7 +4,8 @@ ghost use Rattle.std.specs.Option.{option_map};
 ghost use Rattle.std.specs.Map.{lookup};
 ghost use Rattle.std.specs.BTreeMap.{insert_entry, is_at};
 ghost use Rattle.std.specs.Ordering.{nat_cmp};
-ghost use Rattle.quic_streams_core.specs.Arrived.{Arrived, IsLawful, AreApart, Keeps, byte_at, runs_of, with_gaps, after_insert, is_next, given, after_read, cuts, whole_first, after_first, after, span_of, is_held, held_at, gap_at, begins_at, Fits};
+ghost use Rattle.quic_streams_core.specs.Arrived.{Arrived, IsLawful, AreApart, Keeps, byte_at, runs_of, with_gaps, after_insert, is_next, given, after_read, cuts};
+ghost use Rattle.quic_streams_core.specs.PartSteps.{whole_first, after_first, after, span_of, is_held, held_at, gap_at, begins_at, Fits};
 
 use bytes::Bytes;
 use std::alloc::{AllocError, Global};
@@ -12,7 +13,7 @@ use std::collections::BTreeMap;
 use std::marker::Model;
 
 /// Bytes of a stream, with the offset of the first, as quinn-proto's `Chunk`.
-#[derive(Debug, Drop)]
+#[derive(Drop)]
 pub struct Chunk {
     /// The offset in the stream of the first byte.
     pub offset: u64,
@@ -126,6 +127,7 @@ impl Assembler {
     /// The offset up to which ordered reads have come.
     pub fn bytes_read(&self) -> u64
         ensures value { result ≡ self.now.read }
+        ensures small { result < 2 ^ 62 }
         ensures lawful { IsLawful self.now }
     {
         let _ = &self.parts;
@@ -247,9 +249,82 @@ impl Assembler {
             Some(bytes) => {
                 let front = bytes.split_to(max)?;
                 self.read += max as u64;
-                Ok(Some(Chunk { offset, bytes: front }))
+                Ok(Some(Chunk {
+                    offset,
+                    bytes: front,
+                }))
             }
             None => Ok(None),
         }
+    }
+
+    /// Drops what waits.
+    pub fn clear(&mut self)
+        ensures { self.new ≡ record self.old { parts = [] } }
+    {
+        self.parts.clear();
+        self.runs = 0;
+    }
+}
+
+#[cfg(test)]
+mod tests {
+    use super::*;
+    use std::test::Fail;
+
+    #[test]
+    fn first_bytes_stand(rt: HostRuntime) -> Result<(), Fail> {
+        let mut assembler = Assembler::new(rt.alloc());
+        assembler.insert(0, b"123")?;
+        assembler.insert(1, b"234")?;
+        assert_eq!(rt; assembler.runs(), 1);
+        let first = assembler.read(32)?.expect(&rt, "three bytes wait");
+        assert_eq!(rt; first.offset, 0);
+        assert_eq!(rt; first.bytes.as_slice(), b"123".as_slice());
+        let second = assembler.read(32)?.expect(&rt, "a byte waits");
+        assert_eq!(rt; second.offset, 3);
+        assert_eq!(rt; second.bytes.as_slice(), b"4".as_slice());
+        assert!(rt; assembler.read(32)?.is_none());
+        assert_eq!(rt; assembler.bytes_read(), 4);
+        Ok(())
+    }
+
+    #[test]
+    fn a_read_cuts_a_part(rt: HostRuntime) -> Result<(), Fail> {
+        let mut assembler = Assembler::new(rt.alloc());
+        assembler.insert(2, b"34")?;
+        assert!(rt; !assembler.has_next());
+        assert!(rt; assembler.read(1)?.is_none());
+        assembler.insert(0, b"12")?;
+        assert!(rt; assembler.has_next());
+        let nothing = assembler.read(0)?.expect(&rt, "a byte waits");
+        assert_eq!(rt; nothing.bytes.len(), 0);
+        let front = assembler.read(1)?.expect(&rt, "a byte waits");
+        assert_eq!(rt; front.bytes.as_slice(), b"1".as_slice());
+        assembler.insert(0, b"xyzv5")?;
+        let rest = assembler.read(9)?.expect(&rt, "a byte waits");
+        assert_eq!(rt; rest.bytes.as_slice(), b"2".as_slice());
+        let next = assembler.read(9)?.expect(&rt, "a byte waits");
+        assert_eq!(rt; next.bytes.as_slice(), b"34".as_slice());
+        let last = assembler.read(9)?.expect(&rt, "a byte waits");
+        assert_eq!(rt; last.bytes.as_slice(), b"5".as_slice());
+        Ok(())
+    }
+
+    #[test]
+    fn runs_are_counted(rt: HostRuntime) -> Result<(), Fail> {
+        let mut apart = Assembler::new(rt.alloc());
+        for place in 0..2049u64 {
+            apart.insert(2 * place + 1, b"x")?;
+        }
+        assert_eq!(rt; apart.runs(), 2049);
+        apart.clear();
+        assert_eq!(rt; apart.runs(), 0);
+        let mut ordered = Assembler::new(rt.alloc());
+        for offset in 0..1000u64 {
+            ordered.insert(offset, b"x")?;
+        }
+        assert_eq!(rt; ordered.runs(), 1);
+        Ok(())
     }
 }

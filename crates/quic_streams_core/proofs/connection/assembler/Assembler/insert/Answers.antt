@@ -1,8 +1,8 @@
-use Rattle.std.proofs.Common.{refl, sym, ap, subst, ◌∙◌, ◌≡◌, length, drop, ◌+◌, ◌-◌, max, arith}
+use Rattle.std.proofs.Common.{refl, sym, ap, ◌∙◌, ◌+◌}
 use Rattle.std.proofs.lemmas.List.{drop_all}
-use Rattle.quic_streams_core.specs.Arrived.{Arrived, Part, with_gaps, Keeps, after_insert}
+use Rattle.quic_streams_core.specs.Arrived.{with_gaps}
 use Rattle.quic_streams_core.proofs.Steps.{none_left}
-use Rattle.quic_streams_core.proofs.Bytes.{gaps_keep, after_keeps}
+use Rattle.quic_streams_core.proofs.Bytes.{after_keeps}
 use Rattle.quic_streams_core.proofs.connection.assembler.Assembler.insert.Goals as goal
 
 pub returns-in_err-taken-clause-within : goal.returns-in_err-taken-clause-within

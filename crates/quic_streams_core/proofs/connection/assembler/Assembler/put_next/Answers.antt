@@ -1,7 +1,7 @@
-use Rattle.std.proofs.Common.{refl, sym, ap, subst, ◌∙◌, ◌≡◌, length, take, drop, ◌+◌}
+use Rattle.std.proofs.Common.{refl, sym, ap, ◌∙◌, length, take, ◌+◌}
 use Rattle.std.specs.BTreeMap.{insert_entry}
 use Rattle.std.specs.Ordering.{nat_cmp}
-use Rattle.quic_streams_core.specs.Arrived.{Arrived, with_gaps, Keeps}
+use Rattle.quic_streams_core.specs.Arrived.{Arrived}
 use Rattle.quic_streams_core.proofs.Steps.{some_taken, held_gaps, put_gaps, put_is}
 use Rattle.quic_streams_core.proofs.Bytes.{after_keeps}
 use Rattle.quic_streams_core.proofs.connection.assembler.Assembler.put_next.Goals as goal

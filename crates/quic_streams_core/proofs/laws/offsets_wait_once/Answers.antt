@@ -1,0 +1,8 @@
+use Rattle.quic_streams_core.proofs.Claims.{waits_above, count_once}
+use Rattle.quic_streams_core.proofs.laws.offsets_wait_once.Goals as goal
+
+pub returns-clause-above : goal.returns-clause-above
+returns-clause-above c = λ a o h w. waits_above a.read o a.parts h w
+
+pub returns-clause-once : goal.returns-clause-once
+returns-clause-once c = λ a o h. count_once a.read o a.parts h
