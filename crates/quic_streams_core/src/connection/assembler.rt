@@ -13,7 +13,7 @@ use std::collections::BTreeMap;
 use std::marker::Model;
 
 /// Bytes of a stream, with the offset of the first, as quinn-proto's `Chunk`.
-#[derive(Drop)]
+#[derive(Debug, Drop)]
 pub struct Chunk {
     /// The offset in the stream of the first byte.
     pub offset: u64,
