@@ -1,4 +1,15 @@
-//! One end of a QUIC connection.
+//! One end of a QUIC connection as a deterministic state machine: datagrams, moments and application calls in,
+//! datagrams and read bytes out; and runs of two ends over a network.
 #![tactic(auto)]
 
 mod streams;
+mod config;
+mod connection;
+
+pub use config::Config;
+pub use quic_connection_core::{
+    Answer, Call, ConfigError, Delivery, DropReason, EndView, Failed, FinishError, Instant,
+    LostReason, Nexts, ReadCall, ReadError, ReadableError, Received, RunEvent, State, Transmit,
+    TransportConfig, View, WriteError,
+};
+pub use quic_streams_core::Chunk;

@@ -25,3 +25,8 @@ first_ids own theirs = record {
 -- an id that a datagram may be sent to: one whose bytes a living number has
 abbrev pub known : Ids → List (List ℕ)
 known ids = map (λ i. i.id) ids.living
+
+-- the first of numbered ids
+abbrev pub own_id : List NumberedId → List ℕ
+own_id [] = []
+own_id (i ∷ is) = i.id

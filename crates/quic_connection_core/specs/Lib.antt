@@ -5,7 +5,6 @@ pub mod Closing
 pub mod Ids
 pub mod Numbers
 pub mod Parts
-pub mod Buffering
 pub mod Sending
 pub mod Receiving
 pub mod End

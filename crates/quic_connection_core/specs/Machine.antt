@@ -19,7 +19,6 @@ use Rattle.quic_connection_core.specs.declared.run.EndView.{EndView}
 use Rattle.quic_connection_core.specs.declared.run.View.{View}
 use Rattle.quic_connection_core.specs.Policy.{Policy}
 use Rattle.quic_connection_core.specs.End.{End}
-use Rattle.quic_connection_core.specs.Closing.{failed}
 use Rattle.quic_connection_core.specs.Sending.{finish_answer}
 use Rattle.quic_connection_core.specs.Receiving.{read_answer}
 use Rattle.quic_connection_core.specs.Calls.{open_answer, after_open, end_accepts, end_after_accept, end_writes, end_after_write, end_after_finish, AreNexts, after_nexts}
@@ -77,7 +76,7 @@ fails a = false
 
 -- the end that a call leaves: of one that failed, only that it has
 abbrev pub IsLeft : Bool → Policy → End → List (List ℕ) → Call → Answer → End → Type 0
-IsLeft true p e theirs call a next = next.closing ≡ failed e.closing
+IsLeft true p e theirs call a next = (next.closing.state ≡ states.Failed) × (next.closing.reason ≡ None)
 IsLeft false p e theirs call a next = next ≡ after_call p e theirs call a
 
 -- ---- two ends

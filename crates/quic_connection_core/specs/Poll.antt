@@ -1,5 +1,5 @@
 -- What an end gives when it is polled (RFC 9000, sections 12.2, 13.3 and 14.1).
-use Rattle.std.specs.Prelude.{ℕ, ◌+◌, ◌-◌, ◌≡◌, Bool, true, false, ◌==◌, ◌&&◌, not, if◌then◌else◌, List, [], ◌∷◌, ◌++◌, length, replicate, Option, Some, None, Result, Ok, Err}
+use Rattle.std.specs.Prelude.{ℕ, ◌+◌, ◌-◌, ◌≡◌, Bool, true, false, ◌==◌, ◌&&◌, not, if◌then◌else◌, List, [], ◌∷◌, ◌++◌, length, replicate, slice_range, Option, Some, None, Result, Ok, Err}
 use Rattle.quic_wire_core.specs.declared.shared.EcnCodepoint.{EcnCodepoint}
 use Rattle.quic_wire_core.specs.declared.shared.EcnCodepoint.TheVariants.{Ect0}
 use Rattle.quic_wire.specs.Number.{truncated}
@@ -7,8 +7,7 @@ use Rattle.quic_wire.specs.Value.{FrameValue, StreamValue, padding, stream}
 use Rattle.quic_wire.specs.Writing.{stream_spelling, width_of}
 use Rattle.quic_wire.specs.Grammar.{Payload}
 use Rattle.quic_wire.specs.Datagram.{sent}
-use Rattle.quic_streams_core.specs.Buffered.{Buffered, writes_length}
-use Rattle.quic_connection_core.specs.Buffering.{sent_range, after_poll, slice}
+use Rattle.quic_streams_core.specs.Buffered.{Buffered, sent_end, writes_length}
 use Rattle.quic_connection_core.specs.declared.answers.State.{State}
 use Rattle.quic_connection_core.specs.declared.answers.Failed.{Failed}
 use Rattle.quic_connection_core.specs.declared.answers.Transmit.{Transmit}
@@ -38,15 +37,19 @@ abbrev pub first_pending : Table SendHalf → Option (ℕ × SendHalf)
 first_pending [] = None
 first_pending (e ∷ es) = if has_pending e.1 then Some e else first_pending es
 
+-- whether a frame up to an offset has the end: that of a finished half that reaches its final size
+abbrev pub reaches_end : SendHalf → ℕ → Bool
+reaches_end h end = h.finished && (end == written_on h)
+
 -- the frame that a half sends where so many bytes are left behind type and id
 abbrev pub frame_of : ℕ → SendHalf → ℕ → StreamValue
 frame_of id h room =
-    let range = sent_range h.buffer room in
-    record { id = id; offset = range.start; fin = h.finished && (range.end == written_on h); bytes = slice h.buffer range }
+    let end = sent_end h.buffer room in
+    record { id = id; offset = h.buffer.unsent; fin = reaches_end h end; bytes = slice_range h.buffer.kept (h.buffer.unsent - h.buffer.base) (end - h.buffer.base) }
 
 -- the half after that frame went
 abbrev pub half_after : SendHalf → ℕ → SendHalf
-half_after h room = record h { buffer = after_poll h.buffer room; end_waits = h.end_waits && not (h.finished && ((sent_range h.buffer room).end == written_on h)) }
+half_after h room = record h { buffer = record h.buffer { unsent = sent_end h.buffer room }; end_waits = h.end_waits && not (reaches_end h (sent_end h.buffer room)) }
 
 -- number and payload have four bytes at least, so that the sample stands in the datagram (RFC 9001, section 5.4.2)
 abbrev pub padded : ℕ → List ℕ → List ℕ

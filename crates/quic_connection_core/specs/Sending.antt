@@ -1,5 +1,5 @@
 -- The sending halves of the streams of an end (RFC 9000, sections 2, 3.1 and 4).
-use Rattle.std.specs.Prelude.{ℕ, ◌+◌, ◌-◌, ◌*◌, min, Bool, true, false, nat_lt, ◌==◌, ◌&&◌, ◌||◌, not, if◌then◌else◌, List, [], ◌∷◌, length, take, Option, Some, None, is_some, Result, Ok, Err}
+use Rattle.std.specs.Prelude.{ℕ, ◌+◌, ◌-◌, ◌*◌, min, Bool, true, false, nat_lt, ◌==◌, ◌&&◌, ◌||◌, not, if◌then◌else◌, List, [], ◌∷◌, ◌++◌, length, take, Option, Some, None, is_some, Result, Ok, Err}
 use Rattle.std.specs.List.{sum_by}
 use Rattle.std.specs.Map.{values_of}
 use Rattle.quic_wire_core.specs.declared.stream_id.Side.{Side}
@@ -7,8 +7,7 @@ use Rattle.quic_wire_core.specs.declared.stream_id.Dir.{Dir}
 use Rattle.quic_wire_core.specs.declared.stream_id.Dir.TheVariants.{Bi, Uni}
 use Rattle.quic_wire_core.specs.declared.stream_id.Side.TheVariants.{Client, Server}
 use Rattle.quic_wire_core.specs.StreamId.{stream_id}
-use Rattle.quic_streams_core.specs.Buffered.{Buffered}
-use Rattle.quic_connection_core.specs.Buffering.{empty_buffer, after_write}
+use Rattle.quic_streams_core.specs.Buffered.{Buffered, written}
 use Rattle.quic_connection_core.specs.Table.{Table, at, put, added}
 use Rattle.quic_connection_core.specs.declared.answers.WriteError.{WriteError}
 use Rattle.quic_connection_core.specs.declared.answers.WriteError.TheVariants as write_errors
@@ -39,7 +38,7 @@ pub record Sending : Type 0 where
 
 -- how many bytes were written on a half
 abbrev pub written_on : SendHalf → ℕ
-written_on h = h.buffer.base + length h.buffer.kept
+written_on h = written h.buffer
 
 -- the bytes that are buffered on all streams
 abbrev pub buffered : Sending → ℕ
@@ -82,7 +81,7 @@ first_limit Uni s = s.first_limit_uni
 
 -- a half on which nothing was written
 abbrev pub new_half : ℕ → SendHalf
-new_half limit = record { buffer = empty_buffer; finished = false; end_waits = false; limit = limit }
+new_half limit = record { buffer = record { base = 0; kept = []; unsent = 0 }; finished = false; end_waits = false; limit = limit }
 
 abbrev pub one_more : Dir → Sending → Sending
 one_more Bi s = record s { opened_bi = s.opened_bi + 1 }
@@ -112,7 +111,7 @@ write_answer false s id len = Err write_errors.Blocked
 
 -- these bytes go behind those that were written on a half
 abbrev pub grown : SendHalf → List ℕ → SendHalf
-grown h bytes = record h { buffer = after_write h.buffer bytes }
+grown h bytes = record h { buffer = record h.buffer { kept = h.buffer.kept ++ bytes } }
 
 abbrev pub grown_at : Option SendHalf → Table SendHalf → ℕ → List ℕ → Table SendHalf
 grown_at None halves id bytes = halves

@@ -1,5 +1,6 @@
 -- The settings of an end.
 use Rattle.std.specs.Prelude.{ℕ}
+use Rattle.quic_wire.specs.Parameters.{ParameterValues}
 
 -- what an end offers its peer (RFC 9000, section 4), and how much it buffers
 pub record Settings : Type 0 where
@@ -21,4 +22,15 @@ default_settings = record {
   send_window = 10000000;
   max_bidi = 100;
   max_uni = 100;
+}
+
+-- what the peer is told of the settings (RFC 9000, section 18.2): every stream has the same window
+abbrev pub parameters_of : Settings → ParameterValues
+parameters_of s = record {
+  initial_max_data = s.receive_window;
+  initial_max_stream_data_bidi_local = s.stream_receive_window;
+  initial_max_stream_data_bidi_remote = s.stream_receive_window;
+  initial_max_stream_data_uni = s.stream_receive_window;
+  initial_max_streams_bidi = s.max_bidi;
+  initial_max_streams_uni = s.max_uni;
 }

@@ -1,7 +1,8 @@
 //! What an end offers its peer, and how much it buffers.
-ghost use Rattle.std.specs.Prelude.{◌≡◌, min, ◌^◌};
+ghost use Rattle.std.specs.Prelude.{◌≡◌, ◌<◌, min, ◌^◌};
 ghost use Rattle.quic_connection_core.specs.Settings.{default_settings};
 
+use quic_wire::TransportParameters;
 use quic_wire_core::VarInt;
 use std::marker::Model;
 
@@ -86,6 +87,42 @@ impl TransportConfig {
         self
     }
 
+}
+
+impl TransportConfig {
+    ghost use Rattle.quic_wire.specs.Parameters.{AreInRange};
+    ghost use Rattle.quic_connection_core.specs.Settings.{parameters_of};
+
+    /// What the peer is told of these settings (RFC 9000, section 18.2).
+    pub fn transport_parameters(&self) -> TransportParameters
+        ensures value { result ≡ parameters_of self.now }
+        ensures in_range { AreInRange (parameters_of self.now) }
+    {
+        let stream_window = bounded(self.stream_receive_window);
+        TransportParameters {
+            initial_max_data: bounded(self.receive_window),
+            initial_max_stream_data_bidi_local: stream_window,
+            initial_max_stream_data_bidi_remote: stream_window,
+            initial_max_stream_data_uni: stream_window,
+            initial_max_streams_bidi: self.max_concurrent_bidi_streams,
+            initial_max_streams_uni: self.max_concurrent_uni_streams,
+        }
+    }
+
+    /// How many bytes may be written that the peer hasn't acknowledged.
+    pub fn get_send_window(&self) -> u64
+        ensures { result ≡ self.now.send_window }
+    {
+        self.send_window
+    }
+}
+
+/// The value, of which the bound is seen.
+fn bounded(value: VarInt) -> VarInt
+    ensures same { result ≡ value }
+    ensures bound { value < 2 ^ 62 }
+{
+    VarInt::from_u64_unchecked(value.into_inner())
 }
 
 fn at_most_streams(value: VarInt) -> VarInt

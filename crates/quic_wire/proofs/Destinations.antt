@@ -12,14 +12,17 @@ use Rattle.quic_wire.specs.Destination.{accepted, KnownIsMember, SentIsDecoded, 
 use Rattle.quic_wire.proofs.Numbers.{fewest}
 use Rattle.quic_wire.proofs.Opening.{length_of_bytes}
 
+-- the test of known ids is membership
 pub known_is_member : KnownIsMember
 known_is_member id known = (Contains-from_any (λ x y e. (bytes_eq-Decides x y).0 e) id known, list_any-from_Contains nat_list_eq_equiv id known)
 
+-- an id in front is found
 pub fixed_length_finds : FixedLengthFinds
 fixed_length_finds id rest =
     let long : nat_le (length id) (length (id ++ rest)) ≡ true = le-leb _ _ (omega (arith, length-append id rest)) in
     rw (long, take_at id rest (length id) refl) refl
 
+-- what was sent is decoded to its id
 pub sent_is_decoded : SentIsDecoded
 sent_is_decoded mask hide seal form keeps adds parsed known n acked id p finds near four =
     let t = truncated n acked in

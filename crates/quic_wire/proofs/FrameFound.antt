@@ -100,8 +100,8 @@ block_found : (k : ℕ) (all ns bytes : List ℕ) → Sofar all ns bytes → Hol
 unfolding block_at
 block_found k all ns bytes s =
     guard _ (ltb (length bytes) k) UnexpectedEnd (Ok (take k bytes, drop k bytes)) (λ long.
-        let len : length (take k bytes) ≡ k = omega (arith, length-take k bytes, ltb-false _ _ long) in
-        record { is = (with_text all ns (take k bytes) (drop k bytes) k bytes s refl refl, len) })
+    let len : length (take k bytes) ≡ k = omega (arith, length-take k bytes, ltb-false _ _ long) in
+    record { is = (with_text all ns (take k bytes) (drop k bytes) k bytes s refl refl, len) })
 
 sized_found : (all ns bytes : List ℕ) → Sofar all ns bytes → Holds (λ x. SofarThen all (ns ++ length x.0 ∷ []) x.0 x.1) (sized_at bytes)
 unfolding sized_at

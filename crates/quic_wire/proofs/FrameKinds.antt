@@ -83,7 +83,7 @@ kind_of_type is_ack_frequency h = refl
 kind_of_type (is_unknown type) h = absurd h
 
 at : (P : ℕ → Type 0) (type n : ℕ) → P n → (¬ (type ≡ n) → P type) → P type
-at P type n here there = elim (cases_eq type n) [ | inl e ↦ subst P (sym e) here | inr ne ↦ there ne ]
+at P type n here there = elim (cases_eq type n) [ inl e ↦ subst P (sym e) here | inr ne ↦ there ne ]
 
 StreamKind : ℕ → Type 0
 StreamKind type = kind_of type ≡ is_stream (has_bit type 4) (has_bit type 2) (has_bit type 1)

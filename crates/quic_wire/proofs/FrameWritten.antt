@@ -131,10 +131,12 @@ stream_form sized s rest h ends = record {
   sized = sized;
   offset = offset_fits_if s.offset (eqb s.offset 0) refl;
   ends = ends;
-  text = (stream_header sized s,
-      written_numbers (stream_numbers (has_offset s.offset) sized s)
-      (type_small (has_offset s.offset) sized s.fin, (h.0, AreNumbers-append (offset_numbers (has_offset s.offset) s.offset) (length_numbers sized s.bytes) (offset_small (has_offset s.offset) s.offset h.1) (length_small sized s.bytes h.2))),
-      refl);
+  text = (
+    stream_header sized s,
+    written_numbers (stream_numbers (has_offset s.offset) sized s)
+        (type_small (has_offset s.offset) sized s.fin, (h.0, AreNumbers-append (offset_numbers (has_offset s.offset) s.offset) (length_numbers sized s.bytes) (offset_small (has_offset s.offset) s.offset h.1) (length_small sized s.bytes h.2))),
+    refl,
+  );
 }
 
 -- a frame that is written is a form, whatever follows it

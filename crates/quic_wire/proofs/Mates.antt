@@ -16,10 +16,12 @@ use Rattle.quic_wire.specs.PlainLaw.{number_length, adds_tag}
 xor_twice : (a m : ℕ) → bit_xor (bit_xor a m) m ≡ a
 xor_twice a m = xor_assoc a m m ∙ rw (xor_self m) (xor_zero_r a)
 
+-- so it is for bytes
 xored_twice : (y m : List ℕ) → xored (xored y m) m ≡ y
 xored_twice [] m = refl
 xored_twice (b ∷ bs) m = rw (xor_twice b (slice_index m 0), xored_twice bs (drop 1 m)) refl
 
+-- masking by the sample is its own mate
 pub header_mate : IsHeaderMate mask_first mask_number mask_first mask_number
 header_mate = record {
   first = λ s b lt. xor_twice b (slice_index s 0 % 32);
@@ -27,6 +29,7 @@ header_mate = record {
   length = number_length;
 }
 
+-- whether two lists are the same
 abbrev same : List ℕ → List ℕ → Bool
 same xs ys = pointwise nat_eq xs ys
 
@@ -41,6 +44,7 @@ tags_differ mark m n true small lt ne e =
     absurd (ne (sym equal))
 tags_differ mark m n false small lt ne e = refl
 
+-- the packet keys of one mark are mates
 pub plain_mate : (mark : ℕ) → IsMate (plain_sealed mark) (plain_opened mark)
 plain_mate mark = record {
   opens_its = λ n h p lt.

@@ -1,8 +1,9 @@
 -- The fewest bytes of a number, and its expansion by the definition.
-use Rattle.std.proofs.Common.{◌≡◌, ℕ, zero, suc, ◌+◌, ◌-◌, ◌*◌, ◌%◌, ◌^◌, ◌<◌, ◌≤◌, arith, inl, inr}
+use Rattle.std.proofs.Common.{◌≡◌, ℕ, zero, suc, ◌+◌, ◌-◌, ◌*◌, ◌/◌, ◌%◌, ◌^◌, ◌<◌, ◌≤◌, arith, inl, inr}
 use Rattle.std.proofs.lemmas.Bool.{cases_lt, le-ltb, lt-ltb}
-use Rattle.quic_wire.specs.Number.{Truncated, window, width_for, IsFewest, expanded, IsExpansion, NewestOpens}
+use Rattle.quic_wire.specs.Number.{Truncated, window, width_for, IsFewest, expanded, IsExpansion, NewestOpens, LateOpens}
 
+-- a written number of this width and residue
 abbrev of : ℕ → ℕ → Truncated
 of width residue = record { width = width; residue = residue }
 
@@ -60,7 +61,23 @@ newest (suc (suc (suc zero))) n acked x a b c d e = omega arith
 newest (suc (suc (suc (suc zero)))) n acked x a b c d e = omega arith
 newest (suc (suc (suc (suc (suc k))))) n acked x a b c d e = absurd (omega arith)
 
+-- the newest number expands to itself
 pub newest_opens : NewestOpens
 newest_opens n acked x near above below =
     let few = fewest (n - acked) near in
     newest (width_for (n - acked)) n acked x few.some few.four few.enough above below
+
+-- so it is where fewer than half a window's numbers came before it
+late : (width n acked x : ℕ) → 1 ≤ width → width ≤ 4 → 2 * (n - acked) < 256 ^ width → acked ≤ x → x < n + window width / 2 → expanded (of width (n % window width)) x ≡ n
+late zero n acked x a b c d e = absurd (omega arith)
+late (suc zero) n acked x a b c d e = omega arith
+late (suc (suc zero)) n acked x a b c d e = omega arith
+late (suc (suc (suc zero))) n acked x a b c d e = omega arith
+late (suc (suc (suc (suc zero)))) n acked x a b c d e = omega arith
+late (suc (suc (suc (suc (suc k))))) n acked x a b c d e = absurd (omega arith)
+
+-- a late number expands to itself
+pub late_opens : LateOpens
+late_opens n acked x near above below =
+    let few = fewest (n - acked) near in
+    late (width_for (n - acked)) n acked x few.some few.four few.enough above below

@@ -2,11 +2,11 @@
 use Rattle.std.proofs.Common.{◌≡◌, ℕ, zero, suc, ◌+◌, ◌-◌, ◌%◌, ◌^◌, ◌<◌, ◌≤◌, List, ◌∷◌, ◌++◌, length, take, drop, Some, None, Bool, true, false, cond, refl, sym, ◌∙◌, ap, arith, append_assoc, inl, inr}
 use Rattle.std.specs.Prelude.{nat_lt, ◌==◌}
 use Rattle.std.proofs.lemmas.Bool.{lt-ltb, le-ltb, cases_lt, eqb-true, eqb-false}
-use Rattle.std.proofs.lemmas.List.{take_at, drop_at}
+use Rattle.std.proofs.lemmas.List.{length-append, take_at, drop_at}
 use Rattle.quic_wire.specs.Number.{Truncated, truncated, number_bytes, residue_of, expanded}
 use Rattle.quic_wire.specs.Keys.{OfFirst, OfNumber, Seal, Open, width_in, sample, unshielded, IsHeaderMate, IsMate}
 use Rattle.quic_wire.specs.Header.{first_byte, header_bytes}
-use Rattle.quic_wire.specs.Datagram.{protected, datagram_of, opening_of, truncated_in, opened_under, opened_plain, MatesOpen, SealedIsSent}
+use Rattle.quic_wire.specs.Datagram.{protected, datagram_of, opening_of, truncated_in, opened_under, opened_plain, MatesOpen, SealedIsSent, SentLength}
 use Rattle.quic_wire.proofs.Numbers.{fewest}
 use Rattle.quic_wire.proofs.Places.{number_in, sample_of, with_header_parts, shielded_parts, header_of, body_of}
 
@@ -47,9 +47,11 @@ opened_parts unseal at x first id y b t e w tw low =
     let is : truncated_in at packet ≡ t = rw (number_in first id y b at (width_in first) e w, low, w, ← tw) refl in
     ap (λ (k : Truncated). opened_under unseal at (expanded k x) packet) is ∙ rw (header_of first id y b (at + width_in first) long, body_of first id y b (at + width_in first) long) refl
 
+-- a remainder is below its divisor
 below : (w n : ℕ) → 0 < w → n % w < w
 below w n lt = omega arith
 
+-- the first byte's low bits tell the width
 width_of_first : (w : ℕ) → 1 ≤ w → w ≤ 4 → width_in (first_byte w) ≡ w
 width_of_first w a b = omega arith
 
@@ -63,6 +65,7 @@ finish seal unseal first m n h p false mate lt e = elim (cases_lt m (2 ^ 62)) [
   | inr big ↦ rw (le-ltb m (2 ^ 62) big) refl
 ]
 
+-- a mate opens what was sealed
 pub mates_open : MatesOpen
 mates_open mask hide seal unmask reveal unseal mates n acked x id p near lt =
     let t = truncated n acked in
@@ -91,6 +94,7 @@ width_of_bytes n acked near =
     let few = fewest (n - acked) near in
     width_of_first t.width few.some few.four ∙ sym (length_of_bytes n acked near)
 
+-- sealing behind other bytes gives the datagram behind them
 pub sealed_is_sent : SealedIsSent
 sealed_is_sent mask hide seal keeps n acked was id p near =
     let t = truncated n acked in
@@ -100,3 +104,14 @@ sealed_is_sent mask hide seal keeps n acked was id p near =
     let front : take (length was) (was ++ (header_bytes id t ++ p)) ≡ was = take_at was (header_bytes id t ++ p) (length was) refl in
     let back : drop (length was) (was ++ (header_bytes id t ++ p)) ≡ first ∷ (id ++ (y ++ p)) = drop_at was (header_bytes id t ++ p) (length was) refl ∙ parts in
     rw (front, back) (ap (λ (z : List ℕ). was ++ z) (protected_parts mask hide seal (length id + 1) n first id y p refl (width_of_bytes n acked near) keeps))
+
+-- how long a datagram is
+pub sent_length : SentLength
+sent_length mask hide seal keeps adds n acked id p near =
+    let t = truncated n acked in
+    let y = number_bytes t in
+    let h = first_byte t.width ∷ (id ++ y) in
+    let body = seal n h p in
+    let s = take 16 (drop (4 - length y) body) in
+    let width : length y ≡ t.width = length_of_bytes n acked near in
+    omega (arith, length-append id (hide s y ++ body), length-append (hide s y) body, keeps s y, adds n h p, width)

@@ -7,6 +7,7 @@ use Rattle.std.proofs.Math.ListN.{drop_of_length-le}
 use Rattle.quic_wire.specs.Keys.{OfFirst, OfNumber, Seal, width_in, sample, with_header, shielded}
 use Rattle.quic_wire.specs.Datagram.{protected}
 
+-- nothing appended
 pub append_none : (xs : List ℕ) → xs ++ [] ≡ xs
 append_none [] = refl
 append_none (x ∷ xs) = ap (λ (t : List ℕ). x ∷ t) (append_none xs)
@@ -45,45 +46,53 @@ sealed_behind start xs tag len = take_at xs tag (length (xs ++ tag) - 16) (omega
 
 -- ---- a packet by its parts: the first byte, the id, the number's bytes y and the rest t
 
+-- what stands from n places behind the id
 drop_behind : (first : ℕ) (id t : List ℕ) (n at : ℕ) → at ≡ length id + 1 → drop (at + n) (first ∷ (id ++ t)) ≡ drop n t
 drop_behind first id t n at e =
     let same : at + n ≡ suc (length id + n) = omega arith in
     rw (same, ← (drop-drop n (length id) (id ++ t)), drop_at id t (length id) refl) refl
 
+-- what stands behind the id
 drop_all_behind : (first : ℕ) (id t : List ℕ) (at : ℕ) → at ≡ length id + 1 → drop at (first ∷ (id ++ t)) ≡ t
 drop_all_behind first id t at e =
     let same : at ≡ suc (length id) = omega arith in
     rw (same, drop_at id t (length id) refl) refl
 
+-- what stands behind more than the first part
 drop_part : (y t : List ℕ) (n : ℕ) → length y ≤ n → drop n (y ++ t) ≡ drop (n - length y) t
 drop_part y t n le =
     let same : n ≡ length y + (n - length y) = omega arith in
     ap (λ (m : ℕ). drop m (y ++ t)) same ∙ (sym (drop-drop (n - length y) (length y) (y ++ t)) ∙ ap (λ (z : List ℕ). drop (n - length y) z) (drop_at y t (length y) refl))
 
+-- the sample of the parts
 pub sample_of : (first : ℕ) (id y t : List ℕ) (at : ℕ) → at ≡ length id + 1 → length y ≤ 4 → sample at (first ∷ (id ++ (y ++ t))) ≡ take 16 (drop (4 - length y) t)
 sample_of first id y t at e le = rw (drop_behind first id (y ++ t) 4 at e, drop_part y t 4 le) refl
 
+-- the number's bytes of the parts
 pub number_in : (first : ℕ) (id y t : List ℕ) (at n : ℕ) → at ≡ length id + 1 → n ≡ length y → take n (drop at (first ∷ (id ++ (y ++ t)))) ≡ y
 number_in first id y t at n e en = rw (drop_all_behind first id (y ++ t) at e, take_at y t n (sym en)) refl
 
+-- the parts with another first byte and number
 pub with_header_parts : (first g : ℕ) (id y z t : List ℕ) (at : ℕ) → at ≡ length id + 1 → length z ≡ length y → with_header at (first ∷ (id ++ (y ++ t))) g z ≡ g ∷ (id ++ (z ++ t))
 with_header_parts first g id y z t at e same =
     let before : at - 1 ≡ length id = omega arith in
     rw (before, take_at id (y ++ t) (length id) refl, drop_behind first id (y ++ t) (length z) at e, drop_at y t (length z) (sym same)) refl
 
+-- the parts with the header protected
 pub shielded_parts : (mask : OfFirst) (hide : OfNumber) (first : ℕ) (id y t : List ℕ) (at : ℕ) → at ≡ length id + 1 → width_in first ≡ length y → ((s b : List ℕ) → length (hide s b) ≡ length b) → shielded mask hide at (first ∷ (id ++ (y ++ t))) ≡ mask (take 16 (drop (4 - length y) t)) first ∷ (id ++ (hide (take 16 (drop (4 - length y) t)) y ++ t))
 shielded_parts mask hide first id y t at e w len =
     let s = take 16 (drop (4 - length y) t) in
     let le : length y ≤ 4 = omega arith in
     rw (sample_of first id y t at e le, number_in first id y t at (width_in first) e w) (with_header_parts first (mask s first) id y (hide s y) t at e (len s y))
 
--- the header and what is behind it
+-- the header of the parts
 pub header_of : (first : ℕ) (id y t : List ℕ) (n : ℕ) → n ≡ length id + 1 + length y → take n (first ∷ (id ++ (y ++ t))) ≡ first ∷ (id ++ y)
 header_of first id y t n e = rw (← (append_assoc id y t)) (take_at (first ∷ (id ++ y)) t n (sym (e ∙ long)))
   where
     long : length id + 1 + length y ≡ length (first ∷ (id ++ y))
     long = omega (arith, length-append id y)
 
+-- what stands behind the header
 pub body_of : (first : ℕ) (id y t : List ℕ) (n : ℕ) → n ≡ length id + 1 + length y → drop n (first ∷ (id ++ (y ++ t))) ≡ t
 body_of first id y t n e = rw (← (append_assoc id y t)) (drop_at (first ∷ (id ++ y)) t n (sym (e ∙ long)))
   where

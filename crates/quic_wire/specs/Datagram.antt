@@ -67,3 +67,7 @@ MatesOpen = (mask : OfFirst) (hide : OfNumber) (seal : Seal) (unmask : OfFirst) 
 -- a header and a payload, sealed behind other bytes, are the datagram behind them
 abbrev pub SealedIsSent : Type 0
 SealedIsSent = (mask : OfFirst) (hide : OfNumber) (seal : Seal) → ((s bytes : List ℕ) → length (hide s bytes) ≡ length bytes) → (number acked : ℕ) (before id payload : List ℕ) → number - acked < 2 ^ 31 → let plain = before ++ (header_bytes id (truncated number acked) ++ payload) in take (length before) plain ++ protected mask hide seal (length id + 1) number (drop (length before) plain) ≡ before ++ sent mask hide seal number acked id payload
+
+-- a datagram is as long as its header, its payload and the tag
+abbrev pub SentLength : Type 0
+SentLength = (mask : OfFirst) (hide : OfNumber) (seal : Seal) → ((s bytes : List ℕ) → length (hide s bytes) ≡ length bytes) → ((n : ℕ) (h p : List ℕ) → length (seal n h p) ≡ length p + 16) → (number acked : ℕ) (id payload : List ℕ) → number - acked < 2 ^ 31 → length (sent mask hide seal number acked id payload) ≡ 1 + length id + (truncated number acked).width + length payload + 16

@@ -15,7 +15,7 @@ use Rattle.quic_wire.specs.Datagram.{sent}
 abbrev pub fixed_length_id : ℕ → List ℕ → Option (List ℕ)
 fixed_length_id len bytes = if nat_le len (length bytes) then Some (take len bytes) else None
 
--- that id stands in front
+-- what the test of the length tells
 front : (b : Bool) (len : ℕ) (bytes id : List ℕ) → nat_le len (length bytes) ≡ b → cond b (Some (take len bytes)) None ≡ Some id → id ≡ take (length id) bytes
 front true len bytes id long e =
     let le : len ≤ length bytes = leb-true len (length bytes) long in
@@ -24,6 +24,7 @@ front true len bytes id long e =
     rw (← same, size) refl
 front false len bytes id long e = absurd cc
 
+-- that id stands in front
 pub fixed_length_id-front : (len : ℕ) (bytes id : List ℕ) → fixed_length_id len bytes ≡ Some id → id ≡ take (length id) bytes
 fixed_length_id-front len bytes id e = front (nat_le len (length bytes)) len bytes id refl e
 

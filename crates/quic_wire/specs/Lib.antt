@@ -15,6 +15,8 @@ pub mod ParametersRead
 pub mod ParametersWritten
 pub mod ParametersCode
 pub mod ParametersSteps
+pub mod ParametersTable
 pub mod ParametersLaw
 pub mod Plain
 pub mod PlainLaw
+pub mod ParametersFound

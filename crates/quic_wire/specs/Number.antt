@@ -46,3 +46,7 @@ pub record IsExpansion (t : Truncated) (expected value : ℕ) : Type 0 where
 -- the newest number expands to itself, wherever the expected one lies from the greatest acknowledged up to the one behind it
 abbrev pub NewestOpens : Type 0
 NewestOpens = (number acked expected : ℕ) → number - acked < 2 ^ 31 → acked ≤ expected → expected ≤ number + 1 → expanded (truncated number acked) expected ≡ number
+
+-- a number expands to itself, wherever the expected one lies from the greatest acknowledged up to less than half a window above the number
+abbrev pub LateOpens : Type 0
+LateOpens = (number acked expected : ℕ) → number - acked < 2 ^ 31 → acked ≤ expected → expected < number + window (truncated number acked).width / 2 → expanded (truncated number acked) expected ≡ number

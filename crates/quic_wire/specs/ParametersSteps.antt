@@ -1,10 +1,9 @@
 -- A list of parameters is read entry by entry.
-use Rattle.std.proofs.Common.{◌≡◌, ℕ, zero, suc, ◌+◌, ◌-◌, ◌≤◌, ◌<◌, Bool, true, false, cond, ltb, eqb, List, [], ◌∷◌, ◌++◌, length, take, drop, Option, Some, None, Result, Ok, Err, refl, sym, ap, ◌∙◌, inl, inr, ◌⊎◌, arith, subst}
+use Rattle.std.proofs.Common.{◌≡◌, ℕ, zero, suc, ◌-◌, ◌≤◌, ◌<◌, Bool, true, false, cond, ltb, eqb, List, [], ◌∷◌, length, take, drop, Option, Some, None, Result, Ok, Err, refl, sym, ◌∙◌, arith, subst}
 use Rattle.std.specs.Prelude.{slice_index, ◌/◌, ◌^◌}
 use Rattle.std.specs.Int.{Width, w8, w16, w32, w64, byte_len}
-use Rattle.std.proofs.lemmas.Bool.{ltb-false, lt-ltb}
 use Rattle.std.proofs.lemmas.List.{length-drop}
-use Rattle.quic_wire_core.specs.Varint.{varint_at, wide_at}
+use Rattle.quic_wire_core.specs.Varint.{wide_at}
 use Rattle.quic_wire.specs.declared.transport_parameters.error.TransportParametersError.{TransportParametersError}
 use Rattle.quic_wire.specs.declared.transport_parameters.error.TransportParametersError.TheVariants.{Malformed}
 use Rattle.quic_wire.specs.ParametersRead.{◌>>=◌, or_malformed, number_at, entry_at, parameter_at, met_with, met_within, met_in}
@@ -78,8 +77,8 @@ enough (suc n) zero met (b ∷ bytes) h k = absurd (omega arith)
 enough (suc n) (suc m) met [] h k = refl
 enough (suc n) (suc m) met (b ∷ bytes) h k =
     bind_same (entry_at (b ∷ bytes)) _ _ (λ e is.
-        let shorter : length e.1 ≤ length (b ∷ bytes) - 1 = entry_shorter (b ∷ bytes) e is in
-        bind_same (met_with met (parameter_at e.0.0) e.0.1) _ _ (λ more _. enough n m more e.1 (omega arith) (omega arith)))
+    let shorter : length e.1 ≤ length (b ∷ bytes) - 1 = entry_shorter (b ∷ bytes) e is in
+    bind_same (met_with met (parameter_at e.0.0) e.0.1) _ _ (λ more _. enough n m more e.1 (omega arith) (omega arith)))
 
 pub met_in_nil : (met : List (Option ℕ)) → met_in met [] ≡ Ok met
 unfolding met_in met_within
@@ -90,8 +89,8 @@ met_in_cons : (met : List (Option ℕ)) (b : ℕ) (bytes : List ℕ)
 unfolding met_in met_within
 met_in_cons met b bytes =
     bind_same (entry_at (b ∷ bytes)) _ _ (λ e is.
-        let shorter : length e.1 ≤ length (b ∷ bytes) - 1 = entry_shorter (b ∷ bytes) e is in
-        bind_same (met_with met (parameter_at e.0.0) e.0.1) _ _ (λ more _. enough (length bytes) (length e.1) more e.1 (omega arith) (omega arith)))
+    let shorter : length e.1 ≤ length (b ∷ bytes) - 1 = entry_shorter (b ∷ bytes) e is in
+    bind_same (met_with met (parameter_at e.0.0) e.0.1) _ _ (λ more _. enough (length bytes) (length e.1) more e.1 (omega arith) (omega arith)))
 
 -- an entry, and the list behind it
 pub met_in_step : (met : List (Option ℕ)) (bytes : List ℕ) → 0 < length bytes

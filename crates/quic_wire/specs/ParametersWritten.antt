@@ -1,5 +1,5 @@
 -- The form in which transport parameters are written (RFC 9000, section 18).
-use Rattle.std.specs.Prelude.{◌≡◌, ℕ, List, [], ◌∷◌, ◌++◌, length, Option, Some, None, IsTrue, ◌==◌, if◌then◌else◌}
+use Rattle.std.specs.Prelude.{ℕ, List, [], ◌∷◌, ◌++◌, length, Option, Some, None, IsTrue, ◌==◌, if◌then◌else◌}
 use Rattle.std.specs.List.{list_all, count_by}
 use Rattle.quic_wire_core.specs.Varint.{shortest}
 use Rattle.quic_wire.specs.declared.transport_parameters.id.TransportParameterId.{TransportParameterId}

@@ -33,14 +33,15 @@ pub struct Keys<H, K> {
     pub packet: KeyPair<K>,
 }
 
-/// A key that hides a packet's number and the low five bits of its first byte (RFC 9001, 5.4), as in quinn.
+/// A key that hides a packet's number and the low five bits of its first byte (RFC 9001, 5.4),
+/// as in quinn.
 pub trait HeaderKey {
-    // The first byte that a sample hides a first byte behind, and the number's bytes that it hides them behind.
+    // What hiding by a sample makes of the first byte and of the number's bytes.
     ghost masks: { Self → List ℕ → ℕ → ℕ };
 
     ghost hides: { Self → List ℕ → List ℕ → List ℕ };
 
-    // The first byte and the number's bytes that a sample shows.
+    // What showing by a sample makes of them.
     ghost unmasks: { Self → List ℕ → ℕ → ℕ };
 
     ghost reveals: { Self → List ℕ → List ℕ → List ℕ };
@@ -87,13 +88,15 @@ pub trait PacketKey {
 
     ghost refusal_limit: { Self → ℕ };
 
-    /// Seals the payload of `packet`, which is `header` bytes of header, the payload and 16 bytes of room for the tag.
+    /// Seals the payload of `packet`, which is `header` bytes of header, the payload and 16
+    /// bytes of room for the tag.
     fn encrypt(&self, number: u64, packet: &mut [u8], header: usize)
         requires number { number < 2 ^ 62 }
         requires room { header + 16 ≤ length packet.old }
         ensures { packet.new ≡ take header packet.old ++ sealed self.now number (take header packet.old) (take (length packet.old - header - 16) (drop header packet.old)) };
 
-    /// Opens the bytes of `payload`: how many bytes the opened payload has, which then stands at the front.
+    /// Opens the bytes of `payload`: how many bytes the opened payload has, which then
+    /// stands at the front.
     ///
     /// `NotOpened`: the bytes do not open under this number and header.
     fn decrypt(&self, number: u64, header: &[u8], payload: &mut [u8]) -> Result<usize, NotOpened>

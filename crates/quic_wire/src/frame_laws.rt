@@ -11,48 +11,41 @@ ghost use Rattle.quic_wire.specs.Writing.{spelling, stream_spelling, spelled_all
 pub fn types_name_kinds()
     ensures number { (type : ℕ) → type_of (kind_of type) ≡ type }
     ensures kind { (kind : Kind) → IsKnown kind → kind_of (type_of kind) ≡ kind }
-{
-}
+{}
 
 /// A payload has no more items than bytes, and nothing comes behind a refusal.
 pub fn items_end()
     ensures few { (bytes : List ℕ) → length (items bytes) ≤ length bytes }
     ensures last { (bytes : List ℕ) → EndsAtRefusal (items bytes) }
-{
-}
+{}
 
 /// A form of a frame is read as that frame, and the items of what follows it come behind it.
 pub fn form_is_read()
     ensures { (f : FrameValue) (bytes rest : List ℕ) → IsForm f bytes rest → items (bytes ++ rest) ≡ Ok f ∷ items rest }
-{
-}
+{}
 
 /// Bytes are refused only where no frame stands at their front.
 pub fn refused_is_no_form()
     ensures { (bytes : List ℕ) (e : InvalidFrame) (others : List (Result FrameValue InvalidFrame)) → items bytes ≡ Err e ∷ others
         → (f : FrameValue) (front rest : List ℕ) → bytes ≡ front ++ rest → IsForm f front rest → ⊥ }
-{
-}
+{}
 
 /// What is written for a frame is a form of it, whatever follows it; a STREAM frame without its length where nothing
 /// follows it.
 pub fn written_is_form()
     ensures frame { (f : FrameValue) (rest : List ℕ) → Fits f → IsForm f (spelling f) rest }
     ensures stream { (with_length : Bool) (s : StreamValue) (rest : List ℕ) → StreamFits s → Ends with_length rest → IsForm (stream s) (stream_spelling with_length s) rest }
-{
-}
+{}
 
 /// What is written for a frame has the size that is told.
 pub fn written_has_size()
     ensures frame { (f : FrameValue) → Fits f → length (spelling f) ≡ frame_size f }
     ensures stream { (with_length : Bool) (s : StreamValue) → length (stream_spelling with_length s) ≡ stream_size with_length s }
-{
-}
+{}
 
 /// Frames that are written are read as those frames: each byte 0 behind them as PADDING, and a STREAM frame without its
 /// length as the last of them.
 pub fn written_is_read()
     ensures padded { (fs : List FrameValue) (count : ℕ) → AllFit fs → items (spelled_all fs ++ replicate count 0) ≡ map Ok (fs ++ replicate count padding) }
     ensures last { (fs : List FrameValue) (s : StreamValue) → AllFit fs → StreamFits s → items (spelled_all fs ++ stream_spelling false s) ≡ map Ok (fs ++ stream s ∷ []) }
-{
-}
+{}

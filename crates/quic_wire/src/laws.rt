@@ -1,16 +1,24 @@
 //! What the definitions say together, for the crates above.
-ghost use Rattle.quic_wire.specs.Number.{NewestOpens};
-ghost use Rattle.quic_wire.specs.Datagram.{MatesOpen, SealedIsSent};
+ghost use Rattle.quic_wire.specs.Number.{NewestOpens, LateOpens};
+ghost use Rattle.quic_wire.specs.Datagram.{MatesOpen, SealedIsSent, SentLength};
 ghost use Rattle.quic_wire.specs.Destination.{KnownIsMember, SentIsDecoded, FixedLengthFinds};
 
-/// What one end sealed opens at its mate to the number and the payload where the number's bytes expand to the number, and to nothing else.
+/// What one end sealed opens at its mate to the number and the payload where the number's bytes
+/// expand to the number, and to nothing else.
 pub fn mates_open()
     ensures { MatesOpen }
 {}
 
-/// The newest number expands to itself where the expected one lies from the greatest acknowledged up to the one behind it.
+/// The newest number expands to itself where the expected one lies from the greatest
+/// acknowledged up to the one behind it.
 pub fn newest_opens()
     ensures { NewestOpens }
+{}
+
+/// A number expands to itself where the expected one lies from the greatest acknowledged up to
+/// less than half a window above the number.
+pub fn late_opens()
+    ensures { LateOpens }
 {}
 
 /// Sealing a header and a payload behind other bytes gives the datagram behind them.
@@ -18,12 +26,18 @@ pub fn sealed_is_sent()
     ensures { SealedIsSent }
 {}
 
+/// A datagram is as long as its header, its payload and the tag.
+pub fn sent_length()
+    ensures { SentLength }
+{}
+
 /// An id is known where it is one of the known ids.
 pub fn known_is_member()
     ensures { KnownIsMember }
 {}
 
-/// A datagram that was sent to a known id is decoded to that id, by a parser that finds the id in front.
+/// A datagram that was sent to a known id is decoded to that id, by a parser that finds the id
+/// in front.
 pub fn sent_is_decoded()
     ensures { SentIsDecoded }
 {}

@@ -2,13 +2,20 @@
 #![tactic(auto)]
 
 pub mod crypto;
+pub mod frame;
+pub mod frame_laws;
 pub mod laws;
-pub mod packet;
+mod packet;
 pub mod plain;
 pub mod reserved;
-pub mod sealing;
-pub mod frame;
+mod sealing;
 pub mod transport_parameters;
 
-pub use transport_parameters::{TransportParameters, TransportParametersError};
-pub mod frame_laws;
+pub use packet::{
+    ConnectionIdParser, FixedLengthConnectionIdParser, HeaderError, PacketNumber, ShortHeader,
+    TooShort,
+};
+pub use sealing::{Opened, open_packet, seal_packet, seal_reserved, width_in};
+pub use transport_parameters::{
+    TransportParameterId, TransportParameters, TransportParametersError,
+};

@@ -73,7 +73,8 @@ fn window(width: u8) -> u64
 }
 
 impl PacketNumber {
-    /// The number `n`, cut to the fewest bytes that tell it apart from the numbers since `largest_acked` (0 if none is acknowledged; RFC 9000, A.2).
+    /// The number `n`, cut to the fewest bytes that tell it apart from the numbers since
+    /// `largest_acked` (0 if none is acknowledged; RFC 9000, A.2).
     pub fn new(n: u64, largest_acked: u64) -> Self
         requires above { largest_acked ≤ n }
         requires near { n - largest_acked < 2 ^ 31 }
@@ -133,13 +134,15 @@ impl PacketNumber {
         }
     }
 
-    /// The whole number that ends in these bytes and is closest to the one that is expected (RFC 9000, A.3). It may reach 2^62, which no packet number does.
+    /// The whole number that ends in these bytes and is closest to the one that is expected
+    /// (RFC 9000, A.3). It may reach 2^62, which no packet number does.
     pub fn expand(self, expected: u64) -> u64
         requires { expected ≤ 2 ^ 62 }
         ensures value { result ≡ expanded self expected }
         ensures expansion { IsExpansion self expected result }
 
-        // What was cut against `acked` is the number again where `acked` or more is expected, up to half a window above the number.
+        // What was cut against `acked` is the number again where `acked` or more is
+        // expected, up to half a window above the number.
         ensures ours { (n acked : ℕ) → self ≡ truncated n acked → n - acked < 2 ^ 31 → acked ≤ expected → expected ≤ n + 1 → result ≡ n }
         ensures ours_late { (n acked : ℕ) → self ≡ truncated n acked → n - acked < 2 ^ 31 → acked ≤ expected → expected < n + window self.width / 2 → result ≡ n }
     {
@@ -154,7 +157,8 @@ impl PacketNumber {
 #[error("too few bytes for a connection id")]
 pub struct TooShort;
 
-/// What finds the destination id of a short header, which does not say how long it is (RFC 9000, 17.3.1), as in quinn.
+/// What finds the destination id of a short header, which does not say how long it is (RFC
+/// 9000, 17.3.1), as in quinn.
 pub trait ConnectionIdParser {
     // The id that the bytes behind the first byte begin with, or none where they are too few.
     ghost parsed: { Self → List ℕ → Option (List ℕ) };
@@ -216,7 +220,8 @@ impl ConnectionIdParser for FixedLengthConnectionIdParser {
 /// Why a datagram has no short header for a known id.
 #[derive(Clone, Copy, Debug, PartialEq, Eq, Error)]
 pub enum HeaderError {
-    /// The bytes end within the id, or there are fewer than 20 behind it: 4 of number and payload, and 16 of tag.
+    /// The bytes end within the id, or there are fewer than 20 behind it: 4 of number and
+    /// payload, and 16 of tag.
     #[error("the datagram is too short")]
     TooShort,
     /// The first byte's top bit is 1, as in a long header.
@@ -237,7 +242,8 @@ fn is_known(id: &ConnectionId, known: &[ConnectionId]) -> bool
     known.iter().any(|x| id.as_slice() == x.as_slice())
 }
 
-/// The header of a 1-RTT packet (RFC 9000, 17.3.1). Spin, reserved and key phase bits are written 0.
+/// The header of a 1-RTT packet (RFC 9000, 17.3.1). Spin, reserved and key phase bits are
+/// written 0.
 #[derive(Clone, Copy, Debug, PartialEq, Eq)]
 pub struct ShortHeader {
     /// The destination connection id.

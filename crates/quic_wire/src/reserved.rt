@@ -24,7 +24,8 @@ pub fn append_zeros(out: &mut Vec<u8>, count: usize)
     out.resize(out.len() + count, 0).unwrap();
 }
 
-/// How many bytes a number takes as a variable-length integer: 1, 2, 4 or 8 (RFC 9000, 16; quinn's `VarInt::size`).
+/// How many bytes a number takes as a variable-length integer: 1, 2, 4 or 8 (RFC 9000, 16;
+/// quinn's `VarInt::size`).
 pub fn varint_size(n: VarInt) -> usize
     ensures size { result ≡ length (shortest n) }
     ensures some { 1 ≤ result }

@@ -58,7 +58,9 @@ fn protect_behind<H: HeaderKey, K: PacketKey>(
     );
 }
 
-/// Seals the packet that stands in `out` from `start` on, and protects its header. Its number starts `number_at` bytes behind `start`, and the number and the payload have four bytes or more.
+/// Seals the packet that stands in `out` from `start` on, and protects its header. Its number
+/// starts `number_at` bytes behind `start`, and the number and the payload have four bytes or
+/// more.
 ///
 /// `AllocError`: there is no memory for the tag's 16 bytes, and `out` stays as it was.
 #[tactic(auto, using(crate::proofs::Places::sealed_behind))]
@@ -103,7 +105,8 @@ pub fn seal_reserved<H: HeaderKey, K: PacketKey>(
     protect_behind(out, start, number_at, number, header_key, packet_key);
 }
 
-/// A packet that opened: its shown first byte, its number, and where its payload stands in the datagram.
+/// A packet that opened: its shown first byte, its number, and where its payload stands in the
+/// datagram.
 #[derive(Clone, Copy, Debug, PartialEq, Eq)]
 pub struct Opened {
     /// The first byte, shown.
@@ -166,9 +169,11 @@ fn open_plain<K: PacketKey>(
     })
 }
 
-/// Opens the packet that is the whole datagram, in place. Its number starts at `number_at` and is expanded around `expected`.
+/// Opens the packet that is the whole datagram, in place. Its number starts at `number_at` and
+/// is expanded around `expected`.
 ///
-/// `NotOpened`: the number would be 2^62 or more, or the payload does not open under it. What then stands in the datagram is left open.
+/// `NotOpened`: the number would be 2^62 or more, or the payload does not open under it. What
+/// then stands in the datagram is left open.
 pub fn open_packet<H: HeaderKey, K: PacketKey>(
     datagram: &mut [u8],
     number_at: usize,

@@ -6,7 +6,7 @@ ghost use Rattle.quic_wire_core.specs.Coding.{IsBytes};
 ghost use Rattle.quic_wire_core.specs.ConnectionId.{id_cmp};
 ghost use Rattle.quic_wire_core.specs.StreamId.{stream_id, initiator_of, dir_of, index_of};
 ghost use Rattle.quic_wire_core.specs.StreamIdLaw.{AreSameParts};
-ghost use Rattle.quic_wire_core.specs.Varint.{Spells, varint_at, shortest, Begins};
+ghost use Rattle.quic_wire_core.specs.Varint.{Spells, varint_at, shortest, varint_size, Begins};
 ghost use Rattle.quic_wire_core.specs.declared.stream_id.Side.{Side};
 ghost use Rattle.quic_wire_core.specs.declared.stream_id.Dir.{Dir};
 
@@ -28,6 +28,16 @@ pub fn shortest_is_form()
 /// No form of an integer is shorter than the one that is written.
 pub fn shortest_is_shortest()
     ensures { (v : ℕ) (bytes : List ℕ) → Spells v bytes → length (shortest v) ≤ length bytes }
+{}
+
+/// How long the form is that is written.
+pub fn shortest_has_size()
+    ensures { (v : ℕ) → length (shortest v) ≡ varint_size v }
+{}
+
+/// No bytes are forms of two integers.
+pub fn forms_are_of_one()
+    ensures { (v w : ℕ) (bytes : List ℕ) → Spells v bytes → Spells w bytes → v ≡ w }
 {}
 
 /// A stream id gives back the side, the directions and the place that it was made of.

@@ -1,5 +1,6 @@
 //! Variable-length integers (RFC 9000, section 16).
 ghost use Rattle.std.specs.Prelude.{◌≡◌, ◌-◌, ◌<◌, ◌^◌, ◌≤◌, [], MatchResult, MatchOption, length, slice_index};
+ghost use Rattle.quic_wire_core.specs.Varint.{varint_size};
 
 use crate::coding::{Codec, UnexpectedEnd, u8_of, u16_of, u32_of, u64_of};
 use bytes::{Buf, BufMut};
@@ -69,6 +70,22 @@ impl VarInt {
         ensures { result ≡ x }
     {
         Self(x)
+    }
+
+    /// How many bytes the number takes when it is written: 1, 2, 4 or 8.
+    pub fn size(self) -> usize
+        ensures { result ≡ varint_size self }
+    {
+        let n = self.into_inner();
+        if n < 1 << 6 {
+            1
+        } else if n < 1 << 14 {
+            2
+        } else if n < 1 << 30 {
+            4
+        } else {
+            8
+        }
     }
 
     /// The number as an integer, which is below 2^62.
@@ -242,6 +259,8 @@ mod tests {
     #[test]
     fn writes_the_samples_of_the_standard(rt: HostRuntime) -> Result<(), Fail> {
         let mut out = Vec::new(rt.alloc());
+        assert_eq!(rt; VarInt::from_u32(37).size(), 1);
+        assert_eq!(rt; VarInt::from_u32(15_293).size(), 2);
         VarInt::from_u32(37).encode(&mut out)?;
         VarInt::from_u64(15_293)?.encode(&mut out)?;
         VarInt::try_from(494_878_333u64)?.encode(&mut out)?;

@@ -1,8 +1,7 @@
 //! The frames of a payload.
-use std::marker::Model;
-
 use crate::frame::reading::frame_of;
 use crate::frame::{Frame, InvalidFrame};
+use std::marker::Model;
 
 /// The frames of a payload in turn, and the refusal where the bytes are no frame; nothing comes behind a refusal
 /// (quinn-proto's `frame::Iter`). Contracts see it as the bytes that are left.
@@ -62,5 +61,112 @@ impl<'a> Iterator for Iter<'a> {
                 Some(Err(invalid))
             }
         }
+    }
+}
+
+#[cfg(test)]
+mod tests {
+    use super::*;
+    use crate::frame::{FrameError, Stream};
+    use quic_wire_core::{FrameType, StreamId, VarInt};
+    use std::test::Fail;
+
+    /// The STREAM frame at the front, if there is one.
+    fn stream_in<'a>(item: Option<Result<Frame<'a>, InvalidFrame>>) -> Option<Stream<'a>> {
+        match item {
+            Some(Ok(Frame::Stream(stream))) => Some(stream),
+            _ => None,
+        }
+    }
+
+    /// The refusal at the front, if there is one.
+    fn refusal_in(item: Option<Result<Frame<'_>, InvalidFrame>>) -> Option<InvalidFrame> {
+        match item {
+            Some(Err(invalid)) => Some(invalid),
+            _ => None,
+        }
+    }
+
+    #[test]
+    fn reads_stream_frames(rt: HostRuntime) -> Result<(), Fail> {
+        let payload = [
+            0x0b, 0x00, 0x05, 0x68, 0x65, 0x6c, 0x6c, 0x6f, // with a length and the end
+            0x0e, 0x04, 0x40, 0x40, 0x01, 0x61, // with an offset and a length
+            0x0c, 0x40, 0x08, 0x07, 0x62, 0x63, // with an offset alone, an id of two bytes
+        ];
+        let mut frames = Iter::new(&payload);
+        let first = Stream {
+            id: StreamId::from(VarInt::from_u32(0)),
+            offset: 0,
+            fin: true,
+            data: b"hello",
+        };
+        let second = Stream {
+            id: StreamId::from(VarInt::from_u32(4)),
+            offset: 64,
+            fin: false,
+            data: b"a",
+        };
+        let third = Stream {
+            id: StreamId::from(VarInt::from_u32(8)),
+            offset: 7,
+            fin: false,
+            data: b"bc",
+        };
+        assert_eq!(rt; stream_in(frames.next()), Some(first));
+        assert_eq!(rt; stream_in(frames.next()), Some(second));
+        assert_eq!(rt; stream_in(frames.next()), Some(third));
+        assert!(rt; frames.next().is_none());
+        Ok(())
+    }
+
+    #[test]
+    fn reads_padding_and_pings(rt: HostRuntime) -> Result<(), Fail> {
+        let mut none = Iter::new(&[]);
+        assert!(rt; none.next().is_none());
+        let mut long = Iter::new(&[0x40, 0x00, 0x01]);
+        assert!(rt; matches!(long.next(), Some(Ok(Frame::Padding))));
+        assert!(rt; matches!(long.next(), Some(Ok(Frame::Ping))));
+        assert!(rt; long.next().is_none());
+        let mut padded = Iter::new(&[0x01, 0x00, 0x00]);
+        assert!(rt; matches!(padded.next(), Some(Ok(Frame::Ping))));
+        assert!(rt; matches!(padded.next(), Some(Ok(Frame::Padding))));
+        assert!(rt; matches!(padded.next(), Some(Ok(Frame::Padding))));
+        assert!(rt; padded.next().is_none());
+        Ok(())
+    }
+
+    #[test]
+    fn names_the_first_field_that_fails(rt: HostRuntime) -> Result<(), Fail> {
+        let cases: [(&[u8], u32, FrameError); 6] = [
+            (
+                &[0x0a, 0x00, 0x05, 0x68, 0x69],
+                0x0a,
+                FrameError::UnexpectedEnd,
+            ),
+            (&[0x08], 0x08, FrameError::UnexpectedEnd),
+            (&[0x0c, 0x00, 0x40], 0x0c, FrameError::UnexpectedEnd),
+            (&[0x2f, 0x00], 0x2f, FrameError::InvalidId),
+            (&[0x06, 0x00, 0x00], 0x06, FrameError::InvalidId),
+            (&[0x40, 0x10], 0x10, FrameError::InvalidId),
+        ];
+        for (payload, ty, reason) in cases {
+            let wanted = InvalidFrame {
+                ty: Some(FrameType::from(VarInt::from_u32(ty))),
+                reason,
+            };
+            let mut frames = Iter::new(payload);
+            assert_eq!(rt; refusal_in(frames.next()), Some(wanted));
+            assert!(rt; frames.next().is_none());
+        }
+        let cut = InvalidFrame {
+            ty: None,
+            reason: FrameError::UnexpectedEnd,
+        };
+        let mut frames = Iter::new(&[0x01, 0x80, 0x00]);
+        assert!(rt; matches!(frames.next(), Some(Ok(Frame::Ping))));
+        assert_eq!(rt; refusal_in(frames.next()), Some(cut));
+        assert!(rt; frames.next().is_none());
+        Ok(())
     }
 }

@@ -6,9 +6,8 @@ ghost use Rattle.quic_wire.specs.FrameTypes.{has_bit};
 ghost use Rattle.quic_wire.specs.Items.{frame_at};
 ghost use Rattle.quic_wire.specs.FrameView.{stream_view, frame_view};
 
-use quic_wire_core::{Codec, FrameType, StreamId, VarInt};
-
 use crate::frame::{Frame, FrameError, InvalidFrame, Stream};
+use quic_wire_core::{Codec, FrameType, StreamId, VarInt};
 
 /// A variable-length integer.
 fn var_of(bytes: &mut &[u8]) -> Result<VarInt, FrameError>

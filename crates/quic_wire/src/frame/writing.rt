@@ -6,11 +6,10 @@ ghost use Rattle.quic_wire.specs.Grammar.{offset_numbers, length_numbers};
 ghost use Rattle.quic_wire.specs.FrameTypes.{type_of, is_stream};
 ghost use Rattle.quic_wire.specs.Writing.{written, has_offset, stream_header, stream_spelling, spelling, StreamFits, Fits, width_of, offset_width, length_width, length_if, stream_header_size, stream_size, frame_size, BeginWith};
 
+use crate::frame::{Frame, Stream};
 use bytes::BufMut;
 use quic_wire_core::{Codec, StreamId, VarInt};
 use std::alloc::AllocError;
-
-use crate::frame::{Frame, Stream};
 
 /// Writes a number.
 fn write_number<B: BufMut>(buf: &mut B, n: u64) -> Result<(), AllocError>
@@ -86,7 +85,11 @@ fn size_of_offset(offset: u64) -> usize
     ensures size { result ≡ offset_width offset }
     ensures bound { result ≤ 8 }
 {
-    if offset == 0 { 0 } else { size_of_number(offset) }
+    if offset == 0 {
+        0
+    } else {
+        size_of_number(offset)
+    }
 }
 
 /// How many bytes the length of a STREAM frame takes: none where it isn't written.
@@ -219,5 +222,58 @@ pub fn put_frame(out: &mut Vec<u8>, frame: &Frame<'_>)
         Frame::Padding => append(out, &[0x00]),
         Frame::Ping => append(out, &[0x01]),
         Frame::Stream(stream) => put_stream(out, stream, true),
+    }
+}
+
+#[cfg(test)]
+mod tests {
+    use super::*;
+    use std::test::Fail;
+
+    #[test]
+    fn writes_frames(rt: HostRuntime) -> Result<(), Fail> {
+        let hello = Stream {
+            id: StreamId::from(VarInt::from_u32(0)),
+            offset: 0,
+            fin: true,
+            data: b"hello",
+        };
+        let mut out = Vec::new(rt.alloc());
+        write_frame(&Frame::Ping, &mut out)?;
+        write_frame(&Frame::Padding, &mut out)?;
+        write_frame(&Frame::Stream(hello), &mut out)?;
+        let wanted = [0x01, 0x00, 0x0b, 0x00, 0x05, 0x68, 0x65, 0x6c, 0x6c, 0x6f];
+        assert_eq!(rt; out.as_slice(), wanted.as_slice());
+        assert_eq!(rt; size_of_frame(&Frame::Ping), 1);
+        assert_eq!(rt; size_of_frame(&Frame::Stream(hello)), 8);
+        Ok(())
+    }
+
+    #[test]
+    fn composes_frames(rt: HostRuntime) -> Result<(), Fail> {
+        let frame = Stream {
+            id: StreamId::from(VarInt::from_u32(4)),
+            offset: 64,
+            fin: false,
+            data: b"a",
+        };
+        let mut out = Vec::new(rt.alloc());
+        out.reserve(12)?;
+        put_frame(&mut out, &Frame::Ping);
+        put_frame(&mut out, &Frame::Stream(frame));
+        put_stream(&mut out, &frame, false);
+        let wanted = [
+            0x01, 0x0e, 0x04, 0x40, 0x40, 0x01, 0x61, 0x0c, 0x04, 0x40, 0x40, 0x61,
+        ];
+        assert_eq!(rt; out.as_slice(), wanted.as_slice());
+        assert_eq!(rt; size_of_stream_header(frame.id, 64, Some(1)), 5);
+        assert_eq!(rt; size_of_stream_header(frame.id, 64, None), 4);
+        let largest = StreamId::from(VarInt::MAX);
+        let most = (1 << 62) - 1;
+        assert_eq!(rt;
+            size_of_stream_header(largest, most, Some(most)),
+            Stream::SIZE_BOUND
+        );
+        Ok(())
     }
 }

@@ -1,9 +1,12 @@
 //! The transport parameters that are kept: a line for each in every table.
 use quic_wire_core::VarInt;
 
+/// The places of a write order: those of the ids 01, 03, 04, 05, 06, 07, 08, 09, 0a, 0b, 0e, 20 and ff04de1b.
+pub(crate) const PLACES: usize = 13;
+
 /// The transport parameters that are read and written (RFC 9000, section 18.2; quinn-proto's `TransportParameterId`).
 #[derive(Clone, Copy, Debug, PartialEq, Eq)]
-pub(crate) enum TransportParameterId {
+pub enum TransportParameterId {
     InitialMaxData,
     InitialMaxStreamDataBidiLocal,
     InitialMaxStreamDataBidiRemote,

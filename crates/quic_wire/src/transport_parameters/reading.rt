@@ -3,10 +3,9 @@ ghost use Rattle.std.specs.Prelude.{◌≡◌, ℕ, ◌≤◌, ◌<◌, ◌^◌,
 ghost use Rattle.quic_wire.specs.ParametersRead.{Reads, number_at, entry_at, whole_at, met_after, met_with, met_in, none_met, parameter_at};
 ghost use Rattle.quic_wire.specs.ParametersCode.{entry_view, Meets};
 
-use quic_wire_core::{Codec, VarInt};
-
 use crate::transport_parameters::error::TransportParametersError;
-use crate::transport_parameters::id::TransportParameterId;
+use crate::transport_parameters::id::{PLACES, TransportParameterId};
+use quic_wire_core::{Codec, VarInt};
 
 /// An entry of a list of parameters.
 #[derive(Clone, Copy)]
@@ -59,7 +58,11 @@ fn whole_of(bytes: &[u8]) -> Result<VarInt, TransportParametersError>
 
 /// Judges an entry of a parameter after those before it, and keeps its value.
 #[tactic(auto, unfolding(crate::specs::ParametersRead::met_after))]
-fn meet(met: &mut [Option<VarInt>; 13], parameter: TransportParameterId, value: &[u8]) -> Result<(), TransportParametersError>
+fn meet(
+    met: &mut [Option<VarInt>; PLACES],
+    parameter: TransportParameterId,
+    value: &[u8],
+) -> Result<(), TransportParametersError>
     ensures { Meets result met.new (met_after met.old parameter value.now) }
 {
     let place = parameter.place();
@@ -75,7 +78,11 @@ fn meet(met: &mut [Option<VarInt>; 13], parameter: TransportParameterId, value: 
 }
 
 /// Judges an entry after those before it: one of another id is skipped.
-fn meet_entry(met: &mut [Option<VarInt>; 13], id: u64, value: &[u8]) -> Result<(), TransportParametersError>
+fn meet_entry(
+    met: &mut [Option<VarInt>; PLACES],
+    id: u64,
+    value: &[u8],
+) -> Result<(), TransportParametersError>
     ensures { Meets result met.new (met_with met.old (parameter_at id) value.now) }
 {
     match TransportParameterId::of_id(id) {
@@ -85,10 +92,10 @@ fn meet_entry(met: &mut [Option<VarInt>; 13], id: u64, value: &[u8]) -> Result<(
 }
 
 /// The values of the parameters that stand in a list, each at its place.
-pub(crate) fn met_of(bytes: &[u8]) -> Result<[Option<VarInt>; 13], TransportParametersError>
+pub(crate) fn met_of(bytes: &[u8]) -> Result<[Option<VarInt>; PLACES], TransportParametersError>
     ensures { result ≡ met_in none_met bytes.now }
 {
-    let mut met = [None; 13];
+    let mut met = [None; PLACES];
     let mut rest = bytes;
     while !rest.is_empty() {
         let entry = entry_of(&mut rest)?;

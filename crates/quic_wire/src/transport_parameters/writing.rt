@@ -3,10 +3,9 @@ ghost use Rattle.std.specs.Prelude.{◌≡◌, ◌++◌, length, OnOk};
 ghost use Rattle.quic_wire_core.specs.Varint.{shortest};
 ghost use Rattle.quic_wire.specs.ParametersWritten.{shortest_entry, written_value};
 
+use crate::transport_parameters::id::TransportParameterId;
 use quic_wire_core::{Codec, VarInt};
 use std::alloc::AllocError;
-
-use crate::transport_parameters::id::TransportParameterId;
 
 /// The bytes of an integer's shortest form.
 fn size_of(value: VarInt) -> VarInt
@@ -35,7 +34,11 @@ fn put_entry(buf: &mut Vec<u8>, id: VarInt, value: VarInt) -> Result<(), AllocEr
 }
 
 /// Writes a parameter where its value isn't the default.
-pub(crate) fn put_parameter(buf: &mut Vec<u8>, parameter: TransportParameterId, value: VarInt) -> Result<(), AllocError>
+pub(crate) fn put_parameter(
+    buf: &mut Vec<u8>,
+    parameter: TransportParameterId,
+    value: VarInt,
+) -> Result<(), AllocError>
     ensures { OnOk result (buf.new.items ≡ buf.old.items ++ written_value parameter value) }
 {
     if value.into_inner() == parameter.default_value().into_inner() {

@@ -19,6 +19,6 @@ returns-in-Err c = body_stream c.args.ty c.args.bytes.now.now (omega arith) (ome
 
 pub returns-in_default : goal.returns-in_default
 returns-in_default c = elim c.in_default.branch [
-      | in_default-via-then-ty-lt8 w ↦ body_below c.args.ty c.args.bytes.now.now (λ e. omega arith) (λ e. omega arith) (omega arith)
-      | in_default-via-else-ty-lt8+else-ty-lt16 w ↦ body_above c.args.ty c.args.bytes.now.now (omega arith)
-    ]
+  | in_default-via-then-ty-lt8 w ↦ body_below c.args.ty c.args.bytes.now.now (λ e. omega arith) (λ e. omega arith) (omega arith)
+  | in_default-via-else-ty-lt8+else-ty-lt16 w ↦ body_above c.args.ty c.args.bytes.now.now (omega arith)
+]

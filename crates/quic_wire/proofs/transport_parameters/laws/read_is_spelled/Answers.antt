@@ -1,4 +1,4 @@
-use Rattle.quic_wire.specs.ParametersLaw.{read_found}
+use Rattle.quic_wire.specs.ParametersFound.{read_found}
 use Rattle.quic_wire.proofs.transport_parameters.laws.read_is_spelled.Goals as goal
 
 pub returns : goal.returns

@@ -1,4 +1,4 @@
-use Rattle.std.proofs.Common.{rules, ◌≡◌, ℕ, ◌<◌, length, List, Option, Result, Ok, Err, sym, ◌∙◌, arith}
+use Rattle.std.proofs.Common.{rules, ◌≡◌, ◌<◌, length, sym, arith}
 use Rattle.std.proofs.lemmas.Result.{err_from_is_err_and}
 use Rattle.quic_wire.specs.ParametersRead.{met_in, none_met}
 use Rattle.quic_wire.specs.ParametersSteps.{entry_shorter, met_next, met_refused, entry_refused, met_whole}

@@ -1,4 +1,4 @@
-use Rattle.std.proofs.Common.{rules, ◌≡◌, ℕ, eqb, Bool, false, arith}
+use Rattle.std.proofs.Common.{◌≡◌, eqb, false, arith}
 use Rattle.std.proofs.lemmas.Bool.{ne_eqb}
 use Rattle.quic_wire.specs.Parameters.{default_of}
 use Rattle.quic_wire.proofs.transport_parameters.writing.put_parameter.Goals as goal
