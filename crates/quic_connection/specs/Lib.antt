@@ -1,3 +1,4 @@
 pub mod Halves
 pub mod Bounds
 pub mod Answered
+pub mod Frames

@@ -1,0 +1,125 @@
+// What was written on one stream.
+ghost use Rattle.std.specs.Prelude.{◌≡◌, ◌≤◌, ◌-◌, ◌++◌, length, slice_range, OnOk, OnErr};
+ghost use Rattle.quic_connection_core.specs.Sending.{SendHalf, new_half, written_on, has_pending, grown, ended};
+ghost use Rattle.quic_connection_core.specs.Poll.{half_after};
+ghost use Rattle.quic_connection.specs.Frames.{frame_meta};
+
+use quic_streams_core::SendBuffer;
+use quic_wire_core::VarInt;
+use std::alloc::{AllocError, Global};
+use std::marker::Model;
+use std::ops::Range;
+
+// What a STREAM frame says of its bytes.
+#[derive(Drop)]
+pub(crate) struct FrameMeta {
+    // The offsets of the bytes.
+    pub(crate) offsets: Range<u64>,
+    // Whether the stream ends behind them.
+    pub(crate) fin: bool,
+    // Whether their length is written.
+    pub(crate) has_length: bool,
+}
+
+// The sending half of a stream (quinn-proto's `Send`).
+#[derive(Drop)]
+pub(crate) struct Send {
+    pending: SendBuffer,
+    finished: bool,
+    // Whether the end has to go yet.
+    fin_pending: bool,
+    // How far the peer lets it come.
+    max_data: VarInt,
+}
+
+impl Model for Send {
+    ghost use Rattle.quic_connection_core.specs.Sending.{SendHalf};
+
+    ghost Value = { SendHalf };
+
+    ghost view = { λ h. record { buffer = h.pending; finished = h.finished; end_waits = h.fin_pending; limit = h.max_data } };
+}
+
+impl Send {
+    // Nothing is written.
+    pub(crate) fn new(alloc: Global, max_data: VarInt) -> Self
+        ensures { result ≡ new_half max_data }
+    {
+        Send {
+            pending: SendBuffer::new(alloc),
+            finished: false,
+            fin_pending: false,
+            max_data,
+        }
+    }
+
+    pub(crate) fn is_finished(&self) -> bool
+        ensures { result ≡ self.now.finished }
+    {
+        self.finished
+    }
+
+    // How many bytes the peer still lets come.
+    pub(crate) fn room(&self) -> u64
+        ensures { result ≡ self.now.limit - written_on self.now }
+    {
+        let limit = self.max_data.into_inner();
+        limit.saturating_sub(self.pending.offset())
+    }
+
+    // Takes over bytes. An `Err` (want of memory) takes none.
+    pub(crate) fn write(&mut self, bytes: &[u8]) -> Result<(), AllocError>
+        requires { length bytes.now ≤ self.old.limit - written_on self.old }
+        ensures ok { OnOk result (self.new ≡ grown self.old bytes.now) }
+        ensures err { OnErr result (self.new ≡ self.old) }
+    {
+        let _bounds = (self.pending.offset(), self.max_data.into_inner());
+        self.pending.write(bytes)
+    }
+
+    // Nothing more is written, and the end has to go.
+    pub(crate) fn finish(&mut self)
+        ensures { self.new ≡ ended self.old }
+    {
+        self.finished = true;
+        self.fin_pending = true;
+    }
+
+    // Whether it has something to send: bytes never sent, or its end.
+    pub(crate) fn has_pending(&self) -> bool
+        ensures { result ≡ has_pending self.now }
+    {
+        self.pending.has_unsent_data() || self.fin_pending
+    }
+
+    // Takes what the next frame says, with so much room behind its type and id.
+    pub(crate) fn poll(&mut self, max_len: usize) -> FrameMeta
+        ensures meta { result ≡ frame_meta self.old max_len }
+        ensures new { self.new ≡ half_after self.old max_len }
+    {
+        let (offsets, has_length) = self.pending.poll_transmit(max_len);
+        let fin = self.finished && offsets.end == self.pending.offset();
+        self.fin_pending = self.fin_pending && !fin;
+        FrameMeta {
+            offsets,
+            fin,
+            has_length,
+        }
+    }
+
+    // Puts the bytes at these offsets behind others.
+    pub(crate) fn copy(&self, offsets: Range<u64>, out: &mut Vec<u8>) -> Result<(), AllocError>
+        requires kept { self.now.buffer.base ≤ offsets.start }
+        requires ordered { offsets.start ≤ offsets.end }
+        requires bounded { offsets.end ≤ written_on self.now }
+        ensures { OnOk result (out.new.items ≡ out.old.items ++ slice_range self.now.buffer.kept (offsets.start - self.now.buffer.base) (offsets.end - self.now.buffer.base)) }
+    {
+        let mut start = offsets.start;
+        while start < offsets.end {
+            let bytes = self.pending.get(start..offsets.end);
+            out.extend_from_slice(bytes)?;
+            start += bytes.len() as u64;
+        }
+        Ok(())
+    }
+}
