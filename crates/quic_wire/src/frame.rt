@@ -47,17 +47,21 @@ impl<'a> Frame<'a> {
     }
 }
 
+ghost use Rattle.std.specs.Prelude.{◌<◌, ◌^◌};
+
 /// Bytes of a stream (section 19.8; quinn-proto's `frame::Stream`).
 #[derive(Clone, Copy, Debug, PartialEq, Eq)]
 pub struct Stream<'a> {
     /// The stream's id.
     pub id: StreamId,
-    /// Where in the stream the bytes begin.
+    /// Where in the stream the bytes begin: below 2^62.
     pub offset: u64,
     /// Whether the stream ends behind these bytes.
     pub fin: bool,
     /// The bytes.
     pub data: &'a [u8],
+    // An offset has a form as a variable-length integer (RFC 9000, section 16).
+    ghost small: { offset < 2 ^ 62 },
 }
 
 impl<'a> Stream<'a> {
