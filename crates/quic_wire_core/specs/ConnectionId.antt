@@ -1,11 +1,12 @@
 -- Ids of connections: at most 20 bytes, kept in twenty with zeros behind them (RFC 9000, section 17.2).
-use Rattle.std.specs.Prelude.{◌≡◌, ℕ, ◌-◌, ◌≤◌, ◌/◌, ◌%◌, List, [], ◌∷◌, ◌++◌, length, take, Bool, true, false, nat_eq}
+use Rattle.std.specs.Prelude.{◌≡◌, ◌↔◌, ℕ, ◌-◌, ◌≤◌, ◌/◌, ◌%◌, List, [], ◌∷◌, ◌++◌, length, take, Bool, true, false, nat_eq}
 use Rattle.std.specs.declared.cmp.Ordering.{Ordering}
+use Rattle.std.specs.declared.cmp.Ordering.TheVariants.{Less, Equal, Greater}
 use Rattle.std.specs.List.{flat_map}
 use Rattle.std.specs.Fmt.{digit_glyph}
 use Rattle.std.specs.Ordering.{nat_cmp, then_cmp, on, eq_by_cmp, is_eq}
 use Rattle.std.specs.Cmp.{IsTotalOrder, both_tied}
-use Rattle.std.specs.Cmp.Lexicographic.{pointwise, slice_cmp, texts_ties, as_long}
+use Rattle.std.specs.Cmp.Lexicographic.{pointwise, slice_cmp, texts_ties, as_long, bytes_decides}
 use Rattle.std.proofs.Common.{sym, ap, arith, ◌∙◌, ◌&&◌, refl}
 use Rattle.std.proofs.lemmas.Cmp.{then_total, on_total, nat_cmp_total, nat_list_cmp_total, tied_itself}
 use Rattle.std.proofs.Math.ListN.{replicate}
@@ -58,6 +59,16 @@ pub id_ties : (a b : List ℕ) → pointwise nat_eq a b ≡ eq_by_cmp id_cmp a b
 id_ties a b =
     absorbed (is_eq (nat_cmp (length a) (length b))) (pointwise nat_eq a b) (λ e. long_ties a b (as_long nat_eq a b e))
     ∙ both_tied _ _ (nat_cmp (length a) (length b)) (slice_cmp nat_cmp a b) refl (texts_ties a b)
+
+-- the order that says equal
+equal_told : (o : Ordering) → is_eq o ≡ true → o ≡ Equal
+equal_told Less e = absurd cc
+equal_told Equal e = refl
+equal_told Greater e = absurd cc
+
+-- The order calls two ids equal exactly where they are.
+pub id_cmp_equal : (a b : List ℕ) → (id_cmp a b ≡ Equal) ↔ (a ≡ b)
+id_cmp_equal a b = (λ e. (bytes_decides a b).0 (id_ties a b ∙ ap is_eq e), λ e. equal_told (id_cmp a b) (sym (id_ties a b) ∙ (bytes_decides a b).1 e))
 
 -- Two hexadecimal digits of a byte, in lower case.
 abbrev pub hex_byte_text : ℕ → List ℕ

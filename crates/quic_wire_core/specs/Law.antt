@@ -5,7 +5,7 @@ use Rattle.std.proofs.lemmas.Bool.{cases_lt, ltb-false, le-ltb, lt-ltb, eqb-true
 use Rattle.std.proofs.lemmas.List.{take_at, drop_at, take-append-drop, length-append, length-take, get_or-take, get_or_past}
 use Rattle.std.proofs.lemmas.Nat.{from_be_bytes-to_be_bytes_2, from_be_bytes-to_be_bytes_4, from_be_bytes-to_be_bytes_8, be_bytes_2, be_bytes_4, be_bytes_8}
 use Rattle.quic_wire_core.specs.Coding.{IsBytes, fixed_at}
-use Rattle.quic_wire_core.specs.Varint.{varint_at, wide_at, shortest, Spells, Begins}
+use Rattle.quic_wire_core.specs.Varint.{varint_at, wide_at, shortest, varint_size, Spells, Begins}
 
 -- the number of a width is read again
 wide_again : (w : Width) (n : ℕ) (rest : List ℕ) → length (to_be_bytes w n) ≡ byte_len w → from_be_bytes w (to_be_bytes w n) ≡ n → wide_at w (to_be_bytes w n ++ rest) ≡ Some (n % 2 ^ (8 * byte_len w - 2), rest)
@@ -172,3 +172,70 @@ fixed_again_32 n rest lt = fixed_again w32 n rest refl (from_be_bytes-to_be_byte
 -- eight bytes are read again
 pub fixed_again_64 : (n : ℕ) (rest : List ℕ) → n < 2 ^ 64 → fixed_at w64 (to_be_bytes w64 n ++ rest) ≡ Some (n, rest)
 fixed_again_64 n rest lt = fixed_again w64 n rest refl (from_be_bytes-to_be_bytes_8 n lt)
+
+-- How long the shortest form is.
+pub length-shortest : (v : ℕ) → length (shortest v) ≡ varint_size v
+length-shortest v =
+    elim (cases_lt v 64) [
+      | inl a ↦ rw (lt-ltb v 64 a) refl
+      | inr a ↦ rw (le-ltb v 64 a) (elim (cases_lt v 16384) [
+        | inl b ↦ rw (lt-ltb v 16384 b) refl
+        | inr b ↦ rw (le-ltb v 16384 b) (elim (cases_lt v 1073741824) [
+          | inl c ↦ rw (lt-ltb v 1073741824 c) refl
+          | inr c ↦ rw (le-ltb v 1073741824 c) refl
+        ])
+      ])
+    ]
+
+-- numbers below 2 ^ 6 take one byte
+size_1 : (v : ℕ) → v < 2 ^ 6 → varint_size v ≤ 1
+size_1 v h = rw (lt-ltb v 64 h) (omega arith)
+
+-- numbers below 2 ^ 14 take two at most
+size_2 : (v : ℕ) → v < 2 ^ 14 → varint_size v ≤ 2
+size_2 v h = elim (cases_lt v 64) [
+  | inl a ↦ (let b = size_1 v a in omega arith)
+  | inr a ↦ rw (le-ltb v 64 a, lt-ltb v 16384 h) (omega arith)
+]
+
+-- numbers below 2 ^ 30 take four at most
+size_4 : (v : ℕ) → v < 2 ^ 30 → varint_size v ≤ 4
+size_4 v h = elim (cases_lt v 16384) [
+  | inl a ↦ (let b = size_2 v a in omega arith)
+  | inr a ↦ (let n : 64 ≤ v = omega arith in rw (le-ltb v 64 n, le-ltb v 16384 a, lt-ltb v 1073741824 h) (omega arith))
+]
+
+-- No number takes more than eight bytes.
+pub varint_size_le : (v : ℕ) → varint_size v ≤ 8
+varint_size_le v = elim (cases_lt v 1073741824) [
+  | inl a ↦ (let b = size_4 v a in omega arith)
+  | inr a ↦ (let n : 64 ≤ v = omega arith in let m : 16384 ≤ v = omega arith in rw (le-ltb v 64 n, le-ltb v 16384 m, le-ltb v 1073741824 a) (omega arith))
+]
+
+-- Each number takes a byte.
+pub varint_size_positive : (v : ℕ) → 0 < varint_size v
+varint_size_positive v =
+    elim (cases_lt v 64) [
+      | inl a ↦ rw (lt-ltb v 64 a) (omega arith)
+      | inr a ↦ rw (le-ltb v 64 a) (elim (cases_lt v 16384) [
+        | inl b ↦ rw (lt-ltb v 16384 b) (omega arith)
+        | inr b ↦ rw (le-ltb v 16384 b) (elim (cases_lt v 1073741824) [
+          | inl c ↦ rw (lt-ltb v 1073741824 c) (omega arith)
+          | inr c ↦ rw (le-ltb v 1073741824 c) (omega arith)
+        ])
+      ])
+    ]
+
+-- no form is shorter than the shortest
+pub shortest_least : (v : ℕ) (bytes : List ℕ) → Spells v bytes → length (shortest v) ≤ length bytes
+shortest_least v bytes (inl s) = rw (length-shortest v, s.1) (size_1 v s.0)
+shortest_least v bytes (inr (inl s)) = rw (length-shortest v, s.1) (size_2 v s.0)
+shortest_least v bytes (inr (inr (inl s))) = rw (length-shortest v, s.1) (size_4 v s.0)
+shortest_least v bytes (inr (inr (inr s))) = rw (length-shortest v, s.1) (varint_size_le v)
+
+-- No bytes are forms of two numbers.
+pub spells_once : (v w : ℕ) (bytes : List ℕ) → Spells v bytes → Spells w bytes → v ≡ w
+spells_once v w bytes a b =
+    let one = spells_again v bytes [] a in
+    let other = spells_again w bytes [] b in
+    ap (λ (p : ℕ × List ℕ). p.0) (some_is (v, []) (w, []) (sym one ∙ other))

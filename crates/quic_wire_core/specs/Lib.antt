@@ -3,6 +3,7 @@ pub mod Varint
 pub mod Law
 pub mod ConnectionId
 pub mod StreamId
+pub mod StreamIdLaw
 pub mod FrameType
 pub mod TransportError
 pub mod Ecn

@@ -18,6 +18,14 @@ shortest v =
     else (if nat_lt v (2 ^ 30) then to_be_bytes w32 (2 * 2 ^ 30 + v)
     else to_be_bytes w64 (3 * 2 ^ 62 + v)))
 
+-- How many bytes the shortest form of a number below 2 ^ 62 has (RFC 9000, section 16, table 4).
+abbrev pub varint_size : ℕ → ℕ
+varint_size v =
+    if nat_lt v (2 ^ 6) then 1
+    else (if nat_lt v (2 ^ 14) then 2
+    else (if nat_lt v (2 ^ 30) then 4
+    else 8))
+
 -- The number of this width at the front, without the two bits that tag the width, and what follows it.
 abbrev pub wide_at : Width → List ℕ → Option (ℕ × List ℕ)
 wide_at w bytes =

@@ -3,14 +3,13 @@ ghost use Rattle.std.specs.Prelude.{◌≡◌, ℕ, ◌++◌, List, Option, Some
 ghost use Rattle.std.specs.Int.{w8, w16, w32, w64};
 ghost use Rattle.quic_wire_core.specs.Coding.{Decodes, Takes};
 
-use bytes::{Buf, BufMut};
-use std::alloc::AllocError;
-use thiserror::Error;
-
 use crate::frame_type::FrameType;
 use crate::stream_id::StreamId;
 use crate::transport_error::Code;
 use crate::varint::VarInt;
+use bytes::{Buf, BufMut};
+use std::alloc::AllocError;
+use thiserror::Error;
 
 /// The bytes end before the value does (quinn-proto's `coding::UnexpectedEnd`).
 #[derive(Clone, Copy, Debug, PartialEq, Eq, Error)]
@@ -187,7 +186,8 @@ impl Codec for StreamId {
     }
 
     fn encode<B: BufMut>(&self, buf: &mut B) -> Result<(), AllocError> {
-        VarInt::from(*self).encode(buf)
+        let id = VarInt::from(*self);
+        id.encode(buf)
     }
 }
 
@@ -211,7 +211,8 @@ impl Codec for FrameType {
     }
 
     fn encode<B: BufMut>(&self, buf: &mut B) -> Result<(), AllocError> {
-        VarInt::from(*self).encode(buf)
+        let ty = VarInt::from(*self);
+        ty.encode(buf)
     }
 }
 
@@ -235,6 +236,46 @@ impl Codec for Code {
     }
 
     fn encode<B: BufMut>(&self, buf: &mut B) -> Result<(), AllocError> {
-        VarInt::from(*self).encode(buf)
+        let code = VarInt::from(*self);
+        code.encode(buf)
+    }
+}
+
+#[cfg(test)]
+mod tests {
+    use super::*;
+    use std::test::Fail;
+
+    #[test]
+    fn widths_are_big_endian(rt: HostRuntime) -> Result<(), Fail> {
+        let mut out = Vec::new(rt.alloc());
+        1u8.encode(&mut out)?;
+        0x0203u16.encode(&mut out)?;
+        0x0405_0607u32.encode(&mut out)?;
+        0x0809_0a0b_0c0d_0e0fu64.encode(&mut out)?;
+        let wanted: [u8; 15] = [1, 2, 3, 4, 5, 6, 7, 8, 9, 10, 11, 12, 13, 14, 15];
+        assert_eq!(rt; out.as_slice(), wanted.as_slice());
+        let mut rest = out.as_slice();
+        assert_eq!(rt; u8::decode(&mut rest)?, 1);
+        assert_eq!(rt; u16::decode(&mut rest)?, 0x0203);
+        assert_eq!(rt; u32::decode(&mut rest)?, 0x0405_0607);
+        assert_eq!(rt; u64::decode(&mut rest)?, 0x0809_0a0b_0c0d_0e0f);
+        assert_eq!(rt; u8::decode(&mut rest), Err(UnexpectedEnd));
+        Ok(())
+    }
+
+    #[test]
+    fn ids_types_and_codes_are_variable_integers(rt: HostRuntime) -> Result<(), Fail> {
+        let mut out = Vec::new(rt.alloc());
+        StreamId::from(VarInt::from_u32(15_293)).encode(&mut out)?;
+        FrameType::ACK_FREQUENCY.encode(&mut out)?;
+        Code::PROTOCOL_VIOLATION.encode(&mut out)?;
+        let wanted: [u8; 5] = [0x7b, 0xbd, 0x40, 0xaf, 0x0a];
+        assert_eq!(rt; out.as_slice(), wanted.as_slice());
+        let mut rest = out.as_slice();
+        assert_eq!(rt; u64::from(StreamId::decode(&mut rest)?), 15_293);
+        assert_eq!(rt; FrameType::decode(&mut rest)?, FrameType::ACK_FREQUENCY);
+        assert_eq!(rt; Code::decode(&mut rest)?, Code::PROTOCOL_VIOLATION);
+        Ok(())
     }
 }

@@ -1,11 +1,10 @@
 //! Types of frames (RFC 9000, section 19).
 ghost use Rattle.std.specs.Prelude.{◌≡◌};
-ghost use Rattle.quic_wire_core.specs.FrameType.{is_stream_type, is_datagram_type};
-
-use std::fmt;
-use std::marker::Model;
+ghost use Rattle.quic_wire_core.specs.FrameType.{all_frame_types, is_stream_type, is_datagram_type};
 
 use crate::varint::VarInt;
+use std::fmt;
+use std::marker::Model;
 
 /// The type of a frame: a number below 2^62 (quinn-proto's `FrameType`).
 ///
@@ -107,6 +106,41 @@ impl FrameType {
     /// Asks the peer to acknowledge more or less often (the ACK frequency extension).
     pub const ACK_FREQUENCY: FrameType = FrameType(0xaf);
 
+    /// Each type that has a name here, in the order of their numbers.
+    pub fn all() -> [FrameType; 27]
+        ensures { result ≡ all_frame_types }
+    {
+        [
+            FrameType::PADDING,
+            FrameType::PING,
+            FrameType::ACK,
+            FrameType::ACK_ECN,
+            FrameType::RESET_STREAM,
+            FrameType::STOP_SENDING,
+            FrameType::CRYPTO,
+            FrameType::NEW_TOKEN,
+            FrameType::STREAM,
+            FrameType::MAX_DATA,
+            FrameType::MAX_STREAM_DATA,
+            FrameType::MAX_STREAMS_BIDI,
+            FrameType::MAX_STREAMS_UNI,
+            FrameType::DATA_BLOCKED,
+            FrameType::STREAM_DATA_BLOCKED,
+            FrameType::STREAMS_BLOCKED_BIDI,
+            FrameType::STREAMS_BLOCKED_UNI,
+            FrameType::NEW_CONNECTION_ID,
+            FrameType::RETIRE_CONNECTION_ID,
+            FrameType::PATH_CHALLENGE,
+            FrameType::PATH_RESPONSE,
+            FrameType::CONNECTION_CLOSE,
+            FrameType::APPLICATION_CLOSE,
+            FrameType::HANDSHAKE_DONE,
+            FrameType::IMMEDIATE_ACK,
+            FrameType::DATAGRAM,
+            FrameType::ACK_FREQUENCY,
+        ]
+    }
+
     /// Whether frames of this type carry bytes of a stream: 8 to 15 (RFC 9000, section 19.8).
     pub fn is_stream(self) -> bool
         ensures { result ≡ is_stream_type self }
@@ -180,5 +214,26 @@ impl fmt::Display for FrameType {
             other => return write!(f, "unknown frame type {other:#x}"),
         };
         f.write_str(name)
+    }
+}
+
+#[cfg(test)]
+mod tests {
+    use super::*;
+    use std::test::Fail;
+
+    #[test]
+    fn prints_names(rt: HostRuntime) -> Result<(), Fail> {
+        let last = FrameType::from(VarInt::from_u32(0x0f));
+        let other = FrameType::from(VarInt::from_u32(0x2a));
+        let text = format!(in rt.alloc(); "{}, {last}, {other}", FrameType::CONNECTION_CLOSE)?;
+        assert_eq!(rt;
+            text.as_str(),
+            "CONNECTION_CLOSE, STREAM, unknown frame type 0x2a"
+        );
+        assert!(rt; last.is_stream());
+        assert!(rt; !other.is_stream());
+        assert!(rt; FrameType::DATAGRAM.is_datagram());
+        Ok(())
     }
 }

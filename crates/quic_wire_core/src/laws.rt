@@ -1,7 +1,14 @@
 //! What the definitions of this crate say together. Each function does nothing: its contract is the law.
-ghost use Rattle.std.specs.Prelude.{◌≡◌, ℕ, ◌<◌, ◌^◌, List, ◌++◌, Some};
+ghost use Rattle.std.specs.Prelude.{◌≡◌, ℕ, ◌<◌, ◌≤◌, ◌^◌, ◌↔◌, List, ◌++◌, Some, IsTrue, length, nat_eq};
+ghost use Rattle.std.specs.Cmp.Lexicographic.{pointwise};
+ghost use Rattle.std.specs.declared.cmp.Ordering.TheVariants.{Equal};
 ghost use Rattle.quic_wire_core.specs.Coding.{IsBytes};
-ghost use Rattle.quic_wire_core.specs.Varint.{Spells, varint_at, shortest, Begins};
+ghost use Rattle.quic_wire_core.specs.ConnectionId.{id_cmp};
+ghost use Rattle.quic_wire_core.specs.StreamId.{stream_id, initiator_of, dir_of, index_of};
+ghost use Rattle.quic_wire_core.specs.StreamIdLaw.{AreSameParts};
+ghost use Rattle.quic_wire_core.specs.Varint.{Spells, varint_at, shortest, varint_size, Begins};
+ghost use Rattle.quic_wire_core.specs.declared.stream_id.Side.{Side};
+ghost use Rattle.quic_wire_core.specs.declared.stream_id.Dir.{Dir};
 
 /// Each form of a variable-length integer is read as that integer, whatever follows it.
 pub fn spelled_is_read()
@@ -16,4 +23,38 @@ pub fn read_is_spelled()
 /// The shortest form, which is the one that is written, is a form.
 pub fn shortest_is_form()
     ensures { (v : ℕ) → v < 2 ^ 62 → Spells v (shortest v) }
+{}
+
+/// No form of an integer is shorter than the one that is written.
+pub fn shortest_is_shortest()
+    ensures { (v : ℕ) (bytes : List ℕ) → Spells v bytes → length (shortest v) ≤ length bytes }
+{}
+
+/// How long the form is that is written.
+pub fn shortest_has_size()
+    ensures { (v : ℕ) → length (shortest v) ≡ varint_size v }
+{}
+
+/// No bytes are forms of two integers.
+pub fn forms_are_of_one()
+    ensures { (v w : ℕ) (bytes : List ℕ) → Spells v bytes → Spells w bytes → v ≡ w }
+{}
+
+/// A stream id gives back the side, the directions and the place that it was made of.
+pub fn stream_ids_have_parts()
+    ensures sides { (side : Side) (dir : Dir) (index : ℕ) → initiator_of (stream_id side dir index) ≡ side }
+    ensures dirs { (side : Side) (dir : Dir) (index : ℕ) → dir_of (stream_id side dir index) ≡ dir }
+    ensures indices { (side : Side) (dir : Dir) (index : ℕ) → index_of (stream_id side dir index) ≡ index }
+    ensures whole { (id : ℕ) → stream_id (initiator_of id) (dir_of id) (index_of id) ≡ id }
+{}
+
+/// Streams that differ in side, directions or place have different ids.
+pub fn stream_ids_differ()
+    ensures { (side : Side) (dir : Dir) (index : ℕ) (side' : Side) (dir' : Dir) (index' : ℕ) → stream_id side dir index ≡ stream_id side' dir' index' → AreSameParts side dir index side' dir' index' }
+{}
+
+/// What `==` answers of two connection ids, and where `cmp` calls them equal: where their bytes are.
+pub fn connection_ids_are_their_bytes()
+    ensures eq { (a b : List ℕ) → IsTrue (pointwise nat_eq a b) ↔ a ≡ b }
+    ensures cmp { (a b : List ℕ) → (id_cmp a b ≡ Equal) ↔ a ≡ b }
 {}

@@ -27,7 +27,7 @@ pub const MAX_CID_SIZE: usize = 20;
 #[derive(Clone, Copy, Debug)]
 pub struct ConnectionId {
     len: u8,
-    bytes: [u8; 20],
+    bytes: [u8; MAX_CID_SIZE],
 }
 
 impl Model for ConnectionId {
@@ -53,7 +53,7 @@ impl ConnectionId {
         requires { length bytes.now ≤ 20 }
         ensures { result ≡ bytes.now }
     {
-        let mut padded = [0; 20];
+        let mut padded = [0; MAX_CID_SIZE];
         padded[..bytes.len()].copy_from_slice(bytes);
         ConnectionId {
             len: bytes.len() as u8,
@@ -68,7 +68,7 @@ impl ConnectionId {
         ensures id { result ≡ take len (B.unread buf.old) }
         ensures rest { B.unread buf.new ≡ drop len (B.unread buf.old) }
     {
-        let mut padded = [0; 20];
+        let mut padded = [0; MAX_CID_SIZE];
         buf.copy_to_slice(&mut padded[..len]);
         ConnectionId {
             len: len as u8,
@@ -81,7 +81,7 @@ impl ConnectionId {
         ensures value { result.now ≡ self.now }
         ensures bound { length self.now ≤ 20 }
     {
-        &self.bytes[..usize::from(self.len)]
+        &self.bytes[..self.len()]
     }
 
     /// How many bytes the id has: at most 20.
@@ -153,7 +153,9 @@ impl Ord for ConnectionId {
     ghost matches_eq = { id_ties };
 
     fn cmp(&self, other: &ConnectionId) -> Ordering {
-        self.len().cmp(&other.len()).then(self.as_slice().cmp(other.as_slice()))
+        self.len()
+            .cmp(&other.len())
+            .then(self.as_slice().cmp(other.as_slice()))
     }
 }
 
@@ -191,12 +193,12 @@ fn write_hex<W: fmt::Write>(f: &mut fmt::Formatter<W>, byte: u8) -> fmt::Result
 /// The congestion mark of an IP packet, where it has one (RFC 3168, section 5; quinn-proto's `EcnCodepoint`).
 #[derive(Clone, Copy, Debug, PartialEq, Eq)]
 pub enum EcnCodepoint {
-    /// The transport takes marks, codepoint ECT(0): bits 10.
-    Ect0,
-    /// The transport takes marks, codepoint ECT(1): bits 01.
-    Ect1,
-    /// Congestion was met: bits 11.
-    Ce,
+    /// The transport takes marks, codepoint ECT(0).
+    Ect0 = 0b10,
+    /// The transport takes marks, codepoint ECT(1).
+    Ect1 = 0b01,
+    /// Congestion was met.
+    Ce = 0b11,
 }
 
 impl EcnCodepoint {
@@ -220,5 +222,46 @@ impl EcnCodepoint {
             EcnCodepoint::Ce => true,
             EcnCodepoint::Ect0 | EcnCodepoint::Ect1 => false,
         }
+    }
+}
+
+#[cfg(test)]
+mod tests {
+    use super::*;
+    use std::test::Fail;
+
+    // The ids are those of the packets of RFC 9001, appendix A.
+    #[test]
+    fn ids_are_their_bytes(rt: HostRuntime) -> Result<(), Fail> {
+        let client: [u8; 8] = [0x83, 0x94, 0xc8, 0xf0, 0x3e, 0x51, 0x57, 0x08];
+        let server: [u8; 8] = [0xf0, 0x67, 0xa5, 0x50, 0x2a, 0x42, 0x62, 0xb5];
+        let id = ConnectionId::new(&client);
+        assert_eq!(rt; id.as_slice(), client.as_slice());
+        assert_eq!(rt; id.len(), 8);
+        assert!(rt; !id.is_empty());
+        let text = format!(in rt.alloc(); "{id}")?;
+        assert_eq!(rt; text.as_str(), "8394c8f03e515708");
+        let mut rest = client.as_slice();
+        assert_eq!(rt; ConnectionId::from_buf(&mut rest, 8), id);
+        assert_eq!(rt; rest.len(), 0);
+        assert!(rt; ConnectionId::new(&server) > id);
+        assert!(rt; ConnectionId::new(&server[..7]) < id);
+        assert!(rt; ConnectionId::new(&[0]) != ConnectionId::new(&[0, 0]));
+        assert!(rt; ConnectionId::new(&[]).is_empty());
+        Ok(())
+    }
+
+    // RFC 3168, figure 1.
+    #[test]
+    fn codepoints_are_the_two_low_bits(rt: HostRuntime) {
+        assert_eq!(rt; EcnCodepoint::from_bits(0b00), None);
+        assert_eq!(rt; EcnCodepoint::from_bits(0b01), Some(EcnCodepoint::Ect1));
+        assert_eq!(rt; EcnCodepoint::from_bits(0b10), Some(EcnCodepoint::Ect0));
+        assert_eq!(rt;
+            EcnCodepoint::from_bits(0b1011_1011),
+            Some(EcnCodepoint::Ce)
+        );
+        assert!(rt; EcnCodepoint::Ce.is_ce());
+        assert!(rt; !EcnCodepoint::Ect0.is_ce());
     }
 }

@@ -3,12 +3,10 @@ ghost use Rattle.std.specs.Prelude.{◌≡◌, ◌<◌, ◌^◌, ◌==◌, IsTru
 ghost use Rattle.std.specs.Array.Iter.{array_into_iter_items};
 ghost use Rattle.quic_wire_core.specs.StreamId.{side_bit, dir_bit, stream_id, initiator_of, dir_of, index_of, other_side, all_dirs, side_text, dir_text, stream_text};
 
-use std::array;
-use std::fmt;
+use crate::varint::VarInt;
 use std::marker::Model;
 use std::ops::Not;
-
-use crate::varint::VarInt;
+use std::{array, fmt};
 
 /// An end of a connection (quinn-proto's `Side`).
 #[derive(Clone, Copy, Debug, PartialEq, Eq, PartialOrd, Ord, Hash)]
@@ -206,5 +204,43 @@ impl From<StreamId> for u64 {
 
     fn from(id: StreamId) -> u64 {
         id.0
+    }
+}
+
+#[cfg(test)]
+mod tests {
+    use super::*;
+    use std::test::Fail;
+
+    // The four kinds of RFC 9000, section 2.1, table 1, each at its first and its sixth stream.
+    #[test]
+    fn ids_have_the_bits_of_the_table(rt: HostRuntime) {
+        let kinds = [
+            (Side::Client, Dir::Bi, 0),
+            (Side::Server, Dir::Bi, 1),
+            (Side::Client, Dir::Uni, 2),
+            (Side::Server, Dir::Uni, 3),
+        ];
+        for (side, dir, bits) in kinds {
+            let first = StreamId::new(side, dir, 0);
+            let sixth = StreamId::new(side, dir, 5);
+            assert_eq!(rt; u64::from(first), bits);
+            assert_eq!(rt; u64::from(sixth), 20 + bits);
+            assert_eq!(rt; sixth.initiator(), side);
+            assert_eq!(rt; sixth.dir(), dir);
+            assert_eq!(rt; sixth.index(), 5);
+        }
+    }
+
+    #[test]
+    fn prints_its_parts(rt: HostRuntime) -> Result<(), Fail> {
+        let first = StreamId::new(Side::Client, Dir::Bi, 0);
+        let other = StreamId::new(!Side::Client, Dir::Uni, 12);
+        let text = format!(in rt.alloc(); "{first}, {other}")?;
+        assert_eq!(rt;
+            text.as_str(),
+            "client bidirectional stream 0, server unidirectional stream 12"
+        );
+        Ok(())
     }
 }

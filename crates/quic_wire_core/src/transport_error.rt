@@ -1,13 +1,12 @@
 //! Errors of the transport, which close a connection (RFC 9000, section 20.1).
-ghost use Rattle.std.specs.Prelude.{◌≡◌, None};
-ghost use Rattle.quic_wire_core.specs.TransportError.{ErrorValue};
-
-use std::error::Error;
-use std::fmt;
-use std::marker::Model;
+ghost use Rattle.std.specs.Prelude.{◌≡◌};
+ghost use Rattle.quic_wire_core.specs.TransportError.{all_codes, error_in, plain_error};
 
 use crate::frame_type::FrameType;
 use crate::varint::VarInt;
+use std::error::Error;
+use std::fmt;
+use std::marker::Model;
 
 /// The code of an error of the transport: a number below 2^62 (RFC 9000, section 20.1; quinn-proto's
 /// `transport_error::Code`).
@@ -79,6 +78,31 @@ impl Code {
 
     /// No path is left that serves.
     pub const NO_VIABLE_PATH: Code = Code(0x10);
+
+    /// Each code that has a name here, in the order of their numbers.
+    pub fn all() -> [Code; 17]
+        ensures { result ≡ all_codes }
+    {
+        [
+            Code::NO_ERROR,
+            Code::INTERNAL_ERROR,
+            Code::CONNECTION_REFUSED,
+            Code::FLOW_CONTROL_ERROR,
+            Code::STREAM_LIMIT_ERROR,
+            Code::STREAM_STATE_ERROR,
+            Code::FINAL_SIZE_ERROR,
+            Code::FRAME_ENCODING_ERROR,
+            Code::TRANSPORT_PARAMETER_ERROR,
+            Code::CONNECTION_ID_LIMIT_ERROR,
+            Code::PROTOCOL_VIOLATION,
+            Code::INVALID_TOKEN,
+            Code::APPLICATION_ERROR,
+            Code::CRYPTO_BUFFER_EXCEEDED,
+            Code::KEY_UPDATE_ERROR,
+            Code::AEAD_LIMIT_REACHED,
+            Code::NO_VIABLE_PATH,
+        ]
+    }
 }
 
 impl From<VarInt> for Code {
@@ -154,8 +178,7 @@ impl Model for TransportError {
 impl TransportError {
     /// An error with this code, the type of the frame that caused it, and this reason.
     pub fn new(code: Code, frame: Option<FrameType>, reason: &'static str) -> Self
-        ensures code { result.code ≡ code }
-        ensures frame { result.frame ≡ frame }
+        ensures { result ≡ error_in code frame }
     {
         TransportError {
             code,
@@ -196,7 +219,7 @@ impl TransportError {
 }
 
 impl From<Code> for TransportError {
-    ghost from_gives = { λ code e. (e.code ≡ code) × (e.frame ≡ None) };
+    ghost from_gives = { λ code e. e ≡ plain_error code };
 
     /// An error with this code, of no frame, and with an empty reason.
     fn from(code: Code) -> TransportError {
@@ -225,3 +248,30 @@ impl fmt::Display for TransportError {
 }
 
 impl Error for TransportError {}
+
+#[cfg(test)]
+mod tests {
+    use super::*;
+    use std::test::Fail;
+
+    #[test]
+    fn prints_code_frame_and_reason(rt: HostRuntime) -> Result<(), Fail> {
+        let error = TransportError::new(
+            Code::FLOW_CONTROL_ERROR,
+            Some(FrameType::STREAM),
+            "too much data",
+        );
+        let text = format!(in rt.alloc(); "{error}")?;
+        assert_eq!(rt;
+            text.as_str(),
+            "FLOW_CONTROL_ERROR in STREAM: too much data"
+        );
+        assert_eq!(rt; error.copied().reason(), "too much data");
+        let plain = TransportError::from(Code::from(VarInt::from_u32(0x1234)));
+        let text = format!(in rt.alloc(); "{plain}")?;
+        assert_eq!(rt; text.as_str(), "unknown error 0x1234");
+        assert_eq!(rt; plain.frame(), None);
+        assert_eq!(rt; plain.reason(), "");
+        Ok(())
+    }
+}

@@ -1,7 +1,8 @@
 //! Variable-length integers (RFC 9000, section 16).
-ghost use Rattle.std.specs.Prelude.{◌≡◌, ◌<◌, ◌^◌, ◌≤◌, [], MatchResult, MatchOption, length, slice_index};
+ghost use Rattle.std.specs.Prelude.{◌≡◌, ◌-◌, ◌<◌, ◌^◌, ◌≤◌, [], MatchResult, MatchOption, length, slice_index};
+ghost use Rattle.quic_wire_core.specs.Varint.{varint_size};
 
-use crate::coding::{u16_of, u32_of, u64_of, u8_of, Codec, UnexpectedEnd};
+use crate::coding::{Codec, UnexpectedEnd, u8_of, u16_of, u32_of, u64_of};
 use bytes::{Buf, BufMut};
 use std::alloc::AllocError;
 use std::fmt;
@@ -38,6 +39,13 @@ impl VarInt {
     /// The most bytes that a number takes.
     pub const MAX_SIZE: usize = 8;
 
+    /// The greatest number, as [`VarInt::MAX`].
+    pub fn max_value() -> Self
+        ensures { result ≡ 2 ^ 62 - 1 }
+    {
+        VarInt::MAX
+    }
+
     /// The number, which always fits.
     pub fn from_u32(x: u32) -> Self
         ensures { result ≡ x }
@@ -61,7 +69,23 @@ impl VarInt {
         requires { x < 2 ^ 62 }
         ensures { result ≡ x }
     {
-        VarInt(x)
+        Self(x)
+    }
+
+    /// How many bytes the number takes when it is written: 1, 2, 4 or 8.
+    pub fn size(self) -> usize
+        ensures { result ≡ varint_size self }
+    {
+        let n = self.into_inner();
+        if n < 1 << 6 {
+            1
+        } else if n < 1 << 14 {
+            2
+        } else if n < 1 << 30 {
+            4
+        } else {
+            8
+        }
     }
 
     /// The number as an integer, which is below 2^62.
@@ -108,7 +132,7 @@ impl Codec for VarInt {
     }
 
     fn encode<B: BufMut>(&self, buf: &mut B) -> Result<(), AllocError> {
-        let x = self.0;
+        let x = self.into_inner();
         if x < 1 << 6 {
             buf.put_u8(x as u8)
         } else if x < 1 << 14 {
@@ -127,7 +151,7 @@ impl fmt::Display for VarInt {
     ghost output = { λ v. Some (decimal v) };
 
     fn fmt<W: fmt::Write>(&self, f: &mut fmt::Formatter<W>) -> fmt::Result {
-        self.0.fmt(f)
+        self.into_inner().fmt(f)
     }
 }
 
@@ -135,7 +159,7 @@ impl From<u8> for VarInt {
     ghost from_gives = { λ x v. v ≡ x };
 
     fn from(x: u8) -> VarInt {
-        VarInt(u64::from(x))
+        VarInt::from_u32(u32::from(x))
     }
 }
 
@@ -143,7 +167,7 @@ impl From<u16> for VarInt {
     ghost from_gives = { λ x v. v ≡ x };
 
     fn from(x: u16) -> VarInt {
-        VarInt(u64::from(x))
+        VarInt::from_u32(u32::from(x))
     }
 }
 
@@ -151,7 +175,7 @@ impl From<u32> for VarInt {
     ghost from_gives = { λ x v. v ≡ x };
 
     fn from(x: u32) -> VarInt {
-        VarInt(u64::from(x))
+        VarInt::from_u32(x)
     }
 }
 
@@ -199,5 +223,70 @@ impl TryFrom<u128> for VarInt {
             Ok(x) => VarInt::from_u64(x),
             Err(_) => Err(VarIntBoundsExceeded),
         }
+    }
+}
+
+#[cfg(test)]
+mod tests {
+    use super::*;
+    use std::test::Fail;
+
+    // The samples of RFC 9000, appendix A.1.
+    #[test]
+    fn reads_the_samples_of_the_standard(rt: HostRuntime) -> Result<(), Fail> {
+        let samples: [(&[u8], u64); 5] = [
+            (
+                &[0xc2, 0x19, 0x7c, 0x5e, 0xff, 0x14, 0xe8, 0x8c],
+                151_288_809_941_952_652,
+            ),
+            (&[0x9d, 0x7f, 0x3e, 0x7d], 494_878_333),
+            (&[0x7b, 0xbd], 15_293),
+            (&[0x25], 37),
+            (&[0x40, 0x25], 37),
+        ];
+        for (bytes, value) in samples {
+            let mut rest = bytes;
+            assert_eq!(rt; VarInt::decode(&mut rest)?.into_inner(), value);
+            assert_eq!(rt; rest.len(), 0);
+            let mut short = &bytes[..bytes.len() - 1];
+            assert_eq!(rt; VarInt::decode(&mut short), Err(UnexpectedEnd));
+            assert_eq!(rt; short.len(), bytes.len() - 1);
+        }
+        Ok(())
+    }
+
+    // All but the last of these samples are the shortest forms.
+    #[test]
+    fn writes_the_samples_of_the_standard(rt: HostRuntime) -> Result<(), Fail> {
+        let mut out = Vec::new(rt.alloc());
+        assert_eq!(rt; VarInt::from_u32(37).size(), 1);
+        assert_eq!(rt; VarInt::from_u32(15_293).size(), 2);
+        VarInt::from_u32(37).encode(&mut out)?;
+        VarInt::from_u64(15_293)?.encode(&mut out)?;
+        VarInt::try_from(494_878_333u64)?.encode(&mut out)?;
+        VarInt::try_from(151_288_809_941_952_652u128)?.encode(&mut out)?;
+        let wanted: [u8; 15] = [
+            0x25, 0x7b, 0xbd, 0x9d, 0x7f, 0x3e, 0x7d, 0xc2, 0x19, 0x7c, 0x5e, 0xff, 0x14, 0xe8,
+            0x8c,
+        ];
+        assert_eq!(rt; out.as_slice(), wanted.as_slice());
+        Ok(())
+    }
+
+    #[test]
+    fn ends_below_two_to_the_62(rt: HostRuntime) -> Result<(), Fail> {
+        assert_eq!(rt; VarInt::from_u64(4_611_686_018_427_387_903)?, VarInt::MAX);
+        assert_eq!(rt;
+            VarInt::from_u64(4_611_686_018_427_387_904),
+            Err(VarIntBoundsExceeded)
+        );
+        assert_eq!(rt;
+            VarInt::try_from(4_611_686_018_427_387_904usize),
+            Err(VarIntBoundsExceeded)
+        );
+        assert_eq!(rt; VarInt::try_from(1u128 << 64), Err(VarIntBoundsExceeded));
+        let text = format!(in rt.alloc(); "{}", VarInt::MAX)?;
+        assert_eq!(rt; text.as_str(), "4611686018427387903");
+        Ok(())
     }
 }
