@@ -5,7 +5,7 @@ use Rattle.quic_wire.specs.declared.frame.InvalidFrame.{InvalidFrame}
 use Rattle.quic_wire.specs.Value.{FrameValue, StreamValue, padding, stream}
 use Rattle.quic_wire.specs.Grammar.{IsForm, Payload}
 use Rattle.quic_wire.specs.Items.{items}
-use Rattle.quic_wire.specs.Writing.{spelling, stream_spelling, spelled_all, Fits, AllFit, StreamFits}
+use Rattle.quic_wire.specs.Writing.{spelling, stream_spelling, spelled_all, AllFit, StreamFits}
 use Rattle.quic_wire.proofs.FrameItems.{items_nil}
 use Rattle.quic_wire.proofs.FrameWhole.{form_items, payload_items}
 use Rattle.quic_wire.proofs.FrameWritten.{stream_form, spelling_form}

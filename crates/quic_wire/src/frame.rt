@@ -1,4 +1,5 @@
 //! Frames (RFC 9000, section 19): their values, the reader of a payload and the writers.
+ghost use Rattle.std.specs.Prelude.{◌<◌, ◌^◌};
 
 mod iter;
 mod reading;
@@ -46,8 +47,6 @@ impl<'a> Frame<'a> {
         !matches!(self, Frame::Padding)
     }
 }
-
-ghost use Rattle.std.specs.Prelude.{◌<◌, ◌^◌};
 
 /// Bytes of a stream (section 19.8; quinn-proto's `frame::Stream`).
 #[derive(Clone, Copy, Debug, PartialEq, Eq)]
