@@ -1,13 +1,14 @@
 //! Frames (RFC 9000, section 19): their values, the reader of a payload and the writers.
 ghost use Rattle.std.specs.Prelude.{◌<◌, ◌^◌};
 
+use quic_wire_core::{Code, FrameType, StreamId, TransportError, VarInt};
+use thiserror::Error;
+
 mod iter;
 mod reading;
 mod writing;
 
 pub use iter::Iter;
-use quic_wire_core::{Code, FrameType, StreamId, TransportError, VarInt};
-use thiserror::Error;
 pub use writing::{put_frame, put_stream, size_of_frame, size_of_stream_header, write_frame};
 
 /// A frame of a payload (quinn-proto's `frame::Frame`).
