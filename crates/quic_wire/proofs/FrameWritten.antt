@@ -1,5 +1,5 @@
 -- What is written: how it is put together, how long it is, and that it is a form.
-use Rattle.std.proofs.Common.{◌≡◌, ℕ, ◌+◌, ◌≤◌, ◌<◌, ◌^◌, Bool, true, false, not, eqb, List, [], ◌∷◌, ◌++◌, length, take, refl, sym, ap, ◌∙◌, append_assoc, arith}
+use Rattle.std.proofs.Common.{◌≡◌, ℕ, ◌+◌, ◌<◌, ◌^◌, Bool, true, false, not, eqb, List, [], ◌∷◌, ◌++◌, length, take, refl, sym, ap, ◌∙◌, append_assoc, arith}
 use Rattle.std.specs.Prelude.{if◌then◌else◌}
 use Rattle.std.proofs.lemmas.Bool.{eqb-true}
 use Rattle.std.proofs.lemmas.List.{length-append, append-nil, take_at, take_all}
@@ -7,8 +7,8 @@ use Rattle.quic_wire_core.specs.Varint.{shortest}
 use Rattle.quic_wire_core.specs.Law.{shortest_spells}
 use Rattle.quic_wire.specs.Value.{FrameValue, StreamValue, padding, ping, stream}
 use Rattle.quic_wire.specs.FrameTypes.{is_stream, type_of}
-use Rattle.quic_wire.specs.Grammar.{Numbers, Then, offset_numbers, OffsetFits, length_numbers, Ends, stream_numbers, IsForm}
-use Rattle.quic_wire.specs.Writing.{written, has_offset, stream_header, stream_spelling, spelling, StreamFits, Fits, width_of, offset_width, length_width, length_if, stream_size, frame_size}
+use Rattle.quic_wire.specs.Grammar.{Numbers, offset_numbers, OffsetFits, length_numbers, Ends, stream_numbers, IsForm}
+use Rattle.quic_wire.specs.Writing.{written, has_offset, stream_header, stream_spelling, spelling, StreamFits, Fits, width_of, length_width, length_if, stream_size, frame_size}
 
 pub written_append : (ns ms : List ℕ) → written (ns ++ ms) ≡ written ns ++ written ms
 written_append [] ms = refl

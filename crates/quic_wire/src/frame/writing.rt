@@ -232,48 +232,51 @@ mod tests {
 
     #[test]
     fn writes_frames(rt: HostRuntime) -> Result<(), Fail> {
-        let hello = Stream {
+        let hello = Frame::Stream(Stream {
             id: StreamId::from(VarInt::from_u32(0)),
             offset: 0,
             fin: true,
             data: b"hello",
-        };
+        });
         let mut out = Vec::new(rt.alloc());
         write_frame(&Frame::Ping, &mut out)?;
         write_frame(&Frame::Padding, &mut out)?;
-        write_frame(&Frame::Stream(hello), &mut out)?;
+        write_frame(&hello, &mut out)?;
         let wanted = [0x01, 0x00, 0x0b, 0x00, 0x05, 0x68, 0x65, 0x6c, 0x6c, 0x6f];
         assert_eq!(rt; out.as_slice(), wanted.as_slice());
         assert_eq!(rt; size_of_frame(&Frame::Ping), 1);
-        assert_eq!(rt; size_of_frame(&Frame::Stream(hello)), 8);
+        assert_eq!(rt; size_of_frame(&hello), 8);
         Ok(())
     }
 
     #[test]
     fn composes_frames(rt: HostRuntime) -> Result<(), Fail> {
-        let frame = Stream {
-            id: StreamId::from(VarInt::from_u32(4)),
+        let id = StreamId::from(VarInt::from_u32(4));
+        let stream = Stream {
+            id,
             offset: 64,
             fin: false,
             data: b"a",
         };
         let mut out = Vec::new(rt.alloc());
         out.reserve(12)?;
-        put_frame(&mut out, &Frame::Ping);
-        put_frame(&mut out, &Frame::Stream(frame));
-        put_stream(&mut out, &frame, false);
+        put_frame(&mut out, &Frame::Padding);
+        put_stream(&mut out, &stream, true);
+        put_stream(&mut out, &stream, false);
         let wanted = [
-            0x01, 0x0e, 0x04, 0x40, 0x40, 0x01, 0x61, 0x0c, 0x04, 0x40, 0x40, 0x61,
+            0x00, 0x0e, 0x04, 0x40, 0x40, 0x01, 0x61, 0x0c, 0x04, 0x40, 0x40, 0x61,
         ];
         assert_eq!(rt; out.as_slice(), wanted.as_slice());
-        assert_eq!(rt; size_of_stream_header(frame.id, 64, Some(1)), 5);
-        assert_eq!(rt; size_of_stream_header(frame.id, 64, None), 4);
-        let largest = StreamId::from(VarInt::MAX);
+        assert_eq!(rt; size_of_stream_header(id, 64, Some(1)), 5);
+        assert_eq!(rt; size_of_stream_header(id, 64, None), 4);
+        Ok(())
+    }
+
+    #[test]
+    fn headers_have_at_most_25_bytes(rt: HostRuntime) -> Result<(), Fail> {
         let most = (1 << 62) - 1;
-        assert_eq!(rt;
-            size_of_stream_header(largest, most, Some(most)),
-            Stream::SIZE_BOUND
-        );
+        let size = size_of_stream_header(StreamId::from(VarInt::MAX), most, Some(most));
+        assert_eq!(rt; size, Stream::SIZE_BOUND);
         Ok(())
     }
 }
