@@ -145,6 +145,23 @@ impl SendBuffer {
             &back[start - front.len()..end - front.len()]
         }
     }
+
+    /// The bytes of a range, in two parts, of which either may be empty: where they lie in a ring, they may pass its end.
+    pub fn get_parts(&self, offsets: Range<u64>) -> (&[u8], &[u8])
+        requires kept { self.now.base ≤ offsets.start }
+        requires ordered { offsets.start ≤ offsets.end }
+        requires bounded { offsets.end ≤ written self.now }
+        ensures { result.0.now ++ result.1.now ≡ slice_range self.now.kept (offsets.start - self.now.base) (offsets.end - self.now.base) }
+    {
+        let (front, back) = self.kept.as_slices();
+        let cut = front.len();
+        let start = (offsets.start - self.base) as usize;
+        let end = (offsets.end - self.base) as usize;
+        (
+            &front[start.min(cut)..end.min(cut)],
+            &back[start.saturating_sub(cut)..end.saturating_sub(cut)],
+        )
+    }
 }
 
 #[cfg(test)]
