@@ -1,10 +1,15 @@
 //! One end of a connection (RFC 9000).
-ghost use Rattle.std.specs.Prelude.{◌≡◌, ◌≢◌, ◌+◌, ◌≤◌, ◌<◌, ◌^◌, ◌++◌, ◌↔◌, length, Ok, Err, Some, None, IfOk, OnOk, OnErr, IfErr, IsTrue, option_copied, if◌then◌else◌};
+ghost use Rattle.std.specs.Prelude.{◌≡◌, ◌≢◌, ◌+◌, ◌≤◌, ◌<◌, ◌^◌, ◌++◌, ◌↔◌, length, Ok, Err, Some, None, IfOk, OnOk, OnErr, IfErr, IsTrue, option_copied, if◌then◌else◌, true};
 ghost use Rattle.quic_wire.specs.ParametersRead.{parameters_at};
 ghost use Rattle.quic_connection_core.specs.declared.answers.State.TheVariants as states;
 ghost use Rattle.quic_connection_core.specs.declared.answers.ConfigError.TheVariants as config_errors;
 ghost use Rattle.quic_connection_core.specs.End.{MadeFrom, refusal_of, with_end, with_closing, with_numbers};
 ghost use Rattle.quic_connection_core.specs.Closing.{ticked};
+ghost use Rattle.quic_connection_core.specs.declared.answers.WriteError.TheVariants as write_errors;
+ghost use Rattle.quic_connection_core.specs.declared.answers.ReadError.TheVariants as read_errors;
+ghost use Rattle.quic_connection_core.specs.Sending.{finish_answer};
+ghost use Rattle.quic_connection_core.specs.Receiving.{read_answer};
+ghost use Rattle.quic_connection_core.specs.Calls.{is_open, can_open, open_answer, after_open, end_accepts, end_after_accept, end_writes, end_after_write, end_after_finish, end_next, end_after_next};
 ghost use Rattle.quic_connection_core.specs.Numbers.{is_duplicate, number_opened, number_taken};
 
 mod closing;
@@ -17,14 +22,18 @@ use crate::config::Config;
 use crate::connection::closing::Closing;
 use crate::connection::ids::{Ids, OWN_ID_LENGTH};
 use crate::connection::numbers::Numbers;
+use crate::handles::{RecvStream, SendStream, Streams};
 use crate::streams::receiving::Receiving;
 use crate::streams::sending::Sending;
-use quic_connection_core::{ConfigError, Instant, LostReason, State};
+use quic_connection_core::{
+    ConfigError, FinishError, Instant, LostReason, ReadError, ReadableError, State, WriteError,
+};
+use quic_streams_core::Chunk;
 use quic_wire::TransportParameters;
 use quic_wire::crypto::{HeaderKey, Keys, PacketKey};
-use quic_wire_core::{ConnectionId, Side};
+use quic_wire_core::{ConnectionId, Dir, Side, StreamId};
 use rand_core::Rng;
-use std::alloc::Global;
+use std::alloc::{AllocError, Global};
 use std::marker::Model;
 
 /// One end of a connection: a deterministic state machine of datagrams, moments and application calls
@@ -279,5 +288,19 @@ impl<H: HeaderKey + Drop, K: PacketKey + Drop, R: Rng + Drop> Connection<H, K, R
         ensures { result ≡ can_open self.now.end.closing.state dir self.now.end }
     {
         self.is_open() && self.sending.opens(self.side, dir)
+    }
+
+    /// Opens a stream of this kind, which may be opened: a two-way one can be read as well.
+    fn open_stream(&mut self, dir: Dir) -> Result<StreamId, AllocError>
+        requires { can_open self.old.end.closing.state dir self.old.end ≡ true }
+        ensures id { IfOk result (λ id. Some id ≡ open_answer dir self.old.end) }
+        ensures ok { OnOk result (self.new ≡ with_end self.old (after_open dir self.old.end)) }
+        ensures err { OnErr result (self.new ≡ self.old) }
+    {
+        let id = self.sending.open(self.side, dir)?;
+        if dir == Dir::Bi {
+            self.receiving.open_own(id)?;
+        }
+        Ok(id)
     }
 }

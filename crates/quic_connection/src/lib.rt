@@ -2,7 +2,6 @@
 //! datagrams and read bytes out; and runs of two ends over a network.
 #![tactic(auto)]
 
-mod streams;
 mod config;
 mod connection;
 mod handles;

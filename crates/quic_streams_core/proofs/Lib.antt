@@ -4,3 +4,4 @@ pub mod Filled
 pub mod Bytes
 pub mod Claims
 pub mod Runs
+pub mod Parts
