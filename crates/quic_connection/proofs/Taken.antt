@@ -78,3 +78,18 @@ after_chunk r chunk (Some h) id most = refl
 pub after_refused : (r : Receiving) (error : ReadError) (o : Option RecvHalf) (id most : ℕ) → at r.halves id ≡ o → read_at (Err error) o r id most ≡ after_next (Err error) o r id most
 after_refused r error None id most e = refl
 after_refused r error (Some h) id most e = ap (λ hs. record r { halves = hs }) (set_value_same (is_at (nat_cmp id)) r.halves h e)
+
+-- it has one
+pub found_touched : (r : Receiving) (id : ℕ) (o : Option RecvHalf) → at r.halves id ≡ o → is_some (half_for o r id) ≡ true → IsSome (at (after_touch o r id).halves id)
+found_touched r id (Some h) e takes = subst IsSome (sym e) refl
+found_touched r id None e takes = subst IsSome (sym (at-added r.halves id untouched)) refl
+
+-- whether too many pieces wait there is what the frame is answered
+pub breach_touched : (side : Side) (r : Receiving) (f : StreamValue) (o : Option RecvHalf) (many : Bool) → at r.halves f.id ≡ o → is_some (half_for o r f.id) ≡ true → refusal side r f ≡ None → many ≡ too_many (at (after_touch o r f.id).halves f.id) f → stream_breach side r f ≡ (if many then Some Pieces else None)
+breach_touched side r f o many e takes none is =
+    let same = is ∙ ap (λ p. too_many p f) (touched r f.id o e takes) in
+    rw (none, e, same) refl
+
+-- and what keeping it leaves is what the frame leaves
+pub stream_kept : (side : Side) (r : Receiving) (f : StreamValue) (o : Option RecvHalf) → at r.halves f.id ≡ o → is_some (half_for o r f.id) ≡ true → refusal side r f ≡ None → kept_at (at (after_touch o r f.id).halves f.id) (after_touch o r f.id) f ≡ after_stream side r f
+stream_kept side r f o e takes none = kept_touched r f o e takes ∙ sym (rw (none, e) refl)

@@ -1,11 +1,14 @@
-use Rattle.std.proofs.Common.{◌≤◌, ◌^◌, arith}
+use Rattle.std.proofs.Common.{◌≤◌, ◌^◌, sym, subst, arith}
+use Rattle.quic_wire.specs.Parameters.{ParameterValues}
 use Rattle.quic_wire.specs.declared.transport_parameters.id.TransportParameterId.TheVariants.{InitialMaxStreamsBidi, InitialMaxStreamsUni}
 use Rattle.quic_connection.proofs.streams.receiving.Receiving.new.Goals as goal
 
 pub invariant_of-result : goal.invariant_of-result
 invariant_of-result c =
-    let bi : c.args.ours.now.initial_max_streams_bidi ≤ 2 ^ 60 = c.requires InitialMaxStreamsBidi in
-    let uni : c.args.ours.now.initial_max_streams_uni ≤ 2 ^ 60 = c.requires InitialMaxStreamsUni in
+    let P : ParameterValues → Type 0 = λ p. p.initial_max_streams_bidi ≤ 2 ^ 60 in
+    let Q : ParameterValues → Type 0 = λ p. p.initial_max_streams_uni ≤ 2 ^ 60 in
+    let bi = subst P (sym c.ours.view_is) (c.requires InitialMaxStreamsBidi) in
+    let uni = subst Q (sym c.ours.view_is) (c.requires InitialMaxStreamsUni) in
     record {
       accepted_bi = omega arith;
       accepted_uni = omega arith;
