@@ -17,7 +17,7 @@ pub record Arrived : Type 0 where
 abbrev pub start : Part → ℕ
 start p = p.0 - length p.1
 
--- parts from `low` on, none empty, one behind the other, and below the greatest offset (RFC 9000, 4.5: 2^62 - 1)
+-- parts from `low` on, none empty, one behind the other, and below the greatest offset (RFC 9000, 19.8: 2^62 - 1)
 abbrev pub AreApart : ℕ → List Part → Type 0
 AreApart low [] = low < 2 ^ 62
 AreApart low (p ∷ ps) = (low + length p.1 ≤ p.0) × (0 < length p.1) × AreApart p.0 ps
