@@ -2,3 +2,5 @@ pub mod Halves
 pub mod Bounds
 pub mod Answered
 pub mod Frames
+pub mod Faults
+pub mod Ends

@@ -1,10 +1,15 @@
 //! One end of a connection (RFC 9000).
-ghost use Rattle.std.specs.Prelude.{◌≡◌, ◌≢◌, ◌+◌, ◌≤◌, ◌<◌, ◌^◌, ◌++◌, ◌↔◌, length, Ok, Err, Some, None, IfOk, OnOk, OnErr, IfErr, IsTrue, option_copied, if◌then◌else◌};
+ghost use Rattle.std.specs.Prelude.{◌≡◌, ◌≢◌, ◌+◌, ◌≤◌, ◌<◌, ◌^◌, ◌++◌, ◌↔◌, length, Ok, Err, Some, None, IfOk, OnOk, OnErr, IfErr, IsTrue, option_copied, if◌then◌else◌, true};
 ghost use Rattle.quic_wire.specs.ParametersRead.{parameters_at};
 ghost use Rattle.quic_connection_core.specs.declared.answers.State.TheVariants as states;
 ghost use Rattle.quic_connection_core.specs.declared.answers.ConfigError.TheVariants as config_errors;
 ghost use Rattle.quic_connection_core.specs.End.{MadeFrom, refusal_of, with_end, with_closing, with_numbers};
 ghost use Rattle.quic_connection_core.specs.Closing.{ticked};
+ghost use Rattle.quic_connection_core.specs.declared.answers.WriteError.TheVariants as write_errors;
+ghost use Rattle.quic_connection_core.specs.declared.answers.ReadError.TheVariants as read_errors;
+ghost use Rattle.quic_connection_core.specs.Sending.{finish_answer};
+ghost use Rattle.quic_connection_core.specs.Receiving.{read_answer};
+ghost use Rattle.quic_connection_core.specs.Calls.{is_open, can_open, open_answer, after_open, end_accepts, end_after_accept, end_writes, end_after_write, end_after_finish, end_next, end_after_next};
 ghost use Rattle.quic_connection_core.specs.Numbers.{is_duplicate, number_opened, number_taken};
 
 mod closing;
@@ -17,14 +22,18 @@ use crate::config::Config;
 use crate::connection::closing::Closing;
 use crate::connection::ids::{Ids, OWN_ID_LENGTH};
 use crate::connection::numbers::Numbers;
+use crate::handles::{RecvStream, SendStream, Streams};
 use crate::streams::receiving::Receiving;
 use crate::streams::sending::Sending;
-use quic_connection_core::{ConfigError, Instant, LostReason, State};
+use quic_connection_core::{
+    ConfigError, FinishError, Instant, LostReason, ReadError, ReadableError, State, WriteError,
+};
+use quic_streams_core::Chunk;
 use quic_wire::TransportParameters;
 use quic_wire::crypto::{HeaderKey, Keys, PacketKey};
-use quic_wire_core::{ConnectionId, Side};
+use quic_wire_core::{ConnectionId, Dir, Side, StreamId};
 use rand_core::Rng;
-use std::alloc::Global;
+use std::alloc::{AllocError, Global};
 use std::marker::Model;
 
 /// One end of a connection: a deterministic state machine of datagrams, moments and application calls
@@ -177,5 +186,121 @@ impl<H: HeaderKey + Drop, K: PacketKey + Drop, R: Rng + Drop> Connection<H, K, R
         ensures { self.new ≡ with_end self.old (with_numbers self.old.end (number_taken self.old.end.numbers number)) }
     {
         self.numbers.take(number);
+    }
+
+    /// The streams of the end.
+    pub fn streams(&mut self) -> Streams<'_, H, K, R>
+        ensures same_reference { result.connection.ghost_name ≡ self.entry.ghost_name }
+        ensures end { result.connection.now ≡ self.old }
+    {
+        Streams { connection: self }
+    }
+
+    /// The sending half of a stream, which may be one that there is not.
+    pub fn send_stream(&mut self, id: StreamId) -> SendStream<'_, H, K, R>
+        ensures same_reference { result.connection.ghost_name ≡ self.entry.ghost_name }
+        ensures end { result.connection.now ≡ self.old }
+        ensures stream { result.id ≡ id }
+    {
+        SendStream {
+            id,
+            connection: self,
+        }
+    }
+
+    /// The receiving half of a stream, which may be one that there is not.
+    pub fn recv_stream(&mut self, id: StreamId) -> RecvStream<'_, H, K, R>
+        ensures same_reference { result.connection.ghost_name ≡ self.entry.ghost_name }
+        ensures end { result.connection.now ≡ self.old }
+        ensures stream { result.id ≡ id }
+    {
+        RecvStream {
+            id,
+            connection: self,
+        }
+    }
+
+    /// Opens a stream of this kind, if one may be.
+    pub(crate) fn open(&mut self, dir: Dir) -> Result<Option<StreamId>, AllocError>
+        ensures answer { IfOk result (λ id. id ≡ open_answer dir self.old.end) }
+        ensures ok { OnOk result (self.new ≡ with_end self.old (after_open dir self.old.end)) }
+        ensures err { OnErr result (self.new ≡ self.old) }
+    {
+        if !self.can_open(dir) {
+            return Ok(None);
+        }
+        let id = self.open_stream(dir)?;
+        Ok(Some(id))
+    }
+
+    /// Accepts a stream of this kind.
+    pub(crate) fn accept(&mut self, dir: Dir) -> Option<StreamId>
+        ensures answer { result ≡ end_accepts dir self.old.end }
+        ensures end { self.new ≡ with_end self.old (end_after_accept dir self.old.end) }
+    {
+        self.receiving.accept(self.side, dir)
+    }
+
+    /// Writes on a stream.
+    pub(crate) fn write(&mut self, id: StreamId, data: &[u8]) -> Result<usize, WriteError>
+        ensures answer { result ≢ Err write_errors.Memory → result ≡ end_writes self.old.end id (length data.now) }
+        ensures end { self.new ≡ with_end self.old (end_after_write result self.old.end id data.now) }
+    {
+        let is_open = self.is_open();
+        self.sending.write(is_open, id, data)
+    }
+
+    /// Finishes a stream.
+    pub(crate) fn finish(&mut self, id: StreamId) -> Result<(), FinishError>
+        ensures answer { result ≡ finish_answer self.old.end.sending id }
+        ensures end { self.new ≡ with_end self.old (end_after_finish self.old.end id) }
+    {
+        self.sending.finish(id)
+    }
+
+    /// Whether a stream may be read.
+    pub(crate) fn is_readable(&self, id: StreamId) -> Result<(), ReadableError>
+        ensures { result ≡ read_answer self.now.end.receiving id }
+    {
+        self.receiving.is_readable(id)
+    }
+
+    /// The next bytes of a stream.
+    pub(crate) fn next(&mut self, id: StreamId, max_length: usize) -> Result<Option<Chunk>, ReadError>
+        ensures answer { result ≢ Err read_errors.Memory → result ≡ end_next self.old.end id max_length }
+        ensures end { self.new ≡ with_end self.old (end_after_next result self.old.end id max_length) }
+    {
+        self.receiving.next(id, max_length)
+    }
+
+    /// Whether the end sends and receives.
+    fn is_open(&self) -> bool
+        ensures { result ≡ is_open self.now.end.closing.state }
+    {
+        match self.closing.state() {
+            State::Open => true,
+            State::Closing | State::Drained | State::Failed => false,
+        }
+    }
+
+    /// Whether a stream of this kind may be opened.
+    fn can_open(&self, dir: Dir) -> bool
+        ensures { result ≡ can_open self.now.end.closing.state dir self.now.end }
+    {
+        self.is_open() && self.sending.opens(self.side, dir)
+    }
+
+    /// Opens a stream of this kind, which may be opened: a two-way one can be read as well.
+    fn open_stream(&mut self, dir: Dir) -> Result<StreamId, AllocError>
+        requires { can_open self.old.end.closing.state dir self.old.end ≡ true }
+        ensures id { IfOk result (λ id. Some id ≡ open_answer dir self.old.end) }
+        ensures ok { OnOk result (self.new ≡ with_end self.old (after_open dir self.old.end)) }
+        ensures err { OnErr result (self.new ≡ self.old) }
+    {
+        let id = self.sending.open(self.side, dir)?;
+        if dir == Dir::Bi {
+            self.receiving.open_own(id)?;
+        }
+        Ok(id)
     }
 }
