@@ -3,3 +3,5 @@ pub mod Tables
 pub mod Opened
 pub mod First
 pub mod Slices
+pub mod Payloads
+pub mod Headers

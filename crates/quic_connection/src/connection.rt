@@ -1,22 +1,25 @@
 //! One end of a connection (RFC 9000).
-ghost use Rattle.std.specs.Prelude.{◌≡◌, ◌≢◌, ◌+◌, ◌≤◌, ◌<◌, ◌^◌, ◌++◌, ◌↔◌, length, Ok, Err, Some, None, IfOk, OnOk, OnErr, IfErr, IsTrue, option_copied, if◌then◌else◌, true};
+ghost use Rattle.std.specs.Prelude.{◌≡◌, ◌≢◌, ◌+◌, ◌≤◌, ◌<◌, ◌^◌, ◌++◌, ◌↔◌, length, Ok, Err, Some, None, IfOk, OnOk, OnErr, IfErr, IsTrue, option_copied, if◌then◌else◌, true, IfSome, IsSome};
 ghost use Rattle.quic_wire.specs.ParametersRead.{parameters_at};
 ghost use Rattle.quic_connection_core.specs.declared.answers.State.TheVariants as states;
 ghost use Rattle.quic_connection_core.specs.declared.answers.ConfigError.TheVariants as config_errors;
 ghost use Rattle.quic_connection_core.specs.End.{MadeFrom, refusal_of, with_end, with_closing, with_numbers};
-ghost use Rattle.quic_connection_core.specs.Closing.{ticked};
+ghost use Rattle.quic_connection_core.specs.Closing.{ticked, closed_for, failed};
+ghost use Rattle.quic_connection_core.specs.Table.{at};
+ghost use Rattle.quic_connection_core.specs.Poll.{first_pending};
 ghost use Rattle.quic_connection_core.specs.declared.answers.WriteError.TheVariants as write_errors;
 ghost use Rattle.quic_connection_core.specs.declared.answers.ReadError.TheVariants as read_errors;
 ghost use Rattle.quic_connection_core.specs.Sending.{finish_answer};
 ghost use Rattle.quic_connection_core.specs.Receiving.{read_answer};
 ghost use Rattle.quic_connection_core.specs.Calls.{is_open, can_open, open_answer, after_open, end_accepts, end_after_accept, end_writes, end_after_write, end_after_finish, end_next, end_after_next};
-ghost use Rattle.quic_connection_core.specs.Numbers.{is_duplicate, number_opened, number_taken};
+ghost use Rattle.quic_connection_core.specs.Numbers.{can_number, is_duplicate, number_opened, number_taken};
 
 mod closing;
 mod dedup;
 mod ids;
 mod numbers;
 pub(crate) mod receiving;
+mod sending;
 
 use crate::config::Config;
 use crate::connection::closing::Closing;
@@ -114,7 +117,7 @@ impl<H: HeaderKey + Drop, K: PacketKey + Drop, R: Rng + Drop> Connection<H, K, R
             ids: Ids::new(own_id, peer_id),
             numbers: Numbers::new(),
             validated,
-            sending: Sending::new(alloc, transport.get_send_window(), &theirs),
+            sending: Sending::new(alloc, &theirs, transport.get_send_window()),
             receiving: Receiving::new(alloc, &transport.transport_parameters()),
             keys,
             random,
@@ -302,5 +305,34 @@ impl<H: HeaderKey + Drop, K: PacketKey + Drop, R: Rng + Drop> Connection<H, K, R
             self.receiving.open_own(id)?;
         }
         Ok(id)
+    }
+
+    /// Closes for a reason.
+    pub(crate) fn close_by(&mut self, reason: LostReason)
+        ensures { self.new ≡ with_end self.old (with_closing self.old.end (closed_for reason self.old.end.closing)) }
+    {
+        self.closing.close(reason);
+    }
+
+    /// Fails for good.
+    pub(crate) fn fail(&mut self)
+        ensures { self.new ≡ with_end self.old (with_closing self.old.end (failed self.old.end.closing)) }
+    {
+        self.closing.fail();
+    }
+
+    /// Whether an ordinary datagram may still be numbered.
+    pub(crate) fn can_number(&self) -> bool
+        ensures { result ≡ can_number self.now.end.numbers }
+    {
+        self.numbers.can_number()
+    }
+
+    /// The first stream with something to send.
+    pub(crate) fn pending(&self) -> Option<StreamId>
+        ensures id { result ≡ first_pending self.now.end.sending.halves }
+        ensures half { IfSome result (λ id. IsSome (at self.now.end.sending.halves id)) }
+    {
+        self.sending.pending()
     }
 }

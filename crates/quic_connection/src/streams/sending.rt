@@ -101,7 +101,7 @@ fn taken_by(half: &Send, room: u64, len: usize) -> Result<usize, WriteError>
 // The first stream with something to send. This looks at each stream before it: at this stage an
 // end has one at most, and where it has many, those that wait stand in a queue of their own.
 fn first_pending(halves: &BTreeMap<u64, Send>) -> Option<u64>
-    ensures { result ≡ option_map (λ e. e.0) (first_pending halves.now.entries) }
+    ensures { result ≡ first_pending halves.now.entries }
 {
     for (id, half) in halves {
         if half.has_pending() {
@@ -305,8 +305,8 @@ impl Sending {
 
     // The first stream with something to send.
     pub(crate) fn pending(&self) -> Option<StreamId>
-        ensures id { result ≡ option_map (λ e. e.0) (first_pending self.now.halves) }
-        ensures half { IfSome (first_pending self.now.halves) (λ e. at self.now.halves e.0 ≡ Some e.1) }
+        ensures id { result ≡ first_pending self.now.halves }
+        ensures half { IfSome result (λ id. IsSome (at self.now.halves id)) }
     {
         match first_pending(&self.halves) {
             Some(id) => Some(StreamId::from(VarInt::from_u64_unchecked(id))),
