@@ -1,5 +1,5 @@
-pub mod Taken
 pub mod Tables
+pub mod Taken
 pub mod Opened
 pub mod First
 pub mod Slices

@@ -113,3 +113,22 @@ module _ {A : Type 0} where
       go Less ih = (p, a)
       go Equal ih = a
       go Greater ih = (a.0, ih)
+
+  -- what was unknown stays so where a value is taken out
+  pub unknown-without : (es : Table A) (id : ℕ) (q : ℕ) → at es q ≡ None → at (without es id) q ≡ None
+  unknown-without [] id q e = e
+  unknown-without (x ∷ es) id q e = go (is_at (nat_cmp id) x.0) (is_at (nat_cmp q) x.0) e (unknown-without es id q) refl
+    where
+      go : (a b : Bool) → cond b (Some x.1) (at es q) ≡ None → (at es q ≡ None → at (without es id) q ≡ None) → is_at (nat_cmp q) x.0 ≡ b → at (cond a es (x ∷ without es id)) q ≡ None
+      go a true h ih is = absurd (none_some x.1 (sym h))
+      go true false h ih is = h
+      go false false h ih is = rw is (ih h)
+
+  -- a fact of each id holds of those that are left
+  pub ids-without : (P : ℕ → Type 0) (es : Table A) (id : ℕ) → AllByRecursion P (keys_of es) → AllByRecursion P (keys_of (without es id))
+  ids-without P [] id a = tt
+  ids-without P (x ∷ es) id a = go (is_at (nat_cmp id) x.0) (ids-without P es id a.1)
+    where
+      go : (b : Bool) → AllByRecursion P (keys_of (without es id)) → AllByRecursion P (keys_of (cond b es (x ∷ without es id)))
+      go true ih = a.1
+      go false ih = (a.0, ih)

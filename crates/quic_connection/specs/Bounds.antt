@@ -1,11 +1,12 @@
 -- What is true of the streams of one end, beside what its calls say.
-use Rattle.std.specs.Prelude.{◌≡◌, ℕ, ◌^◌, ◌<◌, ◌≤◌, None}
+use Rattle.std.specs.Prelude.{◌≡◌, ℕ, ◌-◌, ◌^◌, ◌<◌, ◌≤◌, List, [], None, IfSome}
 use Rattle.std.specs.List.{AllByRecursion}
 use Rattle.std.specs.List.Sorted.{IsStrictlySortedBy}
 use Rattle.std.specs.Map.{keys_of}
 use Rattle.std.specs.Ordering.{nat_cmp}
 use Rattle.quic_wire_core.specs.declared.stream_id.Side.{Side}
 use Rattle.quic_wire_core.specs.declared.stream_id.Dir.{Dir}
+use Rattle.quic_wire_core.specs.declared.stream_id.Dir.TheVariants.{Bi}
 use Rattle.quic_wire_core.specs.StreamId.{stream_id}
 use Rattle.quic_connection_core.specs.Table.{at}
 use Rattle.quic_connection_core.specs.Sending.{Sending, opened_of, buffered}
@@ -37,3 +38,9 @@ pub record IsSending (s : Sending) (sum : ℕ) : Type 0 where
   pub opened_uni : s.opened_uni ≤ s.count_uni
   pub count_bi : s.count_bi ≤ 2 ^ 60
   pub count_uni : s.count_uni ≤ 2 ^ 60
+
+-- a two-way stream was opened last by this side, and nothing was written on it
+pub record IsLast (side : Side) (s : Sending) : Type 0 where
+  pub opened : 0 < s.opened_bi
+  pub empty : IfSome (at s.halves (stream_id side Bi (s.opened_bi - 1))) (λ h. h.buffer.kept ≡ [])
+  pub others : (other : Side) → (other ≡ side → ⊥) → at s.halves (stream_id other Bi (s.opened_bi - 1)) ≡ None

@@ -2,7 +2,7 @@
 ghost use Rattle.std.specs.Prelude.{◌≡◌, ◌≤◌, ◌-◌, ◌++◌, length, slice_range, OnOk, OnErr};
 ghost use Rattle.quic_connection_core.specs.Sending.{SendHalf, new_half, written_on, has_pending, grown, ended};
 ghost use Rattle.quic_connection_core.specs.Poll.{half_after};
-ghost use Rattle.quic_connection.specs.Frames.{frame_meta};
+ghost use Rattle.quic_connection.specs.Frames.{frame_meta, HasFrame};
 
 use quic_streams_core::SendBuffer;
 use quic_wire_core::VarInt;
@@ -95,8 +95,10 @@ impl Send {
     // Takes what the next frame says, with so much room behind its type and id.
     pub(crate) fn poll(&mut self, max_len: usize) -> FrameMeta
         ensures meta { result ≡ frame_meta self.old max_len }
+        ensures within { HasFrame self.old max_len }
         ensures new { self.new ≡ half_after self.old max_len }
     {
+        let _written = self.pending.offset();
         let (offsets, has_length) = self.pending.poll_transmit(max_len);
         let fin = self.finished && offsets.end == self.pending.offset();
         self.fin_pending = self.fin_pending && !fin;
@@ -107,19 +109,13 @@ impl Send {
         }
     }
 
-    // Puts the bytes at these offsets behind others.
-    pub(crate) fn copy(&self, offsets: Range<u64>, out: &mut Vec<u8>) -> Result<(), AllocError>
+    // The bytes at these offsets, in two parts, of which either may be empty.
+    pub(crate) fn get_parts(&self, offsets: Range<u64>) -> (&[u8], &[u8])
         requires kept { self.now.buffer.base ≤ offsets.start }
         requires ordered { offsets.start ≤ offsets.end }
         requires bounded { offsets.end ≤ written_on self.now }
-        ensures { OnOk result (out.new.items ≡ out.old.items ++ slice_range self.now.buffer.kept (offsets.start - self.now.buffer.base) (offsets.end - self.now.buffer.base)) }
+        ensures { result.0.now ++ result.1.now ≡ slice_range self.now.buffer.kept (offsets.start - self.now.buffer.base) (offsets.end - self.now.buffer.base) }
     {
-        let mut start = offsets.start;
-        while start < offsets.end {
-            let bytes = self.pending.get(start..offsets.end);
-            out.extend_from_slice(bytes)?;
-            start += bytes.len() as u64;
-        }
-        Ok(())
+        self.pending.get_parts(offsets)
     }
 }

@@ -7,7 +7,8 @@ ghost use Rattle.quic_connection_core.specs.Table.{at};
 ghost use Rattle.quic_connection_core.specs.Sending.{SendHalf, Sending, written_on, buffered, room, opened_of, count_of, may_open, opens, next_id, first_limit, new_half, after_open, taken_by, written_to, write_answer, grown_at, after_written, finish_answer, after_finish};
 ghost use Rattle.quic_connection_core.specs.Poll.{first_pending};
 ghost use Rattle.quic_connection_core.specs.declared.answers.WriteError.TheVariants as write_errors;
-ghost use Rattle.quic_connection.specs.Frames.{frame_meta, polled_at};
+ghost use Rattle.quic_connection.specs.Frames.{frame_meta, polled_at, HasFrame};
+ghost use Rattle.quic_connection.specs.Bounds.{IsLast};
 ghost use Rattle.quic_connection.specs.Halves.{is_closed};
 
 use crate::streams::send::{FrameMeta, Send};
@@ -163,7 +164,8 @@ impl Sending {
         requires { self.old.opened_bi < self.old.count_bi }
         ensures id { IfOk result (λ id. id ≡ next_id side dirs.Bi self.old) }
         ensures fresh { at self.old.halves (next_id side dirs.Bi self.old) ≡ None }
-        ensures new { OnOk result (self.new ≡ after_open side dirs.Bi self.old) }
+        ensures last { OnOk result (IsLast side self.new) }
+        ensures ok { OnOk result (self.new ≡ after_open side dirs.Bi self.old) }
         ensures err { OnErr result (self.new ≡ self.old) }
     {
         let id = StreamId::new(side, Dir::Bi, self.opened_bi);
@@ -177,7 +179,7 @@ impl Sending {
         requires { self.old.opened_uni < self.old.count_uni }
         ensures id { IfOk result (λ id. id ≡ next_id side dirs.Uni self.old) }
         ensures fresh { at self.old.halves (next_id side dirs.Uni self.old) ≡ None }
-        ensures new { OnOk result (self.new ≡ after_open side dirs.Uni self.old) }
+        ensures ok { OnOk result (self.new ≡ after_open side dirs.Uni self.old) }
         ensures err { OnErr result (self.new ≡ self.old) }
     {
         let id = StreamId::new(side, Dir::Uni, self.opened_uni);
@@ -187,18 +189,31 @@ impl Sending {
         Ok(id)
     }
 
-    // Opens the next stream of a kind. An `Err` (want of memory) changes nothing.
+    // Opens the next stream of a kind, which may be opened. An `Err` (want of memory) changes
+    // nothing.
     pub(crate) fn open(&mut self, side: Side, dir: Dir) -> Result<StreamId, AllocError>
-        requires { opened_of dir self.old < count_of dir self.old }
+        requires { opens side dir self.old ≡ true }
         ensures id { IfOk result (λ id. id ≡ next_id side dir self.old) }
         ensures fresh { at self.old.halves (next_id side dir self.old) ≡ None }
-        ensures new { OnOk result (self.new ≡ after_open side dir self.old) }
+        ensures last { dir ≡ dirs.Bi → OnOk result (IsLast side self.new) }
+        ensures ok { OnOk result (self.new ≡ after_open side dir self.old) }
         ensures err { OnErr result (self.new ≡ self.old) }
     {
         match dir {
             Dir::Bi => self.open_bi(side),
             Dir::Uni => self.open_uni(side),
         }
+    }
+
+    // Takes back the two-way stream that was opened last.
+    pub(crate) fn take_back(&mut self, side: Side)
+        requires { IsLast side self.old }
+        ensures { (before : Sending) → self.old ≡ after_open side dirs.Bi before → at before.halves (next_id side dirs.Bi before) ≡ None → self.new ≡ before }
+    {
+        let index = self.opened_bi - 1;
+        let id = StreamId::new(side, Dir::Bi, index);
+        let _ = self.halves.remove(&u64::from(id));
+        self.opened_bi = index;
     }
 
     // The half of a stream.
@@ -317,6 +332,7 @@ impl Sending {
     // Takes what the next frame of a stream says, with so much room behind its type and id.
     pub(crate) fn poll(&mut self, id: StreamId, max_len: usize) -> Option<FrameMeta>
         ensures meta { result ≡ option_map (λ h. frame_meta h max_len) (at self.old.halves id) }
+        ensures within { IfSome (at self.old.halves id) (λ h. HasFrame h max_len) }
         ensures new { self.new ≡ record self.old { halves = polled_at (at self.old.halves id) self.old.halves id max_len } }
     {
         let Some(half) = self.halves.get_mut(&u64::from(id)) else {
@@ -325,22 +341,16 @@ impl Sending {
         Some(half.poll(max_len))
     }
 
-    // Puts the bytes of a stream at these offsets behind others.
-    pub(crate) fn copy(
-        &self,
-        id: StreamId,
-        offsets: Range<u64>,
-        out: &mut Vec<u8>,
-    ) -> Result<(), AllocError>
-        requires found { IsSome (at self.now.halves id) }
+    // The bytes of a stream at these offsets, in two parts, of which either may be empty.
+    pub(crate) fn get_parts(&self, id: StreamId, offsets: Range<u64>) -> (&[u8], &[u8])
         requires kept { IfSome (at self.now.halves id) (λ h. h.buffer.base ≤ offsets.start) }
         requires ordered { offsets.start ≤ offsets.end }
         requires bounded { IfSome (at self.now.halves id) (λ h. offsets.end ≤ written_on h) }
-        ensures { OnOk result (IfSome (at self.now.halves id) (λ h. out.new.items ≡ out.old.items ++ slice_range h.buffer.kept (offsets.start - h.buffer.base) (offsets.end - h.buffer.base))) }
+        ensures { IfSome (at self.now.halves id) (λ h. result.0.now ++ result.1.now ≡ slice_range h.buffer.kept (offsets.start - h.buffer.base) (offsets.end - h.buffer.base)) }
     {
         match self.half(id) {
-            Some(half) => half.copy(offsets, out),
-            None => Ok(()),
+            Some(half) => half.get_parts(offsets),
+            None => (&[], &[]),
         }
     }
 }
