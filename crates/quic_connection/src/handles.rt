@@ -93,7 +93,7 @@ pub struct RecvStream<'a, H, K, R> {
 }
 
 impl<'a, H: HeaderKey + Drop, K: PacketKey + Drop, R: Rng + Drop> RecvStream<'a, H, K, R> {
-    ghost use Rattle.std.specs.Borrow.{sem, RestsIfErr};
+    ghost use Rattle.std.specs.Borrow.{sem, follows_if, name_if_ok};
     ghost use Rattle.quic_connection.specs.contracts.connection.Connection.{the_row as connection_row};
     ghost use Rattle.quic_connection.specs.Lending.{chunks_lender};
 
@@ -105,17 +105,13 @@ impl<'a, H: HeaderKey + Drop, K: PacketKey + Drop, R: Rng + Drop> RecvStream<'a,
         ensures same_reference { IfOk result (λ chunks. chunks.connection.ghost_name ≡ self.entry.connection.ghost_name) }
         ensures same_end { IfOk result (λ chunks. chunks.connection.now ≡ self.entry.connection.now) }
         ensures same_stream { IfOk result (λ chunks. chunks.id ≡ self.entry.id) }
-        ensures* unchanged_at_error { sem 𝓛 (RestsIfErr (connection_row H.row K.row R.row) self.entry.connection chunks_lender result (λ end. end ≡ self.entry.connection.now)) }
+        ensures* unchanged_at_error { sem 𝓛 (follows_if (connection_row H.row K.row R.row) (connection_row H.row K.row R.row) self.entry.connection.ghost_name (name_if_ok chunks_lender result) (λ end. end) self.entry.connection.now) }
         ensures answer { MatchResult result
             (λ _. read_answer self.entry.connection.now.end.receiving self.entry.id ≡ Ok tt)
             (λ e. read_answer self.entry.connection.now.end.receiving self.entry.id ≡ Err e) }
     {
-        let _ = ordered;
         let RecvStream { id, connection } = self;
-        match connection.is_readable(id) {
-            Ok(()) => Ok(Chunks { id, connection }),
-            Err(error) => Err(error),
-        }
+        connection.chunks(id)
     }
 }
 
