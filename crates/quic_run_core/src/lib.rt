@@ -1,2 +1,0 @@
-//! Scripts over two ends of a connection.
-#![tactic(auto)]
