@@ -4,3 +4,4 @@ pub mod Opened
 pub mod First
 pub mod Payloads
 pub mod Headers
+pub mod ReadAnswers
