@@ -5,3 +5,4 @@ pub mod First
 pub mod Payloads
 pub mod Headers
 pub mod ReadAnswers
+pub mod Runs

@@ -4,6 +4,7 @@ ghost use Rattle.quic_connection_core.specs.End.{policy_of, with_end};
 ghost use Rattle.quic_connection_core.specs.Machine.{IsAnswer, IsLeft, fails, gives, IsStep, view_of, end_view, Follows};
 ghost use Rattle.quic_connection_core.specs.Calls.{AreNexts, after_nexts};
 ghost use Rattle.quic_connection.specs.Ends.{world_of, first_world, policies_of};
+ghost use Rattle.quic_connection.specs.declared.running.Given.{Given};
 
 use crate::connection::Connection;
 use crate::handles::Chunks;
@@ -224,11 +225,10 @@ fn end_view<H: HeaderKey + Drop, K: PacketKey + Drop, R: Rng + Drop>(
     }
 }
 
-/// What is seen of both ends.
-fn view<H: HeaderKey + Drop, K: PacketKey + Drop, R: Rng + Drop>(ends: &Ends<H, K, R>, given: &Given) -> View
-    ensures { result ≡ view_of (world_of ends.now given.now) }
+/// What is seen of both ends, whatever they gave.
+fn view<H: HeaderKey + Drop, K: PacketKey + Drop, R: Rng + Drop>(ends: &Ends<H, K, R>) -> View
+    ensures { (given : Given) → result ≡ view_of (world_of ends.now given) }
 {
-    let _ = given;
     View {
         client: end_view(&ends.client),
         server: end_view(&ends.server),
@@ -238,33 +238,43 @@ fn view<H: HeaderKey + Drop, K: PacketKey + Drop, R: Rng + Drop>(ends: &Ends<H, 
 /// Makes each event's call in turn, once: one answer and one view for each, until memory lacks in the run itself.
 pub fn run<H: HeaderKey + Drop, K: PacketKey + Drop, R: Rng + Drop>(
     alloc: Global,
-    mut ends: Ends<H, K, R>,
+    ends: Ends<H, K, R>,
     events: &[RunEvent],
 ) -> Outcome<H, K, R>
     ensures follows { Follows (policies_of H.masks H.hides H.unmasks H.reveals K.sealed K.opened ends) (first_world ends) events.now result.answers.items result.views.items (world_of result.ends result.given) }
     ensures whole { result.cut_short ≡ false → length result.answers.items ≡ length events.now }
 {
+    let mut ends = ends;
     let mut given = Given::new(alloc);
     let mut answers = Vec::new(alloc);
     let mut views = Vec::new(alloc);
-    let mut cut_short = false;
     for event in events {
         if answers.reserve(1).is_err() || views.reserve(1).is_err() {
-            cut_short = true;
-            break;
+            return Outcome {
+                answers,
+                views,
+                given,
+                ends,
+                cut_short: true,
+            };
         }
         let Ok(answer) = step(alloc, &mut ends, &mut given, event) else {
-            cut_short = true;
-            break;
+            return Outcome {
+                answers,
+                views,
+                given,
+                ends,
+                cut_short: true,
+            };
         };
         answers.push_reserved(answer);
-        views.push_reserved(view(&ends, &given));
+        views.push_reserved(view(&ends));
     }
     Outcome {
         answers,
         views,
         given,
         ends,
-        cut_short,
+        cut_short: false,
     }
 }
