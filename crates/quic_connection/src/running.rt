@@ -238,34 +238,24 @@ fn view<H: HeaderKey + Drop, K: PacketKey + Drop, R: Rng + Drop>(ends: &Ends<H, 
 /// Makes each event's call in turn, once: one answer and one view for each, until memory lacks in the run itself.
 pub fn run<H: HeaderKey + Drop, K: PacketKey + Drop, R: Rng + Drop>(
     alloc: Global,
-    ends: Ends<H, K, R>,
+    mut ends: Ends<H, K, R>,
     events: &[RunEvent],
 ) -> Outcome<H, K, R>
     ensures follows { Follows (policies_of H.masks H.hides H.unmasks H.reveals K.sealed K.opened ends) (first_world ends) events.now result.answers.items result.views.items (world_of result.ends result.given) }
     ensures whole { result.cut_short ≡ false → length result.answers.items ≡ length events.now }
 {
-    let mut ends = ends;
     let mut given = Given::new(alloc);
     let mut answers = Vec::new(alloc);
     let mut views = Vec::new(alloc);
+    let mut cut_short = false;
     for event in events {
         if answers.reserve(1).is_err() || views.reserve(1).is_err() {
-            return Outcome {
-                answers,
-                views,
-                given,
-                ends,
-                cut_short: true,
-            };
+            cut_short = true;
+            break;
         }
         let Ok(answer) = step(alloc, &mut ends, &mut given, event) else {
-            return Outcome {
-                answers,
-                views,
-                given,
-                ends,
-                cut_short: true,
-            };
+            cut_short = true;
+            break;
         };
         answers.push_reserved(answer);
         views.push_reserved(view(&ends));
@@ -275,6 +265,6 @@ pub fn run<H: HeaderKey + Drop, K: PacketKey + Drop, R: Rng + Drop>(
         views,
         given,
         ends,
-        cut_short: false,
+        cut_short,
     }
 }
