@@ -4,3 +4,5 @@ pub mod Opened
 pub mod First
 pub mod Payloads
 pub mod Headers
+pub mod Room
+pub mod Plain
