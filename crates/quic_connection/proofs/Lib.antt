@@ -6,3 +6,4 @@ pub mod Payloads
 pub mod Headers
 pub mod Room
 pub mod Plain
+pub mod ReadAnswers
