@@ -354,3 +354,60 @@ impl Sending {
         }
     }
 }
+
+#[cfg(test)]
+mod tests {
+    use super::*;
+    use quic_connection_core::TransportConfig;
+    use std::test::Fail;
+
+    // The stream may take six bytes, and three may be buffered.
+    #[test]
+    fn a_stream_is_sent(rt: HostRuntime) -> Result<(), Fail> {
+        let mut config = TransportConfig::default();
+        config.stream_receive_window(VarInt::from_u32(6));
+        let mut sending = Sending::new(rt.alloc(), &config.transport_parameters(), 3);
+        assert!(rt; !sending.opens(Side::Client, Dir::Uni));
+        assert!(rt; sending.opens(Side::Client, Dir::Bi));
+        let id = sending.open(Side::Client, Dir::Bi)?;
+        assert_eq!(rt; id, StreamId::new(Side::Client, Dir::Bi, 0));
+        assert!(rt; !sending.opens(Side::Client, Dir::Bi));
+        assert_eq!(rt; sending.write(false, id, b"Hello"), Err(WriteError::Blocked));
+        assert_eq!(rt; sending.write(true, id, b"Hello"), Ok(3));
+        assert_eq!(rt; sending.write(true, id, b"lo"), Err(WriteError::Blocked));
+        assert_eq!(rt; sending.finish(id), Ok(()));
+        assert_eq!(rt; sending.finish(id), Err(FinishError::ClosedStream));
+        assert_eq!(rt; sending.pending(), Some(id));
+        let frame = sending.poll(id, 16).expect(&rt, "the stream is known");
+        assert_eq!(rt; (frame.offsets.start, frame.offsets.end), (0, 3));
+        assert!(rt; frame.fin && frame.has_length);
+        assert_eq!(rt; sending.pending(), None);
+        Ok(())
+    }
+
+    #[test]
+    fn limits_of_the_peer_hold(rt: HostRuntime) -> Result<(), Fail> {
+        let mut config = TransportConfig::default();
+        config.stream_receive_window(VarInt::from_u32(4));
+        let mut sending = Sending::new(rt.alloc(), &config.transport_parameters(), 100);
+        let other = StreamId::new(Side::Client, Dir::Bi, 1);
+        assert!(rt; sending.opens(Side::Client, Dir::Bi));
+        let id = sending.open(Side::Client, Dir::Bi)?;
+        assert_eq!(rt; sending.write(true, other, b"Hello"), Err(WriteError::ClosedStream));
+        assert_eq!(rt; sending.write(true, id, b"Hello"), Ok(4));
+        assert_eq!(rt; sending.write(true, id, b"o"), Err(WriteError::Blocked));
+        Ok(())
+    }
+
+    #[test]
+    fn an_open_is_taken_back(rt: HostRuntime) -> Result<(), Fail> {
+        let ours = TransportConfig::default().transport_parameters();
+        let mut sending = Sending::new(rt.alloc(), &ours, 100);
+        assert!(rt; sending.opens(Side::Client, Dir::Bi));
+        let id = sending.open(Side::Client, Dir::Bi)?;
+        sending.take_back(Side::Client);
+        assert_eq!(rt; sending.finish(id), Err(FinishError::ClosedStream));
+        assert!(rt; sending.opens(Side::Client, Dir::Bi));
+        Ok(())
+    }
+}
