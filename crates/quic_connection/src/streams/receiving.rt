@@ -4,8 +4,8 @@ ghost use Rattle.std.specs.Option.{is_some, option_copied};
 ghost use Rattle.quic_wire_core.specs.StreamId.{index_of};
 ghost use Rattle.quic_wire.specs.FrameView.{stream_view};
 ghost use Rattle.quic_wire.specs.Parameters.{AreInRange};
-ghost use Rattle.quic_connection_core.specs.Table.{at, put, without};
-ghost use Rattle.quic_connection_core.specs.Receiving.{RecvHalf, Receiving, untouched, end_of, opened_of, accepted_of, accept_answer, one_accepted, after_accept, after_own_open, may_receive, breaks_limit, breach_on, half_for, refusal, too_many, kept_at, stream_breach, after_stream, read_answer, next_answer, after_next};
+ghost use Rattle.quic_connection_core.specs.Table.{at, without};
+ghost use Rattle.quic_connection_core.specs.Receiving.{untouched, end_of, opened_of, accepted_of, accept_answer, one_accepted, after_accept, after_own_open, may_receive, breaks_limit, breach_on, half_for, refusal, too_many, kept_at, stream_breach, after_stream, read_answer, next_answer, after_next};
 ghost use Rattle.quic_connection_core.specs.declared.answers.ReadError.TheVariants as read_errors;
 ghost use Rattle.quic_connection.specs.Halves.{read_at, after_touch};
 ghost use Rattle.quic_connection.specs.Answered.{AnswersBreach, UnlessMemory, OnMemory};
@@ -407,7 +407,10 @@ mod tests {
         expect_bytes(&rt, &mut receiving, 9, 5, b", world")?;
         assert_eq!(rt; receiving.is_readable(first()), Ok(()));
         assert!(rt; receiving.next(first(), 9)?.is_none());
-        assert_eq!(rt; receiving.is_readable(first()), Err(ReadableError::ClosedStream));
+        assert_eq!(rt;
+            receiving.is_readable(first()),
+            Err(ReadableError::ClosedStream)
+        );
         Ok(())
     }
 
@@ -427,7 +430,10 @@ mod tests {
         let at_client = receiving.received(Side::Client, &frame);
         assert_eq!(rt; at_client, Err(ReceivedError::Breach(Breach::StreamState)));
         let past_stream = take(&mut receiving, 8, b"x", false);
-        assert_eq!(rt; past_stream, Err(ReceivedError::Breach(Breach::FlowControl)));
+        assert_eq!(rt;
+            past_stream,
+            Err(ReceivedError::Breach(Breach::FlowControl))
+        );
         let past_all = take(&mut receiving, 7, b"x", false);
         assert_eq!(rt; past_all, Err(ReceivedError::Breach(Breach::FlowControl)));
         take(&mut receiving, 4, b"xyz", true)?;
@@ -455,7 +461,10 @@ mod tests {
         receiving.open_own(first())?;
         assert_eq!(rt; receiving.is_readable(first()), Ok(()));
         receiving.forget(first());
-        assert_eq!(rt; receiving.is_readable(first()), Err(ReadableError::ClosedStream));
+        assert_eq!(rt;
+            receiving.is_readable(first()),
+            Err(ReadableError::ClosedStream)
+        );
         Ok(())
     }
 }

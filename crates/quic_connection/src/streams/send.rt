@@ -1,6 +1,6 @@
 // What was written on one stream.
 ghost use Rattle.std.specs.Prelude.{◌≡◌, ◌≤◌, ◌-◌, ◌++◌, length, slice_range, OnOk, OnErr};
-ghost use Rattle.quic_connection_core.specs.Sending.{SendHalf, new_half, written_on, has_pending, grown, ended};
+ghost use Rattle.quic_connection_core.specs.Sending.{new_half, written_on, has_pending, grown, ended};
 ghost use Rattle.quic_connection_core.specs.Poll.{half_after};
 ghost use Rattle.quic_connection.specs.Frames.{frame_meta, HasFrame};
 

@@ -1,10 +1,10 @@
 // What is sent on the streams of one end.
-ghost use Rattle.std.specs.Prelude.{◌≡◌, ◌≢◌, ◌<◌, ◌≤◌, ◌^◌, ◌-◌, ◌+◌, ◌++◌, [], length, slice_range, IsSome, IfSome, IfOk, OnOk, OnErr, MatchOption, Ok, Err, Some, None, true, false};
+ghost use Rattle.std.specs.Prelude.{◌≡◌, ◌≢◌, ◌<◌, ◌≤◌, ◌^◌, ◌-◌, ◌+◌, ◌++◌, [], length, slice_range, IsSome, IfSome, IfOk, OnOk, OnErr, Ok, Err, Some, None, true, false};
 ghost use Rattle.std.specs.Option.{option_copied, option_map};
 ghost use Rattle.quic_wire.specs.Parameters.{AreInRange};
 ghost use Rattle.quic_wire_core.specs.declared.stream_id.Dir.TheVariants as dirs;
 ghost use Rattle.quic_connection_core.specs.Table.{at};
-ghost use Rattle.quic_connection_core.specs.Sending.{SendHalf, Sending, written_on, buffered, room, opened_of, count_of, may_open, opens, next_id, first_limit, new_half, after_open, taken_by, written_to, write_answer, grown_at, after_written, finish_answer, after_finish};
+ghost use Rattle.quic_connection_core.specs.Sending.{Sending, written_on, room, opened_of, count_of, may_open, opens, next_id, after_open, taken_by, written_to, write_answer, grown_at, after_written, finish_answer, after_finish};
 ghost use Rattle.quic_connection_core.specs.Poll.{first_pending};
 ghost use Rattle.quic_connection_core.specs.declared.answers.WriteError.TheVariants as write_errors;
 ghost use Rattle.quic_connection.specs.Frames.{frame_meta, polled_at, HasFrame};
@@ -372,7 +372,10 @@ mod tests {
         let id = sending.open(Side::Client, Dir::Bi)?;
         assert_eq!(rt; id, StreamId::new(Side::Client, Dir::Bi, 0));
         assert!(rt; !sending.opens(Side::Client, Dir::Bi));
-        assert_eq!(rt; sending.write(false, id, b"Hello"), Err(WriteError::Blocked));
+        assert_eq!(rt;
+            sending.write(false, id, b"Hello"),
+            Err(WriteError::Blocked)
+        );
         assert_eq!(rt; sending.write(true, id, b"Hello"), Ok(3));
         assert_eq!(rt; sending.write(true, id, b"lo"), Err(WriteError::Blocked));
         assert_eq!(rt; sending.finish(id), Ok(()));
@@ -393,7 +396,10 @@ mod tests {
         let other = StreamId::new(Side::Client, Dir::Bi, 1);
         assert!(rt; sending.opens(Side::Client, Dir::Bi));
         let id = sending.open(Side::Client, Dir::Bi)?;
-        assert_eq!(rt; sending.write(true, other, b"Hello"), Err(WriteError::ClosedStream));
+        assert_eq!(rt;
+            sending.write(true, other, b"Hello"),
+            Err(WriteError::ClosedStream)
+        );
         assert_eq!(rt; sending.write(true, id, b"Hello"), Ok(4));
         assert_eq!(rt; sending.write(true, id, b"o"), Err(WriteError::Blocked));
         Ok(())
