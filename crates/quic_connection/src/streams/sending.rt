@@ -363,13 +363,14 @@ mod tests {
 
     // The stream may take six bytes, and three may be buffered.
     #[test]
-    fn a_stream_is_sent(rt: HostRuntime) -> Result<(), Fail> {
+    fn a_stream_is_written(rt: HostRuntime) -> Result<(), Fail> {
         let mut config = TransportConfig::default();
         config.stream_receive_window(VarInt::from_u32(6));
         let mut sending = Sending::new(rt.alloc(), &config.transport_parameters(), 3);
         assert!(rt; !sending.opens(Side::Client, Dir::Uni));
         assert!(rt; sending.opens(Side::Client, Dir::Bi));
         let id = sending.open(Side::Client, Dir::Bi)?;
+        assert_eq!(rt; sending.pending(), None);
         assert_eq!(rt; id, StreamId::new(Side::Client, Dir::Bi, 0));
         assert!(rt; !sending.opens(Side::Client, Dir::Bi));
         assert_eq!(rt;
@@ -381,10 +382,6 @@ mod tests {
         assert_eq!(rt; sending.finish(id), Ok(()));
         assert_eq!(rt; sending.finish(id), Err(FinishError::ClosedStream));
         assert_eq!(rt; sending.pending(), Some(id));
-        let frame = sending.poll(id, 16).expect(&rt, "the stream is known");
-        assert_eq!(rt; (frame.offsets.start, frame.offsets.end), (0, 3));
-        assert!(rt; frame.fin && frame.has_length);
-        assert_eq!(rt; sending.pending(), None);
         Ok(())
     }
 
