@@ -4,3 +4,6 @@ pub mod Opened
 pub mod First
 pub mod Payloads
 pub mod Headers
+pub mod Room
+pub mod Plain
+pub mod ReadAnswers

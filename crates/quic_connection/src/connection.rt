@@ -292,7 +292,11 @@ impl<H: HeaderKey + Drop, K: PacketKey + Drop, R: Rng + Drop> Connection<H, K, R
     }
 
     /// The next bytes of a stream.
-    pub(crate) fn next(&mut self, id: StreamId, max_length: usize) -> Result<Option<Chunk>, ReadError>
+    pub(crate) fn next(
+        &mut self,
+        id: StreamId,
+        max_length: usize,
+    ) -> Result<Option<Chunk>, ReadError>
         ensures answer { result ≢ Err read_errors.Memory → result ≡ end_next self.old.end id max_length }
         ensures end { self.new ≡ with_end self.old (end_after_next result self.old.end id max_length) }
     {

@@ -158,11 +158,7 @@ fn deliver_at<H: HeaderKey + Drop, K: PacketKey + Drop, R: Rng + Drop>(
         None => Ok(Answer::NoDatagram),
         Some(datagram) => {
             let mut copy = Vec::from_slice(alloc, datagram.as_slice())?;
-            Ok(Answer::Deliver(end.receive(
-                delivery.now,
-                delivery.ecn,
-                &mut copy,
-            )))
+            Ok(Answer::Deliver(end.receive(delivery.now, delivery.ecn, &mut copy)))
         }
     }
 }
@@ -225,7 +221,10 @@ fn end_view<H: HeaderKey + Drop, K: PacketKey + Drop, R: Rng + Drop>(
 }
 
 /// What is seen of both ends.
-fn view<H: HeaderKey + Drop, K: PacketKey + Drop, R: Rng + Drop>(ends: &Ends<H, K, R>, given: &Given) -> View
+fn view<H: HeaderKey + Drop, K: PacketKey + Drop, R: Rng + Drop>(
+    ends: &Ends<H, K, R>,
+    given: &Given,
+) -> View
     ensures { result ≡ view_of (world_of ends.now given.now) }
 {
     let _ = given;
