@@ -1,5 +1,5 @@
 -- The first stream with something to send.
-use Rattle.std.proofs.Common.{ℕ, Bool, true, false, cond, List, [], ◌∷◌, Some, None, IfSome, IsSome, if◌then◌else◌, refl}
+use Rattle.std.proofs.Common.{ℕ, Bool, true, false, cond, [], ◌∷◌, Some, IfSome, IsSome, if◌then◌else◌, refl}
 use Rattle.std.specs.List.{AllByRecursion}
 use Rattle.std.specs.Ordering.{nat_cmp}
 use Rattle.std.specs.BTreeMap.{is_at}
@@ -27,6 +27,7 @@ first_at (x ∷ es) = go (has_pending x.1) (first_at es)
     step : (id : ℕ) (b : Bool) → IsSome (at es id) → IsSome (cond b (Some x.1) (at es id))
     step id true h = refl
     step id false h = h
+
     go : (b : Bool) → IfSome (first_pending es) (λ id. IsSome (at es id)) → IfSome (if b then Some x.0 else first_pending es) (λ id. IsSome (at (x ∷ es) id))
     go true ih = rw (nat_cmp-same x.0) refl
     go false ih = IfSome_then (first_pending es) ih (λ id h. step id (is_at (nat_cmp id) x.0) h)

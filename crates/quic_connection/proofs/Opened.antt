@@ -1,5 +1,5 @@
 -- What changes of the sending halves keep true of them.
-use Rattle.std.proofs.Common.{◌≡◌, ℕ, ◌+◌, ◌-◌, ◌*◌, ◌<◌, ◌≤◌, ◌^◌, Bool, true, false, List, [], ◌∷◌, length, Some, None, Option, IfSome, refl, sym, ap, ◌∙◌, subst, ⊎_elim, arith}
+use Rattle.std.proofs.Common.{◌≡◌, ℕ, ◌+◌, ◌-◌, ◌<◌, ◌≤◌, ◌^◌, List, [], length, Some, None, Option, IfSome, refl, sym, ap, ◌∙◌, subst, ⊎_elim, arith}
 use Rattle.std.specs.Option.{unwrap_or, option_map}
 use Rattle.std.specs.List.{AllByRecursion, sum_by}
 use Rattle.std.specs.Ordering.{nat_cmp}
@@ -64,6 +64,7 @@ open_bi_keeps side s b h ns i empty room is o =
     above : (dir : Dir) (m : ℕ) → opened_of dir (record s { halves = ns; opened_bi = s.opened_bi + 1 }) ≤ m → dir ≡ Bi → s.opened_bi < m
     above Bi m l e = omega arith
     above Uni m l e = cc
+
     below : (dir : Dir) (m : ℕ) → opened_of dir (record s { halves = ns; opened_bi = s.opened_bi + 1 }) ≤ m → opened_of dir s ≤ m
     below Bi m l = omega arith
     below Uni m l = l
@@ -92,6 +93,7 @@ open_uni_keeps side s b h ns i empty room is o =
     above : (dir : Dir) (m : ℕ) → opened_of dir (record s { halves = ns; opened_uni = s.opened_uni + 1 }) ≤ m → dir ≡ Uni → s.opened_uni < m
     above Uni m l e = omega arith
     above Bi m l e = cc
+
     below : (dir : Dir) (m : ℕ) → opened_of dir (record s { halves = ns; opened_uni = s.opened_uni + 1 }) ≤ m → opened_of dir s ≤ m
     below Uni m l = omega arith
     below Bi m l = l
@@ -155,17 +157,22 @@ take_back_keeps side s b n ns i last count is gone o =
   where
     still : (q : ℕ) → at s.halves q ≡ None → at ns q ≡ None
     still q none = ap (λ es. at es q) is ∙ unknown-without s.halves (stream_id side Bi n) q none
+
     client : (side : Side) → (Client ≡ side → at ns (stream_id Client Bi n) ≡ None) → ((Client ≡ side → ⊥) → at ns (stream_id Client Bi n) ≡ None) → at ns (stream_id Client Bi n) ≡ None
     client Client same other = same refl
     client Server same other = other (λ e. cc)
+
     server : (side : Side) → (Server ≡ side → at ns (stream_id Server Bi n) ≡ None) → ((Server ≡ side → ⊥) → at ns (stream_id Server Bi n) ≡ None) → at ns (stream_id Server Bi n) ≡ None
     server Server same other = same refl
     server Client same other = other (λ e. cc)
+
     others : s.opened_bi - 1 ≡ n → (other : Side) → (other ≡ side → ⊥) → at ns (stream_id other Bi n) ≡ None
     others index other ne = still (stream_id other Bi n) (subst (λ k. at s.halves (stream_id other Bi k) ≡ None) index (last.others other ne))
+
     here : s.opened_bi - 1 ≡ n → (other : Side) → at ns (stream_id other Bi n) ≡ None
     here index Client = client side (λ e. subst (λ x. at ns (stream_id x Bi n) ≡ None) (sym e) gone) (others index Client)
     here index Server = server side (λ e. subst (λ x. at ns (stream_id x Bi n) ≡ None) (sym e) gone) (others index Server)
+
     fresh : s.opened_bi - 1 ≡ n → (other : Side) (dir : Dir) (m : ℕ) → opened_of dir (record s { halves = ns; opened_bi = n }) ≤ m → at ns (stream_id other dir m) ≡ None
     fresh index other Uni m l = still (stream_id other Uni m) (i.fresh other Uni m l)
     fresh index other Bi m l = ⊎_elim (λ (e : m ≡ n). subst (λ k. at ns (stream_id other Bi k) ≡ None) (sym e) (here index other)) (λ (ne : m ≡ n → ⊥). still (stream_id other Bi m) (i.fresh other Bi m (omega arith))) (cases_eq m n)

@@ -159,11 +159,7 @@ fn deliver_at<H: HeaderKey + Drop, K: PacketKey + Drop, R: Rng + Drop>(
         None => Ok(Answer::NoDatagram),
         Some(datagram) => {
             let mut copy = Vec::from_slice(alloc, datagram.as_slice())?;
-            Ok(Answer::Deliver(end.receive(
-                delivery.now,
-                delivery.ecn,
-                &mut copy,
-            )))
+            Ok(Answer::Deliver(end.receive(delivery.now, delivery.ecn, &mut copy)))
         }
     }
 }

@@ -1,11 +1,14 @@
 // What was written on one stream.
-ghost use Rattle.std.specs.Prelude.{◌≡◌, ◌≤◌, ◌-◌, ◌++◌, length, slice_range, OnOk, OnErr};
-ghost use Rattle.quic_connection_core.specs.Sending.{SendHalf, new_half, written_on, has_pending, grown, ended};
-ghost use Rattle.quic_connection_core.specs.Poll.{half_after};
+ghost use Rattle.std.specs.Prelude.{◌≡◌, ◌+◌, ◌≤◌, ◌-◌, ◌++◌, length, OnOk, OnErr, vec_len, vec_capacity};
+ghost use Rattle.quic_wire.specs.Writing.{stream_spelling, width_of};
+ghost use Rattle.quic_streams_core.specs.Buffered.{writes_length};
+ghost use Rattle.quic_connection_core.specs.Sending.{new_half, written_on, has_pending, grown, ended};
+ghost use Rattle.quic_connection_core.specs.Poll.{frame_of, half_after};
 ghost use Rattle.quic_connection.specs.Frames.{frame_meta, HasFrame};
 
 use quic_streams_core::SendBuffer;
-use quic_wire_core::VarInt;
+use quic_wire::frame::{Stream, put_stream_parts};
+use quic_wire_core::{StreamId, VarInt};
 use std::alloc::{AllocError, Global};
 use std::marker::Model;
 use std::ops::Range;
@@ -93,7 +96,7 @@ impl Send {
     }
 
     // Takes what the next frame says, with so much room behind its type and id.
-    pub(crate) fn poll(&mut self, max_len: usize) -> FrameMeta
+    fn poll(&mut self, max_len: usize) -> FrameMeta
         ensures meta { result ≡ frame_meta self.old max_len }
         ensures within { HasFrame self.old max_len }
         ensures new { self.new ≡ half_after self.old max_len }
@@ -109,13 +112,51 @@ impl Send {
         }
     }
 
-    // The bytes at these offsets, in two parts, of which either may be empty.
-    pub(crate) fn get_parts(&self, offsets: Range<u64>) -> (&[u8], &[u8])
-        requires kept { self.now.buffer.base ≤ offsets.start }
-        requires ordered { offsets.start ≤ offsets.end }
-        requires bounded { offsets.end ≤ written_on self.now }
-        ensures { result.0.now ++ result.1.now ≡ slice_range self.now.buffer.kept (offsets.start - self.now.buffer.base) (offsets.end - self.now.buffer.base) }
+    // Appends the next frame, with so much room behind its type and id, and takes it.
+    pub(crate) fn put_frame(&mut self, id: StreamId, max_len: usize, out: &mut Vec<u8>)
+        requires some { 17 ≤ max_len }
+        requires room { vec_len out.old + (1 + width_of id) + max_len ≤ vec_capacity out.old }
+        ensures items { out.new.items ≡ out.old.items ++ stream_spelling (writes_length self.old.buffer max_len) (frame_of id self.old max_len) }
+        ensures len { vec_len out.new ≤ vec_len out.old + (1 + width_of id) + max_len }
+        ensures capacity { vec_capacity out.old ≤ vec_capacity out.new }
+        ensures new { self.new ≡ half_after self.old max_len }
     {
-        self.pending.get_parts(offsets)
+        let meta = self.poll(max_len);
+        let start = meta.offsets.start;
+        let (data, more) = self.pending.get_parts(meta.offsets);
+        let frame = Stream {
+            id,
+            offset: start,
+            fin: meta.fin,
+            data,
+        };
+        put_stream_parts(out, &frame, more, meta.has_length);
+    }
+}
+
+#[cfg(test)]
+mod tests {
+    use super::*;
+    use std::test::Fail;
+
+    // 16 bytes are room for 16 bytes at offset 0 with no length, and then for 7 with one.
+    #[test]
+    fn the_end_goes_with_the_last_bytes(rt: HostRuntime) -> Result<(), Fail> {
+        let mut half = Send::new(rt.alloc(), VarInt::from_u32(30));
+        assert!(rt; !half.has_pending());
+        assert_eq!(rt; half.room(), 30);
+        half.write(b"Hello, world with data")?;
+        assert_eq!(rt; half.room(), 8);
+        half.finish();
+        assert!(rt; half.is_finished());
+        let first = half.poll(16);
+        assert_eq!(rt; (first.offsets.start, first.offsets.end), (0, 16));
+        assert!(rt; !first.fin && !first.has_length);
+        assert!(rt; half.has_pending());
+        let last = half.poll(16);
+        assert_eq!(rt; (last.offsets.start, last.offsets.end), (16, 22));
+        assert!(rt; last.fin && last.has_length);
+        assert!(rt; !half.has_pending());
+        Ok(())
     }
 }

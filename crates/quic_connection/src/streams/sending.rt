@@ -1,24 +1,25 @@
 // What is sent on the streams of one end.
-ghost use Rattle.std.specs.Prelude.{◌≡◌, ◌≢◌, ◌<◌, ◌≤◌, ◌^◌, ◌-◌, ◌+◌, ◌++◌, [], length, slice_range, IsSome, IfSome, IfOk, OnOk, OnErr, MatchOption, Ok, Err, Some, None, true, false};
-ghost use Rattle.std.specs.Option.{option_copied, option_map};
+ghost use Rattle.std.specs.Prelude.{◌≡◌, ◌≢◌, ◌<◌, ◌≤◌, ◌-◌, ◌+◌, ◌++◌, [], length, IsSome, IfSome, IfOk, OnOk, OnErr, Ok, Err, Some, None, true, false, vec_len, vec_capacity};
+ghost use Rattle.std.specs.Option.{option_copied};
 ghost use Rattle.quic_wire.specs.Parameters.{AreInRange};
+ghost use Rattle.quic_wire.specs.Writing.{stream_spelling, width_of};
+ghost use Rattle.quic_streams_core.specs.Buffered.{writes_length};
 ghost use Rattle.quic_wire_core.specs.declared.stream_id.Dir.TheVariants as dirs;
 ghost use Rattle.quic_connection_core.specs.Table.{at};
-ghost use Rattle.quic_connection_core.specs.Sending.{SendHalf, Sending, written_on, buffered, room, opened_of, count_of, may_open, opens, next_id, first_limit, new_half, after_open, taken_by, written_to, write_answer, grown_at, after_written, finish_answer, after_finish};
-ghost use Rattle.quic_connection_core.specs.Poll.{first_pending};
+ghost use Rattle.quic_connection_core.specs.Sending.{Sending, written_on, room, opened_of, count_of, may_open, opens, next_id, after_open, taken_by, written_to, write_answer, grown_at, after_written, finish_answer, after_finish};
+ghost use Rattle.quic_connection_core.specs.Poll.{first_pending, frame_of};
 ghost use Rattle.quic_connection_core.specs.declared.answers.WriteError.TheVariants as write_errors;
-ghost use Rattle.quic_connection.specs.Frames.{frame_meta, polled_at, HasFrame};
+ghost use Rattle.quic_connection.specs.Frames.{polled_at};
 ghost use Rattle.quic_connection.specs.Bounds.{IsLast};
 ghost use Rattle.quic_connection.specs.Halves.{is_closed};
 
-use crate::streams::send::{FrameMeta, Send};
+use crate::streams::send::Send;
 use quic_connection_core::{FinishError, WriteError};
 use quic_wire::TransportParameters;
 use quic_wire_core::{Dir, Side, StreamId, VarInt};
 use std::alloc::{AllocError, Global};
 use std::collections::BTreeMap;
 use std::marker::Model;
-use std::ops::Range;
 
 // The sending halves of the streams of one end.
 #[derive(Drop)]
@@ -329,28 +330,79 @@ impl Sending {
         }
     }
 
-    // Takes what the next frame of a stream says, with so much room behind its type and id.
-    pub(crate) fn poll(&mut self, id: StreamId, max_len: usize) -> Option<FrameMeta>
-        ensures meta { result ≡ option_map (λ h. frame_meta h max_len) (at self.old.halves id) }
-        ensures within { IfSome (at self.old.halves id) (λ h. HasFrame h max_len) }
+    // Appends the next frame of a stream, with so much room behind its type and id, and takes it.
+    pub(crate) fn put_frame(&mut self, id: StreamId, max_len: usize, out: &mut Vec<u8>)
+        requires some { 17 ≤ max_len }
+        requires room { vec_len out.old + (1 + width_of id) + max_len ≤ vec_capacity out.old }
+        ensures items { IfSome (at self.old.halves id) (λ h. out.new.items ≡ out.old.items ++ stream_spelling (writes_length h.buffer max_len) (frame_of id h max_len)) }
+        ensures len { vec_len out.new ≤ vec_len out.old + (1 + width_of id) + max_len }
+        ensures grows { vec_len out.old ≤ vec_len out.new }
+        ensures capacity { vec_capacity out.old ≤ vec_capacity out.new }
         ensures new { self.new ≡ record self.old { halves = polled_at (at self.old.halves id) self.old.halves id max_len } }
     {
         let Some(half) = self.halves.get_mut(&u64::from(id)) else {
-            return None;
+            return;
         };
-        Some(half.poll(max_len))
+        half.put_frame(id, max_len, out);
+    }
+}
+
+#[cfg(test)]
+mod tests {
+    use super::*;
+    use quic_connection_core::TransportConfig;
+    use std::test::Fail;
+
+    // The stream may take six bytes, and three may be buffered.
+    #[test]
+    fn a_stream_is_written(rt: HostRuntime) -> Result<(), Fail> {
+        let mut config = TransportConfig::default();
+        config.stream_receive_window(VarInt::from_u32(6));
+        let mut sending = Sending::new(rt.alloc(), &config.transport_parameters(), 3);
+        assert!(rt; !sending.opens(Side::Client, Dir::Uni));
+        assert!(rt; sending.opens(Side::Client, Dir::Bi));
+        let id = sending.open(Side::Client, Dir::Bi)?;
+        assert_eq!(rt; sending.pending(), None);
+        assert_eq!(rt; id, StreamId::new(Side::Client, Dir::Bi, 0));
+        assert!(rt; !sending.opens(Side::Client, Dir::Bi));
+        assert_eq!(rt;
+            sending.write(false, id, b"Hello"),
+            Err(WriteError::Blocked)
+        );
+        assert_eq!(rt; sending.write(true, id, b"Hello"), Ok(3));
+        assert_eq!(rt; sending.write(true, id, b"lo"), Err(WriteError::Blocked));
+        assert_eq!(rt; sending.finish(id), Ok(()));
+        assert_eq!(rt; sending.finish(id), Err(FinishError::ClosedStream));
+        assert_eq!(rt; sending.pending(), Some(id));
+        Ok(())
     }
 
-    // The bytes of a stream at these offsets, in two parts, of which either may be empty.
-    pub(crate) fn get_parts(&self, id: StreamId, offsets: Range<u64>) -> (&[u8], &[u8])
-        requires kept { IfSome (at self.now.halves id) (λ h. h.buffer.base ≤ offsets.start) }
-        requires ordered { offsets.start ≤ offsets.end }
-        requires bounded { IfSome (at self.now.halves id) (λ h. offsets.end ≤ written_on h) }
-        ensures { IfSome (at self.now.halves id) (λ h. result.0.now ++ result.1.now ≡ slice_range h.buffer.kept (offsets.start - h.buffer.base) (offsets.end - h.buffer.base)) }
-    {
-        match self.half(id) {
-            Some(half) => half.get_parts(offsets),
-            None => (&[], &[]),
-        }
+    #[test]
+    fn limits_of_the_peer_hold(rt: HostRuntime) -> Result<(), Fail> {
+        let mut config = TransportConfig::default();
+        config.stream_receive_window(VarInt::from_u32(4));
+        let mut sending = Sending::new(rt.alloc(), &config.transport_parameters(), 100);
+        let other = StreamId::new(Side::Client, Dir::Bi, 1);
+        assert!(rt; sending.opens(Side::Client, Dir::Bi));
+        let id = sending.open(Side::Client, Dir::Bi)?;
+        assert_eq!(rt;
+            sending.write(true, other, b"Hello"),
+            Err(WriteError::ClosedStream)
+        );
+        assert_eq!(rt; sending.write(true, id, b"Hello"), Ok(4));
+        assert_eq!(rt; sending.write(true, id, b"o"), Err(WriteError::Blocked));
+        Ok(())
+    }
+
+    #[test]
+    fn an_open_is_taken_back(rt: HostRuntime) -> Result<(), Fail> {
+        let ours = TransportConfig::default().transport_parameters();
+        let mut sending = Sending::new(rt.alloc(), &ours, 100);
+        assert!(rt; sending.opens(Side::Client, Dir::Bi));
+        let id = sending.open(Side::Client, Dir::Bi)?;
+        sending.take_back(Side::Client);
+        assert_eq!(rt; sending.finish(id), Err(FinishError::ClosedStream));
+        assert!(rt; sending.opens(Side::Client, Dir::Bi));
+        Ok(())
     }
 }
