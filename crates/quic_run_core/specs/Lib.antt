@@ -1,0 +1,3 @@
+pub mod Plain
+pub mod PlainLaw
+pub mod KeysOf

@@ -1,2 +1,4 @@
 //! Scripts over two ends of a connection.
 #![tactic(auto)]
+
+pub mod key;

@@ -1,11 +1,15 @@
-//! Keys that protect nothing, for tests, scripts and examples: payloads stay clear, and the tag shows the number and a mark.
+//! Keys that protect nothing, for scripts, tests and examples: payloads stay clear, and the tag shows the number and a mark.
 ghost use Rattle.std.specs.Prelude.{◌≡◌, ℕ, ◌+◌, ◌-◌, ◌<◌, ◌≤◌, ◌^◌, List, length, take, drop, slice_index};
 ghost use Rattle.quic_wire.specs.Keys.{with_header, sample, AreMates};
-ghost use Rattle.quic_wire.specs.Plain.{xored, mask_first, mask_number, plain_sealed, plain_opened};
-ghost use Rattle.quic_wire.specs.PlainLaw.{first_form, number_length, adds_tag};
+ghost use Rattle.quic_wire_core.specs.StreamId.{other_side};
+ghost use Rattle.quic_wire_core.specs.declared.stream_id.Side.{Side};
+ghost use Rattle.quic_run_core.specs.Plain.{xored, mask_first, mask_number, plain_sealed, plain_opened};
+ghost use Rattle.quic_run_core.specs.KeysOf.{key_of, keys_of};
+ghost use Rattle.quic_run_core.specs.PlainLaw.{first_form, number_length, adds_tag};
 
-use crate::crypto::{HeaderKey, NotOpened, PacketKey};
-use crate::sealing::width_in;
+use quic_wire::crypto::{HeaderKey, KeyPair, Keys, NotOpened, PacketKey};
+use quic_wire::width_in;
+use quic_wire_core::Side;
 
 /// A header key whose mask is the sample itself.
 #[derive(Clone, Copy, Debug, PartialEq, Eq)]
@@ -23,7 +27,7 @@ pub struct PlainKey {
 }
 
 /// Masks bytes.
-#[tactic(auto, using(crate::proofs::StandIn::xored_more, crate::proofs::StandIn::xored_done))]
+#[tactic(auto, using(crate::proofs::InPlace::xored_more, crate::proofs::InPlace::xored_done))]
 fn xor_into(bytes: &mut [u8], mask: &[u8])
     requires { length bytes.old ≤ length mask.now }
     ensures { bytes.new ≡ xored bytes.old mask.now }
@@ -34,7 +38,7 @@ fn xor_into(bytes: &mut [u8], mask: &[u8])
 }
 
 /// Gives a packet another first byte, and masks its number by the sample.
-#[tactic(auto, using(crate::proofs::StandIn::rewritten))]
+#[tactic(auto, using(crate::proofs::InPlace::rewritten))]
 fn rewrite(packet: &mut [u8], number_at: usize, first: u8, width: usize)
     requires first { 1 ≤ number_at }
     requires width { width ≤ 4 }
@@ -48,7 +52,7 @@ fn rewrite(packet: &mut [u8], number_at: usize, first: u8, width: usize)
 }
 
 /// What the sample makes of the first byte.
-#[tactic(auto, using(crate::proofs::StandIn::sample_first))]
+#[tactic(auto, using(crate::proofs::InPlace::sample_first))]
 fn masked_first(packet: &[u8], number_at: usize) -> u8
     requires { number_at + 20 ≤ length packet.now }
     ensures { result ≡ mask_first (sample number_at packet.now) (slice_index packet.now 0) }
@@ -94,7 +98,7 @@ impl PacketKey for PlainKey {
 
     ghost refusal_limit = { λ k. k.integrity_limit };
 
-    #[tactic(auto, using(crate::proofs::StandIn::tagged))]
+    #[tactic(auto, using(crate::proofs::InPlace::tagged))]
     fn encrypt(&self, number: u64, packet: &mut [u8], header: usize) {
         let end = packet.len() - 16;
         let [a, b, c, d, e, f, g, h] = number.to_be_bytes();
@@ -127,24 +131,51 @@ impl PacketKey for PlainKey {
     ghost adds_tag = { λ k. adds_tag k.mark };
 }
 
-/// The keys of one mark are mates.
-pub fn plain_keys_are_mates()
-    ensures { (mark : ℕ) → AreMates mask_first mask_number (plain_sealed mark) mask_first mask_number (plain_opened mark) }
+/// How many packets a key may seal, and how many it may fail to open, unless it is given another limit.
+pub const KEY_LIMIT: u64 = 1 << 23;
+
+/// The packet key of one end: its mark is the letter `c` or `s`.
+fn key_of(side: Side) -> PlainKey
+    ensures { result ≡ key_of side }
+{
+    PlainKey {
+        mark: match side {
+            Side::Client => b'c',
+            Side::Server => b's',
+        },
+        confidentiality_limit: KEY_LIMIT,
+        integrity_limit: KEY_LIMIT,
+    }
+}
+
+/// The keys of one end: it seals with its own, and opens what the other end sealed.
+pub fn keys_for(side: Side) -> Keys<PlainHeaderKey, PlainKey>
+    ensures { result ≡ keys_of side }
+{
+    Keys {
+        header: KeyPair {
+            local: PlainHeaderKey,
+            remote: PlainHeaderKey,
+        },
+        packet: KeyPair {
+            local: key_of(side),
+            remote: key_of(!side),
+        },
+    }
+}
+
+/// What either end seals with is the mate of what the other opens with.
+pub fn keys_are_mates()
+    ensures { (side : Side) → AreMates mask_first mask_number (plain_sealed (keys_of side).packet.local.mark) mask_first mask_number (plain_opened (keys_of (other_side side)).packet.remote.mark) }
 {}
 
 #[cfg(test)]
 mod tests {
     use super::*;
-    use crate::packet::{PacketNumber, ShortHeader};
-    use crate::sealing::{open_packet, seal_packet, seal_reserved};
+    use quic_wire::reserved::append;
+    use quic_wire::{PacketNumber, ShortHeader, open_packet, seal_packet, seal_reserved};
     use quic_wire_core::ConnectionId;
     use std::test::Fail;
-
-    const KEY: PlainKey = PlainKey {
-        mark: 0x63,
-        confidentiality_limit: 1 << 23,
-        integrity_limit: 1 << 52,
-    };
 
     /// A STREAM frame for stream 0 with the five bytes of `hello` and the end.
     const HELLO: [u8; 8] = [0x0b, 0x00, 0x05, 0x68, 0x65, 0x6c, 0x6c, 0x6f];
@@ -165,7 +196,8 @@ mod tests {
         };
         header.encode(&mut out)?;
         out.extend_from_slice(&HELLO)?;
-        seal_packet(&mut out, 1, 9, 0, &PlainHeaderKey, &KEY)?;
+        let keys = keys_for(Side::Client);
+        seal_packet(&mut out, 1, 9, 0, &keys.header.local, &keys.packet.local)?;
         assert_eq!(rt; out[0], 9);
         assert!(rt; &out[1..] == SEALED.as_slice());
         Ok(())
@@ -179,16 +211,24 @@ mod tests {
             number: PacketNumber::new(0, 0),
         };
         header.put(&mut out);
-        crate::reserved::append(&mut out, &HELLO);
-        seal_reserved(&mut out, 0, 9, 0, &PlainHeaderKey, &KEY);
+        append(&mut out, &HELLO);
+        let keys = keys_for(Side::Client);
+        seal_reserved(&mut out, 0, 9, 0, &keys.header.local, &keys.packet.local);
         assert!(rt; out.as_slice() == SEALED.as_slice());
         Ok(())
     }
 
     #[test]
-    fn opens_in_place(rt: HostRuntime) -> Result<(), Fail> {
+    fn the_other_end_opens(rt: HostRuntime) -> Result<(), Fail> {
         let mut datagram = SEALED;
-        let opened = open_packet(&mut datagram, 9, 0, &PlainHeaderKey, &KEY)?;
+        let keys = keys_for(Side::Server);
+        let opened = open_packet(
+            &mut datagram,
+            9,
+            0,
+            &keys.header.remote,
+            &keys.packet.remote,
+        )?;
         assert_eq!(rt; opened.first, 0x40);
         assert_eq!(rt; opened.number, 0);
         assert!(rt; &datagram[opened.start..opened.end] == HELLO.as_slice());
@@ -196,7 +236,9 @@ mod tests {
         assert_eq!(rt; opened.reserved_bits(), 0);
         let mut other = SEALED;
         other[33] = 0x73;
-        assert!(rt; open_packet(&mut other, 9, 0, &PlainHeaderKey, &KEY).is_err());
+        assert!(rt;
+            open_packet(&mut other, 9, 0, &keys.header.remote, &keys.packet.remote).is_err()
+        );
         Ok(())
     }
 }

@@ -3,7 +3,7 @@ use Rattle.std.proofs.Common.{◌≡◌, ℕ, suc, ◌+◌, ◌/◌, ◌%◌, Li
 use Rattle.std.specs.Prelude.{slice_index}
 use Rattle.std.specs.Int.Bits.{xor_zero_r}
 use Rattle.std.proofs.lemmas.Nat.{xor_shr}
-use Rattle.quic_wire.specs.Plain.{xored, mask_first, mask_number, tag, plain_sealed}
+use Rattle.quic_run_core.specs.Plain.{xored, mask_first, mask_number, tag, plain_sealed}
 
 -- masking keeps the top three bits
 pub first_form : (s : List ℕ) (b : ℕ) → mask_first s b / 32 ≡ b / 32

@@ -1,12 +1,11 @@
 -- The stand-in's work in place.
 use Rattle.std.proofs.Common.{◌≡◌, ℕ, zero, suc, ◌+◌, ◌-◌, ◌<◌, ◌≤◌, List, [], ◌∷◌, ◌++◌, length, take, drop, get_or, set, refl, ◌∙◌, arith, append_assoc}
 use Rattle.std.specs.Prelude.{slice_index, bit_xor}
-use Rattle.std.proofs.lemmas.List.{get_or-take, get_or-drop, drop-drop, drop_more, take_more_set, drop-set-lt, length-drop, take_all, drop_all}
+use Rattle.std.proofs.lemmas.List.{append-nil, get_or-take, get_or-drop, drop-drop, drop_more, take_more_set, drop-set-lt, length-drop, take_all, drop_all}
 use Rattle.std.proofs.Math.Seq.{take-add}
-use Rattle.quic_wire.proofs.Places.{append_none}
 use borrow.Rule.Slice.PartMut.{put_mid}
 use Rattle.quic_wire.specs.Keys.{with_header, sample}
-use Rattle.quic_wire.specs.Plain.{xored}
+use Rattle.quic_run_core.specs.Plain.{xored}
 
 -- another first byte and number written in place
 pub rewritten : (at : ℕ) (packet z : List ℕ) (first width : ℕ) → 1 ≤ at → at + width ≤ length packet → length z ≡ width → put_mid at width (set packet 0 first) z ≡ with_header at packet first z
@@ -32,7 +31,7 @@ xored_more i v all bytes mask e lt ev =
 
 -- every byte is masked
 pub xored_done : (bytes mask all : List ℕ) (n : ℕ) → all ≡ take n bytes ++ xored (drop n bytes) (drop n mask) → n ≡ length bytes → all ≡ bytes
-xored_done bytes mask all n e en = e ∙ rw (take_all n bytes (omega arith), drop_all n bytes (omega arith)) (append_none bytes)
+xored_done bytes mask all n e en = e ∙ rw (take_all n bytes (omega arith), drop_all n bytes (omega arith)) (append-nil bytes)
 
 -- the tag written in place
 pub tagged : (xs t : List ℕ) (h : ℕ) → h + 16 ≤ length xs → length t ≡ 16 → put_mid (length xs - 16) (length xs - (length xs - 16)) xs t ≡ take h xs ++ (take (length xs - h - 16) (drop h xs) ++ t)
@@ -40,4 +39,4 @@ tagged xs t h le len =
     let none : drop (length xs - (length xs - 16)) (drop (length xs - 16) xs) ≡ [] = drop_all (length xs - (length xs - 16)) (drop (length xs - 16) xs) (simp length-drop (omega arith)) in
     let same : length xs - 16 ≡ h + (length xs - h - 16) = omega arith in
     let front : take (length xs - 16) xs ≡ take h xs ++ take (length xs - h - 16) (drop h xs) = rw same (take-add h (length xs - h - 16) xs) in
-    rw (none, append_none t, front) (append_assoc (take h xs) (take (length xs - h - 16) (drop h xs)) t)
+    rw (none, append-nil t, front) (append_assoc (take h xs) (take (length xs - h - 16) (drop h xs)) t)

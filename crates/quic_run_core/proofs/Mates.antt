@@ -8,9 +8,13 @@ use Rattle.std.proofs.lemmas.Bool.{le-leb}
 use Rattle.std.proofs.lemmas.Nat.{from_be_bytes-to_be_bytes_8}
 use Rattle.std.proofs.lemmas.List.{take_at, drop_at}
 use Rattle.std.proofs.lemmas.Slice.Eq.{bytes_eq-Decides}
-use Rattle.quic_wire.specs.Keys.{IsHeaderMate, IsMate}
-use Rattle.quic_wire.specs.Plain.{xored, mask_first, mask_number, tag, plain_sealed, plain_opened}
-use Rattle.quic_wire.specs.PlainLaw.{number_length, adds_tag}
+use Rattle.quic_wire.specs.Keys.{IsHeaderMate, IsMate, AreMates}
+use Rattle.quic_wire_core.specs.declared.stream_id.Side.{Side}
+use Rattle.quic_wire_core.specs.declared.stream_id.Side.TheVariants.{Client, Server}
+use Rattle.quic_wire_core.specs.StreamId.{other_side}
+use Rattle.quic_run_core.specs.KeysOf.{keys_of}
+use Rattle.quic_run_core.specs.Plain.{xored, mask_first, mask_number, tag, plain_sealed, plain_opened}
+use Rattle.quic_run_core.specs.PlainLaw.{number_length, adds_tag}
 
 -- masking twice is masking not at all
 xor_twice : (a m : ℕ) → bit_xor (bit_xor a m) m ≡ a
@@ -59,3 +63,8 @@ plain_mate mark = record {
       let differ : same (tag mark n) (tag mark m) ≡ false = tags_differ mark m n (same (tag mark n) (tag mark m)) small lt ne refl in
       rw (len, cut, drop_at p (tag mark n) (length p) refl, long, differ) refl;
 }
+
+-- what either end seals with is the mate of what the other opens with
+pub keys_mate : (side : Side) → AreMates mask_first mask_number (plain_sealed (keys_of side).packet.local.mark) mask_first mask_number (plain_opened (keys_of (other_side side)).packet.remote.mark)
+keys_mate Client = record { header = header_mate; packet = plain_mate 0x63 }
+keys_mate Server = record { header = header_mate; packet = plain_mate 0x73 }
