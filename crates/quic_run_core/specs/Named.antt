@@ -1,0 +1,32 @@
+-- The words of a script's line.
+use Rattle.std.specs.Prelude.{ℕ, List, Option, Some, None, if◌then◌else◌, codes, nat_eq}
+use Rattle.std.specs.Cmp.Lexicographic.{pointwise}
+use Rattle.quic_wire_core.specs.declared.stream_id.Side.{Side}
+use Rattle.quic_wire_core.specs.declared.stream_id.Side.TheVariants.{Client, Server}
+use Rattle.quic_wire_core.specs.declared.stream_id.Dir.{Dir}
+use Rattle.quic_wire_core.specs.declared.stream_id.Dir.TheVariants.{Bi, Uni}
+use Rattle.quic_wire_core.specs.declared.shared.EcnCodepoint.{EcnCodepoint}
+use Rattle.quic_wire_core.specs.declared.shared.EcnCodepoint.TheVariants.{Ect0, Ect1, Ce}
+
+-- the end that a word names
+abbrev pub side_named : List ℕ → Option Side
+side_named word =
+    if pointwise nat_eq word (codes "c") then Some Client
+    else (if pointwise nat_eq word (codes "s") then Some Server
+    else None)
+
+-- the kind of stream that a word names
+abbrev pub dir_named : List ℕ → Option Dir
+dir_named word =
+    if pointwise nat_eq word (codes "bi") then Some Bi
+    else (if pointwise nat_eq word (codes "uni") then Some Uni
+    else None)
+
+-- the mark that a word names, where `-` names none
+abbrev pub mark_named : List ℕ → Option (Option EcnCodepoint)
+mark_named word =
+    if pointwise nat_eq word (codes "-") then Some None
+    else (if pointwise nat_eq word (codes "ect0") then Some (Some Ect0)
+    else (if pointwise nat_eq word (codes "ect1") then Some (Some Ect1)
+    else (if pointwise nat_eq word (codes "ce") then Some (Some Ce)
+    else None)))
