@@ -1,6 +1,7 @@
 //! Scripts over two ends of a connection.
 #![tactic(auto)]
 
+mod answer;
 mod error;
 pub mod key;
 mod lines;
