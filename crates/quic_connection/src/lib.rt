@@ -4,11 +4,17 @@
 
 mod config;
 mod connection;
+mod handles;
+mod run;
+mod streams;
 
 pub use config::Config;
+pub use connection::Connection;
+pub use handles::{Chunks, RecvStream, SendStream, ShouldTransmit, Streams};
 pub use quic_connection_core::{
-    Answer, Call, ConfigError, Delivery, DropReason, EndView, Failed, FinishError, Instant,
-    LostReason, Nexts, ReadCall, ReadError, ReadableError, Received, RunEvent, State, Transmit,
-    TransportConfig, View, WriteError,
+    Answer, Call, ConfigError, Datagram, Delivery, DropReason, EndView, Failed, FinishError,
+    Instant, LostReason, Nexts, ReadCall, ReadError, ReadableError, Received, RunEvent, State,
+    Transmit, TransportConfig, View, WriteError,
 };
 pub use quic_streams_core::Chunk;
+pub use run::{Ends, Given, Outcome, run, step};

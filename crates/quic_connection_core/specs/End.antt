@@ -1,10 +1,13 @@
 -- One end: a record of parts, one for each concern, and beside it the keys and the random source.
-use Rattle.std.specs.Prelude.{◌≡◌, ℕ, Bool, List, [], None}
+use Rattle.std.specs.Prelude.{◌≡◌, ℕ, Bool, ◌==◌, ◌||◌, not, if◌then◌else◌, List, [], length, Option, Some, None, Result, Ok, Err}
 use Rattle.quic_wire_core.specs.declared.stream_id.Side.{Side}
 use Rattle.quic_wire.specs.Keys.{OfFirst, OfNumber, Seal, Open}
 use Rattle.quic_wire.specs.declared.crypto.Keys.{Keys}
 use Rattle.quic_wire.specs.Parameters.{ParameterValues}
+use Rattle.quic_wire.specs.ParametersRead.{parameters_at}
 use Rattle.quic_connection_core.specs.declared.answers.State.TheVariants as states
+use Rattle.quic_connection_core.specs.declared.answers.ConfigError.{ConfigError}
+use Rattle.quic_connection_core.specs.declared.answers.ConfigError.TheVariants as config_errors
 use Rattle.quic_connection_core.specs.Settings.{Settings}
 use Rattle.quic_connection_core.specs.Closing.{Closing}
 use Rattle.quic_connection_core.specs.Ids.{Ids, first_ids}
@@ -111,3 +114,19 @@ pub record HasFailed {H K R : Type 0} (old new : Whole H K R) : Type 0 where
   pub state : new.end.closing.state ≡ states.Failed
   pub reason : new.end.closing.reason ≡ None
   pub keys : new ≡ with_end old new.end
+
+-- ---- making an end
+
+-- why no end is made, want of memory aside, the first in this order: the peer's parameters can't be read; the own id hasn't eight bytes, or the peer's has none
+abbrev pub refusal_of : {E : Type 0} → Result ParameterValues E → List ℕ → List ℕ → Option ConfigError
+refusal_of (Err e) own_id peer_id = Some config_errors.Parameters
+refusal_of (Ok theirs) own_id peer_id = if not (length own_id == 8) || (length peer_id == 0) then Some config_errors.IdLength else None
+
+-- an end is made of what was read of the peer's parameters
+abbrev pub IsMade : {E : Type 0} → Side → Settings → Result ParameterValues E → List ℕ → List ℕ → ℕ → Bool → End → Type 0
+IsMade side settings (Ok theirs) own_id peer_id now validated e = e ≡ new_end side settings theirs own_id peer_id now validated
+IsMade side settings (Err error) own_id peer_id now validated e = ⊥
+
+-- an end is made of the peer's parameters as bytes
+abbrev pub MadeFrom : Side → Settings → List ℕ → List ℕ → List ℕ → ℕ → Bool → End → Type 0
+MadeFrom side settings bytes own_id peer_id now validated e = IsMade side settings (parameters_at bytes) own_id peer_id now validated e

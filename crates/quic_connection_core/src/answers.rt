@@ -34,6 +34,22 @@ pub enum LostReason {
     Transport(TransportError),
 }
 
+impl LostReason {
+    /// The same reason again, which takes no memory.
+    pub fn copied(&self) -> LostReason
+        ensures { result ≡ self.now }
+    {
+        match self {
+            LostReason::Application => LostReason::Application,
+            LostReason::Pieces => LostReason::Pieces,
+            LostReason::Idle => LostReason::Idle,
+            LostReason::KeyLimit => LostReason::KeyLimit,
+            LostReason::NumberLimit => LostReason::NumberLimit,
+            LostReason::Transport(error) => LostReason::Transport(error.copied()),
+        }
+    }
+}
+
 /// Why a datagram was dropped; nothing in the end has changed.
 #[derive(Clone, Copy, Debug, PartialEq, Eq)]
 pub enum DropReason {

@@ -13,4 +13,4 @@ pub use answers::{
 };
 pub use config::TransportConfig;
 pub use instant::Instant;
-pub use run::{Answer, Call, Delivery, EndView, Nexts, ReadCall, RunEvent, View};
+pub use run::{Answer, Call, Datagram, Delivery, EndView, Nexts, ReadCall, RunEvent, View};

@@ -124,3 +124,33 @@ pub struct View {
     pub client: EndView,
     pub server: EndView,
 }
+
+/// A datagram that an end gave out. Contracts see its bytes.
+#[derive(Debug, Drop)]
+pub struct Datagram {
+    bytes: Vec<u8>,
+}
+
+impl Model for Datagram {
+    ghost use Rattle.std.specs.Prelude.{List, ℕ};
+
+    ghost Value = { List ℕ };
+
+    ghost view = { λ d. d.bytes.items };
+}
+
+impl Datagram {
+    /// A datagram of these bytes.
+    pub fn new(bytes: Vec<u8>) -> Datagram
+        ensures { result ≡ bytes.items }
+    {
+        Datagram { bytes }
+    }
+
+    /// Its bytes.
+    pub fn as_slice(&self) -> &[u8]
+        ensures { result.now ≡ self.now }
+    {
+        self.bytes.as_slice()
+    }
+}

@@ -3,3 +3,5 @@ pub mod Steps
 pub mod Filled
 pub mod Bytes
 pub mod Claims
+pub mod Runs
+pub mod Parts

@@ -1,5 +1,5 @@
 -- The two steps of an insert: what waits is skipped, and a gap is filled.
-use Rattle.std.proofs.Common.{◌≡◌, ℕ, ◌+◌, ◌-◌, ◌^◌, ◌<◌, ◌≤◌, ltb, length, List, [], ◌∷◌, take, drop, Bool, true, false, cond, not, Some, None, Option, refl, sym, ap, ◌∙◌, subst, arith, max, min, length-take, length-drop, take_all, drop-drop}
+use Rattle.std.proofs.Common.{◌≡◌, ℕ, ◌+◌, ◌-◌, ◌<◌, ◌≤◌, ltb, length, List, [], ◌∷◌, take, drop, Bool, true, false, cond, not, Some, None, Option, refl, sym, ap, ◌∙◌, subst, arith, max, min, length-take, length-drop, take_all, drop-drop}
 use Rattle.std.specs.Ordering.{nat_cmp}
 use Rattle.std.specs.Cmp.{nat_cmp_is}
 use Rattle.std.specs.declared.cmp.Ordering.TheVariants.{Less, Greater}

@@ -1,5 +1,5 @@
 -- What has arrived of a stream and is not read: a set of offsets with their bytes.
-use Rattle.std.specs.Prelude.{◌≡◌, ℕ, ◌+◌, ◌-◌, ◌^◌, ◌<◌, ◌≤◌, ◌==◌, Bool, true, false, cond, ltb, max, min, not, List, [], ◌∷◌, length, take, drop, Option, Some, None, IfSome, count_by}
+use Rattle.std.specs.Prelude.{◌≡◌, ℕ, ◌+◌, ◌-◌, ◌^◌, ◌<◌, ◌≤◌, ◌==◌, Bool, false, cond, ltb, max, not, ◌&&◌, zero, suc, List, [], ◌∷◌, length, take, drop, Option, Some, None, IfSome}
 use Rattle.std.specs.Option.{option_or, is_some}
 use Rattle.std.specs.List.{slice_get}
 use Rattle.quic_streams_core.specs.declared.connection.assembler.Chunk.{Chunk}
@@ -17,7 +17,7 @@ pub record Arrived : Type 0 where
 abbrev pub start : Part → ℕ
 start p = p.0 - length p.1
 
--- parts from `low` on, none empty, one behind the other, and below the greatest offset (RFC 9000, 4.5: 2^62 - 1)
+-- parts from `low` on, none empty, one behind the other, and below the greatest offset (RFC 9000, 19.8: 2^62 - 1)
 abbrev pub AreApart : ℕ → List Part → Type 0
 AreApart low [] = low < 2 ^ 62
 AreApart low (p ∷ ps) = (low + length p.1 ≤ p.0) × (0 < length p.1) × AreApart p.0 ps
@@ -52,6 +52,23 @@ runs_behind end (p ∷ ps) = cond (start p == end) 0 1 + runs_behind p.0 ps
 abbrev pub runs_of : List Part → ℕ
 runs_of [] = 0
 runs_of (p ∷ ps) = 1 + runs_behind p.0 ps
+
+-- whether a byte waits at an offset
+abbrev pub waits : List Part → ℕ → Bool
+waits ps offset = is_some (byte_at ps offset)
+
+-- whether a byte waits right before an offset
+abbrev pub waits_before : List Part → ℕ → Bool
+waits_before ps offset = cond (offset == 0) false (waits ps (offset - 1))
+
+-- whether a run begins at an offset: a byte waits there, and none right before it
+abbrev pub begins_run : List Part → ℕ → Bool
+begins_run ps offset = waits ps offset && not (waits_before ps offset)
+
+-- at how many offsets below a bound a test holds
+abbrev pub count_to : (ℕ → Bool) → ℕ → ℕ
+count_to test zero = 0
+count_to test (suc n) = cond (test n) 1 0 + count_to test n
 
 -- ---- bytes that come (RFC 9000, 2.2)
 

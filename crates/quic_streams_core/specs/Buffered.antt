@@ -11,7 +11,7 @@ pub record Buffered : Type 0 where
 abbrev pub written : Buffered → ℕ
 written b = b.base + length b.kept
 
--- what is kept ends below the greatest offset (RFC 9000, 4.5), and has all that was never sent
+-- what is kept ends below the greatest offset (RFC 9000, 19.8), and has all that was never sent
 pub record IsBuffered (b : Buffered) : Type 0 where
   pub sent : b.base ≤ b.unsent
   pub bounded : b.unsent ≤ written b

@@ -3,13 +3,18 @@ ghost use Rattle.std.specs.Prelude.{◌≡◌, ℕ, ◌+◌, ◌<◌, ◌≤◌,
 ghost use Rattle.std.specs.List.{slice_get};
 ghost use Rattle.std.specs.Option.{option_or};
 ghost use Rattle.quic_streams_core.specs.Buffered.{Buffered, IsBuffered, written, offset_width, writes_length, sent_end};
-ghost use Rattle.quic_streams_core.specs.Arrived.{Arrived, IsLawful, byte_from, byte_at, holds, after_insert, given, after_read};
+ghost use Rattle.quic_streams_core.specs.Arrived.{Arrived, IsLawful, runs_of, begins_run, count_to, byte_from, byte_at, holds, after_insert, given, after_read};
 
 /// What waits lies at or above the offset up to which the stream is read, and each offset waits
 /// in one part at most.
 pub fn offsets_wait_once()
     ensures above { (a : Arrived) (o : ℕ) → IsLawful a → IsSome (byte_at a.parts o) → a.read ≤ o }
     ensures once { (a : Arrived) (o : ℕ) → IsLawful a → count_by (holds o) a.parts ≤ 1 }
+{}
+
+/// The runs are as many as the offsets at which a byte waits and none right before it.
+pub fn runs_are_maximal()
+    ensures { (a : Arrived) (n : ℕ) → IsLawful a → 2 ^ 62 ≤ n → runs_of a.parts ≡ count_to (begins_run a.parts) n }
 {}
 
 /// After bytes came, an offset above what is read waits with the byte that waited there, or else

@@ -1,5 +1,5 @@
 -- What is a form of a frame is read as that frame.
-use Rattle.std.proofs.Common.{◌≡◌, ℕ, ◌≤◌, Bool, true, false, ltb, List, [], ◌∷◌, ◌++◌, length, Result, Ok, Err, refl, ap, ◌∙◌, append_assoc, arith}
+use Rattle.std.proofs.Common.{◌≡◌, ℕ, Bool, true, false, ltb, List, [], ◌∷◌, ◌++◌, length, Ok, refl, ap, ◌∙◌, append_assoc, arith}
 use Rattle.std.proofs.lemmas.Bool.{le-ltb}
 use Rattle.std.proofs.lemmas.List.{take_at, drop_at, length-append, append-nil}
 use Rattle.quic_wire_core.specs.Law.{spells_again}
@@ -7,7 +7,7 @@ use Rattle.quic_wire.specs.Value.{FrameValue, StreamValue, padding, ping, stream
 use Rattle.quic_wire.specs.FrameTypes.{Kind, is_padding, is_ping, is_stream, IsKnown, kind_of, type_of}
 use Rattle.quic_wire.specs.Reading.{field, var_at, block_at, sized_at, offset_at, data_at, stream_at, as_frame, of_kind_at, body_at}
 use Rattle.quic_wire.specs.Items.{frame_at}
-use Rattle.quic_wire.specs.Grammar.{Numbers, Then, offset_numbers, length_numbers, Ends, OffsetFits, IsStreamForm, IsForm}
+use Rattle.quic_wire.specs.Grammar.{Numbers, Then, offset_numbers, length_numbers, Ends, OffsetFits, IsForm}
 use Rattle.quic_wire.proofs.FrameKinds.{kind_of_type}
 
 -- the first number is read, and the others are left

@@ -1,5 +1,5 @@
 -- What is read as a frame is a form of that frame.
-use Rattle.std.proofs.Common.{◌≡◌, ℕ, ◌+◌, ◌≤◌, ◌<◌, Bool, true, false, ltb, List, [], ◌∷◌, ◌++◌, length, take, drop, Option, Some, None, Result, Ok, Err, refl, sym, ap, subst, ◌∙◌, append_assoc, arith}
+use Rattle.std.proofs.Common.{◌≡◌, ℕ, ◌+◌, Bool, true, false, ltb, List, [], ◌∷◌, ◌++◌, length, take, drop, Option, Some, None, Result, Ok, Err, refl, sym, ap, subst, ◌∙◌, append_assoc, arith}
 use Rattle.std.specs.Prelude.{if◌then◌else◌}
 use Rattle.std.proofs.lemmas.Bool.{ltb-false}
 use Rattle.std.proofs.lemmas.List.{drop_at, get_or-drop, take-append-drop, length-take, append-nil}
@@ -8,12 +8,11 @@ use Rattle.quic_wire_core.specs.Varint.{varint_at}
 use Rattle.quic_wire_core.specs.Law.{varint_found}
 use Rattle.quic_wire.specs.declared.frame.FrameError.{FrameError}
 use Rattle.quic_wire.specs.declared.frame.FrameError.TheVariants.{UnexpectedEnd}
-use Rattle.quic_wire.specs.declared.frame.InvalidFrame.{InvalidFrame}
-use Rattle.quic_wire.specs.Value.{FrameValue, StreamValue, padding, ping, stream}
+use Rattle.quic_wire.specs.Value.{FrameValue, stream}
 use Rattle.quic_wire.specs.FrameTypes.{Kind, is_padding, is_ping, is_stream, kind_of, type_of}
 use Rattle.quic_wire.specs.Reading.{◌>>=◌, field, var_at, block_at, sized_at, offset_at, data_at, stream_at, as_frame, of_kind_at, body_at}
 use Rattle.quic_wire.specs.Items.{frame_at, behind_type, refused}
-use Rattle.quic_wire.specs.Grammar.{Numbers, Then, offset_numbers, length_numbers, Ends, OffsetFits, IsStreamForm, IsForm}
+use Rattle.quic_wire.specs.Grammar.{Numbers, Then, offset_numbers, length_numbers, Ends, OffsetFits, IsForm}
 use Rattle.quic_wire.proofs.FrameKinds.{type_of_kind}
 
 -- ---- what holds of what was read

@@ -3,11 +3,11 @@ use Rattle.std.proofs.Common.{◌≡◌, ℕ, zero, suc, false, List, [], ◌∷
 use Rattle.std.proofs.lemmas.List.{map-append, append-nil}
 use Rattle.quic_wire.specs.declared.frame.InvalidFrame.{InvalidFrame}
 use Rattle.quic_wire.specs.Value.{FrameValue, StreamValue, padding, stream}
-use Rattle.quic_wire.specs.Grammar.{IsForm}
+use Rattle.quic_wire.specs.Grammar.{IsForm, Payload}
 use Rattle.quic_wire.specs.Items.{items}
-use Rattle.quic_wire.specs.Writing.{spelling, stream_spelling, spelled_all, Fits, AllFit, StreamFits}
+use Rattle.quic_wire.specs.Writing.{spelling, stream_spelling, spelled_all, AllFit, StreamFits}
 use Rattle.quic_wire.proofs.FrameItems.{items_nil}
-use Rattle.quic_wire.proofs.FrameWhole.{form_items}
+use Rattle.quic_wire.proofs.FrameWhole.{form_items, payload_items}
 use Rattle.quic_wire.proofs.FrameWritten.{stream_form, spelling_form}
 
 -- the items of frames that are written, and of what follows them
@@ -44,3 +44,18 @@ not_both f e xs ys h = cc
 pub refused_no_form : (bytes : List ℕ) (e : InvalidFrame) (others : List (Result FrameValue InvalidFrame)) → items bytes ≡ Err e ∷ others
     → (f : FrameValue) (front rest : List ℕ) → bytes ≡ front ++ rest → IsForm f front rest → ⊥
 refused_no_form bytes e others h f front rest parts form = not_both f e (items rest) others (sym (form_items f front rest form) ∙ ap items (sym parts) ∙ h)
+
+abbrev oks : List FrameValue → List (Result FrameValue InvalidFrame)
+oks fs = map Ok fs
+
+same_ok : (fs gs : List FrameValue) → oks fs ≡ oks gs → fs ≡ gs
+same_ok [] [] e = refl
+same_ok [] (g ∷ gs) e = absurd cc
+same_ok (f ∷ fs) [] e = absurd cc
+same_ok (f ∷ fs) (g ∷ gs) e =
+    let others : fs ≡ gs = same_ok fs gs cc in
+    let first : f ≡ g = cc in cc
+
+-- bytes are the payload of one list of frames at most
+pub payload_once : (fs gs : List FrameValue) (bytes : List ℕ) → Payload fs bytes → Payload gs bytes → fs ≡ gs
+payload_once fs gs bytes h k = same_ok fs gs (sym (payload_items fs bytes h) ∙ payload_items gs bytes k)

@@ -1,5 +1,5 @@
 -- What is left behind a field is no longer than what was there, and behind a frame it is shorter.
-use Rattle.std.proofs.Common.{◌≡◌, ℕ, ◌-◌, ◌≤◌, ◌<◌, Bool, true, false, cond, ltb, eqb, List, [], ◌∷◌, length, take, drop, Option, Some, None, Result, Ok, Err, refl, arith}
+use Rattle.std.proofs.Common.{◌≡◌, ℕ, ◌≤◌, ◌<◌, Bool, true, false, cond, ltb, eqb, List, length, take, drop, Option, Some, None, Result, Ok, Err, refl, arith}
 use Rattle.std.specs.Int.{Width, w8, w16, w32, w64, byte_len}
 use Rattle.std.specs.Prelude.{if◌then◌else◌, slice_index, ◌/◌, ◌^◌}
 use Rattle.std.proofs.lemmas.Bool.{ltb-false}

@@ -1,5 +1,5 @@
 -- Payloads: what is read is a form, and what is a form is read.
-use Rattle.std.proofs.Common.{◌≡◌, ℕ, ◌≤◌, ◌<◌, List, [], ◌∷◌, ◌++◌, length, map, Result, Ok, Err, sym, ap, ◌∙◌, arith, inl, inr}
+use Rattle.std.proofs.Common.{◌≡◌, ℕ, ◌<◌, List, [], ◌∷◌, ◌++◌, length, map, Result, Ok, Err, sym, ap, ◌∙◌, arith, inl, inr}
 use Rattle.std.proofs.lemmas.Bool.{cases_lt}
 use Rattle.std.proofs.lemmas.List.{nil_from_length}
 use Rattle.quic_wire_core.specs.Coding.{IsBytes}
@@ -7,10 +7,10 @@ use Rattle.quic_wire.specs.declared.frame.InvalidFrame.{InvalidFrame}
 use Rattle.quic_wire.specs.Value.{FrameValue}
 use Rattle.quic_wire.specs.Grammar.{IsForm, Payload}
 use Rattle.quic_wire.specs.Items.{frame_at, first_and, items}
-use Rattle.quic_wire.proofs.FrameShrinks.{FrameLeavesFewer, frame_fewer}
+use Rattle.quic_wire.proofs.FrameShrinks.{frame_fewer}
 use Rattle.quic_wire.proofs.FrameItems.{items_nil, items_step, items_ok}
 use Rattle.quic_wire.proofs.FrameAgain.{form_again}
-use Rattle.quic_wire.proofs.FrameFound.{Found, form_found}
+use Rattle.quic_wire.proofs.FrameFound.{form_found}
 
 not_empty : (bytes : List ℕ) (f : FrameValue) (rest : List ℕ) → frame_at bytes ≡ Ok (f, rest) → 0 < length bytes
 not_empty bytes f rest e = let h = rw e at (frame_fewer bytes) in omega (arith, h)

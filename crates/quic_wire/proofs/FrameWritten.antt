@@ -1,5 +1,5 @@
 -- What is written: how it is put together, how long it is, and that it is a form.
-use Rattle.std.proofs.Common.{◌≡◌, ℕ, ◌+◌, ◌≤◌, ◌<◌, ◌^◌, Bool, true, false, not, eqb, List, [], ◌∷◌, ◌++◌, length, take, refl, sym, ap, ◌∙◌, append_assoc, arith}
+use Rattle.std.proofs.Common.{◌≡◌, ℕ, ◌+◌, ◌<◌, ◌^◌, Bool, true, false, not, eqb, List, [], ◌∷◌, ◌++◌, length, take, refl, sym, ap, ◌∙◌, append_assoc, arith}
 use Rattle.std.specs.Prelude.{if◌then◌else◌}
 use Rattle.std.proofs.lemmas.Bool.{eqb-true}
 use Rattle.std.proofs.lemmas.List.{length-append, append-nil, take_at, take_all}
@@ -7,8 +7,8 @@ use Rattle.quic_wire_core.specs.Varint.{shortest}
 use Rattle.quic_wire_core.specs.Law.{shortest_spells}
 use Rattle.quic_wire.specs.Value.{FrameValue, StreamValue, padding, ping, stream}
 use Rattle.quic_wire.specs.FrameTypes.{is_stream, type_of}
-use Rattle.quic_wire.specs.Grammar.{Numbers, Then, offset_numbers, OffsetFits, length_numbers, Ends, stream_numbers, IsForm}
-use Rattle.quic_wire.specs.Writing.{written, has_offset, stream_header, stream_spelling, spelling, StreamFits, Fits, width_of, offset_width, length_width, length_if, stream_size, frame_size}
+use Rattle.quic_wire.specs.Grammar.{Numbers, offset_numbers, OffsetFits, length_numbers, number_if, Ends, stream_numbers, IsForm}
+use Rattle.quic_wire.specs.Writing.{written, has_offset, header_of, with_more, stream_header, stream_spelling, spelling, StreamFits, Fits, width_of, length_width, length_if, stream_size, frame_size}
 
 pub written_append : (ns ms : List ℕ) → written (ns ++ ms) ≡ written ns ++ written ms
 written_append [] ms = refl
@@ -43,20 +43,28 @@ stream_type_short true true true = refl
 
 -- ---- the parts of a STREAM frame in turn
 
-regroup : (w a b x y z : List ℕ) → ((((w ++ a) ++ b) ++ x) ++ y) ++ z ≡ w ++ ((a ++ (b ++ (x ++ y))) ++ z)
-regroup w a b x y z = simp append_assoc
+regroup : (w a b x y : List ℕ) → (((w ++ a) ++ b) ++ x) ++ y ≡ w ++ (a ++ (b ++ (x ++ y)))
+regroup w a b x y = simp append_assoc
 
-pub stream_written : (s : StreamValue) (sized : Bool) (id : ℕ) (w w1 w2 w3 w4 w5 : List ℕ) → id ≡ s.id
+pub header_written : (s : StreamValue) (sized : Bool) (n id : ℕ) (w w1 w2 w3 w4 : List ℕ) → id ≡ s.id
     → w1 ≡ w ++ shortest (type_of (is_stream (has_offset s.offset) sized s.fin)) → w2 ≡ w1 ++ shortest id → w3 ≡ w2 ++ written (offset_numbers (has_offset s.offset) s.offset)
-    → w4 ≡ w3 ++ written (length_numbers sized s.bytes) → w5 ≡ w4 ++ s.bytes → w5 ≡ w ++ stream_spelling sized s
-unfolding stream_spelling
-stream_written s sized id w w1 w2 w3 w4 w5 same e1 e2 e3 e4 e5 =
+    → w4 ≡ w3 ++ written (number_if sized n) → w4 ≡ w ++ header_of sized s n
+header_written s sized n id w w1 w2 w3 w4 same e1 e2 e3 e4 =
     let a = shortest (type_of (is_stream (has_offset s.offset) sized s.fin)) in
     let b = shortest s.id in
     let x = written (offset_numbers (has_offset s.offset) s.offset) in
-    let y = written (length_numbers sized s.bytes) in
-    let whole : w5 ≡ ((((w ++ a) ++ b) ++ x) ++ y) ++ s.bytes = rw (e5, e4, e3, e2, e1, same) refl in
-    whole ∙ rw (written_append (offset_numbers (has_offset s.offset) s.offset) (length_numbers sized s.bytes)) (regroup w a b x y s.bytes)
+    let y = written (number_if sized n) in
+    let whole : w4 ≡ (((w ++ a) ++ b) ++ x) ++ y = rw (e4, e3, e2, e1, same) refl in
+    whole ∙ rw (written_append (offset_numbers (has_offset s.offset) s.offset) (number_if sized n)) (regroup w a b x y)
+
+pub stream_written : (s : StreamValue) (sized : Bool) (w w1 w2 : List ℕ) → w1 ≡ w ++ header_of sized s (length s.bytes) → w2 ≡ w1 ++ s.bytes → w2 ≡ w ++ stream_spelling sized s
+unfolding stream_spelling
+stream_written s sized w w1 w2 e1 e2 = rw (e2, e1) (append_assoc w (header_of sized s (length s.bytes)) s.bytes)
+
+-- the same, with bytes that stand in two places
+pub parts_written : (s : StreamValue) (sized : Bool) (n : ℕ) (more w w1 w2 w3 : List ℕ) → n ≡ length (s.bytes ++ more) → w1 ≡ w ++ header_of sized s n → w2 ≡ w1 ++ s.bytes → w3 ≡ w2 ++ more → w3 ≡ w ++ stream_spelling sized (with_more s more)
+parts_written s sized n more w w1 w2 w3 count e1 e2 e3 =
+    stream_written (with_more s more) sized w w1 w3 (rw (← count) e1) (rw (e3, e2) (append_assoc w1 s.bytes more))
 
 -- ---- how long it is
 

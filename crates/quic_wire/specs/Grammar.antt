@@ -23,10 +23,14 @@ abbrev pub OffsetFits : Bool → ℕ → Type 0
 OffsetFits true offset = Unit {0}
 OffsetFits false offset = offset ≡ 0
 
+-- A number, where it is written.
+abbrev pub number_if : Bool → ℕ → List ℕ
+number_if true n = n ∷ []
+number_if false n = []
+
 -- The length of the text, where it is written.
 abbrev pub length_numbers : Bool → List ℕ → List ℕ
-length_numbers true text = length text ∷ []
-length_numbers false text = []
+length_numbers sized text = number_if sized (length text)
 
 -- Behind a text whose length isn't written the payload ends.
 abbrev pub Ends : Bool → List ℕ → Type 0

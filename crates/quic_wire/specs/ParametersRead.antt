@@ -7,8 +7,8 @@ use Rattle.quic_wire.specs.declared.transport_parameters.error.TransportParamete
 use Rattle.quic_wire.specs.declared.transport_parameters.error.TransportParametersError.TheVariants.{Malformed, IllegalValue}
 use Rattle.quic_wire.specs.Parameters.{ParameterValues, place_of, default_of, most_of, values_by}
 
--- One reading after another, up to the first refusal.
 infixl 10 ◌>>=◌
+-- One reading after another, up to the first refusal.
 abbrev pub ◌>>=◌ : {A B : Type 0} → Result A TransportParametersError → (A → Result B TransportParametersError) → Result B TransportParametersError
 (Ok x) >>= f = f x
 (Err e) >>= f = Err e

@@ -58,6 +58,7 @@ entry_leaves bytes =
 leaves_of : {T : Type 0} (n : ℕ) (r : Result (T × List ℕ) TransportParametersError) (x : T × List ℕ) → LeavesAtMost n r → r ≡ Ok x → length x.1 ≤ n
 leaves_of n r x h e = subst (Leaves n) e h.is
 
+-- An entry takes a byte or more.
 pub entry_shorter : (bytes : List ℕ) (x : (ℕ × List ℕ) × List ℕ) → entry_at bytes ≡ Ok x → length x.1 ≤ length bytes - 1
 entry_shorter bytes x e = leaves_of (length bytes - 1) (entry_at bytes) x (entry_leaves bytes) e
 
@@ -80,6 +81,7 @@ enough (suc n) (suc m) met (b ∷ bytes) h k =
     let shorter : length e.1 ≤ length (b ∷ bytes) - 1 = entry_shorter (b ∷ bytes) e is in
     bind_same (met_with met (parameter_at e.0.0) e.0.1) _ _ (λ more _. enough n m more e.1 (omega arith) (omega arith)))
 
+-- The end of a list changes nothing.
 pub met_in_nil : (met : List (Option ℕ)) → met_in met [] ≡ Ok met
 unfolding met_in met_within
 met_in_nil met = refl
@@ -100,17 +102,21 @@ met_in_step met (b ∷ bytes) h = met_in_cons met b bytes
 
 -- ---- the steps of the loop
 
+-- An entry that is taken leaves what the rest of the list makes of it.
 pub met_next : (met more : List (Option ℕ)) (bytes rest value : List ℕ) (id : ℕ) (total : Result (List (Option ℕ)) TransportParametersError) → 0 < length bytes → entry_at bytes ≡ Ok ((id, value), rest)
     → met_with met (parameter_at id) value ≡ Ok more → met_in met bytes ≡ total → met_in more rest ≡ total
 met_next met more bytes rest value id total some e m so_far = rw (met_in_step met bytes some, e, m) at so_far
 
+-- An entry that is refused refuses the list.
 pub met_refused : (met : List (Option ℕ)) (bytes rest value : List ℕ) (id : ℕ) (x : TransportParametersError) (total : Result (List (Option ℕ)) TransportParametersError) → 0 < length bytes → entry_at bytes ≡ Ok ((id, value), rest)
     → met_with met (parameter_at id) value ≡ Err x → met_in met bytes ≡ total → total ≡ Err x
 met_refused met bytes rest value id x total some e m so_far = sym so_far ∙ met_in_step met bytes some ∙ rw (e, m) refl
 
+-- An entry that can't be read refuses the list.
 pub entry_refused : (met : List (Option ℕ)) (bytes : List ℕ) (x : TransportParametersError) (total : Result (List (Option ℕ)) TransportParametersError) → 0 < length bytes → entry_at bytes ≡ Err x → met_in met bytes ≡ total → total ≡ Err x
 entry_refused met bytes x total some e so_far = sym so_far ∙ met_in_step met bytes some ∙ rw e refl
 
+-- At the end of a list all of it is met.
 pub met_whole : (met : List (Option ℕ)) (bytes : List ℕ) (total : Result (List (Option ℕ)) TransportParametersError) → length bytes ≡ 0 → met_in met bytes ≡ total → total ≡ Ok met
 met_whole met [] total none so_far = sym so_far ∙ met_in_nil met
 met_whole met (b ∷ bytes) total none so_far = absurd (omega arith)

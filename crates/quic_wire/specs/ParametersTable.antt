@@ -11,15 +11,19 @@ use Rattle.quic_wire.specs.ParametersWritten.{parameter_of_place}
 
 -- ---- the tables of parameters
 
+-- An answer, as a function.
 abbrev pub some : {A : Type 0} → A → Option A
 some x = Some x
 
+-- Values that were read, as a function.
 abbrev pub ok : ParameterValues → Result ParameterValues TransportParametersError
 ok p = Ok p
 
+-- Equal answers are of equal values.
 pub some_is : {A : Type 0} (x y : A) → some x ≡ some y → x ≡ y
 some_is x y e = cc
 
+-- The id of a parameter is read as that parameter.
 pub parameter_again : (k : TransportParameterId) → parameter_at (id_of k) ≡ Some k
 parameter_again InitialMaxData = refl
 parameter_again InitialMaxStreamDataBidiLocal = refl
@@ -28,6 +32,7 @@ parameter_again InitialMaxStreamDataUni = refl
 parameter_again InitialMaxStreamsBidi = refl
 parameter_again InitialMaxStreamsUni = refl
 
+-- The place of a parameter is that of no other.
 pub place_again : (k : TransportParameterId) → parameter_of_place (place_of k) ≡ Some k
 place_again InitialMaxData = refl
 place_again InitialMaxStreamDataBidiLocal = refl
@@ -36,6 +41,7 @@ place_again InitialMaxStreamDataUni = refl
 place_again InitialMaxStreamsBidi = refl
 place_again InitialMaxStreamsUni = refl
 
+-- A place is below thirteen.
 pub place_below : (k : TransportParameterId) → place_of k < 13
 place_below InitialMaxData = omega arith
 place_below InitialMaxStreamDataBidiLocal = omega arith
@@ -44,6 +50,7 @@ place_below InitialMaxStreamDataUni = omega arith
 place_below InitialMaxStreamsBidi = omega arith
 place_below InitialMaxStreamsUni = omega arith
 
+-- Values in range are integers that can be spelled.
 pub most_below : (k : TransportParameterId) → most_of k < 2 ^ 62
 most_below InitialMaxData = omega arith
 most_below InitialMaxStreamDataBidiLocal = omega arith
@@ -52,6 +59,7 @@ most_below InitialMaxStreamDataUni = omega arith
 most_below InitialMaxStreamsBidi = omega arith
 most_below InitialMaxStreamsUni = omega arith
 
+-- Ids are integers that can be spelled.
 pub id_below : (k : TransportParameterId) → id_of k < 2 ^ 62
 id_below InitialMaxData = omega arith
 id_below InitialMaxStreamDataBidiLocal = omega arith
@@ -60,6 +68,7 @@ id_below InitialMaxStreamDataUni = omega arith
 id_below InitialMaxStreamsBidi = omega arith
 id_below InitialMaxStreamsUni = omega arith
 
+-- Where nothing is met, no parameter is.
 pub none_met_at : (k : TransportParameterId) → met_at none_met k ≡ None
 none_met_at InitialMaxData = refl
 none_met_at InitialMaxStreamDataBidiLocal = refl
@@ -73,6 +82,7 @@ row : (f : TransportParameterId → ℕ) (n : ℕ) (j k : TransportParameterId) 
 row f n j k m o at others true e h = eqb-true _ _ e ∙ sym at ∙ ap f (some_is j k h)
 row f n j k m o at others false e h = others h
 
+-- What is read as a parameter is its id.
 pub parameter_is : (id : ℕ) (k : TransportParameterId) → parameter_at id ≡ Some k → id ≡ id_of k
 parameter_is id k =
     row id_of id InitialMaxData k _ _ refl
@@ -87,6 +97,7 @@ parameter_is id k =
     _ refl)
     _ refl
 
+-- What is taken for the place of a parameter is its place.
 pub place_is : (place : ℕ) (k : TransportParameterId) → parameter_of_place place ≡ Some k → place ≡ place_of k
 place_is place k =
     row place_of place InitialMaxData k _ _ refl
@@ -101,25 +112,31 @@ place_is place k =
     _ refl)
     _ refl
 
+-- Parameters of one place are one.
 pub same_place : (j k : TransportParameterId) → place_of j ≡ place_of k → j ≡ k
 same_place j k e = some_is j k (sym (place_again j) ∙ ap parameter_of_place e ∙ place_again k)
 
+-- Parameters of one id are one.
 pub same_id : (j k : TransportParameterId) → id_of j ≡ id_of k → j ≡ k
 same_id j k e = some_is j k (sym (parameter_again j) ∙ ap parameter_at e ∙ parameter_again k)
 
--- what stands at an id, one entry on
+-- An entry of an id stands first there.
 pub standing_same : (id : ℕ) (e : ℕ × List ℕ) (es : List (ℕ × List ℕ)) → e.0 ≡ id → standing id (e ∷ es) ≡ e.1 ∷ standing id es
 standing_same id e es same = rw (eq-eqb e.0 id same) refl
 
+-- An entry of another id leaves what stands at an id.
 pub standing_other : (id : ℕ) (e : ℕ × List ℕ) (es : List (ℕ × List ℕ)) → (e.0 ≡ id → ⊥) → standing id (e ∷ es) ≡ standing id es
 standing_other id e es other = rw (ne_eqb e.0 id other) refl
 
+-- A parameter that is met has its value.
 pub met_at_same : (met : List (Option ℕ)) (k : TransportParameterId) (v : ℕ) → length met ≡ 13 → met_at (set met (place_of k) (Some v)) k ≡ Some v
 met_at_same met k v whole = get_or-set_same met (place_of k) (Some v) None (let lt = place_below k in omega arith)
 
+-- Meeting a parameter leaves the others.
 pub met_at_other : (met : List (Option ℕ)) (j k : TransportParameterId) (v : ℕ) → (place_of k ≡ place_of j → ⊥) → met_at (set met (place_of j) (Some v)) k ≡ met_at met k
 met_at_other met j k v other = get_or-set_other met (place_of j) (place_of k) (Some v) None other
 
+-- Each default is in range.
 pub default_in_range : (k : TransportParameterId) → default_of k ≤ most_of k
 default_in_range InitialMaxData = omega arith
 default_in_range InitialMaxStreamDataBidiLocal = omega arith
@@ -128,6 +145,7 @@ default_in_range InitialMaxStreamDataUni = omega arith
 default_in_range InitialMaxStreamsBidi = omega arith
 default_in_range InitialMaxStreamsUni = omega arith
 
+-- Values made by a function are that function's.
 pub value_by : (f : TransportParameterId → ℕ) (k : TransportParameterId) → value_of (values_by f) k ≡ f k
 value_by f InitialMaxData = refl
 value_by f InitialMaxStreamDataBidiLocal = refl

@@ -3,7 +3,7 @@ use Rattle.std.specs.Prelude.{◌≡◌, ℕ, ◌+◌, ◌<◌, ◌^◌, Bool, t
 use Rattle.quic_wire_core.specs.Varint.{shortest}
 use Rattle.quic_wire.specs.Value.{StreamValue, FrameValue, padding, ping, stream}
 use Rattle.quic_wire.specs.FrameTypes.{is_padding, is_ping, is_stream, type_of}
-use Rattle.quic_wire.specs.Grammar.{stream_numbers}
+use Rattle.quic_wire.specs.Grammar.{stream_numbers, offset_numbers, number_if}
 
 -- Numbers, one after another, each in its shortest form.
 abbrev pub written : List ℕ → List ℕ
@@ -13,6 +13,14 @@ written (n ∷ ns) = shortest n ++ written ns
 -- An offset is written where it isn't 0.
 abbrev pub has_offset : ℕ → Bool
 has_offset offset = not (offset == 0)
+
+-- The header of a STREAM frame of so many bytes, with its length or without.
+abbrev pub header_of : Bool → StreamValue → ℕ → List ℕ
+header_of with_length s n = written (type_of (is_stream (has_offset s.offset) with_length s.fin) ∷ s.id ∷ (offset_numbers (has_offset s.offset) s.offset ++ number_if with_length n))
+
+-- The frame with more bytes behind its own.
+abbrev pub with_more : StreamValue → List ℕ → StreamValue
+with_more s more = record s { bytes = s.bytes ++ more }
 
 -- The header of a STREAM frame, with its length or without.
 abbrev pub stream_header : Bool → StreamValue → List ℕ
@@ -67,10 +75,14 @@ length_width None = 0
 abbrev pub stream_header_size : ℕ → ℕ → Option ℕ → ℕ
 stream_header_size id offset len = 1 + width_of id + offset_width offset + length_width len
 
+-- A number, where it is written.
+abbrev pub some_if : Bool → ℕ → Option ℕ
+some_if true n = Some n
+some_if false n = None
+
 -- The length of a text, where it is written.
 abbrev pub length_if : Bool → List ℕ → Option ℕ
-length_if true text = Some (length text)
-length_if false text = None
+length_if with_length text = some_if with_length (length text)
 
 -- How many bytes a STREAM frame takes, with its length or without.
 abbrev pub stream_size : Bool → StreamValue → ℕ

@@ -1,13 +1,15 @@
 //! Frames (RFC 9000, section 19): their values, the reader of a payload and the writers.
+ghost use Rattle.std.specs.Prelude.{◌<◌, ◌^◌};
+
+use quic_wire_core::{Code, FrameType, StreamId, TransportError, VarInt};
+use thiserror::Error;
 
 mod iter;
 mod reading;
 mod writing;
 
 pub use iter::Iter;
-use quic_wire_core::{Code, FrameType, StreamId, TransportError, VarInt};
-use thiserror::Error;
-pub use writing::{put_frame, put_stream, size_of_frame, size_of_stream_header, write_frame};
+pub use writing::{put_frame, put_stream, put_stream_parts, size_of_frame, size_of_stream_header, write_frame};
 
 /// A frame of a payload (quinn-proto's `frame::Frame`).
 #[derive(Debug, Drop)]
@@ -52,12 +54,14 @@ impl<'a> Frame<'a> {
 pub struct Stream<'a> {
     /// The stream's id.
     pub id: StreamId,
-    /// Where in the stream the bytes begin.
+    /// Where in the stream the bytes begin: below 2^62.
     pub offset: u64,
     /// Whether the stream ends behind these bytes.
     pub fin: bool,
     /// The bytes.
     pub data: &'a [u8],
+    // An offset has a form as a variable-length integer (RFC 9000, section 16).
+    ghost small: { offset < 2 ^ 62 },
 }
 
 impl<'a> Stream<'a> {

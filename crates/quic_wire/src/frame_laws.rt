@@ -3,7 +3,7 @@ ghost use Rattle.std.specs.Prelude.{◌≡◌, ℕ, ◌≤◌, Bool, false, List
 ghost use Rattle.quic_wire.specs.declared.frame.InvalidFrame.{InvalidFrame};
 ghost use Rattle.quic_wire.specs.Value.{FrameValue, StreamValue, padding, stream};
 ghost use Rattle.quic_wire.specs.FrameTypes.{Kind, IsKnown, kind_of, type_of};
-ghost use Rattle.quic_wire.specs.Grammar.{Ends, IsForm};
+ghost use Rattle.quic_wire.specs.Grammar.{Ends, IsForm, Payload};
 ghost use Rattle.quic_wire.specs.Items.{items, EndsAtRefusal};
 ghost use Rattle.quic_wire.specs.Writing.{spelling, stream_spelling, spelled_all, Fits, AllFit, StreamFits, frame_size, stream_size};
 
@@ -28,6 +28,11 @@ pub fn form_is_read()
 pub fn refused_is_no_form()
     ensures { (bytes : List ℕ) (e : InvalidFrame) (others : List (Result FrameValue InvalidFrame)) → items bytes ≡ Err e ∷ others
         → (f : FrameValue) (front rest : List ℕ) → bytes ≡ front ++ rest → IsForm f front rest → ⊥ }
+{}
+
+/// A payload is the bytes of at most one list of frames.
+pub fn payload_is_one_list()
+    ensures { (fs gs : List FrameValue) (bytes : List ℕ) → Payload fs bytes → Payload gs bytes → fs ≡ gs }
 {}
 
 /// What is written for a frame is a form of it, whatever follows it; a STREAM frame without its length where nothing

@@ -71,7 +71,7 @@ fn value_at(met: &[Option<VarInt>; PLACES], parameter: TransportParameterId) -> 
 
 impl TransportParameters {
     ghost use Rattle.std.specs.Prelude.{◌≡◌, ◌++◌, IfOk, OnOk, Ok};
-    ghost use Rattle.quic_wire.specs.Parameters.{value_of, AreInRange};
+    ghost use Rattle.quic_wire.specs.Parameters.{ParameterValues, ParametersSpell, value_of, AreInRange};
     ghost use Rattle.quic_wire.specs.ParametersRead.{values_met, parameters_at};
     ghost use Rattle.quic_wire.specs.ParametersWritten.{IsWriteOrder, parameter_of_place, written_place, written_parameters};
 
@@ -133,7 +133,9 @@ impl TransportParameters {
     /// length; last [`IllegalValue`](TransportParametersError::IllegalValue) where a count of streams is above 2^60.
     #[tactic(auto, unfolding(crate::specs::ParametersRead::parameters_at))]
     pub fn read(_side: Side, bytes: &[u8]) -> Result<Self, TransportParametersError>
-        ensures { result ≡ parameters_at bytes.now }
+        ensures value { result ≡ parameters_at bytes.now }
+        ensures spelled { IfOk result (λ p. ParametersSpell p bytes.now × AreInRange p) }
+        ensures complete { (p : ParameterValues) → ParametersSpell p bytes.now → AreInRange p → result ≡ Ok p }
     {
         let met = met_of(bytes)?;
         Ok(Self::of_met(&met))

@@ -4,6 +4,7 @@ pub mod Law
 pub mod ConnectionId
 pub mod StreamId
 pub mod StreamIdLaw
+pub mod Text
 pub mod FrameType
 pub mod TransportError
 pub mod Ecn

@@ -1,5 +1,6 @@
 -- Errors of the transport (RFC 9000, section 20.1).
-use Rattle.std.specs.Prelude.{ℕ, Option, None, List, [], ◌∷◌}
+use Rattle.std.specs.Prelude.{ℕ, Option, None, List, [], ◌∷◌, codes}
+use Rattle.quic_wire_core.specs.Text.{text_in, text_or_number}
 
 -- An error: its code, and the type of the frame that caused it, where one did.
 pub record ErrorValue : Type 0 where
@@ -103,3 +104,33 @@ all_codes =
     ∷ aead_limit_reached
     ∷ no_viable_path
     ∷ []
+
+-- The names of the codes (RFC 9000, section 20.1).
+abbrev pub code_names : List (ℕ × List ℕ)
+code_names =
+    (no_error, codes "NO_ERROR")
+    ∷ (internal_error, codes "INTERNAL_ERROR")
+    ∷ (connection_refused, codes "CONNECTION_REFUSED")
+    ∷ (flow_control_error, codes "FLOW_CONTROL_ERROR")
+    ∷ (stream_limit_error, codes "STREAM_LIMIT_ERROR")
+    ∷ (stream_state_error, codes "STREAM_STATE_ERROR")
+    ∷ (final_size_error, codes "FINAL_SIZE_ERROR")
+    ∷ (frame_encoding_error, codes "FRAME_ENCODING_ERROR")
+    ∷ (transport_parameter_error, codes "TRANSPORT_PARAMETER_ERROR")
+    ∷ (connection_id_limit_error, codes "CONNECTION_ID_LIMIT_ERROR")
+    ∷ (protocol_violation, codes "PROTOCOL_VIOLATION")
+    ∷ (invalid_token, codes "INVALID_TOKEN")
+    ∷ (application_error, codes "APPLICATION_ERROR")
+    ∷ (crypto_buffer_exceeded, codes "CRYPTO_BUFFER_EXCEEDED")
+    ∷ (key_update_error, codes "KEY_UPDATE_ERROR")
+    ∷ (aead_limit_reached, codes "AEAD_LIMIT_REACHED")
+    ∷ (no_viable_path, codes "NO_VIABLE_PATH")
+    ∷ []
+
+-- The name of a code, where it has one.
+abbrev pub code_name : ℕ → Option (List ℕ)
+code_name code = text_in code_names code
+
+-- What is printed of a code: its name, or else its number.
+abbrev pub code_text : ℕ → List ℕ
+code_text code = text_or_number (code_name code) (codes "unknown error ") code

@@ -1,6 +1,6 @@
 //! Types of frames (RFC 9000, section 19).
-ghost use Rattle.std.specs.Prelude.{◌≡◌};
-ghost use Rattle.quic_wire_core.specs.FrameType.{all_frame_types, is_stream_type, is_datagram_type};
+ghost use Rattle.std.specs.Prelude.{◌≡◌, Some, None, MatchOption};
+ghost use Rattle.quic_wire_core.specs.FrameType.{all_frame_types, frame_name, frame_text, is_stream_type, is_datagram_type};
 
 use crate::varint::VarInt;
 use std::fmt;
@@ -182,39 +182,52 @@ impl From<FrameType> for u64 {
 
 /// The name of the type in RFC 9000, RFC 9221 or the ACK frequency extension, or `unknown frame type N`.
 impl fmt::Display for FrameType {
+    ghost output = { λ ty. Some (frame_text ty) };
+
     fn fmt<W: fmt::Write>(&self, f: &mut fmt::Formatter<W>) -> fmt::Result {
-        let name = match self.0 {
-            0x00 => "PADDING",
-            0x01 => "PING",
-            0x02 => "ACK",
-            0x03 => "ACK_ECN",
-            0x04 => "RESET_STREAM",
-            0x05 => "STOP_SENDING",
-            0x06 => "CRYPTO",
-            0x07 => "NEW_TOKEN",
-            0x08..=0x0f => "STREAM",
-            0x10 => "MAX_DATA",
-            0x11 => "MAX_STREAM_DATA",
-            0x12 => "MAX_STREAMS_BIDI",
-            0x13 => "MAX_STREAMS_UNI",
-            0x14 => "DATA_BLOCKED",
-            0x15 => "STREAM_DATA_BLOCKED",
-            0x16 => "STREAMS_BLOCKED_BIDI",
-            0x17 => "STREAMS_BLOCKED_UNI",
-            0x18 => "NEW_CONNECTION_ID",
-            0x19 => "RETIRE_CONNECTION_ID",
-            0x1a => "PATH_CHALLENGE",
-            0x1b => "PATH_RESPONSE",
-            0x1c => "CONNECTION_CLOSE",
-            0x1d => "APPLICATION_CLOSE",
-            0x1e => "HANDSHAKE_DONE",
-            0x1f => "IMMEDIATE_ACK",
-            0x30..=0x31 => "DATAGRAM",
-            0xaf => "ACK_FREQUENCY",
-            other => return write!(f, "unknown frame type {other:#x}"),
-        };
-        f.write_str(name)
+        let n = self.0;
+        match name_of(n) {
+            Some(name) => f.write_str(name),
+            None => write!(f, "unknown frame type {n}"),
+        }
     }
+}
+
+/// The name of a type, where it has one.
+fn name_of(ty: u64) -> Option<&'static str>
+    ensures { MatchOption result (frame_name ty ≡ None) (λ name. frame_name ty ≡ Some name.now) }
+{
+    let name = match ty {
+        0x00 => "PADDING",
+        0x01 => "PING",
+        0x02 => "ACK",
+        0x03 => "ACK_ECN",
+        0x04 => "RESET_STREAM",
+        0x05 => "STOP_SENDING",
+        0x06 => "CRYPTO",
+        0x07 => "NEW_TOKEN",
+        0x08..=0x0f => "STREAM",
+        0x10 => "MAX_DATA",
+        0x11 => "MAX_STREAM_DATA",
+        0x12 => "MAX_STREAMS_BIDI",
+        0x13 => "MAX_STREAMS_UNI",
+        0x14 => "DATA_BLOCKED",
+        0x15 => "STREAM_DATA_BLOCKED",
+        0x16 => "STREAMS_BLOCKED_BIDI",
+        0x17 => "STREAMS_BLOCKED_UNI",
+        0x18 => "NEW_CONNECTION_ID",
+        0x19 => "RETIRE_CONNECTION_ID",
+        0x1a => "PATH_CHALLENGE",
+        0x1b => "PATH_RESPONSE",
+        0x1c => "CONNECTION_CLOSE",
+        0x1d => "APPLICATION_CLOSE",
+        0x1e => "HANDSHAKE_DONE",
+        0x1f => "IMMEDIATE_ACK",
+        0x30..=0x31 => "DATAGRAM",
+        0xaf => "ACK_FREQUENCY",
+        _ => return None,
+    };
+    Some(name)
 }
 
 #[cfg(test)]
@@ -229,7 +242,7 @@ mod tests {
         let text = format!(in rt.alloc(); "{}, {last}, {other}", FrameType::CONNECTION_CLOSE)?;
         assert_eq!(rt;
             text.as_str(),
-            "CONNECTION_CLOSE, STREAM, unknown frame type 0x2a"
+            "CONNECTION_CLOSE, STREAM, unknown frame type 42"
         );
         assert!(rt; last.is_stream());
         assert!(rt; !other.is_stream());

@@ -193,12 +193,12 @@ fn write_hex<W: fmt::Write>(f: &mut fmt::Formatter<W>, byte: u8) -> fmt::Result
 /// The congestion mark of an IP packet, where it has one (RFC 3168, section 5; quinn-proto's `EcnCodepoint`).
 #[derive(Clone, Copy, Debug, PartialEq, Eq)]
 pub enum EcnCodepoint {
-    /// The transport takes marks, codepoint ECT(0): bits 10.
-    Ect0,
-    /// The transport takes marks, codepoint ECT(1): bits 01.
-    Ect1,
-    /// Congestion was met: bits 11.
-    Ce,
+    /// The transport takes marks, codepoint ECT(0).
+    Ect0 = 0b10,
+    /// The transport takes marks, codepoint ECT(1).
+    Ect1 = 0b01,
+    /// Congestion was met.
+    Ce = 0b11,
 }
 
 impl EcnCodepoint {

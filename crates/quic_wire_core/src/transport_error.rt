@@ -1,6 +1,6 @@
 //! Errors of the transport, which close a connection (RFC 9000, section 20.1).
-ghost use Rattle.std.specs.Prelude.{◌≡◌};
-ghost use Rattle.quic_wire_core.specs.TransportError.{all_codes, error_in, plain_error};
+ghost use Rattle.std.specs.Prelude.{◌≡◌, Some, None, MatchOption};
+ghost use Rattle.quic_wire_core.specs.TransportError.{all_codes, code_name, code_text, error_in, plain_error};
 
 use crate::frame_type::FrameType;
 use crate::varint::VarInt;
@@ -131,29 +131,42 @@ impl From<Code> for u64 {
 
 /// The name of the code in RFC 9000 or its extensions, or `unknown error N`.
 impl fmt::Display for Code {
+    ghost output = { λ code. Some (code_text code) };
+
     fn fmt<W: fmt::Write>(&self, f: &mut fmt::Formatter<W>) -> fmt::Result {
-        let name = match self.0 {
-            0x00 => "NO_ERROR",
-            0x01 => "INTERNAL_ERROR",
-            0x02 => "CONNECTION_REFUSED",
-            0x03 => "FLOW_CONTROL_ERROR",
-            0x04 => "STREAM_LIMIT_ERROR",
-            0x05 => "STREAM_STATE_ERROR",
-            0x06 => "FINAL_SIZE_ERROR",
-            0x07 => "FRAME_ENCODING_ERROR",
-            0x08 => "TRANSPORT_PARAMETER_ERROR",
-            0x09 => "CONNECTION_ID_LIMIT_ERROR",
-            0x0a => "PROTOCOL_VIOLATION",
-            0x0b => "INVALID_TOKEN",
-            0x0c => "APPLICATION_ERROR",
-            0x0d => "CRYPTO_BUFFER_EXCEEDED",
-            0x0e => "KEY_UPDATE_ERROR",
-            0x0f => "AEAD_LIMIT_REACHED",
-            0x10 => "NO_VIABLE_PATH",
-            other => return write!(f, "unknown error {other:#x}"),
-        };
-        f.write_str(name)
+        let n = self.0;
+        match name_of(n) {
+            Some(name) => f.write_str(name),
+            None => write!(f, "unknown error {n}"),
+        }
     }
+}
+
+/// The name of a code, where it has one.
+fn name_of(code: u64) -> Option<&'static str>
+    ensures { MatchOption result (code_name code ≡ None) (λ name. code_name code ≡ Some name.now) }
+{
+    let name = match code {
+        0x00 => "NO_ERROR",
+        0x01 => "INTERNAL_ERROR",
+        0x02 => "CONNECTION_REFUSED",
+        0x03 => "FLOW_CONTROL_ERROR",
+        0x04 => "STREAM_LIMIT_ERROR",
+        0x05 => "STREAM_STATE_ERROR",
+        0x06 => "FINAL_SIZE_ERROR",
+        0x07 => "FRAME_ENCODING_ERROR",
+        0x08 => "TRANSPORT_PARAMETER_ERROR",
+        0x09 => "CONNECTION_ID_LIMIT_ERROR",
+        0x0a => "PROTOCOL_VIOLATION",
+        0x0b => "INVALID_TOKEN",
+        0x0c => "APPLICATION_ERROR",
+        0x0d => "CRYPTO_BUFFER_EXCEEDED",
+        0x0e => "KEY_UPDATE_ERROR",
+        0x0f => "AEAD_LIMIT_REACHED",
+        0x10 => "NO_VIABLE_PATH",
+        _ => return None,
+    };
+    Some(name)
 }
 
 /// An error of the transport: its code, the type of the frame that caused it, where one did, and a reason for
@@ -269,7 +282,7 @@ mod tests {
         assert_eq!(rt; error.copied().reason(), "too much data");
         let plain = TransportError::from(Code::from(VarInt::from_u32(0x1234)));
         let text = format!(in rt.alloc(); "{plain}")?;
-        assert_eq!(rt; text.as_str(), "unknown error 0x1234");
+        assert_eq!(rt; text.as_str(), "unknown error 4660");
         assert_eq!(rt; plain.frame(), None);
         assert_eq!(rt; plain.reason(), "");
         Ok(())

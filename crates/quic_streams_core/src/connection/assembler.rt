@@ -190,7 +190,8 @@ impl Assembler {
         Ok(count)
     }
 
-    /// Puts in bytes that came at an offset: those that were not read and do not wait yet.
+    /// Puts in bytes that came at an offset (RFC 9000, 19.8): those that were not read and do not
+    /// wait yet. They end at 2^62 - 1 at most.
     ///
     /// An `Err` (want of memory) may have put in some of them; what waited still waits.
     pub fn insert(&mut self, offset: u64, bytes: &[u8]) -> Result<(), AllocError>

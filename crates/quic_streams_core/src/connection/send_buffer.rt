@@ -72,7 +72,8 @@ impl SendBuffer {
         }
     }
 
-    /// Takes over bytes that are written. An `Err` (want of memory) takes none.
+    /// Takes over bytes that are written; all together they end at 2^62 - 1 at most (RFC 9000,
+    /// 19.8). An `Err` (want of memory) takes none.
     pub fn write(&mut self, bytes: &[u8]) -> Result<(), AllocError>
         requires { written self.old + length bytes.now < 2 ^ 62 }
         ensures ok { OnOk result (self.new ≡ record self.old { kept = self.old.kept ++ bytes.now }) }
@@ -103,8 +104,8 @@ impl SendBuffer {
         self.unsent < self.offset()
     }
 
-    /// Takes the next bytes to send, of a STREAM frame with `max_len` bytes of room behind its
-    /// type and id: their offsets, and whether the frame's length is to be written.
+    /// Takes the next bytes to send, of a STREAM frame (RFC 9000, 19.8) with `max_len` bytes of
+    /// room behind its type and id: their offsets, and whether the frame's length is to be written.
     ///
     /// The offset takes its width of the room, unless it is 0. Where what was never sent fills the
     /// room, the frame ends with it and has no length. Else it has one, and 8 bytes are kept for it.
@@ -144,6 +145,23 @@ impl SendBuffer {
         } else {
             &back[start - front.len()..end - front.len()]
         }
+    }
+
+    /// The bytes of a range, in two parts, of which either may be empty: where they lie in a ring, they may pass its end.
+    pub fn get_parts(&self, offsets: Range<u64>) -> (&[u8], &[u8])
+        requires kept { self.now.base ≤ offsets.start }
+        requires ordered { offsets.start ≤ offsets.end }
+        requires bounded { offsets.end ≤ written self.now }
+        ensures { result.0.now ++ result.1.now ≡ slice_range self.now.kept (offsets.start - self.now.base) (offsets.end - self.now.base) }
+    {
+        let (front, back) = self.kept.as_slices();
+        let cut = front.len();
+        let start = (offsets.start - self.base) as usize;
+        let end = (offsets.end - self.base) as usize;
+        (
+            &front[start.min(cut)..end.min(cut)],
+            &back[start.saturating_sub(cut)..end.saturating_sub(cut)],
+        )
     }
 }
 

@@ -67,23 +67,38 @@ impl<'a> Iterator for Iter<'a> {
 #[cfg(test)]
 mod tests {
     use super::*;
-    use crate::frame::{FrameError, Stream};
-    use quic_wire_core::{FrameType, StreamId, VarInt};
+    use crate::frame::FrameError;
+    use quic_wire_core::{FrameType, VarInt};
     use std::test::Fail;
 
-    /// The STREAM frame at the front, if there is one.
-    fn stream_in<'a>(item: Option<Result<Frame<'a>, InvalidFrame>>) -> Option<Stream<'a>> {
+    /// Whether the item is this STREAM frame.
+    fn is_stream(
+        item: &Option<Result<Frame<'_>, InvalidFrame>>,
+        id: u64,
+        offset: u64,
+        fin: bool,
+        text: &[u8],
+    ) -> bool {
         match item {
-            Some(Ok(Frame::Stream(stream))) => Some(stream),
-            _ => None,
+            Some(Ok(Frame::Stream(stream))) => {
+                u64::from(stream.id) == id
+                    && stream.offset == offset
+                    && stream.fin == fin
+                    && stream.data == text
+            }
+            _ => false,
         }
     }
 
-    /// The refusal at the front, if there is one.
-    fn refusal_in(item: Option<Result<Frame<'_>, InvalidFrame>>) -> Option<InvalidFrame> {
+    /// Whether the item is a refusal at this type, for this reason.
+    fn is_refusal(
+        item: &Option<Result<Frame<'_>, InvalidFrame>>,
+        ty: Option<FrameType>,
+        reason: FrameError,
+    ) -> bool {
         match item {
-            Some(Err(invalid)) => Some(invalid),
-            _ => None,
+            Some(Err(invalid)) => invalid.ty == ty && invalid.reason == reason,
+            _ => false,
         }
     }
 
@@ -95,27 +110,9 @@ mod tests {
             0x0c, 0x40, 0x08, 0x07, 0x62, 0x63, // with an offset alone, an id of two bytes
         ];
         let mut frames = Iter::new(&payload);
-        let first = Stream {
-            id: StreamId::from(VarInt::from_u32(0)),
-            offset: 0,
-            fin: true,
-            data: b"hello",
-        };
-        let second = Stream {
-            id: StreamId::from(VarInt::from_u32(4)),
-            offset: 64,
-            fin: false,
-            data: b"a",
-        };
-        let third = Stream {
-            id: StreamId::from(VarInt::from_u32(8)),
-            offset: 7,
-            fin: false,
-            data: b"bc",
-        };
-        assert_eq!(rt; stream_in(frames.next()), Some(first));
-        assert_eq!(rt; stream_in(frames.next()), Some(second));
-        assert_eq!(rt; stream_in(frames.next()), Some(third));
+        assert!(rt; is_stream(&frames.next(), 0, 0, true, b"hello"));
+        assert!(rt; is_stream(&frames.next(), 4, 64, false, b"a"));
+        assert!(rt; is_stream(&frames.next(), 8, 7, false, b"bc"));
         assert!(rt; frames.next().is_none());
         Ok(())
     }
@@ -151,22 +148,15 @@ mod tests {
             (&[0x40, 0x10], 0x10, FrameError::InvalidId),
         ];
         for (payload, ty, reason) in cases {
-            let wanted = InvalidFrame {
-                ty: Some(FrameType::from(VarInt::from_u32(ty))),
-                reason,
-            };
             let mut frames = Iter::new(payload);
-            assert_eq!(rt; refusal_in(frames.next()), Some(wanted));
+            let wanted = FrameType::from(VarInt::from_u32(ty));
+            assert!(rt; is_refusal(&frames.next(), Some(wanted), reason));
             assert!(rt; frames.next().is_none());
         }
-        let cut = InvalidFrame {
-            ty: None,
-            reason: FrameError::UnexpectedEnd,
-        };
-        let mut frames = Iter::new(&[0x01, 0x80, 0x00]);
-        assert!(rt; matches!(frames.next(), Some(Ok(Frame::Ping))));
-        assert_eq!(rt; refusal_in(frames.next()), Some(cut));
-        assert!(rt; frames.next().is_none());
+        let mut cut = Iter::new(&[0x01, 0x80, 0x00]);
+        assert!(rt; matches!(cut.next(), Some(Ok(Frame::Ping))));
+        assert!(rt; is_refusal(&cut.next(), None, FrameError::UnexpectedEnd));
+        assert!(rt; cut.next().is_none());
         Ok(())
     }
 }

@@ -50,7 +50,8 @@ fn sized_of<'a>(bytes: &mut &'a [u8]) -> Result<&'a [u8], FrameError>
 /// The offset of a STREAM frame, 0 where none is written.
 #[tactic(auto, unfolding(crate::specs::Reading::offset_at))]
 fn offset_of(written: bool, bytes: &mut &[u8]) -> Result<u64, FrameError>
-    ensures { Reads (λ x. x) result bytes.new.now (offset_at written bytes.old.now) }
+    ensures value { Reads (λ x. x) result bytes.new.now (offset_at written bytes.old.now) }
+    ensures bound { IfOk result (λ x. x < 2 ^ 62) }
 {
     if written { number_of(bytes) } else { Ok(0) }
 }

@@ -2,9 +2,9 @@
 ghost use Rattle.std.specs.Prelude.{◌≡◌, ◌+◌, ◌<◌, ◌≤◌, ◌^◌, ◌++◌, length, OnOk, OnErr, vec_len, vec_capacity, IfSome, true};
 ghost use Rattle.quic_wire_core.specs.Varint.{shortest};
 ghost use Rattle.quic_wire.specs.FrameView.{stream_view, frame_view};
-ghost use Rattle.quic_wire.specs.Grammar.{offset_numbers, length_numbers};
+ghost use Rattle.quic_wire.specs.Grammar.{offset_numbers, number_if};
 ghost use Rattle.quic_wire.specs.FrameTypes.{type_of, is_stream};
-ghost use Rattle.quic_wire.specs.Writing.{written, has_offset, stream_header, stream_spelling, spelling, StreamFits, Fits, width_of, offset_width, length_width, length_if, stream_header_size, stream_size, frame_size, BeginWith};
+ghost use Rattle.quic_wire.specs.Writing.{written, has_offset, stream_header, stream_spelling, spelling, StreamFits, Fits, width_of, offset_width, length_width, some_if, header_of, with_more, stream_header_size, stream_size, frame_size, BeginWith};
 
 use crate::frame::{Frame, Stream};
 use bytes::BufMut;
@@ -172,15 +172,15 @@ fn put_offset(out: &mut Vec<u8>, offset: u64)
 }
 
 /// Appends the length of the data of a STREAM frame, where it is written. There is room.
-fn put_length(out: &mut Vec<u8>, text: &[u8], with_length: bool)
-    requires form { length text.now < 2 ^ 62 }
-    requires room { vec_len out.old + length_width (length_if with_length text.now) ≤ vec_capacity out.old }
-    ensures items { out.new.items ≡ out.old.items ++ written (length_numbers with_length text.now) }
-    ensures len { vec_len out.new ≡ vec_len out.old + length_width (length_if with_length text.now) }
+fn put_length(out: &mut Vec<u8>, length: u64, with_length: bool)
+    requires form { length < 2 ^ 62 }
+    requires room { vec_len out.old + length_width (some_if with_length length) ≤ vec_capacity out.old }
+    ensures items { out.new.items ≡ out.old.items ++ written (number_if with_length length) }
+    ensures len { vec_len out.new ≡ vec_len out.old + length_width (some_if with_length length) }
     ensures capacity { vec_capacity out.old ≤ vec_capacity out.new }
 {
     if with_length {
-        put_number(out, text.len() as u64);
+        put_number(out, length);
     }
 }
 
@@ -194,6 +194,22 @@ fn put_stream_type(out: &mut Vec<u8>, stream: &Stream<'_>, with_length: bool)
     append(out, &[stream.ty(with_length) as u8]);
 }
 
+/// Appends the header of a STREAM frame of so many bytes, with its length or without. There is room.
+fn put_stream_header(out: &mut Vec<u8>, stream: &Stream<'_>, length: usize, with_length: bool)
+    requires offset { stream.now.offset < 2 ^ 62 }
+    requires id { stream.now.id < 2 ^ 62 }
+    requires form { length < 2 ^ 62 }
+    requires room { vec_len out.old + stream_header_size stream.now.id stream.now.offset (some_if with_length length) ≤ vec_capacity out.old }
+    ensures items { out.new.items ≡ out.old.items ++ header_of with_length (stream_view stream.now) length }
+    ensures len { vec_len out.new ≡ vec_len out.old + stream_header_size stream.now.id stream.now.offset (some_if with_length length) }
+    ensures capacity { vec_capacity out.old ≤ vec_capacity out.new }
+{
+    put_stream_type(out, stream, with_length);
+    put_number(out, stream.id.into());
+    put_offset(out, stream.offset);
+    put_length(out, length as u64, with_length);
+}
+
 /// Appends a STREAM frame, with its length or without, for which there is room. One without its length has to be the
 /// last of its packet (RFC 9000, section 19.8; quinn-proto's `StreamMeta::encode`).
 pub fn put_stream(out: &mut Vec<u8>, stream: &Stream<'_>, with_length: bool)
@@ -203,11 +219,23 @@ pub fn put_stream(out: &mut Vec<u8>, stream: &Stream<'_>, with_length: bool)
     ensures len { vec_len out.new ≡ vec_len out.old + stream_size with_length (stream_view stream.now) }
     ensures capacity { vec_capacity out.old ≤ vec_capacity out.new }
 {
-    put_stream_type(out, stream, with_length);
-    put_number(out, stream.id.into());
-    put_offset(out, stream.offset);
-    put_length(out, stream.data, with_length);
+    put_stream_header(out, stream, stream.data.len(), with_length);
     append(out, stream.data);
+}
+
+/// Appends a STREAM frame whose bytes are those of `stream` and `more` behind them, as [`put_stream`] does one whose
+/// bytes stand in one place.
+pub fn put_stream_parts(out: &mut Vec<u8>, stream: &Stream<'_>, more: &[u8], with_length: bool)
+    requires form { StreamFits (with_more (stream_view stream.now) more.now) }
+    requires room { vec_len out.old + stream_size with_length (with_more (stream_view stream.now) more.now) ≤ vec_capacity out.old }
+    ensures items { out.new.items ≡ out.old.items ++ stream_spelling with_length (with_more (stream_view stream.now) more.now) }
+    ensures len { vec_len out.new ≡ vec_len out.old + stream_size with_length (with_more (stream_view stream.now) more.now) }
+    ensures capacity { vec_capacity out.old ≤ vec_capacity out.new }
+{
+    let count = stream.data.len() + more.len();
+    put_stream_header(out, stream, count, with_length);
+    append(out, stream.data);
+    append(out, more);
 }
 
 /// Appends a frame, a STREAM frame with its length, for which there is room.
@@ -232,48 +260,51 @@ mod tests {
 
     #[test]
     fn writes_frames(rt: HostRuntime) -> Result<(), Fail> {
-        let hello = Stream {
+        let hello = Frame::Stream(Stream {
             id: StreamId::from(VarInt::from_u32(0)),
             offset: 0,
             fin: true,
             data: b"hello",
-        };
+        });
         let mut out = Vec::new(rt.alloc());
         write_frame(&Frame::Ping, &mut out)?;
         write_frame(&Frame::Padding, &mut out)?;
-        write_frame(&Frame::Stream(hello), &mut out)?;
+        write_frame(&hello, &mut out)?;
         let wanted = [0x01, 0x00, 0x0b, 0x00, 0x05, 0x68, 0x65, 0x6c, 0x6c, 0x6f];
         assert_eq!(rt; out.as_slice(), wanted.as_slice());
         assert_eq!(rt; size_of_frame(&Frame::Ping), 1);
-        assert_eq!(rt; size_of_frame(&Frame::Stream(hello)), 8);
+        assert_eq!(rt; size_of_frame(&hello), 8);
         Ok(())
     }
 
     #[test]
     fn composes_frames(rt: HostRuntime) -> Result<(), Fail> {
-        let frame = Stream {
-            id: StreamId::from(VarInt::from_u32(4)),
+        let id = StreamId::from(VarInt::from_u32(4));
+        let stream = Stream {
+            id,
             offset: 64,
             fin: false,
             data: b"a",
         };
         let mut out = Vec::new(rt.alloc());
         out.reserve(12)?;
-        put_frame(&mut out, &Frame::Ping);
-        put_frame(&mut out, &Frame::Stream(frame));
-        put_stream(&mut out, &frame, false);
+        put_frame(&mut out, &Frame::Padding);
+        put_stream(&mut out, &stream, true);
+        put_stream(&mut out, &stream, false);
         let wanted = [
-            0x01, 0x0e, 0x04, 0x40, 0x40, 0x01, 0x61, 0x0c, 0x04, 0x40, 0x40, 0x61,
+            0x00, 0x0e, 0x04, 0x40, 0x40, 0x01, 0x61, 0x0c, 0x04, 0x40, 0x40, 0x61,
         ];
         assert_eq!(rt; out.as_slice(), wanted.as_slice());
-        assert_eq!(rt; size_of_stream_header(frame.id, 64, Some(1)), 5);
-        assert_eq!(rt; size_of_stream_header(frame.id, 64, None), 4);
-        let largest = StreamId::from(VarInt::MAX);
+        assert_eq!(rt; size_of_stream_header(id, 64, Some(1)), 5);
+        assert_eq!(rt; size_of_stream_header(id, 64, None), 4);
+        Ok(())
+    }
+
+    #[test]
+    fn headers_have_at_most_25_bytes(rt: HostRuntime) -> Result<(), Fail> {
         let most = (1 << 62) - 1;
-        assert_eq!(rt;
-            size_of_stream_header(largest, most, Some(most)),
-            Stream::SIZE_BOUND
-        );
+        let size = size_of_stream_header(StreamId::from(VarInt::MAX), most, Some(most));
+        assert_eq!(rt; size, Stream::SIZE_BOUND);
         Ok(())
     }
 }

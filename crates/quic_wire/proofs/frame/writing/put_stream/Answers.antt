@@ -4,6 +4,5 @@ use Rattle.quic_wire.proofs.frame.writing.put_stream.Goals as goal
 
 pub returns-clause-items : goal.returns-clause-items
 returns-clause-items c =
-    stream_written (stream_view c.args.stream.now) c.args.with_length c.into.result
-    c.args.out.now.items c.put_stream_type.new.out.items c.put_number.new.out.items c.put_offset.new.out.items c.put_length.new.out.items c.append.new.out.items
-    c.into.ensures c.put_stream_type.ensures.items c.put_number.ensures.items c.put_offset.ensures.items c.put_length.ensures.items c.append.ensures.items
+    stream_written (stream_view c.args.stream.now) c.args.with_length c.args.out.now.items c.put_stream_header.new.out.items c.append.new.out.items
+    c.put_stream_header.ensures.items c.append.ensures.items
