@@ -5,8 +5,12 @@ mod answer;
 mod error;
 pub mod key;
 mod lines;
+mod runner;
 mod script;
+mod session;
+mod show;
 mod words;
 
 pub use error::ScriptError;
+pub use runner::{run_script, run_script_within};
 pub use words::Words;
