@@ -9,6 +9,8 @@ mod runner;
 mod script;
 mod session;
 mod show;
+#[cfg(test)]
+mod tests;
 mod words;
 
 pub use error::ScriptError;
