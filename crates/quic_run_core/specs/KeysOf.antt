@@ -19,6 +19,6 @@ key_of side = record { mark = mark_of side; confidentiality_limit = 8388608; int
 -- the keys of an end: what it seals with, and what it opens with
 abbrev pub keys_of : Side → Keys PlainHeaderKey PlainKey
 keys_of side = record {
-  header = record { local = record { }; remote = record { } };
+  header = record { local = record {}; remote = record {} };
   packet = record { local = key_of side; remote = key_of (other_side side) };
 }

@@ -1,5 +1,9 @@
 -- The words of a script's line.
-use Rattle.std.specs.Prelude.{ℕ, List, Option, Some, None, if◌then◌else◌, codes, nat_eq}
+use Rattle.std.specs.Prelude.{◌≡◌, ℕ, List, [], ◌∷◌, Option, Some, None, if◌then◌else◌, codes, nat_eq, ◌||◌, ◌==◌, length}
+use Rattle.std.specs.Char.{is_ascii_uppercase}
+use Rattle.std.specs.List.{list_any}
+use Rattle.std.specs.Result.{result_ok}
+use Rattle.hex.specs.Hex.{decode_of}
 use Rattle.std.specs.Cmp.Lexicographic.{pointwise}
 use Rattle.quic_wire_core.specs.declared.stream_id.Side.{Side}
 use Rattle.quic_wire_core.specs.declared.stream_id.Side.TheVariants.{Client, Server}
@@ -30,3 +34,15 @@ mark_named word =
     else (if pointwise nat_eq word (codes "ect1") then Some (Some Ect1)
     else (if pointwise nat_eq word (codes "ce") then Some (Some Ce)
     else None)))
+
+-- the bytes that a word names in lower-case hexadecimal, where `-` names none
+abbrev pub bytes_named : List ℕ → Option (List ℕ)
+bytes_named word =
+    if pointwise nat_eq word (codes "-") then Some []
+    else (if (length word == 0) || list_any is_ascii_uppercase word then None
+    else result_ok (decode_of word))
+
+-- an empty line, or a comment, which begins with `#`
+abbrev pub IsSkipped : List ℕ → Type 0
+IsSkipped [] = Unit {0}
+IsSkipped (first ∷ line) = first ≡ 35

@@ -1,12 +1,11 @@
 //! The lines of a script, read from anywhere.
-ghost use Rattle.std.specs.Prelude.{◌≤◌, ◌<◌, vec_len};
-
-use std::alloc::{AllocError, Global};
-use std::io;
-use std::io::{ErrorKind, Read};
+ghost use Rattle.std.specs.Prelude.{◌≤◌, IfErr, vec_len};
+ghost use Rattle.quic_run_core.specs.ExitStatus.{CountsFromOne};
 
 use crate::error::ScriptError;
 use crate::script::MAX_LINE;
+use std::alloc::{AllocError, Global};
+use std::io::{ErrorKind, Read};
 
 /// How many bytes one call of the reader may give.
 const CHUNK: usize = 4096;
@@ -41,7 +40,9 @@ impl<R: Read + Drop> Lines<R> {
 
     /// Puts the next line into the buffer, in place of what was there, and says whether there is one. Of a line that is
     /// too long only so much is read that this can be told.
-    pub fn next(&mut self, line: &mut Vec<u8>) -> Result<bool, ScriptError> {
+    pub fn next(&mut self, line: &mut Vec<u8>) -> Result<bool, ScriptError>
+        ensures { IfErr result CountsFromOne }
+    {
         line.clear();
         for _ in 0..u64::MAX {
             if self.take_piece(line)? || line.len() > MAX_LINE {
@@ -72,7 +73,9 @@ impl<R: Read + Drop> Lines<R> {
     }
 
     /// Reads on, and says whether there was more.
-    fn fill(&mut self) -> Result<bool, ScriptError> {
+    fn fill(&mut self) -> Result<bool, ScriptError>
+        ensures { IfErr result CountsFromOne }
+    {
         if self.ended {
             return Ok(false);
         }

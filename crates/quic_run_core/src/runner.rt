@@ -1,13 +1,15 @@
 //! Runs a script: reads its lines, and prints what each answers.
-
-use quic_wire_core::Side;
-use std::alloc::{AllocError, Global};
-use std::io::{Read, Write};
+ghost use Rattle.std.specs.Prelude.{IfErr, OnOk};
+ghost use Rattle.std.specs.Io.KnownBytes.{Appends};
+ghost use Rattle.quic_run_core.specs.ExitStatus.{CountsFromOne};
 
 use crate::error::ScriptError;
 use crate::lines::Lines;
 use crate::script::{Line, LineError, parse_line};
 use crate::session::{Options, Session, call_name};
+use quic_wire_core::Side;
+use std::alloc::{AllocError, Global};
+use std::io::{Read, Write};
 
 /// How often the reader of a script is called at most.
 pub const MOST_TURNS: u64 = 1 << 32;
@@ -90,7 +92,9 @@ pub fn run_script<R: Read + Drop, W: Write + Drop>(
     alloc: Global,
     reader: R,
     writer: W,
-) -> Result<(), ScriptError> {
+) -> Result<(), ScriptError>
+    ensures { IfErr result CountsFromOne }
+{
     run_script_within(alloc, reader, writer, MOST_TURNS)
 }
 
@@ -100,7 +104,9 @@ pub fn run_script_within<R: Read + Drop, W: Write + Drop>(
     reader: R,
     mut writer: W,
     turns: u64,
-) -> Result<(), ScriptError> {
+) -> Result<(), ScriptError>
+    ensures { IfErr result CountsFromOne }
+{
     let mut lines = Lines::new(alloc, reader, turns)?;
     let mut runner = Runner::new(alloc);
     let mut line = Vec::new(alloc);
@@ -118,7 +124,10 @@ pub fn run_script_within<R: Read + Drop, W: Write + Drop>(
 }
 
 /// Prints an answer, where there is one.
-fn print<W: Write>(writer: &mut W, answer: &str) -> Result<(), ScriptError> {
+fn print<W: Write>(writer: &mut W, answer: &str) -> Result<(), ScriptError>
+    ensures printed { OnOk result (Appends (W.contents writer.old) (W.contents writer.new) answer.now) }
+    ensures fault { IfErr result CountsFromOne }
+{
     if answer.is_empty() {
         return Ok(());
     }

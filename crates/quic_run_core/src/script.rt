@@ -1,8 +1,10 @@
 //! The language of scripts: a line is a call at one end.
-ghost use Rattle.std.specs.Prelude.{◌≡◌, ◌<◌, ◌^◌};
+ghost use Rattle.std.specs.Prelude.{◌≡◌, ◌<◌, ◌≤◌, ◌^◌, ◌⊎◌, Some, None, Ok, Err, MatchResult, length};
+ghost use Rattle.std.specs.Char.{is_ascii_uppercase};
+ghost use Rattle.std.specs.List.{list_any};
 ghost use Rattle.std.specs.Option.{SomeIff};
 ghost use Rattle.std.specs.Str.Parse.{IsNumeral, digits_value};
-ghost use Rattle.quic_run_core.specs.Named.{side_named, dir_named, mark_named};
+ghost use Rattle.quic_run_core.specs.Named.{side_named, dir_named, mark_named, bytes_named, IsSkipped};
 
 use bytes::Bytes;
 use hex::FromHexError;
@@ -50,6 +52,10 @@ pub enum LineError {
 }
 
 impl From<AllocError> for LineError {
+    ghost use Rattle.quic_run_core.specs.declared.script.LineError.TheVariants.{OutOfMemory};
+
+    ghost from_gives = { λ _ e. e ≡ OutOfMemory };
+
     fn from(_e: AllocError) -> LineError {
         LineError::OutOfMemory
     }
@@ -190,12 +196,23 @@ fn mark(word: &str) -> Option<Option<EcnCodepoint>>
     }
 }
 
+/// Whether some byte is an upper-case letter.
+fn has_uppercase(word: &[u8]) -> bool
+    ensures { result ≡ list_any is_ascii_uppercase word.now }
+{
+    word.iter().any(|b| b.is_ascii_uppercase())
+}
+
 /// Bytes in lower-case hexadecimal, where `-` stands for none.
-fn bytes_of(alloc: Global, word: &str) -> Result<Vec<u8>, LineError> {
+fn bytes_of(alloc: Global, word: &str) -> Result<Vec<u8>, LineError>
+    ensures { MatchResult result
+        (λ v. bytes_named word.now ≡ Some v.items)
+        (λ e. (e ≡ LineError.OutOfMemory) ⊎ ((e ≡ LineError.BadCommand) × (bytes_named word.now ≡ None))) }
+{
     if word == "-" {
         return Ok(Vec::new(alloc));
     }
-    if word.is_empty() || word.bytes().any(|b| b.is_ascii_uppercase()) {
+    if word.is_empty() || has_uppercase(word.as_bytes()) {
         return Err(LineError::BadCommand);
     }
     match hex::decode(alloc, word) {
@@ -236,7 +253,10 @@ fn parse_words(alloc: Global, words: &mut LineWords) -> Result<Line, LineError> 
 }
 
 /// Reads one line, which has no line break.
-pub fn parse_line(alloc: Global, line: &[u8]) -> Result<Line, LineError> {
+pub fn parse_line(alloc: Global, line: &[u8]) -> Result<Line, LineError>
+    ensures too_long { MAX_LINE < length line.now → result ≡ Err LineError.BadCommand }
+    ensures skipped { length line.now ≤ MAX_LINE → IsSkipped line.now → result ≡ Ok Line.Empty }
+{
     if line.len() > MAX_LINE {
         return Err(LineError::BadCommand);
     }

@@ -1,16 +1,15 @@
 //! The two ends of a script.
 
-use quic_connection::{
-    Call, Config, ConfigError, Connection, Ends, Given, Instant, RunEvent, TransportConfig, step,
-};
-use quic_wire_core::{ConnectionId, Side};
-use std::alloc::{AllocError, Global};
-
 use crate::answer::put_answer;
 use crate::key::{PlainHeaderKey, PlainKey, keys_for};
 use crate::script::{LineError, Setting};
 use crate::show::put_datagram;
 use crate::words::Words;
+use quic_connection::{
+    Call, Config, ConfigError, Connection, Ends, Given, Instant, RunEvent, TransportConfig, step,
+};
+use quic_wire_core::{ConnectionId, Side};
+use std::alloc::{AllocError, Global};
 
 /// The random word of an end that is given no other.
 const WORD: u64 = 63;

@@ -1,13 +1,12 @@
 //! What stands in the datagrams that an end gave out.
 ghost use Rattle.std.specs.Prelude.{◌≤◌, ◌^◌};
 
+use crate::answer::put_bytes;
+use crate::key::keys_for;
 use quic_connection::Datagram;
 use quic_wire::open_packet;
 use quic_wire_core::Side;
 use std::alloc::{AllocError, Global};
-
-use crate::answer::put_bytes;
-use crate::key::keys_for;
 
 /// Where the number starts behind the first byte and an id of eight bytes.
 const NUMBER_AT: usize = 9;
@@ -37,7 +36,13 @@ fn opened(
     }
     let keys = keys_for(!side);
     let header_key = &keys.header.remote;
-    match open_packet(&mut copy, NUMBER_AT, expected, header_key, &keys.packet.remote) {
+    match open_packet(
+        &mut copy,
+        NUMBER_AT,
+        expected,
+        header_key,
+        &keys.packet.remote,
+    ) {
         Err(_) => Ok(None),
         Ok(packet) => Ok(Some(Shown {
             number: packet.number,

@@ -12,7 +12,8 @@ fn printed(rt: &HostRuntime, script: &[u8]) -> Result<Vec<u8>, ScriptError> {
 }
 
 /// The first path: what one end writes, the other reads.
-const HELLO: &[u8] = b"c open bi\nc write 0 68656c6c6f\nc finish 0\nc poll 0\nc show 0\ns deliver 0 - 0\n\
+const HELLO: &[u8] =
+    b"c open bi\nc write 0 68656c6c6f\nc finish 0\nc poll 0\nc show 0\ns deliver 0 - 0\n\
     s accept bi\ns read 0 32\ns read 0 32\ns read 0 32\n";
 
 const HELLO_PRINTED: &[u8] =
@@ -24,7 +25,10 @@ fn answers_are_printed(rt: HostRuntime) -> Result<(), Fail> {
     let scripts: [(&[u8], &[u8]); 7] = [
         (HELLO, HELLO_PRINTED),
         // A comment may have any byte, and the last line may lack its end.
-        (b"\n# \xff\t\r\n\nc open uni\ns open bi", b"c open none\ns open none\n"),
+        (
+            b"\n# \xff\t\r\n\nc open uni\ns open bi",
+            b"c open none\ns open none\n",
+        ),
         (
             b"c open bi\nc open bi\nc write 0 -\nc read 0 9\nc accept bi\nc accept uni\n",
             b"c open 0\nc open none\nc write 0\nc read blocked\nc accept none\nc accept none\n",
@@ -92,7 +96,10 @@ fn other_lines_are_bad(rt: HostRuntime) -> Result<(), Fail> {
     ];
     for line in lines {
         let got = printed(&rt, line);
-        assert!(rt; matches!(&got, Err(ScriptError::BadCommand(1))), "of {line:?}");
+        assert!(rt;
+            matches!(&got, Err(ScriptError::BadCommand(1))),
+            "of {line:?}"
+        );
     }
     let late = printed(&rt, b"# from here on\nc open bi\nc set word 1\n");
     assert!(rt; matches!(&late, Err(ScriptError::BadCommand(3))));
