@@ -4,8 +4,8 @@ use Rattle.quic_wire.specs.Keys.{OfFirst, OfNumber, Seal, Open}
 use Rattle.quic_connection_core.specs.End.{Whole, policy_of}
 use Rattle.quic_connection_core.specs.Policy.{Policy}
 use Rattle.quic_connection_core.specs.Machine.{World, Policies}
-use Rattle.quic_connection.specs.declared.run.Ends.{Ends}
-use Rattle.quic_connection.specs.declared.run.Given.{Given}
+use Rattle.quic_connection.specs.declared.running.Ends.{Ends}
+use Rattle.quic_connection.specs.declared.running.Given.{Given}
 
 -- both ends, and what each has given
 abbrev pub world_of : {H K R : Type 0} → Ends H K R → Given → World

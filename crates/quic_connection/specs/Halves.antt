@@ -1,9 +1,10 @@
 -- Words of the halves of streams, and of what a call on them answers where memory may lack.
-use Rattle.std.specs.Prelude.{◌≡◌, ℕ, Option, Some, None, Result, Ok, Err}
+use Rattle.std.specs.Prelude.{ℕ, Bool, true, Option, Some, None, Result, Ok, Err}
 use Rattle.quic_streams_core.specs.Arrived.{after_read}
 use Rattle.quic_streams_core.specs.declared.connection.assembler.Chunk.{Chunk}
 use Rattle.quic_connection_core.specs.declared.answers.ReadError.{ReadError}
 use Rattle.quic_connection_core.specs.Table.{put}
+use Rattle.quic_connection_core.specs.Sending.{SendHalf}
 use Rattle.quic_connection_core.specs.Receiving.{RecvHalf, Receiving, after_own_open}
 
 -- what a `next` leaves of a receiving half, by its answer
@@ -21,3 +22,8 @@ read_at answer (Some h) r id most = record r { halves = put r.halves id (half_af
 abbrev pub after_touch : Option RecvHalf → Receiving → ℕ → Receiving
 after_touch None r id = after_own_open r id
 after_touch (Some h) r id = r
+
+-- nothing more is written on a stream
+abbrev pub is_closed : Option SendHalf → Bool
+is_closed None = true
+is_closed (Some h) = h.finished

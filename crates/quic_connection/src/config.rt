@@ -41,17 +41,11 @@ impl Config {
 
     /// The transport parameters that the peer is told, as bytes (RFC 9000, section 18), in this order of their places:
     /// what the peer reads of them are these settings. An error is want of memory.
-    pub fn write_parameters(
-        &self,
-        alloc: Global,
-        order: &[u8; 13],
-    ) -> Result<Vec<u8>, AllocError>
+    pub fn write_parameters(&self, alloc: Global, order: &[u8; 13]) -> Result<Vec<u8>, AllocError>
         requires { IsWriteOrder order.now }
         ensures bytes { IfOk result (λ v. v.items ≡ written_parameters (parameters_of self.now) order.now) }
         ensures read_back { IfOk result (λ v. parameters_at v.items ≡ Ok (parameters_of self.now)) }
     {
-        self.transport
-            .transport_parameters()
-            .write(alloc, order)
+        self.transport.transport_parameters().write(alloc, order)
     }
 }

@@ -1,28 +1,31 @@
 //! One end of a connection (RFC 9000).
-ghost use Rattle.std.specs.Prelude.{◌≡◌, ◌≢◌, ◌+◌, ◌≤◌, ◌<◌, ◌^◌, ◌++◌, ◌↔◌, length, Ok, Err, Some, None, IfOk, OnOk, OnErr, IfErr, IsTrue, option_copied, if◌then◌else◌, true};
+ghost use Rattle.std.specs.Prelude.{◌≡◌, ◌≢◌, ◌+◌, ◌≤◌, ◌<◌, ◌^◌, ◌++◌, ◌↔◌, length, Ok, Err, Some, None, IfOk, OnOk, OnErr, IfErr, IsTrue, option_copied, if◌then◌else◌, true, IfSome, IsSome, MatchResult};
 ghost use Rattle.quic_wire.specs.ParametersRead.{parameters_at};
 ghost use Rattle.quic_connection_core.specs.declared.answers.State.TheVariants as states;
 ghost use Rattle.quic_connection_core.specs.declared.answers.ConfigError.TheVariants as config_errors;
 ghost use Rattle.quic_connection_core.specs.End.{MadeFrom, refusal_of, with_end, with_closing, with_numbers};
-ghost use Rattle.quic_connection_core.specs.Closing.{ticked};
+ghost use Rattle.quic_connection_core.specs.Closing.{ticked, closed_for, failed};
+ghost use Rattle.quic_connection_core.specs.Table.{at};
+ghost use Rattle.quic_connection_core.specs.Poll.{first_pending};
 ghost use Rattle.quic_connection_core.specs.declared.answers.WriteError.TheVariants as write_errors;
 ghost use Rattle.quic_connection_core.specs.declared.answers.ReadError.TheVariants as read_errors;
 ghost use Rattle.quic_connection_core.specs.Sending.{finish_answer};
 ghost use Rattle.quic_connection_core.specs.Receiving.{read_answer};
 ghost use Rattle.quic_connection_core.specs.Calls.{is_open, can_open, open_answer, after_open, end_accepts, end_after_accept, end_writes, end_after_write, end_after_finish, end_next, end_after_next};
-ghost use Rattle.quic_connection_core.specs.Numbers.{is_duplicate, number_opened, number_taken};
+ghost use Rattle.quic_connection_core.specs.Numbers.{can_number, is_duplicate, number_opened, number_taken};
 
 mod closing;
 mod dedup;
 mod ids;
 mod numbers;
 pub(crate) mod receiving;
+mod sending;
 
 use crate::config::Config;
 use crate::connection::closing::Closing;
 use crate::connection::ids::{Ids, OWN_ID_LENGTH};
 use crate::connection::numbers::Numbers;
-use crate::handles::{RecvStream, SendStream, Streams};
+use crate::handles::{Chunks, RecvStream, SendStream, Streams};
 use crate::streams::receiving::Receiving;
 use crate::streams::sending::Sending;
 use quic_connection_core::{
@@ -79,6 +82,10 @@ impl<H, K, R> Model for Connection<H, K, R> {
 }
 
 impl<H: HeaderKey + Drop, K: PacketKey + Drop, R: Rng + Drop> Connection<H, K, R> {
+    ghost use Rattle.std.specs.Borrow.{sem, follows_if, name_if_ok};
+    ghost use Rattle.quic_connection.specs.contracts.connection.Connection.{the_row as connection_row};
+    ghost use Rattle.quic_connection.specs.Lending.{chunks_lender};
+
     /// An end that was made at a moment: its limits are the peer's transport parameters, as the peer's
     /// `Config::write_parameters` wrote them. Both ids were exchanged before.
     ///
@@ -114,7 +121,7 @@ impl<H: HeaderKey + Drop, K: PacketKey + Drop, R: Rng + Drop> Connection<H, K, R
             ids: Ids::new(own_id, peer_id),
             numbers: Numbers::new(),
             validated,
-            sending: Sending::new(alloc, transport.get_send_window(), &theirs),
+            sending: Sending::new(alloc, &theirs, transport.get_send_window()),
             receiving: Receiving::new(alloc, &transport.transport_parameters()),
             keys,
             random,
@@ -259,14 +266,37 @@ impl<H: HeaderKey + Drop, K: PacketKey + Drop, R: Rng + Drop> Connection<H, K, R
     }
 
     /// Whether a stream may be read.
-    pub(crate) fn is_readable(&self, id: StreamId) -> Result<(), ReadableError>
+    fn is_readable(&self, id: StreamId) -> Result<(), ReadableError>
         ensures { result ≡ read_answer self.now.end.receiving id }
     {
         self.receiving.is_readable(id)
     }
 
+    /// The chunks of a stream, if it may be read.
+    pub(crate) fn chunks(&mut self, id: StreamId) -> Result<Chunks<'_, H, K, R>, ReadableError>
+        ensures* unchanged_at_error { sem 𝓛 (follows_if (connection_row H.row K.row R.row) (connection_row H.row K.row R.row) self.entry.ghost_name (name_if_ok chunks_lender result) (λ end. end) self.old) }
+        ensures same_reference { IfOk result (λ chunks. chunks.connection.ghost_name ≡ self.entry.ghost_name) }
+        ensures same_end { IfOk result (λ chunks. chunks.connection.now ≡ self.old) }
+        ensures same_stream { IfOk result (λ chunks. chunks.id ≡ id) }
+        ensures answer { MatchResult result
+            (λ _. read_answer self.old.end.receiving id ≡ Ok tt)
+            (λ e. read_answer self.old.end.receiving id ≡ Err e) }
+    {
+        if let Err(error) = self.is_readable(id) {
+            return Err(error);
+        }
+        Ok(Chunks {
+            id,
+            connection: self,
+        })
+    }
+
     /// The next bytes of a stream.
-    pub(crate) fn next(&mut self, id: StreamId, max_length: usize) -> Result<Option<Chunk>, ReadError>
+    pub(crate) fn next(
+        &mut self,
+        id: StreamId,
+        max_length: usize,
+    ) -> Result<Option<Chunk>, ReadError>
         ensures answer { result ≢ Err read_errors.Memory → result ≡ end_next self.old.end id max_length }
         ensures end { self.new ≡ with_end self.old (end_after_next result self.old.end id max_length) }
     {
@@ -298,9 +328,44 @@ impl<H: HeaderKey + Drop, K: PacketKey + Drop, R: Rng + Drop> Connection<H, K, R
         ensures err { OnErr result (self.new ≡ self.old) }
     {
         let id = self.sending.open(self.side, dir)?;
-        if dir == Dir::Bi {
-            self.receiving.open_own(id)?;
+        match dir {
+            Dir::Bi => {
+                if let Err(error) = self.receiving.open_own(id) {
+                    self.sending.take_back(self.side);
+                    return Err(error);
+                }
+                Ok(id)
+            }
+            Dir::Uni => Ok(id),
         }
-        Ok(id)
+    }
+
+    /// Closes for a reason.
+    pub(crate) fn close_by(&mut self, reason: LostReason)
+        ensures { self.new ≡ with_end self.old (with_closing self.old.end (closed_for reason self.old.end.closing)) }
+    {
+        self.closing.close(reason);
+    }
+
+    /// Fails for good.
+    pub(crate) fn fail(&mut self)
+        ensures { self.new ≡ with_end self.old (with_closing self.old.end (failed self.old.end.closing)) }
+    {
+        self.closing.fail();
+    }
+
+    /// Whether an ordinary datagram may still be numbered.
+    pub(crate) fn can_number(&self) -> bool
+        ensures { result ≡ can_number self.now.end.numbers }
+    {
+        self.numbers.can_number()
+    }
+
+    /// The first stream with something to send.
+    pub(crate) fn pending(&self) -> Option<StreamId>
+        ensures id { result ≡ first_pending self.now.end.sending.halves }
+        ensures half { IfSome result (λ id. IsSome (at self.now.end.sending.halves id)) }
+    {
+        self.sending.pending()
     }
 }

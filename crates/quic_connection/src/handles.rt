@@ -1,6 +1,6 @@
 //! What an application holds of an end: its streams, and a half of one (quinn-proto's `Streams`, `SendStream`,
 //! `RecvStream` and `Chunks`). Each borrows the end while it lives.
-ghost use Rattle.std.specs.Prelude.{◌≡◌, ◌≢◌, IfOk, OnOk, OnErr, Ok, Err, MatchResult, length, true};
+ghost use Rattle.std.specs.Prelude.{◌≡◌, ◌≢◌, IfOk, OnOk, OnErr, Ok, Err, MatchResult, length, true, false};
 ghost use Rattle.quic_connection_core.specs.declared.answers.WriteError.TheVariants as write_errors;
 ghost use Rattle.quic_connection_core.specs.declared.answers.ReadError.TheVariants as read_errors;
 ghost use Rattle.quic_connection_core.specs.End.{with_end};
@@ -93,6 +93,10 @@ pub struct RecvStream<'a, H, K, R> {
 }
 
 impl<'a, H: HeaderKey + Drop, K: PacketKey + Drop, R: Rng + Drop> RecvStream<'a, H, K, R> {
+    ghost use Rattle.std.specs.Borrow.{sem, follows_if, name_if_ok};
+    ghost use Rattle.quic_connection.specs.contracts.connection.Connection.{the_row as connection_row};
+    ghost use Rattle.quic_connection.specs.Lending.{chunks_lender};
+
     /// Reads the stream; at this stage in order alone.
     ///
     /// `ClosedStream`: there is no such stream, or its end was read. Nothing has changed.
@@ -101,16 +105,13 @@ impl<'a, H: HeaderKey + Drop, K: PacketKey + Drop, R: Rng + Drop> RecvStream<'a,
         ensures same_reference { IfOk result (λ chunks. chunks.connection.ghost_name ≡ self.entry.connection.ghost_name) }
         ensures same_end { IfOk result (λ chunks. chunks.connection.now ≡ self.entry.connection.now) }
         ensures same_stream { IfOk result (λ chunks. chunks.id ≡ self.entry.id) }
+        ensures* unchanged_at_error { sem 𝓛 (follows_if (connection_row H.row K.row R.row) (connection_row H.row K.row R.row) self.entry.connection.ghost_name (name_if_ok chunks_lender result) (λ end. end) self.entry.connection.now) }
         ensures answer { MatchResult result
             (λ _. read_answer self.entry.connection.now.end.receiving self.entry.id ≡ Ok tt)
             (λ e. read_answer self.entry.connection.now.end.receiving self.entry.id ≡ Err e) }
     {
-        let _ = ordered;
         let RecvStream { id, connection } = self;
-        match connection.is_readable(id) {
-            Ok(()) => Ok(Chunks { id, connection }),
-            Err(error) => Err(error),
-        }
+        connection.chunks(id)
     }
 }
 
@@ -138,7 +139,8 @@ impl<'a, H: HeaderKey + Drop, K: PacketKey + Drop, R: Rng + Drop> Chunks<'a, H, 
 
     /// Ends the read: whether there is something to send for it. At this stage limits aren't raised, so there is nothing.
     pub fn finalize(self) -> ShouldTransmit
-        ensures { result ≡ record { 0 = false } }
+        ensures answer { result ≡ record { 0 = false } }
+        ensures same_end { self.exit.1.0.now ≡ self.entry.connection.now }
     {
         ShouldTransmit(false)
     }

@@ -5,7 +5,7 @@
 mod config;
 mod connection;
 mod handles;
-mod run;
+mod running;
 mod streams;
 
 pub use config::Config;
@@ -17,4 +17,4 @@ pub use quic_connection_core::{
     Transmit, TransportConfig, View, WriteError,
 };
 pub use quic_streams_core::Chunk;
-pub use run::{Ends, Given, Outcome, run, step};
+pub use running::{Ends, Given, Outcome, run, step};

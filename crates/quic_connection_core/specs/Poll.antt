@@ -13,7 +13,7 @@ use Rattle.quic_connection_core.specs.declared.answers.Failed.{Failed}
 use Rattle.quic_connection_core.specs.declared.answers.Transmit.{Transmit}
 use Rattle.quic_connection_core.specs.declared.answers.State.TheVariants as states
 use Rattle.quic_connection_core.specs.declared.answers.LostReason.TheVariants as reasons
-use Rattle.quic_connection_core.specs.Table.{Table, put}
+use Rattle.quic_connection_core.specs.Table.{Table, at, put}
 use Rattle.quic_connection_core.specs.Closing.{ticked, closed_for}
 use Rattle.quic_connection_core.specs.Numbers.{can_number, cut_against, number_given}
 use Rattle.quic_connection_core.specs.Sending.{Sending, SendHalf, has_pending, written_on}
@@ -33,9 +33,9 @@ pub record IsDatagram (p : Policy) (acknowledged number : ℕ) (id : List ℕ) (
   pub is : datagram ≡ sent p.mask p.hide p.seal number acknowledged id payload
 
 -- the first stream with something to send
-abbrev pub first_pending : Table SendHalf → Option (ℕ × SendHalf)
+abbrev pub first_pending : Table SendHalf → Option ℕ
 first_pending [] = None
-first_pending (e ∷ es) = if has_pending e.1 then Some e else first_pending es
+first_pending (e ∷ es) = if has_pending e.1 then Some e.0 else first_pending es
 
 -- whether a frame up to an offset has the end: that of a finished half that reaches its final size
 abbrev pub reaches_end : SendHalf → ℕ → Bool
@@ -90,14 +90,19 @@ datagram_with p e id h = sent p.mask p.hide p.seal e.numbers.next (cut_against e
 abbrev pub after_sent : End → ℕ → SendHalf → End
 after_sent e id h = with_numbers (with_sending e (record e.sending { halves = put e.sending.halves id (half_after h (stream_room e id)) })) (number_given e.numbers)
 
--- a stream with something to send: where the numbers are used up, the end closes and gives nothing
-abbrev pub sends : Bool → Policy → End → ℕ → SendHalf → Polled
-sends true p e id h = gives_datagram (datagram_with p e id h) (after_sent e id h)
-sends false p e id h = gives_nothing (with_closing e (closed_for reasons.NumberLimit e.closing))
+-- the datagram of a half goes
+abbrev pub sends_half : Option SendHalf → Policy → End → ℕ → Polled
+sends_half None p e id = gives_nothing e
+sends_half (Some h) p e id = gives_datagram (datagram_with p e id h) (after_sent e id h)
 
-abbrev pub polled_for : Option (ℕ × SendHalf) → Policy → End → Polled
+-- a stream has something to send: where the numbers are used up, the end closes and gives nothing
+abbrev pub sends : Bool → Policy → End → ℕ → Polled
+sends true p e id = sends_half (at e.sending.halves id) p e id
+sends false p e id = gives_nothing (with_closing e (closed_for reasons.NumberLimit e.closing))
+
+abbrev pub polled_for : Option ℕ → Policy → End → Polled
 polled_for None p e = gives_nothing e
-polled_for (Some x) p e = sends (can_number e.numbers) p e x.0 x.1
+polled_for (Some id) p e = sends (can_number e.numbers) p e id
 
 abbrev pub polled_open : Policy → End → Polled
 polled_open p e = polled_for (first_pending e.sending.halves) p e

@@ -86,7 +86,6 @@ impl TransportConfig {
         self.max_concurrent_uni_streams = at_most_streams(value);
         self
     }
-
 }
 
 impl TransportConfig {

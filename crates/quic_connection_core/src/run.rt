@@ -1,17 +1,16 @@
 //! What comes to two ends, and what is answered and seen then.
 ghost use Rattle.std.specs.Prelude.{◌≡◌};
 
-use bytes::Bytes;
-use quic_streams_core::Chunk;
-use quic_wire_core::{Dir, EcnCodepoint, Side, StreamId};
-use std::alloc::AllocError;
-use std::marker::Model;
-
 use crate::answers::{
     Failed, FinishError, LostReason, ReadError, ReadableError, Received, State, Transmit,
     WriteError,
 };
 use crate::instant::Instant;
+use bytes::Bytes;
+use quic_streams_core::Chunk;
+use quic_wire_core::{Dir, EcnCodepoint, Side, StreamId};
+use std::alloc::AllocError;
+use std::marker::Model;
 
 /// One event of a run: a call at one end.
 #[derive(Debug, Drop)]

@@ -35,16 +35,16 @@ in_parts xs ys a b ab =
           let none : b - length xs - (a - length xs) ≡ 0 = omega arith in
           rw (high, low, none) (within_first xs ys a b ab (omega arith))
       | inr nb ↦ elim (cases_lt a (length xs)) [
-          | inl an ↦
-              let high : min b (length xs) ≡ length xs = omega arith in
-              let low : min a (length xs) ≡ a = omega arith in
-              let start : a - length xs ≡ 0 = omega arith in
-              let count : b - length xs - 0 ≡ b - length xs = omega arith in
-              rw (high, low, start, count) (over_seam xs ys a b (omega arith) nb)
-          | inr na ↦
-              let high : min b (length xs) ≡ length xs = omega arith in
-              let low : min a (length xs) ≡ length xs = omega arith in
-              let none : length xs - length xs ≡ 0 = omega arith in
-              rw (high, low, none) (within_second xs ys a b na ab)
-        ]
+        | inl an ↦
+            let high : min b (length xs) ≡ length xs = omega arith in
+            let low : min a (length xs) ≡ a = omega arith in
+            let start : a - length xs ≡ 0 = omega arith in
+            let count : b - length xs - 0 ≡ b - length xs = omega arith in
+            rw (high, low, start, count) (over_seam xs ys a b (omega arith) nb)
+        | inr na ↦
+            let high : min b (length xs) ≡ length xs = omega arith in
+            let low : min a (length xs) ≡ length xs = omega arith in
+            let none : length xs - length xs ≡ 0 = omega arith in
+            rw (high, low, none) (within_second xs ys a b na ab)
+      ]
     ]

@@ -9,7 +9,9 @@ mod reading;
 mod writing;
 
 pub use iter::Iter;
-pub use writing::{put_frame, put_stream, put_stream_parts, size_of_frame, size_of_stream_header, write_frame};
+pub use writing::{
+    put_frame, put_stream, put_stream_parts, size_of_frame, size_of_stream_header, write_frame,
+};
 
 /// A frame of a payload (quinn-proto's `frame::Frame`).
 #[derive(Debug, Drop)]

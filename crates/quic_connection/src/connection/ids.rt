@@ -1,5 +1,5 @@
 //! The connection ids of an end (RFC 9000, section 5.1).
-ghost use Rattle.std.specs.Prelude.{◌≡◌, ◌+◌, ◌≤◌, ◌<◌, length, Ok, Err, MatchResult, OnOk};
+ghost use Rattle.std.specs.Prelude.{◌≡◌, ◌+◌, ◌≤◌, length, OnOk};
 ghost use Rattle.quic_wire.specs.Destination.{decoded, fixed_length_id};
 ghost use Rattle.quic_connection_core.specs.Ids.{first_ids, known};
 ghost use Rattle.quic_connection_core.specs.Receive.{own_id_length};
@@ -47,16 +47,13 @@ impl Ids {
         self.peer
     }
 
-    /// Whether a datagram is for this end, or why not.
-    pub(crate) fn judge(&self, datagram: &[u8]) -> Result<(), HeaderError>
-        ensures judged { MatchResult result
-            (λ _. OnOk (decoded (fixed_length_id own_id_length) (known self.now) datagram.now) (own_id_length + 21 ≤ length datagram.now))
-            (λ e. decoded (fixed_length_id own_id_length) (known self.now) datagram.now ≡ Err e) }
+    /// The own id that a datagram is for, or why it is for none.
+    pub(crate) fn decode(&self, datagram: &[u8]) -> Result<ConnectionId, HeaderError>
+        ensures decoded { result ≡ decoded (fixed_length_id own_id_length) (known self.now) datagram.now }
+        ensures room { OnOk result (own_id_length + 21 ≤ length datagram.now) }
     {
         let parser = FixedLengthConnectionIdParser::new(OWN_ID_LENGTH);
-        match ShortHeader::decode(datagram, &parser, &[self.own]) {
-            Ok(_) => Ok(()),
-            Err(error) => Err(error),
-        }
+        let known = [self.own];
+        ShortHeader::decode(datagram, &parser, &known)
     }
 }

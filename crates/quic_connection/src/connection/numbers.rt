@@ -1,8 +1,10 @@
 //! Packet numbers of an end (RFC 9000, section 12.3).
-ghost use Rattle.std.specs.Prelude.{◌≡◌, ◌+◌, ◌<◌, ◌≤◌, ◌^◌, if◌then◌else◌, true};
-ghost use Rattle.quic_connection_core.specs.Numbers.{no_numbers, expected, can_number, number_given, number_opened, number_taken, is_duplicate};
+ghost use Rattle.std.specs.Prelude.{◌≡◌, ◌+◌, ◌-◌, ◌<◌, ◌≤◌, ◌^◌, if◌then◌else◌, true};
+ghost use Rattle.quic_wire.specs.Number.{truncated};
+ghost use Rattle.quic_connection_core.specs.Numbers.{no_numbers, expected, cut_against, can_number, number_given, number_opened, number_taken, is_duplicate};
 
 use crate::connection::dedup::Dedup;
+use quic_wire::PacketNumber;
 use std::marker::Model;
 
 /// How many numbers are kept for closes.
@@ -24,7 +26,7 @@ impl Model for Numbers {
 
     ghost view = { λ n. record { next = n.next; acknowledged = None; opened = n.dedup; taken = n.largest_taken } };
 
-    ghost invariant = { λ n. (n.next ≤ 2 ^ 31) × IfSome n.largest_taken (λ t. t < 2 ^ 62) };
+    ghost invariant = { λ n. (n.next < 2 ^ 31) × IfSome n.largest_taken (λ t. t < 2 ^ 62) };
 
     ghost inverse = { λ n. record { next = n.next; dedup = n.opened; largest_taken = n.taken } };
 }
@@ -62,10 +64,20 @@ impl Numbers {
     /// The next number.
     pub(crate) fn next(&self) -> u64
         ensures value { result ≡ self.now.next }
-        ensures bound { result ≤ 2 ^ 31 }
+        ensures bound { result < 2 ^ 31 }
         ensures can { can_number self.now ≡ true → result + 16 < 2 ^ 31 }
     {
         self.next
+    }
+
+    /// The next number as it is written, cut against the greatest acknowledged, which at this stage is none.
+    pub(crate) fn packet_number(&self) -> PacketNumber
+        ensures value { result ≡ truncated self.now.next (cut_against self.now) }
+        ensures near { self.now.next - cut_against self.now < 2 ^ 31 }
+        ensures some { 1 ≤ result.width }
+        ensures four { result.width ≤ 4 }
+    {
+        PacketNumber::new(self.next, 0)
     }
 
     /// The next number is given.

@@ -1,6 +1,8 @@
 //! Taking a datagram (RFC 9000, sections 5.2, 12 and 13.1).
-ghost use Rattle.std.specs.Prelude.{◌≡◌, ◌≢◌, ◌+◌, ◌≤◌, ◌<◌, ◌^◌, length, slice_range, Some, None, IfSome, IfNone, IfOk, MatchResult};
+ghost use Rattle.std.specs.Prelude.{◌≡◌, ◌≢◌, ◌+◌, ◌≤◌, ◌<◌, ◌^◌, length, slice_range, Some, None, IfSome, IfNone, IfOk, OnOk, MatchResult};
 ghost use Rattle.quic_wire.specs.Items.{items};
+ghost use Rattle.quic_wire.specs.Destination.{decoded, fixed_length_id};
+ghost use Rattle.quic_connection_core.specs.Ids.{known};
 ghost use Rattle.quic_wire.specs.Value.{stream};
 ghost use Rattle.quic_wire.specs.FrameView.{stream_view, item_view};
 ghost use Rattle.quic_connection_core.specs.End.{with_end, policy_of, with_closing, HasFailed};
@@ -15,7 +17,7 @@ use quic_connection_core::{Breach, DropReason, Instant, LostReason, Received, St
 use quic_wire::crypto::{HeaderKey, NotOpened, PacketKey};
 use quic_wire::frame::{Frame, InvalidFrame, Iter, Stream};
 use quic_wire::{HeaderError, Opened, open_packet};
-use quic_wire_core::{Code, EcnCodepoint, TransportError};
+use quic_wire_core::{Code, ConnectionId, EcnCodepoint, TransportError};
 use rand_core::Rng;
 
 /// Why the frames of a packet weren't all taken.
@@ -84,13 +86,21 @@ impl<H: HeaderKey + Drop, K: PacketKey + Drop, R: Rng + Drop> Connection<H, K, R
             State::Drained => return Received::Dropped(DropReason::Drained),
             State::Open | State::Closing => {}
         }
-        if let Err(error) = self.ids.judge(datagram) {
+        if let Err(error) = self.destination_of(datagram) {
             return Received::Dropped(drop_reason(error));
         }
         let Ok(opened) = self.unprotect(datagram) else {
             return Received::Dropped(DropReason::NotOpened);
         };
         self.take_opened(now, &opened, &datagram[opened.start..opened.end])
+    }
+
+    /// The own id that a datagram is for, or why it is for none.
+    fn destination_of(&self, datagram: &[u8]) -> Result<ConnectionId, HeaderError>
+        ensures decoded { result ≡ decoded (fixed_length_id own_id_length) (known self.now.end.ids) datagram.now }
+        ensures room { OnOk result (own_id_length + 21 ≤ length datagram.now) }
+    {
+        self.ids.decode(datagram)
     }
 
     /// Opens a datagram in place, whose destination id is an own one.
@@ -171,20 +181,20 @@ impl<H: HeaderKey + Drop, K: PacketKey + Drop, R: Rng + Drop> Connection<H, K, R
         ensures others { self.new ≡ with_end self.old self.new.end }
     {
         for item in Iter::new(payload) {
-            self.take_item(item)?;
+            self.take_item(&item)?;
         }
         Ok(())
     }
 
     /// Takes a frame, or what can't be read as one.
-    fn take_item(&mut self, item: Result<Frame<'_>, InvalidFrame>) -> Result<(), Trouble>
-        ensures takes { TakesAs result (take_item (item_view item.entry) self.old.end) self.new.end }
+    fn take_item(&mut self, item: &Result<Frame<'_>, InvalidFrame>) -> Result<(), Trouble>
+        ensures takes { TakesAs result (take_item (item_view item.now) self.old.end) self.new.end }
         ensures others { self.new ≡ with_end self.old self.new.end }
     {
         match item {
             Ok(Frame::Padding | Frame::Ping) => Ok(()),
-            Ok(Frame::Stream(frame)) => self.take_stream(&frame),
-            Err(invalid) => Err(Trouble::Broke(TransportError::from(invalid))),
+            Ok(Frame::Stream(frame)) => self.take_stream(frame),
+            Err(invalid) => Err(Trouble::Broke(TransportError::from(*invalid))),
         }
     }
 

@@ -1,7 +1,7 @@
 // What has come on one stream.
 ghost use Rattle.std.specs.Prelude.{◌≡◌, ◌≢◌, ◌<◌, ◌^◌, nat_le, nat_lt, OnOk, OnErr, Ok, Err, IsTrue};
 ghost use Rattle.quic_wire.specs.FrameView.{stream_view};
-ghost use Rattle.quic_streams_core.specs.Arrived.{is_next, given, runs_of};
+ghost use Rattle.quic_streams_core.specs.Arrived.{given, runs_of};
 ghost use Rattle.quic_connection_core.specs.Receiving.{RecvHalf, untouched, end_of, breaks_final, with_frame, is_read, most_pieces, next_chunk};
 ghost use Rattle.quic_connection_core.specs.declared.answers.ReadError.TheVariants as read_errors;
 ghost use Rattle.quic_connection.specs.Halves.{half_after_next};
@@ -102,13 +102,6 @@ impl Recv {
         ensures { result ≡ nat_lt most_pieces (runs_of self.now.arrived.parts) }
     {
         self.assembler.runs() > MOST_PIECES
-    }
-
-    // Whether a byte waits where the stream is read next.
-    pub(crate) fn has_next(&self) -> bool
-        ensures { result ≡ is_next self.now.arrived.parts self.now.arrived.read }
-    {
-        self.assembler.has_next()
     }
 
     // Whether all bytes up to the final size are read.

@@ -149,8 +149,8 @@ fn deliver_at<H: HeaderKey + Drop, K: PacketKey + Drop, R: Rng + Drop>(
     theirs: &[Datagram],
     delivery: &Delivery,
 ) -> Result<Answer, AllocError>
-    ensures answer { IfOk result (λ a. IsAnswer (policy_of H.masks H.hides H.unmasks H.reveals K.sealed K.opened end.old) end.old.end theirs.now (Call.Deliver delivery.now) a) }
-    ensures end { IfOk result (λ a. IsLeft (fails a) (policy_of H.masks H.hides H.unmasks H.reveals K.sealed K.opened end.old) end.old.end theirs.now (Call.Deliver delivery.now) a end.new.end) }
+    ensures answer { IfOk result (λ a. IsAnswer (policy_of H.masks H.hides H.unmasks H.reveals K.sealed K.opened end.old) end.old.end theirs.now (Call.Deliver delivery.entry.now) a) }
+    ensures end { IfOk result (λ a. IsLeft (fails a) (policy_of H.masks H.hides H.unmasks H.reveals K.sealed K.opened end.old) end.old.end theirs.now (Call.Deliver delivery.entry.now) a end.new.end) }
     ensures keys { end.new ≡ with_end end.old end.new.end }
     ensures err { OnErr result (end.new ≡ end.old) }
 {
@@ -158,11 +158,7 @@ fn deliver_at<H: HeaderKey + Drop, K: PacketKey + Drop, R: Rng + Drop>(
         None => Ok(Answer::NoDatagram),
         Some(datagram) => {
             let mut copy = Vec::from_slice(alloc, datagram.as_slice())?;
-            Ok(Answer::Deliver(end.receive(
-                delivery.now,
-                delivery.ecn,
-                &mut copy,
-            )))
+            Ok(Answer::Deliver(end.receive(delivery.now, delivery.ecn, &mut copy)))
         }
     }
 }
@@ -225,7 +221,10 @@ fn end_view<H: HeaderKey + Drop, K: PacketKey + Drop, R: Rng + Drop>(
 }
 
 /// What is seen of both ends.
-fn view<H: HeaderKey + Drop, K: PacketKey + Drop, R: Rng + Drop>(ends: &Ends<H, K, R>, given: &Given) -> View
+fn view<H: HeaderKey + Drop, K: PacketKey + Drop, R: Rng + Drop>(
+    ends: &Ends<H, K, R>,
+    given: &Given,
+) -> View
     ensures { result ≡ view_of (world_of ends.now given.now) }
 {
     let _ = given;
