@@ -7,3 +7,4 @@ pub mod Headers
 pub mod Room
 pub mod Plain
 pub mod ReadAnswers
+pub mod Runs

@@ -1,5 +1,5 @@
 -- What frames and reads leave of the receiving halves, step by step.
-use Rattle.std.proofs.Common.{◌≡◌, ◌≢◌, ℕ, ◌+◌, ◌-◌, ◌<◌, max, Bool, true, false, not, nat_lt, nat_le, if◌then◌else◌, Some, None, Option, IsSome, IfSome, Result, Ok, Err, refl, sym, ap, ◌∙◌, subst, arith}
+use Rattle.std.proofs.Common.{◌≡◌, ℕ, ◌+◌, ◌-◌, ◌<◌, max, Bool, true, false, not, nat_lt, nat_le, if◌then◌else◌, Some, None, Option, IsSome, IfSome, Ok, Err, refl, sym, ap, ◌∙◌, subst}
 use Rattle.std.specs.Option.{is_some}
 use Rattle.std.specs.Ordering.{nat_cmp}
 use Rattle.std.specs.BTreeMap.{is_at}
@@ -14,8 +14,8 @@ use Rattle.quic_streams_core.specs.declared.connection.assembler.Chunk.{Chunk}
 use Rattle.quic_connection_core.specs.declared.answers.ReadError.{ReadError}
 use Rattle.quic_connection_core.specs.declared.answers.Breach.{Breach}
 use Rattle.quic_connection_core.specs.declared.answers.Breach.TheVariants.{StreamLimit, StreamState, Pieces}
-use Rattle.quic_connection_core.specs.Table.{Table, at, put, without, added}
-use Rattle.quic_connection_core.specs.Receiving.{RecvHalf, Receiving, untouched, with_frame, may_receive, half_for, breach_on, breach_at, refusal, too_many, kept_at, stream_breach, breach_kept, after_stream, after_refusal, after_next}
+use Rattle.quic_connection_core.specs.Table.{Table, at, put, without}
+use Rattle.quic_connection_core.specs.Receiving.{RecvHalf, Receiving, untouched, with_frame, may_receive, half_for, breach_on, breach_at, refusal, too_many, kept_at, stream_breach, after_stream, after_next}
 use Rattle.quic_connection.specs.Halves.{read_at, after_touch}
 use Rattle.quic_connection.proofs.Tables.{added-known, added-added, at-added, without-put, without-unknown}
 

@@ -82,10 +82,6 @@ impl<H, K, R> Model for Connection<H, K, R> {
 }
 
 impl<H: HeaderKey + Drop, K: PacketKey + Drop, R: Rng + Drop> Connection<H, K, R> {
-    ghost use Rattle.std.specs.Borrow.{sem, follows_if, name_if_ok};
-    ghost use Rattle.quic_connection.specs.contracts.connection.Connection.{the_row as connection_row};
-    ghost use Rattle.quic_connection.specs.Lending.{chunks_lender};
-
     /// An end that was made at a moment: its limits are the peer's transport parameters, as the peer's
     /// `Config::write_parameters` wrote them. Both ids were exchanged before.
     ///
@@ -265,32 +261,6 @@ impl<H: HeaderKey + Drop, K: PacketKey + Drop, R: Rng + Drop> Connection<H, K, R
         self.sending.finish(id)
     }
 
-    /// Whether a stream may be read.
-    fn is_readable(&self, id: StreamId) -> Result<(), ReadableError>
-        ensures { result ≡ read_answer self.now.end.receiving id }
-    {
-        self.receiving.is_readable(id)
-    }
-
-    /// The chunks of a stream, if it may be read.
-    pub(crate) fn chunks(&mut self, id: StreamId) -> Result<Chunks<'_, H, K, R>, ReadableError>
-        ensures* unchanged_at_error { sem 𝓛 (follows_if (connection_row H.row K.row R.row) (connection_row H.row K.row R.row) self.entry.ghost_name (name_if_ok chunks_lender result) (λ end. end) self.old) }
-        ensures same_reference { IfOk result (λ chunks. chunks.connection.ghost_name ≡ self.entry.ghost_name) }
-        ensures same_end { IfOk result (λ chunks. chunks.connection.now ≡ self.old) }
-        ensures same_stream { IfOk result (λ chunks. chunks.id ≡ id) }
-        ensures answer { MatchResult result
-            (λ _. read_answer self.old.end.receiving id ≡ Ok tt)
-            (λ e. read_answer self.old.end.receiving id ≡ Err e) }
-    {
-        if let Err(error) = self.is_readable(id) {
-            return Err(error);
-        }
-        Ok(Chunks {
-            id,
-            connection: self,
-        })
-    }
-
     /// The next bytes of a stream.
     pub(crate) fn next(
         &mut self,
@@ -367,5 +337,37 @@ impl<H: HeaderKey + Drop, K: PacketKey + Drop, R: Rng + Drop> Connection<H, K, R
         ensures half { IfSome result (λ id. IsSome (at self.now.end.sending.halves id)) }
     {
         self.sending.pending()
+    }
+}
+
+impl<H, K, R> Connection<H, K, R> {
+    ghost use Rattle.std.specs.Borrow.{sem, follows_if, name_if_ok};
+    ghost use Rattle.quic_connection.specs.contracts.connection.Connection.{the_row as connection_row};
+    ghost use Rattle.quic_connection.specs.Lending.{chunks_lender};
+
+    /// Whether a stream may be read.
+    fn is_readable(&self, id: StreamId) -> Result<(), ReadableError>
+        ensures { result ≡ read_answer self.now.end.receiving id }
+    {
+        self.receiving.is_readable(id)
+    }
+
+    /// The chunks of a stream, if it may be read.
+    pub(crate) fn chunks(&mut self, id: StreamId) -> Result<Chunks<'_, H, K, R>, ReadableError>
+        ensures* unchanged_at_error { sem 𝓛 (follows_if (connection_row H.row K.row R.row) (connection_row H.row K.row R.row) self.entry.ghost_name (name_if_ok chunks_lender result) (λ end. end) self.old) }
+        ensures same_reference { IfOk result (λ chunks. chunks.connection.ghost_name ≡ self.entry.ghost_name) }
+        ensures same_end { IfOk result (λ chunks. chunks.connection.now ≡ self.old) }
+        ensures same_stream { IfOk result (λ chunks. chunks.id ≡ id) }
+        ensures answer { MatchResult result
+            (λ _. read_answer self.old.end.receiving id ≡ Ok tt)
+            (λ e. read_answer self.old.end.receiving id ≡ Err e) }
+    {
+        if let Err(error) = self.is_readable(id) {
+            return Err(error);
+        }
+        Ok(Chunks {
+            id,
+            connection: self,
+        })
     }
 }

@@ -92,7 +92,7 @@ pub struct RecvStream<'a, H, K, R> {
     pub connection: &'a mut Connection<H, K, R>,
 }
 
-impl<'a, H: HeaderKey + Drop, K: PacketKey + Drop, R: Rng + Drop> RecvStream<'a, H, K, R> {
+impl<'a, H, K, R> RecvStream<'a, H, K, R> {
     ghost use Rattle.std.specs.Borrow.{sem, follows_if, name_if_ok};
     ghost use Rattle.quic_connection.specs.contracts.connection.Connection.{the_row as connection_row};
     ghost use Rattle.quic_connection.specs.Lending.{chunks_lender};

@@ -4,6 +4,7 @@ ghost use Rattle.quic_connection_core.specs.End.{policy_of, with_end};
 ghost use Rattle.quic_connection_core.specs.Machine.{IsAnswer, IsLeft, fails, gives, IsStep, view_of, end_view, Follows};
 ghost use Rattle.quic_connection_core.specs.Calls.{AreNexts, after_nexts};
 ghost use Rattle.quic_connection.specs.Ends.{world_of, first_world, policies_of};
+ghost use Rattle.quic_connection.specs.declared.running.Given.{Given};
 
 use crate::connection::Connection;
 use crate::handles::Chunks;
@@ -220,14 +221,10 @@ fn end_view<H: HeaderKey + Drop, K: PacketKey + Drop, R: Rng + Drop>(
     }
 }
 
-/// What is seen of both ends.
-fn view<H: HeaderKey + Drop, K: PacketKey + Drop, R: Rng + Drop>(
-    ends: &Ends<H, K, R>,
-    given: &Given,
-) -> View
-    ensures { result ≡ view_of (world_of ends.now given.now) }
+/// What is seen of both ends, whatever they gave.
+fn view<H: HeaderKey + Drop, K: PacketKey + Drop, R: Rng + Drop>(ends: &Ends<H, K, R>) -> View
+    ensures { (given : Given) → result ≡ view_of (world_of ends.now given) }
 {
-    let _ = given;
     View {
         client: end_view(&ends.client),
         server: end_view(&ends.server),
@@ -257,7 +254,7 @@ pub fn run<H: HeaderKey + Drop, K: PacketKey + Drop, R: Rng + Drop>(
             break;
         };
         answers.push_reserved(answer);
-        views.push_reserved(view(&ends, &given));
+        views.push_reserved(view(&ends));
     }
     Outcome {
         answers,

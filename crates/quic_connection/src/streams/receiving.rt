@@ -4,8 +4,8 @@ ghost use Rattle.std.specs.Option.{is_some, option_copied};
 ghost use Rattle.quic_wire_core.specs.StreamId.{index_of};
 ghost use Rattle.quic_wire.specs.FrameView.{stream_view};
 ghost use Rattle.quic_wire.specs.Parameters.{AreInRange};
-ghost use Rattle.quic_connection_core.specs.Table.{at, put, without};
-ghost use Rattle.quic_connection_core.specs.Receiving.{RecvHalf, Receiving, untouched, end_of, opened_of, accepted_of, accept_answer, one_accepted, after_accept, after_own_open, may_receive, breaks_limit, breach_on, half_for, refusal, too_many, kept_at, stream_breach, after_stream, read_answer, next_answer, after_next};
+ghost use Rattle.quic_connection_core.specs.Table.{at, without};
+ghost use Rattle.quic_connection_core.specs.Receiving.{untouched, end_of, opened_of, accepted_of, accept_answer, one_accepted, after_accept, after_own_open, may_receive, breaks_limit, breach_on, half_for, refusal, too_many, kept_at, stream_breach, after_stream, read_answer, next_answer, after_next};
 ghost use Rattle.quic_connection_core.specs.declared.answers.ReadError.TheVariants as read_errors;
 ghost use Rattle.quic_connection.specs.Halves.{read_at, after_touch};
 ghost use Rattle.quic_connection.specs.Answered.{AnswersBreach, UnlessMemory, OnMemory};
@@ -21,7 +21,7 @@ use std::collections::BTreeMap;
 use std::marker::Model;
 
 // Why a STREAM frame wasn't taken.
-#[derive(Clone, Copy, Debug)]
+#[derive(Clone, Copy, Debug, PartialEq, Eq)]
 pub(crate) enum ReceivedError {
     // It broke a rule.
     Breach(Breach),
@@ -348,5 +348,123 @@ impl Receiving {
             }
             Err(error) => Err(error),
         }
+    }
+}
+
+#[cfg(test)]
+mod tests {
+    use super::*;
+    use quic_connection_core::TransportConfig;
+    use quic_wire_core::VarInt;
+    use std::process::Abort;
+    use std::test::Fail;
+
+    fn first() -> StreamId {
+        StreamId::new(Side::Client, Dir::Bi, 0)
+    }
+
+    fn take(
+        receiving: &mut Receiving,
+        offset: u32,
+        data: &[u8],
+        fin: bool,
+    ) -> Result<(), ReceivedError> {
+        let frame = Stream {
+            id: first(),
+            offset: u64::from(offset),
+            fin,
+            data,
+        };
+        receiving.received(Side::Server, &frame)
+    }
+
+    fn expect_bytes(
+        rt: &impl Abort,
+        receiving: &mut Receiving,
+        max: usize,
+        offset: u64,
+        bytes: &[u8],
+    ) -> Result<(), Fail> {
+        let chunk = receiving.next(first(), max)?.expect(rt, "bytes wait");
+        assert_eq!(rt; chunk.offset, offset);
+        assert_eq!(rt; chunk.bytes.as_slice(), bytes);
+        Ok(())
+    }
+
+    #[test]
+    fn a_stream_is_read_in_order(rt: HostRuntime) -> Result<(), Fail> {
+        let ours = TransportConfig::default().transport_parameters();
+        let mut receiving = Receiving::new(rt.alloc(), &ours);
+        assert_eq!(rt; receiving.accept(Side::Server, Dir::Bi), None);
+        take(&mut receiving, 5, b", world", true)?;
+        assert_eq!(rt; receiving.accept(Side::Server, Dir::Bi), Some(first()));
+        assert_eq!(rt; receiving.accept(Side::Server, Dir::Bi), None);
+        let blocked = receiving.next(first(), 9).is_err();
+        assert!(rt; blocked);
+        take(&mut receiving, 0, b"Hello", false)?;
+        expect_bytes(&rt, &mut receiving, 3, 0, b"Hel")?;
+        expect_bytes(&rt, &mut receiving, 9, 3, b"lo")?;
+        expect_bytes(&rt, &mut receiving, 9, 5, b", world")?;
+        assert_eq!(rt; receiving.is_readable(first()), Ok(()));
+        assert!(rt; receiving.next(first(), 9)?.is_none());
+        assert_eq!(rt;
+            receiving.is_readable(first()),
+            Err(ReadableError::ClosedStream)
+        );
+        Ok(())
+    }
+
+    // RFC 9000, sections 4.1, 4.5 and 19.8.
+    #[test]
+    fn broken_rules_are_found(rt: HostRuntime) -> Result<(), Fail> {
+        let mut config = TransportConfig::default();
+        config.stream_receive_window(VarInt::from_u32(8));
+        config.receive_window(VarInt::from_u32(7));
+        let mut receiving = Receiving::new(rt.alloc(), &config.transport_parameters());
+        let frame = Stream {
+            id: first(),
+            offset: 0,
+            fin: false,
+            data: b"x",
+        };
+        let at_client = receiving.received(Side::Client, &frame);
+        assert_eq!(rt; at_client, Err(ReceivedError::Breach(Breach::StreamState)));
+        let past_stream = take(&mut receiving, 8, b"x", false);
+        assert_eq!(rt;
+            past_stream,
+            Err(ReceivedError::Breach(Breach::FlowControl))
+        );
+        let past_all = take(&mut receiving, 7, b"x", false);
+        assert_eq!(rt; past_all, Err(ReceivedError::Breach(Breach::FlowControl)));
+        take(&mut receiving, 4, b"xyz", true)?;
+        let other_size = take(&mut receiving, 0, b"x", true);
+        assert_eq!(rt; other_size, Err(ReceivedError::Breach(Breach::FinalSize)));
+        Ok(())
+    }
+
+    #[test]
+    fn at_most_2048_pieces_wait(rt: HostRuntime) -> Result<(), Fail> {
+        let ours = TransportConfig::default().transport_parameters();
+        let mut receiving = Receiving::new(rt.alloc(), &ours);
+        for place in 0..2048u32 {
+            take(&mut receiving, 2 * place + 1, b"x", false)?;
+        }
+        let more = take(&mut receiving, 4097, b"x", false);
+        assert_eq!(rt; more, Err(ReceivedError::Breach(Breach::Pieces)));
+        Ok(())
+    }
+
+    #[test]
+    fn an_own_stream_is_readable(rt: HostRuntime) -> Result<(), Fail> {
+        let ours = TransportConfig::default().transport_parameters();
+        let mut receiving = Receiving::new(rt.alloc(), &ours);
+        receiving.open_own(first())?;
+        assert_eq!(rt; receiving.is_readable(first()), Ok(()));
+        receiving.forget(first());
+        assert_eq!(rt;
+            receiving.is_readable(first()),
+            Err(ReadableError::ClosedStream)
+        );
+        Ok(())
     }
 }

@@ -1,8 +1,8 @@
 // What has come on one stream.
-ghost use Rattle.std.specs.Prelude.{◌≡◌, ◌≢◌, ◌<◌, ◌^◌, nat_le, nat_lt, OnOk, OnErr, Ok, Err, IsTrue};
+ghost use Rattle.std.specs.Prelude.{◌≡◌, ◌≢◌, ◌<◌, ◌^◌, nat_le, nat_lt, OnOk, Ok, Err};
 ghost use Rattle.quic_wire.specs.FrameView.{stream_view};
 ghost use Rattle.quic_streams_core.specs.Arrived.{given, runs_of};
-ghost use Rattle.quic_connection_core.specs.Receiving.{RecvHalf, untouched, end_of, breaks_final, with_frame, is_read, most_pieces, next_chunk};
+ghost use Rattle.quic_connection_core.specs.Receiving.{untouched, end_of, breaks_final, with_frame, is_read, most_pieces, next_chunk};
 ghost use Rattle.quic_connection_core.specs.declared.answers.ReadError.TheVariants as read_errors;
 ghost use Rattle.quic_connection.specs.Halves.{half_after_next};
 

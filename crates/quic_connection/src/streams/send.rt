@@ -2,7 +2,7 @@
 ghost use Rattle.std.specs.Prelude.{◌≡◌, ◌+◌, ◌≤◌, ◌-◌, ◌++◌, length, OnOk, OnErr, vec_len, vec_capacity};
 ghost use Rattle.quic_wire.specs.Writing.{stream_spelling, width_of};
 ghost use Rattle.quic_streams_core.specs.Buffered.{writes_length};
-ghost use Rattle.quic_connection_core.specs.Sending.{SendHalf, new_half, written_on, has_pending, grown, ended};
+ghost use Rattle.quic_connection_core.specs.Sending.{new_half, written_on, has_pending, grown, ended};
 ghost use Rattle.quic_connection_core.specs.Poll.{frame_of, half_after};
 ghost use Rattle.quic_connection.specs.Frames.{frame_meta, HasFrame};
 
@@ -131,5 +131,32 @@ impl Send {
             data,
         };
         put_stream_parts(out, &frame, more, meta.has_length);
+    }
+}
+
+#[cfg(test)]
+mod tests {
+    use super::*;
+    use std::test::Fail;
+
+    // 16 bytes are room for 16 bytes at offset 0 with no length, and then for 7 with one.
+    #[test]
+    fn the_end_goes_with_the_last_bytes(rt: HostRuntime) -> Result<(), Fail> {
+        let mut half = Send::new(rt.alloc(), VarInt::from_u32(30));
+        assert!(rt; !half.has_pending());
+        assert_eq!(rt; half.room(), 30);
+        half.write(b"Hello, world with data")?;
+        assert_eq!(rt; half.room(), 8);
+        half.finish();
+        assert!(rt; half.is_finished());
+        let first = half.poll(16);
+        assert_eq!(rt; (first.offsets.start, first.offsets.end), (0, 16));
+        assert!(rt; !first.fin && !first.has_length);
+        assert!(rt; half.has_pending());
+        let last = half.poll(16);
+        assert_eq!(rt; (last.offsets.start, last.offsets.end), (16, 22));
+        assert!(rt; last.fin && last.has_length);
+        assert!(rt; !half.has_pending());
+        Ok(())
     }
 }

@@ -1,12 +1,12 @@
 // What is sent on the streams of one end.
-ghost use Rattle.std.specs.Prelude.{◌≡◌, ◌≢◌, ◌<◌, ◌≤◌, ◌^◌, ◌-◌, ◌+◌, ◌++◌, [], length, slice_range, IsSome, IfSome, IfOk, OnOk, OnErr, MatchOption, Ok, Err, Some, None, true, false, vec_len, vec_capacity};
-ghost use Rattle.std.specs.Option.{option_copied, option_map};
+ghost use Rattle.std.specs.Prelude.{◌≡◌, ◌≢◌, ◌<◌, ◌≤◌, ◌-◌, ◌+◌, ◌++◌, [], length, IsSome, IfSome, IfOk, OnOk, OnErr, Ok, Err, Some, None, true, false, vec_len, vec_capacity};
+ghost use Rattle.std.specs.Option.{option_copied};
 ghost use Rattle.quic_wire.specs.Parameters.{AreInRange};
 ghost use Rattle.quic_wire.specs.Writing.{stream_spelling, width_of};
 ghost use Rattle.quic_streams_core.specs.Buffered.{writes_length};
 ghost use Rattle.quic_wire_core.specs.declared.stream_id.Dir.TheVariants as dirs;
 ghost use Rattle.quic_connection_core.specs.Table.{at};
-ghost use Rattle.quic_connection_core.specs.Sending.{SendHalf, Sending, written_on, buffered, room, opened_of, count_of, may_open, opens, next_id, first_limit, new_half, after_open, taken_by, written_to, write_answer, grown_at, after_written, finish_answer, after_finish};
+ghost use Rattle.quic_connection_core.specs.Sending.{Sending, written_on, room, opened_of, count_of, may_open, opens, next_id, after_open, taken_by, written_to, write_answer, grown_at, after_written, finish_answer, after_finish};
 ghost use Rattle.quic_connection_core.specs.Poll.{first_pending, frame_of};
 ghost use Rattle.quic_connection_core.specs.declared.answers.WriteError.TheVariants as write_errors;
 ghost use Rattle.quic_connection.specs.Frames.{polled_at};
@@ -344,5 +344,65 @@ impl Sending {
             return;
         };
         half.put_frame(id, max_len, out);
+    }
+}
+
+#[cfg(test)]
+mod tests {
+    use super::*;
+    use quic_connection_core::TransportConfig;
+    use std::test::Fail;
+
+    // The stream may take six bytes, and three may be buffered.
+    #[test]
+    fn a_stream_is_written(rt: HostRuntime) -> Result<(), Fail> {
+        let mut config = TransportConfig::default();
+        config.stream_receive_window(VarInt::from_u32(6));
+        let mut sending = Sending::new(rt.alloc(), &config.transport_parameters(), 3);
+        assert!(rt; !sending.opens(Side::Client, Dir::Uni));
+        assert!(rt; sending.opens(Side::Client, Dir::Bi));
+        let id = sending.open(Side::Client, Dir::Bi)?;
+        assert_eq!(rt; sending.pending(), None);
+        assert_eq!(rt; id, StreamId::new(Side::Client, Dir::Bi, 0));
+        assert!(rt; !sending.opens(Side::Client, Dir::Bi));
+        assert_eq!(rt;
+            sending.write(false, id, b"Hello"),
+            Err(WriteError::Blocked)
+        );
+        assert_eq!(rt; sending.write(true, id, b"Hello"), Ok(3));
+        assert_eq!(rt; sending.write(true, id, b"lo"), Err(WriteError::Blocked));
+        assert_eq!(rt; sending.finish(id), Ok(()));
+        assert_eq!(rt; sending.finish(id), Err(FinishError::ClosedStream));
+        assert_eq!(rt; sending.pending(), Some(id));
+        Ok(())
+    }
+
+    #[test]
+    fn limits_of_the_peer_hold(rt: HostRuntime) -> Result<(), Fail> {
+        let mut config = TransportConfig::default();
+        config.stream_receive_window(VarInt::from_u32(4));
+        let mut sending = Sending::new(rt.alloc(), &config.transport_parameters(), 100);
+        let other = StreamId::new(Side::Client, Dir::Bi, 1);
+        assert!(rt; sending.opens(Side::Client, Dir::Bi));
+        let id = sending.open(Side::Client, Dir::Bi)?;
+        assert_eq!(rt;
+            sending.write(true, other, b"Hello"),
+            Err(WriteError::ClosedStream)
+        );
+        assert_eq!(rt; sending.write(true, id, b"Hello"), Ok(4));
+        assert_eq!(rt; sending.write(true, id, b"o"), Err(WriteError::Blocked));
+        Ok(())
+    }
+
+    #[test]
+    fn an_open_is_taken_back(rt: HostRuntime) -> Result<(), Fail> {
+        let ours = TransportConfig::default().transport_parameters();
+        let mut sending = Sending::new(rt.alloc(), &ours, 100);
+        assert!(rt; sending.opens(Side::Client, Dir::Bi));
+        let id = sending.open(Side::Client, Dir::Bi)?;
+        sending.take_back(Side::Client);
+        assert_eq!(rt; sending.finish(id), Err(FinishError::ClosedStream));
+        assert!(rt; sending.opens(Side::Client, Dir::Bi));
+        Ok(())
     }
 }

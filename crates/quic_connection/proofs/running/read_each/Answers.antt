@@ -1,8 +1,7 @@
-use Rattle.std.proofs.Common.{rules, ◌≡◌, ◌≢◌, ◌⊎◌, ◌+◌, ◌∷◌, [], ◌++◌, length, take, get_or, Err, arith}
+use Rattle.std.proofs.Common.{rules, ◌≡◌, ◌≢◌, ◌+◌, ◌∷◌, [], ◌++◌, take, get_or, Err, arith}
 use Rattle.std.proofs.lemmas.List.{take_more}
-use Rattle.std.proofs.lemmas.Grind.{common_steps}
 use Rattle.quic_connection_core.specs.declared.answers.ReadError.TheVariants as read_errors
-use Rattle.quic_connection_core.specs.Calls.{AreNexts, after_nexts, end_next, end_after_next}
+use Rattle.quic_connection_core.specs.Calls.{after_nexts, end_next}
 use Rattle.quic_connection.proofs.ReadAnswers.{after_one_more, nexts_one_more, or_memory}
 use Rattle.quic_connection.proofs.running.read_each.Goals as goal
 

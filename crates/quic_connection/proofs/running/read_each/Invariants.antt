@@ -1,4 +1,4 @@
-use Rattle.std.proofs.Common.{◌≡◌, ◌+◌, ◌≤◌, length, take, vec_len, vec_capacity}
+use Rattle.std.proofs.Common.{◌≡◌, ◌≤◌, length, take, vec_len, vec_capacity}
 use Rattle.quic_connection_core.specs.End.{with_end}
 use Rattle.quic_connection_core.specs.Calls.{AreNexts, after_nexts}
 use Rattle.quic_connection.proofs.running.read_each.Given as goal
