@@ -264,3 +264,187 @@ pub fn run<H: HeaderKey + Drop, K: PacketKey + Drop, R: Rng + Drop>(
         cut_short,
     }
 }
+
+#[cfg(test)]
+mod tests {
+    use super::*;
+    use crate::config::Config;
+    use bytes::Bytes;
+    use quic_connection_core::{ReadableError, Received, Transmit, TransportConfig};
+    use quic_wire::crypto::{KeyPair, Keys};
+    use quic_wire::plain::{PlainHeaderKey, PlainKey};
+    use quic_wire_core::{ConnectionId, Dir, EcnCodepoint};
+    use std::test::Fail;
+
+    /// The order in which transport parameters are written.
+    const ORDER: [u8; 13] = [0, 1, 2, 3, 4, 5, 6, 7, 8, 9, 10, 11, 12];
+
+    /// A random source that gives zeros.
+    #[derive(Clone, Copy)]
+    struct Zeros;
+
+    impl Rng for Zeros {
+        ghost use Rattle.std.specs.Prelude.{replicate};
+
+        ghost stream = { λ _. record { u32_after = λ _. 0; u64_after = λ _. 0; bytes_after = λ _ n. replicate n 0 } };
+
+        fn next_u32(&mut self) -> u32 {
+            0
+        }
+
+        fn next_u64(&mut self) -> u64 {
+            0
+        }
+
+        fn fill_bytes(&mut self, dst: &mut [u8]) {
+            dst.fill(0);
+        }
+    }
+
+    type End = Connection<PlainHeaderKey, PlainKey, Zeros>;
+
+    /// A key of this mark.
+    fn key(mark: u8) -> PlainKey {
+        PlainKey {
+            mark,
+            confidentiality_limit: 1 << 23,
+            integrity_limit: 1 << 52,
+        }
+    }
+
+    /// An end with these ids, which seals under its own mark.
+    fn end(alloc: Global, side: Side, ids: [u8; 2], marks: [u8; 2]) -> Result<End, Fail> {
+        let config = Config::new(TransportConfig::default());
+        let parameters = config.write_parameters(alloc, &ORDER)?;
+        let [own, peer] = ids;
+        let [local, remote] = marks;
+        let keys = Keys {
+            header: KeyPair {
+                local: PlainHeaderKey,
+                remote: PlainHeaderKey,
+            },
+            packet: KeyPair {
+                local: key(local),
+                remote: key(remote),
+            },
+        };
+        Ok(Connection::new(
+            alloc,
+            side,
+            &config,
+            &parameters,
+            ConnectionId::new(&[own; 8]),
+            ConnectionId::new(&[peer; 8]),
+            keys,
+            Instant::from_nanos(0),
+            Zeros,
+            true,
+        )?)
+    }
+
+    fn ends(alloc: Global) -> Result<Ends<PlainHeaderKey, PlainKey, Zeros>, Fail> {
+        Ok(Ends {
+            client: end(alloc, Side::Client, [0xc0, 0x50], [0x63, 0x73])?,
+            server: end(alloc, Side::Server, [0x50, 0xc0], [0x73, 0x63])?,
+        })
+    }
+
+    fn event(side: Side, call: Call) -> RunEvent {
+        RunEvent { side, call }
+    }
+
+    /// A read of one `next`.
+    fn read(alloc: Global, id: StreamId, finalize: bool) -> Result<RunEvent, Fail> {
+        let call = Call::Read(ReadCall {
+            id,
+            nexts: vec![in alloc; 32]?,
+            finalize,
+        });
+        Ok(event(Side::Server, call))
+    }
+
+    /// The client writes `hello` on a stream and ends it, and the server reads it.
+    fn hello(alloc: Global, id: StreamId) -> Result<Vec<RunEvent>, Fail> {
+        let now = Instant::from_nanos(0);
+        let delivery = Delivery {
+            now,
+            ecn: Some(EcnCodepoint::Ect0),
+            index: 0,
+        };
+        let mut events = Vec::new(alloc);
+        events.push(event(Side::Client, Call::Open(Dir::Bi)))?;
+        let write = Call::Write(id, Bytes::from_static(b"hello"));
+        events.push(event(Side::Client, write))?;
+        events.push(event(Side::Client, Call::Finish(id)))?;
+        events.push(event(Side::Client, Call::Poll(now)))?;
+        events.push(event(Side::Server, Call::Deliver(delivery)))?;
+        events.push(event(Side::Server, Call::Accept(Dir::Bi)))?;
+        events.push(read(alloc, id, false)?)?;
+        events.push(read(alloc, id, true)?)?;
+        events.push(read(alloc, id, true)?)?;
+        Ok(events)
+    }
+
+    // The datagram is a short header, a STREAM frame with its end, the number 0 and the client's mark.
+    const SEALED: [u8; 34] = [
+        0x48, 0x50, 0x50, 0x50, 0x50, 0x50, 0x50, 0x50, 0x50, 0x65, 0x0b, 0x00, 0x05, 0x68, 0x65,
+        0x6c, 0x6c, 0x6f, 0, 0, 0, 0, 0, 0, 0, 0, 0x63, 0x63, 0x63, 0x63, 0x63, 0x63, 0x63, 0x63,
+    ];
+
+    #[test]
+    fn five_bytes_arrive(rt: HostRuntime) -> Result<(), Fail> {
+        let id = StreamId::new(Side::Client, Dir::Bi, 0);
+        let events = hello(rt.alloc(), id)?;
+        let outcome = run(rt.alloc(), ends(rt.alloc())?, &events);
+        assert!(rt; !outcome.cut_short);
+        assert_eq!(rt; outcome.views.len(), 9);
+        assert!(rt; outcome.given.server.is_empty());
+        let [datagram] = outcome.given.client.as_slice() else {
+            panic!(rt; "not one datagram");
+        };
+        assert!(rt; datagram.as_slice() == SEALED.as_slice());
+        let [
+            Answer::Open(Ok(Some(opened))),
+            Answer::Write(Ok(5)),
+            Answer::Finish(Ok(())),
+            Answer::Poll(Ok(Some(transmit))),
+            Answer::Deliver(Received::Taken),
+            Answer::Accept(Some(accepted)),
+            Answer::Read(Ok(first)),
+            Answer::Read(Ok(second)),
+            Answer::Read(Err(ReadableError::ClosedStream)),
+        ] = outcome.answers.as_slice()
+        else {
+            panic!(rt; "other answers");
+        };
+        let sent = Transmit {
+            size: 34,
+            ecn: Some(EcnCodepoint::Ect0),
+        };
+        assert_eq!(rt; *opened, id);
+        assert_eq!(rt; *transmit, sent);
+        assert_eq!(rt; *accepted, id);
+        let [Ok(Some(chunk))] = first.as_slice() else {
+            panic!(rt; "not one chunk");
+        };
+        assert_eq!(rt; chunk.offset, 0);
+        assert!(rt; chunk.bytes.as_slice() == b"hello".as_slice());
+        assert!(rt; matches!(second.as_slice(), [Ok(None)]));
+        Ok(())
+    }
+
+    #[test]
+    fn nothing_is_delivered_that_was_not_given(rt: HostRuntime) -> Result<(), Fail> {
+        let mut ends = ends(rt.alloc())?;
+        let mut given = Given::new(rt.alloc());
+        let delivery = Delivery {
+            now: Instant::from_nanos(0),
+            ecn: None,
+            index: 0,
+        };
+        let event = event(Side::Client, Call::Deliver(delivery));
+        let answer = step(rt.alloc(), &mut ends, &mut given, &event)?;
+        assert!(rt; matches!(answer, Answer::NoDatagram));
+        Ok(())
+    }
+}
