@@ -17,7 +17,7 @@ use quic_connection_core::{Breach, DropReason, Instant, LostReason, Received, St
 use quic_wire::crypto::{HeaderKey, NotOpened, PacketKey};
 use quic_wire::frame::{Frame, InvalidFrame, Iter, Stream};
 use quic_wire::{HeaderError, Opened, open_packet};
-use quic_wire_core::{Code, ConnectionId, EcnCodepoint, TransportError};
+use quic_wire_core::{Code, ConnectionId, EcnCodepoint, Reason, TransportError};
 use rand_core::Rng;
 
 /// Why the frames of a packet weren't all taken.
@@ -32,7 +32,7 @@ pub(crate) enum Trouble {
 }
 
 /// An error that names no frame.
-fn plain_error(code: Code, reason: &'static str) -> TransportError
+fn plain_error(code: Code, reason: Reason) -> TransportError
     ensures { result ≡ plain_error code }
 {
     TransportError::new(code, None, reason)
@@ -43,10 +43,10 @@ fn trouble_of(breach: Breach) -> Trouble
     ensures { fault_view result ≡ Some (fault_of_breach breach) }
 {
     let error = match breach {
-        Breach::FlowControl => plain_error(Code::FLOW_CONTROL_ERROR, "past a limit on bytes"),
-        Breach::StreamLimit => plain_error(Code::STREAM_LIMIT_ERROR, "past the limit on streams"),
-        Breach::StreamState => plain_error(Code::STREAM_STATE_ERROR, "no stream to send on"),
-        Breach::FinalSize => plain_error(Code::FINAL_SIZE_ERROR, "a final size that can't be"),
+        Breach::FlowControl => plain_error(Code::FLOW_CONTROL_ERROR, Reason::TooManyBytes),
+        Breach::StreamLimit => plain_error(Code::STREAM_LIMIT_ERROR, Reason::TooManyStreams),
+        Breach::StreamState => plain_error(Code::STREAM_STATE_ERROR, Reason::NotSendable),
+        Breach::FinalSize => plain_error(Code::FINAL_SIZE_ERROR, Reason::FinalSize),
         Breach::Pieces => return Trouble::TooManyPieces,
     };
     Trouble::Broke(error)
@@ -167,10 +167,10 @@ impl<H: HeaderKey + Drop, K: PacketKey + Drop, R: Rng + Drop> Connection<H, K, R
         ensures others { self.new ≡ with_end self.old self.new.end }
     {
         if opened.reserved_bits() != 0 {
-            return Err(violation("reserved bits set"));
+            return Err(violation(Reason::ReservedBits));
         }
         if payload.is_empty() {
-            return Err(violation("no frame"));
+            return Err(violation(Reason::NoFrame));
         }
         self.take_frames(payload)
     }
@@ -225,7 +225,7 @@ impl<H: HeaderKey + Drop, K: PacketKey + Drop, R: Rng + Drop> Connection<H, K, R
             }
             Trouble::TooManyPieces => {
                 self.closing.close(LostReason::Pieces);
-                Received::Closed(plain_error(Code::INTERNAL_ERROR, "too many pieces wait"))
+                Received::Closed(plain_error(Code::INTERNAL_ERROR, Reason::TooManyPieces))
             }
             Trouble::Memory => {
                 self.closing.fail();
@@ -236,7 +236,7 @@ impl<H: HeaderKey + Drop, K: PacketKey + Drop, R: Rng + Drop> Connection<H, K, R
 }
 
 /// PROTOCOL_VIOLATION.
-fn violation(reason: &'static str) -> Trouble
+fn violation(reason: Reason) -> Trouble
     ensures { fault_view result ≡ Some violation }
 {
     Trouble::Broke(plain_error(Code::PROTOCOL_VIOLATION, reason))
