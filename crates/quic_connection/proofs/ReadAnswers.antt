@@ -1,5 +1,5 @@
 -- The answers of a read so far, and one more.
-use Rattle.std.proofs.Common.{refl, inl, inr, Ok, ◌≡◌, ◌≢◌, ◌⊎◌, ℕ, List, [], ◌∷◌, ◌++◌, length, Option, Some, Result, Err}
+use Rattle.std.proofs.Common.{refl, inl, inr, Ok, ◌≡◌, ◌≢◌, ◌⊎◌, ℕ, List, [], ◌∷◌, ◌++◌, Option, Result, Err}
 use Rattle.quic_streams_core.specs.declared.connection.assembler.Chunk.{Chunk}
 use Rattle.quic_connection_core.specs.declared.answers.ReadError.{ReadError}
 use Rattle.quic_connection_core.specs.declared.answers.ReadError.TheVariants as read_errors

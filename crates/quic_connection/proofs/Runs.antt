@@ -1,5 +1,5 @@
 -- A run goes on by one event.
-use Rattle.std.proofs.Common.{◌≡◌, ℕ, List, [], ◌∷◌, ◌++◌, length, Option, Some, refl}
+use Rattle.std.proofs.Common.{◌≡◌, List, [], ◌∷◌, ◌++◌, length, Some, refl}
 use Rattle.std.specs.Prelude.{slice_get}
 use Rattle.quic_connection_core.specs.declared.run.RunEvent.{RunEvent}
 use Rattle.quic_connection_core.specs.declared.run.Answer.{Answer}

@@ -6,6 +6,8 @@ mod error;
 pub mod key;
 mod lines;
 mod runner;
+#[cfg(test)]
+mod runs;
 mod script;
 mod session;
 mod show;

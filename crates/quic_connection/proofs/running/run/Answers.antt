@@ -1,9 +1,8 @@
-use Rattle.std.proofs.Common.{rules, ◌≡◌, ◌<◌, length, Some, arith, refl}
+use Rattle.std.proofs.Common.{rules, ◌≡◌, length, Some, arith, refl}
 use Rattle.std.specs.Prelude.{slice_get}
 use Rattle.std.proofs.lemmas.Option.{slice_get_read}
 use Rattle.std.proofs.lemmas.Grind.{common_steps}
-use Rattle.quic_connection_core.specs.Machine.{Policies, World, IsStep, Follows}
-use Rattle.quic_connection.specs.Ends.{world_of, first_world, policies_of}
+use Rattle.quic_connection.specs.Ends.{world_of}
 use Rattle.quic_connection.proofs.Runs.{follows_goes_on}
 use Rattle.quic_connection.proofs.running.run.Goals as goal
 
