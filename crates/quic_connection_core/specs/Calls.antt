@@ -29,6 +29,7 @@ abbrev pub open_if : Bool → Dir → End → Option ℕ
 open_if true dir e = Some (next_id e.side dir e.sending)
 open_if false dir e = None
 
+-- whether an end opens such a stream: it is open, and limits leave room for one
 abbrev pub can_open : State → Dir → End → Bool
 can_open states.Open dir e = opens e.side dir e.sending
 can_open states.Closing dir e = false
@@ -44,10 +45,12 @@ abbrev pub both_ways : Dir → Receiving → ℕ → Receiving
 both_ways Bi r id = after_own_open r id
 both_ways Uni r id = r
 
+-- the end after an open, where it may be
 abbrev pub after_open_if : Bool → Dir → End → End
 after_open_if true dir e = record e { sending = sending.after_open e.side dir e.sending; receiving = both_ways dir e.receiving (next_id e.side dir e.sending) }
 after_open_if false dir e = e
 
+-- the end after a call that opens a stream
 abbrev pub after_open : Dir → End → End
 after_open dir e = after_open_if (can_open e.closing.state dir e) dir e
 
@@ -56,6 +59,7 @@ after_open dir e = after_open_if (can_open e.closing.state dir e) dir e
 abbrev pub end_accepts : Dir → End → Option ℕ
 end_accepts dir e = accept_answer e.side dir e.receiving
 
+-- the end after a call that accepts a stream
 abbrev pub end_after_accept : Dir → End → End
 end_after_accept dir e = with_receiving e (after_accept dir e.receiving)
 
@@ -68,6 +72,7 @@ end_writes e id len = write_answer (is_open e.closing.state) e.sending id len
 abbrev pub end_after_write : Result ℕ WriteError → End → ℕ → List ℕ → End
 end_after_write answer e id bytes = with_sending e (after_written answer e.sending id bytes)
 
+-- the end after a call that finishes a stream
 abbrev pub end_after_finish : End → ℕ → End
 end_after_finish e id = with_sending e (sending.after_finish e.sending id)
 
@@ -77,6 +82,7 @@ end_after_finish e id = with_sending e (sending.after_finish e.sending id)
 abbrev pub end_after_next : Result (Option Chunk) ReadError → End → ℕ → ℕ → End
 end_after_next answer e id most = with_receiving e (after_next answer (at e.receiving.halves id) e.receiving id most)
 
+-- what the next chunk of a read is, at most so many bytes
 abbrev pub end_next : End → ℕ → ℕ → Result (Option Chunk) ReadError
 end_next e id most = next_answer (at e.receiving.halves id) most
 

@@ -17,6 +17,7 @@ use Rattle.quic_connection_core.specs.Sending.{Sending}
 use Rattle.quic_connection_core.specs.Receiving.{Receiving}
 use Rattle.quic_connection_core.specs.Policy.{Policy}
 
+-- one end of a connection
 pub record End : Type 0 where
   pub side : Side
   pub closing : Closing
@@ -97,15 +98,19 @@ new_end side settings theirs own_id peer_id now validated = record {
   waiting = nothing_waits;
 }
 
+-- the end with another clock, state and reason
 abbrev pub with_closing : End → Closing → End
 with_closing e c = record e { closing = c }
 
+-- the end with other packet numbers
 abbrev pub with_numbers : End → Numbers → End
 with_numbers e n = record e { numbers = n }
 
+-- the end with other sending halves
 abbrev pub with_sending : End → Sending → End
 with_sending e s = record e { sending = s }
 
+-- the end with other receiving halves
 abbrev pub with_receiving : End → Receiving → End
 with_receiving e r = record e { receiving = r }
 

@@ -12,3 +12,5 @@ pub mod Receive
 pub mod Poll
 pub mod Calls
 pub mod Machine
+pub mod Runs
+pub mod Worked

@@ -48,6 +48,7 @@ IsAnswer p e theirs (calls.Read read) a = IsRead e read.id read.nexts.items a
 IsAnswer p e theirs (calls.Poll now) a = (a ≡ answers.Poll (polled p e now).answer) ⊎ (a ≡ answers.Poll (Err (record {})))
 IsAnswer p e theirs (calls.Deliver delivery) a = IsDelivered p e delivery.now (slice_get theirs delivery.index) a
 
+-- the end after a delivery
 abbrev pub after_delivered : Policy → End → ℕ → Option (List ℕ) → End
 after_delivered p e now None = e
 after_delivered p e now (Some d) = (received p e now d).end
@@ -93,14 +94,17 @@ pub record Policies : Type 0 where
   pub client : Policy
   pub server : Policy
 
+-- what the keys of one of the ends do
 abbrev pub policy_at : Side → Policies → Policy
 policy_at Client k = k.client
 policy_at Server k = k.server
 
+-- one of the ends
 abbrev pub end_at : Side → World → End
 end_at Client w = w.client
 end_at Server w = w.server
 
+-- the datagrams that one of the ends gave
 abbrev pub given_by : Side → World → List (List ℕ)
 given_by Client w = w.from_client
 given_by Server w = w.from_server
@@ -127,6 +131,7 @@ end_view e = record {
   current_mtu = None;
 }
 
+-- what is seen of both ends
 abbrev pub view_of : World → View
 view_of w = record { client = end_view w.client; server = end_view w.server }
 

@@ -12,6 +12,7 @@ pub record Opened : Type 0 where
   pub next : ℕ
   pub places : List ℕ
 
+-- no packet was opened
 abbrev pub none_opened : Opened
 none_opened = record { next = 0; places = replicate duplicate_span 0 }
 
@@ -30,6 +31,7 @@ pub record Numbers : Type 0 where
   pub opened : Opened
   pub taken : Option ℕ
 
+-- no number was given, opened or taken
 abbrev pub no_numbers : Numbers
 no_numbers = record { next = 0; acknowledged = None; opened = none_opened; taken = None }
 
@@ -38,6 +40,7 @@ abbrev pub after_greatest : Option ℕ → ℕ
 after_greatest None = 0
 after_greatest (Some n) = n + 1
 
+-- the number that a packet is expected to have (RFC 9000, A.3)
 abbrev pub expected : Numbers → ℕ
 expected numbers = after_greatest numbers.taken
 
@@ -61,6 +64,7 @@ number_given numbers = record numbers { next = numbers.next + 1 }
 abbrev pub number_opened : Numbers → ℕ → Numbers
 number_opened numbers n = record numbers { opened = with_opened numbers.opened n }
 
+-- the greater of a number and one that may be there
 abbrev pub greatest_of : Option ℕ → ℕ → ℕ
 greatest_of None n = n
 greatest_of (Some m) n = max m n

@@ -7,6 +7,7 @@ pub record Acknowledging : Type 0 where
   pub due : Bool
   pub numbers : List ℕ
 
+-- no packet waits for an acknowledgement
 abbrev pub nothing_to_acknowledge : Acknowledging
 nothing_to_acknowledge = record { due = false; numbers = [] }
 
@@ -21,6 +22,7 @@ pub record TrackedPacket : Type 0 where
 pub record Tracking : Type 0 where
   pub packets : List TrackedPacket
 
+-- no packet is tracked
 abbrev pub nothing_tracked : Tracking
 nothing_tracked = record { packets = [] }
 
@@ -29,6 +31,7 @@ pub record Path : Type 0 where
   pub validated : Bool
   pub generation : ℕ
 
+-- the first path, validated or not
 abbrev pub first_path : Bool → Path
 first_path validated = record { validated = validated; generation = 0 }
 
@@ -37,6 +40,7 @@ pub record Messages : Type 0 where
   pub outgoing : List (List ℕ)
   pub incoming : List (List ℕ)
 
+-- no message waits
 abbrev pub no_messages : Messages
 no_messages = record { outgoing = []; incoming = [] }
 
@@ -44,5 +48,6 @@ no_messages = record { outgoing = []; incoming = [] }
 pub record Waiting : Type 0 where
   pub frames : List FrameValue
 
+-- no duty waits
 abbrev pub nothing_waits : Waiting
 nothing_waits = record { frames = [] }

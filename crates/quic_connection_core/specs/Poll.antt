@@ -62,6 +62,7 @@ pub record Polled : Type 0 where
   pub datagram : Option (List ℕ)
   pub end : End
 
+-- nothing is given
 abbrev pub gives_nothing : End → Polled
 gives_nothing e = record { answer = Ok None; datagram = None; end = e }
 
@@ -100,13 +101,16 @@ abbrev pub sends : Bool → Policy → End → ℕ → Polled
 sends true p e id = sends_half (at e.sending.halves id) p e id
 sends false p e id = gives_nothing (with_closing e (closed_for reasons.NumberLimit e.closing))
 
+-- a stream with something to send sends, where there is one
 abbrev pub polled_for : Option ℕ → Policy → End → Polled
 polled_for None p e = gives_nothing e
 polled_for (Some id) p e = sends (can_number e.numbers) p e id
 
+-- what an open end gives
 abbrev pub polled_open : Policy → End → Polled
 polled_open p e = polled_for (first_pending e.sending.halves) p e
 
+-- what an end gives by its state
 abbrev pub polled_in : State → Policy → End → ℕ → Polled
 polled_in states.Open p e now = polled_open p (with_closing e (ticked e.closing now))
 polled_in states.Closing p e now = gives_nothing e

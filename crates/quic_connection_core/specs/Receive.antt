@@ -49,6 +49,7 @@ fault_of_breach StreamState = broke (plain_error 5)
 fault_of_breach FinalSize = broke (plain_error 6)
 fault_of_breach Pieces = too_many_pieces
 
+-- the fault of a broken rule of streams, where one was broken
 abbrev pub fault_of : Option Breach → Option Fault
 fault_of None = None
 fault_of (Some b) = Some (fault_of_breach b)
@@ -66,6 +67,7 @@ abbrev pub error_of : Fault → ErrorValue
 error_of (broke error) = error
 error_of too_many_pieces = plain_error 1
 
+-- why an end closes for a fault
 abbrev pub reason_of : Fault → LostReason
 reason_of (broke error) = reasons.Transport error
 reason_of too_many_pieces = reasons.Pieces
@@ -77,6 +79,7 @@ pub record Progress : Type 0 where
   pub end : End
   pub fault : Option Fault
 
+-- the next frame is taken
 abbrev pub goes_on : End → Progress
 goes_on e = record { end = e; fault = None }
 
@@ -85,6 +88,7 @@ abbrev pub take_frame : FrameValue → End → Progress
 take_frame (stream f) e = record { end = with_receiving e (after_stream e.side e.receiving f); fault = fault_of (stream_breach e.side e.receiving f) }
 take_frame f e = goes_on e
 
+-- what the next item of a payload comes to
 abbrev pub take_item : Result FrameValue InvalidFrame → End → Progress
 take_item (Ok f) e = take_frame f e
 take_item (Err x) e = record { end = e; fault = Some (fault_of_frame x) }
@@ -94,6 +98,7 @@ abbrev pub unless_fault : Option Fault → Progress → (End → Progress) → P
 unless_fault None p next = next p.end
 unless_fault (Some fault) p next = p
 
+-- one frame behind another: the second is taken where the first was
 abbrev pub behind : Progress → (End → Progress) → Progress
 behind p next = unless_fault p.fault p next
 
@@ -118,6 +123,7 @@ pub record Outcome : Type 0 where
   pub answer : Received
   pub end : End
 
+-- a datagram is dropped and changes nothing
 abbrev pub dropped : DropReason → End → Outcome
 dropped reason e = record { answer = Dropped reason; end = e }
 
@@ -126,6 +132,7 @@ abbrev pub ends_as : Option Fault → ℕ → End → Outcome
 ends_as None n e = record { answer = Taken; end = with_numbers e (number_taken e.numbers n) }
 ends_as (Some fault) n e = record { answer = Closed (error_of fault); end = with_closing e (closed_for (reason_of fault) e.closing) }
 
+-- what a payload with so many frames comes to, where it was taken up to its end
 abbrev pub judged : Progress → ℕ → Outcome
 judged p n = ends_as p.fault n p.end
 
@@ -147,6 +154,7 @@ opened_to o now e =
     else (if is_duplicate e.numbers.opened o.number then dropped drops.Duplicate e
     else by_state e.closing.state o now (with_numbers e (number_opened e.numbers o.number)))
 
+-- what a packet comes to, where it opened
 abbrev pub opened_as : Option Opening → ℕ → End → Outcome
 opened_as None now e = dropped drops.NotOpened e
 opened_as (Some o) now e = opened_to o now e
@@ -155,12 +163,14 @@ opened_as (Some o) now e = opened_to o now e
 abbrev pub opening : Policy → End → List ℕ → Option Opening
 opening p e d = opened_packet p.unmask p.reveal p.unseal (own_id_length + 1) (expected e.numbers) d
 
+-- why a datagram with such a header is dropped
 abbrev pub drop_of : HeaderError → DropReason
 drop_of headers.TooShort = drops.TooShort
 drop_of headers.NotShort = drops.NotShort
 drop_of headers.FixedBit = drops.FixedBit
 drop_of headers.UnknownId = drops.UnknownId
 
+-- what a datagram comes to, by what its header says
 abbrev pub headed : Result (List ℕ) HeaderError → Policy → End → ℕ → List ℕ → Outcome
 headed (Err error) p e now d = dropped (drop_of error) e
 headed (Ok id) p e now d = opened_as (opening p e d) now e

@@ -54,6 +54,7 @@ abbrev pub opened_of : Dir → Receiving → ℕ
 opened_of Bi r = r.opened_bi
 opened_of Uni r = r.opened_uni
 
+-- how many streams of a kind were accepted
 abbrev pub accepted_of : Dir → Receiving → ℕ
 accepted_of Bi r = r.accepted_bi
 accepted_of Uni r = r.accepted_uni
@@ -62,10 +63,12 @@ accepted_of Uni r = r.accepted_uni
 abbrev pub accept_answer : Side → Dir → Receiving → Option ℕ
 accept_answer side dir r = if nat_lt (accepted_of dir r) (opened_of dir r) then Some (stream_id (other_side side) dir (accepted_of dir r)) else None
 
+-- one more stream of a kind is accepted
 abbrev pub one_accepted : Dir → Receiving → Receiving
 one_accepted Bi r = record r { accepted_bi = r.accepted_bi + 1 }
 one_accepted Uni r = record r { accepted_uni = r.accepted_uni + 1 }
 
+-- the receiving halves after a call that accepts
 abbrev pub after_accept : Dir → Receiving → Receiving
 after_accept dir r = if nat_lt (accepted_of dir r) (opened_of dir r) then one_accepted dir r else r
 
@@ -140,9 +143,11 @@ abbrev pub breach_kept : Option Breach → Side → Receiving → StreamValue �
 breach_kept (Some b) side r f = Some b
 breach_kept None side r f = if too_many (half_for (at r.halves f.id) r f.id) f then Some Pieces else None
 
+-- the rule that a STREAM frame breaks, where it breaks one
 abbrev pub stream_breach : Side → Receiving → StreamValue → Option Breach
 stream_breach side r f = breach_kept (refusal side r f) side r f
 
+-- the receiving halves after a STREAM frame, taken or refused
 abbrev pub after_refusal : Option Breach → Receiving → StreamValue → Receiving
 after_refusal (Some b) r f = r
 after_refusal None r f = kept_at (half_for (at r.halves f.id) r f.id) r f
@@ -171,6 +176,7 @@ abbrev pub at_end : Bool → Result (Option Chunk) ReadError
 at_end true = Ok None
 at_end false = Err read_errors.Blocked
 
+-- what a read gives: a chunk that waits, the end, or nothing yet
 abbrev pub next_chunk : Option Chunk → RecvHalf → Result (Option Chunk) ReadError
 next_chunk (Some chunk) h = Ok (Some chunk)
 next_chunk None h = at_end (is_read h.final h.arrived.read)

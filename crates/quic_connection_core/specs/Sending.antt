@@ -58,6 +58,7 @@ abbrev pub opened_of : Dir → Sending → ℕ
 opened_of Bi s = s.opened_bi
 opened_of Uni s = s.opened_uni
 
+-- how many streams of a kind may be opened
 abbrev pub count_of : Dir → Sending → ℕ
 count_of Bi s = s.count_bi
 count_of Uni s = s.count_uni
@@ -68,6 +69,7 @@ may_open Client Bi n = n == 0
 may_open Client Uni n = false
 may_open Server dir n = false
 
+-- whether such a stream is opened
 abbrev pub opens : Side → Dir → Sending → Bool
 opens side dir s = may_open side dir (opened_of dir s) && nat_lt (opened_of dir s) (count_of dir s)
 
@@ -75,6 +77,7 @@ opens side dir s = may_open side dir (opened_of dir s) && nat_lt (opened_of dir 
 abbrev pub next_id : Side → Dir → Sending → ℕ
 next_id side dir s = stream_id side dir (opened_of dir s)
 
+-- the first limit on bytes of an own stream of a kind
 abbrev pub first_limit : Dir → Sending → ℕ
 first_limit Bi s = s.first_limit_bi
 first_limit Uni s = s.first_limit_uni
@@ -83,6 +86,7 @@ first_limit Uni s = s.first_limit_uni
 abbrev pub new_half : ℕ → SendHalf
 new_half limit = record { buffer = record { base = 0; kept = []; unsent = 0 }; finished = false; end_waits = false; limit = limit }
 
+-- one more stream of a kind is opened
 abbrev pub one_more : Dir → Sending → Sending
 one_more Bi s = record s { opened_bi = s.opened_bi + 1 }
 one_more Uni s = record s { opened_uni = s.opened_uni + 1 }
@@ -105,6 +109,7 @@ abbrev pub written_to : Option SendHalf → ℕ → ℕ → Result ℕ WriteErro
 written_to None room len = Err write_errors.ClosedStream
 written_to (Some h) room len = if room == 0 then Err write_errors.Blocked else taken_by h room len
 
+-- what a write answers
 abbrev pub write_answer : Bool → Sending → ℕ → ℕ → Result ℕ WriteError
 write_answer true s id len = written_to (at s.halves id) (room s) len
 write_answer false s id len = Err write_errors.Blocked
@@ -113,6 +118,7 @@ write_answer false s id len = Err write_errors.Blocked
 abbrev pub grown : SendHalf → List ℕ → SendHalf
 grown h bytes = record h { buffer = record h.buffer { kept = h.buffer.kept ++ bytes } }
 
+-- the halves after bytes were written on one
 abbrev pub grown_at : Option SendHalf → Table SendHalf → ℕ → List ℕ → Table SendHalf
 grown_at None halves id bytes = halves
 grown_at (Some h) halves id bytes = put halves id (grown h bytes)
@@ -128,15 +134,19 @@ abbrev pub finish_of : Option SendHalf → Result (Unit {0}) FinishError
 finish_of None = Err finish_errors.ClosedStream
 finish_of (Some h) = if h.finished then Err finish_errors.ClosedStream else Ok tt
 
+-- what a finish answers
 abbrev pub finish_answer : Sending → ℕ → Result (Unit {0}) FinishError
 finish_answer s id = finish_of (at s.halves id)
 
+-- the half after its end
 abbrev pub ended : SendHalf → SendHalf
 ended h = record h { finished = true; end_waits = true }
 
+-- the halves after the end of one
 abbrev pub ended_at : Option SendHalf → Table SendHalf → ℕ → Table SendHalf
 ended_at None halves id = halves
 ended_at (Some h) halves id = if h.finished then halves else put halves id (ended h)
 
+-- the sending halves after a finish
 abbrev pub after_finish : Sending → ℕ → Sending
 after_finish s id = record s { halves = ended_at (at s.halves id) s.halves id }

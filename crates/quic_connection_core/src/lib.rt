@@ -5,6 +5,7 @@
 mod answers;
 mod config;
 mod instant;
+pub mod laws;
 mod run;
 
 pub use answers::{

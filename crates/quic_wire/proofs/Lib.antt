@@ -5,8 +5,6 @@ pub mod Destinations
 pub mod FrameKinds
 pub mod FrameShrinks
 pub mod FrameItems
-pub mod StandIn
-pub mod Mates
 pub mod FrameAgain
 pub mod FrameFound
 pub mod FrameWhole

@@ -17,6 +17,4 @@ pub mod ParametersCode
 pub mod ParametersSteps
 pub mod ParametersTable
 pub mod ParametersLaw
-pub mod Plain
-pub mod PlainLaw
 pub mod ParametersFound

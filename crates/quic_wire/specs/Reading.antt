@@ -8,6 +8,7 @@ use Rattle.quic_wire.specs.FrameTypes.{Kind, is_padding, is_ping, is_stream, kin
 
 -- What is read next, where this was read.
 infixl 10 ◌>>=◌
+-- one reading behind another: the first refusal stands
 abbrev pub ◌>>=◌ : {A B : Type 0} → Result A FrameError → (A → Result B FrameError) → Result B FrameError
 (Ok x) >>= f = f x
 (Err e) >>= f = Err e

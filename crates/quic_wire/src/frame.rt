@@ -1,7 +1,7 @@
 //! Frames (RFC 9000, section 19): their values, the reader of a payload and the writers.
 ghost use Rattle.std.specs.Prelude.{◌<◌, ◌^◌};
 
-use quic_wire_core::{Code, FrameType, StreamId, TransportError, VarInt};
+use quic_wire_core::{Code, FrameType, Reason, StreamId, TransportError, VarInt};
 use thiserror::Error;
 
 mod iter;
@@ -118,9 +118,9 @@ impl From<InvalidFrame> for TransportError {
     /// FRAME_ENCODING_ERROR, with the type of the frame (RFC 9000, section 12.4).
     fn from(invalid: InvalidFrame) -> TransportError {
         let reason = match invalid.reason {
-            FrameError::UnexpectedEnd => "unexpected end",
-            FrameError::Malformed => "malformed",
-            FrameError::InvalidId => "invalid frame ID",
+            FrameError::UnexpectedEnd => Reason::UnexpectedEnd,
+            FrameError::Malformed => Reason::Malformed,
+            FrameError::InvalidId => Reason::InvalidFrameId,
         };
         TransportError::new(Code::FRAME_ENCODING_ERROR, invalid.ty, reason)
     }

@@ -6,7 +6,6 @@ pub mod frame;
 pub mod frame_laws;
 pub mod laws;
 mod packet;
-pub mod plain;
 pub mod reserved;
 mod sealing;
 pub mod transport_parameters;

@@ -14,7 +14,7 @@ use crate::transport_parameters::reading::met_of;
 use crate::transport_parameters::writing::put_parameter;
 pub use error::TransportParametersError;
 pub use id::TransportParameterId;
-use quic_wire_core::{Code, Side, TransportError, VarInt};
+use quic_wire_core::{Code, Reason, Side, TransportError, VarInt};
 use std::alloc::{AllocError, Global};
 use std::marker::Model;
 
@@ -167,8 +167,8 @@ impl From<TransportParametersError> for TransportError {
     /// The error that closes the connection: TRANSPORT_PARAMETER_ERROR (RFC 9000, section 7.4), of no frame.
     fn from(e: TransportParametersError) -> TransportError {
         let reason = match e {
-            TransportParametersError::Malformed => "malformed",
-            TransportParametersError::IllegalValue => "illegal value",
+            TransportParametersError::Malformed => Reason::Malformed,
+            TransportParametersError::IllegalValue => Reason::IllegalValue,
         };
         TransportError::new(Code::TRANSPORT_PARAMETER_ERROR, None, reason)
     }
@@ -339,8 +339,8 @@ mod tests {
     fn closes_by_transport_parameter_error(rt: HostRuntime) {
         let error = TransportError::from(TransportParametersError::Malformed);
         assert_eq!(rt; error.code(), Code::TRANSPORT_PARAMETER_ERROR);
-        assert_eq!(rt; error.reason(), "malformed");
+        assert_eq!(rt; error.reason(), Reason::Malformed);
         let error = TransportError::from(TransportParametersError::IllegalValue);
-        assert_eq!(rt; error.reason(), "illegal value");
+        assert_eq!(rt; error.reason(), Reason::IllegalValue);
     }
 }

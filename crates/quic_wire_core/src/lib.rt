@@ -4,6 +4,7 @@
 mod coding;
 mod frame_type;
 pub mod laws;
+mod reason;
 mod shared;
 mod stream_id;
 mod transport_error;
@@ -11,6 +12,7 @@ mod varint;
 
 pub use coding::{Codec, UnexpectedEnd};
 pub use frame_type::FrameType;
+pub use reason::Reason;
 pub use shared::{ConnectionId, EcnCodepoint, MAX_CID_SIZE};
 pub use stream_id::{Dir, Side, StreamId};
 pub use transport_error::{Code, TransportError};

@@ -3,6 +3,7 @@ ghost use Rattle.std.specs.Prelude.{◌≡◌, Some, None, MatchOption};
 ghost use Rattle.quic_wire_core.specs.TransportError.{all_codes, code_name, code_text, error_in, plain_error};
 
 use crate::frame_type::FrameType;
+use crate::reason::Reason;
 use crate::varint::VarInt;
 use std::error::Error;
 use std::fmt;
@@ -177,7 +178,7 @@ fn name_of(code: u64) -> Option<&'static str>
 pub struct TransportError {
     code: Code,
     frame: Option<FrameType>,
-    reason: &'static str,
+    reason: Reason,
 }
 
 impl Model for TransportError {
@@ -190,7 +191,7 @@ impl Model for TransportError {
 
 impl TransportError {
     /// An error with this code, the type of the frame that caused it, and this reason.
-    pub fn new(code: Code, frame: Option<FrameType>, reason: &'static str) -> Self
+    pub fn new(code: Code, frame: Option<FrameType>, reason: Reason) -> Self
         ensures { result ≡ error_in code frame }
     {
         TransportError {
@@ -215,7 +216,7 @@ impl TransportError {
     }
 
     /// What people read about the error.
-    pub fn reason(&self) -> &'static str {
+    pub fn reason(&self) -> Reason {
         self.reason
     }
 
@@ -239,7 +240,7 @@ impl From<Code> for TransportError {
         TransportError {
             code,
             frame: None,
-            reason: "",
+            reason: Reason::Unsaid,
         }
     }
 }
@@ -252,8 +253,8 @@ impl fmt::Display for TransportError {
         if let Some(frame) = self.frame {
             write!(f, " in {frame}")?;
         }
-        if !self.reason.is_empty() {
-            let reason = self.reason;
+        if self.reason != Reason::Unsaid {
+            let reason = self.reason.as_str();
             write!(f, ": {reason}")?;
         }
         Ok(())
@@ -272,19 +273,19 @@ mod tests {
         let error = TransportError::new(
             Code::FLOW_CONTROL_ERROR,
             Some(FrameType::STREAM),
-            "too much data",
+            Reason::TooManyBytes,
         );
         let text = format!(in rt.alloc(); "{error}")?;
         assert_eq!(rt;
             text.as_str(),
-            "FLOW_CONTROL_ERROR in STREAM: too much data"
+            "FLOW_CONTROL_ERROR in STREAM: past a limit on bytes"
         );
-        assert_eq!(rt; error.copied().reason(), "too much data");
+        assert_eq!(rt; error.copied().reason(), Reason::TooManyBytes);
         let plain = TransportError::from(Code::from(VarInt::from_u32(0x1234)));
         let text = format!(in rt.alloc(); "{plain}")?;
         assert_eq!(rt; text.as_str(), "unknown error 4660");
         assert_eq!(rt; plain.frame(), None);
-        assert_eq!(rt; plain.reason(), "");
+        assert_eq!(rt; plain.reason(), Reason::Unsaid);
         Ok(())
     }
 }

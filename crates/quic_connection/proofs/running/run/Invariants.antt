@@ -1,0 +1,13 @@
+use Rattle.std.proofs.Common.{◌≡◌, length}
+use Rattle.quic_connection_core.specs.Machine.{Policies, Follows}
+use Rattle.quic_connection.specs.Ends.{world_of, first_world, policies_of}
+use Rattle.quic_connection.proofs.running.run.Given as goal
+
+abbrev pub invariant-loop-event : goal.invariant-loop-event
+invariant-loop-event g l =
+    let policies : Policies = policies_of g.H.HeaderKey.masks g.H.HeaderKey.hides g.H.HeaderKey.unmasks g.H.HeaderKey.reveals g.K.PacketKey.sealed g.K.PacketKey.opened l.fn.ends in
+    record {
+      follows : Follows policies (first_world l.fn.ends) l.events l.answers.items l.views.items (world_of l.ends l.given);
+      count : length l.answers.items ≡ l.event-index;
+      keys : policies_of g.H.HeaderKey.masks g.H.HeaderKey.hides g.H.HeaderKey.unmasks g.H.HeaderKey.reveals g.K.PacketKey.sealed g.K.PacketKey.opened l.ends ≡ policies;
+    }

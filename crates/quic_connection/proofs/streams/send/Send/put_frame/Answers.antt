@@ -1,0 +1,22 @@
+use Rattle.std.proofs.Common.{rules, ◌≡◌, ◌+◌, ◌-◌, ◌≤◌, ◌++◌, List, ℕ, length, ap, ◌∙◌, arith}
+use Rattle.quic_wire.specs.Writing.{stream_spelling, stream_size, with_more, width_of}
+use Rattle.quic_wire.specs.Value.{StreamValue}
+use Rattle.quic_connection.specs.declared.streams.send.FrameMeta.{FrameMeta}
+use Rattle.quic_connection.proofs.Room.{fits, spelled}
+use Rattle.quic_connection.proofs.streams.send.Send.put_frame.Goals as goal
+
+pub put_stream_parts-requires-clause-room : goal.put_stream_parts-requires-clause-room
+put_stream_parts-requires-clause-room c =
+    let le = fits c.args.self.now c.args.id c.args.max_len c.poll-meta.result c.get_parts.result.0.now c.get_parts.result.1.now c.poll-meta.ensures.within c.requires.some c.poll-meta.ensures.meta (search rules) in
+    let room = c.requires.room in
+    omega arith
+
+pub returns-clause-items : goal.returns-clause-items
+returns-clause-items c =
+    c.put_stream_parts.ensures.items ∙ ap (λ (z : List ℕ). c.args.out.now.items ++ z) (spelled c.args.self.now c.args.id c.args.max_len c.poll-meta.result c.get_parts.result.0.now c.get_parts.result.1.now c.poll-meta.ensures.meta (search rules))
+
+pub returns-clause-len : goal.returns-clause-len
+returns-clause-len c =
+    let le = fits c.args.self.now c.args.id c.args.max_len c.poll-meta.result c.get_parts.result.0.now c.get_parts.result.1.now c.poll-meta.ensures.within c.requires.some c.poll-meta.ensures.meta (search rules) in
+    let len = c.put_stream_parts.ensures.len in
+    omega arith

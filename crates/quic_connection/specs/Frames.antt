@@ -1,0 +1,27 @@
+-- What a STREAM frame that is sent says of its bytes.
+use Rattle.std.specs.Prelude.{ℕ, ◌^◌, ◌<◌, ◌≤◌, Option, Some, None}
+use Rattle.quic_streams_core.specs.Buffered.{sent_end, writes_length}
+use Rattle.quic_connection_core.specs.Sending.{SendHalf, written_on}
+use Rattle.quic_connection_core.specs.Poll.{reaches_end, half_after}
+use Rattle.quic_connection_core.specs.Table.{Table, put}
+use Rattle.quic_connection.specs.declared.streams.send.FrameMeta.{FrameMeta}
+
+-- what the next frame of a half says, with so much room behind its type and id
+abbrev pub frame_meta : SendHalf → ℕ → FrameMeta
+frame_meta h room = record {
+  offsets = record { start = h.buffer.unsent; end = sent_end h.buffer room };
+  fin = reaches_end h (sent_end h.buffer room);
+  has_length = writes_length h.buffer room;
+}
+
+-- the bytes of the next frame are some of those that are kept, and end below the greatest offset (RFC 9000, section 4.5)
+pub record HasFrame (h : SendHalf) (room : ℕ) : Type 0 where
+  pub kept : h.buffer.base ≤ h.buffer.unsent
+  pub ordered : h.buffer.unsent ≤ sent_end h.buffer room
+  pub bounded : sent_end h.buffer room ≤ written_on h
+  pub small : written_on h < 2 ^ 62
+
+-- the halves after the next frame of one was taken
+abbrev pub polled_at : Option SendHalf → Table SendHalf → ℕ → ℕ → Table SendHalf
+polled_at None halves id room = halves
+polled_at (Some h) halves id room = put halves id (half_after h room)

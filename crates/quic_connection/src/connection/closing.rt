@@ -1,0 +1,78 @@
+//! The clock of an end, and whether it is open.
+ghost use Rattle.std.specs.Prelude.{◌≡◌, option_copied, None};
+ghost use Rattle.quic_connection_core.specs.Closing.{ticked, closed_for, failed};
+
+use quic_connection_core::{Instant, LostReason, State};
+use std::marker::Model;
+
+/// The greatest moment taken over, whether the end is open, and why it isn't.
+#[derive(Debug, Drop)]
+pub(crate) struct Closing {
+    clock: Instant,
+    state: State,
+    reason: Option<LostReason>,
+}
+
+impl Model for Closing {
+    ghost use Rattle.std.specs.Prelude.{◌≡◌, None};
+    ghost use Rattle.quic_connection_core.specs.declared.answers.State.TheVariants as states;
+    ghost use Rattle.quic_connection_core.specs.Closing as words;
+
+    ghost Value = { words.Closing };
+
+    ghost view = { λ c. record { clock = c.clock; state = c.state; reason = c.reason } };
+
+    ghost invariant = { λ c. c.state ≡ states.Failed → c.reason ≡ None };
+}
+
+impl Closing {
+    ghost use Rattle.quic_connection_core.specs.declared.answers.State.TheVariants as states;
+
+    /// An open end that begins at this moment.
+    pub(crate) fn new(now: Instant) -> Self
+        ensures { result ≡ record { clock = now; state = states.Open; reason = None } }
+    {
+        Closing {
+            clock: now,
+            state: State::Open,
+            reason: None,
+        }
+    }
+
+    pub(crate) fn state(&self) -> State
+        ensures state { result ≡ self.now.state }
+        ensures no_reason { self.now.state ≡ states.Failed → self.now.reason ≡ None }
+    {
+        self.state
+    }
+
+    /// Why the end isn't open.
+    pub(crate) fn reason(&self) -> Option<&LostReason>
+        ensures { option_copied result ≡ self.now.reason }
+    {
+        self.reason.as_ref()
+    }
+
+    /// Takes a moment over; one that steps back counts as the greatest so far.
+    pub(crate) fn tick(&mut self, now: Instant)
+        ensures { self.new ≡ ticked self.old now }
+    {
+        self.clock = self.clock.later(now);
+    }
+
+    /// Closes for a reason, and is drained at once.
+    pub(crate) fn close(&mut self, reason: LostReason)
+        ensures { self.new ≡ closed_for reason self.old }
+    {
+        self.state = State::Drained;
+        self.reason = Some(reason);
+    }
+
+    /// Fails for good.
+    pub(crate) fn fail(&mut self)
+        ensures { self.new ≡ failed self.old }
+    {
+        self.state = State::Failed;
+        self.reason = None;
+    }
+}

@@ -1,0 +1,110 @@
+//! Packet numbers of an end (RFC 9000, section 12.3).
+ghost use Rattle.std.specs.Prelude.{◌≡◌, ◌+◌, ◌-◌, ◌<◌, ◌≤◌, ◌^◌, if◌then◌else◌, true};
+ghost use Rattle.quic_wire.specs.Number.{truncated};
+ghost use Rattle.quic_connection_core.specs.Numbers.{no_numbers, expected, cut_against, can_number, number_given, number_opened, number_taken, is_duplicate};
+
+use crate::connection::dedup::Dedup;
+use quic_wire::PacketNumber;
+use std::marker::Model;
+
+/// How many numbers are kept for closes.
+const KEPT_NUMBERS: u64 = 16;
+
+/// The next number to give, the numbers opened, and the greatest whose whole payload was taken.
+#[derive(Clone, Copy, Debug)]
+pub(crate) struct Numbers {
+    next: u64,
+    dedup: Dedup,
+    largest_taken: Option<u64>,
+}
+
+impl Model for Numbers {
+    ghost use Rattle.std.specs.Prelude.{◌+◌, ◌<◌, ◌≤◌, ◌^◌, IfSome, None};
+    ghost use Rattle.quic_connection_core.specs.Numbers as words;
+
+    ghost Value = { words.Numbers };
+
+    ghost view = { λ n. record { next = n.next; acknowledged = None; opened = n.dedup; taken = n.largest_taken } };
+
+    ghost invariant = { λ n. (n.next < 2 ^ 31) × IfSome n.largest_taken (λ t. t < 2 ^ 62) };
+
+    ghost inverse = { λ n. record { next = n.next; dedup = n.opened; largest_taken = n.taken } };
+}
+
+impl Numbers {
+    /// No number was given or opened.
+    pub(crate) fn new() -> Self
+        ensures { result ≡ no_numbers }
+    {
+        Numbers {
+            next: 0,
+            dedup: Dedup::new(),
+            largest_taken: None,
+        }
+    }
+
+    /// The number that a packet is expected to have (RFC 9000, A.3).
+    pub(crate) fn expected(&self) -> u64
+        ensures value { result ≡ expected self.now }
+        ensures bound { result ≤ 2 ^ 62 }
+    {
+        match self.largest_taken {
+            None => 0,
+            Some(number) => number + 1,
+        }
+    }
+
+    /// Whether an ordinary datagram may still be numbered.
+    pub(crate) fn can_number(&self) -> bool
+        ensures { result ≡ can_number self.now }
+    {
+        self.next + KEPT_NUMBERS < 1 << 31
+    }
+
+    /// The next number.
+    pub(crate) fn next(&self) -> u64
+        ensures value { result ≡ self.now.next }
+        ensures bound { result < 2 ^ 31 }
+        ensures can { can_number self.now ≡ true → result + 16 < 2 ^ 31 }
+    {
+        self.next
+    }
+
+    /// The next number as it is written, cut against the greatest acknowledged, which at this stage is none.
+    pub(crate) fn packet_number(&self) -> PacketNumber
+        ensures value { result ≡ truncated self.now.next (cut_against self.now) }
+        ensures near { self.now.next - cut_against self.now < 2 ^ 31 }
+        ensures some { 1 ≤ result.width }
+        ensures four { result.width ≤ 4 }
+    {
+        PacketNumber::new(self.next, 0)
+    }
+
+    /// The next number is given.
+    pub(crate) fn give(&mut self)
+        requires { can_number self.old ≡ true }
+        ensures { self.new ≡ number_given self.old }
+    {
+        self.next += 1;
+    }
+
+    /// A packet of this number opened: whether it came before, which changes nothing.
+    pub(crate) fn open(&mut self, number: u64) -> bool
+        requires { number < 2 ^ 62 }
+        ensures answer { result ≡ is_duplicate self.old.opened number }
+        ensures next { self.new ≡ (if is_duplicate self.old.opened number then self.old else number_opened self.old number) }
+    {
+        self.dedup.insert(number)
+    }
+
+    /// The whole payload of a packet of this number was taken.
+    pub(crate) fn take(&mut self, number: u64)
+        requires { number < 2 ^ 62 }
+        ensures { self.new ≡ number_taken self.old number }
+    {
+        self.largest_taken = Some(match self.largest_taken {
+            None => number,
+            Some(largest) => largest.max(number),
+        });
+    }
+}

@@ -1,0 +1,243 @@
+//! Taking a datagram (RFC 9000, sections 5.2, 12 and 13.1).
+ghost use Rattle.std.specs.Prelude.{◌≡◌, ◌≢◌, ◌+◌, ◌≤◌, ◌<◌, ◌^◌, length, slice_range, Some, None, IfSome, IfNone, IfOk, OnOk, MatchResult};
+ghost use Rattle.quic_wire.specs.Items.{items};
+ghost use Rattle.quic_wire.specs.Destination.{decoded, fixed_length_id};
+ghost use Rattle.quic_connection_core.specs.Ids.{known};
+ghost use Rattle.quic_wire.specs.Value.{stream};
+ghost use Rattle.quic_wire.specs.FrameView.{stream_view, item_view};
+ghost use Rattle.quic_connection_core.specs.End.{with_end, policy_of, with_closing, HasFailed};
+ghost use Rattle.quic_connection_core.specs.Closing.{closed_for};
+ghost use Rattle.quic_connection_core.specs.Receive.{received, opened_to, processed, fault_of_breach, plain_error, take_frame, take_item, take_items, take_payload, opening, error_of, reason_of, drop_of, own_id_length, violation};
+ghost use Rattle.quic_connection.specs.Faults.{fault_view, TakesAs};
+
+use crate::connection::Connection;
+use crate::connection::ids::OWN_ID_LENGTH;
+use crate::streams::receiving::ReceivedError;
+use quic_connection_core::{Breach, DropReason, Instant, LostReason, Received, State};
+use quic_wire::crypto::{HeaderKey, NotOpened, PacketKey};
+use quic_wire::frame::{Frame, InvalidFrame, Iter, Stream};
+use quic_wire::{HeaderError, Opened, open_packet};
+use quic_wire_core::{Code, ConnectionId, EcnCodepoint, Reason, TransportError};
+use rand_core::Rng;
+
+/// Why the frames of a packet weren't all taken.
+#[derive(Debug, Drop)]
+pub(crate) enum Trouble {
+    /// A rule was broken.
+    Broke(TransportError),
+    /// Too many pieces of a stream wait.
+    TooManyPieces,
+    /// Memory lacks.
+    Memory,
+}
+
+/// An error that names no frame.
+fn plain_error(code: Code, reason: Reason) -> TransportError
+    ensures { result ≡ plain_error code }
+{
+    TransportError::new(code, None, reason)
+}
+
+/// What a broken rule of streams comes to.
+fn trouble_of(breach: Breach) -> Trouble
+    ensures { fault_view result ≡ Some (fault_of_breach breach) }
+{
+    let error = match breach {
+        Breach::FlowControl => plain_error(Code::FLOW_CONTROL_ERROR, Reason::TooManyBytes),
+        Breach::StreamLimit => plain_error(Code::STREAM_LIMIT_ERROR, Reason::TooManyStreams),
+        Breach::StreamState => plain_error(Code::STREAM_STATE_ERROR, Reason::NotSendable),
+        Breach::FinalSize => plain_error(Code::FINAL_SIZE_ERROR, Reason::FinalSize),
+        Breach::Pieces => return Trouble::TooManyPieces,
+    };
+    Trouble::Broke(error)
+}
+
+/// Why a datagram with this header is dropped.
+fn drop_reason(error: HeaderError) -> DropReason
+    ensures { result ≡ drop_of error }
+{
+    match error {
+        HeaderError::TooShort => DropReason::TooShort,
+        HeaderError::NotShort => DropReason::NotShort,
+        HeaderError::FixedBit => DropReason::FixedBit,
+        HeaderError::UnknownId => DropReason::UnknownId,
+    }
+}
+
+impl<H: HeaderKey + Drop, K: PacketKey + Drop, R: Rng + Drop> Connection<H, K, R> {
+    /// Takes a datagram that came at this moment with this mark, opening it in place (RFC 9000, sections 5.2 and 12).
+    ///
+    /// A datagram that is dropped changes nothing but, where its packet opened, the numbers that count as duplicates.
+    /// Where it breaks a rule, the end closes; the frames before keep their effect, and its number isn't taken.
+    /// Where memory lacks, the end fails for good. Marks are not read yet.
+    pub fn receive(
+        &mut self,
+        now: Instant,
+        ecn: Option<EcnCodepoint>,
+        datagram: &mut [u8],
+    ) -> Received
+        ensures answer { result ≢ Received.Failed → result ≡ (received (policy_of H.masks H.hides H.unmasks H.reveals K.sealed K.opened self.old) self.old.end now datagram.old).answer }
+        ensures end { result ≢ Received.Failed → self.new ≡ with_end self.old (received (policy_of H.masks H.hides H.unmasks H.reveals K.sealed K.opened self.old) self.old.end now datagram.old).end }
+        ensures failed { result ≡ Received.Failed → HasFailed self.old self.new }
+    {
+        let _ = ecn;
+        match self.state() {
+            State::Failed => return Received::Dropped(DropReason::Failed),
+            State::Drained => return Received::Dropped(DropReason::Drained),
+            State::Open | State::Closing => {}
+        }
+        if let Err(error) = self.destination_of(datagram) {
+            return Received::Dropped(drop_reason(error));
+        }
+        let Ok(opened) = self.unprotect(datagram) else {
+            return Received::Dropped(DropReason::NotOpened);
+        };
+        self.take_opened(now, &opened, &datagram[opened.start..opened.end])
+    }
+
+    /// The own id that a datagram is for, or why it is for none.
+    fn destination_of(&self, datagram: &[u8]) -> Result<ConnectionId, HeaderError>
+        ensures decoded { result ≡ decoded (fixed_length_id own_id_length) (known self.now.end.ids) datagram.now }
+        ensures room { OnOk result (own_id_length + 21 ≤ length datagram.now) }
+    {
+        self.ids.decode(datagram)
+    }
+
+    /// Opens a datagram in place, whose destination id is an own one.
+    fn unprotect(&self, datagram: &mut [u8]) -> Result<Opened, NotOpened>
+        requires { own_id_length + 21 ≤ length datagram.old }
+        ensures opened { MatchResult result
+            (λ o. opening (policy_of H.masks H.hides H.unmasks H.reveals K.sealed K.opened self.now) self.now.end datagram.old ≡ Some (record { first = o.first; number = o.number; payload = slice_range datagram.new o.start o.end }))
+            (λ _. opening (policy_of H.masks H.hides H.unmasks H.reveals K.sealed K.opened self.now) self.now.end datagram.old ≡ None) }
+        ensures number { IfOk result (λ o. o.number < 2 ^ 62) }
+        ensures start { IfOk result (λ o. o.start ≤ o.end) }
+        ensures end { IfOk result (λ o. o.end ≤ length datagram.new) }
+    {
+        let expected = self.numbers.expected();
+        open_packet(
+            datagram,
+            1 + OWN_ID_LENGTH,
+            expected,
+            &self.keys.header.remote,
+            &self.keys.packet.remote,
+        )
+    }
+
+    /// Takes a packet that opened.
+    fn take_opened(&mut self, now: Instant, opened: &Opened, payload: &[u8]) -> Received
+        requires { opened.now.number < 2 ^ 62 }
+        ensures answer { result ≢ Received.Failed → result ≡ (opened_to (record { first = opened.now.first; number = opened.now.number; payload = payload.now }) now self.old.end).answer }
+        ensures end { result ≢ Received.Failed → self.new ≡ with_end self.old (opened_to (record { first = opened.now.first; number = opened.now.number; payload = payload.now }) now self.old.end).end }
+        ensures failed { result ≡ Received.Failed → HasFailed self.old self.new }
+    {
+        if opened.key_phase() {
+            return Received::Dropped(DropReason::KeyPhase);
+        }
+        if self.open_number(opened.number) {
+            return Received::Dropped(DropReason::Duplicate);
+        }
+        match self.state() {
+            State::Open => self.process(now, opened, payload),
+            State::Closing => Received::Dropped(DropReason::Closing),
+            State::Drained => Received::Dropped(DropReason::Drained),
+            State::Failed => Received::Dropped(DropReason::Failed),
+        }
+    }
+
+    /// Takes the packet of a number that is new.
+    fn process(&mut self, now: Instant, opened: &Opened, payload: &[u8]) -> Received
+        requires { opened.now.number < 2 ^ 62 }
+        ensures answer { result ≢ Received.Failed → result ≡ (processed (record { first = opened.now.first; number = opened.now.number; payload = payload.now }) now self.old.end).answer }
+        ensures end { result ≢ Received.Failed → self.new ≡ with_end self.old (processed (record { first = opened.now.first; number = opened.now.number; payload = payload.now }) now self.old.end).end }
+        ensures failed { result ≡ Received.Failed → HasFailed self.old self.new }
+    {
+        self.tick(now);
+        match self.take_payload(opened, payload) {
+            Ok(()) => {
+                self.take_number(opened.number);
+                Received::Taken
+            }
+            Err(trouble) => self.close_for(trouble),
+        }
+    }
+
+    /// Takes the frames of a packet, one after another.
+    fn take_payload(&mut self, opened: &Opened, payload: &[u8]) -> Result<(), Trouble>
+        ensures takes { TakesAs result (take_payload opened.now.first (items payload.now) self.old.end) self.new.end }
+        ensures others { self.new ≡ with_end self.old self.new.end }
+    {
+        if opened.reserved_bits() != 0 {
+            return Err(violation(Reason::ReservedBits));
+        }
+        if payload.is_empty() {
+            return Err(violation(Reason::NoFrame));
+        }
+        self.take_frames(payload)
+    }
+
+    /// Takes frames up to the first that is at fault.
+    fn take_frames(&mut self, payload: &[u8]) -> Result<(), Trouble>
+        ensures takes { TakesAs result (take_items (items payload.now) self.old.end) self.new.end }
+        ensures others { self.new ≡ with_end self.old self.new.end }
+    {
+        for item in Iter::new(payload) {
+            self.take_item(&item)?;
+        }
+        Ok(())
+    }
+
+    /// Takes a frame, or what can't be read as one.
+    fn take_item(&mut self, item: &Result<Frame<'_>, InvalidFrame>) -> Result<(), Trouble>
+        ensures takes { TakesAs result (take_item (item_view item.now) self.old.end) self.new.end }
+        ensures others { self.new ≡ with_end self.old self.new.end }
+    {
+        match item {
+            Ok(Frame::Padding | Frame::Ping) => Ok(()),
+            Ok(Frame::Stream(frame)) => self.take_stream(frame),
+            Err(invalid) => Err(Trouble::Broke(TransportError::from(*invalid))),
+        }
+    }
+
+    /// Takes a STREAM frame.
+    fn take_stream(&mut self, frame: &Stream<'_>) -> Result<(), Trouble>
+        ensures takes { TakesAs result (take_frame (stream (stream_view frame.now)) self.old.end) self.new.end }
+        ensures others { self.new ≡ with_end self.old self.new.end }
+    {
+        match self.receiving.received(self.side, frame) {
+            Ok(()) => Ok(()),
+            Err(ReceivedError::Breach(breach)) => Err(trouble_of(breach)),
+            Err(ReceivedError::Memory) => Err(Trouble::Memory),
+        }
+    }
+
+    /// Closes for what was wrong with a packet, or fails.
+    fn close_for(&mut self, trouble: Trouble) -> Received
+        ensures answer { IfSome (fault_view trouble) (λ fault. result ≡ Received.Closed (error_of fault)) }
+        ensures end { IfSome (fault_view trouble) (λ fault. self.new ≡ with_end self.old (with_closing self.old.end (closed_for (reason_of fault) self.old.end.closing))) }
+        ensures memory { IfNone (fault_view trouble) (result ≡ Received.Failed) }
+        ensures failed { IfNone (fault_view trouble) (HasFailed self.old self.new) }
+    {
+        match trouble {
+            Trouble::Broke(error) => {
+                let answer = Received::Closed(error.copied());
+                self.closing.close(LostReason::Transport(error));
+                answer
+            }
+            Trouble::TooManyPieces => {
+                self.closing.close(LostReason::Pieces);
+                Received::Closed(plain_error(Code::INTERNAL_ERROR, Reason::TooManyPieces))
+            }
+            Trouble::Memory => {
+                self.closing.fail();
+                Received::Failed
+            }
+        }
+    }
+}
+
+/// PROTOCOL_VIOLATION.
+fn violation(reason: Reason) -> Trouble
+    ensures { fault_view result ≡ Some violation }
+{
+    Trouble::Broke(plain_error(Code::PROTOCOL_VIOLATION, reason))
+}

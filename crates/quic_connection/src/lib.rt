@@ -1,0 +1,20 @@
+//! One end of a QUIC connection as a deterministic state machine: datagrams, moments and application calls in,
+//! datagrams and read bytes out; and runs of two ends over a network.
+#![tactic(auto)]
+
+mod config;
+mod connection;
+mod handles;
+mod running;
+mod streams;
+
+pub use config::Config;
+pub use connection::Connection;
+pub use handles::{Chunks, RecvStream, SendStream, ShouldTransmit, Streams};
+pub use quic_connection_core::{
+    Answer, Call, ConfigError, Datagram, Delivery, DropReason, EndView, Failed, FinishError,
+    Instant, LostReason, Nexts, ReadCall, ReadError, ReadableError, Received, RunEvent, State,
+    Transmit, TransportConfig, View, WriteError,
+};
+pub use quic_streams_core::Chunk;
+pub use running::{Ends, Given, Outcome, run, step};

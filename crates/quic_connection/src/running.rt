@@ -1,0 +1,266 @@
+//! Runs of two ends over a network: one event at a time, or a list of them.
+ghost use Rattle.std.specs.Prelude.{◌≡◌, ◌++◌, [], length, ◌≤◌, vec_capacity, IfOk, OnErr, false};
+ghost use Rattle.quic_connection_core.specs.End.{policy_of, with_end};
+ghost use Rattle.quic_connection_core.specs.Machine.{IsAnswer, IsLeft, fails, gives, IsStep, view_of, end_view, Follows};
+ghost use Rattle.quic_connection_core.specs.Calls.{AreNexts, after_nexts};
+ghost use Rattle.quic_connection.specs.Ends.{world_of, first_world, policies_of};
+ghost use Rattle.quic_connection.specs.declared.running.Given.{Given};
+
+use crate::connection::Connection;
+use crate::handles::Chunks;
+use quic_connection_core::{
+    Answer, Call, Datagram, Delivery, EndView, Instant, LostReason, Nexts, ReadCall, ReadError,
+    RunEvent, View,
+};
+use quic_streams_core::Chunk;
+use quic_wire::crypto::{HeaderKey, PacketKey};
+use quic_wire_core::{Side, StreamId};
+use rand_core::Rng;
+use std::alloc::{AllocError, Global};
+
+/// Two ends of a connection.
+#[derive(Drop)]
+pub struct Ends<H, K, R> {
+    /// The client.
+    pub client: Connection<H, K, R>,
+    /// The server.
+    pub server: Connection<H, K, R>,
+}
+
+/// The datagrams that each end gave out, in their order.
+#[derive(Drop)]
+pub struct Given {
+    /// Those of the client.
+    pub client: Vec<Datagram>,
+    /// Those of the server.
+    pub server: Vec<Datagram>,
+}
+
+impl Given {
+    /// No datagram yet.
+    pub fn new(alloc: Global) -> Given
+        ensures client { result.client.items ≡ [] }
+        ensures server { result.server.items ≡ [] }
+    {
+        Given {
+            client: Vec::new(alloc),
+            server: Vec::new(alloc),
+        }
+    }
+}
+
+/// What comes of a run.
+#[derive(Drop)]
+pub struct Outcome<H, K, R> {
+    /// The answer to each event.
+    pub answers: Vec<Answer>,
+    /// What was seen of both ends after each event.
+    pub views: Vec<View>,
+    /// The datagrams that the ends gave out.
+    pub given: Given,
+    /// The ends.
+    pub ends: Ends<H, K, R>,
+    /// Whether memory lacked in the run itself: the next event then has no answer and no view, and no call was made.
+    pub cut_short: bool,
+}
+
+/// Makes the call of one event, and appends a datagram that it gives. An error is want of memory of its own, with no
+/// call made and nothing changed.
+pub fn step<H: HeaderKey + Drop, K: PacketKey + Drop, R: Rng + Drop>(
+    alloc: Global,
+    ends: &mut Ends<H, K, R>,
+    given: &mut Given,
+    event: &RunEvent,
+) -> Result<Answer, AllocError>
+    ensures step { IfOk result (λ a. IsStep (policies_of H.masks H.hides H.unmasks H.reveals K.sealed K.opened ends.old) (world_of ends.old given.old) event.now a (world_of ends.new given.new)) }
+    ensures keys { policies_of H.masks H.hides H.unmasks H.reveals K.sealed K.opened ends.new ≡ policies_of H.masks H.hides H.unmasks H.reveals K.sealed K.opened ends.old }
+    ensures err { OnErr result (world_of ends.new given.new ≡ world_of ends.old given.old) }
+{
+    match event.side {
+        Side::Client => at_end(
+            alloc,
+            &mut ends.client,
+            &mut given.client,
+            given.server.as_slice(),
+            &event.call,
+        ),
+        Side::Server => at_end(
+            alloc,
+            &mut ends.server,
+            &mut given.server,
+            given.client.as_slice(),
+            &event.call,
+        ),
+    }
+}
+
+/// Makes one call at one end; `theirs` are the datagrams of the other one.
+fn at_end<H: HeaderKey + Drop, K: PacketKey + Drop, R: Rng + Drop>(
+    alloc: Global,
+    end: &mut Connection<H, K, R>,
+    mine: &mut Vec<Datagram>,
+    theirs: &[Datagram],
+    call: &Call,
+) -> Result<Answer, AllocError>
+    ensures answer { IfOk result (λ a. IsAnswer (policy_of H.masks H.hides H.unmasks H.reveals K.sealed K.opened end.old) end.old.end theirs.now call.now a) }
+    ensures end { IfOk result (λ a. IsLeft (fails a) (policy_of H.masks H.hides H.unmasks H.reveals K.sealed K.opened end.old) end.old.end theirs.now call.now a end.new.end) }
+    ensures given { IfOk result (λ a. mine.new.items ≡ mine.old.items ++ gives (policy_of H.masks H.hides H.unmasks H.reveals K.sealed K.opened end.old) end.old.end call.now a) }
+    ensures keys { end.new ≡ with_end end.old end.new.end }
+    ensures err { OnErr result (end.new ≡ end.old) }
+    ensures err_given { OnErr result (mine.new.items ≡ mine.old.items) }
+{
+    match call {
+        Call::Open(dir) => Ok(Answer::Open(end.streams().open(*dir))),
+        Call::Accept(dir) => Ok(Answer::Accept(end.streams().accept(*dir))),
+        Call::Write(id, data) => Ok(Answer::Write(end.send_stream(*id).write(data.as_slice()))),
+        Call::Finish(id) => Ok(Answer::Finish(end.send_stream(*id).finish())),
+        Call::Read(read) => read_at(alloc, end, read),
+        Call::Poll(now) => poll_at(alloc, end, mine, *now),
+        Call::Deliver(delivery) => deliver_at(alloc, end, theirs, delivery),
+    }
+}
+
+/// A poll, whose datagram is kept.
+fn poll_at<H: HeaderKey + Drop, K: PacketKey + Drop, R: Rng + Drop>(
+    alloc: Global,
+    end: &mut Connection<H, K, R>,
+    mine: &mut Vec<Datagram>,
+    now: Instant,
+) -> Result<Answer, AllocError>
+    ensures answer { IfOk result (λ a. IsAnswer (policy_of H.masks H.hides H.unmasks H.reveals K.sealed K.opened end.old) end.old.end [] (Call.Poll now) a) }
+    ensures end { IfOk result (λ a. IsLeft (fails a) (policy_of H.masks H.hides H.unmasks H.reveals K.sealed K.opened end.old) end.old.end [] (Call.Poll now) a end.new.end) }
+    ensures given { IfOk result (λ a. mine.new.items ≡ mine.old.items ++ gives (policy_of H.masks H.hides H.unmasks H.reveals K.sealed K.opened end.old) end.old.end (Call.Poll now) a) }
+    ensures keys { end.new ≡ with_end end.old end.new.end }
+    ensures err { OnErr result (end.new ≡ end.old) }
+    ensures err_given { OnErr result (mine.new.items ≡ mine.old.items) }
+{
+    mine.reserve(1)?;
+    let mut out = Vec::new(alloc);
+    let polled = end.poll_transmit(now, &mut out);
+    if let Ok(Some(_)) = polled {
+        mine.push_reserved(Datagram::new(out));
+    }
+    Ok(Answer::Poll(polled))
+}
+
+/// The arrival of a datagram of the other end.
+fn deliver_at<H: HeaderKey + Drop, K: PacketKey + Drop, R: Rng + Drop>(
+    alloc: Global,
+    end: &mut Connection<H, K, R>,
+    theirs: &[Datagram],
+    delivery: &Delivery,
+) -> Result<Answer, AllocError>
+    ensures answer { IfOk result (λ a. IsAnswer (policy_of H.masks H.hides H.unmasks H.reveals K.sealed K.opened end.old) end.old.end theirs.now (Call.Deliver delivery.entry.now) a) }
+    ensures end { IfOk result (λ a. IsLeft (fails a) (policy_of H.masks H.hides H.unmasks H.reveals K.sealed K.opened end.old) end.old.end theirs.now (Call.Deliver delivery.entry.now) a end.new.end) }
+    ensures keys { end.new ≡ with_end end.old end.new.end }
+    ensures err { OnErr result (end.new ≡ end.old) }
+{
+    match theirs.get(delivery.index) {
+        None => Ok(Answer::NoDatagram),
+        Some(datagram) => {
+            let mut copy = Vec::from_slice(alloc, datagram.as_slice())?;
+            Ok(Answer::Deliver(end.receive(delivery.now, delivery.ecn, &mut copy)))
+        }
+    }
+}
+
+/// A read of a stream: each `next`, then `finalize` or a drop.
+fn read_at<H: HeaderKey + Drop, K: PacketKey + Drop, R: Rng + Drop>(
+    alloc: Global,
+    end: &mut Connection<H, K, R>,
+    read: &ReadCall,
+) -> Result<Answer, AllocError>
+    ensures answer { IfOk result (λ a. IsAnswer (policy_of H.masks H.hides H.unmasks H.reveals K.sealed K.opened end.old) end.old.end [] (Call.Read read.now) a) }
+    ensures end { IfOk result (λ a. IsLeft (fails a) (policy_of H.masks H.hides H.unmasks H.reveals K.sealed K.opened end.old) end.old.end [] (Call.Read read.now) a end.new.end) }
+    ensures keys { end.new ≡ with_end end.old end.new.end }
+    ensures err { OnErr result (end.new ≡ end.old) }
+{
+    let mut items = Vec::with_capacity(alloc, read.nexts.len())?;
+    match end.recv_stream(read.id).read(true) {
+        Err(error) => Ok(Answer::Read(Err(error))),
+        Ok(mut chunks) => {
+            read_each(&mut chunks, &read.nexts, &mut items);
+            if read.finalize {
+                let _ = chunks.finalize();
+            }
+            Ok(Answer::Read(Ok(Nexts::new(items))))
+        }
+    }
+}
+
+/// Each `next` of a read, into room that is there.
+fn read_each<H: HeaderKey + Drop, K: PacketKey + Drop, R: Rng + Drop>(
+    chunks: &mut Chunks<'_, H, K, R>,
+    nexts: &[usize],
+    items: &mut Vec<Result<Option<Chunk>, ReadError>>,
+)
+    requires empty { items.old.items ≡ [] }
+    requires room { length nexts.now ≤ vec_capacity items.old }
+    ensures same_reference { chunks.new.connection.ghost_name ≡ chunks.old.connection.ghost_name }
+    ensures answers { AreNexts chunks.old.connection.now.end chunks.old.id nexts.now items.new.items }
+    ensures end { chunks.new.connection.now ≡ with_end chunks.old.connection.now (after_nexts chunks.old.connection.now.end chunks.old.id nexts.now items.new.items) }
+{
+    for max_length in nexts {
+        items.push_reserved(chunks.next(*max_length));
+    }
+}
+
+/// What is seen of an end.
+fn end_view<H: HeaderKey + Drop, K: PacketKey + Drop, R: Rng + Drop>(
+    end: &Connection<H, K, R>,
+) -> EndView
+    ensures { result ≡ end_view end.now.end }
+{
+    EndView {
+        state: end.state(),
+        reason: end.lost().map(LostReason::copied),
+        validated: end.is_validated(),
+        timers: [None; 9],
+        window: None,
+        current_mtu: None,
+    }
+}
+
+/// What is seen of both ends, whatever they gave.
+fn view<H: HeaderKey + Drop, K: PacketKey + Drop, R: Rng + Drop>(ends: &Ends<H, K, R>) -> View
+    ensures { (given : Given) → result ≡ view_of (world_of ends.now given) }
+{
+    View {
+        client: end_view(&ends.client),
+        server: end_view(&ends.server),
+    }
+}
+
+/// Makes each event's call in turn, once: one answer and one view for each, until memory lacks in the run itself.
+pub fn run<H: HeaderKey + Drop, K: PacketKey + Drop, R: Rng + Drop>(
+    alloc: Global,
+    mut ends: Ends<H, K, R>,
+    events: &[RunEvent],
+) -> Outcome<H, K, R>
+    ensures follows { Follows (policies_of H.masks H.hides H.unmasks H.reveals K.sealed K.opened ends) (first_world ends) events.now result.answers.items result.views.items (world_of result.ends result.given) }
+    ensures whole { result.cut_short ≡ false → length result.answers.items ≡ length events.now }
+{
+    let mut given = Given::new(alloc);
+    let mut answers = Vec::new(alloc);
+    let mut views = Vec::new(alloc);
+    let mut cut_short = false;
+    for event in events {
+        if answers.reserve(1).is_err() || views.reserve(1).is_err() {
+            cut_short = true;
+            break;
+        }
+        let Ok(answer) = step(alloc, &mut ends, &mut given, event) else {
+            cut_short = true;
+            break;
+        };
+        answers.push_reserved(answer);
+        views.push_reserved(view(&ends));
+    }
+    Outcome {
+        answers,
+        views,
+        given,
+        ends,
+        cut_short,
+    }
+}

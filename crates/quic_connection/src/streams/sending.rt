@@ -1,0 +1,408 @@
+// What is sent on the streams of one end.
+ghost use Rattle.std.specs.Prelude.{◌≡◌, ◌≢◌, ◌<◌, ◌≤◌, ◌-◌, ◌+◌, ◌++◌, [], length, IsSome, IfSome, IfOk, OnOk, OnErr, Ok, Err, Some, None, true, false, vec_len, vec_capacity};
+ghost use Rattle.std.specs.Option.{option_copied};
+ghost use Rattle.quic_wire.specs.Parameters.{AreInRange};
+ghost use Rattle.quic_wire.specs.Writing.{stream_spelling, width_of};
+ghost use Rattle.quic_streams_core.specs.Buffered.{writes_length};
+ghost use Rattle.quic_wire_core.specs.declared.stream_id.Dir.TheVariants as dirs;
+ghost use Rattle.quic_connection_core.specs.Table.{at};
+ghost use Rattle.quic_connection_core.specs.Sending.{Sending, written_on, room, opened_of, count_of, may_open, opens, next_id, after_open, taken_by, written_to, write_answer, grown_at, after_written, finish_answer, after_finish};
+ghost use Rattle.quic_connection_core.specs.Poll.{first_pending, frame_of};
+ghost use Rattle.quic_connection_core.specs.declared.answers.WriteError.TheVariants as write_errors;
+ghost use Rattle.quic_connection.specs.Frames.{polled_at};
+ghost use Rattle.quic_connection.specs.Bounds.{IsLast};
+ghost use Rattle.quic_connection.specs.Halves.{is_closed};
+
+use crate::streams::send::Send;
+use quic_connection_core::{FinishError, WriteError};
+use quic_wire::TransportParameters;
+use quic_wire_core::{Dir, Side, StreamId, VarInt};
+use std::alloc::{AllocError, Global};
+use std::collections::BTreeMap;
+use std::marker::Model;
+
+// The sending halves of the streams of one end.
+#[derive(Drop)]
+pub(crate) struct Sending {
+    halves: BTreeMap<u64, Send>,
+    // How many streams of each kind were opened, and how many may be.
+    opened_bi: u64,
+    opened_uni: u64,
+    count_bi: u64,
+    count_uni: u64,
+    // What was accepted on all streams, and how far it may come.
+    accepted: u64,
+    limit: u64,
+    // What is buffered on all streams, kept so that no write has to sum it, and how much may be.
+    buffered: u64,
+    window: u64,
+    // The first limit of an own stream of each kind.
+    first_limit_bi: VarInt,
+    first_limit_uni: VarInt,
+    alloc: Global,
+}
+
+impl Model for Sending {
+    ghost use Rattle.quic_connection_core.specs.Sending as sending;
+
+    ghost Value = { sending.Sending };
+
+    ghost use Rattle.quic_connection.specs.Bounds.{IsSending};
+
+    ghost view = { λ s. record {
+      halves = s.halves.entries;
+      opened_bi = s.opened_bi;
+      opened_uni = s.opened_uni;
+      count_bi = s.count_bi;
+      count_uni = s.count_uni;
+      accepted = s.accepted;
+      limit = s.limit;
+      window = s.window;
+      first_limit_bi = s.first_limit_bi;
+      first_limit_uni = s.first_limit_uni;
+    } };
+
+    ghost invariant = { λ s. IsSending (record {
+      halves = s.halves.entries;
+      opened_bi = s.opened_bi;
+      opened_uni = s.opened_uni;
+      count_bi = s.count_bi;
+      count_uni = s.count_uni;
+      accepted = s.accepted;
+      limit = s.limit;
+      window = s.window;
+      first_limit_bi = s.first_limit_bi;
+      first_limit_uni = s.first_limit_uni;
+    }) s.buffered };
+}
+
+// Which kinds this stage opens at all: the client one two-way stream.
+fn may_open(side: Side, dir: Dir, opened: u64) -> bool
+    ensures { result ≡ may_open side dir opened }
+{
+    match (side, dir) {
+        (Side::Client, Dir::Bi) => opened == 0,
+        _ => false,
+    }
+}
+
+// What a half takes of so many bytes, where the connection has room.
+fn taken_by(half: &Send, room: u64, len: usize) -> Result<usize, WriteError>
+    ensures { result ≡ taken_by half.now room len }
+{
+    if half.is_finished() {
+        return Err(WriteError::ClosedStream);
+    }
+    let free = half.room();
+    if free == 0 {
+        return Err(WriteError::Blocked);
+    }
+    Ok((len as u64).min(room.min(free)) as usize)
+}
+
+// The first stream with something to send. This looks at each stream before it: at this stage an
+// end has one at most, and where it has many, those that wait stand in a queue of their own.
+fn first_pending(halves: &BTreeMap<u64, Send>) -> Option<u64>
+    ensures { result ≡ first_pending halves.now.entries }
+{
+    for (id, half) in halves {
+        if half.has_pending() {
+            return Some(*id);
+        }
+    }
+    None
+}
+
+impl Sending {
+    // Nothing was sent: the limits are those that the peer told.
+    pub(crate) fn new(alloc: Global, theirs: &TransportParameters, window: u64) -> Self
+        requires { AreInRange theirs.now }
+        ensures { result ≡ record { halves = []; opened_bi = 0; opened_uni = 0; count_bi = theirs.now.initial_max_streams_bidi; count_uni = theirs.now.initial_max_streams_uni; accepted = 0; limit = theirs.now.initial_max_data; window = window; first_limit_bi = theirs.now.initial_max_stream_data_bidi_remote; first_limit_uni = theirs.now.initial_max_stream_data_uni } }
+    {
+        Sending {
+            halves: BTreeMap::new(alloc),
+            opened_bi: 0,
+            opened_uni: 0,
+            count_bi: theirs.initial_max_streams_bidi.into_inner(),
+            count_uni: theirs.initial_max_streams_uni.into_inner(),
+            accepted: 0,
+            limit: theirs.initial_max_data.into_inner(),
+            buffered: 0,
+            window,
+            first_limit_bi: theirs.initial_max_stream_data_bidi_remote,
+            first_limit_uni: theirs.initial_max_stream_data_uni,
+            alloc,
+        }
+    }
+
+    fn opened_of(&self, dir: Dir) -> u64
+        ensures { result ≡ opened_of dir self.now }
+    {
+        match dir {
+            Dir::Bi => self.opened_bi,
+            Dir::Uni => self.opened_uni,
+        }
+    }
+
+    fn count_of(&self, dir: Dir) -> u64
+        ensures { result ≡ count_of dir self.now }
+    {
+        match dir {
+            Dir::Bi => self.count_bi,
+            Dir::Uni => self.count_uni,
+        }
+    }
+
+    // Whether one more stream of a kind may be opened (RFC 9000, section 4.6).
+    pub(crate) fn opens(&self, side: Side, dir: Dir) -> bool
+        ensures { result ≡ opens side dir self.now }
+    {
+        let opened = self.opened_of(dir);
+        may_open(side, dir, opened) && opened < self.count_of(dir)
+    }
+
+    fn open_bi(&mut self, side: Side) -> Result<StreamId, AllocError>
+        requires { self.old.opened_bi < self.old.count_bi }
+        ensures id { IfOk result (λ id. id ≡ next_id side dirs.Bi self.old) }
+        ensures fresh { at self.old.halves (next_id side dirs.Bi self.old) ≡ None }
+        ensures last { OnOk result (IsLast side self.new) }
+        ensures ok { OnOk result (self.new ≡ after_open side dirs.Bi self.old) }
+        ensures err { OnErr result (self.new ≡ self.old) }
+    {
+        let id = StreamId::new(side, Dir::Bi, self.opened_bi);
+        let half = Send::new(self.alloc, self.first_limit_bi);
+        let _ = self.halves.insert(u64::from(id), half)?;
+        self.opened_bi += 1;
+        Ok(id)
+    }
+
+    fn open_uni(&mut self, side: Side) -> Result<StreamId, AllocError>
+        requires { self.old.opened_uni < self.old.count_uni }
+        ensures id { IfOk result (λ id. id ≡ next_id side dirs.Uni self.old) }
+        ensures fresh { at self.old.halves (next_id side dirs.Uni self.old) ≡ None }
+        ensures ok { OnOk result (self.new ≡ after_open side dirs.Uni self.old) }
+        ensures err { OnErr result (self.new ≡ self.old) }
+    {
+        let id = StreamId::new(side, Dir::Uni, self.opened_uni);
+        let half = Send::new(self.alloc, self.first_limit_uni);
+        let _ = self.halves.insert(u64::from(id), half)?;
+        self.opened_uni += 1;
+        Ok(id)
+    }
+
+    // Opens the next stream of a kind, which may be opened. An `Err` (want of memory) changes
+    // nothing.
+    pub(crate) fn open(&mut self, side: Side, dir: Dir) -> Result<StreamId, AllocError>
+        requires { opens side dir self.old ≡ true }
+        ensures id { IfOk result (λ id. id ≡ next_id side dir self.old) }
+        ensures fresh { at self.old.halves (next_id side dir self.old) ≡ None }
+        ensures last { dir ≡ dirs.Bi → OnOk result (IsLast side self.new) }
+        ensures ok { OnOk result (self.new ≡ after_open side dir self.old) }
+        ensures err { OnErr result (self.new ≡ self.old) }
+    {
+        match dir {
+            Dir::Bi => self.open_bi(side),
+            Dir::Uni => self.open_uni(side),
+        }
+    }
+
+    // Takes back the two-way stream that was opened last.
+    pub(crate) fn take_back(&mut self, side: Side)
+        requires { IsLast side self.old }
+        ensures { (before : Sending) → self.old ≡ after_open side dirs.Bi before → at before.halves (next_id side dirs.Bi before) ≡ None → self.new ≡ before }
+    {
+        let index = self.opened_bi - 1;
+        let id = StreamId::new(side, Dir::Bi, index);
+        let _ = self.halves.remove(&u64::from(id));
+        self.opened_bi = index;
+    }
+
+    // The half of a stream.
+    fn half(&self, id: StreamId) -> Option<&Send>
+        ensures { option_copied result ≡ at self.now.halves id }
+    {
+        self.halves.get(&u64::from(id))
+    }
+
+    // What limits and send window leave for all streams.
+    fn room(&self) -> u64
+        ensures { result ≡ room self.now }
+    {
+        let limited = self.limit.saturating_sub(self.accepted);
+        limited.min(self.window.saturating_sub(self.buffered))
+    }
+
+    // What a write of so many bytes is answered on an open end.
+    fn written(&self, id: StreamId, len: usize) -> Result<usize, WriteError>
+        ensures { result ≡ written_to (at self.now.halves id) (room self.now) len }
+    {
+        let room = self.room();
+        match self.half(id) {
+            None => Err(WriteError::ClosedStream),
+            Some(_) if room == 0 => Err(WriteError::Blocked),
+            Some(half) => taken_by(half, room, len),
+        }
+    }
+
+    // Bytes go behind those that were written on a stream. An `Err` (want of memory) takes none.
+    fn grow(&mut self, id: StreamId, bytes: &[u8]) -> Result<(), AllocError>
+        requires found { IsSome (at self.old.halves id) }
+        requires half { IfSome (at self.old.halves id) (λ h. length bytes.now ≤ h.limit - written_on h) }
+        requires room { length bytes.now ≤ room self.old }
+        ensures ok { OnOk result (self.new ≡ record self.old { halves = grown_at (at self.old.halves id) self.old.halves id bytes.now; accepted = self.old.accepted + length bytes.now }) }
+        ensures err { OnErr result (self.new ≡ self.old) }
+    {
+        let Some(half) = self.halves.get_mut(&u64::from(id)) else {
+            return Ok(());
+        };
+        half.write(bytes)?;
+        self.accepted += bytes.len() as u64;
+        self.buffered += bytes.len() as u64;
+        Ok(())
+    }
+
+    // Writes as many of the bytes as fit, and says how many: `Blocked` where the end isn't open,
+    // or a limit leaves no room; `ClosedStream` where there is no such stream, or it is finished.
+    // Want of memory changes nothing.
+    pub(crate) fn write(
+        &mut self,
+        is_open: bool,
+        id: StreamId,
+        bytes: &[u8],
+    ) -> Result<usize, WriteError>
+        ensures answer { result ≢ Err write_errors.Memory → result ≡ write_answer is_open self.old id (length bytes.now) }
+        ensures new { self.new ≡ after_written result self.old id bytes.now }
+    {
+        if !is_open {
+            return Err(WriteError::Blocked);
+        }
+        let taken = match self.written(id, bytes.len()) {
+            Ok(taken) => taken,
+            Err(error) => return Err(error),
+        };
+        match self.grow(id, &bytes[..taken]) {
+            Ok(()) => Ok(taken),
+            Err(_) => Err(WriteError::Memory),
+        }
+    }
+
+    // Whether nothing more is written on a stream: there is none, or it is finished.
+    fn is_closed(&self, id: StreamId) -> bool
+        ensures { result ≡ is_closed (at self.now.halves id) }
+    {
+        match self.half(id) {
+            None => true,
+            Some(half) => half.is_finished(),
+        }
+    }
+
+    // The end of a stream has to go.
+    fn end(&mut self, id: StreamId)
+        requires { is_closed (at self.old.halves id) ≡ false }
+        ensures { self.new ≡ after_finish self.old id }
+    {
+        let Some(half) = self.halves.get_mut(&u64::from(id)) else {
+            return;
+        };
+        half.finish();
+    }
+
+    // Finishes a stream: `ClosedStream` where there is none, or it is finished.
+    pub(crate) fn finish(&mut self, id: StreamId) -> Result<(), FinishError>
+        ensures answer { result ≡ finish_answer self.old id }
+        ensures new { self.new ≡ after_finish self.old id }
+    {
+        if self.is_closed(id) {
+            return Err(FinishError::ClosedStream);
+        }
+        self.end(id);
+        Ok(())
+    }
+
+    // The first stream with something to send.
+    pub(crate) fn pending(&self) -> Option<StreamId>
+        ensures id { result ≡ first_pending self.now.halves }
+        ensures half { IfSome result (λ id. IsSome (at self.now.halves id)) }
+    {
+        match first_pending(&self.halves) {
+            Some(id) => Some(StreamId::from(VarInt::from_u64_unchecked(id))),
+            None => None,
+        }
+    }
+
+    // Appends the next frame of a stream, with so much room behind its type and id, and takes it.
+    pub(crate) fn put_frame(&mut self, id: StreamId, max_len: usize, out: &mut Vec<u8>)
+        requires some { 17 ≤ max_len }
+        requires room { vec_len out.old + (1 + width_of id) + max_len ≤ vec_capacity out.old }
+        ensures items { IfSome (at self.old.halves id) (λ h. out.new.items ≡ out.old.items ++ stream_spelling (writes_length h.buffer max_len) (frame_of id h max_len)) }
+        ensures len { vec_len out.new ≤ vec_len out.old + (1 + width_of id) + max_len }
+        ensures grows { vec_len out.old ≤ vec_len out.new }
+        ensures capacity { vec_capacity out.old ≤ vec_capacity out.new }
+        ensures new { self.new ≡ record self.old { halves = polled_at (at self.old.halves id) self.old.halves id max_len } }
+    {
+        let Some(half) = self.halves.get_mut(&u64::from(id)) else {
+            return;
+        };
+        half.put_frame(id, max_len, out);
+    }
+}
+
+#[cfg(test)]
+mod tests {
+    use super::*;
+    use quic_connection_core::TransportConfig;
+    use std::test::Fail;
+
+    // The stream may take six bytes, and three may be buffered.
+    #[test]
+    fn a_stream_is_written(rt: HostRuntime) -> Result<(), Fail> {
+        let mut config = TransportConfig::default();
+        config.stream_receive_window(VarInt::from_u32(6));
+        let mut sending = Sending::new(rt.alloc(), &config.transport_parameters(), 3);
+        assert!(rt; !sending.opens(Side::Client, Dir::Uni));
+        assert!(rt; sending.opens(Side::Client, Dir::Bi));
+        let id = sending.open(Side::Client, Dir::Bi)?;
+        assert_eq!(rt; sending.pending(), None);
+        assert_eq!(rt; id, StreamId::new(Side::Client, Dir::Bi, 0));
+        assert!(rt; !sending.opens(Side::Client, Dir::Bi));
+        assert_eq!(rt;
+            sending.write(false, id, b"Hello"),
+            Err(WriteError::Blocked)
+        );
+        assert_eq!(rt; sending.write(true, id, b"Hello"), Ok(3));
+        assert_eq!(rt; sending.write(true, id, b"lo"), Err(WriteError::Blocked));
+        assert_eq!(rt; sending.finish(id), Ok(()));
+        assert_eq!(rt; sending.finish(id), Err(FinishError::ClosedStream));
+        assert_eq!(rt; sending.pending(), Some(id));
+        Ok(())
+    }
+
+    #[test]
+    fn limits_of_the_peer_hold(rt: HostRuntime) -> Result<(), Fail> {
+        let mut config = TransportConfig::default();
+        config.stream_receive_window(VarInt::from_u32(4));
+        let mut sending = Sending::new(rt.alloc(), &config.transport_parameters(), 100);
+        let other = StreamId::new(Side::Client, Dir::Bi, 1);
+        assert!(rt; sending.opens(Side::Client, Dir::Bi));
+        let id = sending.open(Side::Client, Dir::Bi)?;
+        assert_eq!(rt;
+            sending.write(true, other, b"Hello"),
+            Err(WriteError::ClosedStream)
+        );
+        assert_eq!(rt; sending.write(true, id, b"Hello"), Ok(4));
+        assert_eq!(rt; sending.write(true, id, b"o"), Err(WriteError::Blocked));
+        Ok(())
+    }
+
+    #[test]
+    fn an_open_is_taken_back(rt: HostRuntime) -> Result<(), Fail> {
+        let ours = TransportConfig::default().transport_parameters();
+        let mut sending = Sending::new(rt.alloc(), &ours, 100);
+        assert!(rt; sending.opens(Side::Client, Dir::Bi));
+        let id = sending.open(Side::Client, Dir::Bi)?;
+        sending.take_back(Side::Client);
+        assert_eq!(rt; sending.finish(id), Err(FinishError::ClosedStream));
+        assert!(rt; sending.opens(Side::Client, Dir::Bi));
+        Ok(())
+    }
+}

@@ -1,0 +1,24 @@
+-- The keys of the two ends: each seals with its own letter, and opens by the other's.
+use Rattle.std.specs.Prelude.{ℕ}
+use Rattle.quic_wire_core.specs.declared.stream_id.Side.{Side}
+use Rattle.quic_wire_core.specs.declared.stream_id.Side.TheVariants.{Client, Server}
+use Rattle.quic_wire_core.specs.StreamId.{other_side}
+use Rattle.quic_wire.specs.declared.crypto.Keys.{Keys}
+use Rattle.quic_run_core.specs.declared.key.PlainHeaderKey.{PlainHeaderKey}
+use Rattle.quic_run_core.specs.declared.key.PlainKey.{PlainKey}
+
+-- the mark of an end's packets: the letter `c` or `s`
+abbrev pub mark_of : Side → ℕ
+mark_of Client = 0x63
+mark_of Server = 0x73
+
+-- the packet key of an end, with the usual limits
+abbrev pub key_of : Side → PlainKey
+key_of side = record { mark = mark_of side; confidentiality_limit = 8388608; integrity_limit = 8388608 }
+
+-- the keys of an end: what it seals with, and what it opens with
+abbrev pub keys_of : Side → Keys PlainHeaderKey PlainKey
+keys_of side = record {
+  header = record { local = record {}; remote = record {} };
+  packet = record { local = key_of side; remote = key_of (other_side side) };
+}

@@ -1,0 +1,6 @@
+pub mod Plain
+pub mod PlainLaw
+pub mod KeysOf
+pub mod Words
+pub mod ExitStatus
+pub mod Named

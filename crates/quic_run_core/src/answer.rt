@@ -1,0 +1,139 @@
+//! What is printed of an answer.
+
+use quic_connection::{
+    Answer, Chunk, DropReason, FinishError, ReadError, ReadableError, Received, Transmit,
+    WriteError,
+};
+use quic_wire_core::{EcnCodepoint, StreamId, VarInt};
+use std::alloc::{AllocError, Global};
+
+/// Appends a number in words, as `stopped 7`.
+fn put_code(out: &mut String, word: &str, code: VarInt) -> Result<(), AllocError> {
+    let code = code.into_inner();
+    write!(out, "{word} {code}")
+}
+
+/// Appends bytes in hexadecimal, where `-` stands for none.
+pub fn put_bytes(alloc: Global, out: &mut String, bytes: &[u8]) -> Result<(), AllocError> {
+    if bytes.is_empty() {
+        return out.push_str("-");
+    }
+    let text = hex::encode(alloc, bytes)?;
+    out.push_str(text.as_str())
+}
+
+fn put_id(out: &mut String, id: Option<StreamId>) -> Result<(), AllocError> {
+    match id {
+        Some(id) => {
+            let id = u64::from(id);
+            write!(out, "{id}")
+        }
+        None => out.push_str("none"),
+    }
+}
+
+fn put_write(out: &mut String, written: &Result<usize, WriteError>) -> Result<(), AllocError> {
+    match written {
+        Ok(count) => write!(out, "{count}"),
+        Err(WriteError::Blocked) => out.push_str("blocked"),
+        Err(WriteError::Stopped(code)) => put_code(out, "stopped", *code),
+        Err(WriteError::ClosedStream) => out.push_str("closed"),
+        Err(WriteError::Memory) => out.push_str("memory"),
+    }
+}
+
+fn put_finish(out: &mut String, finished: &Result<(), FinishError>) -> Result<(), AllocError> {
+    match finished {
+        Ok(()) => out.push_str("ok"),
+        Err(FinishError::Stopped(code)) => put_code(out, "stopped", *code),
+        Err(FinishError::ClosedStream) => out.push_str("closed"),
+    }
+}
+
+/// Appends what one `next` gave.
+fn put_next(
+    alloc: Global,
+    out: &mut String,
+    next: &Result<Option<Chunk>, ReadError>,
+) -> Result<(), AllocError> {
+    match next {
+        Ok(Some(chunk)) => {
+            let offset = chunk.offset;
+            write!(out, "{offset} ")?;
+            put_bytes(alloc, out, &chunk.bytes)
+        }
+        Ok(None) => out.push_str("end"),
+        Err(ReadError::Blocked) => out.push_str("blocked"),
+        Err(ReadError::Reset(code)) => put_code(out, "reset", *code),
+        Err(ReadError::Memory) => out.push_str("memory"),
+    }
+}
+
+fn mark_name(ecn: Option<EcnCodepoint>) -> &'static str {
+    match ecn {
+        None => "-",
+        Some(EcnCodepoint::Ect0) => "ect0",
+        Some(EcnCodepoint::Ect1) => "ect1",
+        Some(EcnCodepoint::Ce) => "ce",
+    }
+}
+
+/// Appends which datagram of its end it is, its size and its mark.
+fn put_transmit(out: &mut String, transmit: &Transmit, index: usize) -> Result<(), AllocError> {
+    let size = transmit.size;
+    let mark = mark_name(transmit.ecn);
+    write!(out, "{index} {size} {mark}")
+}
+
+fn reason_name(reason: DropReason) -> &'static str {
+    match reason {
+        DropReason::TooShort => "tooshort",
+        DropReason::NotShort => "notshort",
+        DropReason::FixedBit => "fixedbit",
+        DropReason::UnknownId => "unknownid",
+        DropReason::NotOpened => "notopened",
+        DropReason::KeyPhase => "keyphase",
+        DropReason::Duplicate => "duplicate",
+        DropReason::Closing => "closing",
+        DropReason::Drained => "drained",
+        DropReason::Failed => "failed",
+    }
+}
+
+fn put_received(out: &mut String, received: &Received) -> Result<(), AllocError> {
+    match received {
+        Received::Taken => out.push_str("taken"),
+        Received::Dropped(reason) => {
+            let name = reason_name(*reason);
+            write!(out, "dropped {name}")
+        }
+        Received::Closed(error) => put_code(out, "closed", VarInt::from(error.code())),
+        Received::Failed => out.push_str("failed"),
+    }
+}
+
+/// Appends an answer. A datagram that was given out is the last of the `given` datagrams of its end.
+pub fn put_answer(
+    alloc: Global,
+    out: &mut String,
+    answer: &Answer,
+    given: usize,
+) -> Result<(), AllocError> {
+    match answer {
+        Answer::Open(Ok(id)) => put_id(out, *id),
+        Answer::Accept(id) => put_id(out, *id),
+        Answer::Open(Err(_)) | Answer::Read(Err(ReadableError::Memory)) => out.push_str("memory"),
+        Answer::Write(written) => put_write(out, written),
+        Answer::Finish(finished) => put_finish(out, finished),
+        Answer::Read(Err(ReadableError::ClosedStream)) => out.push_str("closed"),
+        Answer::Read(Ok(nexts)) => match nexts.as_slice() {
+            [next, ..] => put_next(alloc, out, next),
+            [] => Ok(()),
+        },
+        Answer::Poll(Ok(Some(transmit))) => put_transmit(out, transmit, given.saturating_sub(1)),
+        Answer::Poll(Ok(None)) => out.push_str("none"),
+        Answer::Poll(Err(_)) => out.push_str("failed"),
+        Answer::Deliver(received) => put_received(out, received),
+        Answer::NoDatagram => out.push_str("nodatagram"),
+    }
+}

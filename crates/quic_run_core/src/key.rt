@@ -1,0 +1,244 @@
+//! Keys that protect nothing, for scripts, tests and examples: payloads stay clear, and the tag shows the number and a mark.
+ghost use Rattle.std.specs.Prelude.{◌≡◌, ℕ, ◌+◌, ◌-◌, ◌<◌, ◌≤◌, ◌^◌, List, length, take, drop, slice_index};
+ghost use Rattle.quic_wire.specs.Keys.{with_header, sample, AreMates};
+ghost use Rattle.quic_wire_core.specs.StreamId.{other_side};
+ghost use Rattle.quic_wire_core.specs.declared.stream_id.Side.{Side};
+ghost use Rattle.quic_run_core.specs.Plain.{xored, mask_first, mask_number, plain_sealed, plain_opened};
+ghost use Rattle.quic_run_core.specs.KeysOf.{key_of, keys_of};
+ghost use Rattle.quic_run_core.specs.PlainLaw.{first_form, number_length, adds_tag};
+
+use quic_wire::crypto::{HeaderKey, KeyPair, Keys, NotOpened, PacketKey};
+use quic_wire::width_in;
+use quic_wire_core::Side;
+
+/// A header key whose mask is the sample itself.
+#[derive(Clone, Copy, Debug, PartialEq, Eq)]
+pub struct PlainHeaderKey;
+
+/// A packet key whose tag is the number in eight bytes, big-endian, and a mark eight times.
+#[derive(Clone, Copy, Debug, PartialEq, Eq)]
+pub struct PlainKey {
+    /// The byte that tells one end's packets from the other's.
+    pub mark: u8,
+    /// How many packets the key may seal.
+    pub confidentiality_limit: u64,
+    /// How many packets the key may fail to open.
+    pub integrity_limit: u64,
+}
+
+/// Masks bytes.
+#[tactic(auto, using(crate::proofs::InPlace::xored_more, crate::proofs::InPlace::xored_done))]
+fn xor_into(bytes: &mut [u8], mask: &[u8])
+    requires { length bytes.old ≤ length mask.now }
+    ensures { bytes.new ≡ xored bytes.old mask.now }
+{
+    for i in 0..bytes.len() {
+        bytes[i] ^= mask[i];
+    }
+}
+
+/// Gives a packet another first byte, and masks its number by the sample.
+#[tactic(auto, using(crate::proofs::InPlace::rewritten))]
+fn rewrite(packet: &mut [u8], number_at: usize, first: u8, width: usize)
+    requires first { 1 ≤ number_at }
+    requires width { width ≤ 4 }
+    requires room { number_at + 20 ≤ length packet.old }
+    ensures { packet.new ≡ with_header number_at packet.old first (mask_number (sample number_at packet.old) (take width (drop number_at packet.old))) }
+{
+    let mut sample = [0u8; 16];
+    sample.copy_from_slice(&packet[number_at + 4..number_at + 20]);
+    packet[0] = first;
+    xor_into(&mut packet[number_at..number_at + width], &sample[1..]);
+}
+
+/// What the sample makes of the first byte.
+#[tactic(auto, using(crate::proofs::InPlace::sample_first))]
+fn masked_first(packet: &[u8], number_at: usize) -> u8
+    requires { number_at + 20 ≤ length packet.now }
+    ensures { result ≡ mask_first (sample number_at packet.now) (slice_index packet.now 0) }
+{
+    packet[0] ^ packet[number_at + 4] & 31
+}
+
+impl HeaderKey for PlainHeaderKey {
+    ghost masks = { λ _. mask_first };
+
+    ghost hides = { λ _. mask_number };
+
+    ghost unmasks = { λ _. mask_first };
+
+    ghost reveals = { λ _. mask_number };
+
+    fn encrypt(&self, number_at: usize, packet: &mut [u8]) {
+        let width = width_in(packet[0]);
+        let first = masked_first(packet, number_at);
+        rewrite(packet, number_at, first, width);
+    }
+
+    fn decrypt(&self, number_at: usize, packet: &mut [u8]) {
+        let first = masked_first(packet, number_at);
+        rewrite(packet, number_at, first, width_in(first));
+    }
+
+    ghost keeps_form = { λ _. first_form };
+
+    ghost keeps_length = { λ _. number_length };
+
+    ghost shows_form = { λ _. first_form };
+
+    ghost shows_length = { λ _. number_length };
+}
+
+impl PacketKey for PlainKey {
+    ghost sealed = { λ k. plain_sealed k.mark };
+
+    ghost opened = { λ k. plain_opened k.mark };
+
+    ghost seal_limit = { λ k. k.confidentiality_limit };
+
+    ghost refusal_limit = { λ k. k.integrity_limit };
+
+    #[tactic(auto, using(crate::proofs::InPlace::tagged))]
+    fn encrypt(&self, number: u64, packet: &mut [u8], header: usize) {
+        let end = packet.len() - 16;
+        let [a, b, c, d, e, f, g, h] = number.to_be_bytes();
+        let m = self.mark;
+        packet[end..].copy_from_slice(&[a, b, c, d, e, f, g, h, m, m, m, m, m, m, m, m]);
+    }
+
+    fn decrypt(&self, number: u64, header: &[u8], payload: &mut [u8]) -> Result<usize, NotOpened> {
+        if payload.len() < 16 {
+            return Err(NotOpened);
+        }
+        let length = payload.len() - 16;
+        let [a, b, c, d, e, f, g, h] = number.to_be_bytes();
+        let m = self.mark;
+        if payload[length..] == [a, b, c, d, e, f, g, h, m, m, m, m, m, m, m, m] {
+            Ok(length)
+        } else {
+            Err(NotOpened)
+        }
+    }
+
+    fn confidentiality_limit(&self) -> u64 {
+        self.confidentiality_limit
+    }
+
+    fn integrity_limit(&self) -> u64 {
+        self.integrity_limit
+    }
+
+    ghost adds_tag = { λ k. adds_tag k.mark };
+}
+
+/// How many packets a key may seal, and how many it may fail to open, unless it is given another limit.
+pub const KEY_LIMIT: u64 = 1 << 23;
+
+/// The packet key of one end: its mark is the letter `c` or `s`.
+fn key_of(side: Side) -> PlainKey
+    ensures { result ≡ key_of side }
+{
+    PlainKey {
+        mark: match side {
+            Side::Client => b'c',
+            Side::Server => b's',
+        },
+        confidentiality_limit: KEY_LIMIT,
+        integrity_limit: KEY_LIMIT,
+    }
+}
+
+/// The keys of one end: it seals with its own, and opens what the other end sealed.
+pub fn keys_for(side: Side) -> Keys<PlainHeaderKey, PlainKey>
+    ensures { result ≡ keys_of side }
+{
+    Keys {
+        header: KeyPair {
+            local: PlainHeaderKey,
+            remote: PlainHeaderKey,
+        },
+        packet: KeyPair {
+            local: key_of(side),
+            remote: key_of(!side),
+        },
+    }
+}
+
+/// What either end seals with is the mate of what the other opens with.
+pub fn keys_are_mates()
+    ensures { (side : Side) → AreMates mask_first mask_number (plain_sealed (keys_of side).packet.local.mark) mask_first mask_number (plain_opened (keys_of (other_side side)).packet.remote.mark) }
+{}
+
+#[cfg(test)]
+mod tests {
+    use super::*;
+    use quic_wire::reserved::append;
+    use quic_wire::{PacketNumber, ShortHeader, open_packet, seal_packet, seal_reserved};
+    use quic_wire_core::ConnectionId;
+    use std::test::Fail;
+
+    /// A STREAM frame for stream 0 with the five bytes of `hello` and the end.
+    const HELLO: [u8; 8] = [0x0b, 0x00, 0x05, 0x68, 0x65, 0x6c, 0x6c, 0x6f];
+
+    /// What `HELLO` under number 0 and the id of eight bytes 50 is sealed to.
+    const SEALED: [u8; 34] = [
+        0x48, 0x50, 0x50, 0x50, 0x50, 0x50, 0x50, 0x50, 0x50, 0x65, 0x0b, 0x00, 0x05, 0x68, 0x65,
+        0x6c, 0x6c, 0x6f, 0, 0, 0, 0, 0, 0, 0, 0, 0x63, 0x63, 0x63, 0x63, 0x63, 0x63, 0x63, 0x63,
+    ];
+
+    #[test]
+    fn seals_behind_other_bytes(rt: HostRuntime) -> Result<(), Fail> {
+        let mut out = Vec::new(rt.alloc());
+        out.push(9)?;
+        let header = ShortHeader {
+            destination: ConnectionId::new(&[0x50; 8]),
+            number: PacketNumber::new(0, 0),
+        };
+        header.encode(&mut out)?;
+        out.extend_from_slice(&HELLO)?;
+        let keys = keys_for(Side::Client);
+        seal_packet(&mut out, 1, 9, 0, &keys.header.local, &keys.packet.local)?;
+        assert_eq!(rt; out[0], 9);
+        assert!(rt; &out[1..] == SEALED.as_slice());
+        Ok(())
+    }
+
+    #[test]
+    fn seals_into_reserved_room(rt: HostRuntime) -> Result<(), Fail> {
+        let mut out = Vec::with_capacity(rt.alloc(), 34)?;
+        let header = ShortHeader {
+            destination: ConnectionId::new(&[0x50; 8]),
+            number: PacketNumber::new(0, 0),
+        };
+        header.put(&mut out);
+        append(&mut out, &HELLO);
+        let keys = keys_for(Side::Client);
+        seal_reserved(&mut out, 0, 9, 0, &keys.header.local, &keys.packet.local);
+        assert!(rt; out.as_slice() == SEALED.as_slice());
+        Ok(())
+    }
+
+    #[test]
+    fn the_other_end_opens(rt: HostRuntime) -> Result<(), Fail> {
+        let mut datagram = SEALED;
+        let keys = keys_for(Side::Server);
+        let opened = open_packet(
+            &mut datagram,
+            9,
+            0,
+            &keys.header.remote,
+            &keys.packet.remote,
+        )?;
+        assert_eq!(rt; opened.first, 0x40);
+        assert_eq!(rt; opened.number, 0);
+        assert!(rt; &datagram[opened.start..opened.end] == HELLO.as_slice());
+        assert!(rt; !opened.key_phase());
+        assert_eq!(rt; opened.reserved_bits(), 0);
+        let mut other = SEALED;
+        other[33] = 0x73;
+        assert!(rt;
+            open_packet(&mut other, 9, 0, &keys.header.remote, &keys.packet.remote).is_err()
+        );
+        Ok(())
+    }
+}

@@ -1,0 +1,20 @@
+//! Scripts over two ends of a connection.
+#![tactic(auto)]
+
+mod answer;
+mod error;
+pub mod key;
+mod lines;
+mod runner;
+#[cfg(test)]
+mod runs;
+mod script;
+mod session;
+mod show;
+#[cfg(test)]
+mod tests;
+mod words;
+
+pub use error::ScriptError;
+pub use runner::{run_script, run_script_within};
+pub use words::Words;

@@ -1,0 +1,275 @@
+//! The language of scripts: a line is a call at one end.
+ghost use Rattle.std.specs.Prelude.{◌≡◌, ◌<◌, ◌≤◌, ◌^◌, ◌⊎◌, Some, None, Ok, Err, MatchResult, length};
+ghost use Rattle.std.specs.Char.{is_ascii_uppercase};
+ghost use Rattle.std.specs.List.{list_any};
+ghost use Rattle.std.specs.Option.{SomeIff};
+ghost use Rattle.std.specs.Str.Parse.{IsNumeral, digits_value};
+ghost use Rattle.quic_run_core.specs.Named.{side_named, dir_named, mark_named, bytes_named, IsSkipped};
+
+use bytes::Bytes;
+use hex::FromHexError;
+use quic_connection::{Call, Delivery, Instant, ReadCall, RunEvent};
+use quic_wire_core::{Dir, EcnCodepoint, Side, StreamId, VarInt};
+use std::alloc::{AllocError, Global};
+use std::str;
+
+/// The most bytes of a line.
+pub const MAX_LINE: usize = 1 << 20;
+
+/// One line of a script.
+#[derive(Debug, Drop)]
+pub enum Line {
+    /// An empty line or a comment: nothing is done.
+    Empty,
+    /// An option of an end is set.
+    Set(Side, Setting),
+    /// A call of an end.
+    Call(RunEvent),
+    /// The datagram of this index that the end gave out is shown.
+    Show(Side, usize),
+}
+
+/// An option of an end.
+#[derive(Clone, Copy, Debug)]
+pub enum Setting {
+    /// How many bytes the peer may send on all streams before any is read.
+    ReceiveWindow(VarInt),
+    /// How many bytes the peer may send on one stream before any is read.
+    StreamWindow(VarInt),
+    /// How many bytes may be written that the peer hasn't acknowledged.
+    SendWindow(u64),
+    /// The random word that the end is given each time.
+    Word(u64),
+}
+
+/// Why a line can't be run.
+#[derive(Clone, Copy, Debug, PartialEq, Eq)]
+pub enum LineError {
+    /// It isn't in the language.
+    BadCommand,
+    /// Memory lacked.
+    OutOfMemory,
+}
+
+impl From<AllocError> for LineError {
+    ghost use Rattle.quic_run_core.specs.declared.script.LineError.TheVariants.{OutOfMemory};
+
+    ghost from_gives = { λ _ e. e ≡ OutOfMemory };
+
+    fn from(_e: AllocError) -> LineError {
+        LineError::OutOfMemory
+    }
+}
+
+/// The words of a line that are still to be read, with one space between two.
+#[derive(Drop)]
+struct LineWords<'a> {
+    rest: Option<&'a str>,
+}
+
+impl<'a> LineWords<'a> {
+    /// The next word.
+    fn next(&mut self) -> Result<&'a str, LineError> {
+        let Some(text) = self.rest else {
+            return Err(LineError::BadCommand);
+        };
+        match text.split_once(' ') {
+            Some((word, rest)) => {
+                self.rest = Some(rest);
+                Ok(word)
+            }
+            None => {
+                self.rest = None;
+                Ok(text)
+            }
+        }
+    }
+
+    fn number(&mut self) -> Result<u64, LineError> {
+        number(self.next()?).ok_or(LineError::BadCommand)
+    }
+
+    fn varint(&mut self) -> Result<VarInt, LineError> {
+        VarInt::from_u64(self.number()?).map_err(|_| LineError::BadCommand)
+    }
+
+    fn stream_id(&mut self) -> Result<StreamId, LineError> {
+        Ok(StreamId::from(self.varint()?))
+    }
+
+    fn moment(&mut self) -> Result<Instant, LineError> {
+        Ok(Instant::from_nanos(self.number()?))
+    }
+
+    fn index(&mut self) -> Result<usize, LineError> {
+        Ok(self.number()? as usize)
+    }
+
+    fn side(&mut self) -> Result<Side, LineError> {
+        side(self.next()?).ok_or(LineError::BadCommand)
+    }
+
+    fn dir(&mut self) -> Result<Dir, LineError> {
+        dir(self.next()?).ok_or(LineError::BadCommand)
+    }
+
+    fn mark(&mut self) -> Result<Option<EcnCodepoint>, LineError> {
+        mark(self.next()?).ok_or(LineError::BadCommand)
+    }
+
+    fn bytes(&mut self, alloc: Global) -> Result<Bytes, LineError> {
+        let bytes = bytes_of(alloc, self.next()?)?;
+        Ok(Bytes::copy_from_slice(alloc, &bytes)?)
+    }
+
+    fn setting(&mut self) -> Result<Setting, LineError> {
+        match self.next()? {
+            "receive_window" => Ok(Setting::ReceiveWindow(self.varint()?)),
+            "stream_window" => Ok(Setting::StreamWindow(self.varint()?)),
+            "send_window" => Ok(Setting::SendWindow(self.number()?)),
+            "word" => Ok(Setting::Word(self.number()?)),
+            _ => Err(LineError::BadCommand),
+        }
+    }
+
+    fn read_call(&mut self, alloc: Global) -> Result<ReadCall, LineError> {
+        let id = self.stream_id()?;
+        let max = self.index()?;
+        Ok(ReadCall {
+            id,
+            nexts: Vec::from_slice(alloc, &[max])?,
+            finalize: true,
+        })
+    }
+
+    fn delivery(&mut self) -> Result<Delivery, LineError> {
+        Ok(Delivery {
+            now: self.moment()?,
+            ecn: self.mark()?,
+            index: self.index()?,
+        })
+    }
+}
+
+/// A decimal number: digits alone, and at most the greatest 64-bit number.
+fn number(word: &str) -> Option<u64>
+    ensures { SomeIff result (IsNumeral 10 word.now × (digits_value 10 word.now < 2 ^ 64)) (digits_value 10 word.now) }
+{
+    match word.as_bytes() {
+        [b'+', ..] => None,
+        _ => word.parse().ok(),
+    }
+}
+
+/// An end: `c` for the client, `s` for the server.
+fn side(word: &str) -> Option<Side>
+    ensures { result ≡ side_named word.now }
+{
+    match word {
+        "c" => Some(Side::Client),
+        "s" => Some(Side::Server),
+        _ => None,
+    }
+}
+
+/// A kind of stream.
+fn dir(word: &str) -> Option<Dir>
+    ensures { result ≡ dir_named word.now }
+{
+    match word {
+        "bi" => Some(Dir::Bi),
+        "uni" => Some(Dir::Uni),
+        _ => None,
+    }
+}
+
+/// A mark of congestion, where `-` stands for none.
+fn mark(word: &str) -> Option<Option<EcnCodepoint>>
+    ensures { result ≡ mark_named word.now }
+{
+    match word {
+        "-" => Some(None),
+        "ect0" => Some(Some(EcnCodepoint::Ect0)),
+        "ect1" => Some(Some(EcnCodepoint::Ect1)),
+        "ce" => Some(Some(EcnCodepoint::Ce)),
+        _ => None,
+    }
+}
+
+/// Whether some byte is an upper-case letter.
+fn has_uppercase(word: &[u8]) -> bool
+    ensures { result ≡ list_any is_ascii_uppercase word.now }
+{
+    word.iter().any(|b| b.is_ascii_uppercase())
+}
+
+/// Bytes in lower-case hexadecimal, where `-` stands for none.
+fn bytes_of(alloc: Global, word: &str) -> Result<Vec<u8>, LineError>
+    ensures { MatchResult result
+        (λ v. bytes_named word.now ≡ Some v.items)
+        (λ e. (e ≡ LineError.OutOfMemory) ⊎ ((e ≡ LineError.BadCommand) × (bytes_named word.now ≡ None))) }
+{
+    if word == "-" {
+        return Ok(Vec::new(alloc));
+    }
+    if word.is_empty() || has_uppercase(word.as_bytes()) {
+        return Err(LineError::BadCommand);
+    }
+    match hex::decode(alloc, word) {
+        Ok(bytes) => Ok(bytes),
+        Err(FromHexError::OutOfMemory) => Err(LineError::OutOfMemory),
+        Err(_) => Err(LineError::BadCommand),
+    }
+}
+
+/// The call that these words name.
+fn call_of(alloc: Global, name: &str, words: &mut LineWords) -> Result<Call, LineError> {
+    match name {
+        "open" => Ok(Call::Open(words.dir()?)),
+        "accept" => Ok(Call::Accept(words.dir()?)),
+        "write" => {
+            let id = words.stream_id()?;
+            Ok(Call::Write(id, words.bytes(alloc)?))
+        }
+        "finish" => Ok(Call::Finish(words.stream_id()?)),
+        "read" => Ok(Call::Read(words.read_call(alloc)?)),
+        "poll" => Ok(Call::Poll(words.moment()?)),
+        "deliver" => Ok(Call::Deliver(words.delivery()?)),
+        _ => Err(LineError::BadCommand),
+    }
+}
+
+/// What a line's words ask for.
+fn parse_words(alloc: Global, words: &mut LineWords) -> Result<Line, LineError> {
+    let side = words.side()?;
+    match words.next()? {
+        "set" => Ok(Line::Set(side, words.setting()?)),
+        "show" => Ok(Line::Show(side, words.index()?)),
+        name => Ok(Line::Call(RunEvent {
+            side,
+            call: call_of(alloc, name, words)?,
+        })),
+    }
+}
+
+/// Reads one line, which has no line break.
+pub fn parse_line(alloc: Global, line: &[u8]) -> Result<Line, LineError>
+    ensures too_long { MAX_LINE < length line.now → result ≡ Err LineError.BadCommand }
+    ensures skipped { length line.now ≤ MAX_LINE → IsSkipped line.now → result ≡ Ok Line.Empty }
+{
+    if line.len() > MAX_LINE {
+        return Err(LineError::BadCommand);
+    }
+    if line.is_empty() || line[0] == b'#' {
+        return Ok(Line::Empty);
+    }
+    let Ok(text) = str::from_utf8(line) else {
+        return Err(LineError::BadCommand);
+    };
+    let mut words = LineWords { rest: Some(text) };
+    let parsed = parse_words(alloc, &mut words)?;
+    match words.rest {
+        None => Ok(parsed),
+        Some(_) => Err(LineError::BadCommand),
+    }
+}

@@ -1,0 +1,63 @@
+//! Why rules of the transport are broken, for people to read.
+
+/// Why an end says that a rule of the transport was broken: a text for people, that takes no memory.
+#[derive(Clone, Copy, Debug, PartialEq, Eq)]
+pub enum Reason {
+    /// Nothing is said.
+    Unsaid,
+    /// A frame or a parameter ends too early.
+    UnexpectedEnd,
+    /// It isn't formed as its type says.
+    Malformed,
+    /// No frame has this type.
+    InvalidFrameId,
+    /// A parameter has a value that it may not have.
+    IllegalValue,
+    /// A packet has no frame.
+    NoFrame,
+    /// Reserved bits of the header are set.
+    ReservedBits,
+    /// Bytes came past a limit.
+    TooManyBytes,
+    /// A stream came past the limit on streams.
+    TooManyStreams,
+    /// The peer can't send on the stream.
+    NotSendable,
+    /// The stream can't end there.
+    FinalSize,
+    /// Too many separate pieces of a stream wait to be read.
+    TooManyPieces,
+}
+
+impl Reason {
+    /// The text.
+    pub fn as_str(self) -> &'static str {
+        match self {
+            Reason::Unsaid => "",
+            Reason::UnexpectedEnd => "unexpected end",
+            Reason::Malformed => "malformed",
+            Reason::InvalidFrameId => "invalid frame ID",
+            Reason::IllegalValue => "illegal value",
+            Reason::NoFrame => "no frame",
+            Reason::ReservedBits => "reserved bits set",
+            Reason::TooManyBytes => "past a limit on bytes",
+            Reason::TooManyStreams => "past the limit on streams",
+            Reason::NotSendable => "no stream to send on",
+            Reason::FinalSize => "a final size that can't be",
+            Reason::TooManyPieces => "too many pieces wait",
+        }
+    }
+}
+
+#[cfg(test)]
+mod tests {
+    use super::*;
+    use std::test::Fail;
+
+    #[test]
+    fn says_nothing_or_why(rt: HostRuntime) -> Result<(), Fail> {
+        assert_eq!(rt; Reason::Unsaid.as_str(), "");
+        assert_eq!(rt; Reason::FinalSize.as_str(), "a final size that can't be");
+        Ok(())
+    }
+}
