@@ -1,6 +1,10 @@
 -- A worked run: the client opens stream 0, writes `hello`, ends it, and gives one datagram; the server takes it twice, and reads the stream.
 use Rattle.std.specs.Prelude.{ℕ, true, false, List, [], ◌∷◌, Some, None, Ok}
+use Rattle.quic_wire_core.specs.declared.stream_id.Side.{Side}
 use Rattle.quic_wire_core.specs.declared.stream_id.Side.TheVariants.{Client, Server}
+use Rattle.quic_connection_core.specs.declared.answers.State.TheVariants as states
+use Rattle.quic_connection_core.specs.declared.run.View.{View}
+use Rattle.quic_connection_core.specs.Runs.{Told, told_at}
 use Rattle.quic_wire_core.specs.declared.stream_id.Dir.TheVariants.{Bi}
 use Rattle.quic_wire_core.specs.declared.shared.EcnCodepoint.TheVariants.{Ect0}
 use Rattle.quic_connection_core.specs.declared.answers.Received.TheVariants as receives
@@ -40,3 +44,7 @@ worked_answers =
     ∷ answers.Accept (Some 0)
     ∷ answers.Read (Ok (Ok (Some (record { offset = 0; bytes = hello })) ∷ Ok None ∷ []))
     ∷ []
+
+-- what was told at one of its ends, where each view is this one
+abbrev pub worked_told : Side → ReadCall → View → List Told
+worked_told side read v = told_at side states.Open (worked_events read) worked_answers (v ∷ v ∷ v ∷ v ∷ v ∷ v ∷ v ∷ v ∷ [])

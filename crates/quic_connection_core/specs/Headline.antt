@@ -1,0 +1,132 @@
+-- What every run of two honest ends keeps (RFC 9000, sections 2.2, 2.3 and 12.3): the headline, over the run's lists alone.
+use Rattle.std.specs.Prelude.{ℕ, ◌+◌, ◌<◌, ◌≤◌, ◌/◌, ◌^◌, ◌≡◌, ◌≢◌, Bool, true, false, eqb, List, [], ◌∷◌, ◌++◌, length, take, drop, slice_get, Option, Some, None, Result, Ok, Err}
+use Rattle.std.specs.List.{IsDistinct}
+use Rattle.quic_wire_core.specs.declared.stream_id.Side.{Side}
+use Rattle.quic_wire_core.specs.declared.stream_id.Side.TheVariants.{Client, Server}
+use Rattle.quic_wire_core.specs.declared.stream_id.Dir.{Dir}
+use Rattle.quic_wire_core.specs.StreamId.{stream_id, other_side}
+use Rattle.quic_wire.specs.Value.{FrameValue, StreamValue}
+use Rattle.quic_wire.specs.ParametersRead.{parameters_at}
+use Rattle.quic_streams_core.specs.declared.connection.assembler.Chunk.{Chunk}
+use Rattle.quic_connection_core.specs.declared.answers.ReadError.TheVariants as read_errors
+use Rattle.quic_connection_core.specs.declared.run.RunEvent.{RunEvent}
+use Rattle.quic_connection_core.specs.declared.run.ReadCall.{ReadCall}
+use Rattle.quic_connection_core.specs.declared.run.Call.{Call}
+use Rattle.quic_connection_core.specs.declared.run.Call.TheVariants as calls
+use Rattle.quic_connection_core.specs.declared.run.Answer.{Answer}
+use Rattle.quic_connection_core.specs.declared.run.Answer.TheVariants as answers
+use Rattle.quic_connection_core.specs.Settings.{Settings, parameters_of}
+use Rattle.quic_connection_core.specs.Policy.{Policy, CanOpen}
+use Rattle.quic_connection_core.specs.End.{End, MadeFrom}
+use Rattle.quic_connection_core.specs.Receive.{own_id_length}
+use Rattle.quic_connection_core.specs.Poll.{IsDatagram}
+use Rattle.quic_connection_core.specs.Machine.{World, Policies, policy_at}
+use Rattle.quic_connection_core.specs.Runs.{Run, Told, Next, In, until, AreServed, written, ended, nexts, chunks_of, reads, bytes_of, offsets_of, ids_of, accepts, took, WasTaken, Arrived, EndArrived, given_until, references_until, first_id_of_peer}
+
+-- ---- the premises
+
+-- the settings of an end as it can be configured: windows are variable-length integers
+pub record IsInRange (s : Settings) : Type 0 where
+  pub receive_window : s.receive_window < 2 ^ 62
+  pub stream_receive_window : s.stream_receive_window < 2 ^ 62
+
+-- how one end was made: its settings, the parameter bytes that they come to, its first id, the moment, and whether the path was validated
+pub record Making : Type 0 where
+  pub settings : Settings
+  pub parameters : List ℕ
+  pub id : List ℕ
+  pub moment : ℕ
+  pub validated : Bool
+
+-- the parameter bytes say the settings, which are in range, and the id has the length of an own id
+pub record IsMaking (m : Making) : Type 0 where
+  pub range : IsInRange m.settings
+  pub says : parameters_at m.parameters ≡ Ok (parameters_of m.settings)
+  pub id : length m.id ≡ own_id_length
+
+-- One client and one server, each made from the other's parameter bytes and first id; neither has given anything.
+pub record AreStarted (w : World) : Type 0 where
+  pub client_making : Making
+  pub server_making : Making
+  pub client_is : IsMaking client_making
+  pub server_is : IsMaking server_making
+  pub client : MadeFrom Client client_making.settings server_making.parameters client_making.id server_making.id client_making.moment client_making.validated w.client
+  pub server : MadeFrom Server server_making.settings client_making.parameters server_making.id client_making.id server_making.moment server_making.validated w.server
+  pub client_gave : w.from_client ≡ []
+  pub server_gave : w.from_server ≡ []
+
+-- protecting keeps the top three bits of the first byte and how many bytes the number has; sealing adds 16 bytes (RFC 9001, sections 5.3 and 5.4)
+pub record IsLawful (p : Policy) : Type 0 where
+  pub form : (s : List ℕ) (first : ℕ) → p.mask s first / 32 ≡ first / 32
+  pub width : (s bytes : List ℕ) → length (p.hide s bytes) ≡ length bytes
+  pub tag : (number : ℕ) (header payload : List ℕ) → length (p.seal number header payload) ≡ length payload + 16
+
+-- the keys are lawful, and mates in both directions
+pub record AreKeys (k : Policies) : Type 0 where
+  pub client : IsLawful k.client
+  pub server : IsLawful k.server
+  pub to_server : CanOpen k.client k.server
+  pub to_client : CanOpen k.server k.client
+
+-- the stream that a call of an application names
+abbrev pub used : Call → Option ℕ
+used (calls.Write id bytes) = Some id
+used (calls.Finish id) = Some id
+used (calls.Read read) = Some read.id
+used call = None
+
+-- applications use only ids that were opened or accepted at their end
+abbrev pub UsesOwnIds : Run → Type 0
+UsesOwnIds r = (side : Side) (i id : ℕ) (call : Call) → slice_get r.events i ≡ Some (record { side = side; call = call }) → used call ≡ Some id → In id (ids_of (until r side i))
+
+-- the premises of the headline
+pub record IsHonest (r : Run) : Type 0 where
+  pub start : AreStarted r.start
+  pub keys : AreKeys r.keys
+  pub ids : UsesOwnIds r
+
+-- ---- ordered reads
+
+-- xs are the first of ys
+abbrev pub IsPrefixOf : List ℕ → List ℕ → Type 0
+IsPrefixOf xs ys = (rest : List ℕ) × (xs ++ rest ≡ ys)
+
+-- a call at an end, and what it was answered
+pub record IsAt (r : Run) (i : ℕ) (side : Side) (call : Call) (a : Answer) : Type 0 where
+  pub event : slice_get r.events i ≡ Some (record { side = side; call = call })
+  pub answer : slice_get r.answers i ≡ Some a
+
+-- Ordered reads of each stream at each end, `side`, at each place, behind which no delivery or poll met want of memory.
+pub record OrderedReads (r : Run) : Type 0 where
+  -- the bytes read are a prefix of the bytes that the other end wrote
+  pub prefix : (side : Side) (id i : ℕ) → AreServed r i → IsPrefixOf (bytes_of (reads id (until r side i))) (written id (until r (other_side side) i))
+  -- each chunk is a slice of what was written, at its offset
+  pub slices : (side : Side) (id i : ℕ) (chunk : Chunk) → AreServed r i → In chunk (reads id (until r side i)) → take (length chunk.bytes) (drop chunk.offset (written id (until r (other_side side) i))) ≡ chunk.bytes
+  -- no offset is read twice
+  pub once : (side : Side) (id i : ℕ) → AreServed r i → IsDistinct eqb (offsets_of (reads id (until r side i)))
+  -- the end is told only where the other end finished the stream, and every byte was read before
+  pub ended : (side : Side) (id i : ℕ) (front behind : List Next) → AreServed r i → nexts id (until r side i) ≡ front ++ Ok None ∷ behind → (ended id (until r (other_side side) i) ≡ true) × (bytes_of (chunks_of front) ≡ written id (until r (other_side side) i))
+  -- a read is blocked only where neither the next byte nor, with all read, the end has arrived
+  pub blocked : (side : Side) (i : ℕ) (read : ReadCall) (front behind : List Next) → AreServed r i → IsAt r i side (calls.Read read) (answers.Read (Ok (front ++ Err read_errors.Blocked ∷ behind)))
+    → (Arrived (took r side i) read.id (length (bytes_of (reads read.id (until r side i) ++ chunks_of front))) → ⊥)
+    × (EndArrived (took r side i) read.id (length (bytes_of (reads read.id (until r side i) ++ chunks_of front))) → ⊥)
+  -- nothing is accepted only where each stream of that kind that arrived, and each below it, was accepted
+  pub accepted : (side : Side) (i : ℕ) (dir : Dir) (frame : StreamValue) (index below : ℕ) → AreServed r i → IsAt r i side (calls.Accept dir) (answers.Accept None)
+    → WasTaken (took r side i) frame → frame.id ≡ stream_id (other_side side) dir index → below ≤ index → In (stream_id (other_side side) dir below) (accepts (until r side i))
+
+-- ---- numbers
+
+-- A datagram has this number: it is the datagram of it, of an id and of stated frames (RFC 9000, sections 12.4 and 17.3.1).
+pub record IsNumbered (p : Policy) (reference number : ℕ) (id datagram : List ℕ) : Type 0 where
+  pub frames : List FrameValue
+  pub is : IsDatagram p reference number id frames datagram
+
+-- each datagram has a number, cut against its reference, at or above `low` and above those before it
+abbrev pub Rise : Policy → List ℕ → ℕ → List ℕ → List (List ℕ) → Type 0
+Rise p id low references [] = Unit {0}
+Rise p id low [] (d ∷ ds) = ⊥
+Rise p id low (reference ∷ references) (d ∷ ds) = (number : ℕ) × (low ≤ number) × IsNumbered p reference number id d × Rise p id (number + 1) references ds
+
+-- at each end and each place, each datagram given is that of a number, the peer's id and stated frames, and the numbers rise
+abbrev pub NumbersRise : Run → Type 0
+NumbersRise r = (side : Side) (i : ℕ) → AreServed r i → Rise (policy_at side r.keys) (first_id_of_peer r side) 0 (references_until r side i) (given_until r side i)
