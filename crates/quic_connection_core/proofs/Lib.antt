@@ -1,1 +1,2 @@
+mod Invariant
 pub mod SettingsRange
