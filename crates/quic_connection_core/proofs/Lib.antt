@@ -1,2 +1,4 @@
 mod Invariant
+mod Window
+mod Delivered
 pub mod SettingsRange
