@@ -1,4 +1,5 @@
 mod Invariant
 mod Window
 mod Delivered
+mod Knowing
 pub mod SettingsRange

@@ -26,10 +26,14 @@ again_tells : (n : ℕ) (numbers : List ℕ) → is_again n numbers ≡ true →
 again_tells n [] e = absurd cc
 again_tells n (m ∷ ms) e =
     elim (or_cases ((m == n) || nat_le (n + duplicate_span) m) (is_again n ms) e) [
-      | inl here ↦ (m, inl refl, elim (or_cases (m == n) (nat_le (n + duplicate_span) m) here) [
-        | inl same ↦ inl (eqb-true m n same)
-        | inr above ↦ inr (leb-true (n + duplicate_span) m above)
-      ])
+      | inl here ↦ (
+        m,
+        inl refl,
+        elim (or_cases (m == n) (nat_le (n + duplicate_span) m) here) [
+          | inl same ↦ inl (eqb-true m n same)
+          | inr above ↦ inr (leb-true (n + duplicate_span) m above)
+        ],
+      )
       | inr later ↦ (let t = again_tells n ms later in (t.0, inr t.1, t.2))
     ]
 
