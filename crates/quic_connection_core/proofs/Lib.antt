@@ -1,2 +1,4 @@
 mod Invariant
+mod Order
+mod Way
 pub mod SettingsRange
