@@ -1,4 +1,5 @@
 mod Invariant
 mod Order
+mod Moments
 mod Way
 pub mod SettingsRange
