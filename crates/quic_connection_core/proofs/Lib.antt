@@ -4,4 +4,5 @@ mod Moments
 mod Way
 mod Intakes
 mod Rising
+mod Seen
 pub mod SettingsRange

@@ -1,5 +1,6 @@
 -- Two ends of a run at a place: what one writes and the other reads, both ways.
 use Rattle.std.specs.Prelude.{ℕ, ◌≡◌, List, [], ◌∷◌, ◌++◌, length, replicate}
+use Rattle.quic_wire_core.specs.declared.stream_id.Side.TheVariants.{Client, Server}
 use Rattle.quic_connection_core.specs.Policy.{Policy}
 use Rattle.quic_connection_core.specs.Ids.{known}
 use Rattle.quic_connection_core.specs.End.{End}
@@ -31,5 +32,7 @@ NoReference p id final told = references p (id ∷ []) final told nothing_came �
 pub record Both (k : Policies) (client_id server_id : List ℕ) (w : World) (from_client from_server : List (List ℕ)) (client server : List Told) : Type 0 where
   pub to_server : Way k.client k.server server_id w.client w.server w.from_client from_client client server
   pub to_client : Way k.server k.client client_id w.server w.client w.from_server from_server server client
+  pub client_side : w.client.side ≡ Client
+  pub server_side : w.server.side ≡ Server
   pub client_unreferred : NoReference k.client client_id from_server client
   pub server_unreferred : NoReference k.server server_id from_client server
