@@ -5,4 +5,5 @@ mod Way
 mod Intakes
 mod Rising
 mod Seen
+mod Clauses
 pub mod SettingsRange
