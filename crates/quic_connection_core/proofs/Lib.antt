@@ -6,4 +6,6 @@ mod Intakes
 mod Rising
 mod Seen
 mod Clauses
+mod Steps
+mod Polls
 pub mod SettingsRange
