@@ -6,6 +6,7 @@ mod Intakes
 mod Rising
 mod Seen
 mod Clauses
+mod Whole
 mod Steps
 mod Polls
 pub mod SettingsRange
