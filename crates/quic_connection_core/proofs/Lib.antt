@@ -1,2 +1,3 @@
 mod Invariant
 pub mod SettingsRange
+pub mod Tables
