@@ -1,3 +1,5 @@
 mod Invariant
 pub mod SettingsRange
 pub mod Tables
+mod Told
+mod Growth
