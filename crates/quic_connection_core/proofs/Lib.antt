@@ -3,3 +3,5 @@ pub mod SettingsRange
 pub mod Tables
 mod Told
 mod Growth
+mod Stays
+mod Frames
