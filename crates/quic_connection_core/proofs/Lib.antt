@@ -5,3 +5,4 @@ mod Told
 mod Growth
 mod Stays
 mod Frames
+mod Writes
