@@ -10,3 +10,9 @@ mod Whole
 mod Steps
 mod Polls
 pub mod SettingsRange
+pub mod Tables
+mod Told
+mod Growth
+mod Stays
+mod Frames
+mod Writes
