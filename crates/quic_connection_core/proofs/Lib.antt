@@ -9,6 +9,8 @@ mod Clauses
 mod Whole
 mod Steps
 mod Polls
+mod Window
+mod Delivered
 pub mod SettingsRange
 pub mod Tables
 mod Told
