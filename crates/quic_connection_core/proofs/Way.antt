@@ -14,7 +14,7 @@ came q id final read = intake q (id ∷ []) final read nothing_came
 
 -- x writes and has given these datagrams, of all that it will give; y, which it knows by this id, reads
 pub record Way (p q : Policy) (id : List ℕ) (x y : End) (given final : List (List ℕ)) (wrote read : List Told) : Type 0 where
-  pub streams : Streams x.sending wrote
+  pub streams : Streams x.side x.sending wrote
   pub gives : Gives p id x.numbers wrote given
   pub active : x.ids.active.id ≡ id
   pub count : length given ≡ count_given wrote
