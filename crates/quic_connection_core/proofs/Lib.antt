@@ -1,3 +1,5 @@
 mod Invariant
+pub mod Next
+pub mod Reading
 pub mod SettingsRange
 pub mod Tables
