@@ -3,3 +3,7 @@ pub mod Next
 pub mod Reading
 pub mod SettingsRange
 pub mod Tables
+mod Told
+mod Growth
+mod Stays
+mod Frames
