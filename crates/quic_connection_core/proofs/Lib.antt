@@ -1,5 +1,6 @@
 mod Invariant
 pub mod Next
+pub mod NextRuns
 pub mod Reading
 pub mod SettingsRange
 pub mod Tables

@@ -14,18 +14,9 @@ use Rattle.quic_connection_core.specs.declared.answers.ReadError.TheVariants as 
 use Rattle.quic_connection_core.specs.Receiving.{RecvHalf, is_read, at_end, next_chunk, next_answer}
 use Rattle.quic_connection_core.specs.Runs.{Next, chunks_of, bytes_of}
 use Rattle.quic_connection_core.proofs.Invariant.{IsReading, InOrder, IsKept}
+use Rattle.quic_connection_core.proofs.Told.{chunks_append, bytes_append}
 
 -- ---- chunks and their bytes, one behind another
-
-pub chunks_append : (xs ys : List Next) → chunks_of (xs ++ ys) ≡ chunks_of xs ++ chunks_of ys
-chunks_append [] ys = refl
-chunks_append (Ok (Some c) ∷ xs) ys = ap (λ (cs : List Chunk). c ∷ cs) (chunks_append xs ys)
-chunks_append (Ok None ∷ xs) ys = chunks_append xs ys
-chunks_append (Err e ∷ xs) ys = chunks_append xs ys
-
-pub bytes_append : (cs ds : List Chunk) → bytes_of (cs ++ ds) ≡ bytes_of cs ++ bytes_of ds
-bytes_append [] ds = refl
-bytes_append (c ∷ cs) ds = ap (λ (bs : List ℕ). c.bytes ++ bs) (bytes_append cs ds) ∙ sym (append_assoc c.bytes (bytes_of cs) (bytes_of ds))
 
 pub said_bytes : (xs ys : List Next) → bytes_of (chunks_of (xs ++ ys)) ≡ bytes_of (chunks_of xs) ++ bytes_of (chunks_of ys)
 said_bytes xs ys = ap bytes_of (chunks_append xs ys) ∙ bytes_append (chunks_of xs) (chunks_of ys)
