@@ -11,6 +11,9 @@ mod Steps
 mod Polls
 mod Window
 mod Delivered
+pub mod Next
+pub mod NextRuns
+pub mod Reading
 pub mod SettingsRange
 pub mod Tables
 mod Told
