@@ -12,16 +12,17 @@ use Rattle.quic_connection_core.specs.declared.run.Call.{Call}
 use Rattle.quic_connection_core.specs.declared.run.Call.TheVariants as calls
 use Rattle.quic_connection_core.specs.declared.run.Answer.{Answer}
 use Rattle.quic_connection_core.specs.declared.run.Answer.TheVariants as answers
+use Rattle.quic_connection_core.specs.declared.answers.ReadError.TheVariants as read_errors
 use Rattle.quic_connection_core.specs.Ids.{known, own_id}
 use Rattle.quic_connection_core.specs.Calls.{end_accepts}
 use Rattle.quic_connection_core.specs.Machine.{World, Policies, IsStep, fails, Follows}
-use Rattle.quic_connection_core.specs.Runs.{Run, Told, Next, In, told_by, until, AreServed, written, ended, nexts, chunks_of, reads, bytes_of, given_of, first_id_of_peer}
-use Rattle.quic_connection_core.specs.Headline.{IsHonest, AreKeys, AreStarted, IsRun, IsPrefixOf, OrderedPrefix, Slices, Once, EndAfterAll, AcceptsAll, NumbersRise, IsAt}
+use Rattle.quic_connection_core.specs.Runs.{Run, Told, Next, In, told_by, until, AreServed, written, ended, nexts, chunks_of, reads, bytes_of, given_of, took, first_id_of_peer}
+use Rattle.quic_connection_core.specs.Headline.{IsHonest, AreKeys, AreStarted, IsRun, IsPrefixOf, OrderedPrefix, Slices, Once, EndAfterAll, BlockedOnlyWithoutBytes, AcceptsAll, NumbersRise, IsAt}
 use Rattle.quic_connection_core.proofs.Order.{order_prefix, order_slices, order_once, order_ended}
 use Rattle.quic_connection_core.proofs.Moments.{Grown, grown, Moment, moment}
 use Rattle.quic_connection_core.proofs.Way.{Both}
 use Rattle.quic_connection_core.proofs.Seen.{Seen, seen_from, answered}
-use Rattle.quic_connection_core.proofs.Clauses.{accepted_is}
+use Rattle.quic_connection_core.proofs.Clauses.{accepted_is, blocked_is}
 
 -- the first ids of both ends
 pub record FirstIds (w : World) (client_id server_id : List ℕ) : Type 0 where
@@ -87,6 +88,11 @@ module _ (both_step : (k : Policies) → AreKeys k → (client_id server_id : Li
       let s = seen r end honest run side i served in
       let none : answers.Accept None ≡ answers.Accept (end_accepts dir s.end) = s.answers (calls.Accept dir) (answers.Accept None) at in
       accepted_is side dir s.end.receiving (until r side i) frame.id index below s.accepted (rw s.is at none) (s.kept.opened frame taken) (s.kept.may frame taken) is l
+
+  pub blocked_only_without_bytes : (r : Run) (end : World) → IsHonest r → IsRun r end → BlockedOnlyWithoutBytes r
+  blocked_only_without_bytes r end honest run side i read front behind served at =
+      let s = seen r end honest run side i served in
+      blocked_is side s.end (until r (other_side side) i) (until r side i) (took r side i) read.id read.nexts.items front behind s.content s.kept (s.answers (calls.Read read) (answers.Read (Ok (front ++ Err read_errors.Blocked ∷ behind))) at)
 
   pub numbers_rise : (r : Run) (end : World) → IsHonest r → IsRun r end → NumbersRise r
   numbers_rise r end honest run side i served = (seen r end honest run side i served).rises
