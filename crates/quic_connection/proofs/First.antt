@@ -8,7 +8,7 @@ use Rattle.std.proofs.lemmas.Option.{IfSome_then}
 use Rattle.quic_connection_core.specs.Table.{Table, at}
 use Rattle.quic_connection_core.specs.Sending.{SendHalf, has_pending}
 use Rattle.quic_connection_core.specs.Poll.{first_pending}
-use Rattle.quic_connection.proofs.Tables.{nat_cmp-same}
+use Rattle.quic_connection_core.proofs.Tables.{nat_cmp-same}
 
 -- a fact of each id holds of it
 pub first_id : (P : ℕ → Type 0) (es : Table SendHalf) → AllByRecursion P (keys_of es) → IfSome (first_pending es) P

@@ -1,4 +1,3 @@
-pub mod Tables
 pub mod Taken
 pub mod Opened
 pub mod First

@@ -18,7 +18,7 @@ use Rattle.quic_wire_core.specs.StreamId.{stream_id, side_bit}
 use Rattle.quic_connection_core.specs.Table.{Table, at, put, without, added}
 use Rattle.quic_connection_core.specs.Sending.{SendHalf, Sending, opened_of, next_id, new_half, after_open}
 use Rattle.quic_connection.specs.Bounds.{IsSending, IsLast}
-use Rattle.quic_connection.proofs.Tables.{at-added, at-apart, unknown-put, unknown-without, without-added, ids-added, ids-without}
+use Rattle.quic_connection_core.proofs.Tables.{at-added, at-apart, unknown-put, unknown-without, without-added, ids-added, ids-without}
 
 bit : (side : Side) → side_bit side ≤ 1
 bit Client = omega arith

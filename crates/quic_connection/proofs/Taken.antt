@@ -17,7 +17,7 @@ use Rattle.quic_connection_core.specs.declared.answers.Breach.TheVariants.{Strea
 use Rattle.quic_connection_core.specs.Table.{Table, at, put, without}
 use Rattle.quic_connection_core.specs.Receiving.{RecvHalf, Receiving, untouched, with_frame, may_receive, half_for, breach_on, breach_at, refusal, too_many, kept_at, stream_breach, after_stream, after_next}
 use Rattle.quic_connection.specs.Halves.{read_at, after_touch}
-use Rattle.quic_connection.proofs.Tables.{added-known, added-added, at-added, without-put, without-unknown}
+use Rattle.quic_connection_core.proofs.Tables.{added-known, added-added, at-added, without-put, without-unknown}
 
 some_none : (b : Breach) → Some b ≡ None → ⊥
 some_none b e = cc

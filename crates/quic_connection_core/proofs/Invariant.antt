@@ -74,10 +74,12 @@ abbrev pub HalfIs : List ℕ → Bool → Option SendHalf → Type 0
 HalfIs wr fin None = (wr ≡ []) × (fin ≡ false)
 HalfIs wr fin (Some h) = IsHalf wr fin h
 
-pub record Streams (s : Sending) (told : List Told) : Type 0 where
+pub record Streams (side : Side) (s : Sending) (told : List Told) : Type 0 where
   pub sorted : IsStrictlySortedBy nat_cmp (keys_of s.halves)
   pub halves : (id : ℕ) → HalfIs (written id told) (ended id told) (at s.halves id)
   pub ids : (id : ℕ) (h : SendHalf) → at s.halves id ≡ Some h → id < 2 ^ 62
+  -- a stream that may be opened has no half yet
+  pub new : (dir : Dir) → opens side dir s ≡ true → at s.halves (next_id side dir s) ≡ None
   pub first_bi : s.first_limit_bi < 2 ^ 62
   pub first_uni : s.first_limit_uni < 2 ^ 62
 

@@ -1,5 +1,24 @@
 mod Invariant
+mod Order
+mod Moments
+mod Way
+mod Intakes
+mod Rising
+mod Seen
+mod Clauses
+mod Whole
+mod Steps
+mod Polls
 mod Window
 mod Delivered
 mod Knowing
+pub mod Next
+pub mod NextRuns
+pub mod Reading
 pub mod SettingsRange
+pub mod Tables
+mod Told
+mod Growth
+mod Stays
+mod Frames
+mod Writes

@@ -1,23 +1,32 @@
 -- What changes of a map from stream ids come to, one after another.
-use Rattle.std.proofs.Common.{◌≡◌, ℕ, [], ◌∷◌, Bool, true, false, cond, Some, None, refl, sym, ap, ◌∙◌, arith}
+use Rattle.std.proofs.Common.{◌≡◌, ℕ, List, [], ◌∷◌, Bool, true, false, cond, Some, None, refl, sym, ap, ◌∙◌, subst, arith}
 use Rattle.std.specs.Ordering.{nat_cmp, match_ordering, is_eq}
 use Rattle.std.specs.declared.cmp.Ordering.{Ordering}
 use Rattle.std.specs.declared.cmp.Ordering.TheVariants.{Less, Equal, Greater}
-use Rattle.std.specs.Cmp.{nat_cmp_total, unsigned_tied}
+use Rattle.std.specs.Cmp.{nat_cmp_total, nat_cmp_is, unsigned_tied}
 use Rattle.std.specs.List.{AllByRecursion}
 use Rattle.std.specs.BTreeMap.{is_at}
 use Rattle.std.specs.List.Sorted.{IsStrictlySortedBy}
 use Rattle.std.specs.Map.{remove_entry, keys_of}
-use Rattle.std.proofs.lemmas.Map.{lookup-none}
-use Rattle.std.proofs.lemmas.Map.Keys.{sorted_tail}
+use Rattle.std.proofs.lemmas.Map.{lookup-none, keys-set_value}
+use Rattle.std.proofs.lemmas.Map.Keys.{sorted_head, sorted_tail}
 use Rattle.std.proofs.lemmas.Map.Entries.{none_below_head}
-use Rattle.std.proofs.lemmas.Bool.{eq-eqb, le-ltb, ne_eqb}
+use Rattle.std.proofs.lemmas.Bool.{eq-eqb, eqb-true, le-ltb, ne_eqb}
 use Rattle.std.proofs.lemmas.Cmp.{ranked}
 use Rattle.quic_connection_core.specs.Table.{Table, at, put, without, added}
 
 -- a number is equal to itself
 pub nat_cmp-same : (n : ℕ) → nat_cmp n n ≡ Equal
 nat_cmp-same n = rw (le-ltb n n (omega arith), eq-eqb n n refl) refl
+
+-- above a number: the other way round
+turned : (n k : ℕ) → nat_cmp n k ≡ Greater → nat_cmp k n ≡ Less
+turned n k is = sym (nat_cmp_is k n Less (ranked n k Greater (sym is)))
+
+-- what is below the first is below the others
+below_all : (n k : ℕ) (ks : List ℕ) → nat_cmp n k ≡ Less → AllByRecursion (λ y. nat_cmp k y ≡ Less) ks → AllByRecursion (λ y. nat_cmp n y ≡ Less) ks
+below_all n k [] is a = tt
+below_all n k (y ∷ ks) is a = (nat_cmp_total.trans n k y is a.0, below_all n k ks is a.1)
 
 module _ {A : Type 0} where
   none_some : (v : A) → None ≡ Some v → ⊥
@@ -132,3 +141,79 @@ module _ {A : Type 0} where
       go : (b : Bool) → AllByRecursion P (keys_of (without es id)) → AllByRecursion P (keys_of (cond b es (x ∷ without es id)))
       go true ih = a.1
       go false ih = (a.0, ih)
+
+  -- what was put is there
+  pub at-put : (es : Table A) (id : ℕ) (h v : A) → at es id ≡ Some h → at (put es id v) id ≡ Some v
+  at-put [] id h v e = absurd (none_some h e)
+  at-put (x ∷ es) id h v e = go (is_at (nat_cmp id) x.0) refl e (at-put es id h v)
+    where
+      go : (b : Bool) → is_at (nat_cmp id) x.0 ≡ b → cond b (Some x.1) (at es id) ≡ Some h → (at es id ≡ Some h → at (put es id v) id ≡ Some v) → at (cond b ((x.0, v) ∷ es) (x ∷ put es id v)) id ≡ Some v
+      go true is f ih = rw is refl
+      go false is f ih = rw is (ih f)
+
+  -- elsewhere a value that is put changes nothing
+  pub at-put-apart : (es : Table A) (id : ℕ) (v : A) (q : ℕ) → (q ≡ id → ⊥) → at (put es id v) q ≡ at es q
+  at-put-apart [] id v q ne = refl
+  at-put-apart (x ∷ es) id v q ne = go (is_at (nat_cmp id) x.0) refl (at-put-apart es id v q ne)
+    where
+      go : (b : Bool) → is_at (nat_cmp id) x.0 ≡ b → at (put es id v) q ≡ at es q → at (cond b ((x.0, v) ∷ es) (x ∷ put es id v)) q ≡ at (x ∷ es) q
+      go true is ih =
+          let same : id ≡ x.0 = eqb-true id x.0 (sym (unsigned_tied id x.0) ∙ is) in
+          let off : is_at (nat_cmp q) x.0 ≡ false = unsigned_tied q x.0 ∙ ne_eqb q x.0 (λ e. ne (e ∙ sym same)) in
+          rw off refl
+      go false is ih = ap (λ t. cond (is_at (nat_cmp q) x.0) (Some x.1) t) ih
+
+  -- nothing stands below all ids
+  none_above : (es : Table A) (id : ℕ) → AllByRecursion (λ y. nat_cmp id y ≡ Less) (keys_of es) → at es id ≡ None
+  none_above [] id a = refl
+  none_above (x ∷ es) id a = rw a.0 (none_above es id a.1)
+
+  -- nothing is left where a value is taken out
+  pub at-without : (es : Table A) (id : ℕ) → IsStrictlySortedBy nat_cmp (keys_of es) → at (without es id) id ≡ None
+  at-without [] id o = refl
+  at-without (x ∷ es) id o = go (is_at (nat_cmp id) x.0) refl (at-without es id (sorted_tail nat_cmp x.0 (keys_of es) o))
+    where
+      go : (b : Bool) → is_at (nat_cmp id) x.0 ≡ b → at (without es id) id ≡ None → at (cond b es (x ∷ without es id)) id ≡ None
+      go true is ih =
+          let same : id ≡ x.0 = eqb-true id x.0 (sym (unsigned_tied id x.0) ∙ is) in
+          rw same (none_above es x.0 (sorted_head nat_cmp x.0 (keys_of es) o))
+      go false is ih = rw is ih
+
+  -- elsewhere a value that is taken out changes nothing
+  pub at-without-apart : (es : Table A) (id q : ℕ) → (q ≡ id → ⊥) → at (without es id) q ≡ at es q
+  at-without-apart [] id q ne = refl
+  at-without-apart (x ∷ es) id q ne = go (is_at (nat_cmp id) x.0) refl (at-without-apart es id q ne)
+    where
+      go : (b : Bool) → is_at (nat_cmp id) x.0 ≡ b → at (without es id) q ≡ at es q → at (cond b es (x ∷ without es id)) q ≡ at (x ∷ es) q
+      go true is ih =
+          let same : id ≡ x.0 = eqb-true id x.0 (sym (unsigned_tied id x.0) ∙ is) in
+          let off : is_at (nat_cmp q) x.0 ≡ false = unsigned_tied q x.0 ∙ ne_eqb q x.0 (λ e. ne (e ∙ sym same)) in
+          rw off refl
+      go false is ih = ap (λ t. cond (is_at (nat_cmp q) x.0) (Some x.1) t) ih
+
+  -- ---- ids stay in order
+
+  -- where a value is put
+  pub sorted-put : (es : Table A) (id : ℕ) (v : A) → IsStrictlySortedBy nat_cmp (keys_of es) → IsStrictlySortedBy nat_cmp (keys_of (put es id v))
+  sorted-put es id v o = subst (IsStrictlySortedBy nat_cmp) (sym (keys-set_value (is_at (nat_cmp id)) es v)) o
+
+  -- where a value is added
+  pub sorted-added : (es : Table A) (id : ℕ) (v : A) → IsStrictlySortedBy nat_cmp (keys_of es) → IsStrictlySortedBy nat_cmp (keys_of (added es id v))
+  unfolding IsStrictlySortedBy
+  sorted-added [] id v o = (tt, tt)
+  sorted-added (x ∷ es) id v o = go (nat_cmp id x.0) refl (sorted-added es id v o.1)
+    where
+      go : (r : Ordering) → nat_cmp id x.0 ≡ r → IsStrictlySortedBy nat_cmp (keys_of (added es id v)) → IsStrictlySortedBy nat_cmp (keys_of (match_ordering r ((id, v) ∷ x ∷ es) ((x.0, v) ∷ es) (x ∷ added es id v)))
+      go Less is ih = ((is, below_all id x.0 (keys_of es) is o.0), o)
+      go Equal is ih = o
+      go Greater is ih = (ids-added (λ y. nat_cmp x.0 y ≡ Less) es id v (turned id x.0 is) o.0, ih)
+
+  -- where a value is taken out
+  pub sorted-without : (es : Table A) (id : ℕ) → IsStrictlySortedBy nat_cmp (keys_of es) → IsStrictlySortedBy nat_cmp (keys_of (without es id))
+  unfolding IsStrictlySortedBy
+  sorted-without [] id o = tt
+  sorted-without (x ∷ es) id o = go (is_at (nat_cmp id) x.0) (sorted-without es id o.1)
+    where
+      go : (b : Bool) → IsStrictlySortedBy nat_cmp (keys_of (without es id)) → IsStrictlySortedBy nat_cmp (keys_of (cond b es (x ∷ without es id)))
+      go true ih = o.1
+      go false ih = (ids-without (λ y. nat_cmp x.0 y ≡ Less) es id o.0, ih)
