@@ -1,6 +1,8 @@
 mod Invariant
 pub mod Next
 pub mod NextRuns
+pub mod Quiet
+pub mod Opened
 pub mod Reading
 pub mod SettingsRange
 pub mod Tables
