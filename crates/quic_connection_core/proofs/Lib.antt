@@ -14,6 +14,8 @@ mod Delivered
 mod Knowing
 pub mod Next
 pub mod NextRuns
+pub mod Quiet
+pub mod Opened
 pub mod Reading
 pub mod SettingsRange
 pub mod Tables

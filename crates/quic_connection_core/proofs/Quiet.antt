@@ -1,0 +1,123 @@
+-- Calls that leave the receiving halves of their end as they are: a write, a finish and a poll.
+use Rattle.std.proofs.Common.{◌≡◌, ℕ, Bool, true, false, List, [], ◌∷◌, ◌++◌, Option, Some, None, Result, Ok, Err, refl, sym, ap, ◌∙◌, subst, append-nil}
+use Rattle.quic_wire_core.specs.declared.stream_id.Side.{Side}
+use Rattle.quic_wire_core.specs.declared.stream_id.Dir.{Dir}
+use Rattle.quic_wire_core.specs.declared.stream_id.Dir.TheVariants.{Bi, Uni}
+use Rattle.quic_connection_core.specs.declared.answers.State.{State}
+use Rattle.quic_connection_core.specs.declared.answers.State.TheVariants as states
+use Rattle.quic_connection_core.specs.declared.answers.WriteError.{WriteError}
+use Rattle.quic_connection_core.specs.Table.{at}
+use Rattle.quic_connection_core.specs.Closing.{ticked}
+use Rattle.quic_connection_core.specs.Numbers.{can_number}
+use Rattle.quic_connection_core.specs.Policy.{Policy}
+use Rattle.quic_connection_core.specs.Sending.{Sending, SendHalf, opens, next_id, after_written, after_finish}
+use Rattle.quic_connection_core.specs.Receiving.{Receiving, RecvHalf}
+use Rattle.quic_connection_core.specs.End.{End, with_closing}
+use Rattle.quic_connection_core.specs.Calls.{end_after_write, end_after_finish}
+use Rattle.quic_connection_core.specs.Poll.{first_pending, sends_half, sends, polled_for, polled_in, polled}
+use Rattle.quic_connection_core.specs.Runs.{Told, Packet, In, nexts_by, nexts, accepts, written, ended}
+use Rattle.quic_connection_core.proofs.Invariant.{Content, IsReading, IsFresh, InOrder, Kept, Accepted}
+use Rattle.quic_connection_core.proofs.Told.{nexts_more, accepts_append, in_left}
+
+-- ---- what the facts of the end that reads look at
+
+-- one call more told nothing of a stream
+pub nexts_quiet : (id : ℕ) (read : List Told) (t : Told) → nexts_by id t.call t.answer ≡ [] → nexts id (read ++ t ∷ []) ≡ nexts id read
+nexts_quiet id read t none = nexts_more id read t ∙ ap (λ xs. nexts id read ++ xs) none ∙ append-nil (nexts id read)
+
+-- the same halves, the same counts of streams, and the same streams read
+pub content_same : (side : Side) (s s' : Sending) (r r' : Receiving) (wrote read read' : List Told) → r'.halves ≡ r.halves → r'.opened_bi ≡ r.opened_bi → ((dir : Dir) → opens side dir s' ≡ opens side dir s) → ((dir : Dir) → next_id side dir s' ≡ next_id side dir s) → ((id : ℕ) → nexts id read' ≡ nexts id read) → Content side s r wrote read → Content side s' r' wrote read'
+content_same side s s' r r' wrote read read' halves opened open_same next_same reads_same c = record {
+  sorted = rw halves c.sorted;
+  reading = λ id h e. subst (λ said. IsReading (written id wrote) (ended id wrote) said h) (sym (reads_same id)) (c.reading id h (sym (ap (λ hs. at hs id) halves) ∙ e));
+  order = λ id. subst (λ said. InOrder (written id wrote) (ended id wrote) [] said) (sym (reads_same id)) (c.order id);
+  ready = λ id may below. let was = c.ready id may (rw opened at below) in (ap (λ hs. at hs id) halves ∙ was.0, subst (λ said. IsFresh said) (sym (reads_same id)) was.1);
+  own = λ dir o. let was = c.own dir (sym (open_same dir) ∙ o) in rw (next_same dir) (ap (λ hs. at hs (next_id side dir s)) halves ∙ was.0, subst (λ said. IsFresh said) (sym (reads_same (next_id side dir s))) was.1);
+}
+
+-- what was accepted stays so
+pub accepted_same : (side : Side) (r r' : Receiving) (read : List Told) (t : Told) → r'.accepted_bi ≡ r.accepted_bi → Accepted side r read → Accepted side r' (read ++ t ∷ [])
+accepted_same side r r' read t same a = record {
+  each = λ index below. rw (accepts_append read (t ∷ [])) (in_left _ (accepts read) (accepts (t ∷ [])) (a.each index (rw same at below)));
+}
+
+-- ---- quiet calls
+
+pub record IsQuiet (e after : End) : Type 0 where
+  pub receiving : after.receiving ≡ e.receiving
+  pub opens_same : (dir : Dir) → opens e.side dir after.sending ≡ opens e.side dir e.sending
+  pub next_same : (dir : Dir) → next_id e.side dir after.sending ≡ next_id e.side dir e.sending
+
+pub quiet_content : (e after : End) (wrote read : List Told) (t : Told) → IsQuiet e after → ((id : ℕ) → nexts_by id t.call t.answer ≡ []) → Content e.side e.sending e.receiving wrote read → Content e.side after.sending after.receiving wrote (read ++ t ∷ [])
+quiet_content e after wrote read t q none c = content_same e.side e.sending after.sending e.receiving after.receiving wrote read (read ++ t ∷ []) (ap (λ r. r.halves) q.receiving) (ap (λ r. r.opened_bi) q.receiving) q.opens_same q.next_same (λ id. nexts_quiet id read t (none id)) c
+
+pub quiet_kept : (e after : End) (took : List Packet) → IsQuiet e after → Kept e.side e.receiving took → Kept e.side after.receiving took
+quiet_kept e after took q k = rw q.receiving k
+
+pub quiet_accepted : (e after : End) (read : List Told) (t : Told) → IsQuiet e after → Accepted e.side e.receiving read → Accepted e.side after.receiving (read ++ t ∷ [])
+quiet_accepted e after read t q a = accepted_same e.side e.receiving after.receiving read t (ap (λ r. r.accepted_bi) q.receiving) a
+
+pub quiet_same : (e : End) → IsQuiet e e
+quiet_same e = record { receiving = refl; opens_same = λ dir. refl; next_same = λ dir. refl }
+
+-- ---- a write
+
+written_opens : (answer : Result ℕ WriteError) (s : Sending) (id : ℕ) (bytes : List ℕ) (side : Side) (dir : Dir) → opens side dir (after_written answer s id bytes) ≡ opens side dir s
+written_opens (Ok n) s id bytes side Bi = refl
+written_opens (Ok n) s id bytes side Uni = refl
+written_opens (Err x) s id bytes side dir = refl
+
+written_next : (answer : Result ℕ WriteError) (s : Sending) (id : ℕ) (bytes : List ℕ) (side : Side) (dir : Dir) → next_id side dir (after_written answer s id bytes) ≡ next_id side dir s
+written_next (Ok n) s id bytes side Bi = refl
+written_next (Ok n) s id bytes side Uni = refl
+written_next (Err x) s id bytes side dir = refl
+
+pub quiet_write : (answer : Result ℕ WriteError) (e : End) (id : ℕ) (bytes : List ℕ) → IsQuiet e (end_after_write answer e id bytes)
+quiet_write answer e id bytes = record { receiving = refl; opens_same = written_opens answer e.sending id bytes e.side; next_same = written_next answer e.sending id bytes e.side }
+
+-- ---- a finish
+
+finished_opens : (s : Sending) (id : ℕ) (side : Side) (dir : Dir) → opens side dir (after_finish s id) ≡ opens side dir s
+finished_opens s id side Bi = refl
+finished_opens s id side Uni = refl
+
+finished_next : (s : Sending) (id : ℕ) (side : Side) (dir : Dir) → next_id side dir (after_finish s id) ≡ next_id side dir s
+finished_next s id side Bi = refl
+finished_next s id side Uni = refl
+
+pub quiet_finish : (e : End) (id : ℕ) → IsQuiet e (end_after_finish e id)
+quiet_finish e id = record { receiving = refl; opens_same = finished_opens e.sending id e.side; next_same = finished_next e.sending id e.side }
+
+-- ---- a poll
+
+halves_opens : (s : Sending) (halves : List (ℕ × SendHalf)) (side : Side) (dir : Dir) → opens side dir (record s { halves = halves }) ≡ opens side dir s
+halves_opens s halves side Bi = refl
+halves_opens s halves side Uni = refl
+
+halves_next : (s : Sending) (halves : List (ℕ × SendHalf)) (side : Side) (dir : Dir) → next_id side dir (record s { halves = halves }) ≡ next_id side dir s
+halves_next s halves side Bi = refl
+halves_next s halves side Uni = refl
+
+quiet_half : (o : Option SendHalf) (p : Policy) (e : End) (id : ℕ) → IsQuiet e (sends_half o p e id).end
+quiet_half None p e id = quiet_same e
+quiet_half (Some h) p e id = record { receiving = refl; opens_same = halves_opens e.sending (sends_half (Some h) p e id).end.sending.halves e.side; next_same = halves_next e.sending (sends_half (Some h) p e id).end.sending.halves e.side }
+
+quiet_sends : (b : Bool) (p : Policy) (e : End) (id : ℕ) → IsQuiet e (sends b p e id).end
+quiet_sends true p e id = quiet_half (at e.sending.halves id) p e id
+quiet_sends false p e id = record { receiving = refl; opens_same = λ dir. refl; next_same = λ dir. refl }
+
+quiet_for : (o : Option ℕ) (p : Policy) (e : End) → IsQuiet e (polled_for o p e).end
+quiet_for None p e = quiet_same e
+quiet_for (Some id) p e = quiet_sends (can_number e.numbers) p e id
+
+quiet_ticked : (e after : End) (now : ℕ) → IsQuiet (with_closing e (ticked e.closing now)) after → IsQuiet e after
+quiet_ticked e after now q = record { receiving = q.receiving; opens_same = q.opens_same; next_same = q.next_same }
+
+quiet_in : (state : State) (p : Policy) (e : End) (now : ℕ) → IsQuiet e (polled_in state p e now).end
+quiet_in states.Open p e now = quiet_ticked e _ now (quiet_for (first_pending e.sending.halves) p (with_closing e (ticked e.closing now)))
+quiet_in states.Closing p e now = quiet_same e
+quiet_in states.Drained p e now = quiet_same e
+quiet_in states.Failed p e now = quiet_same e
+
+pub quiet_poll : (p : Policy) (e : End) (now : ℕ) → IsQuiet e (polled p e now).end
+quiet_poll p e now = quiet_in e.closing.state p e now
