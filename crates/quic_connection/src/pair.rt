@@ -1,5 +1,5 @@
 //! Two ends that are made for one another.
-ghost use Rattle.std.specs.Prelude.{◌≡◌, ◌≢◌, Ok, IfOk, IfErr, OnOk};
+ghost use Rattle.std.specs.Prelude.{◌≡◌, ◌≢◌, length, Ok, IfOk, IfErr, OnOk};
 ghost use Rattle.quic_wire.specs.ParametersWritten.{written_parameters};
 ghost use Rattle.quic_wire.specs.ParametersRead.{parameters_at};
 ghost use Rattle.quic_connection_core.specs.Settings.{parameters_of};
@@ -49,6 +49,39 @@ fn parameters(alloc: Global, config: &Config) -> Result<Vec<u8>, ConfigError>
     }
 }
 
+/// An end that is made at this moment for a peer with this configuration and first id.
+fn end_for<H: HeaderKey + Drop, K: PacketKey + Drop, R: Rng + Drop>(
+    alloc: Global,
+    side: Side,
+    now: Instant,
+    own: Making<H, K, R>,
+    peer: &Config,
+    peer_id: ConnectionId,
+) -> Result<Connection<H, K, R>, ConfigError>
+    ensures made { IfOk result (λ c. MadeFrom side own.config (written_parameters (parameters_of peer.entry.now) in_order) own.id peer_id now own.validated c.end) }
+    ensures keys { IfOk result (λ c. c.keys ≡ own.keys) }
+    ensures random { IfOk result (λ c. c.random ≡ own.random) }
+    ensures id { OnOk result (length own.id ≡ 8) }
+    ensures read_back { OnOk result (parameters_at (written_parameters (parameters_of peer.entry.now) in_order) ≡ Ok (parameters_of peer.entry.now)) }
+    ensures range { OnOk result (IsInRange peer.entry.now) }
+    ensures refusal { IfErr result (λ e. e ≢ config_errors.Memory → e ≡ config_errors.IdLength) }
+{
+    let config = own.config;
+    let parameters = parameters(alloc, peer)?;
+    Connection::new(
+        alloc,
+        side,
+        &config,
+        &parameters,
+        own.id,
+        peer_id,
+        own.keys,
+        now,
+        own.random,
+        own.validated,
+    )
+}
+
 impl<H: HeaderKey + Drop, K: PacketKey + Drop, R: Rng + Drop> Ends<H, K, R> {
     /// A client and a server that are made at this moment, each from the other's parameters and first id. They meet what
     /// the promises on runs ask of the ends; where the keys of both are mates in both directions, of keys too.
@@ -70,35 +103,11 @@ impl<H: HeaderKey + Drop, K: PacketKey + Drop, R: Rng + Drop> Ends<H, K, R> {
         ensures started { IfOk result (λ ends. AreStarted (first_world ends)) }
         ensures keys { IfOk result (λ ends. CanOpen (keys_policy H.masks H.hides H.unmasks H.reveals K.sealed K.opened client.keys) (keys_policy H.masks H.hides H.unmasks H.reveals K.sealed K.opened server.keys) → CanOpen (keys_policy H.masks H.hides H.unmasks H.reveals K.sealed K.opened server.keys) (keys_policy H.masks H.hides H.unmasks H.reveals K.sealed K.opened client.keys) → AreKeys (policies_of H.masks H.hides H.unmasks H.reveals K.sealed K.opened ends)) }
     {
-        let client_parameters = parameters(alloc, &client.config)?;
-        let server_parameters = parameters(alloc, &server.config)?;
-        let first = Connection::new(
-            alloc,
-            Side::Client,
-            &client.config,
-            &server_parameters,
-            client.id,
-            server.id,
-            client.keys,
-            now,
-            client.random,
-            client.validated,
-        )?;
-        let second = Connection::new(
-            alloc,
-            Side::Server,
-            &server.config,
-            &client_parameters,
-            server.id,
-            client.id,
-            server.keys,
-            now,
-            server.random,
-            server.validated,
-        )?;
+        let (client_config, server_config) = (client.config, server.config);
+        let (client_id, server_id) = (client.id, server.id);
         Ok(Ends {
-            client: first,
-            server: second,
+            client: end_for(alloc, Side::Client, now, client, &server_config, server_id)?,
+            server: end_for(alloc, Side::Server, now, server, &client_config, client_id)?,
         })
     }
 }
