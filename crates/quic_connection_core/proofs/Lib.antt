@@ -24,3 +24,5 @@ mod Growth
 mod Stays
 mod Frames
 mod Writes
+mod Sends
+mod Writer

@@ -59,12 +59,13 @@ by_poll p e now P c = state_case p e now P c e.closing.state refl
 
 -- ---- how many datagrams are given
 
-abbrev given_as : Result (Option Transmit) Failed → Option (List ℕ) → List (List ℕ)
+-- what an answer gives of the datagram behind it
+abbrev pub given_as : Result (Option Transmit) Failed → Option (List ℕ) → List (List ℕ)
 given_as (Ok (Some t)) d = option_to_list d
 given_as (Ok None) d = []
 given_as (Err e) d = []
 
-gives_as : (p : Policy) (e : End) (now : ℕ) (r : Result (Option Transmit) Failed) → gives p e (calls.Poll now) (answers.Poll r) ≡ given_as r (polled p e now).datagram
+pub gives_as : (p : Policy) (e : End) (now : ℕ) (r : Result (Option Transmit) Failed) → gives p e (calls.Poll now) (answers.Poll r) ≡ given_as r (polled p e now).datagram
 gives_as p e now (Ok (Some t)) = refl
 gives_as p e now (Ok None) = refl
 gives_as p e now (Err f) = refl

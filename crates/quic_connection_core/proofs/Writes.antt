@@ -43,7 +43,8 @@ quiet_written id told t q = written_more id told t ∙ ap (λ (bs : List ℕ). w
 pub quiet_ended : (id : ℕ) (told : List Told) (t : Told) → IsQuiet id t → ended id (told ++ t ∷ []) ≡ ended id told
 quiet_ended id told t q = ended_more id told t ∙ ap (λ (b : Bool). ended id told || b) q.ended ∙ or_false (ended id told)
 
-half_moved : (wr more : List ℕ) (fin fin' : Bool) (o : Option SendHalf) → more ≡ wr → fin' ≡ fin → HalfIs wr fin o → HalfIs more fin' o
+-- a half holds what is equal
+pub half_moved : (wr more : List ℕ) (fin fin' : Bool) (o : Option SendHalf) → more ≡ wr → fin' ≡ fin → HalfIs wr fin o → HalfIs more fin' o
 half_moved wr more fin fin' o e f h = subst (λ (bs : List ℕ). HalfIs bs fin' o) (sym e) (subst (λ (b : Bool). HalfIs wr b o) (sym f) h)
 
 quiet_half : (id : ℕ) (told : List Told) (t : Told) (o : Option SendHalf) → IsQuiet id t → HalfIs (written id told) (ended id told) o → HalfIs (written id (told ++ t ∷ [])) (ended id (told ++ t ∷ [])) o
