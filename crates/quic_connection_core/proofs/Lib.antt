@@ -6,6 +6,7 @@ mod Intakes
 mod Rising
 mod Seen
 mod Clauses
+mod Acts
 mod Whole
 mod Steps
 mod Polls

@@ -18,7 +18,7 @@ use Rattle.quic_connection_core.specs.Sending.{Sending, opens, next_id}
 use Rattle.quic_connection_core.specs.Receiving.{Receiving, RecvHalf, may_receive, readable, read_answer}
 use Rattle.quic_connection_core.specs.End.{End}
 use Rattle.quic_connection_core.specs.Calls.{AreNexts, after_nexts}
-use Rattle.quic_connection_core.specs.Runs.{Told, Next, Packet, WasTaken, Arrived, EndArrived, nexts_by, nexts, reads, chunks_of, bytes_of, written, ended}
+use Rattle.quic_connection_core.specs.Runs.{Told, Next, Packet, WasTaken, nexts_by, nexts, reads, chunks_of, bytes_of, written, ended}
 use Rattle.quic_connection_core.proofs.Invariant.{Content, IsReading, IsFresh, InOrder, Kept, IsKept}
 use Rattle.quic_connection_core.proofs.Told.{nexts_more, chunks_append}
 use Rattle.quic_connection_core.proofs.Stays.{stays_nexts}
@@ -135,17 +135,3 @@ kept_read e read said wrote told took is answered c k =
 -- a read accepts no stream
 pub accepted_read : (e : End) (id : ℕ) (mosts : List ℕ) (said : List Next) → IsStrictlySortedBy nat_cmp (keys_of e.receiving.halves) → AreNexts e id mosts said → (after_nexts e id mosts said).receiving.accepted_bi ≡ e.receiving.accepted_bi
 accepted_read e id mosts said sorted answered = (nexts_run e id mosts said sorted answered).accepted
-
--- ---- a read that is blocked
-
--- neither the next byte nor, with all read, the end has arrived
-pub read_blocked : (e : End) (read : ReadCall) (front behind : List Next) (wrote told : List Told) (took : List Packet) → read_answer e.receiving read.id ≡ Ok tt → AreNexts e read.id read.nexts.items (front ++ Err read_errors.Blocked ∷ behind) → Content e.side e.sending e.receiving wrote told → Kept e.side e.receiving took
-    → (Arrived took read.id (length (bytes_of (reads read.id told ++ chunks_of front))) → ⊥) × (EndArrived took read.id (length (bytes_of (reads read.id told ++ chunks_of front))) → ⊥)
-read_blocked e read front behind wrote told took is answered c k = (λ a. (lacks a.frame a.taken a.of_stream).byte a.from a.below, λ a. (lacks a.frame a.taken a.of_stream).end a.fin a.behind)
-  where
-    lacks : (f : StreamValue) → WasTaken took f → f.id ≡ read.id → Lacks f (length (bytes_of (reads read.id told ++ chunks_of front)))
-    lacks f w same =
-        let run = nexts_run e read.id read.nexts.items (front ++ Err read_errors.Blocked ∷ behind) c.sorted answered in
-        let reader = is_reader e read.id wrote told is c in
-        subst (λ cs. Lacks f (length (bytes_of cs))) (chunks_append (nexts read.id told) front)
-            (run_blocked (written read.id wrote) (ended read.id wrote) (nexts read.id told) f read.nexts.items front behind (at e.receiving.halves read.id) (at (after_nexts e read.id read.nexts.items (front ++ Err read_errors.Blocked ∷ behind)).receiving.halves read.id) run.run reader.reads (kept_by e.side e.receiving took f read.id k w same))

@@ -17,10 +17,19 @@ use Rattle.quic_connection_core.specs.Ids.{known, own_id}
 use Rattle.quic_connection_core.specs.Calls.{end_accepts}
 use Rattle.quic_connection_core.specs.Machine.{World, Policies, IsStep, fails, Follows}
 use Rattle.quic_connection_core.specs.Runs.{Run, Told, Next, In, told_by, until, AreServed, written, ended, nexts, chunks_of, reads, bytes_of, given_of, took, first_id_of_peer}
-use Rattle.quic_connection_core.specs.Headline.{IsHonest, AreKeys, AreStarted, IsRun, IsPrefixOf, OrderedPrefix, Slices, Once, EndAfterAll, BlockedOnlyWithoutBytes, AcceptsAll, NumbersRise, IsAt}
+use Rattle.quic_connection_core.specs.Headline.{IsInRange, IsHonest, AreKeys, AreStarted, IsRun, IsPrefixOf, OrderedPrefix, Slices, Once, EndAfterAll, BlockedOnlyWithoutBytes, AcceptsAll, NumbersRise, IsAt}
+use Rattle.quic_wire.specs.Parameters.{ParameterValues}
+use Rattle.quic_wire.specs.ParametersRead.{parameters_at}
+use Rattle.quic_connection_core.specs.Settings.{Settings, parameters_of}
+use Rattle.quic_connection_core.specs.Policy.{Policy}
+use Rattle.quic_connection_core.specs.End.{End, IsMade, new_end}
+use Rattle.quic_connection_core.proofs.Writer.{streams_first, gives_first}
+use Rattle.quic_connection_core.proofs.Reader.{content_start, kept_start, accepted_start}
+use Rattle.quic_connection_core.proofs.Knowing.{knows_first}
+use Rattle.quic_connection_core.proofs.Acts.{both_step}
 use Rattle.quic_connection_core.proofs.Order.{order_prefix, order_slices, order_once, order_ended}
 use Rattle.quic_connection_core.proofs.Moments.{Grown, grown, Moment, moment}
-use Rattle.quic_connection_core.proofs.Way.{Both}
+use Rattle.quic_connection_core.proofs.Way.{Way, Both}
 use Rattle.quic_connection_core.proofs.Seen.{Seen, seen_from, answered}
 use Rattle.quic_connection_core.proofs.Clauses.{accepted_is, blocked_is}
 
@@ -31,68 +40,113 @@ pub record FirstIds (w : World) (client_id server_id : List ℕ) : Type 0 where
   pub client_first : own_id w.client.ids.living ≡ client_id
   pub server_first : own_id w.server.ids.living ≡ server_id
 
-module _ (both_step : (k : Policies) → AreKeys k → (client_id server_id : List ℕ) (from_client from_server : List (List ℕ)) (w next : World) (event : RunEvent) (a : Answer) (client server : List Told)
-        → Both k client_id server_id w from_client from_server client server → IsStep k w event a next → fails a ≡ false
-        → (rest : List (List ℕ)) × (w.from_client ++ rest ≡ from_client) → (rest : List (List ℕ)) × (w.from_server ++ rest ≡ from_server)
-        → Both k client_id server_id next from_client from_server (client ++ told_by Client w.client.closing.state event a) (server ++ told_by Server w.server.closing.state event a))
-    (both_first : (k : Policies) (w : World) (from_client from_server : List (List ℕ)) (s : AreStarted w) → Both k s.client_making.id s.server_making.id w from_client from_server [] [])
-    (first_ids : (w : World) (s : AreStarted w) → FirstIds w s.client_making.id s.server_making.id) where
+-- what an end is made as
+made_is : {E : Type 0} (side : Side) (settings : Settings) (r : Result ParameterValues E) (theirs : ParameterValues) (own_id peer_id : List ℕ) (now : ℕ) (validated : Bool) (e : End) → r ≡ Ok theirs → IsMade side settings r own_id peer_id now validated e → e ≡ new_end side settings theirs own_id peer_id now validated
+made_is side settings r theirs own_id peer_id now validated e is made = rw is at made
 
-  -- what a place shows of the end at each side
-  pub seen : (r : Run) (end : World) → IsHonest r → IsRun r end → (side : Side) (i : ℕ) → AreServed r i → Seen r side i
-  seen r end honest run side i served = at side
-    where
-      client_id : List ℕ
-      client_id = honest.start.client_making.id
-      server_id : List ℕ
-      server_id = honest.start.server_making.id
-      P : World → List Told → List Told → Type 0
-      P w client server = Both r.keys client_id server_id w r.from_client r.from_server client server
-      step : (w next : World) (event : RunEvent) (a : Answer) (client server : List Told) → P w client server → IsStep r.keys w event a next → fails a ≡ false → Grown w end
-          → P next (client ++ told_by Client w.client.closing.state event a) (server ++ told_by Server w.server.closing.state event a)
-      step w next event a client server both is goes g =
-          both_step r.keys honest.keys client_id server_id r.from_client r.from_server w next event a client server both is goes
-            (g.client.0, g.client.1 ∙ sym run.from_client) (g.server.0, g.server.1 ∙ sym run.from_server)
-      m : Moment r.keys end P step (until r Client i) (until r Server i) (drop i r.events) (drop i r.answers) (drop i r.views)
-      m = moment r.keys end P step i r.start r.events r.answers r.views [] [] (both_first r.keys r.start r.from_client r.from_server honest.start) run.follows served
-      g : Grown m.world end
-      g = grown r.keys m.world (drop i r.events) (drop i r.answers) (drop i r.views) end m.goes_on
-      ids : FirstIds r.start client_id server_id
-      ids = first_ids r.start honest.start
-      at : (side : Side) → Seen r side i
-      at Client =
-          seen_from r Client i m.world.server m.world.client m.world.from_server m.world.from_client client_id server_id m.holds.client_side m.holds.to_client m.holds.to_server m.holds.client_unreferred
-            ids.client ids.server_first (g.client.0, g.client.1 ∙ sym run.from_client) (λ call a is. answered r m.world end i Client call a m.goes_on is)
-      at Server =
-          seen_from r Server i m.world.client m.world.server m.world.from_client m.world.from_server server_id client_id m.holds.server_side m.holds.to_server m.holds.to_client m.holds.server_unreferred
-            ids.server ids.client_first (g.server.0, g.server.1 ∙ sym run.from_server) (λ call a is. answered r m.world end i Server call a m.goes_on is)
+client_is : (w : World) (s : AreStarted w) → w.client ≡ new_end Client s.client_making.settings (parameters_of s.server_making.settings) s.client_making.id s.server_making.id s.client_making.moment s.client_making.validated
+client_is w s = made_is Client s.client_making.settings (parameters_at s.server_making.parameters) (parameters_of s.server_making.settings) s.client_making.id s.server_making.id s.client_making.moment s.client_making.validated w.client s.server_is.says s.client
 
-  pub ordered_prefix : (r : Run) (end : World) → IsHonest r → IsRun r end → OrderedPrefix r
-  ordered_prefix r end honest run side id i served =
-      order_prefix (written id (until r (other_side side) i)) (ended id (until r (other_side side) i)) [] (nexts id (until r side i)) (written id (until r (other_side side) i), refl) ((seen r end honest run side i served).content.order id)
+server_is : (w : World) (s : AreStarted w) → w.server ≡ new_end Server s.server_making.settings (parameters_of s.client_making.settings) s.server_making.id s.client_making.id s.server_making.moment s.server_making.validated
+server_is w s = made_is Server s.server_making.settings (parameters_at s.client_making.parameters) (parameters_of s.client_making.settings) s.server_making.id s.client_making.id s.server_making.moment s.server_making.validated w.server s.client_is.says s.server
 
-  pub slices : (r : Run) (end : World) → IsHonest r → IsRun r end → Slices r
-  slices r end honest run side id i chunk served is =
-      order_slices (written id (until r (other_side side) i)) (ended id (until r (other_side side) i)) [] (nexts id (until r side i)) chunk ((seen r end honest run side i served).content.order id) is
+first_ids : (w : World) (s : AreStarted w) → FirstIds w s.client_making.id s.server_making.id
+first_ids w s = record {
+  client = ap (λ e. known e.ids) (client_is w s);
+  server = ap (λ e. known e.ids) (server_is w s);
+  client_first = ap (λ e. own_id e.ids.living) (client_is w s);
+  server_first = ap (λ e. own_id e.ids.living) (server_is w s);
+}
 
-  pub once : (r : Run) (end : World) → IsHonest r → IsRun r end → Once r
-  once r end honest run side id i served =
-      order_once (written id (until r (other_side side) i)) (ended id (until r (other_side side) i)) (nexts id (until r side i)) ((seen r end honest run side i served).content.order id)
+-- an end writes nothing, and the other reads nothing, before the first event
+way_first : (p q : Policy) (x_side y_side : Side) (x_settings y_settings : Settings) (x_id y_id : List ℕ) (x_now y_now : ℕ) (x_validated y_validated : Bool) (final : List (List ℕ)) → IsInRange y_settings
+    → Way p q y_id (new_end x_side x_settings (parameters_of y_settings) x_id y_id x_now x_validated) (new_end y_side y_settings (parameters_of x_settings) y_id x_id y_now y_validated) [] final [] []
+way_first p q x_side y_side x_settings y_settings x_id y_id x_now y_now x_validated y_validated final range = record {
+  streams = streams_first x_side x_settings (parameters_of y_settings) x_id y_id x_now x_validated range.stream_receive_window range.stream_receive_window;
+  gives = gives_first p y_id x_side x_settings (parameters_of y_settings) x_id y_id x_now x_validated;
+  active = refl;
+  count = refl;
+  content = content_start y_side (new_end y_side y_settings (parameters_of x_settings) y_id x_id y_now y_validated).sending y_settings;
+  kept = kept_start y_side y_settings;
+  accepted = accepted_start y_side y_settings;
+  knows = knows_first;
+  known = refl;
+}
 
-  pub end_after_all : (r : Run) (end : World) → IsHonest r → IsRun r end → EndAfterAll r
-  end_after_all r end honest run side id i front behind served is =
-      order_ended (written id (until r (other_side side) i)) (ended id (until r (other_side side) i)) [] (nexts id (until r side i)) front behind ((seen r end honest run side i served).content.order id) is
+both_first : (k : Policies) (w : World) (from_client from_server : List (List ℕ)) (s : AreStarted w) → Both k s.client_making.id s.server_making.id w from_client from_server [] []
+both_first k w from_client from_server s =
+    let c = s.client_making in
+    let v = s.server_making in
+    let client = new_end Client c.settings (parameters_of v.settings) c.id v.id c.moment c.validated in
+    let server = new_end Server v.settings (parameters_of c.settings) v.id c.id v.moment v.validated in
+    let is : w ≡ record { client = client; server = server; from_client = []; from_server = [] } = world_is w client server (client_is w s) (server_is w s) s.client_gave s.server_gave in
+    subst (λ u. Both k c.id v.id u from_client from_server [] []) (sym is) (record {
+      to_server = way_first k.client k.server Client Server c.settings v.settings c.id v.id c.moment v.moment c.validated v.validated from_client s.server_is.range;
+      to_client = way_first k.server k.client Server Client v.settings c.settings v.id c.id v.moment c.moment v.validated c.validated from_server s.client_is.range;
+      client_side = refl;
+      server_side = refl;
+      client_unreferred = refl;
+      server_unreferred = refl;
+    })
+  where
+    world_is : (w : World) (client server : End) → w.client ≡ client → w.server ≡ server → w.from_client ≡ [] → w.from_server ≡ [] → w ≡ record { client = client; server = server; from_client = []; from_server = [] }
+    world_is w client server a b c d = ap (λ e. record w { client = e }) a ∙ ap (λ e. record w { client = client; server = e }) b ∙ ap (λ ds. record w { client = client; server = server; from_client = ds }) c ∙ ap (λ ds. record { client = client; server = server; from_client = []; from_server = ds }) d
 
-  pub accepts_all : (r : Run) (end : World) → IsHonest r → IsRun r end → AcceptsAll r
-  accepts_all r end honest run side i dir frame index below served at taken is l =
-      let s = seen r end honest run side i served in
-      let none : answers.Accept None ≡ answers.Accept (end_accepts dir s.end) = s.answers (calls.Accept dir) (answers.Accept None) at in
-      accepted_is side dir s.end.receiving (until r side i) frame.id index below s.accepted (rw s.is at none) (s.kept.opened frame taken) (s.kept.may frame taken) is l
+-- what a place shows of the end at each side
+pub seen : (r : Run) (end : World) → IsHonest r → IsRun r end → (side : Side) (i : ℕ) → AreServed r i → Seen r side i
+seen r end honest run side i served = at side
+  where
+    client_id : List ℕ
+    client_id = honest.start.client_making.id
+    server_id : List ℕ
+    server_id = honest.start.server_making.id
+    P : World → List Told → List Told → Type 0
+    P w client server = Both r.keys client_id server_id w r.from_client r.from_server client server
+    step : (w next : World) (event : RunEvent) (a : Answer) (client server : List Told) → P w client server → IsStep r.keys w event a next → fails a ≡ false → Grown w end
+        → P next (client ++ told_by Client w.client.closing.state event a) (server ++ told_by Server w.server.closing.state event a)
+    step w next event a client server both is goes g =
+        both_step r.keys honest.keys client_id server_id honest.start.client_is.id honest.start.server_is.id r.from_client r.from_server w next event a client server both is goes
+          (g.client.0, g.client.1 ∙ sym run.from_client) (g.server.0, g.server.1 ∙ sym run.from_server)
+    m : Moment r.keys end P step (until r Client i) (until r Server i) (drop i r.events) (drop i r.answers) (drop i r.views)
+    m = moment r.keys end P step i r.start r.events r.answers r.views [] [] (both_first r.keys r.start r.from_client r.from_server honest.start) run.follows served
+    g : Grown m.world end
+    g = grown r.keys m.world (drop i r.events) (drop i r.answers) (drop i r.views) end m.goes_on
+    ids : FirstIds r.start client_id server_id
+    ids = first_ids r.start honest.start
+    at : (side : Side) → Seen r side i
+    at Client =
+        seen_from r Client i m.world.server m.world.client m.world.from_server m.world.from_client client_id server_id m.holds.client_side m.holds.to_client m.holds.to_server m.holds.client_unreferred
+          ids.client ids.server_first (g.client.0, g.client.1 ∙ sym run.from_client) (λ call a is. answered r m.world end i Client call a m.goes_on is)
+    at Server =
+        seen_from r Server i m.world.client m.world.server m.world.from_client m.world.from_server server_id client_id m.holds.server_side m.holds.to_server m.holds.to_client m.holds.server_unreferred
+          ids.server ids.client_first (g.server.0, g.server.1 ∙ sym run.from_server) (λ call a is. answered r m.world end i Server call a m.goes_on is)
 
-  pub blocked_only_without_bytes : (r : Run) (end : World) → IsHonest r → IsRun r end → BlockedOnlyWithoutBytes r
-  blocked_only_without_bytes r end honest run side i read front behind served at =
-      let s = seen r end honest run side i served in
-      blocked_is side s.end (until r (other_side side) i) (until r side i) (took r side i) read.id read.nexts.items front behind s.content s.kept (s.answers (calls.Read read) (answers.Read (Ok (front ++ Err read_errors.Blocked ∷ behind))) at)
+pub ordered_prefix : (r : Run) (end : World) → IsHonest r → IsRun r end → OrderedPrefix r
+ordered_prefix r end honest run side id i served =
+    order_prefix (written id (until r (other_side side) i)) (ended id (until r (other_side side) i)) [] (nexts id (until r side i)) (written id (until r (other_side side) i), refl) ((seen r end honest run side i served).content.order id)
 
-  pub numbers_rise : (r : Run) (end : World) → IsHonest r → IsRun r end → NumbersRise r
-  numbers_rise r end honest run side i served = (seen r end honest run side i served).rises
+pub slices : (r : Run) (end : World) → IsHonest r → IsRun r end → Slices r
+slices r end honest run side id i chunk served is =
+    order_slices (written id (until r (other_side side) i)) (ended id (until r (other_side side) i)) [] (nexts id (until r side i)) chunk ((seen r end honest run side i served).content.order id) is
+
+pub once : (r : Run) (end : World) → IsHonest r → IsRun r end → Once r
+once r end honest run side id i served =
+    order_once (written id (until r (other_side side) i)) (ended id (until r (other_side side) i)) (nexts id (until r side i)) ((seen r end honest run side i served).content.order id)
+
+pub end_after_all : (r : Run) (end : World) → IsHonest r → IsRun r end → EndAfterAll r
+end_after_all r end honest run side id i front behind served is =
+    order_ended (written id (until r (other_side side) i)) (ended id (until r (other_side side) i)) [] (nexts id (until r side i)) front behind ((seen r end honest run side i served).content.order id) is
+
+pub accepts_all : (r : Run) (end : World) → IsHonest r → IsRun r end → AcceptsAll r
+accepts_all r end honest run side i dir frame index below served at taken is l =
+    let s = seen r end honest run side i served in
+    let none : answers.Accept None ≡ answers.Accept (end_accepts dir s.end) = s.answers (calls.Accept dir) (answers.Accept None) at in
+    accepted_is side dir s.end.receiving (until r side i) frame.id index below s.accepted (rw s.is at none) (s.kept.opened frame taken) (s.kept.may frame taken) is l
+
+pub blocked_only_without_bytes : (r : Run) (end : World) → IsHonest r → IsRun r end → BlockedOnlyWithoutBytes r
+blocked_only_without_bytes r end honest run side i read front behind served at =
+    let s = seen r end honest run side i served in
+    blocked_is side s.end (until r (other_side side) i) (until r side i) (took r side i) read.id read.nexts.items front behind s.content s.kept (s.answers (calls.Read read) (answers.Read (Ok (front ++ Err read_errors.Blocked ∷ behind))) at)
+
+pub numbers_rise : (r : Run) (end : World) → IsHonest r → IsRun r end → NumbersRise r
+numbers_rise r end honest run side i served = (seen r end honest run side i served).rises

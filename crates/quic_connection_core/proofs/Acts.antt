@@ -1,0 +1,285 @@
+-- An event keeps what holds between two ends.
+use Rattle.std.proofs.Common.{◌≡◌, ℕ, zero, suc, ◌+◌, List, [], ◌∷◌, ◌++◌, length, Bool, true, false, Option, Some, None, refl, sym, ap, ◌∙◌, subst, inl, inr, arith}
+use Rattle.std.specs.Prelude.{slice_get, Ok, Err}
+use Rattle.std.proofs.lemmas.List.{append-nil, length-append}
+use Rattle.quic_wire_core.specs.declared.stream_id.Dir.{Dir}
+use Rattle.quic_wire_core.specs.declared.stream_id.Side.{Side}
+use Rattle.quic_wire_core.specs.declared.stream_id.Side.TheVariants.{Client, Server}
+use Rattle.quic_connection_core.specs.declared.answers.State.{State}
+use Rattle.quic_connection_core.specs.declared.run.RunEvent.{RunEvent}
+use Rattle.quic_connection_core.specs.declared.run.Call.{Call}
+use Rattle.quic_connection_core.specs.declared.run.Call.TheVariants as calls
+use Rattle.quic_connection_core.specs.declared.run.Delivery.{Delivery}
+use Rattle.quic_connection_core.specs.declared.run.Answer.{Answer}
+use Rattle.quic_connection_core.specs.declared.run.Answer.TheVariants as answers
+use Rattle.quic_connection_core.specs.Policy.{Policy, CanOpen}
+use Rattle.quic_connection_core.specs.Ids.{known}
+use Rattle.quic_connection_core.specs.Numbers.{Numbers}
+use Rattle.quic_connection_core.specs.Receive.{Outcome, received, own_id_length}
+use Rattle.quic_connection_core.specs.End.{End}
+use Rattle.quic_connection_core.specs.Machine.{World, Policies, IsAnswer, IsDelivered, IsLeft, IsStep, after_call, after_delivered, gives, fails}
+use Rattle.quic_connection_core.specs.Calls.{can_open, after_open_if, end_after_next, after_nexts}
+use Rattle.quic_wire.specs.Value.{StreamValue}
+use Rattle.quic_connection_core.specs.Runs.{Told, Next, Packet, Intake, In, written, ended, acknowledged_in, told_by, count_given, handed, and_handed, and_told, nothing_came, intake}
+use Rattle.quic_connection_core.specs.Headline.{IsLawful, AreKeys}
+use Rattle.quic_connection_core.proofs.Invariant.{Streams, Gives, Content, Kept, Accepted, KnowsIn, IsWritten, IsGiven}
+use Rattle.quic_connection_core.proofs.Growth.{each_at, get_front}
+use Rattle.quic_connection_core.proofs.Reading.{content_grows}
+use Rattle.quic_connection_core.proofs.Writer.{streams_step, grows_step, gives_step, ids_step, side_step}
+use Rattle.quic_connection_core.proofs.Reader.{is_delivery, told_of, content_step, kept_step, accepted_step, content_delivered, accepted_delivered}
+use Rattle.quic_connection_core.proofs.Taking.{content_frame, kept_frames, kept_frame_only, accepted_frame}
+use Rattle.quic_connection_core.proofs.Delivered.{Arrivals, by_arrival}
+use Rattle.quic_connection_core.proofs.Knowing.{knows_arrivals}
+use Rattle.quic_connection_core.proofs.Way.{Way, Both, NoReference, came}
+use Rattle.quic_connection_core.proofs.Stays.{Stays, stays_received}
+use Rattle.quic_connection_core.proofs.Steps.{gives_count}
+use Rattle.quic_connection_core.proofs.Intakes.{count_more, intake_more, nothing_handed, unreferred_more}
+use Rattle.quic_connection_core.proofs.Polls.{knows_poll}
+
+-- ---- the end that writes makes a call
+
+pub way_writer : (p q : Policy) (id : List ℕ) (x y : End) (given final theirs : List (List ℕ)) (wrote read : List Told) (call : Call) (a : Answer) (state : State) → length id ≡ 8 → IsAnswer p x theirs call a → fails a ≡ false
+    → Way p q id x y given final wrote read → Way p q id (after_call p x theirs call a) y (given ++ gives p x call a) final (wrote ++ told_of call a state ∷ []) read
+way_writer p q id x y given final theirs wrote read call a state eight is served w =
+    let all = length-append given (gives p x call a) in
+    let one = gives_count p x theirs call a is in
+    let told = count_more wrote (told_of call a state) in
+    let before = w.count in
+    let counted : length (given ++ gives p x call a) ≡ count_given (wrote ++ told_of call a state ∷ []) = omega arith in
+    record {
+  streams = subst (λ side. Streams side (after_call p x theirs call a).sending (wrote ++ told_of call a state ∷ [])) (sym (side_step p x theirs call a)) (streams_step p x theirs call a wrote state is served w.streams);
+  gives = gives_step p x theirs call a wrote state id given is served w.active eight w.streams w.gives;
+  active = ap (λ ids. ids.active.id) (ids_step p x theirs call a) ∙ w.active;
+  count = counted;
+  content = content_grows y.side y.sending y.receiving wrote (wrote ++ told_of call a state ∷ []) read (grows_step p x theirs call a wrote state is served w.streams) w.content;
+  kept = w.kept;
+  accepted = w.accepted;
+  knows = w.knows;
+  known = w.known;
+}
+
+-- ---- the end that reads makes a call
+
+-- reads change neither the clock nor the numbers
+nexts_know : (e : End) (id : ℕ) (mosts : List ℕ) (said : List Next) → ((after_nexts e id mosts said).closing ≡ e.closing) × ((after_nexts e id mosts said).numbers ≡ e.numbers)
+nexts_know e id [] said = (refl, refl)
+nexts_know e id (most ∷ mosts) [] = (refl, refl)
+nexts_know e id (most ∷ mosts) (answer ∷ said) = nexts_know (end_after_next answer e id most) id mosts said
+
+opened_knows : (b : Bool) (dir : Dir) (e : End) (i : Intake) → KnowsIn e.closing.state e.numbers i → KnowsIn (after_open_if b dir e).closing.state (after_open_if b dir e).numbers i
+opened_knows true dir e i k = k
+opened_knows false dir e i k = k
+
+-- what came is known, after a call that is no delivery
+knows_step : (q : Policy) (e : End) (theirs : List (List ℕ)) (call : Call) (a : Answer) (i : Intake) → is_delivery call ≡ false → KnowsIn e.closing.state e.numbers i → KnowsIn (after_call q e theirs call a).closing.state (after_call q e theirs call a).numbers i
+knows_step q e theirs (calls.Open dir) (answers.Open (Ok id)) i other k = opened_knows (can_open e.closing.state dir e) dir e i k
+knows_step q e theirs (calls.Open dir) a i other k = k
+knows_step q e theirs (calls.Accept dir) a i other k = k
+knows_step q e theirs (calls.Write id bytes) (answers.Write r) i other k = k
+knows_step q e theirs (calls.Write id bytes) a i other k = k
+knows_step q e theirs (calls.Finish id) a i other k = k
+knows_step q e theirs (calls.Read read) (answers.Read (Ok said)) i other k =
+    let same = nexts_know e read.id read.nexts.items said in
+    subst (λ c. KnowsIn c.state (after_nexts e read.id read.nexts.items said).numbers i) (sym same.0) (subst (λ n. KnowsIn e.closing.state n i) (sym same.1) k)
+knows_step q e theirs (calls.Read read) a i other k = k
+knows_step q e theirs (calls.Poll now) a i other k = knows_poll q e now i k
+knows_step q e theirs (calls.Deliver delivery) a i other k = cc
+
+-- a call that is no delivery hands nothing in
+none_handed : (given : List (List ℕ)) (call : Call) (a : Answer) → is_delivery call ≡ false → handed given call a ≡ None
+none_handed given (calls.Open dir) a other = refl
+none_handed given (calls.Accept dir) a other = refl
+none_handed given (calls.Write id bytes) a other = refl
+none_handed given (calls.Finish id) a other = refl
+none_handed given (calls.Read read) a other = refl
+none_handed given (calls.Poll now) a other = refl
+none_handed given (calls.Deliver delivery) a other = cc
+
+-- what came, where a call hands nothing in
+came_same : (q : Policy) (id : List ℕ) (final : List (List ℕ)) (read : List Told) (t : Told) → handed final t.call t.answer ≡ None → came q id final (read ++ t ∷ []) ≡ came q id final read
+came_same q id final read t none =
+    intake_more q (id ∷ []) final read t nothing_came
+    ∙ ap (λ o. and_handed t.state o q (id ∷ []) t.answer (came q id final read)) none
+    ∙ nothing_handed t.state q (id ∷ []) t.answer (came q id final read)
+
+-- the reader makes a call that is no delivery
+way_reads : (p q : Policy) (id : List ℕ) (x y : End) (given final : List (List ℕ)) (wrote read : List Told) (call : Call) (a : Answer) (state : State) → is_delivery call ≡ false → IsAnswer q y given call a → fails a ≡ false
+    → Way p q id x y given final wrote read → Way p q id x (after_call q y given call a) given final wrote (read ++ told_of call a state ∷ [])
+way_reads p q id x y given final wrote read call a state other is served w =
+    let end = after_call q y given call a in
+    let t = told_of call a state in
+    let side : end.side ≡ y.side = side_step q y given call a in
+    let same : came q id final (read ++ t ∷ []) ≡ came q id final read = came_same q id final read t (none_handed final call a other) in
+    record {
+      streams = w.streams;
+      gives = w.gives;
+      active = w.active;
+      count = w.count;
+      content = subst (λ s. Content s end.sending end.receiving wrote (read ++ t ∷ [])) (sym side) (content_step q y given call a wrote read state is served other w.content);
+      kept = subst (λ s. Kept s end.receiving (came q id final (read ++ t ∷ [])).took) (sym side)
+          (subst (λ i. Kept y.side end.receiving i.took) (sym same) (kept_step q y given call a wrote read (came q id final read).took is served other w.content w.kept));
+      accepted = subst (λ s. Accepted s end.receiving (read ++ t ∷ [])) (sym side) (accepted_step q y given call a wrote read state is served other w.content w.accepted);
+      knows = subst (λ i. KnowsIn end.closing.state end.numbers i) (sym same) (knows_step q y given call a (came q id final read) other w.knows);
+      known = ap (λ ids. known ids) (ids_step q y given call a) ∙ w.known;
+    }
+
+-- ---- the reader is handed a datagram
+
+-- what holds of the reader by an outcome and by what came then
+record Reads (side : Side) (ids : List (List ℕ)) (wrote read : List Told) (o : Outcome) (i : Intake) : Type 0 where
+  pub content : Content side o.end.sending o.end.receiving wrote read
+  pub kept : Kept side o.end.receiving i.took
+  pub accepted : Accepted side o.end.receiving read
+
+-- each case of a delivery keeps what holds of the reader
+delivered_reads : (y : End) (now n count : ℕ) (frame : StreamValue) (ids : List (List ℕ)) (wrote read : List Told) (i : Intake) → IsWritten (written frame.id wrote) (ended frame.id wrote) frame
+    → Content y.side y.sending y.receiving wrote read → Kept y.side y.receiving i.took → Accepted y.side y.receiving read → Arrivals y now n frame count i (Reads y.side ids wrote read)
+delivered_reads y now n count frame ids wrote read i says content kept accepted = record {
+  ignored = λ reason. record { content = content; kept = kept; accepted = accepted };
+  noted = λ state reason. record { content = content; kept = kept; accepted = accepted };
+  takes = λ state new none. record {
+    content = content_frame y.side y.sending y.receiving frame wrote read says content;
+    kept = kept_frames y.side y.sending y.receiving frame wrote read i.took n count none says content kept;
+    accepted = accepted_frame y.side y.receiving frame read accepted;
+  };
+  refuses = λ state new b is. record {
+    content = content_frame y.side y.sending y.receiving frame wrote read says content;
+    kept = kept_frame_only y.side y.sending y.receiving frame wrote read i.took says content kept;
+    accepted = accepted_frame y.side y.receiving frame read accepted;
+  };
+}
+
+-- the reader is handed a datagram that the writer gave
+way_takes : (p q : Policy) (id : List ℕ) (x y : End) (given final : List (List ℕ)) (wrote read : List Told) (delivery : Delivery) (a : Answer) (d : List ℕ) → CanOpen p q → IsLawful p → length id ≡ own_id_length
+    → slice_get given delivery.index ≡ Some d → slice_get final delivery.index ≡ Some d → a ≡ answers.Deliver (received q y delivery.now d).answer
+    → Way p q id x y given final wrote read → Way p q id x (received q y delivery.now d).end given final wrote (read ++ told_of (calls.Deliver delivery) a y.closing.state ∷ [])
+way_takes p q id x y given final wrote read delivery a d mates lawful eight at_given at_final is w =
+    let now = delivery.now in
+    let i : Intake = came q id final read in
+    let t : Told = told_of (calls.Deliver delivery) a y.closing.state in
+    let g : IsGiven p id wrote (0 + delivery.index) d = each_at (IsGiven p id wrote) 0 given delivery.index d w.gives.each at_given in
+    let o : Outcome = received q y now d in
+    let stays : Stays y o.end = stays_received q y now d in
+    let side : o.end.side ≡ y.side = stays.side in
+    let next : Intake = and_handed y.closing.state (Some d) q (known y.ids) (answers.Deliver o.answer) i in
+    let reads : Reads y.side (id ∷ []) wrote read o next =
+        by_arrival p q id wrote (0 + delivery.index) d g y now i (Reads y.side (id ∷ []) wrote read) mates lawful eight w.known w.knows
+            (delivered_reads y now (0 + delivery.index) g.count g.frame (id ∷ []) wrote read i g.says w.content w.kept w.accepted) in
+    let knows : KnowsIn o.end.closing.state o.end.numbers next =
+        by_arrival p q id wrote (0 + delivery.index) d g y now i (λ o j. KnowsIn o.end.closing.state o.end.numbers j) mates lawful eight w.known w.knows
+            (knows_arrivals y now (0 + delivery.index) g.frame g.count i w.knows) in
+    let handed_is : handed final (calls.Deliver delivery) a ≡ Some d = ap (λ b. handed final (calls.Deliver delivery) b) is ∙ at_final in
+    let came_is : came q id final (read ++ t ∷ []) ≡ next =
+        intake_more q (id ∷ []) final read t nothing_came
+        ∙ ap (λ h. and_handed y.closing.state h q (id ∷ []) a i) handed_is
+        ∙ ap (λ b. and_handed y.closing.state (Some d) q (id ∷ []) b i) is
+        ∙ ap (λ ids. and_handed y.closing.state (Some d) q ids (answers.Deliver o.answer) i) (sym w.known) in
+    record {
+      streams = w.streams;
+      gives = w.gives;
+      active = w.active;
+      count = w.count;
+      content = subst (λ s. Content s o.end.sending o.end.receiving wrote (read ++ t ∷ [])) (sym side) (content_delivered y.side o.end.sending o.end.receiving wrote read delivery a y.closing.state reads.content);
+      kept = subst (λ s. Kept s o.end.receiving (came q id final (read ++ t ∷ [])).took) (sym side) (subst (λ j. Kept y.side o.end.receiving j.took) (sym came_is) reads.kept);
+      accepted = subst (λ s. Accepted s o.end.receiving (read ++ t ∷ [])) (sym side) (accepted_delivered y.side o.end.receiving read delivery a y.closing.state reads.accepted);
+      knows = subst (λ j. KnowsIn o.end.closing.state o.end.numbers j) (sym came_is) knows;
+      known = ap (λ ids. known ids) stays.ids ∙ w.known;
+    }
+
+-- a delivery to the reader
+way_delivered : (p q : Policy) (id : List ℕ) (x y : End) (given final : List (List ℕ)) (wrote read : List Told) (delivery : Delivery) (a : Answer) → CanOpen p q → IsLawful p → length id ≡ own_id_length
+    → (rest : List (List ℕ)) × (given ++ rest ≡ final) → fails a ≡ false → (o : Option (List ℕ)) → slice_get given delivery.index ≡ o → IsDelivered q y delivery.now o a
+    → Way p q id x y given final wrote read → Way p q id x (after_delivered q y delivery.now o) given final wrote (read ++ told_of (calls.Deliver delivery) a y.closing.state ∷ [])
+way_delivered p q id x y given final wrote read delivery a mates lawful eight more served None at is w =
+    let t : Told = told_of (calls.Deliver delivery) a y.closing.state in
+    let none : handed final (calls.Deliver delivery) a ≡ None = ap (λ b. handed final (calls.Deliver delivery) b) is in
+    let same : came q id final (read ++ t ∷ []) ≡ came q id final read = came_same q id final read t none in
+    record {
+      streams = w.streams;
+      gives = w.gives;
+      active = w.active;
+      count = w.count;
+      content = content_delivered y.side y.sending y.receiving wrote read delivery a y.closing.state w.content;
+      kept = subst (λ j. Kept y.side y.receiving j.took) (sym same) w.kept;
+      accepted = accepted_delivered y.side y.receiving read delivery a y.closing.state w.accepted;
+      knows = subst (λ j. KnowsIn y.closing.state y.numbers j) (sym same) w.knows;
+      known = w.known;
+    }
+way_delivered p q id x y given final wrote read delivery a mates lawful eight more served (Some d) at (inl is) w =
+    way_takes p q id x y given final wrote read delivery a d mates lawful eight at
+        (subst (λ ds. slice_get ds delivery.index ≡ Some d) more.1 (get_front given more.0 delivery.index d at)) is
+        w
+way_delivered p q id x y given final wrote read delivery a mates lawful eight more served (Some d) at (inr is) w = cc
+
+-- the reader makes a call
+pub way_reader : (p q : Policy) (id : List ℕ) (x y : End) (given final : List (List ℕ)) (wrote read : List Told) (call : Call) (a : Answer) → CanOpen p q → IsLawful p → length id ≡ own_id_length
+    → (rest : List (List ℕ)) × (given ++ rest ≡ final) → IsAnswer q y given call a → fails a ≡ false
+    → Way p q id x y given final wrote read → Way p q id x (after_call q y given call a) given final wrote (read ++ told_of call a y.closing.state ∷ [])
+way_reader p q id x y given final wrote read (calls.Open dir) a mates lawful eight more is served w = way_reads p q id x y given final wrote read (calls.Open dir) a y.closing.state refl is served w
+way_reader p q id x y given final wrote read (calls.Accept dir) a mates lawful eight more is served w = way_reads p q id x y given final wrote read (calls.Accept dir) a y.closing.state refl is served w
+way_reader p q id x y given final wrote read (calls.Write n bytes) a mates lawful eight more is served w = way_reads p q id x y given final wrote read (calls.Write n bytes) a y.closing.state refl is served w
+way_reader p q id x y given final wrote read (calls.Finish n) a mates lawful eight more is served w = way_reads p q id x y given final wrote read (calls.Finish n) a y.closing.state refl is served w
+way_reader p q id x y given final wrote read (calls.Read call) a mates lawful eight more is served w = way_reads p q id x y given final wrote read (calls.Read call) a y.closing.state refl is served w
+way_reader p q id x y given final wrote read (calls.Poll now) a mates lawful eight more is served w = way_reads p q id x y given final wrote read (calls.Poll now) a y.closing.state refl is served w
+way_reader p q id x y given final wrote read (calls.Deliver delivery) a mates lawful eight more is served w =
+    way_delivered p q id x y given final wrote read delivery a mates lawful eight more served (slice_get given delivery.index) refl is w
+
+-- ---- both ends
+
+-- what an event leaves, where memory served
+left_by : (p : Policy) (e next : End) (theirs : List (List ℕ)) (call : Call) (a : Answer) → fails a ≡ false → IsLeft (fails a) p e theirs call a next → next ≡ after_call p e theirs call a
+left_by p e next theirs call a served is = subst (λ b. IsLeft b p e theirs call a next) served is
+
+-- the client makes a call
+client_acts : (k : Policies) → AreKeys k → (client_id server_id : List ℕ) → length client_id ≡ own_id_length → length server_id ≡ own_id_length → (from_client from_server : List (List ℕ)) (w : World) (call : Call) (a : Answer) (client server : List Told)
+    → Both k client_id server_id w from_client from_server client server → IsAnswer k.client w.client w.from_server call a → fails a ≡ false
+    → (rest : List (List ℕ)) × (w.from_server ++ rest ≡ from_server)
+    → Both k client_id server_id (record w { client = after_call k.client w.client w.from_server call a; from_client = w.from_client ++ gives k.client w.client call a }) from_client from_server (client ++ told_of call a w.client.closing.state ∷ []) server
+client_acts k keys client_id server_id eight_client eight_server from_client from_server w call a client server b is served more = record {
+  to_server = way_writer k.client k.server server_id w.client w.server w.from_client from_client w.from_server client server call a w.client.closing.state eight_server is served b.to_server;
+  to_client = way_reader k.server k.client client_id w.server w.client w.from_server from_server server client call a keys.to_client keys.server eight_client more is served b.to_client;
+  client_side = side_step k.client w.client w.from_server call a ∙ b.client_side;
+  server_side = b.server_side;
+  client_unreferred = unreferred_more k.client client_id from_server client (told_of call a w.client.closing.state) b.to_client.kept.plain b.client_unreferred;
+  server_unreferred = b.server_unreferred;
+}
+
+-- the server makes a call
+server_acts : (k : Policies) → AreKeys k → (client_id server_id : List ℕ) → length client_id ≡ own_id_length → length server_id ≡ own_id_length → (from_client from_server : List (List ℕ)) (w : World) (call : Call) (a : Answer) (client server : List Told)
+    → Both k client_id server_id w from_client from_server client server → IsAnswer k.server w.server w.from_client call a → fails a ≡ false
+    → (rest : List (List ℕ)) × (w.from_client ++ rest ≡ from_client)
+    → Both k client_id server_id (record w { server = after_call k.server w.server w.from_client call a; from_server = w.from_server ++ gives k.server w.server call a }) from_client from_server client (server ++ told_of call a w.server.closing.state ∷ [])
+server_acts k keys client_id server_id eight_client eight_server from_client from_server w call a client server b is served more = record {
+  to_server = way_reader k.client k.server server_id w.client w.server w.from_client from_client client server call a keys.to_server keys.client eight_server more is served b.to_server;
+  to_client = way_writer k.server k.client client_id w.server w.client w.from_server from_server w.from_client server client call a w.server.closing.state eight_client is served b.to_client;
+  client_side = b.client_side;
+  server_side = side_step k.server w.server w.from_client call a ∙ b.server_side;
+  client_unreferred = b.client_unreferred;
+  server_unreferred = unreferred_more k.server server_id from_client server (told_of call a w.server.closing.state) b.to_server.kept.plain b.server_unreferred;
+}
+
+-- an event keeps what holds between both ends
+pub both_step : (k : Policies) → AreKeys k → (client_id server_id : List ℕ) → length client_id ≡ own_id_length → length server_id ≡ own_id_length → (from_client from_server : List (List ℕ)) (w next : World) (event : RunEvent) (a : Answer) (client server : List Told)
+    → Both k client_id server_id w from_client from_server client server → IsStep k w event a next → fails a ≡ false
+    → (rest : List (List ℕ)) × (w.from_client ++ rest ≡ from_client) → (rest : List (List ℕ)) × (w.from_server ++ rest ≡ from_server)
+    → Both k client_id server_id next from_client from_server (client ++ told_by Client w.client.closing.state event a) (server ++ told_by Server w.server.closing.state event a)
+both_step k keys client_id server_id eight_client eight_server from_client from_server w next event a client server b step served more_client more_server = go event.side event.call step
+  where
+    go : (side : Side) (call : Call) → IsStep k w (record { side = side; call = call }) a next
+        → Both k client_id server_id next from_client from_server (client ++ told_by Client w.client.closing.state (record { side = side; call = call }) a) (server ++ told_by Server w.server.closing.state (record { side = side; call = call }) a)
+    go Client call step =
+        let end : next.client ≡ after_call k.client w.client w.from_server call a = left_by k.client w.client next.client w.from_server call a served step.end in
+        let after : World = record w { client = after_call k.client w.client w.from_server call a; from_client = w.from_client ++ gives k.client w.client call a } in
+        let is : next ≡ after =
+            step.others ∙ ap (λ e. record w { client = e; from_client = w.from_client ++ gives k.client w.client call a }) end in
+        subst (λ v. Both k client_id server_id v from_client from_server (client ++ told_of call a w.client.closing.state ∷ []) (server ++ [])) (sym is)
+            (subst (λ ts. Both k client_id server_id after from_client from_server (client ++ told_of call a w.client.closing.state ∷ []) ts) (sym (append-nil server))
+                (client_acts k keys client_id server_id eight_client eight_server from_client from_server w call a client server b step.answer served more_server))
+    go Server call step =
+        let end : next.server ≡ after_call k.server w.server w.from_client call a = left_by k.server w.server next.server w.from_client call a served step.end in
+        let after : World = record w { server = after_call k.server w.server w.from_client call a; from_server = w.from_server ++ gives k.server w.server call a } in
+        let is : next ≡ after =
+            step.others ∙ ap (λ e. record w { server = e; from_server = w.from_server ++ gives k.server w.server call a }) end in
+        subst (λ v. Both k client_id server_id v from_client from_server (client ++ []) (server ++ told_of call a w.server.closing.state ∷ [])) (sym is)
+            (subst (λ ts. Both k client_id server_id after from_client from_server ts (server ++ told_of call a w.server.closing.state ∷ [])) (sym (append-nil client))
+                (server_acts k keys client_id server_id eight_client eight_server from_client from_server w call a client server b step.answer served more_client))
