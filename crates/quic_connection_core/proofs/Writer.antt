@@ -1,5 +1,5 @@
 -- One call at the end that writes: what was written and given behind it.
-use Rattle.std.proofs.Common.{◌≡◌, ℕ, ◌+◌, ◌<◌, ◌^◌, Bool, true, false, ◌==◌, ◌||◌, List, [], ◌∷◌, ◌++◌, length, take, Option, Some, None, Result, Ok, Err, refl, sym, ap, ◌∙◌, subst, inl, inr, ◌⊎◌, arith}
+use Rattle.std.proofs.Common.{◌≡◌, ℕ, ◌<◌, ◌^◌, Bool, true, false, ◌==◌, List, [], ◌∷◌, ◌++◌, length, take, Ok, Err, refl, sym, ap, ◌∙◌, subst, inl, inr, ◌⊎◌}
 use Rattle.std.specs.Prelude.{if◌then◌else◌}
 use Rattle.std.specs.List.{slice_get}
 use Rattle.std.specs.List.Sorted.{IsStrictlySortedBy}
@@ -16,14 +16,13 @@ use Rattle.quic_connection_core.specs.declared.run.Answer.{Answer}
 use Rattle.quic_connection_core.specs.declared.run.Answer.TheVariants as answers
 use Rattle.quic_connection_core.specs.Settings.{Settings}
 use Rattle.quic_connection_core.specs.Policy.{Policy}
-use Rattle.quic_connection_core.specs.Sending.{opens, finish_answer}
+use Rattle.quic_connection_core.specs.Sending.{opens}
 use Rattle.quic_connection_core.specs.End.{End, new_end}
 use Rattle.quic_connection_core.specs.Calls.{can_open, after_open_if, is_open, end_writes, after_nexts}
 use Rattle.quic_connection_core.specs.Poll.{Polled, polled}
 use Rattle.quic_connection_core.specs.Machine.{IsAnswer, after_delivered, after_call, gives, fails}
 use Rattle.quic_connection_core.specs.Runs.{Told, written_by, written, ended}
 use Rattle.quic_connection_core.proofs.Told.{written_more, ended_more}
-use Rattle.quic_connection_core.proofs.Growth.{AllGrow}
 use Rattle.quic_connection_core.proofs.Stays.{Stays, stays_delivered, stays_nexts}
 use Rattle.quic_connection_core.proofs.Writes.{IsQuiet, quiet_streams, half_at, opened_streams, write_taken, written_streams, finished_streams}
 use Rattle.quic_connection_core.proofs.Polls.{by_poll, given_as, gives_as}
@@ -162,9 +161,10 @@ grows_step p e theirs call a told state is ok i id = record {
 }
   where
     stays : ended id told ≡ true → (written id (with_call told call a state) ≡ written id told) × (ended id (with_call told call a state) ≡ true)
-    stays over =
-        ( written_more id told (record { call = call; answer = a; state = state }) ∙ ap (λ (bs : List ℕ). written id told ++ bs) (none_behind p e theirs call a told is i id over) ∙ append-nil (written id told)
-        , ended_more id told (record { call = call; answer = a; state = state }) ∙ rw over refl )
+    stays over = (
+      written_more id told (record { call = call; answer = a; state = state }) ∙ ap (λ (bs : List ℕ). written id told ++ bs) (none_behind p e theirs call a told is i id over) ∙ append-nil (written id told),
+      ended_more id told (record { call = call; answer = a; state = state }) ∙ rw over refl,
+    )
 
 -- ---- what was given
 
