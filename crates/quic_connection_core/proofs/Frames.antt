@@ -1,14 +1,14 @@
 -- The frame that a half sends: its bytes were written, and its payload is a spelling of it.
 use Rattle.std.proofs.Common.{◌≡◌, ℕ, zero, suc, ◌+◌, ◌-◌, ◌<◌, ◌≤◌, ◌^◌, min, Bool, true, false, cond, ltb, ◌==◌, List, [], ◌∷◌, ◌++◌, length, take, drop, replicate, Some, None, refl, sym, ap, ◌∙◌, subst, arith}
-use Rattle.std.specs.Prelude.{slice_range, ◌&&◌}
+use Rattle.std.specs.Prelude.{slice_range}
 use Rattle.std.specs.List.{slice_get}
-use Rattle.std.proofs.lemmas.Bool.{ltb-false, lt-ltb, le-ltb, eqb-true, and_parts, cases_lt}
+use Rattle.std.proofs.lemmas.Bool.{ltb-false, eqb-true, and_parts}
 use Rattle.std.proofs.lemmas.List.{length-take, length-drop, length-append, length-replicate}
 use Rattle.std.proofs.lemmas.Option.{slice_get_within}
 use Rattle.quic_wire_core.specs.Law.{length-shortest, varint_size_le}
-use Rattle.quic_wire.specs.Value.{StreamValue, padding, stream}
+use Rattle.quic_wire.specs.Value.{StreamValue, padding}
 use Rattle.quic_wire.specs.Grammar.{Ends, Payload}
-use Rattle.quic_wire.specs.Writing.{spelling, stream_spelling, stream_size, StreamFits, width_of}
+use Rattle.quic_wire.specs.Writing.{stream_spelling, StreamFits, width_of}
 use Rattle.quic_wire.proofs.FrameWritten.{stream_form, spelling_form, stream_length}
 use Rattle.quic_streams_core.specs.Arrived.{byte_from}
 use Rattle.quic_streams_core.specs.Buffered as buffered

@@ -1,9 +1,8 @@
 -- What was written only grows, and what holds of datagrams holds of them behind that.
-use Rattle.std.proofs.Common.{◌≡◌, ℕ, zero, suc, ◌+◌, ◌-◌, ◌<◌, ◌≤◌, Bool, true, List, [], ◌∷◌, ◌++◌, length, Some, None, refl, sym, ap, ◌∙◌, subst, arith}
+use Rattle.std.proofs.Common.{◌≡◌, ℕ, zero, suc, ◌+◌, ◌≤◌, Bool, List, [], ◌∷◌, ◌++◌, length, Some, refl, sym, ap, ◌∙◌, subst, arith}
 use Rattle.std.specs.List.{slice_get}
 use Rattle.std.proofs.lemmas.List.{append_assoc, append-nil, length-append}
 use Rattle.quic_wire.specs.Value.{StreamValue}
-use Rattle.quic_streams_core.specs.Arrived.{byte_from}
 use Rattle.quic_connection_core.specs.Policy.{Policy}
 use Rattle.quic_connection_core.specs.Runs.{Told, written, ended}
 use Rattle.quic_connection_core.proofs.Invariant.{Grows, AllFrom, IsWritten, IsGiven}

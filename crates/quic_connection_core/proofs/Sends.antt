@@ -1,5 +1,5 @@
 -- What a poll sends: the halves that it leaves hold what was written, and its datagram has its number.
-use Rattle.std.proofs.Common.{◌≡◌, ℕ, ◌+◌, ◌-◌, ◌<◌, ◌≤◌, ◌^◌, Bool, true, false, nat_lt, List, [], ◌∷◌, ◌++◌, length, Option, Some, None, refl, sym, ap, ◌∙◌, subst, arith}
+use Rattle.std.proofs.Common.{◌≡◌, ℕ, ◌+◌, ◌-◌, ◌<◌, ◌≤◌, ◌^◌, Bool, true, false, nat_lt, List, [], ◌∷◌, ◌++◌, length, Option, Some, None, refl, ap, ◌∙◌, subst, arith}
 use Rattle.std.specs.Prelude.{if◌then◌else◌, ◌*◌}
 use Rattle.std.specs.Option.{unwrap_or}
 use Rattle.std.proofs.lemmas.Bool.{ltb-true, and_parts}
@@ -9,7 +9,7 @@ use Rattle.quic_wire.specs.Number.{truncated, width_for}
 use Rattle.quic_wire.specs.Value.{StreamValue}
 use Rattle.quic_wire.specs.Writing.{stream_spelling}
 use Rattle.quic_wire.specs.Datagram.{sent}
-use Rattle.quic_streams_core.specs.Buffered.{writes_length, sent_end}
+use Rattle.quic_streams_core.specs.Buffered.{writes_length}
 use Rattle.quic_connection_core.specs.declared.answers.State.{State}
 use Rattle.quic_connection_core.specs.declared.answers.State.TheVariants as states
 use Rattle.quic_connection_core.specs.declared.run.Call.TheVariants as calls
@@ -22,7 +22,7 @@ use Rattle.quic_connection_core.specs.End.{End}
 use Rattle.quic_connection_core.specs.Poll.{Polled, frame_of, half_after, stream_room, payload_of, datagram_with, after_sent, polled}
 use Rattle.quic_connection_core.specs.Runs.{Told, written, ended}
 use Rattle.quic_connection_core.proofs.Invariant.{IsHalf, IsGiven, Streams, Gives}
-use Rattle.quic_connection_core.proofs.Polls.{at_moment, Polls, given_as, by_poll}
+use Rattle.quic_connection_core.proofs.Polls.{at_moment, given_as, by_poll}
 use Rattle.quic_connection_core.proofs.Growth.{AllGrow, all_grow, each_push}
 use Rattle.quic_connection_core.proofs.Frames.{unsized_fills, bytes_count, frame_written, frame_fits, half_left, frame_spelled, id_narrow, padded_four, bytes_spelled}
 use Rattle.quic_connection_core.proofs.Writes.{IsQuiet, quiet_written, quiet_ended, quiet_streams, half_at, half_moved, put_streams}
@@ -50,7 +50,7 @@ polled_streams side p e now a told state i =
         let room : ℕ = stream_room (at_moment e now) id in
         let left = half_left (written id told) (ended id told) id h room (half_at side e.sending told id h i found) in
         put_streams side e.sending told t id e.sending.accepted h (half_after h room) i found (λ q ne. quiet q)
-            (half_moved (written id told) (written id (told ++ t ∷ [])) (ended id told) (ended id (told ++ t ∷ [])) (Some (half_after h room)) (quiet_written id told t (quiet id)) (quiet_ended id told t (quiet id)) left)
+        (half_moved (written id told) (written id (told ++ t ∷ [])) (ended id told) (ended id (told ++ t ∷ [])) (Some (half_after h room)) (quiet_written id told t (quiet id)) (quiet_ended id told t (quiet id)) left)
 
 -- ---- the datagram
 

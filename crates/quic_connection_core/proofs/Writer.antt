@@ -1,5 +1,5 @@
 -- One call at the end that writes: what was written and given behind it.
-use Rattle.std.proofs.Common.{◌≡◌, ℕ, ◌+◌, ◌<◌, ◌^◌, Bool, true, false, ◌==◌, ◌||◌, List, [], ◌∷◌, ◌++◌, length, take, Option, Some, None, Result, Ok, Err, refl, sym, ap, ◌∙◌, subst, inl, inr, ◌⊎◌, arith}
+use Rattle.std.proofs.Common.{◌≡◌, ℕ, ◌<◌, ◌^◌, Bool, true, false, ◌==◌, List, [], ◌∷◌, ◌++◌, length, take, Ok, Err, refl, sym, ap, ◌∙◌, subst, inl, inr, ◌⊎◌}
 use Rattle.std.specs.Prelude.{if◌then◌else◌}
 use Rattle.std.specs.List.{slice_get}
 use Rattle.std.specs.List.Sorted.{IsStrictlySortedBy}
@@ -16,15 +16,14 @@ use Rattle.quic_connection_core.specs.declared.run.Answer.{Answer}
 use Rattle.quic_connection_core.specs.declared.run.Answer.TheVariants as answers
 use Rattle.quic_connection_core.specs.Settings.{Settings}
 use Rattle.quic_connection_core.specs.Policy.{Policy}
-use Rattle.quic_connection_core.specs.Sending.{opens, finish_answer}
+use Rattle.quic_connection_core.specs.Sending.{opens}
 use Rattle.quic_connection_core.specs.End.{End, new_end}
-use Rattle.quic_connection_core.specs.Calls.{can_open, after_open_if, is_open, end_writes}
+use Rattle.quic_connection_core.specs.Calls.{can_open, after_open_if, is_open, end_writes, after_nexts}
 use Rattle.quic_connection_core.specs.Poll.{Polled, polled}
-use Rattle.quic_connection_core.specs.Machine.{IsAnswer, after_call, gives, fails}
+use Rattle.quic_connection_core.specs.Machine.{IsAnswer, after_delivered, after_call, gives, fails}
 use Rattle.quic_connection_core.specs.Runs.{Told, written_by, written, ended}
 use Rattle.quic_connection_core.proofs.Told.{written_more, ended_more}
-use Rattle.quic_connection_core.proofs.Growth.{AllGrow}
-use Rattle.quic_connection_core.proofs.Stays.{Stays, stays_same, stays_delivered, stays_nexts}
+use Rattle.quic_connection_core.proofs.Stays.{Stays, stays_delivered, stays_nexts}
 use Rattle.quic_connection_core.proofs.Writes.{IsQuiet, quiet_streams, half_at, opened_streams, write_taken, written_streams, finished_streams}
 use Rattle.quic_connection_core.proofs.Polls.{by_poll, given_as, gives_as}
 use Rattle.quic_connection_core.proofs.Sends.{polled_streams, gives_quiet, polled_gives}
@@ -50,45 +49,51 @@ pub gives_first : (p : Policy) (id : List ℕ) (side : Side) (settings : Setting
     → Gives p id (new_end side settings theirs own_id peer_id now validated).numbers [] []
 gives_first p id side settings theirs own_id peer_id now validated = record { acknowledged = refl; next = refl; each = tt }
 
--- ---- ids and sides
+-- ---- what a call leaves as it was
 
-open_if_ids : (b : Bool) (dir : Dir) (e : End) → (after_open_if b dir e).ids ≡ e.ids
-open_if_ids true dir e = refl
-open_if_ids false dir e = refl
+-- side and ids are as they were, and so is what an end numbers by
+record Keeps (e f : End) : Type 0 where
+  side : f.side ≡ e.side
+  ids : f.ids ≡ e.ids
+  next : f.numbers.next ≡ e.numbers.next
+  acknowledged : f.numbers.acknowledged ≡ e.numbers.acknowledged
 
-open_if_side : (b : Bool) (dir : Dir) (e : End) → (after_open_if b dir e).side ≡ e.side
-open_if_side true dir e = refl
-open_if_side false dir e = refl
+keeps_same : (e : End) → Keeps e e
+keeps_same e = record { side = refl; ids = refl; next = refl; acknowledged = refl }
 
-open_if_numbers : (b : Bool) (dir : Dir) (e : End) → (after_open_if b dir e).numbers ≡ e.numbers
-open_if_numbers true dir e = refl
-open_if_numbers false dir e = refl
+keeps_stays : (e f : End) → Stays e f → Keeps e f
+keeps_stays e f s = record { side = s.side; ids = s.ids; next = s.next; acknowledged = s.acknowledged }
+
+keeps_open : (b : Bool) (dir : Dir) (e : End) → Keeps e (after_open_if b dir e)
+keeps_open true dir e = record { side = refl; ids = refl; next = refl; acknowledged = refl }
+keeps_open false dir e = keeps_same e
+
+abbrev IsNoPoll : Call → Type 0
+IsNoPoll (calls.Poll now) = ⊥
+IsNoPoll call = Unit {0}
+
+-- only a poll gives numbers
+keeps_call : (p : Policy) (e : End) (theirs : List (List ℕ)) (call : Call) (a : Answer) → IsNoPoll call → Keeps e (after_call p e theirs call a)
+keeps_call p e theirs (calls.Open dir) (answers.Open (Ok id)) other = keeps_open (can_open e.closing.state dir e) dir e
+keeps_call p e theirs (calls.Open dir) a other = keeps_same e
+keeps_call p e theirs (calls.Accept dir) a other = record { side = refl; ids = refl; next = refl; acknowledged = refl }
+keeps_call p e theirs (calls.Write id bytes) (answers.Write r) other = record { side = refl; ids = refl; next = refl; acknowledged = refl }
+keeps_call p e theirs (calls.Write id bytes) a other = keeps_same e
+keeps_call p e theirs (calls.Finish id) a other = record { side = refl; ids = refl; next = refl; acknowledged = refl }
+keeps_call p e theirs (calls.Read read) (answers.Read (Ok said)) other = keeps_stays e (after_nexts e read.id read.nexts.items said) (stays_nexts e read.id read.nexts.items said)
+keeps_call p e theirs (calls.Read read) a other = keeps_same e
+keeps_call p e theirs (calls.Poll now) a other = absurd other
+keeps_call p e theirs (calls.Deliver delivery) a other = keeps_stays e (after_delivered p e delivery.now (slice_get theirs delivery.index)) (stays_delivered p e delivery.now (slice_get theirs delivery.index))
 
 -- no call changes the ids
 pub ids_step : (p : Policy) (e : End) (theirs : List (List ℕ)) (call : Call) (a : Answer) → (after_call p e theirs call a).ids ≡ e.ids
-ids_step p e theirs (calls.Open dir) (answers.Open (Ok id)) = open_if_ids (can_open e.closing.state dir e) dir e
-ids_step p e theirs (calls.Open dir) a = refl
-ids_step p e theirs (calls.Accept dir) a = refl
-ids_step p e theirs (calls.Write id bytes) (answers.Write r) = refl
-ids_step p e theirs (calls.Write id bytes) a = refl
-ids_step p e theirs (calls.Finish id) a = refl
-ids_step p e theirs (calls.Read read) (answers.Read (Ok said)) = (stays_nexts e read.id read.nexts.items said).ids
-ids_step p e theirs (calls.Read read) a = refl
 ids_step p e theirs (calls.Poll now) a = by_poll p e now (λ (q : Polled). q.end.ids ≡ e.ids) (record { silent = refl; failed = refl; idle = refl; used_up = refl; gives = λ is may id h found. refl })
-ids_step p e theirs (calls.Deliver delivery) a = (stays_delivered p e delivery.now (slice_get theirs delivery.index)).ids
+ids_step p e theirs call a = (keeps_call p e theirs call a tt).ids
 
 -- no call changes the side
 pub side_step : (p : Policy) (e : End) (theirs : List (List ℕ)) (call : Call) (a : Answer) → (after_call p e theirs call a).side ≡ e.side
-side_step p e theirs (calls.Open dir) (answers.Open (Ok id)) = open_if_side (can_open e.closing.state dir e) dir e
-side_step p e theirs (calls.Open dir) a = refl
-side_step p e theirs (calls.Accept dir) a = refl
-side_step p e theirs (calls.Write id bytes) (answers.Write r) = refl
-side_step p e theirs (calls.Write id bytes) a = refl
-side_step p e theirs (calls.Finish id) a = refl
-side_step p e theirs (calls.Read read) (answers.Read (Ok said)) = (stays_nexts e read.id read.nexts.items said).side
-side_step p e theirs (calls.Read read) a = refl
 side_step p e theirs (calls.Poll now) a = by_poll p e now (λ (q : Polled). q.end.side ≡ e.side) (record { silent = refl; failed = refl; idle = refl; used_up = refl; gives = λ is may id h found. refl })
-side_step p e theirs (calls.Deliver delivery) a = (stays_delivered p e delivery.now (slice_get theirs delivery.index)).side
+side_step p e theirs call a = (keeps_call p e theirs call a tt).side
 
 -- ---- what was written
 
@@ -156,9 +161,10 @@ grows_step p e theirs call a told state is ok i id = record {
 }
   where
     stays : ended id told ≡ true → (written id (with_call told call a state) ≡ written id told) × (ended id (with_call told call a state) ≡ true)
-    stays over =
-        ( written_more id told (record { call = call; answer = a; state = state }) ∙ ap (λ (bs : List ℕ). written id told ++ bs) (none_behind p e theirs call a told is i id over) ∙ append-nil (written id told)
-        , ended_more id told (record { call = call; answer = a; state = state }) ∙ rw over refl )
+    stays over = (
+      written_more id told (record { call = call; answer = a; state = state }) ∙ ap (λ (bs : List ℕ). written id told ++ bs) (none_behind p e theirs call a told is i id over) ∙ append-nil (written id told),
+      ended_more id told (record { call = call; answer = a; state = state }) ∙ rw over refl,
+    )
 
 -- ---- what was given
 
@@ -171,29 +177,10 @@ poll_answer p e now a (inr is) ok = let lacks = ap fails is in cc
 pub gives_step : (p : Policy) (e : End) (theirs : List (List ℕ)) (call : Call) (a : Answer) (told : List Told) (state : State) (id : List ℕ) (given : List (List ℕ)) → IsAnswer p e theirs call a → fails a ≡ false
     → e.ids.active.id ≡ id → length id ≡ 8 → Streams e.side e.sending told → Gives p id e.numbers told given
     → Gives p id (after_call p e theirs call a).numbers (told ++ record { call = call; answer = a; state = state } ∷ []) (given ++ gives p e call a)
-gives_step p e theirs (calls.Open dir) (answers.Open (Ok n)) told state id given is ok active eight s g =
-    gives_quiet p id e.numbers (after_call p e theirs (calls.Open dir) (answers.Open (Ok n))).numbers told (with_call told (calls.Open dir) (answers.Open (Ok n)) state) given (grows_step p e theirs (calls.Open dir) (answers.Open (Ok n)) told state is ok s)
-        (ap (λ n. n.acknowledged) (open_if_numbers (can_open e.closing.state dir e) dir e)) (ap (λ n. n.next) (open_if_numbers (can_open e.closing.state dir e) dir e)) g
-gives_step p e theirs (calls.Open dir) a told state id given is ok active eight s g =
-    gives_quiet p id e.numbers e.numbers told (with_call told (calls.Open dir) a state) given (grows_step p e theirs (calls.Open dir) a told state is ok s) refl refl g
-gives_step p e theirs (calls.Accept dir) a told state id given is ok active eight s g =
-    gives_quiet p id e.numbers e.numbers told (with_call told (calls.Accept dir) a state) given (grows_step p e theirs (calls.Accept dir) a told state is ok s) refl refl g
-gives_step p e theirs (calls.Write n bytes) (answers.Write r) told state id given is ok active eight s g =
-    gives_quiet p id e.numbers e.numbers told (with_call told (calls.Write n bytes) (answers.Write r) state) given (grows_step p e theirs (calls.Write n bytes) (answers.Write r) told state is ok s) refl refl g
-gives_step p e theirs (calls.Write n bytes) a told state id given is ok active eight s g =
-    gives_quiet p id e.numbers e.numbers told (with_call told (calls.Write n bytes) a state) given (grows_step p e theirs (calls.Write n bytes) a told state is ok s) refl refl g
-gives_step p e theirs (calls.Finish n) a told state id given is ok active eight s g =
-    gives_quiet p id e.numbers e.numbers told (with_call told (calls.Finish n) a state) given (grows_step p e theirs (calls.Finish n) a told state is ok s) refl refl g
-gives_step p e theirs (calls.Read read) (answers.Read (Ok said)) told state id given is ok active eight s g =
-    let stays = stays_nexts e read.id read.nexts.items said in
-    gives_quiet p id e.numbers (after_call p e theirs (calls.Read read) (answers.Read (Ok said))).numbers told (with_call told (calls.Read read) (answers.Read (Ok said)) state) given
-        (grows_step p e theirs (calls.Read read) (answers.Read (Ok said)) told state is ok s) stays.acknowledged stays.next g
-gives_step p e theirs (calls.Read read) a told state id given is ok active eight s g =
-    gives_quiet p id e.numbers e.numbers told (with_call told (calls.Read read) a state) given (grows_step p e theirs (calls.Read read) a told state is ok s) refl refl g
 gives_step p e theirs (calls.Poll now) a told state id given is ok active eight s g =
     let said = poll_answer p e now a is ok in
     let all : gives p e (calls.Poll now) a ≡ given_as (polled p e now).answer (polled p e now).datagram = ap (λ (x : Answer). gives p e (calls.Poll now) x) said ∙ gives_as p e now (polled p e now).answer in
     rw all (polled_gives e.side p e now told (with_call told (calls.Poll now) a state) id given (grows_step p e theirs (calls.Poll now) a told state is ok s) active eight s g)
-gives_step p e theirs (calls.Deliver delivery) a told state id given is ok active eight s g =
-    let stays = stays_delivered p e delivery.now (slice_get theirs delivery.index) in
-    gives_quiet p id e.numbers (after_call p e theirs (calls.Deliver delivery) a).numbers told (with_call told (calls.Deliver delivery) a state) given (grows_step p e theirs (calls.Deliver delivery) a told state is ok s) stays.acknowledged stays.next g
+gives_step p e theirs call a told state id given is ok active eight s g =
+    let keeps = keeps_call p e theirs call a tt in
+    gives_quiet p id e.numbers (after_call p e theirs call a).numbers told (with_call told call a state) given (grows_step p e theirs call a told state is ok s) keeps.acknowledged keeps.next g

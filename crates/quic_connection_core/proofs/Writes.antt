@@ -1,23 +1,19 @@
 -- What each call makes of the sending halves: they hold all that was written.
-use Rattle.std.proofs.Common.{◌≡◌, ℕ, zero, suc, ◌+◌, ◌-◌, ◌<◌, ◌≤◌, ◌^◌, min, Bool, true, false, cond, ◌==◌, ◌||◌, List, [], ◌∷◌, ◌++◌, length, take, Option, Some, None, Result, Ok, Err, refl, sym, ap, ◌∙◌, subst, inl, inr, ◌⊎◌, arith}
-use Rattle.std.specs.Prelude.{◌&&◌, if◌then◌else◌}
-use Rattle.std.specs.Ordering.{nat_cmp}
-use Rattle.std.specs.Map.{keys_of}
-use Rattle.std.specs.List.Sorted.{IsStrictlySortedBy}
+use Rattle.std.proofs.Common.{◌≡◌, ℕ, ◌+◌, ◌-◌, ◌<◌, ◌≤◌, ◌^◌, min, Bool, true, false, ◌==◌, ◌||◌, List, [], ◌∷◌, ◌++◌, length, take, Option, Some, None, Result, Ok, Err, refl, sym, ap, ◌∙◌, subst, inl, inr, ◌⊎◌, arith}
+use Rattle.std.specs.Prelude.{if◌then◌else◌}
 use Rattle.std.proofs.lemmas.Bool.{eqb-true, eq-eqb, ne_eqb, and_parts, cases_eq}
 use Rattle.std.proofs.lemmas.List.{append-nil, length-append, length-take}
 use Rattle.quic_wire_core.specs.declared.stream_id.Side.{Side}
 use Rattle.quic_wire_core.specs.declared.stream_id.Side.TheVariants.{Client, Server}
 use Rattle.quic_wire_core.specs.declared.stream_id.Dir.{Dir}
 use Rattle.quic_wire_core.specs.declared.stream_id.Dir.TheVariants.{Bi, Uni}
-use Rattle.quic_wire_core.specs.StreamId.{stream_id}
 use Rattle.quic_connection_core.specs.declared.answers.State.{State}
 use Rattle.quic_connection_core.specs.declared.answers.WriteError.{WriteError}
 use Rattle.quic_connection_core.specs.declared.answers.WriteError.TheVariants as write_errors
 use Rattle.quic_connection_core.specs.declared.answers.FinishError.TheVariants as finish_errors
 use Rattle.quic_connection_core.specs.declared.run.Call.TheVariants as calls
 use Rattle.quic_connection_core.specs.declared.run.Answer.TheVariants as answers
-use Rattle.quic_connection_core.specs.Table.{Table, at, put, added}
+use Rattle.quic_connection_core.specs.Table.{at, put, added}
 use Rattle.quic_connection_core.specs.Sending as sending
 use Rattle.quic_connection_core.specs.Sending.{Sending, SendHalf, written_on, opens, next_id, new_half, after_open, taken_by, written_to, write_answer, grown, after_written, finish_of, ended_at, after_finish}
 use Rattle.quic_connection_core.specs.Runs.{Told, written_by, written, ended_by, ended}
@@ -229,8 +225,8 @@ written_streams is_open side s told state id bytes (Ok n) (inl is) i =
     let few = taken.few in
     let more : IsHalf (written id told ++ take n bytes) (ended id told) (grown taken.half (take n bytes)) = grown_is (written id told) (take n bytes) (ended id told) taken.half (half_at side s told id taken.half i taken.found) (omega arith) in
     let now : IsHalf (written id (told ++ t ∷ [])) (ended id (told ++ t ∷ [])) (grown taken.half (take n bytes)) =
-        half_moved (written id told ++ take n bytes) (written id (told ++ t ∷ [])) (ended id told) (ended id (told ++ t ∷ [])) (Some (grown taken.half (take n bytes)))
-            (written_more id told t ∙ ap (λ (bs : List ℕ). written id told ++ bs) wrote) (ended_more id told t ∙ or_false (ended id told)) more in
+    half_moved (written id told ++ take n bytes) (written id (told ++ t ∷ [])) (ended id told) (ended id (told ++ t ∷ [])) (Some (grown taken.half (take n bytes)))
+    (written_more id told t ∙ ap (λ (bs : List ℕ). written id told ++ bs) wrote) (ended_more id told t ∙ or_false (ended id told)) more in
     rw taken.found (put_streams side s told t id (s.accepted + n) taken.half (grown taken.half (take n bytes)) i taken.found (write_quiet id n bytes state) now)
 
 -- ---- finish
@@ -254,8 +250,8 @@ ended_streams side s told state id (Some h) found i = go h.finished refl
         let here : (ended id told || (id == id)) ≡ true = rw (← half.finished, is, eq-eqb id id refl) refl in
         let over : ended id (told ++ t ∷ []) ≡ true = ended_more id told t ∙ here in
         let now : IsHalf (written id (told ++ t ∷ [])) (ended id (told ++ t ∷ [])) (sending.ended h) =
-            half_moved (written id told) (written id (told ++ t ∷ [])) true (ended id (told ++ t ∷ [])) (Some (sending.ended h)) wrote over
-                (record { base = half.base; kept = half.kept; unsent = half.unsent; finished = refl; within = half.within; limit = half.limit }) in
+        half_moved (written id told) (written id (told ++ t ∷ [])) true (ended id (told ++ t ∷ [])) (Some (sending.ended h)) wrote over
+        (record { base = half.base; kept = half.kept; unsent = half.unsent; finished = refl; within = half.within; limit = half.limit }) in
         put_streams side s told t id s.accepted h (sending.ended h) i found (finish_quiet id state) now
 
 -- a finish leaves what it says
