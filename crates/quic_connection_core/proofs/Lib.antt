@@ -7,7 +7,7 @@ mod Rising
 mod Seen
 mod Clauses
 mod Acts
-mod Whole
+pub mod Whole
 mod Steps
 mod Polls
 mod Window

@@ -4,6 +4,7 @@
 
 mod answers;
 mod config;
+pub mod headline;
 mod instant;
 pub mod laws;
 mod run;

@@ -1,0 +1,41 @@
+//! What every run of two honest ends keeps. Each function does nothing: its contract is the law, of every run of the
+//! reference machine whose ends, keys and applications meet the premises.
+ghost use Rattle.quic_connection_core.specs.Machine.{World};
+ghost use Rattle.quic_connection_core.specs.Runs.{Run};
+ghost use Rattle.quic_connection_core.specs.Headline.{IsHonest, IsRun, OrderedPrefix, Slices, Once, EndAfterAll, BlockedOnlyWithoutBytes, AcceptsAll, NumbersRise};
+
+/// The bytes read of a stream at one end are a prefix of those written on it at the other (RFC 9000, section 2.2).
+pub fn ordered_prefix()
+    ensures { (r : Run) (end : World) → IsHonest r → IsRun r end → OrderedPrefix r }
+{}
+
+/// Each chunk that is read is a slice of what was written, at its offset.
+pub fn slices()
+    ensures { (r : Run) (end : World) → IsHonest r → IsRun r end → Slices r }
+{}
+
+/// No offset of a stream is read twice.
+pub fn once()
+    ensures { (r : Run) (end : World) → IsHonest r → IsRun r end → Once r }
+{}
+
+/// The end of a stream is told only where the other end finished it, and every byte was read before.
+pub fn end_after_all()
+    ensures { (r : Run) (end : World) → IsHonest r → IsRun r end → EndAfterAll r }
+{}
+
+/// A read is blocked only where neither the next byte nor, with all read, the end has arrived.
+pub fn blocked_only_without_bytes()
+    ensures { (r : Run) (end : World) → IsHonest r → IsRun r end → BlockedOnlyWithoutBytes r }
+{}
+
+/// Nothing is accepted only where every stream of that kind that arrived was accepted.
+pub fn accepts_all()
+    ensures { (r : Run) (end : World) → IsHonest r → IsRun r end → AcceptsAll r }
+{}
+
+/// Each datagram given is the datagram of a number, the peer's id and stated frames, and its number is above all before
+/// (RFC 9000, section 12.3).
+pub fn numbers_rise()
+    ensures { (r : Run) (end : World) → IsHonest r → IsRun r end → NumbersRise r }
+{}
