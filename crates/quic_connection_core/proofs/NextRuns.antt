@@ -1,11 +1,11 @@
 -- The `next`s of one read, one after another: they answer in order, keep what frames said, and block only where nothing came.
-use Rattle.std.proofs.Common.{◌≡◌, ℕ, ◌⊎◌, inl, inr, length, List, [], ◌∷◌, ◌++◌, Bool, Option, Some, None, Ok, Err, refl, sym, ap, ◌∙◌, subst, append_assoc, append-nil}
+use Rattle.std.proofs.Common.{◌≡◌, ℕ, ◌⊎◌, inl, inr, length, List, [], ◌∷◌, ◌++◌, Bool, Option, Some, None, Ok, Err, refl, sym, ◌∙◌, subst, append_assoc, append-nil}
 use Rattle.std.specs.Ordering.{nat_cmp}
 use Rattle.std.specs.Map.{keys_of}
 use Rattle.std.specs.List.Sorted.{IsStrictlySortedBy}
 use Rattle.quic_wire.specs.Value.{StreamValue}
 use Rattle.quic_connection_core.specs.declared.answers.ReadError.TheVariants as read_errors
-use Rattle.quic_connection_core.specs.Table.{Table, at}
+use Rattle.quic_connection_core.specs.Table.{at}
 use Rattle.quic_connection_core.specs.Receiving.{RecvHalf, Receiving, next_answer, after_next}
 use Rattle.quic_connection_core.specs.End.{End}
 use Rattle.quic_connection_core.specs.Calls.{AreNexts, after_nexts, end_after_next}

@@ -1,18 +1,18 @@
 -- The end that reads takes a STREAM frame of what the other end wrote.
-use Rattle.std.proofs.Common.{◌≡◌, ℕ, ◌+◌, ◌^◌, ◌<◌, ◌≤◌, ◌⊎◌, inl, inr, max, Bool, true, false, not, nat_lt, nat_le, if◌then◌else◌, zero, suc, length, List, [], ◌∷◌, replicate, Option, Some, None, refl, sym, ap, ◌∙◌, subst, arith}
+use Rattle.std.proofs.Common.{◌≡◌, ℕ, ◌+◌, ◌^◌, ◌<◌, ◌≤◌, ◌⊎◌, inl, inr, max, Bool, true, false, not, nat_lt, nat_le, if◌then◌else◌, zero, suc, List, ◌∷◌, replicate, Option, Some, None, refl, sym, ap, ◌∙◌, subst, arith}
 use Rattle.std.proofs.lemmas.Bool.{ltb-true, ltb-false, leb-false, cases_eq}
 use Rattle.quic_wire_core.specs.declared.stream_id.Side.{Side}
 use Rattle.quic_wire_core.specs.declared.stream_id.Side.TheVariants.{Client, Server}
 use Rattle.quic_wire_core.specs.declared.stream_id.Dir.{Dir}
 use Rattle.quic_wire_core.specs.StreamId.{index_of}
-use Rattle.quic_wire.specs.Value.{FrameValue, StreamValue, stream, padding}
+use Rattle.quic_wire.specs.Value.{StreamValue, stream, padding}
 use Rattle.quic_connection_core.specs.declared.answers.Breach.{Breach}
 use Rattle.quic_connection_core.specs.declared.answers.Breach.TheVariants.{FlowControl, StreamLimit, StreamState, FinalSize}
-use Rattle.quic_connection_core.specs.Table.{at, added}
+use Rattle.quic_connection_core.specs.Table.{at}
 use Rattle.quic_connection_core.specs.Sending.{Sending, opens}
 use Rattle.quic_connection_core.specs.Receiving.{Receiving, RecvHalf, untouched, end_of, may_receive, half_for, with_frame, breaks_final, breaks_limit, breach_on, breach_at, refusal, kept_at, breach_kept, stream_breach, after_refusal, after_stream}
 use Rattle.quic_connection_core.specs.Runs.{Told, Packet, In, WasTaken, nexts, written, ended, acknowledged_in}
-use Rattle.quic_connection_core.proofs.Invariant.{IsWritten, frames_with, IsReading, IsFresh, IsKept, Content, Kept, Accepted}
+use Rattle.quic_connection_core.proofs.Invariant.{IsWritten, frames_with, IsReading, IsKept, Content, Kept, Accepted}
 use Rattle.quic_connection_core.proofs.Tables.{at-added, at-apart, sorted-added}
 use Rattle.quic_connection_core.proofs.Reading.{reading_frame, reading_untouched, kept_frame, kept_over_frame}
 use Rattle.quic_connection_core.proofs.Opened.{reading_added}
@@ -180,15 +180,19 @@ kept_packet side s r f wrote read took number count o may e w c k = record {
     old : (g : StreamValue) (h : RecvHalf) → WasTaken took g → (g.id ≡ f.id) ⊎ (g.id ≡ f.id → ⊥) → at (kept_at o r f).halves g.id ≡ Some h → IsKept g h
     old g h t (inl same) found = kept_there side s r f g wrote read took o h may e w c k t same (subst (λ q. at (kept_at o r f).halves q ≡ Some h) same found)
     old g h t (inr apart) found = k.kept g h t (sym (kept_elsewhere o r f g.id apart) ∙ found)
+
     kept : (g : StreamValue) (h : RecvHalf) → (g ≡ f) ⊎ WasTaken took g → at (kept_at o r f).halves g.id ≡ Some h → IsKept g h
     kept g h (inl same) found = rw same (kept_here side s r f wrote read o h may e c (subst (λ x. at (kept_at o r f).halves x.id ≡ Some h) same found))
     kept g h (inr t) found = old g h t (cases_eq g.id f.id) found
+
     may_be : (g : StreamValue) → (g ≡ f) ⊎ WasTaken took g → may_receive side g.id ≡ true
     may_be g (inl same) = rw same may
     may_be g (inr t) = k.may g t
+
     opened : (g : StreamValue) → (g ≡ f) ⊎ WasTaken took g → index_of g.id < (kept_at o r f).opened_bi
     opened g (inl same) = rw same (opened_for o r f e)
     opened g (inr t) = let below = k.opened g t in let more = opened_more o r f in omega arith
+
     plain : (packet : Packet) → In packet (packet_with number f count ∷ took) → acknowledged_in packet.frames ≡ 0
     plain packet (inl is) = rw is (no_acknowledgements count)
     plain packet (inr i) = k.plain packet i
@@ -202,6 +206,28 @@ kept_frames side s r f wrote read took number count b w c k = go (refusal side r
     go None e b =
         let p = passes side r f e in
         kept_packet side s r f wrote read took number count (half_for (at r.halves f.id) r f.id) p.may refl w c k
+
+-- fewer packets leave less to keep
+kept_fewer : (side : Side) (r : Receiving) (packet : Packet) (took : List Packet) → Kept side r (packet ∷ took) → Kept side r took
+kept_fewer side r packet took k = record {
+  kept = λ f h w e. k.kept f h (more f w) e;
+  may = λ f w. k.may f (more f w);
+  opened = λ f w. k.opened f (more f w);
+  plain = λ p i. k.plain p (inr i);
+}
+  where
+    more : (f : StreamValue) → WasTaken took f → WasTaken (packet ∷ took) f
+    more f w = record { packet = w.packet; was_taken = inr w.was_taken; carried = w.carried }
+
+-- a frame that was written leaves what earlier packets said, taken or refused
+pub kept_frame_only : (side : Side) (s : Sending) (r : Receiving) (f : StreamValue) (wrote read : List Told) (took : List Packet) → IsWritten (written f.id wrote) (ended f.id wrote) f → Content side s r wrote read → Kept side r took → Kept side (after_stream side r f) took
+kept_frame_only side s r f wrote read took w c k = go (refusal side r f) refl
+  where
+    go : (o : Option Breach) → refusal side r f ≡ o → Kept side (after_refusal o r f) took
+    go (Some b) e = k
+    go None e =
+        let p = passes side r f e in
+        kept_fewer side (kept_at (half_for (at r.halves f.id) r f.id) r f) (packet_with 0 f 0) took (kept_packet side s r f wrote read took 0 0 (half_for (at r.halves f.id) r f.id) p.may refl w c k)
 
 -- ---- accepted streams
 
