@@ -1,7 +1,12 @@
 -- What the machine sees of two ends with their keys, and of the datagrams that they gave.
-use Rattle.std.specs.Prelude.{[]}
+use Rattle.std.specs.Prelude.{ℕ, List, [], ◌∷◌}
 use Rattle.quic_wire.specs.Keys.{OfFirst, OfNumber, Seal, Open}
+use Rattle.quic_wire.specs.declared.crypto.Keys.{Keys}
+use Rattle.quic_connection_core.specs.declared.run.RunEvent.{RunEvent}
+use Rattle.quic_connection_core.specs.declared.run.Answer.{Answer}
+use Rattle.quic_connection_core.specs.declared.run.View.{View}
 use Rattle.quic_connection_core.specs.End.{Whole, policy_of}
+use Rattle.quic_connection_core.specs.Runs.{Run}
 use Rattle.quic_connection_core.specs.Policy.{Policy}
 use Rattle.quic_connection_core.specs.Machine.{World, Policies}
 use Rattle.quic_connection.specs.declared.running.Ends.{Ends}
@@ -20,4 +25,31 @@ abbrev pub policies_of : {H K R : Type 0} → (H → OfFirst) → (H → OfNumbe
 policies_of masks hides unmasks reveals sealed opened ends = record {
   client = policy_of masks hides unmasks reveals sealed opened ends.client;
   server = policy_of masks hides unmasks reveals sealed opened ends.server;
+}
+
+-- what keys do: an end protects with the local ones, and opens with the remote ones
+abbrev pub keys_policy : {H K : Type 0} → (H → OfFirst) → (H → OfNumber) → (H → OfFirst) → (H → OfNumber) → (K → Seal) → (K → Open) → Keys H K → Policy
+keys_policy masks hides unmasks reveals sealed opened keys = record {
+  mask = masks keys.header.local;
+  hide = hides keys.header.local;
+  seal = sealed keys.packet.local;
+  unmask = unmasks keys.header.remote;
+  reveal = reveals keys.header.remote;
+  unseal = opened keys.packet.remote;
+}
+
+-- transport parameters in ascending order of their ids
+abbrev pub in_order : List ℕ
+in_order = 0 ∷ 1 ∷ 2 ∷ 3 ∷ 4 ∷ 5 ∷ 6 ∷ 7 ∷ 8 ∷ 9 ∷ 10 ∷ 11 ∷ 12 ∷ []
+
+-- a run that began with these ends
+abbrev pub run_of : {H K R : Type 0} → Policies → Ends H K R → List RunEvent → List Answer → List View → Given → Run
+run_of keys ends events answers views given = record {
+  keys = keys;
+  start = first_world ends;
+  events = events;
+  answers = answers;
+  views = views;
+  from_client = given.client.items;
+  from_server = given.server.items;
 }

@@ -3,6 +3,7 @@ ghost use Rattle.std.specs.Prelude.{◌≡◌, IfOk, Ok};
 ghost use Rattle.quic_wire.specs.ParametersWritten.{IsWriteOrder, written_parameters};
 ghost use Rattle.quic_wire.specs.ParametersRead.{parameters_at};
 ghost use Rattle.quic_connection_core.specs.Settings.{parameters_of};
+ghost use Rattle.quic_connection_core.specs.Headline.{IsInRange};
 
 use quic_connection_core::TransportConfig;
 use std::alloc::{AllocError, Global};
@@ -45,6 +46,7 @@ impl Config {
         requires { IsWriteOrder order.now }
         ensures bytes { IfOk result (λ v. v.items ≡ written_parameters (parameters_of self.now) order.now) }
         ensures read_back { IfOk result (λ v. parameters_at v.items ≡ Ok (parameters_of self.now)) }
+        ensures range { IsInRange self.now }
     {
         self.transport.transport_parameters().write(alloc, order)
     }

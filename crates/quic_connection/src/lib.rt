@@ -5,6 +5,7 @@
 mod config;
 mod connection;
 mod handles;
+mod pair;
 mod running;
 mod streams;
 
@@ -16,5 +17,6 @@ pub use quic_connection_core::{
     Instant, LostReason, Nexts, ReadCall, ReadError, ReadableError, Received, RunEvent, State,
     Transmit, TransportConfig, View, WriteError,
 };
+pub use pair::Making;
 pub use quic_streams_core::Chunk;
 pub use running::{Ends, Given, Outcome, run, step};

@@ -1,4 +1,17 @@
 mod Invariant
+mod Order
+mod Moments
+mod Way
+mod Intakes
+mod Rising
+mod Seen
+mod Clauses
+mod Whole
+mod Steps
+mod Polls
+mod Window
+mod Delivered
+mod Knowing
 pub mod Next
 pub mod NextRuns
 pub mod Quiet
@@ -13,3 +26,6 @@ mod Told
 mod Growth
 mod Stays
 mod Frames
+mod Writes
+mod Sends
+mod Writer

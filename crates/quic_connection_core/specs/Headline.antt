@@ -20,8 +20,8 @@ use Rattle.quic_connection_core.specs.Policy.{Policy, CanOpen}
 use Rattle.quic_connection_core.specs.End.{End, MadeFrom}
 use Rattle.quic_connection_core.specs.Receive.{own_id_length}
 use Rattle.quic_connection_core.specs.Poll.{IsDatagram}
-use Rattle.quic_connection_core.specs.Machine.{World, Policies, policy_at}
-use Rattle.quic_connection_core.specs.Runs.{Run, Told, Next, In, until, AreServed, written, ended, nexts, chunks_of, reads, bytes_of, offsets_of, ids_of, accepts, took, WasTaken, Arrived, EndArrived, given_until, references_until, first_id_of_peer}
+use Rattle.quic_connection_core.specs.Machine.{World, Policies, policy_at, Follows}
+use Rattle.quic_connection_core.specs.Runs.{Run, Told, Next, In, until, AreServed, written, ended, nexts, chunks_of, reads, bytes_of, offsets_of, ids_of, accepts, took, WasTaken, HasArrived, EndHasArrived, given_until, references_until, first_id_of_peer}
 
 -- ---- the premises
 
@@ -96,22 +96,34 @@ pub record IsAt (r : Run) (i : ℕ) (side : Side) (call : Call) (a : Answer) : T
   pub event : slice_get r.events i ≡ Some (record { side = side; call = call })
   pub answer : slice_get r.answers i ≡ Some a
 
--- Ordered reads of each stream at each end, `side`, at each place, behind which no delivery or poll met want of memory.
-pub record OrderedReads (r : Run) : Type 0 where
-  -- the bytes read are a prefix of the bytes that the other end wrote
-  pub prefix : (side : Side) (id i : ℕ) → AreServed r i → IsPrefixOf (bytes_of (reads id (until r side i))) (written id (until r (other_side side) i))
-  -- each chunk is a slice of what was written, at its offset
-  pub slices : (side : Side) (id i : ℕ) (chunk : Chunk) → AreServed r i → In chunk (reads id (until r side i)) → take (length chunk.bytes) (drop chunk.offset (written id (until r (other_side side) i))) ≡ chunk.bytes
-  -- no offset is read twice
-  pub once : (side : Side) (id i : ℕ) → AreServed r i → IsDistinct eqb (offsets_of (reads id (until r side i)))
-  -- the end is told only where the other end finished the stream, and every byte was read before
-  pub ended : (side : Side) (id i : ℕ) (front behind : List Next) → AreServed r i → nexts id (until r side i) ≡ front ++ Ok None ∷ behind → (ended id (until r (other_side side) i) ≡ true) × (bytes_of (chunks_of front) ≡ written id (until r (other_side side) i))
-  -- a read is blocked only where neither the next byte nor, with all read, the end has arrived
-  pub blocked : (side : Side) (i : ℕ) (read : ReadCall) (front behind : List Next) → AreServed r i → IsAt r i side (calls.Read read) (answers.Read (Ok (front ++ Err read_errors.Blocked ∷ behind)))
-    → (Arrived (took r side i) read.id (length (bytes_of (reads read.id (until r side i) ++ chunks_of front))) → ⊥)
-    × (EndArrived (took r side i) read.id (length (bytes_of (reads read.id (until r side i) ++ chunks_of front))) → ⊥)
-  -- nothing is accepted only where each stream of that kind that arrived, and each below it, was accepted
-  pub accepted : (side : Side) (i : ℕ) (dir : Dir) (frame : StreamValue) (index below : ℕ) → AreServed r i → IsAt r i side (calls.Accept dir) (answers.Accept None)
+-- Each clause speaks of the end at `side`, and of a place before which no delivery and no poll met want of memory.
+
+-- the bytes read are a prefix of the bytes that the other end wrote
+abbrev pub OrderedPrefix : Run → Type 0
+OrderedPrefix r = (side : Side) (id i : ℕ) → AreServed r i → IsPrefixOf (bytes_of (reads id (until r side i))) (written id (until r (other_side side) i))
+
+-- each chunk is a slice of what was written, at its offset
+abbrev pub Slices : Run → Type 0
+Slices r = (side : Side) (id i : ℕ) (chunk : Chunk) → AreServed r i → In chunk (reads id (until r side i)) → take (length chunk.bytes) (drop chunk.offset (written id (until r (other_side side) i))) ≡ chunk.bytes
+
+-- no offset is read twice
+abbrev pub Once : Run → Type 0
+Once r = (side : Side) (id i : ℕ) → AreServed r i → IsDistinct eqb (offsets_of (reads id (until r side i)))
+
+-- the end is told only where the other end finished the stream, and every byte was read before
+abbrev pub EndAfterAll : Run → Type 0
+EndAfterAll r = (side : Side) (id i : ℕ) (front behind : List Next) → AreServed r i → nexts id (until r side i) ≡ front ++ Ok None ∷ behind
+    → (ended id (until r (other_side side) i) ≡ true) × (bytes_of (chunks_of front) ≡ written id (until r (other_side side) i))
+
+-- a read is blocked only where neither the next byte nor, with all read, the end has arrived
+abbrev pub BlockedOnlyWithoutBytes : Run → Type 0
+BlockedOnlyWithoutBytes r = (side : Side) (i : ℕ) (read : ReadCall) (front behind : List Next) → AreServed r i → IsAt r i side (calls.Read read) (answers.Read (Ok (front ++ Err read_errors.Blocked ∷ behind)))
+    → (HasArrived (took r side i) read.id (length (bytes_of (reads read.id (until r side i) ++ chunks_of front))) → ⊥)
+    × (EndHasArrived (took r side i) read.id (length (bytes_of (reads read.id (until r side i) ++ chunks_of front))) → ⊥)
+
+-- nothing is accepted only where each stream of that kind that arrived, and each below it, was accepted
+abbrev pub AcceptsAll : Run → Type 0
+AcceptsAll r = (side : Side) (i : ℕ) (dir : Dir) (frame : StreamValue) (index below : ℕ) → AreServed r i → IsAt r i side (calls.Accept dir) (answers.Accept None)
     → WasTaken (took r side i) frame → frame.id ≡ stream_id (other_side side) dir index → below ≤ index → In (stream_id (other_side side) dir below) (accepts (until r side i))
 
 -- ---- numbers
@@ -130,3 +142,11 @@ Rise p id low (reference ∷ references) (d ∷ ds) = (number : ℕ) × (low ≤
 -- at each end and each place, each datagram given is that of a number, the peer's id and stated frames, and the numbers rise
 abbrev pub NumbersRise : Run → Type 0
 NumbersRise r = (side : Side) (i : ℕ) → AreServed r i → Rise (policy_at side r.keys) (first_id_of_peer r side) 0 (references_until r side i) (given_until r side i)
+
+-- ---- a run of the machine
+
+-- the answers and views may come of the events, and these are the datagrams that the ends gave
+pub record IsRun (r : Run) (end : World) : Type 0 where
+  pub follows : Follows r.keys r.start r.events r.answers r.views end
+  pub from_client : r.from_client ≡ end.from_client
+  pub from_server : r.from_server ≡ end.from_server

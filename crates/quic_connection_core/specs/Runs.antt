@@ -279,7 +279,7 @@ pub record WasTaken (packets : List Packet) (frame : StreamValue) : Type 0 where
   pub carried : In (stream frame) packet.frames
 
 -- An offset of a stream arrived: it stands in a frame that was taken.
-pub record Arrived (packets : List Packet) (id offset : ℕ) : Type 0 where
+pub record HasArrived (packets : List Packet) (id offset : ℕ) : Type 0 where
   pub frame : StreamValue
   pub taken : WasTaken packets frame
   pub of_stream : frame.id ≡ id
@@ -287,7 +287,7 @@ pub record Arrived (packets : List Packet) (id offset : ℕ) : Type 0 where
   pub below : offset < frame.offset + length frame.bytes
 
 -- The end of a stream arrived, behind so many bytes.
-pub record EndArrived (packets : List Packet) (id size : ℕ) : Type 0 where
+pub record EndHasArrived (packets : List Packet) (id size : ℕ) : Type 0 where
   pub frame : StreamValue
   pub taken : WasTaken packets frame
   pub of_stream : frame.id ≡ id

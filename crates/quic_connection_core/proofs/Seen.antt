@@ -1,0 +1,82 @@
+-- What a place of an honest run shows of the end at one side.
+use Rattle.std.proofs.Common.{◌≡◌, ℕ, zero, suc, List, [], ◌∷◌, ◌++◌, take, drop, length, replicate, Option, Some, None, refl, sym, ap, ◌∙◌, subst}
+use Rattle.std.specs.Prelude.{slice_get}
+use Rattle.std.proofs.lemmas.List.{append-nil}
+use Rattle.quic_wire_core.specs.declared.stream_id.Side.{Side}
+use Rattle.quic_wire_core.specs.declared.stream_id.Side.TheVariants.{Client, Server}
+use Rattle.quic_wire_core.specs.StreamId.{other_side}
+use Rattle.quic_connection_core.specs.declared.run.RunEvent.{RunEvent}
+use Rattle.quic_connection_core.specs.declared.run.Call.{Call}
+use Rattle.quic_connection_core.specs.declared.run.Answer.{Answer}
+use Rattle.quic_connection_core.specs.declared.run.View.{View}
+use Rattle.quic_connection_core.specs.Policy.{Policy}
+use Rattle.quic_connection_core.specs.Ids.{known}
+use Rattle.quic_connection_core.specs.End.{End}
+use Rattle.quic_connection_core.specs.Machine.{World, Policies, IsAnswer, IsStep, policy_at, end_at, given_by, Follows}
+use Rattle.quic_connection_core.specs.Runs.{Run, Told, until, took, given_of, intake, nothing_came, references, references_until, given_until, count_given, first_id_of_peer}
+use Rattle.quic_connection_core.specs.Headline.{Rise, IsAt}
+use Rattle.quic_connection_core.proofs.Invariant.{Content, Kept, Accepted}
+use Rattle.quic_connection_core.proofs.Way.{Way, Both, came, NoReference}
+use Rattle.quic_connection_core.proofs.Rising.{rise}
+
+-- the end at a side, at a place, where the other side writes and this one reads; and what it answers there
+pub record Seen (r : Run) (side : Side) (i : ℕ) : Type 0 where
+  pub end : End
+  pub theirs : List (List ℕ)
+  pub is : end.side ≡ side
+  pub content : Content side end.sending end.receiving (until r (other_side side) i) (until r side i)
+  pub kept : Kept side end.receiving (took r side i)
+  pub accepted : Accepted side end.receiving (until r side i)
+  pub rises : Rise (policy_at side r.keys) (first_id_of_peer r side) 0 (references_until r side i) (given_until r side i)
+  pub answers : (call : Call) (a : Answer) → IsAt r i side call a → IsAnswer (policy_at side r.keys) end theirs call a
+
+-- what stands at a place is the first of what is left from there on
+first_left : {X : Type 0} (xs : List X) (i : ℕ) (x : X) → slice_get xs i ≡ Some x → drop i xs ≡ x ∷ drop (suc i) xs
+first_left [] i x q = cc
+first_left (y ∷ xs) zero x q = let same : y ≡ x = cc in ap (λ t. t ∷ xs) same
+first_left (y ∷ xs) (suc i) x q = first_left xs i x q
+
+-- what the run answers next
+next_answer : (k : Policies) (w end : World) (events : List RunEvent) (answers : List Answer) (views : List View) (event : RunEvent) (a : Answer) → Follows k w (event ∷ events) (a ∷ answers) views end
+    → IsAnswer (policy_at event.side k) (end_at event.side w) (given_by (other_side event.side) w) event.call a
+next_answer k w end events answers [] event a f = absurd f
+next_answer k w end events answers (v ∷ views) event a f = f.1.answer
+
+-- what is answered at a place
+pub answered : (r : Run) (w end : World) (i : ℕ) (side : Side) (call : Call) (a : Answer) → Follows r.keys w (drop i r.events) (drop i r.answers) (drop i r.views) end → IsAt r i side call a
+    → IsAnswer (policy_at side r.keys) (end_at side w) (given_by (other_side side) w) call a
+answered r w end i side call a f at =
+    let event : RunEvent = record { side = side; call = call } in
+    next_answer r.keys w end (drop (suc i) r.events) (drop (suc i) r.answers) (drop i r.views) event a (rw (first_left r.events i event at.event, first_left r.answers i a at.answer) at f)
+
+take_given : (given rest : List (List ℕ)) (n : ℕ) → length given ≡ n → take n (given ++ rest) ≡ given
+take_given [] rest n q = rw (← q) refl
+take_given (d ∷ given) rest n q = rw (← q) (ap (λ t. d ∷ t) (take_given given rest (length given) refl))
+
+module _ (r : Run) (side : Side) (i : ℕ) where
+  -- y is the end at this side, and knows the other by `theirs_id`
+  pub seen_from : (x y : End) (theirs given : List (List ℕ)) (id theirs_id : List ℕ) → y.side ≡ side
+      → Way (policy_at (other_side side) r.keys) (policy_at side r.keys) id x y theirs (given_of r (other_side side)) (until r (other_side side) i) (until r side i)
+      → Way (policy_at side r.keys) (policy_at (other_side side) r.keys) theirs_id y x given (given_of r side) (until r side i) (until r (other_side side) i)
+      → NoReference (policy_at side r.keys) id (given_of r (other_side side)) (until r side i)
+      → known (end_at side r.start).ids ≡ id ∷ [] → first_id_of_peer r side ≡ theirs_id
+      → (rest : List (List ℕ)) × (given ++ rest ≡ given_of r side)
+      → ((call : Call) (a : Answer) → IsAt r i side call a → IsAnswer (policy_at side r.keys) y theirs call a)
+      → Seen r side i
+  seen_from x y theirs given id theirs_id is reads gives unreferred same first whole answers =
+      let took_is : took r side i ≡ (came (policy_at side r.keys) id (given_of r (other_side side)) (until r side i)).took = ap (λ ids. (intake (policy_at side r.keys) ids (given_of r (other_side side)) (until r side i) nothing_came).took) same in
+      let references_are : references_until r side i ≡ replicate (length given) 0 = ap (λ ids. references (policy_at side r.keys) ids (given_of r (other_side side)) (until r side i) nothing_came) same ∙ unreferred ∙ ap (λ n. replicate n 0) (sym gives.count) in
+      let given_is : given_until r side i ≡ given = ap (λ ds. take (count_given (until r side i)) ds) (sym whole.1) ∙ take_given given whole.0 (count_given (until r side i)) gives.count in
+      let rises : Rise (policy_at side r.keys) theirs_id 0 (replicate (length given) 0) given = rise (policy_at side r.keys) theirs_id (until r side i) 0 given gives.gives.each in
+      record {
+        end = y;
+        theirs = theirs;
+        is = is;
+        content = rw is at reads.content;
+        kept = subst (λ packets. Kept side y.receiving packets) (sym took_is) (rw is at reads.kept);
+        accepted = rw is at reads.accepted;
+        rises = subst (λ t. Rise (policy_at side r.keys) t 0 (references_until r side i) (given_until r side i)) (sym first)
+            (subst (λ t. Rise (policy_at side r.keys) theirs_id 0 t (given_until r side i)) (sym references_are)
+            (subst (λ t. Rise (policy_at side r.keys) theirs_id 0 (replicate (length given) 0) t) (sym given_is) rises));
+        answers = answers;
+      }
