@@ -1,12 +1,11 @@
--- The end that reads makes a read: what it leaves of content and of what frames said, and where it blocks.
-use Rattle.std.proofs.Common.{◌≡◌, ℕ, ◌⊎◌, inl, inr, length, List, [], ◌∷◌, ◌++◌, Option, Some, None, Ok, Err, refl, sym, ap, ◌∙◌, subst}
+-- The end that reads makes a read: what it leaves of content and of what frames said.
+use Rattle.std.proofs.Common.{◌≡◌, ℕ, ◌⊎◌, inl, inr, List, [], ◌∷◌, ◌++◌, Option, Some, None, Ok, refl, sym, ap, ◌∙◌, subst}
 use Rattle.std.specs.Ordering.{nat_cmp}
 use Rattle.std.specs.Map.{keys_of}
 use Rattle.std.specs.List.Sorted.{IsStrictlySortedBy}
 use Rattle.std.proofs.lemmas.Bool.{cases_eq, eq-eqb, ne_eqb}
 use Rattle.quic_wire_core.specs.declared.stream_id.Side.{Side}
 use Rattle.quic_wire.specs.Value.{StreamValue}
-use Rattle.quic_connection_core.specs.declared.answers.ReadError.TheVariants as read_errors
 use Rattle.quic_connection_core.specs.declared.answers.State.{State}
 use Rattle.quic_connection_core.specs.declared.run.ReadCall.{ReadCall}
 use Rattle.quic_connection_core.specs.declared.run.Call.TheVariants as calls
@@ -16,26 +15,28 @@ use Rattle.quic_connection_core.specs.Sending.{Sending, next_id}
 use Rattle.quic_connection_core.specs.Receiving.{Receiving, RecvHalf, readable, read_answer}
 use Rattle.quic_connection_core.specs.End.{End}
 use Rattle.quic_connection_core.specs.Calls.{AreNexts, after_nexts}
-use Rattle.quic_connection_core.specs.Runs.{Told, Next, Packet, WasTaken, Arrived, EndArrived, nexts_by, nexts, reads, chunks_of, bytes_of, written, ended}
+use Rattle.quic_connection_core.specs.Runs.{Told, Next, Packet, WasTaken, nexts_by, nexts, written, ended}
 use Rattle.quic_connection_core.proofs.Invariant.{Content, IsReading, IsFresh, InOrder, Kept, IsKept}
-use Rattle.quic_connection_core.proofs.Told.{nexts_more, chunks_append}
+use Rattle.quic_connection_core.proofs.Told.{nexts_more}
 use Rattle.quic_connection_core.proofs.Stays.{stays_nexts}
 use Rattle.quic_connection_core.proofs.Quiet.{nexts_quiet}
-use Rattle.quic_connection_core.proofs.Next.{Reads, ReadsOn, order_append, Lacks}
-use Rattle.quic_connection_core.proofs.NextRuns.{IsRun, nexts_run, run_reads, run_keeps, run_blocked, KeptBy}
+use Rattle.quic_connection_core.proofs.Next.{Reads, ReadsOn, order_append}
+use Rattle.quic_connection_core.proofs.NextRuns.{IsNextsRun, nexts_run, run_reads, run_keeps, KeptBy}
 
 -- a stream that may be read has a half
 half_of : (o : Option RecvHalf) → readable o ≡ Ok tt → (h : RecvHalf) × (o ≡ Some h)
 half_of None e = cc
 half_of (Some h) e = (h, refl)
 
--- what is told of the stream that was read
+-- what is told of a read
 abbrev pub read_told : ReadCall → List Next → State → Told
 read_told read said state = record { call = calls.Read read; answer = answers.Read (Ok said); state = state }
 
+-- its answers are told of that stream
 told_there : (read : ReadCall) (said : List Next) (state : State) → nexts_by read.id (read_told read said state).call (read_told read said state).answer ≡ said
 told_there read said state = rw (eq-eqb read.id read.id refl) refl
 
+-- and of no other
 told_elsewhere : (q : ℕ) (read : ReadCall) (said : List Next) (state : State) → (q ≡ read.id → ⊥) → nexts_by q (read_told read said state).call (read_told read said state).answer ≡ []
 told_elsewhere q read said state ne = rw (ne_eqb read.id q (λ e. ne (sym e))) refl
 
@@ -56,13 +57,13 @@ is_reader e id wrote told is c =
 
 -- ---- content
 
--- where nothing stands, nothing was read
+-- an id without a half isn't the one that was read
 apart_from : (r : Receiving) (id : ℕ) (h : RecvHalf) (q : ℕ) → at r.halves id ≡ Some h → at r.halves q ≡ None → q ≡ id → ⊥
 apart_from r id h q found none same =
     let here : at r.halves id ≡ None = subst (λ k. at r.halves k ≡ None) same none in
     cc
 
-content_run : (side : Side) (s : Sending) (r after : Receiving) (id : ℕ) (mosts : List ℕ) (said : List Next) (wrote told more : List Told) → IsRun id mosts said r after → IsReader r id wrote told → nexts id more ≡ nexts id told ++ said → ((q : ℕ) → (q ≡ id → ⊥) → nexts q more ≡ nexts q told) → Content side s r wrote told → Content side s after wrote more
+content_run : (side : Side) (s : Sending) (r after : Receiving) (id : ℕ) (mosts : List ℕ) (said : List Next) (wrote told more : List Told) → IsNextsRun id mosts said r after → IsReader r id wrote told → nexts id more ≡ nexts id told ++ said → ((q : ℕ) → (q ≡ id → ⊥) → nexts q more ≡ nexts q told) → Content side s r wrote told → Content side s after wrote more
 content_run side s r after id mosts said wrote told more run reader here elsewhere c = record {
   sorted = run.sorted;
   reading = λ q h e. reading q h e (cases_eq q id);
@@ -102,18 +103,15 @@ content_read e read said wrote told state is answered c =
 
 -- ---- what frames said
 
--- by what the packets that were taken left
+-- a frame that was taken is kept where its stream has a half
 kept_by : (side : Side) (r : Receiving) (took : List Packet) (f : StreamValue) (id : ℕ) → Kept side r took → WasTaken took f → f.id ≡ id → KeptBy f (at r.halves id)
-kept_by side r took f id k w same = go (at r.halves f.id) (λ h e. k.kept f h w e)
+kept_by side r took f id k w same = subst (λ q. KeptBy f (at r.halves q)) same (all (at r.halves f.id) (λ h e. k.kept f h w e))
   where
     all : (o : Option RecvHalf) → ((h : RecvHalf) → o ≡ Some h → IsKept f h) → KeptBy f o
     all None g = tt
     all (Some h) g = g h refl
 
-    go : (o : Option RecvHalf) → ((h : RecvHalf) → at r.halves f.id ≡ Some h → IsKept f h) → KeptBy f (at r.halves id)
-    go o g = subst (λ k. KeptBy f (at r.halves k)) same (all (at r.halves f.id) g)
-
-kept_run : (side : Side) (r after : Receiving) (id : ℕ) (mosts : List ℕ) (said : List Next) (wrote told : List Told) (took : List Packet) → IsRun id mosts said r after → IsReader r id wrote told → Kept side r took → Kept side after took
+kept_run : (side : Side) (r after : Receiving) (id : ℕ) (mosts : List ℕ) (said : List Next) (wrote told : List Told) (took : List Packet) → IsNextsRun id mosts said r after → IsReader r id wrote told → Kept side r took → Kept side after took
 kept_run side r after id mosts said wrote told took run reader k = record {
   kept = λ f h w e. kept f h w e (cases_eq f.id id);
   may = k.may;
@@ -137,17 +135,3 @@ kept_read e read said wrote told took is answered c k =
 -- a read accepts no stream
 pub accepted_read : (e : End) (id : ℕ) (mosts : List ℕ) (said : List Next) → IsStrictlySortedBy nat_cmp (keys_of e.receiving.halves) → AreNexts e id mosts said → (after_nexts e id mosts said).receiving.accepted_bi ≡ e.receiving.accepted_bi
 accepted_read e id mosts said sorted answered = (nexts_run e id mosts said sorted answered).accepted
-
--- ---- a read that is blocked
-
--- neither the next byte nor, with all read, the end has arrived
-pub read_blocked : (e : End) (read : ReadCall) (front behind : List Next) (wrote told : List Told) (took : List Packet) → read_answer e.receiving read.id ≡ Ok tt → AreNexts e read.id read.nexts.items (front ++ Err read_errors.Blocked ∷ behind) → Content e.side e.sending e.receiving wrote told → Kept e.side e.receiving took
-    → (Arrived took read.id (length (bytes_of (reads read.id told ++ chunks_of front))) → ⊥) × (EndArrived took read.id (length (bytes_of (reads read.id told ++ chunks_of front))) → ⊥)
-read_blocked e read front behind wrote told took is answered c k = (λ a. (lacks a.frame a.taken a.of_stream).byte a.from a.below, λ a. (lacks a.frame a.taken a.of_stream).end a.fin a.behind)
-  where
-    lacks : (f : StreamValue) → WasTaken took f → f.id ≡ read.id → Lacks f (length (bytes_of (reads read.id told ++ chunks_of front)))
-    lacks f w same =
-        let run = nexts_run e read.id read.nexts.items (front ++ Err read_errors.Blocked ∷ behind) c.sorted answered in
-        let reader = is_reader e read.id wrote told is c in
-        subst (λ cs. Lacks f (length (bytes_of cs))) (chunks_append (nexts read.id told) front)
-        (run_blocked (written read.id wrote) (ended read.id wrote) (nexts read.id told) f read.nexts.items front behind (at e.receiving.halves read.id) (at (after_nexts e read.id read.nexts.items (front ++ Err read_errors.Blocked ∷ behind)).receiving.halves read.id) run.run reader.reads (kept_by e.side e.receiving took f read.id k w same))
