@@ -1,5 +1,5 @@
 -- One `next` of a read at one half: what it answers stands in what was written, and what it leaves.
-use Rattle.std.proofs.Common.{◌≡◌, ℕ, ◌+◌, ◌-◌, ◌^◌, ◌<◌, ◌≤◌, ◌==◌, ◌⊎◌, inl, inr, ltb, length, List, [], ◌∷◌, ◌++◌, take, drop, Bool, true, false, cond, Option, Some, None, Ok, Err, refl, sym, ap, ◌∙◌, subst, arith, slice_get, get_or, length-append, length-take, length-drop, take-append-drop, append_assoc, append-nil}
+use Rattle.std.proofs.Common.{◌≡◌, ℕ, ◌+◌, ◌<◌, ◌≤◌, ◌==◌, ◌⊎◌, inl, inr, ltb, length, List, [], ◌∷◌, ◌++◌, take, drop, Bool, true, false, cond, Option, Some, None, Ok, Err, refl, sym, ap, ◌∙◌, subst, arith, slice_get, get_or, length-append, length-take, length-drop, take-append-drop, append_assoc, append-nil}
 use Rattle.std.specs.Option.{is_some, IfSome}
 use Rattle.std.proofs.lemmas.Bool.{ltb-true, ltb-false, eqb-true, eq-eqb}
 use Rattle.std.proofs.lemmas.List.{take_at, take_all}
@@ -77,6 +77,7 @@ read_apart read most (p ∷ ps) h = go (start p == read) refl
         let t = length-take most p.1 in
         let e : read + length (take most p.1) ≡ p.0 = omega arith in
         rw e h.2
+
     go : (b : Bool) → (start p == read) ≡ b → AreApart (behind (cond b (Some (record { offset = read; bytes = take most p.1 })) None) read) (cond b (shortened most p ps) (p ∷ ps))
     go true q = cut (eqb-true (start p) read q) (ltb most (length p.1)) refl
     go false q = h
@@ -193,6 +194,7 @@ next_reads wr fin said (Some h) most answer (inl e) i = rw e (by_chunk (given h.
         let all : bytes_of (chunks_of said) ≡ wr = i.read ∙ ap (λ (n : ℕ). take n wr) last.1 ∙ take_all (length wr) wr (omega arith) in
         record { order = (all, last.0, tt); reads = (same_bytes said (Ok None) refl ∙ all, last.0) }
     by_end false q = error_reads wr fin said (Some h) most read_errors.Blocked i
+
     by_chunk : (g : Option Chunk) → given h.arrived.parts h.arrived.read most ≡ g → ReadsOn wr fin said (next_chunk g h ∷ []) (half_after (next_chunk g h) (Some h) most)
     by_chunk None q = by_end (is_read h.final h.arrived.read) refl
     by_chunk (Some chunk) q =

@@ -1,11 +1,11 @@
 -- The `next`s of one read, one after another: they answer in order, keep what frames said, and block only where nothing came.
-use Rattle.std.proofs.Common.{◌≡◌, ℕ, ◌⊎◌, inl, inr, length, List, [], ◌∷◌, ◌++◌, Bool, Option, Some, None, Ok, Err, refl, sym, ap, ◌∙◌, subst, append_assoc, append-nil}
+use Rattle.std.proofs.Common.{◌≡◌, ℕ, ◌⊎◌, inl, inr, length, List, [], ◌∷◌, ◌++◌, Bool, Option, Some, None, Ok, Err, refl, sym, ◌∙◌, subst, append_assoc, append-nil}
 use Rattle.std.specs.Ordering.{nat_cmp}
 use Rattle.std.specs.Map.{keys_of}
 use Rattle.std.specs.List.Sorted.{IsStrictlySortedBy}
 use Rattle.quic_wire.specs.Value.{StreamValue}
 use Rattle.quic_connection_core.specs.declared.answers.ReadError.TheVariants as read_errors
-use Rattle.quic_connection_core.specs.Table.{Table, at}
+use Rattle.quic_connection_core.specs.Table.{at}
 use Rattle.quic_connection_core.specs.Receiving.{RecvHalf, Receiving, next_answer, after_next}
 use Rattle.quic_connection_core.specs.End.{End}
 use Rattle.quic_connection_core.specs.Calls.{AreNexts, after_nexts, end_after_next}
@@ -95,14 +95,14 @@ is_one (Ok None) None r id most s e = record { sorted = s; half = e; others = λ
 is_one (Err x) None r id most s e = record { sorted = s; half = e; others = λ q ne. refl; opened = refl; accepted = refl }
 
 -- so do all `next`s of a read
-pub record IsRun (id : ℕ) (mosts : List ℕ) (answers : List Next) (r after : Receiving) : Type 0 where
+pub record IsNextsRun (id : ℕ) (mosts : List ℕ) (answers : List Next) (r after : Receiving) : Type 0 where
   pub sorted : IsStrictlySortedBy nat_cmp (keys_of after.halves)
   pub run : HalfNexts (at r.halves id) mosts answers (at after.halves id)
   pub others : (q : ℕ) → (q ≡ id → ⊥) → at after.halves q ≡ at r.halves q
   pub opened : after.opened_bi ≡ r.opened_bi
   pub accepted : after.accepted_bi ≡ r.accepted_bi
 
-pub nexts_run : (e : End) (id : ℕ) (mosts : List ℕ) (answers : List Next) → IsStrictlySortedBy nat_cmp (keys_of e.receiving.halves) → AreNexts e id mosts answers → IsRun id mosts answers e.receiving (after_nexts e id mosts answers).receiving
+pub nexts_run : (e : End) (id : ℕ) (mosts : List ℕ) (answers : List Next) → IsStrictlySortedBy nat_cmp (keys_of e.receiving.halves) → AreNexts e id mosts answers → IsNextsRun id mosts answers e.receiving (after_nexts e id mosts answers).receiving
 nexts_run e id [] [] s n = record { sorted = s; run = refl; others = λ q ne. refl; opened = refl; accepted = refl }
 nexts_run e id [] (answer ∷ answers) s n = absurd n
 nexts_run e id (most ∷ mosts) [] s n = absurd n

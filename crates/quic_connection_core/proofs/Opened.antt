@@ -1,11 +1,11 @@
 -- The end that reads opens or accepts a stream.
-use Rattle.std.proofs.Common.{◌≡◌, ℕ, ◌+◌, ◌<◌, ◌≤◌, ◌==◌, ◌⊎◌, inl, inr, Bool, true, false, ◌&&◌, nat_lt, if◌then◌else◌, List, [], ◌∷◌, ◌++◌, Option, Some, None, refl, sym, ap, ◌∙◌, subst, arith}
-use Rattle.std.proofs.lemmas.Bool.{ltb-true, ltb-false, eqb-true, cases_eq, cases_lt, and_parts}
+use Rattle.std.proofs.Common.{◌≡◌, ℕ, ◌+◌, ◌<◌, ◌≤◌, ◌==◌, ◌⊎◌, inl, inr, Bool, true, false, nat_lt, if◌then◌else◌, List, [], ◌∷◌, ◌++◌, Some, None, refl, sym, ap, ◌∙◌, subst, arith}
+use Rattle.std.proofs.lemmas.Bool.{eqb-true, cases_eq, cases_lt, and_parts}
 use Rattle.quic_wire_core.specs.declared.stream_id.Side.{Side}
 use Rattle.quic_wire_core.specs.declared.stream_id.Side.TheVariants.{Client, Server}
 use Rattle.quic_wire_core.specs.declared.stream_id.Dir.{Dir}
 use Rattle.quic_wire_core.specs.declared.stream_id.Dir.TheVariants.{Bi, Uni}
-use Rattle.quic_wire_core.specs.StreamId.{stream_id, index_of, other_side}
+use Rattle.quic_wire_core.specs.StreamId.{stream_id, other_side}
 use Rattle.quic_wire.specs.Value.{StreamValue}
 use Rattle.quic_connection_core.specs.declared.answers.State.{State}
 use Rattle.quic_connection_core.specs.declared.answers.State.TheVariants as states
@@ -16,9 +16,8 @@ use Rattle.quic_connection_core.specs.Sending.{Sending, opens, next_id, after_op
 use Rattle.quic_connection_core.specs.Receiving.{Receiving, RecvHalf, untouched, may_receive, accepted_of, opened_of, accept_answer, one_accepted, after_accept}
 use Rattle.quic_connection_core.specs.End.{End}
 use Rattle.quic_connection_core.specs.Calls.{can_open, both_ways}
-use Rattle.quic_connection_core.specs.Calls as own
 use Rattle.quic_connection_core.specs.Runs.{Told, Packet, In, WasTaken, nexts, accepts, written, ended}
-use Rattle.quic_connection_core.proofs.Invariant.{Content, IsReading, IsFresh, Kept, IsKept, Accepted}
+use Rattle.quic_connection_core.proofs.Invariant.{Content, IsReading, Kept, Accepted}
 use Rattle.quic_connection_core.proofs.Tables.{at-added, at-apart, sorted-added}
 use Rattle.quic_connection_core.proofs.Told.{accepts_append, in_left, in_right}
 use Rattle.quic_connection_core.proofs.Reading.{reading_untouched}
@@ -108,13 +107,16 @@ accepted_accept side dir r read state a = by_dir dir (nat_lt (accepted_of dir r)
   where
     more : (t : Told) (index : ℕ) → In (stream_id (other_side side) Bi index) (accepts read) → In (stream_id (other_side side) Bi index) (accepts (read ++ t ∷ []))
     more t index i = rw (accepts_append read (t ∷ [])) (in_left _ (accepts read) (accepts (t ∷ [])) i)
+
     told : (dir : Dir) (b : Bool) → Told
     told dir b = record { call = calls.Accept dir; answer = answers.Accept (if b then Some (stream_id (other_side side) dir (accepted_of dir r)) else None); state = state }
+
     next : (index : ℕ) → (index < r.accepted_bi) ⊎ (r.accepted_bi ≤ index) → index < r.accepted_bi + 1 → In (stream_id (other_side side) Bi index) (accepts (read ++ told Bi true ∷ []))
     next index (inl below) l = more (told Bi true) index (a.each index below)
     next index (inr above) l =
         let same : r.accepted_bi ≡ index = omega arith in
         rw (accepts_append read (told Bi true ∷ [])) (in_right _ (accepts read) (accepts (told Bi true ∷ [])) (inl (ap (λ i. stream_id (other_side side) Bi i) (sym same))))
+
     by_dir : (dir : Dir) (b : Bool) → Accepted side (if b then one_accepted dir r else r) (read ++ told dir b ∷ [])
     by_dir Bi true = record { each = λ index l. next index (cases_lt index r.accepted_bi) l }
     by_dir Uni true = record { each = λ index l. more (told Uni true) index (a.each index l) }

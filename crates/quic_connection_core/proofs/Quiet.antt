@@ -11,11 +11,11 @@ use Rattle.quic_connection_core.specs.Closing.{ticked}
 use Rattle.quic_connection_core.specs.Numbers.{can_number}
 use Rattle.quic_connection_core.specs.Policy.{Policy}
 use Rattle.quic_connection_core.specs.Sending.{Sending, SendHalf, opens, next_id, after_written, after_finish}
-use Rattle.quic_connection_core.specs.Receiving.{Receiving, RecvHalf}
+use Rattle.quic_connection_core.specs.Receiving.{Receiving}
 use Rattle.quic_connection_core.specs.End.{End, with_closing}
 use Rattle.quic_connection_core.specs.Calls.{end_after_write, end_after_finish}
 use Rattle.quic_connection_core.specs.Poll.{first_pending, sends_half, sends, polled_for, polled_in, polled}
-use Rattle.quic_connection_core.specs.Runs.{Told, Packet, In, nexts_by, nexts, accepts, written, ended}
+use Rattle.quic_connection_core.specs.Runs.{Told, Packet, nexts_by, nexts, accepts, written, ended}
 use Rattle.quic_connection_core.proofs.Invariant.{Content, IsReading, IsFresh, InOrder, Kept, Accepted}
 use Rattle.quic_connection_core.proofs.Told.{nexts_more, accepts_append, in_left}
 

@@ -1,5 +1,5 @@
 -- What each call leaves of the end that reads, and what holds at its start.
-use Rattle.std.proofs.Common.{◌≡◌, ℕ, ◌<◌, ◌⊎◌, inl, inr, Bool, true, false, length, List, [], ◌∷◌, ◌++◌, Option, Some, None, Result, Ok, Err, refl, sym, ap, ◌∙◌, subst, arith}
+use Rattle.std.proofs.Common.{◌≡◌, ℕ, inl, inr, Bool, true, false, length, List, [], ◌∷◌, ◌++◌, Ok, Err, refl, arith}
 use Rattle.std.specs.List.Sorted.{IsStrictlySortedBy}
 use Rattle.quic_wire_core.specs.declared.stream_id.Side.{Side}
 use Rattle.quic_wire_core.specs.declared.stream_id.Dir.{Dir}
@@ -19,7 +19,7 @@ use Rattle.quic_connection_core.specs.End.{End, first_receiving}
 use Rattle.quic_connection_core.specs.Calls.{can_open, after_open_if, end_writes}
 use Rattle.quic_connection_core.specs.Machine.{IsRead, IsAnswer, after_call, fails}
 use Rattle.quic_connection_core.specs.Runs.{Told, Packet, nexts}
-use Rattle.quic_connection_core.proofs.Invariant.{Content, IsFresh, Kept, Accepted}
+use Rattle.quic_connection_core.proofs.Invariant.{Content, Kept, Accepted}
 use Rattle.quic_connection_core.proofs.Quiet.{content_same, accepted_same, nexts_quiet, quiet_content, quiet_kept, quiet_accepted, quiet_same, quiet_write, quiet_finish, quiet_poll}
 use Rattle.quic_connection_core.proofs.Opened.{content_opened, kept_opened, opened_accepted, can_open_opens, accept_halves, accept_opened, kept_accept, accepted_accept}
 use Rattle.quic_connection_core.proofs.ReadStep.{content_read, kept_read, accepted_read}

@@ -1,17 +1,17 @@
 -- One half of the end that reads: what was written grows, a frame comes, a read takes what waits.
-use Rattle.std.proofs.Common.{◌≡◌, ℕ, ◌+◌, ◌-◌, ◌^◌, ◌<◌, ◌≤◌, ◌==◌, ◌⊎◌, inl, inr, ltb, length, List, [], ◌∷◌, ◌++◌, take, drop, Bool, true, false, cond, Option, Some, None, Ok, Err, refl, sym, ap, ◌∙◌, subst, arith, slice_get, get_or, length-append, length-take, length-drop, append_assoc, append-nil}
+use Rattle.std.proofs.Common.{◌≡◌, ℕ, ◌+◌, ◌-◌, ◌^◌, ◌<◌, ◌≤◌, ◌⊎◌, inl, inr, ltb, length, List, [], ◌∷◌, ◌++◌, take, Bool, true, false, cond, Option, Some, None, Ok, Err, refl, sym, ap, ◌∙◌, subst, arith, slice_get, get_or, length-append, append_assoc}
 use Rattle.std.specs.Option.{is_some, option_or}
-use Rattle.std.proofs.lemmas.Bool.{ltb-true, ltb-false, lt-ltb, le-ltb, eqb-true, eq-eqb, cases_Bool, cases_lt}
+use Rattle.std.proofs.lemmas.Bool.{ltb-true}
 use Rattle.std.proofs.lemmas.List.{take-append-le, take_at}
-use Rattle.std.proofs.lemmas.Option.{slice_get_within, slice_get-get_or}
+use Rattle.std.proofs.lemmas.Option.{slice_get_within}
 use Rattle.quic_wire_core.specs.declared.stream_id.Side.{Side}
 use Rattle.quic_wire.specs.Value.{StreamValue}
-use Rattle.quic_streams_core.specs.Arrived.{Arrived, Part, start, AreApart, byte_from, byte_at, after_insert}
+use Rattle.quic_streams_core.specs.Arrived.{byte_from, byte_at, after_insert}
 use Rattle.quic_streams_core.proofs.Bytes.{get-take, from_within}
 use Rattle.quic_streams_core.proofs.Claims.{insert_bytes, insert_lawful}
-use Rattle.quic_connection_core.specs.Receiving.{RecvHalf, Receiving, untouched, end_of, with_frame, final_after}
+use Rattle.quic_connection_core.specs.Receiving.{RecvHalf, Receiving, untouched, end_of, with_frame}
 use Rattle.quic_connection_core.specs.Sending.{Sending}
-use Rattle.quic_connection_core.specs.Runs.{Told, Next, nexts, written, ended, chunks_of, bytes_of}
+use Rattle.quic_connection_core.specs.Runs.{Told, Next, nexts, written, ended, bytes_of}
 use Rattle.quic_connection_core.proofs.Invariant.{Grows, IsWritten, IsReading, IsFresh, InOrder, IsKept, Content}
 
 -- ---- what was written grows
@@ -117,6 +117,7 @@ kept_over_frame wr fin said h f g i w k = record {
     waits o b q (inl l) = inl l
     waits o true q (inr e) = inl (ltb-true o h.arrived.read q)
     waits o false q (inr e) = inr (rw (insert_bytes h.arrived f.offset f.bytes o i.lawful, q) (some_before (byte_at h.arrived.parts o) (byte_from f.offset f.bytes o) e))
+
     same : (b : Bool) → (b ≡ true → (fin ≡ true) × (end_of f ≡ length wr)) → h.final ≡ Some (end_of g) → cond b (Some (end_of f)) h.final ≡ Some (end_of g)
     same true l e = let last = l refl in let size = i.final (end_of g) e in ap (λ (n : ℕ). Some n) (last.1 ∙ sym size.1)
     same false l e = e
