@@ -6,3 +6,4 @@ pub mod Ends
 pub mod Halves
 pub mod Given
 pub mod Lending
+pub mod Lacking

@@ -1,5 +1,5 @@
 //! Runs of two ends over a network: one event at a time, or a list of them.
-ghost use Rattle.std.specs.Prelude.{◌≡◌, ◌++◌, [], length, ◌≤◌, vec_capacity, IfOk, OnErr, false};
+ghost use Rattle.std.specs.Prelude.{◌≡◌, ◌++◌, [], length, ◌≤◌, ◌<◌, vec_capacity, IfOk, OnErr, true, false};
 ghost use Rattle.quic_connection_core.specs.End.{policy_of, with_end};
 ghost use Rattle.quic_connection_core.specs.Machine.{IsAnswer, IsLeft, fails, gives, IsStep, view_of, end_view, Follows};
 ghost use Rattle.quic_connection_core.specs.Calls.{AreNexts, after_nexts};
@@ -239,6 +239,7 @@ pub fn run<H: HeaderKey + Drop, K: PacketKey + Drop, R: Rng + Drop>(
 ) -> Outcome<H, K, R>
     ensures follows { Follows (policies_of H.masks H.hides H.unmasks H.reveals K.sealed K.opened ends) (first_world ends) events.now result.answers.items result.views.items (world_of result.ends result.given) }
     ensures whole { result.cut_short ≡ false → length result.answers.items ≡ length events.now }
+    ensures stopped { result.cut_short ≡ true → length result.answers.items < length events.now }
 {
     let mut given = Given::new(alloc);
     let mut answers = Vec::new(alloc);

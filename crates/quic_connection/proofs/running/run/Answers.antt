@@ -1,10 +1,11 @@
-use Rattle.std.proofs.Common.{rules, ◌≡◌, length, Some, arith, refl}
+use Rattle.std.proofs.Common.{rules, ◌≡◌, ◌<◌, length, Some, true, false, arith, refl}
 use Rattle.std.specs.Prelude.{slice_get}
 use Rattle.std.proofs.lemmas.Option.{slice_get_read}
 use Rattle.std.proofs.lemmas.Grind.{common_steps}
 use Rattle.quic_connection.specs.Ends.{world_of}
 use Rattle.quic_connection.proofs.Runs.{follows_goes_on}
 use Rattle.quic_connection.proofs.running.run.Goals as goal
+use Rattle.quic_connection.proofs.running.run.Goals.{else-loop-event-test, then-loop-event-test+then-is_err, then-loop-event-test+else-is_err+else-is_err-2+in_default}
 
 pub loop-event-preserved : goal.loop-event-preserved
 loop-event-preserved g c =
@@ -20,5 +21,15 @@ loop-event-preserved g c =
           (search rules)
           (let seen = c.view.ensures c.step.new.given in cc (seen, c.push_reserved-in-loop-event.ensures.items));
       count = grind (arith, common_steps);
+      goes_on = inv.goes_on;
       keys = search rules;
     }
+
+pub returns-clause-stopped : goal.returns-clause-stopped
+returns-clause-stopped g c = λ short.
+    let inv = c.loop-event.invariant in
+    elim c.loop-event-test.branch [
+      | else-loop-event-test w ↦ let is = w.cut_short-is in let going = inv.goes_on in cc
+      | then-loop-event-test+then-is_err w ↦ rw (w.answers-is, w.reserve.ensures.items, inv.count) w.loop-event-test.true
+      | then-loop-event-test+else-is_err+else-is_err-2+in_default w ↦ rw (w.answers-is, w.reserve.ensures.items, inv.count) w.loop-event-test.true
+    ]
