@@ -1,17 +1,13 @@
 -- What the parts of a packet say of the half that it carries.
-use Rattle.std.proofs.Common.{◌≡◌, ℕ, ◌+◌, ◌-◌, ◌<◌, ◌≤◌, ◌^◌, ◌++◌, List, length, replicate, take, drop, Option, Some, None, refl, sym, ap, ◌∙◌, arith}
+use Rattle.std.proofs.Common.{◌≡◌, ℕ, ◌+◌, ◌-◌, ◌<◌, ◌^◌, ◌++◌, List, length, replicate, take, drop, Option, Some, None, sym, ap, ◌∙◌, arith}
 use Rattle.std.specs.Prelude.{IfSome}
 use Rattle.std.proofs.lemmas.List.{length-append, append_assoc}
 use Rattle.quic_wire.specs.Number.{truncated}
 use Rattle.quic_wire.specs.Header.{header_bytes}
-use Rattle.quic_wire.specs.Writing.{stream_spelling}
 use Rattle.quic_wire.specs.Keys.{OfFirst, OfNumber, Seal}
 use Rattle.quic_wire.specs.Datagram.{protected, sent}
 use Rattle.quic_wire.proofs.Opening.{sealed_is_sent}
 use Rattle.quic_connection_core.specs.Sending.{SendHalf}
-use Rattle.quic_connection_core.specs.Numbers.{cut_against}
-use Rattle.quic_connection_core.specs.End.{End}
-use Rattle.quic_connection_core.specs.Poll.{payload_of}
 
 -- header, frame and padding are a packet with the half's payload
 pub plain_of : (o : Option SendHalf) (front before header whole padded : List ℕ) (width wide len body : ℕ) (frame : SendHalf → List ℕ)

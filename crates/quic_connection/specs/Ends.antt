@@ -1,8 +1,7 @@
 -- What the machine sees of two ends with their keys, and of the datagrams that they gave.
 use Rattle.std.specs.Prelude.{[]}
 use Rattle.quic_wire.specs.Keys.{OfFirst, OfNumber, Seal, Open}
-use Rattle.quic_connection_core.specs.End.{Whole, policy_of}
-use Rattle.quic_connection_core.specs.Policy.{Policy}
+use Rattle.quic_connection_core.specs.End.{policy_of}
 use Rattle.quic_connection_core.specs.Machine.{World, Policies}
 use Rattle.quic_connection.specs.declared.running.Ends.{Ends}
 use Rattle.quic_connection.specs.declared.running.Given.{Given}

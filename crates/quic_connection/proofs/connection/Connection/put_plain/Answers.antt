@@ -1,4 +1,4 @@
-use Rattle.std.proofs.Common.{rules, ◌≡◌, ◌+◌, ◌-◌, ◌++◌, List, ℕ, Option, length, refl, arith}
+use Rattle.std.proofs.Common.{rules, ◌≡◌, ◌++◌, List, ℕ}
 use Rattle.std.specs.Prelude.{IfSome}
 use Rattle.quic_wire.specs.Writing.{stream_spelling}
 use Rattle.quic_wire.specs.Number.{truncated}
