@@ -7,3 +7,4 @@ pub mod Halves
 pub mod Given
 pub mod Lending
 pub mod Lacking
+pub mod Views

@@ -48,32 +48,11 @@ impl Model for Sending {
     ghost Value = { sending.Sending };
 
     ghost use Rattle.quic_connection.specs.Bounds.{IsSending};
+    ghost use Rattle.quic_connection.specs.Views.{sending_of};
 
-    ghost view = { λ s. record {
-      halves = s.halves.entries;
-      opened_bi = s.opened_bi;
-      opened_uni = s.opened_uni;
-      count_bi = s.count_bi;
-      count_uni = s.count_uni;
-      accepted = s.accepted;
-      limit = s.limit;
-      window = s.window;
-      first_limit_bi = s.first_limit_bi;
-      first_limit_uni = s.first_limit_uni;
-    } };
+    ghost view = { sending_of };
 
-    ghost invariant = { λ s. IsSending (record {
-      halves = s.halves.entries;
-      opened_bi = s.opened_bi;
-      opened_uni = s.opened_uni;
-      count_bi = s.count_bi;
-      count_uni = s.count_uni;
-      accepted = s.accepted;
-      limit = s.limit;
-      window = s.window;
-      first_limit_bi = s.first_limit_bi;
-      first_limit_uni = s.first_limit_uni;
-    }) s.buffered };
+    ghost invariant = { λ s. IsSending (sending_of s) s.buffered };
 }
 
 // Which kinds this stage opens at all: the client one two-way stream.
