@@ -39,7 +39,7 @@ sum_added es id h o none empty =
     omega arith
 
 -- a stream that may be opened is within the count
-pub opens_within : (side : Side) (dir : Dir) (s : Sending) → opens side dir s ≡ true → opened_of dir s < count_of dir s
+opens_within : (side : Side) (dir : Dir) (s : Sending) → opens side dir s ≡ true → opened_of dir s < count_of dir s
 opens_within side dir s e = ltb-true _ _ (and_parts (may_open side dir (opened_of dir s)) _ e).1
 
 -- the id of such a stream is one
@@ -75,7 +75,7 @@ opened_sum side dir s b h ns i empty is =
     i.buffered ∙ sym (ap (λ es. sum_by (λ (h : SendHalf). length h.buffer.kept) (values_of es)) is ∙ sum_added s.halves (next_id side dir s) h i.ordered (i.fresh side dir (opened_of dir s) (omega arith)) empty)
 
 -- a stream is opened
-pub open_keeps : (side : Side) (dir : Dir) (s : Sending) (b : ℕ) (h : SendHalf) (ns : Table SendHalf) → IsSending s b → length h.buffer.kept ≡ 0 → opened_of dir s < count_of dir s → ns ≡ added s.halves (next_id side dir s) h → IsStrictlySortedBy nat_cmp (keys_of ns) → IsSending (one_more dir (record s { halves = ns })) b
+open_keeps : (side : Side) (dir : Dir) (s : Sending) (b : ℕ) (h : SendHalf) (ns : Table SendHalf) → IsSending s b → length h.buffer.kept ≡ 0 → opened_of dir s < count_of dir s → ns ≡ added s.halves (next_id side dir s) h → IsStrictlySortedBy nat_cmp (keys_of ns) → IsSending (one_more dir (record s { halves = ns })) b
 open_keeps side Bi s b h ns i empty room is o =
     record {
       ordered = o;
@@ -192,7 +192,7 @@ take_back_keeps side s b n ns i last count is gone o =
     fresh index other Bi m l = ⊎_elim (λ (e : m ≡ n). subst (λ k. at ns (stream_id other Bi k) ≡ None) (sym e) (here index other)) (λ (ne : m ≡ n → ⊥). still (stream_id other Bi m) (i.fresh other Bi m (omega arith))) (cases_eq m n)
 
 -- what was opened is the last, and nothing is written on it
-pub last_opened : (side : Side) (s : Sending) (b : ℕ) (h : SendHalf) (ns : Table SendHalf) → IsSending s b → h.buffer.kept ≡ [] → ns ≡ added s.halves (stream_id side Bi s.opened_bi) h → IsLast side (record s { halves = ns; opened_bi = s.opened_bi + 1 })
+last_opened : (side : Side) (s : Sending) (b : ℕ) (h : SendHalf) (ns : Table SendHalf) → IsSending s b → h.buffer.kept ≡ [] → ns ≡ added s.halves (stream_id side Bi s.opened_bi) h → IsLast side (record s { halves = ns; opened_bi = s.opened_bi + 1 })
 last_opened side s b h ns i empty is =
     let index : s.opened_bi + 1 - 1 ≡ s.opened_bi = omega arith in
     record {

@@ -30,12 +30,3 @@ sealed_of None mask hide seal keeps number acked front id plain out payload near
 sealed_of (Some h) mask hide seal keeps number acked front id plain out payload near p e =
     let said = λ (z : List ℕ). take (length front) z ++ protected mask hide seal (length id + 1) number (drop (length front) z) in
     e ∙ ap said p ∙ sealed_is_sent mask hide seal keeps number acked front id (payload h) near
-
--- the halves after one of them sent
-pub put_of : {A B : Type 0} (o : Option A) (x : B) (after : Option A → B) (with : A → B) → x ≡ after o → ((h : A) → after (Some h) ≡ with h) → IfSome o (λ h. x ≡ with h)
-put_of None x after with e same = tt
-put_of (Some h) x after with e same = e ∙ same h
-
--- what holds of a number holds of an equal one
-pub moved : (P : ℕ → Type 0) (a b : ℕ) → a ≡ b → P a → P b
-moved P a b e p = rw (sym e) p
