@@ -1,5 +1,5 @@
 -- A datagram with a header for a known id has room for a number, a sample and a tag.
-use Rattle.std.proofs.Common.{◌≡◌, ℕ, ◌+◌, ◌<◌, ◌≤◌, List, [], ◌∷◌, length, take, Bool, true, false, cond, Some, None, refl, sym, arith}
+use Rattle.std.proofs.Common.{◌≡◌, ℕ, ◌+◌, ◌≤◌, List, [], ◌∷◌, length, take, Bool, true, false, cond, Some, None, refl, sym, arith}
 use Rattle.std.specs.Prelude.{Result, Ok, Err, OnOk, nat_lt, nat_le, if◌then◌else◌}
 use Rattle.std.proofs.lemmas.List.{length-take}
 use Rattle.std.proofs.lemmas.Bool.{leb-true, ltb-false}

@@ -1,5 +1,5 @@
 -- What changes of the sending halves keep true of them.
-use Rattle.std.proofs.Common.{◌≡◌, ℕ, ◌+◌, ◌-◌, ◌<◌, ◌≤◌, ◌^◌, List, [], length, Some, None, Option, IfSome, refl, sym, ap, ◌∙◌, subst, ⊎_elim, arith}
+use Rattle.std.proofs.Common.{◌≡◌, ℕ, ◌+◌, ◌-◌, ◌<◌, ◌≤◌, ◌^◌, List, [], length, true, Some, None, Option, IfSome, refl, sym, ap, ◌∙◌, subst, ⊎_elim, arith}
 use Rattle.std.specs.Option.{unwrap_or, option_map}
 use Rattle.std.specs.List.{AllByRecursion, sum_by}
 use Rattle.std.specs.Ordering.{nat_cmp}
@@ -9,14 +9,14 @@ use Rattle.std.specs.List.Sorted.{IsStrictlySortedBy}
 use Rattle.std.specs.Map.{keys_of, values_of}
 use Rattle.std.proofs.lemmas.Map.{keys-set_value}
 use Rattle.std.proofs.lemmas.Map.Entries.{sum_by-set_value, sum_by-remove_entry, sum_by-insert_entry}
-use Rattle.std.proofs.lemmas.Bool.{cases_eq}
+use Rattle.std.proofs.lemmas.Bool.{cases_eq, ltb-true, and_parts}
 use Rattle.quic_wire_core.specs.declared.stream_id.Side.{Side}
 use Rattle.quic_wire_core.specs.declared.stream_id.Side.TheVariants.{Client, Server}
 use Rattle.quic_wire_core.specs.declared.stream_id.Dir.{Dir}
 use Rattle.quic_wire_core.specs.declared.stream_id.Dir.TheVariants.{Bi, Uni}
 use Rattle.quic_wire_core.specs.StreamId.{stream_id, side_bit}
 use Rattle.quic_connection_core.specs.Table.{Table, at, put, without, added}
-use Rattle.quic_connection_core.specs.Sending.{SendHalf, Sending, opened_of, next_id, new_half, after_open}
+use Rattle.quic_connection_core.specs.Sending.{SendHalf, Sending, opened_of, count_of, may_open, opens, next_id, new_half, one_more, after_open}
 use Rattle.quic_connection.specs.Bounds.{IsSending, IsLast}
 use Rattle.quic_connection_core.proofs.Tables.{at-added, at-apart, unknown-put, unknown-without, without-added, ids-added, ids-without}
 
@@ -25,13 +25,11 @@ bit Client = omega arith
 bit Server = omega arith
 
 -- another stream has another id
-apart_bi : (side other : Side) (dir : Dir) (n m : ℕ) → (dir ≡ Bi → n < m) → stream_id other dir m ≡ stream_id side Bi n → ⊥
-apart_bi side other Bi n m l e = let a = bit side in let b = bit other in let c = l refl in omega arith
-apart_bi side other Uni n m l e = let a = bit side in let b = bit other in omega arith
-
-apart_uni : (side other : Side) (dir : Dir) (n m : ℕ) → (dir ≡ Uni → n < m) → stream_id other dir m ≡ stream_id side Uni n → ⊥
-apart_uni side other Uni n m l e = let a = bit side in let b = bit other in let c = l refl in omega arith
-apart_uni side other Bi n m l e = let a = bit side in let b = bit other in omega arith
+apart : (side other : Side) (dir kind : Dir) (n m : ℕ) → (kind ≡ dir → n < m) → stream_id other kind m ≡ stream_id side dir n → ⊥
+apart side other Bi Bi n m l e = let a = bit side in let b = bit other in let c = l refl in omega arith
+apart side other Uni Uni n m l e = let a = bit side in let b = bit other in let c = l refl in omega arith
+apart side other Bi Uni n m l e = let a = bit side in let b = bit other in omega arith
+apart side other Uni Bi n m l e = let a = bit side in let b = bit other in omega arith
 
 -- one stream more leaves what is buffered
 sum_added : (es : Table SendHalf) (id : ℕ) (h : SendHalf) → IsStrictlySortedBy nat_cmp (keys_of es) → at es id ≡ None → length h.buffer.kept ≡ 0 → sum_by (λ h. length h.buffer.kept) (values_of (added es id h)) ≡ sum_by (λ h. length h.buffer.kept) (values_of es)
@@ -40,18 +38,50 @@ sum_added es id h o none empty =
     let now : P None = subst P none (sum_by-insert_entry (λ (h : SendHalf). length h.buffer.kept) nat_cmp_total es id h o) in
     omega arith
 
--- a two-way stream is opened
-pub open_bi_keeps : (side : Side) (s : Sending) (b : ℕ) (h : SendHalf) (ns : Table SendHalf) → IsSending s b → length h.buffer.kept ≡ 0 → s.opened_bi < s.count_bi → ns ≡ added s.halves (stream_id side Bi s.opened_bi) h → IsStrictlySortedBy nat_cmp (keys_of ns) → IsSending (record s { halves = ns; opened_bi = s.opened_bi + 1 }) b
-open_bi_keeps side s b h ns i empty room is o =
-    let id = stream_id side Bi s.opened_bi in
-    let one = bit side in
-    let counts = i.count_bi in
-    let small : id < 2 ^ 62 = omega arith in
+-- a stream that may be opened is within the count
+opens_within : (side : Side) (dir : Dir) (s : Sending) → opens side dir s ≡ true → opened_of dir s < count_of dir s
+opens_within side dir s e = ltb-true _ _ (and_parts (may_open side dir (opened_of dir s)) _ e).1
+
+-- the id of such a stream is one
+small_id : (side : Side) (dir : Dir) (s : Sending) (b : ℕ) → IsSending s b → opened_of dir s < count_of dir s → next_id side dir s < 2 ^ 62
+small_id side Bi s b i room = let one = bit side in let counts = i.count_bi in omega arith
+small_id side Uni s b i room = let one = bit side in let counts = i.count_uni in omega arith
+
+-- no stream behind it has a half
+opened_fresh : (side : Side) (dir : Dir) (s : Sending) (b : ℕ) (h : SendHalf) (ns : Table SendHalf) → IsSending s b → ns ≡ added s.halves (next_id side dir s) h → (other : Side) (kind : Dir) (m : ℕ) → opened_of kind (one_more dir (record s { halves = ns })) ≤ m → at ns (stream_id other kind m) ≡ None
+opened_fresh side dir s b h ns i is other kind m l =
+    ap (λ es. at es (stream_id other kind m)) is ∙ at-apart s.halves (next_id side dir s) h (stream_id other kind m) (apart side other dir kind (opened_of dir s) m (above dir kind m l)) ∙ i.fresh other kind m (below dir kind m l)
+  where
+    above : (dir kind : Dir) (m : ℕ) → opened_of kind (one_more dir (record s { halves = ns })) ≤ m → kind ≡ dir → opened_of dir s < m
+    above Bi Bi m l e = omega arith
+    above Uni Uni m l e = omega arith
+    above Bi Uni m l e = cc
+    above Uni Bi m l e = cc
+
+    below : (dir kind : Dir) (m : ℕ) → opened_of kind (one_more dir (record s { halves = ns })) ≤ m → opened_of kind s ≤ m
+    below Bi Bi m l = omega arith
+    below Uni Uni m l = omega arith
+    below Bi Uni m l = l
+    below Uni Bi m l = l
+
+-- the ids with that of one stream more
+opened_ids : (side : Side) (dir : Dir) (s : Sending) (b : ℕ) (h : SendHalf) (ns : Table SendHalf) → IsSending s b → opened_of dir s < count_of dir s → ns ≡ added s.halves (next_id side dir s) h → AllByRecursion (λ q. q < 2 ^ 62) (keys_of ns)
+opened_ids side dir s b h ns i room is =
+    subst (λ es. AllByRecursion (λ q. q < 2 ^ 62) (keys_of es)) (sym is) (ids-added (λ q. q < 2 ^ 62) s.halves (next_id side dir s) h (small_id side dir s b i room) i.ids)
+
+-- the sum of what is buffered with one stream more
+opened_sum : (side : Side) (dir : Dir) (s : Sending) (b : ℕ) (h : SendHalf) (ns : Table SendHalf) → IsSending s b → length h.buffer.kept ≡ 0 → ns ≡ added s.halves (next_id side dir s) h → b ≡ sum_by (λ h. length h.buffer.kept) (values_of ns)
+opened_sum side dir s b h ns i empty is =
+    i.buffered ∙ sym (ap (λ es. sum_by (λ (h : SendHalf). length h.buffer.kept) (values_of es)) is ∙ sum_added s.halves (next_id side dir s) h i.ordered (i.fresh side dir (opened_of dir s) (omega arith)) empty)
+
+-- a stream is opened
+open_keeps : (side : Side) (dir : Dir) (s : Sending) (b : ℕ) (h : SendHalf) (ns : Table SendHalf) → IsSending s b → length h.buffer.kept ≡ 0 → opened_of dir s < count_of dir s → ns ≡ added s.halves (next_id side dir s) h → IsStrictlySortedBy nat_cmp (keys_of ns) → IsSending (one_more dir (record s { halves = ns })) b
+open_keeps side Bi s b h ns i empty room is o =
     record {
       ordered = o;
-      ids = subst (λ es. AllByRecursion (λ q. q < 2 ^ 62) (keys_of es)) (sym is) (ids-added (λ q. q < 2 ^ 62) s.halves id h small i.ids);
-      fresh = λ other dir m l. ap (λ es. at es (stream_id other dir m)) is ∙ at-apart s.halves id h (stream_id other dir m) (apart_bi side other dir s.opened_bi m (above dir m l)) ∙ i.fresh other dir m (below dir m l);
-      buffered = i.buffered ∙ sym (ap (λ es. sum_by (λ (h : SendHalf). length h.buffer.kept) (values_of es)) is ∙ sum_added s.halves id h i.ordered (i.fresh side Bi s.opened_bi (omega arith)) empty);
+      ids = opened_ids side Bi s b h ns i room is;
+      fresh = opened_fresh side Bi s b h ns i is;
+      buffered = opened_sum side Bi s b h ns i empty is;
       window = i.window;
       accepted = i.accepted;
       limit = i.limit;
@@ -60,27 +90,12 @@ open_bi_keeps side s b h ns i empty room is o =
       count_bi = i.count_bi;
       count_uni = i.count_uni;
     }
-  where
-    above : (dir : Dir) (m : ℕ) → opened_of dir (record s { halves = ns; opened_bi = s.opened_bi + 1 }) ≤ m → dir ≡ Bi → s.opened_bi < m
-    above Bi m l e = omega arith
-    above Uni m l e = cc
-
-    below : (dir : Dir) (m : ℕ) → opened_of dir (record s { halves = ns; opened_bi = s.opened_bi + 1 }) ≤ m → opened_of dir s ≤ m
-    below Bi m l = omega arith
-    below Uni m l = l
-
--- a one-way stream is opened
-pub open_uni_keeps : (side : Side) (s : Sending) (b : ℕ) (h : SendHalf) (ns : Table SendHalf) → IsSending s b → length h.buffer.kept ≡ 0 → s.opened_uni < s.count_uni → ns ≡ added s.halves (stream_id side Uni s.opened_uni) h → IsStrictlySortedBy nat_cmp (keys_of ns) → IsSending (record s { halves = ns; opened_uni = s.opened_uni + 1 }) b
-open_uni_keeps side s b h ns i empty room is o =
-    let id = stream_id side Uni s.opened_uni in
-    let one = bit side in
-    let counts = i.count_uni in
-    let small : id < 2 ^ 62 = omega arith in
+open_keeps side Uni s b h ns i empty room is o =
     record {
       ordered = o;
-      ids = subst (λ es. AllByRecursion (λ q. q < 2 ^ 62) (keys_of es)) (sym is) (ids-added (λ q. q < 2 ^ 62) s.halves id h small i.ids);
-      fresh = λ other dir m l. ap (λ es. at es (stream_id other dir m)) is ∙ at-apart s.halves id h (stream_id other dir m) (apart_uni side other dir s.opened_uni m (above dir m l)) ∙ i.fresh other dir m (below dir m l);
-      buffered = i.buffered ∙ sym (ap (λ es. sum_by (λ (h : SendHalf). length h.buffer.kept) (values_of es)) is ∙ sum_added s.halves id h i.ordered (i.fresh side Uni s.opened_uni (omega arith)) empty);
+      ids = opened_ids side Uni s b h ns i room is;
+      fresh = opened_fresh side Uni s b h ns i is;
+      buffered = opened_sum side Uni s b h ns i empty is;
       window = i.window;
       accepted = i.accepted;
       limit = i.limit;
@@ -89,14 +104,13 @@ open_uni_keeps side s b h ns i empty room is o =
       count_bi = i.count_bi;
       count_uni = i.count_uni;
     }
-  where
-    above : (dir : Dir) (m : ℕ) → opened_of dir (record s { halves = ns; opened_uni = s.opened_uni + 1 }) ≤ m → dir ≡ Uni → s.opened_uni < m
-    above Uni m l e = omega arith
-    above Bi m l e = cc
 
-    below : (dir : Dir) (m : ℕ) → opened_of dir (record s { halves = ns; opened_uni = s.opened_uni + 1 }) ≤ m → opened_of dir s ≤ m
-    below Uni m l = omega arith
-    below Bi m l = l
+-- the same, of what the calls of an open ensure
+pub opened_keeps : (side : Side) (dir kind : Dir) (s old : Sending) (b n id : ℕ) (h : SendHalf) (ns : Table SendHalf) → IsSending s b → s ≡ old → dir ≡ kind → opens side dir old ≡ true → n ≡ opened_of dir old → id ≡ stream_id side dir n → length h.buffer.kept ≡ 0 → ns ≡ added s.halves id h → IsStrictlySortedBy nat_cmp (keys_of ns) → IsSending (one_more kind (record s { halves = ns })) b
+opened_keeps side dir kind s old b n id h ns i same is_kind may count named empty is o =
+    let room = opens_within side dir s (subst (λ s. opens side dir s ≡ true) (sym same) may) in
+    let key : id ≡ next_id side dir s = named ∙ ap (λ n. stream_id side dir n) (count ∙ ap (λ s. opened_of dir s) (sym same)) in
+    rw (← is_kind) (open_keeps side dir s b h ns i empty room (is ∙ ap (λ k. added s.halves k h) key) o)
 
 -- a half is changed
 pub put_keeps : (s : Sending) (b b2 a id : ℕ) (h w : SendHalf) (ns : Table SendHalf) → IsSending s b → at s.halves id ≡ Some h → ns ≡ put s.halves id w → b2 + length h.buffer.kept ≡ b + length w.buffer.kept → b2 ≤ s.window → a ≤ s.limit → IsSending (record s { halves = ns; accepted = a }) b2
@@ -178,7 +192,7 @@ take_back_keeps side s b n ns i last count is gone o =
     fresh index other Bi m l = ⊎_elim (λ (e : m ≡ n). subst (λ k. at ns (stream_id other Bi k) ≡ None) (sym e) (here index other)) (λ (ne : m ≡ n → ⊥). still (stream_id other Bi m) (i.fresh other Bi m (omega arith))) (cases_eq m n)
 
 -- what was opened is the last, and nothing is written on it
-pub last_opened : (side : Side) (s : Sending) (b : ℕ) (h : SendHalf) (ns : Table SendHalf) → IsSending s b → h.buffer.kept ≡ [] → ns ≡ added s.halves (stream_id side Bi s.opened_bi) h → IsLast side (record s { halves = ns; opened_bi = s.opened_bi + 1 })
+last_opened : (side : Side) (s : Sending) (b : ℕ) (h : SendHalf) (ns : Table SendHalf) → IsSending s b → h.buffer.kept ≡ [] → ns ≡ added s.halves (stream_id side Bi s.opened_bi) h → IsLast side (record s { halves = ns; opened_bi = s.opened_bi + 1 })
 last_opened side s b h ns i empty is =
     let index : s.opened_bi + 1 - 1 ≡ s.opened_bi = omega arith in
     record {
@@ -192,6 +206,10 @@ last_opened side s b h ns i empty is =
     same_side Server Server n e = refl
     same_side Client Server n e = absurd (omega arith)
     same_side Server Client n e = absurd (omega arith)
+
+-- the same, of the sending halves after the open
+pub last_after : (side : Side) (s : Sending) (b : ℕ) → IsSending s b → IsLast side (after_open side Bi s)
+last_after side s b i = last_opened side s b (new_half s.first_limit_bi) (added s.halves (next_id side Bi s) (new_half s.first_limit_bi)) i refl refl
 
 -- to open and to take back leaves what was
 pub taken_back : (side : Side) (s before : Sending) (n : ℕ) (ns : Table SendHalf) → n + 1 ≡ s.opened_bi → ns ≡ without s.halves (stream_id side Bi n) → s ≡ after_open side Bi before → at before.halves (next_id side Bi before) ≡ None → record s { halves = ns; opened_bi = n } ≡ before

@@ -1,5 +1,5 @@
 -- A payload has no item where it has no byte.
-use Rattle.std.proofs.Common.{◌≡◌, ℕ, ◌<◌, suc, Bool, true, false, List, [], ◌∷◌, length, refl, Result, Ok, Err, ◌==◌, arith, Some}
+use Rattle.std.proofs.Common.{◌≡◌, ℕ, ◌<◌, suc, true, false, List, [], ◌∷◌, length, refl, Result, Ok, Err, arith, Some}
 use Rattle.quic_wire.specs.Value.{FrameValue}
 use Rattle.quic_wire.specs.declared.frame.InvalidFrame.{InvalidFrame}
 use Rattle.quic_wire.specs.Items.{items, items_within, first_and, frame_at}

@@ -1,17 +1,13 @@
 -- What the parts of a packet say of the half that it carries.
-use Rattle.std.proofs.Common.{◌≡◌, ℕ, ◌+◌, ◌-◌, ◌<◌, ◌≤◌, ◌^◌, ◌++◌, List, length, replicate, take, drop, Option, Some, None, refl, sym, ap, ◌∙◌, arith}
+use Rattle.std.proofs.Common.{◌≡◌, ℕ, ◌+◌, ◌-◌, ◌<◌, ◌^◌, ◌++◌, List, length, replicate, take, drop, Option, Some, None, sym, ap, ◌∙◌, arith}
 use Rattle.std.specs.Prelude.{IfSome}
 use Rattle.std.proofs.lemmas.List.{length-append, append_assoc}
 use Rattle.quic_wire.specs.Number.{truncated}
 use Rattle.quic_wire.specs.Header.{header_bytes}
-use Rattle.quic_wire.specs.Writing.{stream_spelling}
 use Rattle.quic_wire.specs.Keys.{OfFirst, OfNumber, Seal}
 use Rattle.quic_wire.specs.Datagram.{protected, sent}
 use Rattle.quic_wire.proofs.Opening.{sealed_is_sent}
 use Rattle.quic_connection_core.specs.Sending.{SendHalf}
-use Rattle.quic_connection_core.specs.Numbers.{cut_against}
-use Rattle.quic_connection_core.specs.End.{End}
-use Rattle.quic_connection_core.specs.Poll.{payload_of}
 
 -- header, frame and padding are a packet with the half's payload
 pub plain_of : (o : Option SendHalf) (front before header whole padded : List ℕ) (width wide len body : ℕ) (frame : SendHalf → List ℕ)
@@ -34,12 +30,3 @@ sealed_of None mask hide seal keeps number acked front id plain out payload near
 sealed_of (Some h) mask hide seal keeps number acked front id plain out payload near p e =
     let said = λ (z : List ℕ). take (length front) z ++ protected mask hide seal (length id + 1) number (drop (length front) z) in
     e ∙ ap said p ∙ sealed_is_sent mask hide seal keeps number acked front id (payload h) near
-
--- the halves after one of them sent
-pub put_of : {A B : Type 0} (o : Option A) (x : B) (after : Option A → B) (with : A → B) → x ≡ after o → ((h : A) → after (Some h) ≡ with h) → IfSome o (λ h. x ≡ with h)
-put_of None x after with e same = tt
-put_of (Some h) x after with e same = e ∙ same h
-
--- what holds of a number holds of an equal one
-pub moved : (P : ℕ → Type 0) (a b : ℕ) → a ≡ b → P a → P b
-moved P a b e p = rw (sym e) p

@@ -2,7 +2,7 @@
 use Rattle.std.proofs.Common.{◌≡◌, ℕ, ◌+◌, ◌-◌, ◌≤◌, ◌++◌, Bool, true, false, cond, List, length, min, drop, refl, arith, ap, ◌∙◌, ◌==◌, inl, inr}
 use Rattle.std.specs.Prelude.{slice_range}
 use Rattle.std.proofs.lemmas.Bool.{cases_lt, lt-ltb, le-ltb}
-use Rattle.std.proofs.lemmas.List.{length-take, length-drop}
+use Rattle.std.proofs.lemmas.List.{length-take}
 use Rattle.quic_wire.specs.Writing as wire
 use Rattle.quic_streams_core.specs.Buffered as buffered
 use Rattle.quic_connection_core.specs.Sending.{SendHalf}

@@ -69,11 +69,6 @@ pub after_end : (r : Receiving) (o : Option RecvHalf) (id most : ℕ) → at r.h
 after_end r None id most e = ap (λ hs. record r { halves = hs }) (without-unknown r.halves id e)
 after_end r (Some h) id most e = ap (λ hs. record r { halves = hs }) (without-put r.halves id h)
 
--- a chunk leaves what the half has left
-pub after_chunk : (r : Receiving) (chunk : Chunk) (o : Option RecvHalf) (id most : ℕ) → read_at (Ok (Some chunk)) o r id most ≡ after_next (Ok (Some chunk)) o r id most
-after_chunk r chunk None id most = refl
-after_chunk r chunk (Some h) id most = refl
-
 -- a refusal leaves all as it was
 pub after_refused : (r : Receiving) (error : ReadError) (o : Option RecvHalf) (id most : ℕ) → at r.halves id ≡ o → read_at (Err error) o r id most ≡ after_next (Err error) o r id most
 after_refused r error None id most e = refl

@@ -5,7 +5,7 @@ use Rattle.quic_wire.specs.declared.crypto.Keys.{Keys}
 use Rattle.quic_connection_core.specs.declared.run.RunEvent.{RunEvent}
 use Rattle.quic_connection_core.specs.declared.run.Answer.{Answer}
 use Rattle.quic_connection_core.specs.declared.run.View.{View}
-use Rattle.quic_connection_core.specs.End.{Whole, policy_of}
+use Rattle.quic_connection_core.specs.End.{policy_of}
 use Rattle.quic_connection_core.specs.Runs.{Run}
 use Rattle.quic_connection_core.specs.Policy.{Policy}
 use Rattle.quic_connection_core.specs.Machine.{World, Policies}

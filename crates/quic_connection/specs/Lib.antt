@@ -6,3 +6,5 @@ pub mod Ends
 pub mod Halves
 pub mod Given
 pub mod Lending
+pub mod Lacking
+pub mod Views

@@ -245,12 +245,12 @@ impl<H: HeaderKey + Drop, K: PacketKey + Drop, R: Rng + Drop> Connection<H, K, R
     }
 
     /// Writes on a stream.
-    pub(crate) fn write(&mut self, id: StreamId, data: &[u8]) -> Result<usize, WriteError>
-        ensures answer { result ≢ Err write_errors.Memory → result ≡ end_writes self.old.end id (length data.now) }
-        ensures end { self.new ≡ with_end self.old (end_after_write result self.old.end id data.now) }
+    pub(crate) fn write(&mut self, id: StreamId, bytes: &[u8]) -> Result<usize, WriteError>
+        ensures answer { result ≢ Err write_errors.Memory → result ≡ end_writes self.old.end id (length bytes.now) }
+        ensures end { self.new ≡ with_end self.old (end_after_write result self.old.end id bytes.now) }
     {
         let is_open = self.is_open();
-        self.sending.write(is_open, id, data)
+        self.sending.write(is_open, id, bytes)
     }
 
     /// Finishes a stream.

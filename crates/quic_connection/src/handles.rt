@@ -64,8 +64,8 @@ impl<'a, H: HeaderKey + Drop, K: PacketKey + Drop, R: Rng + Drop> SendStream<'a,
     pub fn write(&mut self, data: &[u8]) -> Result<usize, WriteError>
         ensures same_reference { self.new.connection.ghost_name ≡ self.old.connection.ghost_name }
         ensures same_stream { self.new.id ≡ self.old.id }
-        ensures answer { result ≢ Err write_errors.Memory → result ≡ end_writes self.old.connection.now.end self.old.id (length data.now) }
-        ensures end { self.new.connection.now ≡ with_end self.old.connection.now (end_after_write result self.old.connection.now.end self.old.id data.now) }
+        ensures answer { result ≢ Err write_errors.Memory → result ≡ end_writes self.old.connection.now.end self.old.id (length «data».now) }
+        ensures end { self.new.connection.now ≡ with_end self.old.connection.now (end_after_write result self.old.connection.now.end self.old.id «data».now) }
     {
         self.connection.write(self.id, data)
     }

@@ -1,9 +1,10 @@
 //! Runs of two ends over a network: one event at a time, or a list of them.
-ghost use Rattle.std.specs.Prelude.{◌≡◌, ◌++◌, [], length, ◌≤◌, vec_capacity, IfOk, OnErr, false};
+ghost use Rattle.std.specs.Prelude.{◌≡◌, ◌++◌, [], length, ◌≤◌, ◌<◌, vec_capacity, IfOk, OnErr, true, false};
 ghost use Rattle.quic_connection_core.specs.End.{policy_of, with_end};
 ghost use Rattle.quic_connection_core.specs.Machine.{IsAnswer, IsLeft, fails, gives, IsStep, view_of, end_view, Follows};
 ghost use Rattle.quic_connection_core.specs.Calls.{AreNexts, after_nexts};
-ghost use Rattle.quic_connection.specs.Ends.{world_of, first_world, policies_of};
+ghost use Rattle.quic_connection_core.specs.Headline.{IsHonest, OrderedPrefix, Slices, Once, EndAfterAll, BlockedOnlyWithoutBytes, AcceptsAll, NumbersRise};
+ghost use Rattle.quic_connection.specs.Ends.{world_of, first_world, policies_of, run_of};
 ghost use Rattle.quic_connection.specs.declared.running.Given.{Given};
 
 use crate::connection::Connection;
@@ -232,13 +233,39 @@ fn view<H: HeaderKey + Drop, K: PacketKey + Drop, R: Rng + Drop>(ends: &Ends<H, 
 }
 
 /// Makes each event's call in turn, once: one answer and one view for each, until memory lacks in the run itself.
+///
+/// Where a client and a server were made for one another, with keys that are mates, and applications use their own
+/// streams (`IsHonest`), it holds at each place up to which no delivery and no poll met want of memory: what is read of
+/// a stream is a prefix of what was written on it, no byte comes twice, the end comes only behind all, and packet numbers
+/// rise.
 pub fn run<H: HeaderKey + Drop, K: PacketKey + Drop, R: Rng + Drop>(
+    alloc: Global,
+    ends: Ends<H, K, R>,
+    events: &[RunEvent],
+) -> Outcome<H, K, R>
+    ensures follows { Follows (policies_of H.masks H.hides H.unmasks H.reveals K.sealed K.opened ends) (first_world ends) events.now result.answers.items result.views.items (world_of result.ends result.given) }
+    ensures whole { result.cut_short ≡ false → length result.answers.items ≡ length events.now }
+    ensures stopped { result.cut_short ≡ true → length result.answers.items < length events.now }
+    ensures ordered_prefix { let r = run_of (policies_of H.masks H.hides H.unmasks H.reveals K.sealed K.opened ends) ends events.now result.answers.items result.views.items result.given in IsHonest r → OrderedPrefix r }
+    ensures slices { let r = run_of (policies_of H.masks H.hides H.unmasks H.reveals K.sealed K.opened ends) ends events.now result.answers.items result.views.items result.given in IsHonest r → Slices r }
+    ensures once { let r = run_of (policies_of H.masks H.hides H.unmasks H.reveals K.sealed K.opened ends) ends events.now result.answers.items result.views.items result.given in IsHonest r → Once r }
+    ensures end_after_all { let r = run_of (policies_of H.masks H.hides H.unmasks H.reveals K.sealed K.opened ends) ends events.now result.answers.items result.views.items result.given in IsHonest r → EndAfterAll r }
+    ensures blocked_only_without_bytes { let r = run_of (policies_of H.masks H.hides H.unmasks H.reveals K.sealed K.opened ends) ends events.now result.answers.items result.views.items result.given in IsHonest r → BlockedOnlyWithoutBytes r }
+    ensures accepts_all { let r = run_of (policies_of H.masks H.hides H.unmasks H.reveals K.sealed K.opened ends) ends events.now result.answers.items result.views.items result.given in IsHonest r → AcceptsAll r }
+    ensures numbers_rise { let r = run_of (policies_of H.masks H.hides H.unmasks H.reveals K.sealed K.opened ends) ends events.now result.answers.items result.views.items result.given in IsHonest r → NumbersRise r }
+{
+    run_events(alloc, ends, events)
+}
+
+/// Makes each event's call in turn.
+fn run_events<H: HeaderKey + Drop, K: PacketKey + Drop, R: Rng + Drop>(
     alloc: Global,
     mut ends: Ends<H, K, R>,
     events: &[RunEvent],
 ) -> Outcome<H, K, R>
     ensures follows { Follows (policies_of H.masks H.hides H.unmasks H.reveals K.sealed K.opened ends) (first_world ends) events.now result.answers.items result.views.items (world_of result.ends result.given) }
     ensures whole { result.cut_short ≡ false → length result.answers.items ≡ length events.now }
+    ensures stopped { result.cut_short ≡ true → length result.answers.items < length events.now }
 {
     let mut given = Given::new(alloc);
     let mut answers = Vec::new(alloc);

@@ -9,6 +9,7 @@ ghost use Rattle.quic_connection_core.specs.End.{with_end, policy_of, with_closi
 ghost use Rattle.quic_connection_core.specs.Closing.{closed_for};
 ghost use Rattle.quic_connection_core.specs.Receive.{received, opened_to, processed, fault_of_breach, plain_error, take_frame, take_item, take_items, take_payload, opening, error_of, reason_of, drop_of, own_id_length, violation};
 ghost use Rattle.quic_connection.specs.Faults.{fault_view, TakesAs};
+ghost use Rattle.quic_connection.specs.Lacking.{TakesFrames};
 
 use crate::connection::Connection;
 use crate::connection::ids::OWN_ID_LENGTH;
@@ -79,6 +80,7 @@ impl<H: HeaderKey + Drop, K: PacketKey + Drop, R: Rng + Drop> Connection<H, K, R
         ensures answer { result ≢ Received.Failed → result ≡ (received (policy_of H.masks H.hides H.unmasks H.reveals K.sealed K.opened self.old) self.old.end now datagram.old).answer }
         ensures end { result ≢ Received.Failed → self.new ≡ with_end self.old (received (policy_of H.masks H.hides H.unmasks H.reveals K.sealed K.opened self.old) self.old.end now datagram.old).end }
         ensures failed { result ≡ Received.Failed → HasFailed self.old self.new }
+        ensures lacking { result ≡ Received.Failed → TakesFrames (received (policy_of H.masks H.hides H.unmasks H.reveals K.sealed K.opened self.old) self.old.end now datagram.old).answer }
     {
         let _ = ecn;
         match self.state() {
@@ -129,6 +131,7 @@ impl<H: HeaderKey + Drop, K: PacketKey + Drop, R: Rng + Drop> Connection<H, K, R
         ensures answer { result ≢ Received.Failed → result ≡ (opened_to (record { first = opened.now.first; number = opened.now.number; payload = payload.now }) now self.old.end).answer }
         ensures end { result ≢ Received.Failed → self.new ≡ with_end self.old (opened_to (record { first = opened.now.first; number = opened.now.number; payload = payload.now }) now self.old.end).end }
         ensures failed { result ≡ Received.Failed → HasFailed self.old self.new }
+        ensures lacking { result ≡ Received.Failed → TakesFrames (opened_to (record { first = opened.now.first; number = opened.now.number; payload = payload.now }) now self.old.end).answer }
     {
         if opened.key_phase() {
             return Received::Dropped(DropReason::KeyPhase);
@@ -150,6 +153,7 @@ impl<H: HeaderKey + Drop, K: PacketKey + Drop, R: Rng + Drop> Connection<H, K, R
         ensures answer { result ≢ Received.Failed → result ≡ (processed (record { first = opened.now.first; number = opened.now.number; payload = payload.now }) now self.old.end).answer }
         ensures end { result ≢ Received.Failed → self.new ≡ with_end self.old (processed (record { first = opened.now.first; number = opened.now.number; payload = payload.now }) now self.old.end).end }
         ensures failed { result ≡ Received.Failed → HasFailed self.old self.new }
+        ensures lacking { result ≡ Received.Failed → TakesFrames (processed (record { first = opened.now.first; number = opened.now.number; payload = payload.now }) now self.old.end).answer }
     {
         self.tick(now);
         match self.take_payload(opened, payload) {

@@ -11,6 +11,7 @@ ghost use Rattle.quic_connection_core.specs.Table.{at, put};
 ghost use Rattle.quic_connection_core.specs.Sending.{SendHalf};
 ghost use Rattle.quic_connection_core.specs.Poll.{polled, datagram_with, payload_of, stream_room, frame_of, half_after, after_sent};
 ghost use Rattle.quic_connection.specs.Given.{given_bytes};
+ghost use Rattle.quic_connection.specs.Lacking.{GivesOrHasFailed};
 
 use crate::connection::Connection;
 use quic_connection_core::{Failed, Instant, LostReason, State, Transmit};
@@ -39,6 +40,8 @@ impl<H: HeaderKey + Drop, K: PacketKey + Drop, R: Rng + Drop> Connection<H, K, R
         ensures datagram { OnOk result (out.new.items ≡ out.old.items ++ given_bytes (polled (policy_of H.masks H.hides H.unmasks H.reveals K.sealed K.opened self.old) self.old.end now).datagram) }
         ensures failed { OnErr result (HasFailed self.old self.new) }
         ensures nothing { OnErr result (out.new.items ≡ out.old.items) }
+        ensures lacking { OnErr result (GivesOrHasFailed (polled (policy_of H.masks H.hides H.unmasks H.reveals K.sealed K.opened self.old) self.old.end now).answer) }
+        ensures still { self.old.end.closing.state ≡ State.Failed → self.new ≡ self.old }
     {
         match self.state() {
             State::Failed => return Err(Failed),

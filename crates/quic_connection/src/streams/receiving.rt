@@ -54,32 +54,11 @@ impl Model for Receiving {
     ghost Value = { receiving.Receiving };
 
     ghost use Rattle.quic_connection.specs.Bounds.{IsReceiving};
+    ghost use Rattle.quic_connection.specs.Views.{receiving_of};
 
-    ghost view = { λ r. record {
-      halves = r.halves.entries;
-      opened_bi = r.opened_bi;
-      opened_uni = r.opened_uni;
-      accepted_bi = r.accepted_bi;
-      accepted_uni = r.accepted_uni;
-      count_bi = r.count_bi;
-      count_uni = r.count_uni;
-      seen = r.seen;
-      limit = r.limit;
-      stream_limit = r.stream_limit;
-    } };
+    ghost view = { receiving_of };
 
-    ghost invariant = { λ r. IsReceiving (record {
-      halves = r.halves.entries;
-      opened_bi = r.opened_bi;
-      opened_uni = r.opened_uni;
-      accepted_bi = r.accepted_bi;
-      accepted_uni = r.accepted_uni;
-      count_bi = r.count_bi;
-      count_uni = r.count_uni;
-      seen = r.seen;
-      limit = r.limit;
-      stream_limit = r.stream_limit;
-    }) };
+    ghost invariant = { λ r. IsReceiving (receiving_of r) };
 }
 
 // Whether this stage takes frames of a stream at all: at the server, of the client's first

@@ -6,7 +6,7 @@ ghost use Rattle.quic_wire.specs.Writing.{stream_spelling, width_of};
 ghost use Rattle.quic_streams_core.specs.Buffered.{writes_length};
 ghost use Rattle.quic_wire_core.specs.declared.stream_id.Dir.TheVariants as dirs;
 ghost use Rattle.quic_connection_core.specs.Table.{at};
-ghost use Rattle.quic_connection_core.specs.Sending.{Sending, written_on, room, opened_of, count_of, may_open, opens, next_id, after_open, taken_by, written_to, write_answer, grown_at, after_written, finish_answer, after_finish};
+ghost use Rattle.quic_connection_core.specs.Sending.{Sending, written_on, room, opened_of, count_of, may_open, opens, next_id, first_limit, after_open, taken_by, written_to, write_answer, grown_at, after_written, finish_answer, after_finish};
 ghost use Rattle.quic_connection_core.specs.Poll.{first_pending, frame_of};
 ghost use Rattle.quic_connection_core.specs.declared.answers.WriteError.TheVariants as write_errors;
 ghost use Rattle.quic_connection.specs.Frames.{polled_at};
@@ -48,32 +48,11 @@ impl Model for Sending {
     ghost Value = { sending.Sending };
 
     ghost use Rattle.quic_connection.specs.Bounds.{IsSending};
+    ghost use Rattle.quic_connection.specs.Views.{sending_of};
 
-    ghost view = { λ s. record {
-      halves = s.halves.entries;
-      opened_bi = s.opened_bi;
-      opened_uni = s.opened_uni;
-      count_bi = s.count_bi;
-      count_uni = s.count_uni;
-      accepted = s.accepted;
-      limit = s.limit;
-      window = s.window;
-      first_limit_bi = s.first_limit_bi;
-      first_limit_uni = s.first_limit_uni;
-    } };
+    ghost view = { sending_of };
 
-    ghost invariant = { λ s. IsSending (record {
-      halves = s.halves.entries;
-      opened_bi = s.opened_bi;
-      opened_uni = s.opened_uni;
-      count_bi = s.count_bi;
-      count_uni = s.count_uni;
-      accepted = s.accepted;
-      limit = s.limit;
-      window = s.window;
-      first_limit_bi = s.first_limit_bi;
-      first_limit_uni = s.first_limit_uni;
-    }) s.buffered };
+    ghost invariant = { λ s. IsSending (sending_of s) s.buffered };
 }
 
 // Which kinds this stage opens at all: the client one two-way stream.
@@ -161,33 +140,14 @@ impl Sending {
         may_open(side, dir, opened) && opened < self.count_of(dir)
     }
 
-    fn open_bi(&mut self, side: Side) -> Result<StreamId, AllocError>
-        requires { self.old.opened_bi < self.old.count_bi }
-        ensures id { IfOk result (λ id. id ≡ next_id side dirs.Bi self.old) }
-        ensures fresh { at self.old.halves (next_id side dirs.Bi self.old) ≡ None }
-        ensures last { OnOk result (IsLast side self.new) }
-        ensures ok { OnOk result (self.new ≡ after_open side dirs.Bi self.old) }
-        ensures err { OnErr result (self.new ≡ self.old) }
+    // How far the peer lets a new own stream of a kind come.
+    fn first_limit(&self, dir: Dir) -> VarInt
+        ensures { result ≡ first_limit dir self.now }
     {
-        let id = StreamId::new(side, Dir::Bi, self.opened_bi);
-        let half = Send::new(self.alloc, self.first_limit_bi);
-        let _ = self.halves.insert(u64::from(id), half)?;
-        self.opened_bi += 1;
-        Ok(id)
-    }
-
-    fn open_uni(&mut self, side: Side) -> Result<StreamId, AllocError>
-        requires { self.old.opened_uni < self.old.count_uni }
-        ensures id { IfOk result (λ id. id ≡ next_id side dirs.Uni self.old) }
-        ensures fresh { at self.old.halves (next_id side dirs.Uni self.old) ≡ None }
-        ensures ok { OnOk result (self.new ≡ after_open side dirs.Uni self.old) }
-        ensures err { OnErr result (self.new ≡ self.old) }
-    {
-        let id = StreamId::new(side, Dir::Uni, self.opened_uni);
-        let half = Send::new(self.alloc, self.first_limit_uni);
-        let _ = self.halves.insert(u64::from(id), half)?;
-        self.opened_uni += 1;
-        Ok(id)
+        match dir {
+            Dir::Bi => self.first_limit_bi,
+            Dir::Uni => self.first_limit_uni,
+        }
     }
 
     // Opens the next stream of a kind, which may be opened. An `Err` (want of memory) changes
@@ -200,10 +160,14 @@ impl Sending {
         ensures ok { OnOk result (self.new ≡ after_open side dir self.old) }
         ensures err { OnErr result (self.new ≡ self.old) }
     {
+        let half = Send::new(self.alloc, self.first_limit(dir));
+        let id = StreamId::new(side, dir, self.opened_of(dir));
+        let _ = self.halves.insert(u64::from(id), half)?;
         match dir {
-            Dir::Bi => self.open_bi(side),
-            Dir::Uni => self.open_uni(side),
+            Dir::Bi => self.opened_bi += 1,
+            Dir::Uni => self.opened_uni += 1,
         }
+        Ok(id)
     }
 
     // Takes back the two-way stream that was opened last.

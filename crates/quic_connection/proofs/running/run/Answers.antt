@@ -1,24 +1,56 @@
-use Rattle.std.proofs.Common.{rules, ◌≡◌, length, Some, arith, refl}
-use Rattle.std.specs.Prelude.{slice_get}
-use Rattle.std.proofs.lemmas.Option.{slice_get_read}
-use Rattle.std.proofs.lemmas.Grind.{common_steps}
-use Rattle.quic_connection.specs.Ends.{world_of}
-use Rattle.quic_connection.proofs.Runs.{follows_goes_on}
+-- The headline, of the answers, views and datagrams of a run.
+use Rattle.std.proofs.Common.{refl}
+use Rattle.quic_connection_core.specs.Machine.{World, Policies}
+use Rattle.quic_connection_core.specs.Runs.{Run}
+use Rattle.quic_connection_core.proofs.Whole.{ordered_prefix, slices, once, end_after_all, blocked_only_without_bytes, accepts_all, numbers_rise}
+use Rattle.quic_connection.specs.Ends.{world_of, policies_of, run_of}
 use Rattle.quic_connection.proofs.running.run.Goals as goal
 
-pub loop-event-preserved : goal.loop-event-preserved
-loop-event-preserved g c =
-    let inv = c.loop-event.invariant in
-    let at : slice_get c.args.events.now (length c.loop-event.answers.items) ≡ Some c.event-item.result =
-    rw inv.count (slice_get_read c.args.events.now (length c.args.events.now) c.loop-event.event-index c.event-item.result refl c.loop-event-test.true c.event-item.is) in
-    record {
-      follows =
-          follows_goes_on _ _ _ c.loop-event.answers.items c.loop-event.views.items (world_of c.loop-event.ends c.loop-event.given)
-          c.event-item.result c.in-Ok.answer (world_of c.step.new.ends c.step.new.given) _ _
-          inv.follows at
-          (rw inv.keys at c.in-Ok.ensures.step)
-          (search rules)
-          (let seen = c.view.ensures c.step.new.given in cc (seen, c.push_reserved-in-loop-event.ensures.items));
-      count = grind (arith, common_steps);
-      keys = search rules;
-    }
+pub returns-clause-ordered_prefix : goal.returns-clause-ordered_prefix
+returns-clause-ordered_prefix g c =
+    let o = c.run_events.result in
+    let keys : Policies = policies_of g.H.HeaderKey.masks g.H.HeaderKey.hides g.H.HeaderKey.unmasks g.H.HeaderKey.reveals g.K.PacketKey.sealed g.K.PacketKey.opened c.args.ends in
+    let r : Run = run_of keys c.args.ends c.args.events.now o.answers.items o.views.items o.given in
+    λ honest. ordered_prefix r (world_of o.ends o.given) honest (record { follows = c.run_events.ensures.follows; from_client = refl; from_server = refl })
+
+pub returns-clause-slices : goal.returns-clause-slices
+returns-clause-slices g c =
+    let o = c.run_events.result in
+    let keys : Policies = policies_of g.H.HeaderKey.masks g.H.HeaderKey.hides g.H.HeaderKey.unmasks g.H.HeaderKey.reveals g.K.PacketKey.sealed g.K.PacketKey.opened c.args.ends in
+    let r : Run = run_of keys c.args.ends c.args.events.now o.answers.items o.views.items o.given in
+    λ honest. slices r (world_of o.ends o.given) honest (record { follows = c.run_events.ensures.follows; from_client = refl; from_server = refl })
+
+pub returns-clause-once : goal.returns-clause-once
+returns-clause-once g c =
+    let o = c.run_events.result in
+    let keys : Policies = policies_of g.H.HeaderKey.masks g.H.HeaderKey.hides g.H.HeaderKey.unmasks g.H.HeaderKey.reveals g.K.PacketKey.sealed g.K.PacketKey.opened c.args.ends in
+    let r : Run = run_of keys c.args.ends c.args.events.now o.answers.items o.views.items o.given in
+    λ honest. once r (world_of o.ends o.given) honest (record { follows = c.run_events.ensures.follows; from_client = refl; from_server = refl })
+
+pub returns-clause-end_after_all : goal.returns-clause-end_after_all
+returns-clause-end_after_all g c =
+    let o = c.run_events.result in
+    let keys : Policies = policies_of g.H.HeaderKey.masks g.H.HeaderKey.hides g.H.HeaderKey.unmasks g.H.HeaderKey.reveals g.K.PacketKey.sealed g.K.PacketKey.opened c.args.ends in
+    let r : Run = run_of keys c.args.ends c.args.events.now o.answers.items o.views.items o.given in
+    λ honest. end_after_all r (world_of o.ends o.given) honest (record { follows = c.run_events.ensures.follows; from_client = refl; from_server = refl })
+
+pub returns-clause-blocked_only_without_bytes : goal.returns-clause-blocked_only_without_bytes
+returns-clause-blocked_only_without_bytes g c =
+    let o = c.run_events.result in
+    let keys : Policies = policies_of g.H.HeaderKey.masks g.H.HeaderKey.hides g.H.HeaderKey.unmasks g.H.HeaderKey.reveals g.K.PacketKey.sealed g.K.PacketKey.opened c.args.ends in
+    let r : Run = run_of keys c.args.ends c.args.events.now o.answers.items o.views.items o.given in
+    λ honest. blocked_only_without_bytes r (world_of o.ends o.given) honest (record { follows = c.run_events.ensures.follows; from_client = refl; from_server = refl })
+
+pub returns-clause-accepts_all : goal.returns-clause-accepts_all
+returns-clause-accepts_all g c =
+    let o = c.run_events.result in
+    let keys : Policies = policies_of g.H.HeaderKey.masks g.H.HeaderKey.hides g.H.HeaderKey.unmasks g.H.HeaderKey.reveals g.K.PacketKey.sealed g.K.PacketKey.opened c.args.ends in
+    let r : Run = run_of keys c.args.ends c.args.events.now o.answers.items o.views.items o.given in
+    λ honest. accepts_all r (world_of o.ends o.given) honest (record { follows = c.run_events.ensures.follows; from_client = refl; from_server = refl })
+
+pub returns-clause-numbers_rise : goal.returns-clause-numbers_rise
+returns-clause-numbers_rise g c =
+    let o = c.run_events.result in
+    let keys : Policies = policies_of g.H.HeaderKey.masks g.H.HeaderKey.hides g.H.HeaderKey.unmasks g.H.HeaderKey.reveals g.K.PacketKey.sealed g.K.PacketKey.opened c.args.ends in
+    let r : Run = run_of keys c.args.ends c.args.events.now o.answers.items o.views.items o.given in
+    λ honest. numbers_rise r (world_of o.ends o.given) honest (record { follows = c.run_events.ensures.follows; from_client = refl; from_server = refl })

@@ -1,4 +1,4 @@
-use Rattle.std.proofs.Common.{rules, ◌≡◌, ◌+◌, ◌-◌, List, ℕ, length, refl, arith}
+use Rattle.std.proofs.Common.{rules}
 use Rattle.quic_connection_core.specs.Numbers.{cut_against}
 use Rattle.quic_connection_core.specs.Table.{at}
 use Rattle.quic_connection_core.specs.Sending.{SendHalf}

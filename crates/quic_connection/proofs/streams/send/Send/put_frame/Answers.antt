@@ -1,7 +1,4 @@
-use Rattle.std.proofs.Common.{rules, ◌≡◌, ◌+◌, ◌-◌, ◌≤◌, ◌++◌, List, ℕ, length, ap, ◌∙◌, arith}
-use Rattle.quic_wire.specs.Writing.{stream_spelling, stream_size, with_more, width_of}
-use Rattle.quic_wire.specs.Value.{StreamValue}
-use Rattle.quic_connection.specs.declared.streams.send.FrameMeta.{FrameMeta}
+use Rattle.std.proofs.Common.{rules, ◌++◌, List, ℕ, ap, ◌∙◌, arith}
 use Rattle.quic_connection.proofs.Room.{fits, spelled}
 use Rattle.quic_connection.proofs.streams.send.Send.put_frame.Goals as goal
 

@@ -1,7 +1,25 @@
+use Rattle.std.proofs.Common.{◌≡◌, rules, length, subst, ap, ◌∙◌}
+use Rattle.quic_wire_core.specs.declared.stream_id.Dir.TheVariants.{Bi, Uni}
+use Rattle.quic_connection_core.specs.Sending.{SendHalf, Sending, after_open}
+use Rattle.quic_connection.specs.Bounds.{IsSending}
+use Rattle.quic_connection.specs.Views.{sending_of}
+use Rattle.quic_connection.proofs.Opened.{opened_keeps, last_after}
 use Rattle.quic_connection.proofs.streams.sending.Sending.open.Goals as goal
 
-pub returns-in-Bi-clause-fresh : goal.returns-in-Bi-clause-fresh
-returns-in-Bi-clause-fresh c = rw c.in-Bi.is c.open_bi.ensures.fresh
+pub invariant_of-self-in-Bi : goal.invariant_of-self-in-Bi
+invariant_of-self-in-Bi c =
+    let empty = ap (λ (h : SendHalf). length h.buffer.kept) c.new-half.ensures in
+    let told = c.in_ok-insert.ensures in
+    opened_keeps c.args.side c.args.dir Bi (sending_of c.self.inside) _ _ _ _ _ _ c.self.invariant c.self.view_is c.in-Bi.is c.requires c.opened_of.ensures (c.from.ensures ∙ c.new-id.ensures) empty told.entries told.ordered
 
-pub returns-in-Uni-clause-fresh : goal.returns-in-Uni-clause-fresh
-returns-in-Uni-clause-fresh c = rw c.in-Uni.is c.open_uni.ensures.fresh
+pub invariant_of-self-in-Uni : goal.invariant_of-self-in-Uni
+invariant_of-self-in-Uni c =
+    let empty = ap (λ (h : SendHalf). length h.buffer.kept) c.new-half.ensures in
+    let told = c.in_ok-insert.ensures in
+    opened_keeps c.args.side c.args.dir Uni (sending_of c.self.inside) _ _ _ _ _ _ c.self.invariant c.self.view_is c.in-Uni.is c.requires c.opened_of.ensures (c.from.ensures ∙ c.new-id.ensures) empty told.entries told.ordered
+
+pub returns-clause-last : goal.returns-clause-last
+returns-clause-last c = λ two_way.
+    let now : c.match-dir.self ≡ after_open c.args.side c.args.dir c.args.self.now = search rules in
+    let was = subst (λ (s : Sending). IsSending s c.self.inside.buffered) c.self.view_is c.self.invariant in
+    rw (now, two_way) (last_after c.args.side c.args.self.now c.self.inside.buffered was)

@@ -1,7 +1,7 @@
-use Rattle.std.proofs.Common.{◌≡◌, length}
+use Rattle.std.proofs.Common.{◌≡◌, length, false}
 use Rattle.quic_connection_core.specs.Machine.{Policies, Follows}
 use Rattle.quic_connection.specs.Ends.{world_of, first_world, policies_of}
-use Rattle.quic_connection.proofs.running.run.Given as goal
+use Rattle.quic_connection.proofs.running.run_events.Given as goal
 
 abbrev pub invariant-loop-event : goal.invariant-loop-event
 invariant-loop-event g l =
@@ -9,5 +9,6 @@ invariant-loop-event g l =
     record {
       follows : Follows policies (first_world l.fn.ends) l.events l.answers.items l.views.items (world_of l.ends l.given);
       count : length l.answers.items ≡ l.event-index;
+      goes_on : l.cut_short ≡ false;
       keys : policies_of g.H.HeaderKey.masks g.H.HeaderKey.hides g.H.HeaderKey.unmasks g.H.HeaderKey.reveals g.K.PacketKey.sealed g.K.PacketKey.opened l.ends ≡ policies;
     }
