@@ -7,3 +7,4 @@ pub mod Room
 pub mod Plain
 pub mod ReadAnswers
 pub mod Runs
+mod Pairs

@@ -1,0 +1,22 @@
+use Rattle.std.proofs.Common.{◌≡◌}
+use Rattle.std.specs.Prelude.{Ok}
+use Rattle.quic_wire.specs.ParametersRead.{parameters_at}
+use Rattle.quic_connection_core.specs.Settings.{parameters_of}
+use Rattle.quic_connection.proofs.Pairs.{on_ok, on_ok_then, if_err_then, id_length, only_ids}
+use Rattle.quic_connection.proofs.pair.end_for.Goals as goal
+
+pub returns-clause-id : goal.returns-clause-id
+returns-clause-id g c =
+    let read : parameters_at c.deref.result.now ≡ Ok (parameters_of c.args.peer.now) = rw c.deref.ensures.value c.in_ok-parameters.ensures.read_back in
+    on_ok_then c.new.result (λ none. id_length (parameters_at c.deref.result.now) (parameters_of c.args.peer.now) c.args.own.id c.args.peer_id read none) c.new.ensures.lawful
+
+pub returns-clause-read_back : goal.returns-clause-read_back
+returns-clause-read_back g c = on_ok c.new.result (rw c.in_ok-parameters.ensures.bytes at c.in_ok-parameters.ensures.read_back)
+
+pub returns-clause-range : goal.returns-clause-range
+returns-clause-range g c = on_ok c.new.result c.in_ok-parameters.ensures.range
+
+pub returns-clause-refusal : goal.returns-clause-refusal
+returns-clause-refusal g c =
+    let read : parameters_at c.deref.result.now ≡ Ok (parameters_of c.args.peer.now) = rw c.deref.ensures.value c.in_ok-parameters.ensures.read_back in
+    if_err_then c.new.result (λ e told. λ other. only_ids (parameters_at c.deref.result.now) (parameters_of c.args.peer.now) c.args.own.id c.args.peer_id e read (told other)) c.new.ensures.refusal
