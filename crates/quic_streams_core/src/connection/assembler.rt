@@ -1,10 +1,10 @@
 // What has arrived of a stream and is not read yet, in parts.
-ghost use Rattle.std.specs.Prelude.{◌≡◌, cond, drop, max, ◌+◌, ◌-◌, ◌≤◌, ◌<◌, ◌^◌, length, [], IfOk, IsOk, OnOk, OnErr, is_some, IsTrue, false};
+ghost use Rattle.std.specs.Prelude.{◌≡◌, cond, drop, max, ◌+◌, ◌≤◌, ◌<◌, ◌^◌, length, [], IfOk, IsOk, OnOk, OnErr, is_some, IsTrue, false};
 ghost use Rattle.std.specs.Option.{option_map};
 ghost use Rattle.std.specs.Map.{lookup};
 ghost use Rattle.std.specs.BTreeMap.{insert_entry, is_at};
 ghost use Rattle.std.specs.Ordering.{nat_cmp};
-ghost use Rattle.quic_streams_core.specs.Arrived.{Arrived, IsLawful, AreApart, Keeps, byte_at, runs_of, with_gaps, after_insert, is_next, given, after_read, cuts};
+ghost use Rattle.quic_streams_core.specs.Arrived.{Arrived, IsLawful, Keeps, byte_at, runs_of, with_gaps, after_insert, is_next, given, after_read, cuts};
 ghost use Rattle.quic_streams_core.specs.PartSteps.{whole_first, after_first, after, span_of, is_held, held_at, gap_at, begins_at, Fits};
 
 use bytes::Bytes;
@@ -302,11 +302,7 @@ mod tests {
     }
 
     // Reads. Where memory lacks, nothing has changed, and the read is made again.
-    fn read(
-        rt: &impl Abort,
-        assembler: &mut Assembler,
-        max: usize,
-    ) -> Result<Option<Chunk>, Fail> {
+    fn read(rt: &impl Abort, assembler: &mut Assembler, max: usize) -> Result<Option<Chunk>, Fail> {
         let before = seen(assembler);
         if let Ok(chunk) = assembler.read(max) {
             return Ok(chunk);

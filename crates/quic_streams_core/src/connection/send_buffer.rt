@@ -1,6 +1,6 @@
 // What was written to a stream and may have to be sent.
-ghost use Rattle.std.specs.Prelude.{◌≡◌, ◌+◌, ◌-◌, ◌≤◌, ◌<◌, ◌^◌, ◌++◌, [], cond, ltb, length, slice_range, OnOk, OnErr};
-ghost use Rattle.quic_streams_core.specs.Buffered.{Buffered, IsBuffered, written, width, offset_width, needs_length, sent_count, left_unsent, writes_length, sent_end};
+ghost use Rattle.std.specs.Prelude.{◌≡◌, ◌+◌, ◌-◌, ◌≤◌, ◌<◌, ◌^◌, ◌++◌, [], ltb, length, slice_range, OnOk, OnErr};
+ghost use Rattle.quic_streams_core.specs.Buffered.{Buffered, IsBuffered, written, offset_width, writes_length, sent_end};
 
 use std::alloc::{AllocError, Global};
 use std::collections::VecDeque;
