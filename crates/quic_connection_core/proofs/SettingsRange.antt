@@ -1,5 +1,5 @@
 -- What the peer is told of settings is in range.
-use Rattle.std.proofs.Common.{ℕ, ◌≤◌, ◌<◌, ◌^◌, arith}
+use Rattle.std.proofs.Common.{◌≤◌, ◌<◌, ◌^◌, arith}
 use Rattle.quic_wire.specs.declared.transport_parameters.id.TransportParameterId.TheVariants.{InitialMaxData, InitialMaxStreamDataBidiLocal, InitialMaxStreamDataBidiRemote, InitialMaxStreamDataUni, InitialMaxStreamsBidi, InitialMaxStreamsUni}
 use Rattle.quic_wire.specs.Parameters.{AreInRange}
 use Rattle.quic_connection_core.specs.Settings.{Settings, parameters_of}

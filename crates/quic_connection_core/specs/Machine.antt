@@ -1,5 +1,5 @@
 -- The machine of two ends over a network: what each event is answered, and what it leaves.
-use Rattle.std.specs.Prelude.{ℕ, ◌≡◌, ◌≢◌, ◌⊎◌, Bool, true, false, List, [], ◌∷◌, ◌++◌, length, replicate, slice_get, Option, Some, None, Result, Ok, Err, alloc_error}
+use Rattle.std.specs.Prelude.{ℕ, ◌≡◌, ◌⊎◌, Bool, true, false, List, [], ◌∷◌, ◌++◌, length, replicate, slice_get, Option, Some, None, Ok, Err, alloc_error}
 use Rattle.std.specs.Option.{option_to_list}
 use Rattle.quic_wire_core.specs.declared.stream_id.Side.{Side}
 use Rattle.quic_wire_core.specs.declared.stream_id.Side.TheVariants.{Client, Server}
@@ -8,8 +8,6 @@ use Rattle.quic_connection_core.specs.declared.answers.State.TheVariants as stat
 use Rattle.quic_connection_core.specs.declared.answers.WriteError.TheVariants as write_errors
 use Rattle.quic_connection_core.specs.declared.answers.ReadableError.TheVariants as readable_errors
 use Rattle.quic_connection_core.specs.declared.answers.Received.TheVariants as receives
-use Rattle.quic_connection_core.specs.declared.answers.Failed.{Failed}
-use Rattle.quic_connection_core.specs.declared.answers.Transmit.{Transmit}
 use Rattle.quic_connection_core.specs.declared.run.RunEvent.{RunEvent}
 use Rattle.quic_connection_core.specs.declared.run.Call.{Call}
 use Rattle.quic_connection_core.specs.declared.run.Call.TheVariants as calls

@@ -1,5 +1,5 @@
 -- Packet numbers of an end: those it gives and those it opened (RFC 9000, section 12.3).
-use Rattle.std.specs.Prelude.{ℕ, ◌+◌, ◌-◌, ◌%◌, ◌^◌, max, Bool, nat_lt, ◌==◌, ◌||◌, ◌&&◌, not, List, replicate, slice_index, slice_set, Option, Some, None, unwrap_or}
+use Rattle.std.specs.Prelude.{ℕ, ◌+◌, ◌-◌, ◌%◌, ◌^◌, max, Bool, nat_lt, ◌==◌, ◌||◌, ◌&&◌, List, replicate, slice_index, slice_set, Option, Some, None, unwrap_or}
 
 -- how far below the greatest opened number one still counts as new if it didn't come (one more than that: a duplicate)
 abbrev pub duplicate_span : ℕ

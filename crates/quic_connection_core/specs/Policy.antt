@@ -1,5 +1,4 @@
 -- What the keys of an end do, as plain functions.
-use Rattle.std.specs.Prelude.{ℕ, List}
 use Rattle.quic_wire.specs.Keys.{OfFirst, OfNumber, Seal, Open, AreMates}
 
 -- how an end protects what it gives, and how it opens what it takes

@@ -1,13 +1,12 @@
 -- What an end gives when it is polled (RFC 9000, sections 12.2, 13.3 and 14.1).
 use Rattle.std.specs.Prelude.{ℕ, ◌+◌, ◌-◌, ◌≡◌, Bool, true, false, ◌==◌, ◌&&◌, not, if◌then◌else◌, List, [], ◌∷◌, ◌++◌, length, replicate, slice_range, Option, Some, None, Result, Ok, Err}
-use Rattle.quic_wire_core.specs.declared.shared.EcnCodepoint.{EcnCodepoint}
 use Rattle.quic_wire_core.specs.declared.shared.EcnCodepoint.TheVariants.{Ect0}
 use Rattle.quic_wire.specs.Number.{truncated}
-use Rattle.quic_wire.specs.Value.{FrameValue, StreamValue, padding, stream}
+use Rattle.quic_wire.specs.Value.{FrameValue, StreamValue}
 use Rattle.quic_wire.specs.Writing.{stream_spelling, width_of}
 use Rattle.quic_wire.specs.Grammar.{Payload}
 use Rattle.quic_wire.specs.Datagram.{sent}
-use Rattle.quic_streams_core.specs.Buffered.{Buffered, sent_end, writes_length}
+use Rattle.quic_streams_core.specs.Buffered.{sent_end, writes_length}
 use Rattle.quic_connection_core.specs.declared.answers.State.{State}
 use Rattle.quic_connection_core.specs.declared.answers.Failed.{Failed}
 use Rattle.quic_connection_core.specs.declared.answers.Transmit.{Transmit}
@@ -16,7 +15,7 @@ use Rattle.quic_connection_core.specs.declared.answers.LostReason.TheVariants as
 use Rattle.quic_connection_core.specs.Table.{Table, at, put}
 use Rattle.quic_connection_core.specs.Closing.{ticked, closed_for}
 use Rattle.quic_connection_core.specs.Numbers.{can_number, cut_against, number_given}
-use Rattle.quic_connection_core.specs.Sending.{Sending, SendHalf, has_pending, written_on}
+use Rattle.quic_connection_core.specs.Sending.{SendHalf, has_pending, written_on}
 use Rattle.quic_connection_core.specs.Policy.{Policy}
 use Rattle.quic_connection_core.specs.End.{End, with_closing, with_numbers, with_sending}
 

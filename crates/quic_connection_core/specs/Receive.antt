@@ -1,7 +1,7 @@
 -- What an end makes of a datagram that comes (RFC 9000, sections 5.2, 12 and 13.1).
-use Rattle.std.specs.Prelude.{ℕ, ◌+◌, Bool, true, false, ◌==◌, ◌||◌, not, if◌then◌else◌, List, [], ◌∷◌, length, Option, Some, None, Result, Ok, Err}
+use Rattle.std.specs.Prelude.{ℕ, ◌+◌, Bool, true, false, ◌==◌, ◌||◌, not, if◌then◌else◌, List, [], ◌∷◌, Option, Some, None, Result, Ok, Err}
 use Rattle.quic_wire_core.specs.TransportError.{ErrorValue}
-use Rattle.quic_wire.specs.Value.{FrameValue, padding, stream}
+use Rattle.quic_wire.specs.Value.{FrameValue, stream}
 use Rattle.quic_wire.specs.Items.{items}
 use Rattle.quic_wire.specs.Header.{key_phase, reserved_bits}
 use Rattle.quic_wire.specs.Destination.{decoded, fixed_length_id}

@@ -17,7 +17,7 @@ pub struct TransportConfig {
 }
 
 impl Model for TransportConfig {
-    ghost use Rattle.std.specs.Prelude.{ℕ, ◌≤◌, ◌^◌};
+    ghost use Rattle.std.specs.Prelude.{◌≤◌, ◌^◌};
     ghost use Rattle.quic_connection_core.specs.Settings.{Settings};
 
     ghost Value = { Settings };

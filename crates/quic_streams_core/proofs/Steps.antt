@@ -6,7 +6,7 @@ use Rattle.std.specs.declared.cmp.Ordering.TheVariants.{Less, Greater}
 use Rattle.std.specs.BTreeMap.{insert_entry}
 use Rattle.std.proofs.lemmas.List.{drop_all}
 use Rattle.std.proofs.lemmas.Bool.{ltb-true, ltb-false}
-use Rattle.quic_streams_core.specs.Arrived.{Part, start, AreApart, with_gaps, with_part}
+use Rattle.quic_streams_core.specs.Arrived.{Arrived, Part, start, AreApart, with_gaps, with_part}
 use Rattle.quic_streams_core.specs.PartSteps.{after, gap_at, is_held, held_at, Fits}
 
 take_none : (n : ℕ) → take {A = ℕ} n [] ≡ []
@@ -28,6 +28,14 @@ part_of : (at : ℕ) (bs : List ℕ) (ps : List Part) → 0 < length bs → with
 part_of at [] ps l = absurd (omega arith)
 part_of at (b ∷ bs) ps l = refl
 
+-- the first part stays where bytes come behind it
+behind_first : (at : ℕ) (p : Part) (ps : List Part) (bs : List ℕ) → p.0 ≤ at → with_gaps (p ∷ ps) at bs ≡ p ∷ with_gaps ps at bs
+behind_first at p ps bs l =
+    let e1 : start p - at ≡ 0 = omega arith in
+    let e2 : max at p.0 ≡ at = omega arith in
+    let e3 : p.0 - at ≡ 0 = omega arith in
+    rw (e1, e2, e3) refl
+
 -- the first k bytes wait already
 pub skips : (at k : ℕ) (ps : List Part) (bs : List ℕ) (x : Part) → after at ps ≡ Some x → start x ≤ at → at + k ≤ x.0 → with_gaps ps at bs ≡ with_gaps ps (at + k) (drop k bs)
 skips at k [] bs x e s l = cc
@@ -46,13 +54,7 @@ skips at k (p ∷ ps) bs x e s l = go (ltb at p.0) refl e (skips at k ps bs x)
         rw (e1, e2, e3, e4, e5) refl
     go false q e ih =
         let below = ltb-false at p.0 q in
-        let e1 : start p - at ≡ 0 = omega arith in
-        let e2 : start p - (at + k) ≡ 0 = omega arith in
-        let e3 : max at p.0 ≡ at = omega arith in
-        let e4 : max (at + k) p.0 ≡ at + k = omega arith in
-        let e5 : p.0 - at ≡ 0 = omega arith in
-        let e6 : p.0 - (at + k) ≡ 0 = omega arith in
-        rw (e1, e2, e3, e4, e5, e6) (ap (λ t. p ∷ t) (ih e s l))
+        behind_first at p ps bs below ∙ ap (λ t. p ∷ t) (ih e s l) ∙ sym (behind_first (at + k) p ps (drop k bs) (omega arith))
 
 take_within : (n : ℕ) (bs : List ℕ) (m : ℕ) → m ≡ min n (length bs) → take n bs ≡ take m bs
 take_within n bs m e = go (ltb n (length bs)) refl
@@ -91,13 +93,7 @@ fills low at gap (p ∷ ps) bs h l g = go (ltb at p.0) refl g (fills p.0 at gap 
     go false q g ih =
         let below = ltb-false at p.0 q in
         let f : nat_cmp (at + gap) p.0 ≡ Greater = sym (nat_cmp_is (at + gap) p.0 Greater (omega arith)) in
-        let e1 : start p - at ≡ 0 = omega arith in
-        let e2 : start p - (at + gap) ≡ 0 = omega arith in
-        let e3 : max at p.0 ≡ at = omega arith in
-        let e4 : max (at + gap) p.0 ≡ at + gap = omega arith in
-        let e5 : p.0 - at ≡ 0 = omega arith in
-        let e6 : p.0 - (at + gap) ≡ 0 = omega arith in
-        rw (f, e1, e2, e3, e4, e5, e6) (ap (λ t. p ∷ t) (ih g))
+        rw f (behind_first at p ps bs below ∙ ap (λ t. p ∷ t) (ih g) ∙ sym (behind_first (at + gap) p _ (drop gap bs) (omega arith)))
 
 le_from_held : (at : ℕ) (x : Part) → not (ltb at (start x)) ≡ true → start x ≤ at
 le_from_held at x b = ltb-false at (start x) (go (ltb at (start x)) b)
@@ -172,6 +168,10 @@ filled_is low at ps bs h l f =
     ∙ ap (λ r. with_gaps (insert_entry nat_cmp ps (at + length bs) (take (length bs) bs)) (at + length bs) r) none
     ∙ none_left (insert_entry nat_cmp ps (at + length bs) (take (length bs) bs)) (at + length bs)
     ∙ ap (λ r. insert_entry nat_cmp ps (at + length bs) r) all
+
+-- a part put into what is seen of the fields is put into their parts
+pub put_seen : (a b : Arrived) (low end : ℕ) (ps : List Part) (part : List ℕ) → record { read = low; parts = ps } ≡ a → b ≡ record a { parts = insert_entry nat_cmp a.parts end part } → b.parts ≡ insert_entry nat_cmp ps end part
+put_seen a b low end ps part v e = ap (λ (s : Arrived). s.parts) e ∙ ap (λ (s : Arrived). insert_entry nat_cmp s.parts end part) (sym v)
 
 -- a gap that is filled with the first n bytes, as the call says it
 pub put_gaps : (low at len n : ℕ) (ps ns : List Part) (bs : List ℕ) (held : Bool) → AreApart low ps → 0 < length bs → held ≡ is_held at (after at ps) → held ≡ false → n ≡ cond held (held_at at len (after at ps)) (gap_at at len (after at ps)) → len ≡ length bs → ns ≡ insert_entry nat_cmp ps (at + length (take n bs)) (take n bs) → with_gaps ps at bs ≡ with_gaps ns (at + n) (drop n bs)

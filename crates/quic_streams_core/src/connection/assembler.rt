@@ -1,10 +1,10 @@
 // What has arrived of a stream and is not read yet, in parts.
-ghost use Rattle.std.specs.Prelude.{◌≡◌, cond, drop, max, ◌+◌, ◌-◌, ◌≤◌, ◌<◌, ◌^◌, length, [], IfOk, IsOk, OnOk, OnErr, is_some, IsTrue, false};
+ghost use Rattle.std.specs.Prelude.{◌≡◌, cond, drop, max, ◌+◌, ◌≤◌, ◌<◌, ◌^◌, length, [], IfOk, IsOk, OnOk, OnErr, is_some, IsTrue, false};
 ghost use Rattle.std.specs.Option.{option_map};
 ghost use Rattle.std.specs.Map.{lookup};
 ghost use Rattle.std.specs.BTreeMap.{insert_entry, is_at};
 ghost use Rattle.std.specs.Ordering.{nat_cmp};
-ghost use Rattle.quic_streams_core.specs.Arrived.{Arrived, IsLawful, AreApart, Keeps, byte_at, runs_of, with_gaps, after_insert, is_next, given, after_read, cuts};
+ghost use Rattle.quic_streams_core.specs.Arrived.{Arrived, IsLawful, Keeps, byte_at, runs_of, with_gaps, after_insert, is_next, given, after_read, cuts};
 ghost use Rattle.quic_streams_core.specs.PartSteps.{whole_first, after_first, after, span_of, is_held, held_at, gap_at, begins_at, Fits};
 
 use bytes::Bytes;
@@ -271,21 +271,69 @@ impl Assembler {
 #[cfg(test)]
 mod tests {
     use super::*;
+    use std::process::Abort;
     use std::test::Fail;
+
+    // What an assembler shows of itself.
+    fn seen(assembler: &Assembler) -> (u64, usize, bool) {
+        (
+            assembler.bytes_read(),
+            assembler.runs(),
+            assembler.has_next(),
+        )
+    }
+
+    // Puts in bytes that fill one gap. Where memory lacks, nothing has changed, and they are put
+    // in again.
+    fn put(
+        rt: &impl Abort,
+        assembler: &mut Assembler,
+        offset: u64,
+        bytes: &[u8],
+    ) -> Result<(), Fail>
+        requires { offset + length bytes.now < 2 ^ 62 }
+    {
+        let before = seen(assembler);
+        if assembler.insert(offset, bytes).is_err() {
+            assert_eq!(rt; seen(assembler), before);
+            assembler.insert(offset, bytes)?;
+        }
+        Ok(())
+    }
+
+    // Reads. Where memory lacks, nothing has changed, and the read is made again.
+    fn read(rt: &impl Abort, assembler: &mut Assembler, max: usize) -> Result<Option<Chunk>, Fail> {
+        let before = seen(assembler);
+        if let Ok(chunk) = assembler.read(max) {
+            return Ok(chunk);
+        }
+        assert_eq!(rt; seen(assembler), before);
+        Ok(assembler.read(max)?)
+    }
+
+    // Reads these bytes at this offset.
+    fn takes(
+        rt: &impl Abort,
+        assembler: &mut Assembler,
+        max: usize,
+        offset: u64,
+        bytes: &[u8],
+    ) -> Result<(), Fail> {
+        let chunk = read(rt, assembler, max)?.expect(rt, "a byte waits");
+        assert_eq!(rt; chunk.offset, offset);
+        assert_eq!(rt; chunk.bytes.as_slice(), bytes);
+        Ok(())
+    }
 
     #[test]
     fn first_bytes_stand(rt: HostRuntime) -> Result<(), Fail> {
         let mut assembler = Assembler::new(rt.alloc());
-        assembler.insert(0, b"123")?;
-        assembler.insert(1, b"234")?;
+        put(&rt, &mut assembler, 0, b"123")?;
+        put(&rt, &mut assembler, 1, b"234")?;
         assert_eq!(rt; assembler.runs(), 1);
-        let first = assembler.read(32)?.expect(&rt, "three bytes wait");
-        assert_eq!(rt; first.offset, 0);
-        assert_eq!(rt; first.bytes.as_slice(), b"123".as_slice());
-        let second = assembler.read(32)?.expect(&rt, "a byte waits");
-        assert_eq!(rt; second.offset, 3);
-        assert_eq!(rt; second.bytes.as_slice(), b"4".as_slice());
-        assert!(rt; assembler.read(32)?.is_none());
+        takes(&rt, &mut assembler, 32, 0, b"123")?;
+        takes(&rt, &mut assembler, 32, 3, b"4")?;
+        assert!(rt; read(&rt, &mut assembler, 32)?.is_none());
         assert_eq!(rt; assembler.bytes_read(), 4);
         Ok(())
     }
@@ -293,39 +341,53 @@ mod tests {
     #[test]
     fn a_read_cuts_a_part(rt: HostRuntime) -> Result<(), Fail> {
         let mut assembler = Assembler::new(rt.alloc());
-        assembler.insert(2, b"34")?;
+        put(&rt, &mut assembler, 2, b"34")?;
         assert!(rt; !assembler.has_next());
-        assert!(rt; assembler.read(1)?.is_none());
-        assembler.insert(0, b"12")?;
+        assert!(rt; read(&rt, &mut assembler, 1)?.is_none());
+        put(&rt, &mut assembler, 0, b"12")?;
         assert!(rt; assembler.has_next());
-        let nothing = assembler.read(0)?.expect(&rt, "a byte waits");
-        assert_eq!(rt; nothing.bytes.len(), 0);
-        let front = assembler.read(1)?.expect(&rt, "a byte waits");
-        assert_eq!(rt; front.bytes.as_slice(), b"1".as_slice());
-        assembler.insert(0, b"xyzv5")?;
-        let rest = assembler.read(9)?.expect(&rt, "a byte waits");
-        assert_eq!(rt; rest.bytes.as_slice(), b"2".as_slice());
-        let next = assembler.read(9)?.expect(&rt, "a byte waits");
-        assert_eq!(rt; next.bytes.as_slice(), b"34".as_slice());
-        let last = assembler.read(9)?.expect(&rt, "a byte waits");
-        assert_eq!(rt; last.bytes.as_slice(), b"5".as_slice());
+        takes(&rt, &mut assembler, 0, 0, b"")?;
+        takes(&rt, &mut assembler, 1, 0, b"1")?;
+        put(&rt, &mut assembler, 0, b"xyzv5")?;
+        takes(&rt, &mut assembler, 9, 1, b"2")?;
+        takes(&rt, &mut assembler, 9, 2, b"34")?;
+        takes(&rt, &mut assembler, 9, 4, b"5")?;
+        Ok(())
+    }
+
+    // Bytes that fill three gaps: where memory lacks for one, those before it may be filled.
+    #[test]
+    fn what_waits_stays(rt: HostRuntime) -> Result<(), Fail> {
+        let mut assembler = Assembler::new(rt.alloc());
+        put(&rt, &mut assembler, 2, b"34")?;
+        put(&rt, &mut assembler, 6, b"78")?;
+        assert_eq!(rt; assembler.runs(), 2);
+        if assembler.insert(0, b"xxxxxxxxx").is_err() {
+            assert_eq!(rt; assembler.bytes_read(), 0);
+            assert!(rt; assembler.runs() <= 2);
+            assembler.insert(0, b"xxxxxxxxx")?;
+        }
+        assert_eq!(rt; assembler.runs(), 1);
+        takes(&rt, &mut assembler, 9, 0, b"xx")?;
+        takes(&rt, &mut assembler, 9, 2, b"34")?;
+        takes(&rt, &mut assembler, 9, 4, b"xx")?;
+        takes(&rt, &mut assembler, 9, 6, b"78")?;
+        takes(&rt, &mut assembler, 9, 8, b"x")?;
         Ok(())
     }
 
     #[test]
     fn runs_are_counted(rt: HostRuntime) -> Result<(), Fail> {
-        let mut apart = Assembler::new(rt.alloc());
-        for place in 0..2049u64 {
-            apart.insert(2 * place + 1, b"x")?;
+        let mut assembler = Assembler::new(rt.alloc());
+        for place in 0..3u64 {
+            put(&rt, &mut assembler, 2 * place + 1, b"x")?;
         }
-        assert_eq!(rt; apart.runs(), 2049);
-        apart.clear();
-        assert_eq!(rt; apart.runs(), 0);
-        let mut ordered = Assembler::new(rt.alloc());
-        for offset in 0..1000u64 {
-            ordered.insert(offset, b"x")?;
-        }
-        assert_eq!(rt; ordered.runs(), 1);
+        assert_eq!(rt; assembler.runs(), 3);
+        assembler.clear();
+        assert_eq!(rt; assembler.runs(), 0);
+        put(&rt, &mut assembler, 0, b"x")?;
+        put(&rt, &mut assembler, 1, b"x")?;
+        assert_eq!(rt; assembler.runs(), 1);
         Ok(())
     }
 }

@@ -1,6 +1,6 @@
 // What was written to a stream and may have to be sent.
-ghost use Rattle.std.specs.Prelude.{◌≡◌, ◌+◌, ◌-◌, ◌≤◌, ◌<◌, ◌^◌, ◌++◌, [], cond, ltb, length, slice_range, OnOk, OnErr};
-ghost use Rattle.quic_streams_core.specs.Buffered.{Buffered, IsBuffered, written, width, offset_width, needs_length, sent_count, left_unsent, writes_length, sent_end};
+ghost use Rattle.std.specs.Prelude.{◌≡◌, ◌+◌, ◌-◌, ◌≤◌, ◌<◌, ◌^◌, ◌++◌, [], ltb, length, slice_range, OnOk, OnErr};
+ghost use Rattle.quic_streams_core.specs.Buffered.{Buffered, IsBuffered, written, offset_width, writes_length, sent_end};
 
 use std::alloc::{AllocError, Global};
 use std::collections::VecDeque;
@@ -128,7 +128,8 @@ impl SendBuffer {
         (start..self.unsent, has_length)
     }
 
-    /// The longest slice of the bytes at these offsets that begins with the first.
+    /// Bytes at these offsets from the first on, at least one where there is one: where the bytes lie in a ring, they may
+    /// end before the last offset.
     pub fn get(&self, offsets: Range<u64>) -> &[u8]
         requires kept { self.now.base ≤ offsets.start }
         requires ordered { offsets.start ≤ offsets.end }
@@ -168,12 +169,27 @@ impl SendBuffer {
 #[cfg(test)]
 mod tests {
     use super::*;
+    use std::process::Abort;
     use std::test::Fail;
+
+    // Writes bytes. Where memory lacks, nothing has changed, and they are written again.
+    fn put(rt: &impl Abort, buffer: &mut SendBuffer, bytes: &[u8]) -> Result<(), Fail>
+        requires { written buffer.old + length bytes.now < 2 ^ 62 }
+        ensures { OnOk result (buffer.new ≡ record buffer.old { kept = buffer.old.kept ++ bytes.now }) }
+    {
+        let before = (buffer.offset(), buffer.unsent(), buffer.has_unsent_data());
+        if buffer.write(bytes).is_err() {
+            let after = (buffer.offset(), buffer.unsent(), buffer.has_unsent_data());
+            assert_eq!(rt; after, before);
+            buffer.write(bytes)?;
+        }
+        Ok(())
+    }
 
     #[test]
     fn frames_are_cut(rt: HostRuntime) -> Result<(), Fail> {
         let mut buffer = SendBuffer::new(rt.alloc());
-        buffer.write(b"Hello, world with extra data!")?;
+        put(&rt, &mut buffer, b"Hello, world with extra data!")?;
         assert_eq!(rt; buffer.offset(), 29);
         let (first, has_length) = buffer.poll_transmit(16);
         assert_eq!(rt; (first.start, first.end), (0, 16));
@@ -193,10 +209,16 @@ mod tests {
     #[test]
     fn bytes_are_kept(rt: HostRuntime) -> Result<(), Fail> {
         let mut buffer = SendBuffer::new(rt.alloc());
-        buffer.write(b"Hello, ")?;
-        buffer.write(b"world")?;
+        put(&rt, &mut buffer, b"Hello, ")?;
+        let _ = buffer.poll_transmit(3);
+        if buffer.write(b"world").is_err() {
+            assert_eq!(rt; buffer.get(0..7), b"Hello, ".as_slice());
+            put(&rt, &mut buffer, b"world")?;
+        }
         assert_eq!(rt; buffer.offset(), 12);
-        let _ = buffer.poll_transmit(16);
+        let (rest, has_length) = buffer.poll_transmit(32);
+        assert_eq!(rt; (rest.start, rest.end), (3, 12));
+        assert!(rt; has_length);
         assert_eq!(rt; buffer.get(5..12), b", world".as_slice());
         Ok(())
     }

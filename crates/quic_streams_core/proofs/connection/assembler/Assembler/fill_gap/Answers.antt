@@ -1,6 +1,4 @@
-use Rattle.std.proofs.Common.{rules, ◌≡◌, ◌+◌, arith, sym, ap, subst, length}
-use Rattle.quic_streams_core.specs.Arrived.{Arrived}
-use Rattle.quic_streams_core.specs.PartSteps.{Fits, after, begins_at}
+use Rattle.std.proofs.Common.{rules, arith}
 use Rattle.quic_streams_core.proofs.Filled.{put_apart, put_runs, runs_fit}
 use Rattle.quic_streams_core.proofs.connection.assembler.Assembler.fill_gap.Goals as goal
 
@@ -14,20 +12,13 @@ pub invariant_of-self-2 : goal.invariant_of-self-2
 invariant_of-self-2 c =
     let a = c.args in
     let i = c.self.inside in
-    let v = c.self.view_is in
-    let above = ap (λ (s : Arrived). s.read) v in
-    let fits = subst (λ (s : Arrived). Fits (a.at + length a.bytes.now) (after a.at s.parts)) (sym v) c.requires.fits in
-    let joins = subst (λ (s : Arrived). a.joins ≡ begins_at (a.at + length a.bytes.now) (after a.at s.parts)) (sym v) c.requires.joins in
     record {
-      apart = put_apart i.read a.at i.parts.entries _ a.bytes.now _ c.self.invariant.apart (omega arith) c.requires.some c.requires.small fits c.in_ok-part.ensures c.in_ok-keep.ensures.ok;
-      counted = put_runs i.read a.at i.runs _ a.joins i.parts.entries _ a.bytes.now _ c.self.invariant.apart (omega arith) c.requires.some fits joins c.self.invariant.counted c.touches-touching.ensures c.in_ok-part.ensures c.in_ok-keep.ensures.ok;
+      apart = put_apart _ i.read a.at i.parts.entries _ a.bytes.now _ c.self.view_is c.self.invariant.apart c.requires.above c.requires.some c.requires.small c.requires.fits c.in_ok-part.ensures c.in_ok-keep.ensures.ok;
+      counted = put_runs _ i.read a.at i.runs _ a.joins i.parts.entries _ a.bytes.now _ c.self.view_is c.self.invariant.apart c.requires.above c.requires.some c.requires.fits c.requires.joins c.self.invariant.counted c.touches-touching.ensures c.in_ok-part.ensures c.in_ok-keep.ensures.ok;
     }
 
 pub returns-clause-lawful : goal.returns-clause-lawful
 returns-clause-lawful c =
     let a = c.args in
     let i = c.self.inside in
-    let v = c.self.view_is in
-    let above = ap (λ (s : Arrived). s.read) v in
-    let fits = subst (λ (s : Arrived). Fits (a.at + length a.bytes.now) (after a.at s.parts)) (sym v) c.requires.fits in
-    put_apart i.read a.at i.parts.entries _ a.bytes.now _ c.self.invariant.apart (omega arith) c.requires.some c.requires.small fits c.in_ok-part.ensures c.in_ok-keep.ensures.ok
+    put_apart _ i.read a.at i.parts.entries _ a.bytes.now _ c.self.view_is c.self.invariant.apart c.requires.above c.requires.some c.requires.small c.requires.fits c.in_ok-part.ensures c.in_ok-keep.ensures.ok

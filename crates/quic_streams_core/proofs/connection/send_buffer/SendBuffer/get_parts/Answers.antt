@@ -1,4 +1,4 @@
-use Rattle.std.proofs.Common.{◌-◌, ◌≤◌, arith}
+use Rattle.std.proofs.Common.{◌-◌, arith}
 use Rattle.quic_streams_core.proofs.Parts.{in_parts}
 use Rattle.quic_streams_core.proofs.connection.send_buffer.SendBuffer.get_parts.Goals as goal
 
