@@ -237,11 +237,7 @@ impl From<Code> for TransportError {
 
     /// An error with this code, of no frame, and with an empty reason.
     fn from(code: Code) -> TransportError {
-        TransportError {
-            code,
-            frame: None,
-            reason: Reason::Unsaid,
-        }
+        TransportError::new(code, None, Reason::Unsaid)
     }
 }
 
