@@ -10,7 +10,8 @@ use Rattle.quic_wire.specs.declared.frame.FrameError.{FrameError}
 use Rattle.quic_wire.specs.declared.frame.FrameError.TheVariants.{UnexpectedEnd}
 use Rattle.quic_wire.specs.Value.{FrameValue, stream}
 use Rattle.quic_wire.specs.FrameTypes.{Kind, is_padding, is_ping, is_stream, kind_of, type_of}
-use Rattle.quic_wire.specs.Reading.{◌>>=◌, field, var_at, block_at, sized_at, offset_at, data_at, stream_at, as_frame, of_kind_at, body_at}
+use Rattle.quic_wire.specs.Taking.{◌>>=◌}
+use Rattle.quic_wire.specs.Reading.{field, var_at, block_at, sized_at, offset_at, data_at, stream_at, as_frame, of_kind_at, body_at}
 use Rattle.quic_wire.specs.Items.{frame_at, behind_type, refused}
 use Rattle.quic_wire.specs.Grammar.{Numbers, Then, offset_numbers, length_numbers, Ends, OffsetFits, IsForm}
 use Rattle.quic_wire.proofs.FrameKinds.{type_of_kind}

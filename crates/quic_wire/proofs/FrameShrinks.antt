@@ -10,7 +10,8 @@ use Rattle.quic_wire.specs.declared.frame.FrameError.TheVariants.{UnexpectedEnd}
 use Rattle.quic_wire.specs.declared.frame.InvalidFrame.{InvalidFrame}
 use Rattle.quic_wire.specs.Value.{FrameValue, stream}
 use Rattle.quic_wire.specs.FrameTypes.{Kind, is_padding, is_ping, is_stream, kind_of}
-use Rattle.quic_wire.specs.Reading.{◌>>=◌, field, var_at, block_at, sized_at, offset_at, data_at, stream_at, as_frame, of_kind_at, body_at}
+use Rattle.quic_wire.specs.Taking.{◌>>=◌}
+use Rattle.quic_wire.specs.Reading.{field, var_at, block_at, sized_at, offset_at, data_at, stream_at, as_frame, of_kind_at, body_at}
 use Rattle.quic_wire.specs.Items.{frame_at, behind_type, refused}
 
 -- at most n bytes are left

@@ -8,7 +8,7 @@ use Rattle.quic_wire_core.specs.Law.{shortest_spells}
 use Rattle.quic_wire.specs.Value.{FrameValue, StreamValue, padding, ping, stream}
 use Rattle.quic_wire.specs.FrameTypes.{is_stream, type_of}
 use Rattle.quic_wire.specs.Grammar.{Numbers, offset_numbers, OffsetFits, length_numbers, number_if, Ends, stream_numbers, IsForm}
-use Rattle.quic_wire.specs.Writing.{written, has_offset, header_of, with_more, stream_header, stream_spelling, spelling, StreamFits, Fits, width_of, length_width, length_if, stream_size, frame_size}
+use Rattle.quic_wire.specs.Writing.{written, has_offset, header_of, with_more, stream_header, stream_spelling, spelling, StreamFits, Fits, width_of, length_width, some_if, stream_header_size, stream_size, frame_size}
 
 pub written_append : (ns ms : List ℕ) → written (ns ++ ms) ≡ written ns ++ written ms
 written_append [] ms = refl
@@ -27,9 +27,6 @@ stands_2 w a b = rw (append_assoc w a b) (stands_1 w (a ++ b))
 pub stands_3 : (w a b x : List ℕ) → take (length w) (((w ++ a) ++ b) ++ x) ≡ w
 stands_3 w a b x = rw (append_assoc (w ++ a) b x) (stands_2 w a (b ++ x))
 
-pub stands_4 : (w a b x y : List ℕ) → take (length w) ((((w ++ a) ++ b) ++ x) ++ y) ≡ w
-stands_4 w a b x y = rw (append_assoc ((w ++ a) ++ b) x y) (stands_3 w a b (x ++ y))
-
 -- a type of a STREAM frame takes one byte
 pub stream_type_short : (offset sized fin : Bool) → shortest (type_of (is_stream offset sized fin)) ≡ type_of (is_stream offset sized fin) ∷ []
 stream_type_short false false false = refl
@@ -42,20 +39,6 @@ stream_type_short true true false = refl
 stream_type_short true true true = refl
 
 -- ---- the parts of a STREAM frame in turn
-
-regroup : (w a b x y : List ℕ) → (((w ++ a) ++ b) ++ x) ++ y ≡ w ++ (a ++ (b ++ (x ++ y)))
-regroup w a b x y = simp append_assoc
-
-pub header_written : (s : StreamValue) (sized : Bool) (n id : ℕ) (w w1 w2 w3 w4 : List ℕ) → id ≡ s.id
-    → w1 ≡ w ++ shortest (type_of (is_stream (has_offset s.offset) sized s.fin)) → w2 ≡ w1 ++ shortest id → w3 ≡ w2 ++ written (offset_numbers (has_offset s.offset) s.offset)
-    → w4 ≡ w3 ++ written (number_if sized n) → w4 ≡ w ++ header_of sized s n
-header_written s sized n id w w1 w2 w3 w4 same e1 e2 e3 e4 =
-    let a = shortest (type_of (is_stream (has_offset s.offset) sized s.fin)) in
-    let b = shortest s.id in
-    let x = written (offset_numbers (has_offset s.offset) s.offset) in
-    let y = written (number_if sized n) in
-    let whole : w4 ≡ (((w ++ a) ++ b) ++ x) ++ y = rw (e4, e3, e2, e1, same) refl in
-    whole ∙ rw (written_append (offset_numbers (has_offset s.offset) s.offset) (number_if sized n)) (regroup w a b x y)
 
 pub stream_written : (s : StreamValue) (sized : Bool) (w w1 w2 : List ℕ) → w1 ≡ w ++ header_of sized s (length s.bytes) → w2 ≡ w1 ++ s.bytes → w2 ≡ w ++ stream_spelling sized s
 unfolding stream_spelling
@@ -72,21 +55,25 @@ offset_size_if : (offset : ℕ) (b : Bool) → length (written (offset_numbers (
 offset_size_if offset true = refl
 offset_size_if offset false = ap length (append-nil (shortest offset))
 
-length_size : (sized : Bool) (text : List ℕ) → length (written (length_numbers sized text)) ≡ length_width (length_if sized text)
-length_size true text = ap length (append-nil (shortest (length text)))
-length_size false text = refl
+length_size : (sized : Bool) (n : ℕ) → length (written (number_if sized n)) ≡ length_width (some_if sized n)
+length_size true n = ap length (append-nil (shortest n))
+length_size false n = refl
 
-sum_of : (a b x y z : List ℕ) → length ((a ++ (b ++ (x ++ y))) ++ z) ≡ length a + length b + length x + length y + length z
-sum_of a b x y z = simp length-append (omega arith)
+sum_of : (a b x y : List ℕ) → length (a ++ (b ++ (x ++ y))) ≡ length a + length b + length x + length y
+sum_of a b x y = simp length-append (omega arith)
+
+-- the header of a STREAM frame takes so many bytes
+pub header_length : (s : StreamValue) (sized : Bool) (n : ℕ) → length (header_of sized s n) ≡ stream_header_size s.id s.offset (some_if sized n)
+header_length s sized n =
+    let one = ap length (stream_type_short (has_offset s.offset) sized s.fin) in
+    rw (written_append (offset_numbers (has_offset s.offset) s.offset) (number_if sized n))
+    (sum_of (shortest (type_of (is_stream (has_offset s.offset) sized s.fin))) (shortest s.id) (written (offset_numbers (has_offset s.offset) s.offset)) (written (number_if sized n))
+    ∙ rw (one, offset_size_if s.offset (eqb s.offset 0), length_size sized n) refl)
 
 -- a STREAM frame takes so many bytes
 pub stream_length : (sized : Bool) (s : StreamValue) → length (stream_spelling sized s) ≡ stream_size sized s
 unfolding stream_spelling
-stream_length sized s =
-    let one = ap length (stream_type_short (has_offset s.offset) sized s.fin) in
-    rw (written_append (offset_numbers (has_offset s.offset) s.offset) (length_numbers sized s.bytes))
-    (sum_of (shortest (type_of (is_stream (has_offset s.offset) sized s.fin))) (shortest s.id) (written (offset_numbers (has_offset s.offset) s.offset)) (written (length_numbers sized s.bytes)) s.bytes
-    ∙ rw (one, offset_size_if s.offset (eqb s.offset 0), length_size sized s.bytes) refl)
+stream_length sized s = length-append (header_of sized s (length s.bytes)) s.bytes ∙ ap (λ n. n + length s.bytes) (header_length s sized (length s.bytes))
 
 -- a frame takes so many bytes
 pub spelling_length : (f : FrameValue) → Fits f → length (spelling f) ≡ frame_size f

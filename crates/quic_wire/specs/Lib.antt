@@ -12,6 +12,7 @@ pub mod Grammar
 pub mod Writing
 pub mod Parameters
 pub mod ParametersRead
+pub mod Taking
 pub mod ParametersWritten
 pub mod ParametersCode
 pub mod ParametersSteps

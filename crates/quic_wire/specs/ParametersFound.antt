@@ -1,16 +1,17 @@
 -- What is read is spelled.
 use Rattle.std.proofs.Common.{◌≡◌, ℕ, zero, suc, ◌+◌, ◌≤◌, Bool, true, false, cond, ltb, eqb, List, [], ◌∷◌, ◌++◌, length, take, drop, set, Option, Some, None, Result, Ok, Err, refl, sym, ap, ◌∙◌, inl, inr, ◌⊎◌, arith, subst, append_assoc}
 use Rattle.std.specs.Prelude.{is_some, unwrap_or}
-use Rattle.std.proofs.lemmas.Bool.{cases_eq, cases_lt, eqb-true, ltb-false}
-use Rattle.std.proofs.lemmas.List.{drop_at, take-append-drop, length-take, append-nil, get_or-drop, get_or-take, get_or_past, length-set}
+use Rattle.std.proofs.lemmas.Bool.{cases_eq, eqb-true, ltb-false}
+use Rattle.std.proofs.lemmas.List.{drop_at, take-append-drop, length-take, append-nil, get_or-drop, length-set}
 use Rattle.quic_wire_core.specs.Coding.{IsBytes}
 use Rattle.quic_wire_core.specs.Varint.{Spells, Begins, varint_at}
-use Rattle.quic_wire_core.specs.Law.{varint_found}
+use Rattle.quic_wire_core.specs.Law.{IsBytes-take, varint_found}
 use Rattle.quic_wire.specs.declared.transport_parameters.id.TransportParameterId.{TransportParameterId}
 use Rattle.quic_wire.specs.declared.transport_parameters.error.TransportParametersError.{TransportParametersError}
 use Rattle.quic_wire.specs.declared.transport_parameters.error.TransportParametersError.TheVariants.{Malformed, IllegalValue}
 use Rattle.quic_wire.specs.Parameters.{ParameterValues, id_of, place_of, default_of, most_of, value_of, values_by, AreInRange, EntrySpells, EntriesSpell, standing, Says, ParametersSpell}
-use Rattle.quic_wire.specs.ParametersRead.{◌>>=◌, or_malformed, number_at, entry_at, whole_at, parameter_at, met_at, met_after, met_with, met_within, none_met, met_in, values_met, parameters_at}
+use Rattle.quic_wire.specs.Taking.{◌>>=◌}
+use Rattle.quic_wire.specs.ParametersRead.{or_malformed, number_at, entry_at, whole_at, parameter_at, met_at, met_after, met_with, met_within, none_met, met_in, values_met, parameters_at}
 use Rattle.quic_wire.specs.ParametersSteps.{entry_shorter}
 use Rattle.quic_wire.specs.ParametersTable.{some, parameter_again, none_met_at, parameter_is, same_place, same_id, standing_same, standing_other, met_at_same, met_at_other, default_in_range, value_by}
 
@@ -43,13 +44,6 @@ guarded false x z y e = absurd cc
 well_formed : {T : Type 0} (o : Option T) (x : T) → or_malformed o ≡ Ok x → o ≡ Some x
 well_formed (Some y) x e = ap some (fine_is y x e)
 well_formed None x e = absurd cc
-
-IsBytes-take : (n : ℕ) (bytes : List ℕ) → IsBytes bytes → IsBytes (take n bytes)
-IsBytes-take n bytes h i =
-    elim (cases_lt i n) [
-      | inl lt ↦ rw (get_or-take n bytes i 0 lt) (h i)
-      | inr le ↦ rw (get_or_past (take n bytes) i 0 (omega (arith, length-take n bytes))) (omega arith)
-    ]
 
 IsBytes-drop : (n : ℕ) (bytes : List ℕ) → IsBytes bytes → IsBytes (drop n bytes)
 IsBytes-drop n bytes h i = rw get_or-drop (h (n + i))

@@ -1,22 +1,12 @@
 -- What a list of transport parameters is read as: the values, or the first refusal (RFC 9000, sections 7.4 and 18).
-use Rattle.std.specs.Prelude.{◌≡◌, ℕ, zero, suc, List, [], ◌∷◌, length, take, drop, replicate, Option, Some, None, is_some, unwrap_or, Result, Ok, Err, nat_lt, ◌==◌, slice_index_or, slice_set, if◌then◌else◌}
+use Rattle.std.specs.Prelude.{ℕ, zero, suc, List, [], ◌∷◌, length, take, drop, replicate, Option, Some, None, is_some, unwrap_or, Result, Ok, Err, nat_lt, ◌==◌, slice_index_or, slice_set, if◌then◌else◌}
 use Rattle.quic_wire_core.specs.Varint.{varint_at}
 use Rattle.quic_wire.specs.declared.transport_parameters.id.TransportParameterId.{TransportParameterId}
 use Rattle.quic_wire.specs.declared.transport_parameters.id.TransportParameterId.TheVariants.{InitialMaxData, InitialMaxStreamDataBidiLocal, InitialMaxStreamDataBidiRemote, InitialMaxStreamDataUni, InitialMaxStreamsBidi, InitialMaxStreamsUni}
 use Rattle.quic_wire.specs.declared.transport_parameters.error.TransportParametersError.{TransportParametersError}
 use Rattle.quic_wire.specs.declared.transport_parameters.error.TransportParametersError.TheVariants.{Malformed, IllegalValue}
+use Rattle.quic_wire.specs.Taking.{◌>>=◌}
 use Rattle.quic_wire.specs.Parameters.{ParameterValues, place_of, default_of, most_of, values_by}
-
-infixl 10 ◌>>=◌
--- One reading after another, up to the first refusal.
-abbrev pub ◌>>=◌ : {A B : Type 0} → Result A TransportParametersError → (A → Result B TransportParametersError) → Result B TransportParametersError
-(Ok x) >>= f = f x
-(Err e) >>= f = Err e
-
--- What a reader answers, seen by view, and what it leaves of the bytes: a refusal leaves nothing to go on with.
-abbrev pub Reads : {X Y : Type 0} → (X → Y) → Result X TransportParametersError → List ℕ → Result (Y × List ℕ) TransportParametersError → Type 0
-Reads view (Ok x) rest read = read ≡ Ok (view x, rest)
-Reads view (Err e) rest read = read ≡ Err e
 
 -- A list that can't be read on is malformed.
 abbrev pub or_malformed : {T : Type 0} → Option T → Result T TransportParametersError

@@ -6,7 +6,8 @@ use Rattle.std.proofs.lemmas.List.{length-drop}
 use Rattle.quic_wire_core.specs.Varint.{wide_at}
 use Rattle.quic_wire.specs.declared.transport_parameters.error.TransportParametersError.{TransportParametersError}
 use Rattle.quic_wire.specs.declared.transport_parameters.error.TransportParametersError.TheVariants.{Malformed}
-use Rattle.quic_wire.specs.ParametersRead.{◌>>=◌, or_malformed, number_at, entry_at, parameter_at, met_with, met_within, met_in}
+use Rattle.quic_wire.specs.Taking.{◌>>=◌}
+use Rattle.quic_wire.specs.ParametersRead.{or_malformed, number_at, entry_at, parameter_at, met_with, met_within, met_in}
 
 -- ---- each reading takes a byte or more
 

@@ -1,22 +1,11 @@
 -- Reading frames from left to right: the first field that can't be read names the refusal.
-use Rattle.std.specs.Prelude.{◌≡◌, ℕ, Bool, true, false, List, [], length, take, drop, Option, Some, None, Result, Ok, Err, nat_lt, if◌then◌else◌}
+use Rattle.std.specs.Prelude.{ℕ, Bool, true, false, List, [], length, take, drop, Option, Some, None, Result, Ok, Err, nat_lt, if◌then◌else◌}
 use Rattle.quic_wire_core.specs.Varint.{varint_at}
 use Rattle.quic_wire.specs.declared.frame.FrameError.{FrameError}
 use Rattle.quic_wire.specs.declared.frame.FrameError.TheVariants.{UnexpectedEnd, InvalidId}
+use Rattle.quic_wire.specs.Taking.{◌>>=◌}
 use Rattle.quic_wire.specs.Value.{StreamValue, FrameValue, padding, ping, stream}
 use Rattle.quic_wire.specs.FrameTypes.{Kind, is_padding, is_ping, is_stream, kind_of}
-
--- What is read next, where this was read.
-infixl 10 ◌>>=◌
--- one reading behind another: the first refusal stands
-abbrev pub ◌>>=◌ : {A B : Type 0} → Result A FrameError → (A → Result B FrameError) → Result B FrameError
-(Ok x) >>= f = f x
-(Err e) >>= f = Err e
-
--- What a function took from the front of a slice, seen by a view, is what reading gives, with the bytes that are left.
-abbrev pub Reads : {X Y E : Type 0} → (X → Y) → Result X E → List ℕ → Result (Y × List ℕ) E → Type 0
-Reads view (Ok x) rest read = read ≡ Ok (view x, rest)
-Reads view (Err e) rest read = read ≡ Err e
 
 -- A field, and the bytes after it.
 abbrev pub field : {T : Type 0} → Option (T × List ℕ) → Result (T × List ℕ) FrameError

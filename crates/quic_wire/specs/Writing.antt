@@ -1,5 +1,5 @@
 -- The form in which each frame is written: each number in its shortest width (RFC 9000, sections 16 and 19).
-use Rattle.std.specs.Prelude.{◌≡◌, ℕ, ◌+◌, ◌<◌, ◌^◌, Bool, true, false, not, List, [], ◌∷◌, ◌++◌, length, take, Option, Some, None, ◌==◌, if◌then◌else◌}
+use Rattle.std.specs.Prelude.{◌≡◌, ℕ, ◌+◌, ◌<◌, ◌≤◌, ◌^◌, Bool, true, false, not, List, [], ◌∷◌, ◌++◌, length, take, Option, Some, None, Result, MatchResult, ◌==◌, if◌then◌else◌}
 use Rattle.quic_wire_core.specs.Varint.{shortest}
 use Rattle.quic_wire.specs.Value.{StreamValue, FrameValue, padding, ping, stream}
 use Rattle.quic_wire.specs.FrameTypes.{is_padding, is_ping, is_stream, type_of}
@@ -105,3 +105,7 @@ type_number f = 0
 -- Bytes begin with these.
 abbrev pub BeginWith : List ℕ → List ℕ → Type 0
 BeginWith front bytes = take (length front) bytes ≡ front
+
+-- A write of n bytes, one part behind another, takes at most n of the room that is spare, and fails only where that room was missing.
+abbrev pub SpendsSpare : {T E : Type 0} → Result T E → ℕ → ℕ → ℕ → Type 0
+SpendsSpare r old new n = MatchResult r (λ _. old ≤ new + n) (λ _. old < n)

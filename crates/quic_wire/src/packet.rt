@@ -115,8 +115,7 @@ impl PacketNumber {
         ensures len { vec_len out.new ≡ vec_len out.old + self.width }
         ensures capacity { vec_capacity out.old ≤ vec_capacity out.new }
     {
-        let bytes = self.residue.to_be_bytes();
-        append(out, &bytes[4 - self.len()..]);
+        self.encode(out).unwrap()
     }
 
     /// The number that 1 to 4 bytes of a header say.

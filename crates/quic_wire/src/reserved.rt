@@ -2,7 +2,7 @@
 ghost use Rattle.std.specs.Prelude.{◌≡◌, ◌+◌, ◌≤◌, ◌++◌, length, replicate, vec_len, vec_capacity};
 ghost use Rattle.quic_wire_core.specs.Varint.{shortest};
 
-use quic_wire_core::VarInt;
+use quic_wire_core::{Codec, VarInt};
 
 /// Appends bytes, for which there is room.
 pub fn append(out: &mut Vec<u8>, bytes: &[u8])
@@ -31,12 +31,7 @@ pub fn varint_size(n: VarInt) -> usize
     ensures some { 1 ≤ result }
     ensures most { result ≤ 8 }
 {
-    match n.into_inner() {
-        0..=0x3f => 1,
-        0x40..=0x3fff => 2,
-        0x4000..=0x3fff_ffff => 4,
-        _ => 8,
-    }
+    n.size()
 }
 
 /// Appends a number as a variable-length integer (RFC 9000, 16), for which there is room.
@@ -46,16 +41,7 @@ pub fn put_varint(out: &mut Vec<u8>, n: VarInt)
     ensures len { vec_len out.new ≡ vec_len out.old + length (shortest n) }
     ensures capacity { vec_capacity out.old ≤ vec_capacity out.new }
 {
-    let n = n.into_inner();
-    if n < 1 << 6 {
-        append(out, &[n as u8]);
-    } else if n < 1 << 14 {
-        append(out, &(0b01 << 14 | n as u16).to_be_bytes());
-    } else if n < 1 << 30 {
-        append(out, &(0b10 << 30 | n as u32).to_be_bytes());
-    } else {
-        append(out, &(0b11 << 62 | n).to_be_bytes());
-    }
+    n.encode(out).unwrap()
 }
 
 #[cfg(test)]

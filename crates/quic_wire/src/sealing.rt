@@ -63,7 +63,6 @@ fn protect_behind<H: HeaderKey, K: PacketKey>(
 /// more.
 ///
 /// `AllocError`: there is no memory for the tag's 16 bytes, and `out` stays as it was.
-#[tactic(auto, using(crate::proofs::Places::sealed_behind))]
 pub fn seal_packet<H: HeaderKey, K: PacketKey>(
     out: &mut Vec<u8>,
     start: usize,
@@ -78,8 +77,8 @@ pub fn seal_packet<H: HeaderKey, K: PacketKey>(
     ensures ok { OnOk result (out.new.items ≡ take start out.old.items ++ protected (H.masks header_key.now) (H.hides header_key.now) (K.sealed packet_key.now) number_at number (drop start out.old.items)) }
     ensures err { OnErr result (out.new.items ≡ out.old.items) }
 {
-    out.extend_from_slice(&[0; TAG_LEN])?;
-    protect_behind(out, start, number_at, number, header_key, packet_key);
+    out.reserve(TAG_LEN)?;
+    seal_reserved(out, start, number_at, number, header_key, packet_key);
     Ok(())
 }
 

@@ -65,7 +65,8 @@ shortest_again v rest lt = spells_again v (shortest v) rest (shortest_spells v l
 
 -- What is read is spelled so.
 
-IsBytes-take : (n : ℕ) (bytes : List ℕ) → IsBytes bytes → IsBytes (take n bytes)
+-- bytes taken from the front are bytes
+pub IsBytes-take : (n : ℕ) (bytes : List ℕ) → IsBytes bytes → IsBytes (take n bytes)
 IsBytes-take n bytes h i =
     elim (cases_lt i n) [
       | inl lt ↦ rw (get_or-take n bytes i 0 lt) (h i)

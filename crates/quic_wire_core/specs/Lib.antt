@@ -6,5 +6,6 @@ pub mod StreamId
 pub mod StreamIdLaw
 pub mod Text
 pub mod FrameType
+pub mod Reason
 pub mod TransportError
 pub mod Ecn

@@ -1,5 +1,9 @@
 -- Errors of the transport (RFC 9000, section 20.1).
-use Rattle.std.specs.Prelude.{ℕ, Option, None, List, [], ◌∷◌, codes}
+use Rattle.std.specs.Prelude.{ℕ, Option, Some, None, List, [], ◌∷◌, ◌++◌, codes}
+use Rattle.quic_wire_core.specs.declared.reason.Reason.{Reason}
+use Rattle.quic_wire_core.specs.declared.reason.Reason.TheVariants.{Unsaid}
+use Rattle.quic_wire_core.specs.FrameType.{frame_text}
+use Rattle.quic_wire_core.specs.Reason.{reason_text}
 use Rattle.quic_wire_core.specs.Text.{text_in, text_or_number}
 
 -- An error: its code, and the type of the frame that caused it, where one did.
@@ -134,3 +138,17 @@ code_name code = text_in code_names code
 -- What is printed of a code: its name, or else its number.
 abbrev pub code_text : ℕ → List ℕ
 code_text code = text_or_number (code_name code) (codes "unknown error ") code
+
+-- What is printed of the frame that caused an error, where one did.
+abbrev pub frame_part : Option ℕ → List ℕ
+frame_part (Some ty) = codes " in " ++ frame_text ty
+frame_part None = []
+
+-- What is printed of a reason, where something is said.
+abbrev pub reason_part : Reason → List ℕ
+reason_part Unsaid = []
+reason_part reason = codes ": " ++ reason_text reason
+
+-- What is printed of an error with this reason: the code, then the type of the frame, and then the reason, where there are.
+abbrev pub error_text : ErrorValue → Reason → List ℕ
+error_text e reason = code_text e.code ++ frame_part e.frame ++ reason_part reason

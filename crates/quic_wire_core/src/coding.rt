@@ -1,6 +1,7 @@
 //! Values that are read from bytes and written to them.
-ghost use Rattle.std.specs.Prelude.{◌≡◌, ℕ, ◌++◌, List, Option, Some, None, OnOk, OnErr};
+ghost use Rattle.std.specs.Prelude.{◌≡◌, ℕ, ◌++◌, List, length, Option, Some, None, OnOk, OnErr};
 ghost use Rattle.std.specs.Int.{w8, w16, w32, w64};
+ghost use Rattle.bytes.specs.Filled.{UsesSpare, UsesMaxSpare};
 ghost use Rattle.quic_wire_core.specs.Coding.{Decodes, Takes};
 
 use crate::frame_type::FrameType;
@@ -32,11 +33,13 @@ pub trait Codec: Sized {
     fn decode<B: Buf>(buf: &mut B) -> Result<Self, UnexpectedEnd>
         ensures { Decodes reads result (B.unread buf.old) (B.unread buf.new) };
 
-    /// Writes the value behind what is written. An error comes for want of memory or of room, and then nothing is
-    /// written.
+    /// Writes the value behind what is written. An error comes for want of memory or of room, never where the room is
+    /// spare, and then nothing is written.
     fn encode<B: BufMut>(&self, buf: &mut B) -> Result<(), AllocError>
         ensures ok { OnOk result (B.written buf.new ≡ B.written buf.old ++ spelling self.now) }
-        ensures err { OnErr result (B.written buf.new ≡ B.written buf.old) };
+        ensures err { OnErr result (B.written buf.new ≡ B.written buf.old) }
+        ensures spare { UsesSpare result (B.spare buf.old) (B.spare buf.new) (length (spelling self.now)) }
+        ensures max_spare { UsesMaxSpare result (B.max_spare buf.old) (B.max_spare buf.new) (length (spelling self.now)) };
 
     // What was written is read again, whatever follows it.
     ghost again: { (x : Self) (rest : List ℕ) → fits x → reads (spelling x ++ rest) ≡ Some (x, rest) };

@@ -1,4 +1,6 @@
 //! Why rules of the transport are broken, for people to read.
+ghost use Rattle.std.specs.Prelude.{◌≡◌};
+ghost use Rattle.quic_wire_core.specs.Reason.{reason_text};
 
 /// Why an end says that a rule of the transport was broken: a text for people, that takes no memory.
 #[derive(Clone, Copy, Debug, PartialEq, Eq)]
@@ -30,8 +32,10 @@ pub enum Reason {
 }
 
 impl Reason {
-    /// The text.
-    pub fn as_str(self) -> &'static str {
+    /// The text: none where nothing is said.
+    pub fn as_str(self) -> &'static str
+        ensures { result.now ≡ reason_text self }
+    {
         match self {
             Reason::Unsaid => "",
             Reason::UnexpectedEnd => "unexpected end",

@@ -1,6 +1,8 @@
 //! Errors of the transport, which close a connection (RFC 9000, section 20.1).
 ghost use Rattle.std.specs.Prelude.{◌≡◌, Some, None, MatchOption};
-ghost use Rattle.quic_wire_core.specs.TransportError.{all_codes, code_name, code_text, error_in, plain_error};
+ghost use Rattle.std.specs.Fmt.{DisplaysOnOk};
+ghost use Rattle.quic_wire_core.specs.TransportError.{all_codes, code_name, code_text, frame_part, reason_part, error_text, error_in, plain_error};
+ghost use Rattle.quic_wire_core.specs.declared.reason.Reason.{Reason};
 
 use crate::frame_type::FrameType;
 use crate::reason::Reason;
@@ -237,28 +239,52 @@ impl From<Code> for TransportError {
 
     /// An error with this code, of no frame, and with an empty reason.
     fn from(code: Code) -> TransportError {
-        TransportError {
-            code,
-            frame: None,
-            reason: Reason::Unsaid,
-        }
+        TransportError::new(code, None, Reason::Unsaid)
     }
 }
 
 /// The code, then the type of the frame, and then the reason, where there are.
 impl fmt::Display for TransportError {
-    fn fmt<W: fmt::Write>(&self, f: &mut fmt::Formatter<W>) -> fmt::Result {
-        let code = self.code;
-        write!(f, "{code}")?;
-        if let Some(frame) = self.frame {
-            write!(f, " in {frame}")?;
-        }
-        if self.reason != Reason::Unsaid {
-            let reason = self.reason.as_str();
-            write!(f, ": {reason}")?;
-        }
-        Ok(())
+    fn fmt<W: fmt::Write>(&self, f: &mut fmt::Formatter<W>) -> fmt::Result
+        ensures text { (reason : Reason) × DisplaysOnOk W.write_str_gives f.old result (Some (error_text self.now reason)) f.new }
+    {
+        write_error(f, self.code, self.frame, self.reason)
     }
+}
+
+/// Writes an error of this code, frame and reason.
+fn write_error<W: fmt::Write>(
+    f: &mut fmt::Formatter<W>,
+    code: Code,
+    frame: Option<FrameType>,
+    reason: Reason,
+) -> fmt::Result
+    ensures { DisplaysOnOk W.write_str_gives f.old result (Some (error_text (error_in code frame) reason)) f.new }
+{
+    write!(f, "{code}")?;
+    write_frame(f, frame)?;
+    write_reason(f, reason)
+}
+
+/// Writes the type of the frame that caused an error, where one did.
+fn write_frame<W: fmt::Write>(f: &mut fmt::Formatter<W>, frame: Option<FrameType>) -> fmt::Result
+    ensures { DisplaysOnOk W.write_str_gives f.old result (Some (frame_part frame)) f.new }
+{
+    match frame {
+        Some(frame) => write!(f, " in {frame}"),
+        None => Ok(()),
+    }
+}
+
+/// Writes a reason, where something is said.
+fn write_reason<W: fmt::Write>(f: &mut fmt::Formatter<W>, reason: Reason) -> fmt::Result
+    ensures { DisplaysOnOk W.write_str_gives f.old result (Some (reason_part reason)) f.new }
+{
+    if reason == Reason::Unsaid {
+        return Ok(());
+    }
+    let text = reason.as_str();
+    write!(f, ": {text}")
 }
 
 impl Error for TransportError {}

@@ -1,6 +1,6 @@
 //! Variable-length integers (RFC 9000, section 16).
 ghost use Rattle.std.specs.Prelude.{◌≡◌, ◌-◌, ◌<◌, ◌^◌, ◌≤◌, [], MatchResult, MatchOption, length, slice_index};
-ghost use Rattle.quic_wire_core.specs.Varint.{varint_size};
+ghost use Rattle.quic_wire_core.specs.Varint.{varint_size, shortest};
 
 use crate::coding::{Codec, UnexpectedEnd, u8_of, u16_of, u32_of, u64_of};
 use bytes::{Buf, BufMut};
@@ -74,7 +74,10 @@ impl VarInt {
 
     /// How many bytes the number takes when it is written: 1, 2, 4 or 8.
     pub fn size(self) -> usize
-        ensures { result ≡ varint_size self }
+        ensures size { result ≡ varint_size self }
+        ensures spelled { result ≡ length (shortest self) }
+        ensures some { 1 ≤ result }
+        ensures most { result ≤ 8 }
     {
         let n = self.into_inner();
         if n < 1 << 6 {

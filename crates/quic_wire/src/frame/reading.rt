@@ -1,7 +1,8 @@
 //! Frames from bytes. Each reader takes its field from the front of the slice; where it refuses, the bytes left are
 //! of no use.
 ghost use Rattle.std.specs.Prelude.{◌≡◌, ◌<◌, ◌^◌, IfOk};
-ghost use Rattle.quic_wire.specs.Reading.{Reads, var_at, block_at, sized_at, offset_at, data_at, stream_at, body_at};
+ghost use Rattle.quic_wire.specs.Taking.{Reads};
+ghost use Rattle.quic_wire.specs.Reading.{var_at, block_at, sized_at, offset_at, data_at, stream_at, body_at};
 ghost use Rattle.quic_wire.specs.FrameTypes.{has_bit};
 ghost use Rattle.quic_wire.specs.Items.{frame_at};
 ghost use Rattle.quic_wire.specs.FrameView.{stream_view, frame_view};

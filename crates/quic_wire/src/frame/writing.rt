@@ -1,12 +1,13 @@
 //! Frames to bytes: each number in its shortest form (RFC 9000, section 16).
 ghost use Rattle.std.specs.Prelude.{◌≡◌, ◌+◌, ◌<◌, ◌≤◌, ◌^◌, ◌++◌, length, OnOk, OnErr, vec_len, vec_capacity, IfSome, true};
+ghost use Rattle.bytes.specs.Filled.{UsesSpare};
 ghost use Rattle.quic_wire_core.specs.Varint.{shortest};
 ghost use Rattle.quic_wire.specs.FrameView.{stream_view, frame_view};
 ghost use Rattle.quic_wire.specs.Grammar.{offset_numbers, number_if};
-ghost use Rattle.quic_wire.specs.FrameTypes.{type_of, is_stream};
-ghost use Rattle.quic_wire.specs.Writing.{written, has_offset, stream_header, stream_spelling, spelling, StreamFits, Fits, width_of, offset_width, length_width, some_if, header_of, with_more, stream_header_size, stream_size, frame_size, BeginWith};
+ghost use Rattle.quic_wire.specs.Writing.{written, has_offset, stream_header, stream_spelling, spelling, StreamFits, Fits, width_of, offset_width, length_width, some_if, header_of, with_more, stream_header_size, stream_size, frame_size, BeginWith, SpendsSpare};
 
 use crate::frame::{Frame, Stream};
+use crate::reserved::append;
 use bytes::BufMut;
 use quic_wire_core::{Codec, StreamId, VarInt};
 use std::alloc::AllocError;
@@ -16,6 +17,7 @@ fn write_number<B: BufMut>(buf: &mut B, n: u64) -> Result<(), AllocError>
     requires { n < 2 ^ 62 }
     ensures ok { OnOk result (B.written buf.new ≡ B.written buf.old ++ shortest n) }
     ensures err { OnErr result (B.written buf.new ≡ B.written buf.old) }
+    ensures spare { UsesSpare result (B.spare buf.old) (B.spare buf.new) (width_of n) }
 {
     VarInt::from_u64_unchecked(n).encode(buf)
 }
@@ -25,6 +27,7 @@ fn write_offset<B: BufMut>(buf: &mut B, offset: u64) -> Result<(), AllocError>
     requires { offset < 2 ^ 62 }
     ensures ok { OnOk result (B.written buf.new ≡ B.written buf.old ++ written (offset_numbers (has_offset offset) offset)) }
     ensures err { OnErr result (B.written buf.new ≡ B.written buf.old) }
+    ensures spare { UsesSpare result (B.spare buf.old) (B.spare buf.new) (offset_width offset) }
 {
     if offset == 0 {
         Ok(())
@@ -33,27 +36,61 @@ fn write_offset<B: BufMut>(buf: &mut B, offset: u64) -> Result<(), AllocError>
     }
 }
 
+/// Writes the length of the data of a STREAM frame, where it is written.
+fn write_length<B: BufMut>(buf: &mut B, length: u64, with_length: bool) -> Result<(), AllocError>
+    requires { length < 2 ^ 62 }
+    ensures ok { OnOk result (B.written buf.new ≡ B.written buf.old ++ written (number_if with_length length)) }
+    ensures err { OnErr result (B.written buf.new ≡ B.written buf.old) }
+    ensures spare { UsesSpare result (B.spare buf.old) (B.spare buf.new) (length_width (some_if with_length length)) }
+{
+    if with_length {
+        write_number(buf, length)
+    } else {
+        Ok(())
+    }
+}
+
+/// Writes the header of a STREAM frame of so many bytes, with its length or without.
+#[tactic(auto, using(crate::proofs::FrameWritten::stands_0, crate::proofs::FrameWritten::stands_1, crate::proofs::FrameWritten::stands_2, crate::proofs::FrameWritten::stands_3))]
+fn write_stream_header<B: BufMut>(
+    buf: &mut B,
+    stream: &Stream<'_>,
+    length: usize,
+    with_length: bool,
+) -> Result<(), AllocError>
+    requires offset { stream.now.offset < 2 ^ 62 }
+    requires id { stream.now.id < 2 ^ 62 }
+    requires form { length < 2 ^ 62 }
+    ensures ok { OnOk result (B.written buf.new ≡ B.written buf.old ++ header_of with_length (stream_view stream.now) length) }
+    ensures err { OnErr result (BeginWith (B.written buf.old) (B.written buf.new)) }
+    ensures spare { SpendsSpare result (B.spare buf.old) (B.spare buf.new) (stream_header_size stream.now.id stream.now.offset (some_if with_length length)) }
+{
+    write_number(buf, stream.ty(with_length).into())?;
+    write_number(buf, stream.id.into())?;
+    write_offset(buf, stream.offset)?;
+    write_length(buf, length as u64, with_length)
+}
+
 /// Writes a STREAM frame with its length.
-#[tactic(auto, using(crate::proofs::FrameWritten::written_append, crate::proofs::FrameWritten::stands_0, crate::proofs::FrameWritten::stands_1, crate::proofs::FrameWritten::stands_2, crate::proofs::FrameWritten::stands_3, crate::proofs::FrameWritten::stands_4), unfolding(crate::specs::Writing::stream_spelling))]
+#[tactic(auto, using(crate::proofs::FrameWritten::stands_0, crate::proofs::FrameWritten::stands_1), unfolding(crate::specs::Writing::stream_spelling))]
 fn write_stream<B: BufMut>(buf: &mut B, stream: &Stream<'_>) -> Result<(), AllocError>
     requires { StreamFits (stream_view stream.now) }
     ensures ok { OnOk result (B.written buf.new ≡ B.written buf.old ++ stream_spelling true (stream_view stream.now)) }
     ensures err { OnErr result (BeginWith (B.written buf.old) (B.written buf.new)) }
+    ensures spare { SpendsSpare result (B.spare buf.old) (B.spare buf.new) (stream_size true (stream_view stream.now)) }
 {
-    write_number(buf, stream.ty(true).into())?;
-    write_number(buf, stream.id.into())?;
-    write_offset(buf, stream.offset)?;
-    write_number(buf, stream.data.len() as u64)?;
+    write_stream_header(buf, stream, stream.data.len(), true)?;
     buf.put_slice(stream.data)
 }
 
 /// Writes a frame, each number in its shortest form, a STREAM frame with its length. An error comes for want of memory
-/// or of room; a part of the frame may then be written behind what was there.
+/// or of room, never where the room is spare; a part of the frame may then be written behind what was there.
 #[tactic(auto, using(crate::proofs::FrameWritten::stands_0))]
 pub fn write_frame<B: BufMut>(frame: &Frame<'_>, buf: &mut B) -> Result<(), AllocError>
     requires { Fits (frame_view frame.now) }
     ensures ok { OnOk result (B.written buf.new ≡ B.written buf.old ++ spelling (frame_view frame.now)) }
     ensures err { OnErr result (BeginWith (B.written buf.old) (B.written buf.new)) }
+    ensures spare { SpendsSpare result (B.spare buf.old) (B.spare buf.new) (frame_size (frame_view frame.now)) }
 {
     match frame {
         Frame::Padding => write_number(buf, 0x00),
@@ -68,15 +105,7 @@ fn size_of_number(n: u64) -> usize
     ensures size { result ≡ width_of n }
     ensures bound { result ≤ 8 }
 {
-    if n < 1 << 6 {
-        1
-    } else if n < 1 << 14 {
-        2
-    } else if n < 1 << 30 {
-        4
-    } else {
-        8
-    }
+    VarInt::from_u64_unchecked(n).size()
 }
 
 /// How many bytes the offset of a STREAM frame takes: none where it is 0.
@@ -129,71 +158,6 @@ pub fn size_of_frame(frame: &Frame<'_>) -> usize
     }
 }
 
-/// Appends bytes for which there is room.
-fn append(out: &mut Vec<u8>, bytes: &[u8])
-    requires { vec_len out.old + length bytes.now ≤ vec_capacity out.old }
-    ensures items { out.new.items ≡ out.old.items ++ bytes.now }
-    ensures len { vec_len out.new ≡ vec_len out.old + length bytes.now }
-    ensures capacity { vec_capacity out.old ≤ vec_capacity out.new }
-{
-    out.extend_from_slice(bytes).unwrap()
-}
-
-/// Appends a number for which there is room.
-fn put_number(out: &mut Vec<u8>, n: u64)
-    requires form { n < 2 ^ 62 }
-    requires room { vec_len out.old + width_of n ≤ vec_capacity out.old }
-    ensures items { out.new.items ≡ out.old.items ++ shortest n }
-    ensures len { vec_len out.new ≡ vec_len out.old + width_of n }
-    ensures capacity { vec_capacity out.old ≤ vec_capacity out.new }
-{
-    if n < 1 << 6 {
-        append(out, &[n as u8]);
-    } else if n < 1 << 14 {
-        append(out, &(0b01 << 14 | n as u16).to_be_bytes());
-    } else if n < 1 << 30 {
-        append(out, &(0b10 << 30 | n as u32).to_be_bytes());
-    } else {
-        append(out, &(0b11 << 62 | n).to_be_bytes());
-    }
-}
-
-/// Appends the offset of a STREAM frame, where it isn't 0. There is room.
-fn put_offset(out: &mut Vec<u8>, offset: u64)
-    requires form { offset < 2 ^ 62 }
-    requires room { vec_len out.old + offset_width offset ≤ vec_capacity out.old }
-    ensures items { out.new.items ≡ out.old.items ++ written (offset_numbers (has_offset offset) offset) }
-    ensures len { vec_len out.new ≡ vec_len out.old + offset_width offset }
-    ensures capacity { vec_capacity out.old ≤ vec_capacity out.new }
-{
-    if offset != 0 {
-        put_number(out, offset);
-    }
-}
-
-/// Appends the length of the data of a STREAM frame, where it is written. There is room.
-fn put_length(out: &mut Vec<u8>, length: u64, with_length: bool)
-    requires form { length < 2 ^ 62 }
-    requires room { vec_len out.old + length_width (some_if with_length length) ≤ vec_capacity out.old }
-    ensures items { out.new.items ≡ out.old.items ++ written (number_if with_length length) }
-    ensures len { vec_len out.new ≡ vec_len out.old + length_width (some_if with_length length) }
-    ensures capacity { vec_capacity out.old ≤ vec_capacity out.new }
-{
-    if with_length {
-        put_number(out, length);
-    }
-}
-
-/// Appends the type of a STREAM frame. There is room.
-fn put_stream_type(out: &mut Vec<u8>, stream: &Stream<'_>, with_length: bool)
-    requires room { vec_len out.old + 1 ≤ vec_capacity out.old }
-    ensures items { out.new.items ≡ out.old.items ++ shortest (type_of (is_stream (has_offset stream.now.offset) with_length stream.now.fin)) }
-    ensures len { vec_len out.new ≡ vec_len out.old + 1 }
-    ensures capacity { vec_capacity out.old ≤ vec_capacity out.new }
-{
-    append(out, &[stream.ty(with_length) as u8]);
-}
-
 /// Appends the header of a STREAM frame of so many bytes, with its length or without. There is room.
 fn put_stream_header(out: &mut Vec<u8>, stream: &Stream<'_>, length: usize, with_length: bool)
     requires offset { stream.now.offset < 2 ^ 62 }
@@ -204,10 +168,7 @@ fn put_stream_header(out: &mut Vec<u8>, stream: &Stream<'_>, length: usize, with
     ensures len { vec_len out.new ≡ vec_len out.old + stream_header_size stream.now.id stream.now.offset (some_if with_length length) }
     ensures capacity { vec_capacity out.old ≤ vec_capacity out.new }
 {
-    put_stream_type(out, stream, with_length);
-    put_number(out, stream.id.into());
-    put_offset(out, stream.offset);
-    put_length(out, length as u64, with_length);
+    write_stream_header(out, stream, length, with_length).unwrap()
 }
 
 /// Appends a STREAM frame, with its length or without, for which there is room. One without its length has to be the
@@ -246,11 +207,7 @@ pub fn put_frame(out: &mut Vec<u8>, frame: &Frame<'_>)
     ensures len { vec_len out.new ≡ vec_len out.old + frame_size (frame_view frame.now) }
     ensures capacity { vec_capacity out.old ≤ vec_capacity out.new }
 {
-    match frame {
-        Frame::Padding => append(out, &[0x00]),
-        Frame::Ping => append(out, &[0x01]),
-        Frame::Stream(stream) => put_stream(out, stream, true),
-    }
+    write_frame(frame, out).unwrap()
 }
 
 #[cfg(test)]

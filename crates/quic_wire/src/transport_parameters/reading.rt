@@ -1,6 +1,7 @@
 //! Transport parameters from bytes.
 ghost use Rattle.std.specs.Prelude.{◌≡◌, ℕ, ◌≤◌, ◌<◌, ◌^◌, length, IfOk};
-ghost use Rattle.quic_wire.specs.ParametersRead.{Reads, number_at, entry_at, whole_at, met_after, met_with, met_in, none_met, parameter_at};
+ghost use Rattle.quic_wire.specs.Taking.{Reads};
+ghost use Rattle.quic_wire.specs.ParametersRead.{number_at, entry_at, whole_at, met_after, met_with, met_in, none_met, parameter_at};
 ghost use Rattle.quic_wire.specs.ParametersCode.{entry_view, Meets};
 
 use crate::transport_parameters::error::TransportParametersError;

@@ -11,16 +11,7 @@ use std::alloc::AllocError;
 fn size_of(value: VarInt) -> VarInt
     ensures { result ≡ length (shortest value) }
 {
-    let value = value.into_inner();
-    if value < 1 << 6 {
-        VarInt::from_u32(1)
-    } else if value < 1 << 14 {
-        VarInt::from_u32(2)
-    } else if value < 1 << 30 {
-        VarInt::from_u32(4)
-    } else {
-        VarInt::from_u32(8)
-    }
+    VarInt::from_u64_unchecked(value.size() as u64)
 }
 
 /// Writes an entry, each integer in its shortest form.
