@@ -12,11 +12,11 @@ mod streams;
 pub use config::Config;
 pub use connection::Connection;
 pub use handles::{Chunks, RecvStream, SendStream, ShouldTransmit, Streams};
+pub use pair::Making;
 pub use quic_connection_core::{
     Answer, Call, ConfigError, Datagram, Delivery, DropReason, EndView, Failed, FinishError,
     Instant, LostReason, Nexts, ReadCall, ReadError, ReadableError, Received, RunEvent, State,
     Transmit, TransportConfig, View, WriteError,
 };
-pub use pair::Making;
 pub use quic_streams_core::Chunk;
 pub use running::{Ends, Given, Outcome, run, step};

@@ -27,7 +27,7 @@ returns-clause-keys g c = λ to_server. λ to_client.
     let h = g.met.H.HeaderKey in
     let k = g.met.K.PacketKey in
     let lawful : (keys : Keys g.row.H.Denot g.row.K.Denot) → IsLawful (keys_policy g.H.HeaderKey.masks g.H.HeaderKey.hides g.H.HeaderKey.unmasks g.H.HeaderKey.reveals g.K.PacketKey.sealed g.K.PacketKey.opened keys) =
-        λ keys. record { form = h.keeps_form keys.header.local; width = h.keeps_length keys.header.local; tag = k.adds_tag keys.packet.local } in
+    λ keys. record { form = h.keeps_form keys.header.local; width = h.keeps_length keys.header.local; tag = k.adds_tag keys.packet.local } in
     let policy : Keys g.row.H.Denot g.row.K.Denot → Policy = λ keys. keys_policy g.H.HeaderKey.masks g.H.HeaderKey.hides g.H.HeaderKey.unmasks g.H.HeaderKey.reveals g.K.PacketKey.sealed g.K.PacketKey.opened keys in
     subst (λ ks. AreKeys (record { client = policy ks; server = policy c.in_ok-end_for-2.field-0.keys })) (sym c.in_ok-end_for.ensures.keys)
     (subst (λ ks. AreKeys (record { client = policy c.args.client.keys; server = policy ks })) (sym c.in_ok-end_for-2.ensures.keys)
