@@ -1,1 +1,2 @@
 pub mod SettingsRange
+pub mod WorkedRun

@@ -7,6 +7,7 @@ mod config;
 mod instant;
 pub mod laws;
 mod run;
+pub mod worked;
 
 pub use answers::{
     Breach, ConfigError, DropReason, Failed, FinishError, LostReason, ReadError, ReadableError,

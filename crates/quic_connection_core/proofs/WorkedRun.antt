@@ -1,0 +1,163 @@
+-- The worked run, event by event: what each is answered, and what it leaves.
+use Rattle.std.proofs.Common.{◌≡◌, ℕ, List, [], ◌∷◌, Some, None, Ok, true, false, refl, inl, inr, subst, sym, lit<, zero-add}
+use Rattle.std.specs.Prelude.{slice_get}
+use Rattle.quic_wire_core.specs.declared.stream_id.Side.TheVariants.{Client, Server}
+use Rattle.quic_wire_core.specs.declared.stream_id.Dir.TheVariants.{Bi}
+use Rattle.quic_wire_core.specs.declared.shared.EcnCodepoint.TheVariants.{Ect0}
+use Rattle.quic_wire.specs.Value.{stream}
+use Rattle.quic_wire.specs.Grammar.{Numbers, Payload}
+use Rattle.quic_wire.specs.FrameTypes.{kind_of}
+use Rattle.quic_wire.specs.Reading.{block_at, sized_at, offset_at, data_at, stream_at, body_at}
+use Rattle.quic_wire.specs.Items.{frame_at, items_within, items}
+use Rattle.quic_wire.specs.Writing.{stream_spelling}
+use Rattle.quic_wire.specs.ParametersRead.{entry_at, whole_at, met_after, met_within, met_in, values_met, parameters_at}
+use Rattle.quic_connection_core.specs.declared.answers.Received.TheVariants as receives
+use Rattle.quic_connection_core.specs.declared.answers.DropReason.TheVariants as drops
+use Rattle.quic_connection_core.specs.declared.run.ReadCall.{ReadCall}
+use Rattle.quic_connection_core.specs.declared.run.Call.TheVariants as calls
+use Rattle.quic_connection_core.specs.declared.run.Answer.{Answer}
+use Rattle.quic_connection_core.specs.declared.run.Answer.TheVariants as answers
+use Rattle.quic_connection_core.specs.Settings.{default_settings}
+use Rattle.quic_connection_core.specs.End.{End, MadeFrom}
+use Rattle.quic_connection_core.specs.Machine.{World, IsRead, IsStep, Follows}
+use Rattle.quic_connection_core.specs.Calls.{after_nexts}
+use Rattle.quic_connection_core.specs.Poll.{IsDatagram}
+use Rattle.quic_connection_core.specs.Runs.{told_at, Opens, Arrived, IsDuplicate}
+use Rattle.quic_connection_core.specs.Worked.{worked_parameters, client_id, server_id, client_made, server_made, client_opened, client_wrote, client_ended, server_took, server_accepted, server_read, hello, hello_frame, hello_payload, hello_datagram, delivers, before_sending, after_sending, worked_policies, worked_events, worked_answers, worked_views}
+
+pub client_is_made : MadeFrom Client default_settings worked_parameters client_id server_id 0 true client_made
+unfolding parameters_at values_met met_in met_within met_after whole_at entry_at
+client_is_made = refl
+
+pub server_is_made : MadeFrom Server default_settings worked_parameters server_id client_id 0 true server_made
+unfolding parameters_at values_met met_in met_within met_after whole_at entry_at
+server_is_made = refl
+
+opens : IsStep worked_policies (before_sending client_made) (record { side = Client; call = calls.Open Bi }) (answers.Open (Ok (Some 0))) (before_sending client_opened)
+opens = record { answer = inl refl; end = refl; others = refl }
+
+writes : IsStep worked_policies (before_sending client_opened) (record { side = Client; call = calls.Write 0 hello }) (answers.Write (Ok 5)) (before_sending client_wrote)
+writes = record { answer = inl refl; end = refl; others = refl }
+
+finishes : IsStep worked_policies (before_sending client_wrote) (record { side = Client; call = calls.Finish 0 }) (answers.Finish (Ok tt)) (before_sending client_ended)
+finishes = record { answer = refl; end = refl; others = refl }
+
+gives : IsStep worked_policies (before_sending client_ended) (record { side = Client; call = calls.Poll 0 }) (answers.Poll (Ok (Some (record { size = 34; ecn = Some Ect0 })))) (after_sending server_made)
+unfolding stream_spelling
+gives = record { answer = inl refl; end = refl; others = refl }
+
+takes : IsStep worked_policies (after_sending server_made) delivers (answers.Deliver receives.Taken) (after_sending server_took)
+unfolding items items_within frame_at body_at kind_of stream_at offset_at data_at sized_at block_at
+takes = record { answer = inl refl; end = refl; others = refl }
+
+drops_duplicate : IsStep worked_policies (after_sending server_took) delivers (answers.Deliver (receives.Dropped drops.Duplicate)) (after_sending server_took)
+drops_duplicate = record { answer = inl refl; end = refl; others = refl }
+
+accepts : IsStep worked_policies (after_sending server_took) (record { side = Server; call = calls.Accept Bi }) (answers.Accept (Some 0)) (after_sending server_accepted)
+accepts = record { answer = refl; end = refl; others = refl }
+
+-- what a read of two chunks is answered: the five bytes, then the end
+abbrev read_answer : Answer
+read_answer = answers.Read (Ok (Ok (Some (record { offset = 0; bytes = hello })) ∷ Ok None ∷ []))
+
+-- a read at the server of this stream, by these bounds, is answered so, and leaves the half done
+record ReadsAll (id : ℕ) (mosts : List ℕ) : Type 0 where
+  answer : IsRead server_accepted id mosts read_answer
+  end : server_read ≡ after_nexts server_accepted id mosts (Ok (Some (record { offset = 0; bytes = hello })) ∷ Ok None ∷ [])
+
+reads_all : (id : ℕ) (mosts : List ℕ) → id ≡ 0 → mosts ≡ 32 ∷ 32 ∷ [] → ReadsAll id mosts
+reads_all id mosts e f = subst (λ n. ReadsAll n mosts) (sym e) (subst (λ ms. ReadsAll 0 ms) (sym f) (record { answer = (refl, (inl refl, (inl refl, tt))); end = refl }))
+
+reads : (read : ReadCall) → read.id ≡ 0 → read.nexts.items ≡ 32 ∷ 32 ∷ [] → IsStep worked_policies (after_sending server_accepted) (record { side = Server; call = calls.Read read }) read_answer (after_sending server_read)
+reads read e f =
+    let all = reads_all read.id read.nexts.items e f in
+    record { answer = all.answer; end = all.end; others = refl }
+
+pub follows : (read : ReadCall) → read.id ≡ 0 → read.nexts.items ≡ 32 ∷ 32 ∷ [] → Follows worked_policies (before_sending client_made) (worked_events read) worked_answers worked_views (after_sending server_read)
+follows read e f = (
+  before_sending client_opened,
+  opens,
+  refl,
+  (
+    before_sending client_wrote,
+    writes,
+    refl,
+    (
+      before_sending client_ended,
+      finishes,
+      refl,
+      (
+        after_sending server_made,
+        gives,
+        refl,
+        (
+          after_sending server_took,
+          takes,
+          refl,
+          (
+            after_sending server_took,
+            drops_duplicate,
+            refl,
+            (
+              after_sending server_accepted,
+              accepts,
+              refl,
+              (after_sending server_read, reads read e f, refl, refl),
+            ),
+          ),
+        ),
+      ),
+    ),
+  ),
+)
+
+-- ---- the datagram
+
+-- type, id and length, each in one byte
+header_spelled : Numbers (0x0b ∷ 0x00 ∷ 0x05 ∷ []) (0x0b ∷ 0x00 ∷ 0x05 ∷ [])
+header_spelled = (
+  0x0b ∷ [],
+  0x00 ∷ 0x05 ∷ [],
+  inl (lit< tt, refl),
+  (
+    0x00 ∷ [],
+    0x05 ∷ [],
+    inl (lit< tt, refl),
+    (0x05 ∷ [], [], inl (lit< tt, refl), refl, refl),
+    refl,
+  ),
+  refl,
+)
+
+-- the payload is the frame and nothing else
+pub hello_spelled : Payload (stream hello_frame ∷ []) hello_payload
+hello_spelled = (hello_payload, [], record { written = false; sized = true; offset = refl; ends = tt; text = (0x0b ∷ 0x00 ∷ 0x05 ∷ [], header_spelled, refl) }, refl, refl)
+
+pub hello_is : IsDatagram worked_policies.client 0 0 server_id (stream hello_frame ∷ []) hello_datagram
+hello_is = record { payload = hello_payload; spells = hello_spelled; is = refl }
+
+pub hello_opens : Opens worked_policies.client hello_datagram 0 (stream hello_frame ∷ [])
+hello_opens = record { acknowledged = 0; id = server_id; is = hello_is }
+
+pub arrives : (read : ReadCall) (offset byte : ℕ) → slice_get hello offset ≡ Some byte → Arrived worked_policies.client (hello_datagram ∷ []) (told_at Server (worked_events read) worked_answers) 0 offset byte
+arrives read offset byte e = record {
+  datagram = hello_datagram;
+  was_taken = (0, lit< tt, refl);
+  number = 0;
+  frames = stream hello_frame ∷ [];
+  opens = hello_opens;
+  frame = hello_frame;
+  carried = (0, lit< tt, refl);
+  of_stream = refl;
+  place = offset;
+  at = sym (zero-add offset);
+  is = e;
+}
+
+-- ---- duplicates
+
+pub same_number : IsDuplicate 0 (0 ∷ [])
+same_number = inl (0, lit< tt, refl)
+
+pub old_number : IsDuplicate 0 (129 ∷ [])
+old_number = inr (129, (0, lit< tt, refl), lit< tt)
