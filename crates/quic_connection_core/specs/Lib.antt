@@ -14,3 +14,4 @@ pub mod Calls
 pub mod Machine
 pub mod Runs
 pub mod Worked
+pub mod Broken

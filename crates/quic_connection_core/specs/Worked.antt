@@ -15,6 +15,7 @@ use Rattle.quic_connection_core.specs.declared.answers.Received.TheVariants as r
 use Rattle.quic_connection_core.specs.declared.answers.DropReason.TheVariants as drops
 use Rattle.quic_connection_core.specs.declared.run.RunEvent.{RunEvent}
 use Rattle.quic_connection_core.specs.declared.run.ReadCall.{ReadCall}
+use Rattle.quic_connection_core.specs.declared.run.Delivery.{Delivery}
 use Rattle.quic_connection_core.specs.declared.run.Call.TheVariants as calls
 use Rattle.quic_connection_core.specs.declared.run.Answer.{Answer}
 use Rattle.quic_connection_core.specs.declared.run.Answer.TheVariants as answers
@@ -236,9 +237,13 @@ before_sending client = record { client = client; server = server_made; from_cli
 abbrev pub after_sending : End → World
 after_sending server = record { client = client_sent; server = server; from_client = hello_datagram ∷ []; from_server = [] }
 
--- the datagram is delivered
+-- the first datagram, at moment 0 and without a mark
+abbrev pub delivery : Delivery
+delivery = record { now = 0; ecn = None; index = 0 }
+
+-- it is delivered to the server
 abbrev pub delivers : RunEvent
-delivers = record { side = Server; call = calls.Deliver (record { now = 0; ecn = None; index = 0 }) }
+delivers = record { side = Server; call = calls.Deliver delivery }
 
 -- its events; `read` asks for two chunks
 abbrev pub worked_events : ReadCall → List RunEvent

@@ -3,6 +3,7 @@
 #![tactic(auto)]
 
 mod answers;
+pub mod broken;
 mod config;
 mod instant;
 pub mod laws;
