@@ -1,2 +1,3 @@
 pub mod SettingsRange
 pub mod WorkedRun
+pub mod ReorderedRun

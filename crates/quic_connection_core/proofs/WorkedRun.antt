@@ -18,8 +18,8 @@ use Rattle.quic_connection_core.specs.declared.run.Call.TheVariants as calls
 use Rattle.quic_connection_core.specs.declared.run.Answer.{Answer}
 use Rattle.quic_connection_core.specs.declared.run.Answer.TheVariants as answers
 use Rattle.quic_connection_core.specs.Settings.{default_settings}
-use Rattle.quic_connection_core.specs.End.{End, MadeFrom}
-use Rattle.quic_connection_core.specs.Machine.{World, IsRead, IsStep, Follows}
+use Rattle.quic_connection_core.specs.End.{MadeFrom}
+use Rattle.quic_connection_core.specs.Machine.{IsRead, IsStep, Follows}
 use Rattle.quic_connection_core.specs.Calls.{after_nexts}
 use Rattle.quic_connection_core.specs.Poll.{IsDatagram}
 use Rattle.quic_connection_core.specs.Runs.{told_at, Opens, Arrived, IsDuplicate}
@@ -156,8 +156,6 @@ arrives read offset byte e = record {
 
 -- ---- duplicates
 
-pub same_number : IsDuplicate 0 (0 ∷ [])
-same_number = inl (0, lit< tt, refl)
-
+-- 0 is more than 128 below 129
 pub old_number : IsDuplicate 0 (129 ∷ [])
 old_number = inr (129, (0, lit< tt, refl), lit< tt)

@@ -1,5 +1,5 @@
 -- Runs of machines with a bug: the worked run with other answers, and tests that tell such runs by their lists alone.
-use Rattle.std.specs.Prelude.{ℕ, ◌+◌, Bool, true, false, nat_eq, ◌==◌, ◌&&◌, ◌||◌, not, List, [], ◌∷◌, ◌++◌, length, Option, Some, None, Result, Ok, Err}
+use Rattle.std.specs.Prelude.{ℕ, ◌+◌, Bool, true, nat_eq, ◌==◌, ◌&&◌, ◌||◌, not, List, [], ◌∷◌, ◌++◌, length, Option, Some, None, Result, Ok, Err}
 use Rattle.std.specs.List.{starts_with, list_any}
 use Rattle.std.specs.Cmp.Lexicographic.{pointwise}
 use Rattle.quic_wire_core.specs.declared.shared.EcnCodepoint.TheVariants.{Ect0}
@@ -13,7 +13,7 @@ use Rattle.quic_connection_core.specs.declared.answers.Received.TheVariants as r
 use Rattle.quic_connection_core.specs.declared.answers.DropReason.TheVariants as drops
 use Rattle.quic_connection_core.specs.declared.run.Answer.{Answer}
 use Rattle.quic_connection_core.specs.declared.run.Answer.TheVariants as answers
-use Rattle.quic_connection_core.specs.Runs.{Told, written, ended, reads, finished, taken}
+use Rattle.quic_connection_core.specs.Runs.{Told, written, ended, reads, finished}
 use Rattle.quic_connection_core.specs.Worked.{hello}
 
 -- ---- tests of a run's lists

@@ -15,3 +15,4 @@ pub mod Machine
 pub mod Runs
 pub mod Worked
 pub mod Broken
+pub mod Reordered

@@ -1,7 +1,8 @@
 //! Runs of machines with a bug, computed: the lists of each such run show the bug, and the reference machine answers none of
 //! them so. Each function does nothing: its contract is the law.
-ghost use Rattle.std.specs.Prelude.{◌≡◌, ℕ, true, false, List, [], ◌∷◌, length, Some, None, Ok, Err};
+ghost use Rattle.std.specs.Prelude.{◌≡◌, ℕ, true, false, [], ◌∷◌, Ok, Err};
 ghost use Rattle.quic_wire_core.specs.declared.stream_id.Side.TheVariants.{Client, Server};
+ghost use Rattle.quic_wire.specs.Value.{stream};
 ghost use Rattle.quic_connection_core.specs.declared.answers.FinishError.TheVariants as finish_errors;
 ghost use Rattle.quic_connection_core.specs.declared.answers.Received.TheVariants as receives;
 ghost use Rattle.quic_connection_core.specs.declared.answers.DropReason.TheVariants as drops;
@@ -11,8 +12,8 @@ ghost use Rattle.quic_connection_core.specs.declared.run.Answer.TheVariants as a
 ghost use Rattle.quic_connection_core.specs.Calls.{AreNexts};
 ghost use Rattle.quic_connection_core.specs.Machine.{IsAnswer, IsRead};
 ghost use Rattle.quic_connection_core.specs.Runs.{told_at, written, ended, reads, finished, taken, Opens, Arrived, IsDuplicate};
-ghost use Rattle.quic_connection_core.specs.Worked.{hello, hello_datagram, delivery, worked_policies, worked_events, worked_answers, client_opened, client_wrote, server_made, server_took, server_accepted};
-ghost use Rattle.quic_connection_core.specs.Broken.{bytes_of, reads_front, end_is_last, stand_once, gives_chunk, changed_byte, changed_nexts, repeated_bytes, repeated_nexts, unwritten_byte, early_end, early_nexts, unwritten_end, taken_twice, never_taken, all_nexts};
+ghost use Rattle.quic_connection_core.specs.Worked.{hello, hello_frame, hello_datagram, delivery, worked_policies, worked_events, worked_answers, client_opened, client_wrote, server_made, server_took, server_accepted};
+ghost use Rattle.quic_connection_core.specs.Broken.{bytes_of, reads_front, end_is_last, stand_once, changed_byte, changed_nexts, repeated_bytes, repeated_nexts, unwritten_byte, early_end, early_nexts, unwritten_end, taken_twice, never_taken, all_nexts};
 
 /// The worked run passes each test that a broken one fails.
 pub fn worked_run_passes()
@@ -59,6 +60,8 @@ pub fn unwritten_end_shows()
 
 /// A datagram that is taken twice stands twice among those that were taken, and its number is a duplicate of itself.
 pub fn taken_twice_shows()
+    ensures opens { Opens worked_policies.client hello_datagram 0 (stream hello_frame ∷ []) }
+    ensures number { IsDuplicate 0 (0 ∷ []) }
     ensures taken { (read : ReadCall) → taken (hello_datagram ∷ []) (told_at Server (worked_events read) taken_twice) ≡ hello_datagram ∷ hello_datagram ∷ [] }
     ensures once { (read : ReadCall) → stand_once (taken (hello_datagram ∷ []) (told_at Server (worked_events read) taken_twice)) ≡ false }
     ensures machine { IsAnswer worked_policies.server server_took (hello_datagram ∷ []) (calls.Deliver delivery) (answers.Deliver receives.Taken) → ⊥ }

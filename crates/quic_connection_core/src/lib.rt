@@ -7,6 +7,7 @@ pub mod broken;
 mod config;
 mod instant;
 pub mod laws;
+pub mod reordered;
 mod run;
 pub mod worked;
 

@@ -1,13 +1,13 @@
 //! The definitions computed on one worked run: the client opens stream 0, writes `hello` and ends it, and the server reads
 //! it. Each function does nothing: its contract is the law.
-ghost use Rattle.std.specs.Prelude.{◌≡◌, ℕ, ◌+◌, ◌-◌, ◌^◌, true, false, List, [], ◌∷◌, ◌++◌, length, take, drop, replicate, slice_get, Some, None, Ok, Err};
+ghost use Rattle.std.specs.Prelude.{◌≡◌, ℕ, ◌-◌, ◌^◌, true, false, [], ◌∷◌, ◌++◌, length, take, drop, replicate, slice_get, Some, None, Ok, Err};
 ghost use Rattle.quic_wire_core.specs.TransportError.{error_in, plain_error};
 ghost use Rattle.quic_wire_core.specs.declared.stream_id.Side.TheVariants.{Client, Server};
 ghost use Rattle.quic_wire_core.specs.declared.stream_id.Dir.TheVariants.{Bi, Uni};
 ghost use Rattle.quic_wire_core.specs.declared.shared.EcnCodepoint.TheVariants.{Ect0};
 ghost use Rattle.quic_wire.specs.declared.packet.HeaderError.TheVariants.{UnknownId};
 ghost use Rattle.quic_wire.specs.Keys.{shielded, unshielded};
-ghost use Rattle.quic_wire.specs.Datagram.{protected, datagram_of, opened_packet};
+ghost use Rattle.quic_wire.specs.Datagram.{protected, opened_packet};
 ghost use Rattle.quic_wire.specs.Destination.{decoded, fixed_length_id};
 ghost use Rattle.quic_wire.specs.Value.{stream};
 ghost use Rattle.quic_wire.specs.ParametersRead.{parameters_at};
