@@ -1,3 +1,5 @@
 pub mod SettingsRange
 pub mod WorkedRun
 pub mod ReorderedRun
+pub mod OneRun
+pub mod BrokenRuns

@@ -33,27 +33,27 @@ pub server_is_made : MadeFrom Server default_settings worked_parameters server_i
 unfolding parameters_at values_met met_in met_within met_after whole_at entry_at
 server_is_made = refl
 
-opens : IsStep worked_policies (before_sending client_made) (record { side = Client; call = calls.Open Bi }) (answers.Open (Ok (Some 0))) (before_sending client_opened)
+pub opens : IsStep worked_policies (before_sending client_made) (record { side = Client; call = calls.Open Bi }) (answers.Open (Ok (Some 0))) (before_sending client_opened)
 opens = record { answer = inl refl; end = refl; others = refl }
 
-writes : IsStep worked_policies (before_sending client_opened) (record { side = Client; call = calls.Write 0 hello }) (answers.Write (Ok 5)) (before_sending client_wrote)
+pub writes : IsStep worked_policies (before_sending client_opened) (record { side = Client; call = calls.Write 0 hello }) (answers.Write (Ok 5)) (before_sending client_wrote)
 writes = record { answer = inl refl; end = refl; others = refl }
 
-finishes : IsStep worked_policies (before_sending client_wrote) (record { side = Client; call = calls.Finish 0 }) (answers.Finish (Ok tt)) (before_sending client_ended)
+pub finishes : IsStep worked_policies (before_sending client_wrote) (record { side = Client; call = calls.Finish 0 }) (answers.Finish (Ok tt)) (before_sending client_ended)
 finishes = record { answer = refl; end = refl; others = refl }
 
-gives : IsStep worked_policies (before_sending client_ended) (record { side = Client; call = calls.Poll 0 }) (answers.Poll (Ok (Some (record { size = 34; ecn = Some Ect0 })))) (after_sending server_made)
+pub gives : IsStep worked_policies (before_sending client_ended) (record { side = Client; call = calls.Poll 0 }) (answers.Poll (Ok (Some (record { size = 34; ecn = Some Ect0 })))) (after_sending server_made)
 unfolding stream_spelling
 gives = record { answer = inl refl; end = refl; others = refl }
 
-takes : IsStep worked_policies (after_sending server_made) delivers (answers.Deliver receives.Taken) (after_sending server_took)
+pub takes : IsStep worked_policies (after_sending server_made) delivers (answers.Deliver receives.Taken) (after_sending server_took)
 unfolding items items_within frame_at body_at kind_of stream_at offset_at data_at sized_at block_at
 takes = record { answer = inl refl; end = refl; others = refl }
 
-drops_duplicate : IsStep worked_policies (after_sending server_took) delivers (answers.Deliver (receives.Dropped drops.Duplicate)) (after_sending server_took)
+pub drops_duplicate : IsStep worked_policies (after_sending server_took) delivers (answers.Deliver (receives.Dropped drops.Duplicate)) (after_sending server_took)
 drops_duplicate = record { answer = inl refl; end = refl; others = refl }
 
-accepts : IsStep worked_policies (after_sending server_took) (record { side = Server; call = calls.Accept Bi }) (answers.Accept (Some 0)) (after_sending server_accepted)
+pub accepts : IsStep worked_policies (after_sending server_took) (record { side = Server; call = calls.Accept Bi }) (answers.Accept (Some 0)) (after_sending server_accepted)
 accepts = record { answer = refl; end = refl; others = refl }
 
 -- what a read of two chunks is answered: the five bytes, then the end

@@ -72,9 +72,13 @@ all_nexts = gives_chunk hello ∷ Ok None ∷ []
 abbrev pub duplicate : Received
 duplicate = receives.Dropped drops.Duplicate
 
--- a read that gives `hellp`
+-- the word with another last byte
+abbrev pub hellp : List ℕ
+hellp = 104 ∷ 101 ∷ 108 ∷ 108 ∷ 112 ∷ []
+
+-- a read that gives that word
 abbrev pub changed_nexts : Nexts
-changed_nexts = gives_chunk (104 ∷ 101 ∷ 108 ∷ 108 ∷ 112 ∷ []) ∷ Ok None ∷ []
+changed_nexts = gives_chunk hellp ∷ Ok None ∷ []
 
 -- a byte of the stream is changed
 abbrev pub changed_byte : List Answer

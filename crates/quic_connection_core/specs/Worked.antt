@@ -169,6 +169,10 @@ client_ended = client_with (half_with hello 0 true true) 5
 abbrev pub client_sent : End
 client_sent = record (client_with (half_with hello 5 true false) 5) { numbers = record client_made.numbers { next = 1 } }
 
+-- an end that lacked memory where it can't say so
+abbrev pub failed_end : End → End
+failed_end e = record e { closing = record { clock = 0; state = states.Failed; reason = None } }
+
 -- an end whose peer takes so many bytes on all streams
 abbrev pub within : ℕ → End → End
 within limit e = record e { sending = record e.sending { limit = limit } }

@@ -1,6 +1,6 @@
 //! The definitions computed on one worked run: the client opens stream 0, writes `hello` and ends it, and the server reads
 //! it. Each function does nothing: its contract is the law.
-ghost use Rattle.std.specs.Prelude.{◌≡◌, ℕ, ◌-◌, ◌^◌, true, false, [], ◌∷◌, ◌++◌, length, take, drop, replicate, slice_get, Some, None, Ok, Err};
+ghost use Rattle.std.specs.Prelude.{◌≡◌, ℕ, ◌-◌, ◌^◌, true, false, [], ◌∷◌, ◌++◌, length, take, drop, replicate, slice_get, Some, None, Ok, Err, alloc_error};
 ghost use Rattle.quic_wire_core.specs.TransportError.{error_in, plain_error};
 ghost use Rattle.quic_wire_core.specs.declared.stream_id.Side.TheVariants.{Client, Server};
 ghost use Rattle.quic_wire_core.specs.declared.stream_id.Dir.TheVariants.{Bi, Uni};
@@ -22,7 +22,10 @@ ghost use Rattle.quic_connection_core.specs.declared.answers.WriteError.TheVaria
 ghost use Rattle.quic_connection_core.specs.declared.answers.FinishError.TheVariants as finish_errors;
 ghost use Rattle.quic_connection_core.specs.declared.answers.DropReason.TheVariants as drops;
 ghost use Rattle.quic_connection_core.specs.declared.answers.Received.TheVariants.{Taken, Dropped, Closed};
+ghost use Rattle.quic_connection_core.specs.declared.answers.Received.TheVariants as receives;
 ghost use Rattle.quic_connection_core.specs.declared.run.ReadCall.{ReadCall};
+ghost use Rattle.quic_connection_core.specs.declared.run.Call.TheVariants as calls;
+ghost use Rattle.quic_connection_core.specs.declared.run.Answer.TheVariants as answers;
 ghost use Rattle.quic_connection_core.specs.Settings.{default_settings};
 ghost use Rattle.quic_connection_core.specs.Numbers.{none_opened, with_opened, is_duplicate};
 ghost use Rattle.quic_connection_core.specs.Sending.{finish_answer};
@@ -30,9 +33,9 @@ ghost use Rattle.quic_connection_core.specs.Receiving.{read_answer};
 ghost use Rattle.quic_connection_core.specs.End.{MadeFrom, refusal_of};
 ghost use Rattle.quic_connection_core.specs.Calls.{open_answer, end_accepts, end_writes, end_after_write, end_next};
 ghost use Rattle.quic_connection_core.specs.Poll.{IsDatagram, polled};
-ghost use Rattle.quic_connection_core.specs.Machine.{Follows};
+ghost use Rattle.quic_connection_core.specs.Machine.{IsStep, Follows};
 ghost use Rattle.quic_connection_core.specs.Runs.{told_at, Opens, Arrived, IsDuplicate};
-ghost use Rattle.quic_connection_core.specs.Worked.{worked_parameters, client_id, server_id, client_made, server_made, client_opened, client_ended, client_sent, hello, hello_frame, hello_payload, hello_datagram, from_client, client_packet, at_server, within, server_took, server_read, before_sending, after_sending, worked_policies, worked_events, worked_answers, worked_views};
+ghost use Rattle.quic_connection_core.specs.Worked.{worked_parameters, client_id, server_id, client_made, server_made, client_opened, client_ended, client_sent, hello, hello_frame, hello_payload, hello_datagram, delivers, failed_end, from_client, client_packet, at_server, within, server_took, server_read, before_sending, after_sending, worked_policies, worked_events, worked_answers, worked_views};
 
 /// Each end is made of the other's parameters and first id, at moment 0 on a validated path.
 pub fn ends_are_made()
@@ -137,4 +140,16 @@ pub fn calls_are_bounded()
     ensures short_id { refusal_of (parameters_at worked_parameters) (take 7 client_id) server_id ≡ Some IdLength }
     ensures no_peer_id { refusal_of (parameters_at worked_parameters) client_id [] ≡ Some IdLength }
     ensures no_refusal { refusal_of (parameters_at worked_parameters) client_id server_id ≡ None }
+{}
+
+/// Where memory lacks, an application's call leaves all as it was, and an end that is polled or that receives has failed.
+/// A delivery of a datagram that wasn't given is no call.
+pub fn memory_may_lack()
+    ensures open { IsStep worked_policies (before_sending client_made) (record { side = Client; call = calls.Open Bi }) (answers.Open (Err alloc_error)) (before_sending client_made) }
+    ensures write { IsStep worked_policies (before_sending client_opened) (record { side = Client; call = calls.Write 0 hello }) (answers.Write (Err write_errors.Memory)) (before_sending client_opened) }
+    ensures next { (read : ReadCall) → read.id ≡ 0 → read.nexts.items ≡ 32 ∷ [] → IsStep worked_policies (after_sending server_took) (record { side = Server; call = calls.Read read }) (answers.Read (Ok (Err read_errors.Memory ∷ []))) (after_sending server_took) }
+    ensures read { (read : ReadCall) → read.id ≡ 0 → IsStep worked_policies (after_sending server_took) (record { side = Server; call = calls.Read read }) (answers.Read (Err readable_errors.Memory)) (after_sending server_took) }
+    ensures poll { IsStep worked_policies (before_sending client_ended) (record { side = Client; call = calls.Poll 0 }) (answers.Poll (Err (record {}))) (before_sending (failed_end client_ended)) }
+    ensures deliver { IsStep worked_policies (after_sending server_made) delivers (answers.Deliver receives.Failed) (after_sending (failed_end server_made)) }
+    ensures no_datagram { IsStep worked_policies (before_sending client_made) delivers answers.NoDatagram (before_sending client_made) }
 {}

@@ -1,0 +1,5 @@
+use Rattle.quic_connection_core.proofs.BrokenRuns.{no_unwritten_byte}
+use Rattle.quic_connection_core.proofs.broken.unwritten_byte_shows.Goals as goal
+
+pub returns-clause-machine : goal.returns-clause-machine
+returns-clause-machine c = no_unwritten_byte
