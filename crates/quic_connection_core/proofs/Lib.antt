@@ -30,3 +30,8 @@ mod Frames
 mod Writes
 mod Sends
 mod Writer
+pub mod WorkedRun
+pub mod ReorderedRun
+pub mod OneRun
+pub mod BrokenRuns
+pub mod BrokenClauses

@@ -10,3 +10,4 @@ pub mod FrameFound
 pub mod FrameWhole
 pub mod FrameWritten
 pub mod FrameReadBack
+pub mod WorkedForms

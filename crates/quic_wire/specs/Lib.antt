@@ -18,3 +18,4 @@ pub mod ParametersSteps
 pub mod ParametersTable
 pub mod ParametersLaw
 pub mod ParametersFound
+pub mod Worked
