@@ -35,3 +35,5 @@ pub mod ReorderedRun
 pub mod OneRun
 pub mod BrokenRuns
 pub mod BrokenClauses
+pub mod WorkedKeys
+pub mod WorkedHonest

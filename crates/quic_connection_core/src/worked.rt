@@ -35,6 +35,7 @@ ghost use Rattle.quic_connection_core.specs.Calls.{open_answer, end_accepts, end
 ghost use Rattle.quic_connection_core.specs.Poll.{IsDatagram, polled};
 ghost use Rattle.quic_connection_core.specs.Machine.{IsStep, Follows};
 ghost use Rattle.quic_connection_core.specs.Runs.{until, written, ended, reads, finished, ids_of, accepts, count_given, given_until, opens, took, is_again, HasArrived, EndHasArrived};
+ghost use Rattle.quic_connection_core.specs.Headline.{AreStarted, AreKeys, IsHonest, IsRun};
 ghost use Rattle.quic_connection_core.specs.Worked.{worked_parameters, client_id, server_id, client_made, server_made, client_opened, client_ended, client_sent, hello, hello_frame, hello_payload, hello_datagram, delivers, failed_end, from_client, client_packet, at_server, within, server_took, server_read, before_sending, after_sending, worked_policies, worked_events, worked_answers, worked_views, worked_run};
 
 /// Each end is made of the other's parameters and first id, at moment 0 on a validated path.
@@ -69,6 +70,14 @@ pub fn hello_is_opened()
 pub fn worked_run_follows()
     ensures { (read : ReadCall) → read.id ≡ 0 → read.nexts.items ≡ 32 ∷ 32 ∷ []
         → Follows worked_policies (before_sending client_made) (worked_events read) worked_answers worked_views (after_sending server_read) }
+{}
+
+/// It meets the premises of the headline: what is proved of every run holds of this one.
+pub fn worked_run_is_honest()
+    ensures start { AreStarted (before_sending client_made) }
+    ensures keys { AreKeys worked_policies }
+    ensures honest { (read : ReadCall) → read.id ≡ 0 → IsHonest (worked_run read) }
+    ensures run { (read : ReadCall) → read.id ≡ 0 → read.nexts.items ≡ 32 ∷ 32 ∷ [] → IsRun (worked_run read) (after_sending server_read) }
 {}
 
 /// The client opened stream 0, wrote `hello`, ended the stream and gave one datagram; the server accepted the stream, read
