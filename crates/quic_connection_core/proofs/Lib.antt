@@ -30,3 +30,10 @@ mod Frames
 mod Writes
 mod Sends
 mod Writer
+pub mod WorkedRun
+pub mod ReorderedRun
+pub mod OneRun
+pub mod BrokenRuns
+pub mod BrokenClauses
+pub mod WorkedKeys
+pub mod WorkedHonest

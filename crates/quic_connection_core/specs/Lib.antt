@@ -15,3 +15,5 @@ pub mod Machine
 pub mod Runs
 pub mod Worked
 pub mod Headline
+pub mod Broken
+pub mod Reordered

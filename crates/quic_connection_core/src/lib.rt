@@ -3,11 +3,14 @@
 #![tactic(auto)]
 
 mod answers;
+pub mod broken;
 mod config;
 pub mod headline;
 mod instant;
 pub mod laws;
+pub mod reordered;
 mod run;
+pub mod worked;
 
 pub use answers::{
     Breach, ConfigError, DropReason, Failed, FinishError, LostReason, ReadError, ReadableError,

@@ -11,3 +11,4 @@ pub mod FrameWhole
 pub mod FrameWritten
 pub mod FrameReadBack
 pub mod Room
+pub mod WorkedForms

@@ -19,3 +19,4 @@ pub mod ParametersSteps
 pub mod ParametersTable
 pub mod ParametersLaw
 pub mod ParametersFound
+pub mod Worked

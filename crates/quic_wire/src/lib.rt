@@ -9,6 +9,7 @@ mod packet;
 pub mod reserved;
 mod sealing;
 pub mod transport_parameters;
+pub mod worked;
 
 pub use packet::{
     ConnectionIdParser, FixedLengthConnectionIdParser, HeaderError, PacketNumber, ShortHeader,

@@ -1,0 +1,110 @@
+-- Runs of machines with a bug: the worked run with other answers or another datagram.
+use Rattle.std.specs.Prelude.{ℕ, List, [], ◌∷◌, Option, Some, None, Result, Ok, Err}
+use Rattle.quic_wire_core.specs.declared.shared.EcnCodepoint.TheVariants.{Ect0}
+use Rattle.quic_streams_core.specs.declared.connection.assembler.Chunk.{Chunk}
+use Rattle.quic_connection_core.specs.declared.answers.WriteError.{WriteError}
+use Rattle.quic_connection_core.specs.declared.answers.FinishError.{FinishError}
+use Rattle.quic_connection_core.specs.declared.answers.FinishError.TheVariants as finish_errors
+use Rattle.quic_connection_core.specs.declared.answers.ReadError.{ReadError}
+use Rattle.quic_connection_core.specs.declared.answers.ReadError.TheVariants as read_errors
+use Rattle.quic_connection_core.specs.declared.answers.Received.{Received}
+use Rattle.quic_connection_core.specs.declared.answers.Received.TheVariants as receives
+use Rattle.quic_connection_core.specs.declared.answers.DropReason.TheVariants as drops
+use Rattle.quic_connection_core.specs.declared.run.ReadCall.{ReadCall}
+use Rattle.quic_connection_core.specs.declared.run.Answer.{Answer}
+use Rattle.quic_connection_core.specs.declared.run.Answer.TheVariants as answers
+use Rattle.quic_connection_core.specs.Runs.{Run}
+use Rattle.quic_connection_core.specs.Worked.{hello, worked_run}
+
+-- ---- the worked run with other answers
+
+-- what the nexts of a read answer
+abbrev pub Nexts : Type 0
+Nexts = List (Result (Option Chunk) ReadError)
+
+-- a chunk of these bytes at the front of the stream
+abbrev pub gives_chunk : List ℕ → Result (Option Chunk) ReadError
+gives_chunk bytes = Ok (Some (record { offset = 0; bytes = bytes }))
+
+-- the answers of the worked run, with these to the write, the finish, the two deliveries, the accept and the read
+abbrev pub answers_with : Result ℕ WriteError → Result (Unit {0}) FinishError → Received → Received → Option ℕ → Nexts → List Answer
+answers_with count done first second id nexts =
+    answers.Open (Ok (Some 0))
+    ∷ answers.Write count
+    ∷ answers.Finish done
+    ∷ answers.Poll (Ok (Some (record { size = 34; ecn = Some Ect0 })))
+    ∷ answers.Deliver first
+    ∷ answers.Deliver second
+    ∷ answers.Accept id
+    ∷ answers.Read (Ok nexts)
+    ∷ []
+
+-- the read that gives what was written, and then the end
+abbrev pub all_nexts : Nexts
+all_nexts = gives_chunk hello ∷ Ok None ∷ []
+
+-- the second delivery is dropped as a duplicate
+abbrev pub duplicate : Received
+duplicate = receives.Dropped drops.Duplicate
+
+-- the word with another last byte
+abbrev pub hellp : List ℕ
+hellp = 104 ∷ 101 ∷ 108 ∷ 108 ∷ 112 ∷ []
+
+-- a read that gives that word
+abbrev pub changed_nexts : Nexts
+changed_nexts = gives_chunk hellp ∷ Ok None ∷ []
+
+-- a byte of the stream is changed
+abbrev pub changed_byte : List Answer
+changed_byte = answers_with (Ok 5) (Ok tt) receives.Taken duplicate (Some 0) changed_nexts
+
+-- a read that gives the five bytes twice
+abbrev pub repeated_nexts : Nexts
+repeated_nexts = gives_chunk hello ∷ gives_chunk hello ∷ []
+
+-- bytes come twice
+abbrev pub repeated_bytes : List Answer
+repeated_bytes = answers_with (Ok 5) (Ok tt) receives.Taken duplicate (Some 0) repeated_nexts
+
+-- more is read than was accepted
+abbrev pub unwritten_byte : List Answer
+unwritten_byte = answers_with (Ok 4) (Ok tt) receives.Taken duplicate (Some 0) all_nexts
+
+-- a read that gives the end first
+abbrev pub early_nexts : Nexts
+early_nexts = Ok None ∷ Ok None ∷ []
+
+-- the end comes over unread bytes
+abbrev pub early_end : List Answer
+early_end = answers_with (Ok 5) (Ok tt) receives.Taken duplicate (Some 0) early_nexts
+
+-- the end comes of a stream that wasn't ended
+abbrev pub unwritten_end : List Answer
+unwritten_end = answers_with (Ok 5) (Err finish_errors.ClosedStream) receives.Taken duplicate (Some 0) all_nexts
+
+-- the datagram is taken twice
+abbrev pub taken_twice : List Answer
+taken_twice = answers_with (Ok 5) (Ok tt) receives.Taken receives.Taken (Some 0) all_nexts
+
+-- bytes are read of a datagram that was dropped
+abbrev pub never_taken : List Answer
+never_taken = answers_with (Ok 5) (Ok tt) (receives.Dropped drops.NotOpened) (receives.Dropped drops.NotOpened) (Some 0) all_nexts
+
+-- a read that gives nothing
+abbrev pub blocked_nexts : Nexts
+blocked_nexts = Err read_errors.Blocked ∷ []
+
+-- a read is blocked, although all bytes and the end came
+abbrev pub blocked_read : List Answer
+blocked_read = answers_with (Ok 5) (Ok tt) receives.Taken duplicate (Some 0) blocked_nexts
+
+-- nothing is accepted, although the stream came
+abbrev pub never_accepted : List Answer
+never_accepted = answers_with (Ok 5) (Ok tt) receives.Taken duplicate None all_nexts
+
+-- ---- the worked run with another datagram
+
+-- the client gives an empty datagram
+abbrev pub empty_datagram : ReadCall → Run
+empty_datagram read = record (worked_run read) { from_client = [] ∷ [] }

@@ -1,0 +1,77 @@
+//! Runs of machines with a bug, computed: each breaks a clause of the headline, and the reference machine runs none of
+//! them. Each function does nothing: its contract is the law.
+ghost use Rattle.std.specs.Prelude.{◌≡◌, List, [], ◌∷◌, Ok};
+ghost use Rattle.quic_wire_core.specs.declared.stream_id.Side.TheVariants.{Client, Server};
+ghost use Rattle.quic_wire.specs.Value.{stream};
+ghost use Rattle.quic_connection_core.specs.declared.run.ReadCall.{ReadCall};
+ghost use Rattle.quic_connection_core.specs.declared.run.Answer.TheVariants as answers;
+ghost use Rattle.quic_connection_core.specs.declared.run.View.{View};
+ghost use Rattle.quic_connection_core.specs.Machine.{World, IsRead, Follows};
+ghost use Rattle.quic_connection_core.specs.Runs.{until, written, reads, bytes_of, took};
+ghost use Rattle.quic_connection_core.specs.Headline.{OrderedPrefix, Slices, Once, EndAfterAll, BlockedOnlyWithoutBytes, AcceptsAll, NumbersRise};
+ghost use Rattle.quic_connection_core.specs.Worked.{hello, hello_frame, worked_policies, worked_events, client_made, server_made, before_sending, run_with};
+ghost use Rattle.quic_connection_core.specs.Broken.{hellp, changed_byte, repeated_bytes, unwritten_byte, early_end, unwritten_end, taken_twice, never_taken, blocked_read, never_accepted, empty_datagram, all_nexts};
+
+/// A read that changes a byte gives no prefix of what was written, and no slice of it.
+pub fn changed_byte_shows()
+    ensures reads { (read : ReadCall) → read.id ≡ 0 → bytes_of (reads 0 (until (run_with read changed_byte) Server 8)) ≡ hellp }
+    ensures prefix { (read : ReadCall) → read.id ≡ 0 → OrderedPrefix (run_with read changed_byte) → ⊥ }
+    ensures slices { (read : ReadCall) → read.id ≡ 0 → Slices (run_with read changed_byte) → ⊥ }
+    ensures machine { (read : ReadCall) (views : List View) (end : World) → read.id ≡ 0 → read.nexts.items ≡ 32 ∷ 32 ∷ [] → Follows worked_policies (before_sending client_made) (worked_events read) changed_byte views end → ⊥ }
+{}
+
+/// A read that gives bytes twice gives offsets twice, and more than was written.
+pub fn repeated_bytes_show()
+    ensures once { (read : ReadCall) → read.id ≡ 0 → Once (run_with read repeated_bytes) → ⊥ }
+    ensures prefix { (read : ReadCall) → read.id ≡ 0 → OrderedPrefix (run_with read repeated_bytes) → ⊥ }
+    ensures machine { (read : ReadCall) (views : List View) (end : World) → read.id ≡ 0 → read.nexts.items ≡ 32 ∷ 32 ∷ [] → Follows worked_policies (before_sending client_made) (worked_events read) repeated_bytes views end → ⊥ }
+{}
+
+/// Where a write accepts four of five bytes, and all five are read, one was read that wasn't written.
+pub fn unwritten_byte_shows()
+    ensures written { (read : ReadCall) → written 0 (until (run_with read unwritten_byte) Client 8) ≡ 104 ∷ 101 ∷ 108 ∷ 108 ∷ [] }
+    ensures prefix { (read : ReadCall) → read.id ≡ 0 → OrderedPrefix (run_with read unwritten_byte) → ⊥ }
+    ensures machine { (read : ReadCall) (views : List View) (end : World) → Follows worked_policies (before_sending client_made) (worked_events read) unwritten_byte views end → ⊥ }
+{}
+
+/// An end that is read before the bytes doesn't come after all.
+pub fn early_end_shows()
+    ensures last { (read : ReadCall) → read.id ≡ 0 → EndAfterAll (run_with read early_end) → ⊥ }
+    ensures machine { (read : ReadCall) (views : List View) (end : World) → read.id ≡ 0 → read.nexts.items ≡ 32 ∷ 32 ∷ [] → Follows worked_policies (before_sending client_made) (worked_events read) early_end views end → ⊥ }
+{}
+
+/// Where a finish is refused, and the end is read, an end was read that nobody wrote.
+pub fn unwritten_end_shows()
+    ensures last { (read : ReadCall) → read.id ≡ 0 → EndAfterAll (run_with read unwritten_end) → ⊥ }
+    ensures machine { (read : ReadCall) (views : List View) (end : World) → Follows worked_policies (before_sending client_made) (worked_events read) unwritten_end views end → ⊥ }
+{}
+
+/// A read that gives nothing although all came is blocked with bytes.
+pub fn blocked_read_shows()
+    ensures blocked { (read : ReadCall) → read.id ≡ 0 → BlockedOnlyWithoutBytes (run_with read blocked_read) → ⊥ }
+    ensures machine { (read : ReadCall) (views : List View) (end : World) → read.id ≡ 0 → read.nexts.items ≡ 32 ∷ 32 ∷ [] → Follows worked_policies (before_sending client_made) (worked_events read) blocked_read views end → ⊥ }
+{}
+
+/// Where nothing is accepted although the stream came, not all is accepted.
+pub fn never_accepted_shows()
+    ensures accepts { (read : ReadCall) → AcceptsAll (run_with read never_accepted) → ⊥ }
+    ensures machine { (read : ReadCall) (views : List View) (end : World) → Follows worked_policies (before_sending client_made) (worked_events read) never_accepted views end → ⊥ }
+{}
+
+/// An empty datagram has no number.
+pub fn empty_datagram_shows()
+    ensures numbers { (read : ReadCall) → NumbersRise (empty_datagram read) → ⊥ }
+{}
+
+/// A machine says of a datagram that comes twice that it was taken twice; its bytes say that it is one packet.
+pub fn taken_twice_shows()
+    ensures took { (read : ReadCall) → took (run_with read taken_twice) Server 8 ≡ record { number = 0; frames = stream hello_frame ∷ [] } ∷ [] }
+    ensures machine { (read : ReadCall) (views : List View) (end : World) → Follows worked_policies (before_sending client_made) (worked_events read) taken_twice views end → ⊥ }
+{}
+
+/// Where bytes are read of a datagram that was said to be dropped, the machine had none to give.
+pub fn never_taken_shows()
+    ensures reads { (read : ReadCall) → read.id ≡ 0 → bytes_of (reads 0 (until (run_with read never_taken) Server 8)) ≡ hello }
+    ensures machine { (read : ReadCall) (views : List View) (end : World) → Follows worked_policies (before_sending client_made) (worked_events read) never_taken views end → ⊥ }
+    ensures unread { IsRead server_made 0 (32 ∷ 32 ∷ []) (answers.Read (Ok all_nexts)) → ⊥ }
+{}

@@ -1,0 +1,56 @@
+-- Values whose bytes are worked out by hand: a STREAM frame, a short header, and the limits that an end tells (RFC 9000, sections 17.3.1, 18.2 and 19.8).
+use Rattle.std.specs.Prelude.{ℕ, true, List, [], ◌∷◌, ◌++◌}
+use Rattle.quic_wire.specs.Value.{StreamValue}
+use Rattle.quic_wire.specs.Parameters.{ParameterValues}
+
+-- stream 0 from its front: the five bytes of `hello`, and the end
+abbrev pub hello_stream : StreamValue
+hello_stream = record { id = 0; offset = 0; fin = true; bytes = 0x68 ∷ 0x65 ∷ 0x6c ∷ 0x6c ∷ 0x6f ∷ [] }
+
+-- its form with a length
+abbrev pub hello_sized : List ℕ
+hello_sized = 0x0b ∷ 0x00 ∷ 0x05 ∷ 0x68 ∷ 0x65 ∷ 0x6c ∷ 0x6c ∷ 0x6f ∷ []
+
+-- its form to the end of the payload
+abbrev pub hello_unsized : List ℕ
+hello_unsized = 0x09 ∷ 0x00 ∷ 0x68 ∷ 0x65 ∷ 0x6c ∷ 0x6c ∷ 0x6f ∷ []
+
+-- an id of eight bytes
+abbrev pub eight_bytes : List ℕ
+eight_bytes = 1 ∷ 2 ∷ 3 ∷ 4 ∷ 5 ∷ 6 ∷ 7 ∷ 8 ∷ []
+
+-- a short header to that id with the number 100 (hexadecimal), where none is acknowledged
+abbrev pub short_header : List ℕ
+short_header = (0x41 ∷ eight_bytes) ++ (0x01 ∷ 0x00 ∷ [])
+
+-- what an end tells that is left as it is made
+abbrev pub limits : ParameterValues
+limits = record {
+  initial_max_data = 4611686018427387903;
+  initial_max_stream_data_bidi_local = 1250000;
+  initial_max_stream_data_bidi_remote = 1250000;
+  initial_max_stream_data_uni = 1250000;
+  initial_max_streams_bidi = 100;
+  initial_max_streams_uni = 100;
+}
+
+-- its list, ascending by id
+abbrev pub limits_spelled : List ℕ
+limits_spelled =
+    (0x04 ∷ 0x08 ∷ 0xff ∷ 0xff ∷ 0xff ∷ 0xff ∷ 0xff ∷ 0xff ∷ 0xff ∷ 0xff ∷ [])
+    ++ (0x05 ∷ 0x04 ∷ 0x80 ∷ 0x13 ∷ 0x12 ∷ 0xd0 ∷ [])
+    ++ (0x06 ∷ 0x04 ∷ 0x80 ∷ 0x13 ∷ 0x12 ∷ 0xd0 ∷ [])
+    ++ (0x07 ∷ 0x04 ∷ 0x80 ∷ 0x13 ∷ 0x12 ∷ 0xd0 ∷ [])
+    ++ (0x08 ∷ 0x02 ∷ 0x40 ∷ 0x64 ∷ [])
+    ++ (0x09 ∷ 0x02 ∷ 0x40 ∷ 0x64 ∷ [])
+
+-- what holds where nothing is told
+abbrev pub no_limits : ParameterValues
+no_limits = record {
+  initial_max_data = 0;
+  initial_max_stream_data_bidi_local = 0;
+  initial_max_stream_data_bidi_remote = 0;
+  initial_max_stream_data_uni = 0;
+  initial_max_streams_bidi = 0;
+  initial_max_streams_uni = 0;
+}
