@@ -1,5 +1,5 @@
 //! One end of a connection (RFC 9000).
-ghost use Rattle.std.specs.Prelude.{◌≡◌, ◌≢◌, ◌+◌, ◌≤◌, ◌<◌, ◌^◌, ◌++◌, ◌↔◌, length, Ok, Err, Some, None, IfOk, OnOk, OnErr, IfErr, IsTrue, option_copied, if◌then◌else◌, true, IfSome, IsSome, MatchResult};
+ghost use Rattle.std.specs.Prelude.{◌≡◌, ◌≢◌, ◌+◌, ◌≤◌, ◌<◌, ◌^◌, ◌++◌, ◌↔◌, length, Ok, Err, Some, None, IfOk, IsOk, OnOk, OnErr, IfErr, IsTrue, option_copied, if◌then◌else◌, true, IfSome, IsSome, MatchResult};
 ghost use Rattle.quic_wire.specs.ParametersRead.{parameters_at};
 ghost use Rattle.quic_connection_core.specs.declared.answers.State.TheVariants as states;
 ghost use Rattle.quic_connection_core.specs.declared.answers.ConfigError.TheVariants as config_errors;
@@ -13,6 +13,7 @@ ghost use Rattle.quic_connection_core.specs.Sending.{finish_answer};
 ghost use Rattle.quic_connection_core.specs.Receiving.{read_answer};
 ghost use Rattle.quic_connection_core.specs.Calls.{is_open, can_open, open_answer, after_open, end_accepts, end_after_accept, end_writes, end_after_write, end_after_finish, end_next, end_after_next};
 ghost use Rattle.quic_connection_core.specs.Numbers.{can_number, is_duplicate, number_opened, number_taken};
+ghost use Rattle.quic_connection.specs.Lacking.{CutsPiece};
 
 mod closing;
 mod dedup;
@@ -228,6 +229,7 @@ impl<H: HeaderKey + Drop, K: PacketKey + Drop, R: Rng + Drop> Connection<H, K, R
         ensures answer { IfOk result (λ id. id ≡ open_answer dir self.old.end) }
         ensures ok { OnOk result (self.new ≡ with_end self.old (after_open dir self.old.end)) }
         ensures err { OnErr result (self.new ≡ self.old) }
+        ensures lacking { OnErr result (can_open self.old.end.closing.state dir self.old.end ≡ true) }
     {
         if !self.can_open(dir) {
             return Ok(None);
@@ -248,6 +250,7 @@ impl<H: HeaderKey + Drop, K: PacketKey + Drop, R: Rng + Drop> Connection<H, K, R
     pub(crate) fn write(&mut self, id: StreamId, bytes: &[u8]) -> Result<usize, WriteError>
         ensures answer { result ≢ Err write_errors.Memory → result ≡ end_writes self.old.end id (length bytes.now) }
         ensures end { self.new ≡ with_end self.old (end_after_write result self.old.end id bytes.now) }
+        ensures lacking { result ≡ Err write_errors.Memory → IsOk (end_writes self.old.end id (length bytes.now)) }
     {
         let is_open = self.is_open();
         self.sending.write(is_open, id, bytes)
@@ -269,6 +272,7 @@ impl<H: HeaderKey + Drop, K: PacketKey + Drop, R: Rng + Drop> Connection<H, K, R
     ) -> Result<Option<Chunk>, ReadError>
         ensures answer { result ≢ Err read_errors.Memory → result ≡ end_next self.old.end id max_length }
         ensures end { self.new ≡ with_end self.old (end_after_next result self.old.end id max_length) }
+        ensures lacking { result ≡ Err read_errors.Memory → CutsPiece (at self.old.end.receiving.halves id) max_length }
     {
         self.receiving.next(id, max_length)
     }

@@ -9,6 +9,7 @@ ghost use Rattle.quic_connection_core.specs.Receiving.{untouched, end_of, opened
 ghost use Rattle.quic_connection_core.specs.declared.answers.ReadError.TheVariants as read_errors;
 ghost use Rattle.quic_connection.specs.Halves.{read_at, after_touch};
 ghost use Rattle.quic_connection.specs.Answered.{AnswersBreach, UnlessMemory, OnMemory};
+ghost use Rattle.quic_connection.specs.Lacking.{CutsPiece};
 
 use crate::streams::recv::{Recv, end_of, is_too_far};
 use quic_connection_core::{Breach, ReadError, ReadableError};
@@ -306,6 +307,7 @@ impl Receiving {
     fn read_half(&mut self, id: StreamId, max: usize) -> Result<Option<Chunk>, ReadError>
         ensures answer { result ≢ Err read_errors.Memory → result ≡ next_answer (at self.old.halves id) max }
         ensures new { self.new ≡ read_at result (at self.old.halves id) self.old id max }
+        ensures lacking { result ≡ Err read_errors.Memory → CutsPiece (at self.old.halves id) max }
     {
         match self.halves.get_mut(&u64::from(id)) {
             Some(half) => half.next(max),
@@ -318,6 +320,7 @@ impl Receiving {
     pub(crate) fn next(&mut self, id: StreamId, max: usize) -> Result<Option<Chunk>, ReadError>
         ensures answer { result ≢ Err read_errors.Memory → result ≡ next_answer (at self.old.halves id) max }
         ensures new { self.new ≡ after_next result (at self.old.halves id) self.old id max }
+        ensures lacking { result ≡ Err read_errors.Memory → CutsPiece (at self.old.halves id) max }
     {
         match self.read_half(id, max) {
             Ok(Some(chunk)) => Ok(Some(chunk)),

@@ -1,7 +1,7 @@
 // What has come on one stream.
-ghost use Rattle.std.specs.Prelude.{◌≡◌, ◌≢◌, ◌<◌, ◌^◌, nat_le, nat_lt, OnOk, Ok, Err};
+ghost use Rattle.std.specs.Prelude.{◌≡◌, ◌≢◌, ◌<◌, ◌^◌, nat_le, nat_lt, true, OnOk, Ok, Err};
 ghost use Rattle.quic_wire.specs.FrameView.{stream_view};
-ghost use Rattle.quic_streams_core.specs.Arrived.{given, runs_of};
+ghost use Rattle.quic_streams_core.specs.Arrived.{given, cuts, runs_of};
 ghost use Rattle.quic_connection_core.specs.Receiving.{untouched, end_of, breaks_final, with_frame, is_read, most_pieces, next_chunk};
 ghost use Rattle.quic_connection_core.specs.declared.answers.ReadError.TheVariants as read_errors;
 ghost use Rattle.quic_connection.specs.Halves.{half_after_next};
@@ -118,6 +118,7 @@ impl Recv {
     pub(crate) fn next(&mut self, max: usize) -> Result<Option<Chunk>, ReadError>
         ensures answer { result ≢ Err read_errors.Memory → result ≡ next_chunk (given self.old.arrived.parts self.old.arrived.read max) self.old }
         ensures new { self.new ≡ half_after_next result self.old max }
+        ensures lacking { result ≡ Err read_errors.Memory → cuts self.old.arrived.parts self.old.arrived.read max ≡ true }
     {
         match self.assembler.read(max) {
             Ok(Some(chunk)) => Ok(Some(chunk)),

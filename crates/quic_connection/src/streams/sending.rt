@@ -1,5 +1,5 @@
 // What is sent on the streams of one end.
-ghost use Rattle.std.specs.Prelude.{◌≡◌, ◌≢◌, ◌<◌, ◌≤◌, ◌-◌, ◌+◌, ◌++◌, [], length, IsSome, IfSome, IfOk, OnOk, OnErr, Ok, Err, Some, None, true, false, vec_len, vec_capacity};
+ghost use Rattle.std.specs.Prelude.{◌≡◌, ◌≢◌, ◌<◌, ◌≤◌, ◌-◌, ◌+◌, ◌++◌, [], length, IsSome, IfSome, IfOk, IsOk, OnOk, OnErr, Ok, Err, Some, None, true, false, vec_len, vec_capacity};
 ghost use Rattle.std.specs.Option.{option_copied};
 ghost use Rattle.quic_wire.specs.Parameters.{AreInRange};
 ghost use Rattle.quic_wire.specs.Writing.{stream_spelling, width_of};
@@ -236,6 +236,7 @@ impl Sending {
     ) -> Result<usize, WriteError>
         ensures answer { result ≢ Err write_errors.Memory → result ≡ write_answer is_open self.old id (length bytes.now) }
         ensures new { self.new ≡ after_written result self.old id bytes.now }
+        ensures lacking { result ≡ Err write_errors.Memory → IsOk (write_answer is_open self.old id (length bytes.now)) }
     {
         if !is_open {
             return Err(WriteError::Blocked);
