@@ -47,16 +47,16 @@ way_writer p q id x y given final theirs wrote read call a state eight is served
     let before = w.count in
     let counted : length (given ++ gives p x call a) ≡ count_given (wrote ++ told_of call a state ∷ []) = omega arith in
     record {
-  streams = subst (λ side. Streams side (after_call p x theirs call a).sending (wrote ++ told_of call a state ∷ [])) (sym (side_step p x theirs call a)) (streams_step p x theirs call a wrote state is served w.streams);
-  gives = gives_step p x theirs call a wrote state id given is served w.active eight w.streams w.gives;
-  active = ap (λ ids. ids.active.id) (ids_step p x theirs call a) ∙ w.active;
-  count = counted;
-  content = content_grows y.side y.sending y.receiving wrote (wrote ++ told_of call a state ∷ []) read (grows_step p x theirs call a wrote state is served w.streams) w.content;
-  kept = w.kept;
-  accepted = w.accepted;
-  knows = w.knows;
-  known = w.known;
-}
+      streams = subst (λ side. Streams side (after_call p x theirs call a).sending (wrote ++ told_of call a state ∷ [])) (sym (side_step p x theirs call a)) (streams_step p x theirs call a wrote state is served w.streams);
+      gives = gives_step p x theirs call a wrote state id given is served w.active eight w.streams w.gives;
+      active = ap (λ ids. ids.active.id) (ids_step p x theirs call a) ∙ w.active;
+      count = counted;
+      content = content_grows y.side y.sending y.receiving wrote (wrote ++ told_of call a state ∷ []) read (grows_step p x theirs call a wrote state is served w.streams) w.content;
+      kept = w.kept;
+      accepted = w.accepted;
+      knows = w.knows;
+      known = w.known;
+    }
 
 -- ---- the end that reads makes a call
 
@@ -163,17 +163,17 @@ way_takes p q id x y given final wrote read delivery a d mates lawful eight at_g
     let side : o.end.side ≡ y.side = stays.side in
     let next : Intake = and_handed y.closing.state (Some d) q (known y.ids) (answers.Deliver o.answer) i in
     let reads : Reads y.side (id ∷ []) wrote read o next =
-        by_arrival p q id wrote (0 + delivery.index) d g y now i (Reads y.side (id ∷ []) wrote read) mates lawful eight w.known w.knows
-            (delivered_reads y now (0 + delivery.index) g.count g.frame (id ∷ []) wrote read i g.says w.content w.kept w.accepted) in
+    by_arrival p q id wrote (0 + delivery.index) d g y now i (Reads y.side (id ∷ []) wrote read) mates lawful eight w.known w.knows
+    (delivered_reads y now (0 + delivery.index) g.count g.frame (id ∷ []) wrote read i g.says w.content w.kept w.accepted) in
     let knows : KnowsIn o.end.closing.state o.end.numbers next =
-        by_arrival p q id wrote (0 + delivery.index) d g y now i (λ o j. KnowsIn o.end.closing.state o.end.numbers j) mates lawful eight w.known w.knows
-            (knows_arrivals y now (0 + delivery.index) g.frame g.count i w.knows) in
+    by_arrival p q id wrote (0 + delivery.index) d g y now i (λ o j. KnowsIn o.end.closing.state o.end.numbers j) mates lawful eight w.known w.knows
+    (knows_arrivals y now (0 + delivery.index) g.frame g.count i w.knows) in
     let handed_is : handed final (calls.Deliver delivery) a ≡ Some d = ap (λ b. handed final (calls.Deliver delivery) b) is ∙ at_final in
     let came_is : came q id final (read ++ t ∷ []) ≡ next =
-        intake_more q (id ∷ []) final read t nothing_came
-        ∙ ap (λ h. and_handed y.closing.state h q (id ∷ []) a i) handed_is
-        ∙ ap (λ b. and_handed y.closing.state (Some d) q (id ∷ []) b i) is
-        ∙ ap (λ ids. and_handed y.closing.state (Some d) q ids (answers.Deliver o.answer) i) (sym w.known) in
+    intake_more q (id ∷ []) final read t nothing_came
+    ∙ ap (λ h. and_handed y.closing.state h q (id ∷ []) a i) handed_is
+    ∙ ap (λ b. and_handed y.closing.state (Some d) q (id ∷ []) b i) is
+    ∙ ap (λ ids. and_handed y.closing.state (Some d) q ids (answers.Deliver o.answer) i) (sym w.known) in
     record {
       streams = w.streams;
       gives = w.gives;
@@ -207,8 +207,8 @@ way_delivered p q id x y given final wrote read delivery a mates lawful eight mo
     }
 way_delivered p q id x y given final wrote read delivery a mates lawful eight more served (Some d) at (inl is) w =
     way_takes p q id x y given final wrote read delivery a d mates lawful eight at
-        (subst (λ ds. slice_get ds delivery.index ≡ Some d) more.1 (get_front given more.0 delivery.index d at)) is
-        w
+    (subst (λ ds. slice_get ds delivery.index ≡ Some d) more.1 (get_front given more.0 delivery.index d at)) is
+    w
 way_delivered p q id x y given final wrote read delivery a mates lawful eight more served (Some d) at (inr is) w = cc
 
 -- the reader makes a call
@@ -271,15 +271,15 @@ both_step k keys client_id server_id eight_client eight_server from_client from_
         let end : next.client ≡ after_call k.client w.client w.from_server call a = left_by k.client w.client next.client w.from_server call a served step.end in
         let after : World = record w { client = after_call k.client w.client w.from_server call a; from_client = w.from_client ++ gives k.client w.client call a } in
         let is : next ≡ after =
-            step.others ∙ ap (λ e. record w { client = e; from_client = w.from_client ++ gives k.client w.client call a }) end in
+        step.others ∙ ap (λ e. record w { client = e; from_client = w.from_client ++ gives k.client w.client call a }) end in
         subst (λ v. Both k client_id server_id v from_client from_server (client ++ told_of call a w.client.closing.state ∷ []) (server ++ [])) (sym is)
-            (subst (λ ts. Both k client_id server_id after from_client from_server (client ++ told_of call a w.client.closing.state ∷ []) ts) (sym (append-nil server))
-                (client_acts k keys client_id server_id eight_client eight_server from_client from_server w call a client server b step.answer served more_server))
+        (subst (λ ts. Both k client_id server_id after from_client from_server (client ++ told_of call a w.client.closing.state ∷ []) ts) (sym (append-nil server))
+        (client_acts k keys client_id server_id eight_client eight_server from_client from_server w call a client server b step.answer served more_server))
     go Server call step =
         let end : next.server ≡ after_call k.server w.server w.from_client call a = left_by k.server w.server next.server w.from_client call a served step.end in
         let after : World = record w { server = after_call k.server w.server w.from_client call a; from_server = w.from_server ++ gives k.server w.server call a } in
         let is : next ≡ after =
-            step.others ∙ ap (λ e. record w { server = e; from_server = w.from_server ++ gives k.server w.server call a }) end in
+        step.others ∙ ap (λ e. record w { server = e; from_server = w.from_server ++ gives k.server w.server call a }) end in
         subst (λ v. Both k client_id server_id v from_client from_server (client ++ []) (server ++ told_of call a w.server.closing.state ∷ [])) (sym is)
-            (subst (λ ts. Both k client_id server_id after from_client from_server ts (server ++ told_of call a w.server.closing.state ∷ [])) (sym (append-nil client))
-                (server_acts k keys client_id server_id eight_client eight_server from_client from_server w call a client server b step.answer served more_client))
+        (subst (λ ts. Both k client_id server_id after from_client from_server ts (server ++ told_of call a w.server.closing.state ∷ [])) (sym (append-nil client))
+        (server_acts k keys client_id server_id eight_client eight_server from_client from_server w call a client server b step.answer served more_client))

@@ -58,12 +58,16 @@ blocked_is side e wrote told packets id mosts front behind content kept is = (λ
   where
     half : (h : RecvHalf) × (at e.receiving.halves id ≡ Some h)
     half = readable_half (at e.receiving.halves id) is.0
+
     wr : List ℕ
     wr = written id wrote
+
     reading : Reads wr (ended id wrote) (nexts id told) (at e.receiving.halves id)
     reading = subst (λ o. Reads wr (ended id wrote) (nexts id told) o) (sym half.1) (content.reading id half.0 half.1)
+
     here : HalfNexts (at e.receiving.halves id) mosts (front ++ Err read_errors.Blocked ∷ behind) (at (after_nexts e id mosts (front ++ Err read_errors.Blocked ∷ behind)).receiving.halves id)
     here = (nexts_run e id mosts (front ++ Err read_errors.Blocked ∷ behind) content.sorted is.1).run
+
     lacks : (f : StreamValue) → WasTaken packets f → f.id ≡ id → Lacks f (length (bytes_of (reads id told ++ chunks_of front)))
     lacks f taken same =
         let at_f : at e.receiving.halves f.id ≡ Some half.0 = ap (λ q. at e.receiving.halves q) same ∙ half.1 in

@@ -54,8 +54,7 @@ told_none side (e ∷ events) views state = refl
 
 module _ (k : Policies) (end : World) (P : World → List Told → List Told → Type 0)
     (step : (w next : World) (event : RunEvent) (a : Answer) (client server : List Told) → P w client server → IsStep k w event a next → fails a ≡ false → Grown w end
-        → P next (client ++ told_by Client w.client.closing.state event a) (server ++ told_by Server w.server.closing.state event a)) where
-
+    → P next (client ++ told_by Client w.client.closing.state event a) (server ++ told_by Server w.server.closing.state event a)) where
   -- the ends at a place, and how the run goes on from there
   pub record Moment (client server : List Told) (events : List RunEvent) (answers : List Answer) (views : List View) : Type 0 where
     pub world : World

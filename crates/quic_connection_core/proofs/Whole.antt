@@ -98,28 +98,35 @@ seen r end honest run side i served = at side
   where
     client_id : List ℕ
     client_id = honest.start.client_making.id
+
     server_id : List ℕ
     server_id = honest.start.server_making.id
+
     P : World → List Told → List Told → Type 0
     P w client server = Both r.keys client_id server_id w r.from_client r.from_server client server
+
     step : (w next : World) (event : RunEvent) (a : Answer) (client server : List Told) → P w client server → IsStep r.keys w event a next → fails a ≡ false → Grown w end
         → P next (client ++ told_by Client w.client.closing.state event a) (server ++ told_by Server w.server.closing.state event a)
     step w next event a client server both is goes g =
         both_step r.keys honest.keys client_id server_id honest.start.client_is.id honest.start.server_is.id r.from_client r.from_server w next event a client server both is goes
-          (g.client.0, g.client.1 ∙ sym run.from_client) (g.server.0, g.server.1 ∙ sym run.from_server)
+        (g.client.0, g.client.1 ∙ sym run.from_client) (g.server.0, g.server.1 ∙ sym run.from_server)
+
     m : Moment r.keys end P step (until r Client i) (until r Server i) (drop i r.events) (drop i r.answers) (drop i r.views)
     m = moment r.keys end P step i r.start r.events r.answers r.views [] [] (both_first r.keys r.start r.from_client r.from_server honest.start) run.follows served
+
     g : Grown m.world end
     g = grown r.keys m.world (drop i r.events) (drop i r.answers) (drop i r.views) end m.goes_on
+
     ids : FirstIds r.start client_id server_id
     ids = first_ids r.start honest.start
+
     at : (side : Side) → Seen r side i
     at Client =
         seen_from r Client i m.world.server m.world.client m.world.from_server m.world.from_client client_id server_id m.holds.client_side m.holds.to_client m.holds.to_server m.holds.client_unreferred
-          ids.client ids.server_first (g.client.0, g.client.1 ∙ sym run.from_client) (λ call a is. answered r m.world end i Client call a m.goes_on is)
+        ids.client ids.server_first (g.client.0, g.client.1 ∙ sym run.from_client) (λ call a is. answered r m.world end i Client call a m.goes_on is)
     at Server =
         seen_from r Server i m.world.client m.world.server m.world.from_client m.world.from_server server_id client_id m.holds.server_side m.holds.to_server m.holds.to_client m.holds.server_unreferred
-          ids.server ids.client_first (g.server.0, g.server.1 ∙ sym run.from_server) (λ call a is. answered r m.world end i Server call a m.goes_on is)
+        ids.server ids.client_first (g.server.0, g.server.1 ∙ sym run.from_server) (λ call a is. answered r m.world end i Server call a m.goes_on is)
 
 pub ordered_prefix : (r : Run) (end : World) → IsHonest r → IsRun r end → OrderedPrefix r
 ordered_prefix r end honest run side id i served =
