@@ -1,5 +1,5 @@
 -- Each broken run breaks a clause of the headline.
-use Rattle.std.proofs.Common.{◌≡◌, ◌≤◌, ℕ, List, [], ◌∷◌, ◌++◌, length, Some, None, Result, Ok, Err, true, false, Option, refl, inl, inr, ap, sym, ◌∙◌, subst, arith}
+use Rattle.std.proofs.Common.{◌≡◌, ◌+◌, ◌≤◌, ℕ, List, [], ◌∷◌, ◌++◌, length, Some, None, Result, Ok, Err, true, false, Option, refl, inl, inr, ap, sym, ◌∙◌, subst, arith}
 use Rattle.std.specs.Prelude.{slice_index, ◌==◌, eqb, if◌then◌else◌}
 use Rattle.std.specs.List.{IsDistinct}
 use Rattle.quic_wire_core.specs.declared.stream_id.Side.TheVariants.{Client, Server}
@@ -18,7 +18,8 @@ use Rattle.quic_connection_core.specs.declared.run.ReadCall.{ReadCall}
 use Rattle.quic_connection_core.specs.Runs.{Packet, Next, In, until, nexts, chunks_of, reads, bytes_of, offsets_of, written, took, WasTaken, HasArrived}
 use Rattle.quic_connection_core.specs.Headline.{OrderedPrefix, Slices, Once, EndAfterAll, BlockedOnlyWithoutBytes, AcceptsAll, NumbersRise, IsNumbered}
 use Rattle.quic_connection_core.specs.Worked.{worked_policies, server_id, hello, hello_frame, run_with}
-use Rattle.quic_connection_core.specs.Broken.{Nexts, answers_with, duplicate, hellp, gives_chunk, all_nexts, changed_nexts, repeated_nexts, early_nexts, changed_byte, repeated_bytes, unwritten_byte, early_end, unwritten_end, taken_twice, blocked_read, never_accepted, empty_datagram}
+use Rattle.quic_connection_core.specs.Broken.{Nexts, answers_with, duplicate, hellp, gives_chunk, all_nexts, changed_nexts, repeated_nexts, early_nexts, changed_byte, repeated_bytes, unwritten_byte, early_end, unwritten_end, taken_twice, blocked_read, never_accepted, empty_datagram, repeated_number}
+use Rattle.quic_connection_core.proofs.WorkedNumber.{only_number}
 use Rattle.quic_connection_core.proofs.WorkedRun.{hello_packet, frame_taken}
 
 -- what the nexts of the server answered: those of the read
@@ -113,3 +114,12 @@ no_number number n = let bytes = n.is.is in cc
 
 pub empty_numbers : (read : ReadCall) → NumbersRise (empty_datagram read) → ⊥
 empty_numbers read h = let p = h Client 4 refl in no_number p.0 p.2
+
+-- 0 isn't above 0
+repeats : (first second : ℕ) → first + 1 ≤ second → second ≡ 0 → ⊥
+repeats first second above e = omega (arith, above, e)
+
+pub repeated_numbers : NumbersRise repeated_number → ⊥
+repeated_numbers h =
+    let p = h Client 2 refl in
+    repeats p.0 p.3.0 p.3.1 (only_number p.3.0 p.3.2)

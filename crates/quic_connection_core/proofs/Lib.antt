@@ -37,3 +37,4 @@ pub mod BrokenRuns
 pub mod BrokenClauses
 pub mod WorkedKeys
 pub mod WorkedHonest
+pub mod WorkedNumber

@@ -40,7 +40,7 @@ lawful own theirs = record { form = first_form; width = number_length; tag = add
 -- ---- mates
 
 -- masking twice is masking not at all
-xor_twice : (a m : ℕ) → bit_xor (bit_xor a m) m ≡ a
+pub xor_twice : (a m : ℕ) → bit_xor (bit_xor a m) m ≡ a
 xor_twice a m = xor_assoc a m m ∙ rw (xor_self m) (xor_zero_r a)
 
 -- so it is for bytes

@@ -1,5 +1,6 @@
 -- Runs of machines with a bug: the worked run with other answers or another datagram.
-use Rattle.std.specs.Prelude.{ℕ, List, [], ◌∷◌, Option, Some, None, Result, Ok, Err}
+use Rattle.std.specs.Prelude.{ℕ, List, [], ◌∷◌, take, Option, Some, None, Result, Ok, Err}
+use Rattle.quic_wire_core.specs.declared.stream_id.Side.TheVariants.{Client}
 use Rattle.quic_wire_core.specs.declared.shared.EcnCodepoint.TheVariants.{Ect0}
 use Rattle.quic_streams_core.specs.declared.connection.assembler.Chunk.{Chunk}
 use Rattle.quic_connection_core.specs.declared.answers.WriteError.{WriteError}
@@ -10,11 +11,13 @@ use Rattle.quic_connection_core.specs.declared.answers.ReadError.TheVariants as 
 use Rattle.quic_connection_core.specs.declared.answers.Received.{Received}
 use Rattle.quic_connection_core.specs.declared.answers.Received.TheVariants as receives
 use Rattle.quic_connection_core.specs.declared.answers.DropReason.TheVariants as drops
+use Rattle.quic_connection_core.specs.declared.run.RunEvent.{RunEvent}
 use Rattle.quic_connection_core.specs.declared.run.ReadCall.{ReadCall}
+use Rattle.quic_connection_core.specs.declared.run.Call.TheVariants as calls
 use Rattle.quic_connection_core.specs.declared.run.Answer.{Answer}
 use Rattle.quic_connection_core.specs.declared.run.Answer.TheVariants as answers
 use Rattle.quic_connection_core.specs.Runs.{Run}
-use Rattle.quic_connection_core.specs.Worked.{hello, worked_run}
+use Rattle.quic_connection_core.specs.Worked.{worked_policies, client_ended, hello, hello_datagram, before_sending, worked_views, worked_run}
 
 -- ---- the worked run with other answers
 
@@ -108,3 +111,18 @@ never_accepted = answers_with (Ok 5) (Ok tt) receives.Taken duplicate None all_n
 -- the client gives an empty datagram
 abbrev pub empty_datagram : ReadCall → Run
 empty_datagram read = record (worked_run read) { from_client = [] ∷ [] }
+
+-- the client gives its datagram twice
+abbrev pub repeated_number : Run
+repeated_number =
+    let gives : RunEvent = record { side = Client; call = calls.Poll 0 } in
+    let gave = answers.Poll (Ok (Some (record { size = 34; ecn = Some Ect0 }))) in
+    record {
+      keys = worked_policies;
+      start = before_sending client_ended;
+      events = gives ∷ gives ∷ [];
+      answers = gave ∷ gave ∷ [];
+      views = take 2 worked_views;
+      from_client = hello_datagram ∷ hello_datagram ∷ [];
+      from_server = [];
+    }

@@ -10,7 +10,7 @@ ghost use Rattle.quic_connection_core.specs.Machine.{World, IsRead, Follows};
 ghost use Rattle.quic_connection_core.specs.Runs.{until, written, reads, bytes_of, took};
 ghost use Rattle.quic_connection_core.specs.Headline.{OrderedPrefix, Slices, Once, EndAfterAll, BlockedOnlyWithoutBytes, AcceptsAll, NumbersRise};
 ghost use Rattle.quic_connection_core.specs.Worked.{hello, hello_frame, worked_policies, worked_events, client_made, server_made, before_sending, run_with};
-ghost use Rattle.quic_connection_core.specs.Broken.{hellp, changed_byte, repeated_bytes, unwritten_byte, early_end, unwritten_end, taken_twice, never_taken, blocked_read, never_accepted, empty_datagram, all_nexts};
+ghost use Rattle.quic_connection_core.specs.Broken.{hellp, changed_byte, repeated_bytes, unwritten_byte, early_end, unwritten_end, taken_twice, never_taken, blocked_read, never_accepted, empty_datagram, repeated_number, all_nexts};
 
 /// A read that changes a byte gives no prefix of what was written, and no slice of it.
 pub fn changed_byte_shows()
@@ -61,6 +61,11 @@ pub fn never_accepted_shows()
 /// An empty datagram has no number.
 pub fn empty_datagram_shows()
     ensures numbers { (read : ReadCall) → NumbersRise (empty_datagram read) → ⊥ }
+{}
+
+/// A datagram that is given twice has its number twice.
+pub fn repeated_number_shows()
+    ensures numbers { NumbersRise repeated_number → ⊥ }
 {}
 
 /// A machine says of a datagram that comes twice that it was taken twice; its bytes say that it is one packet.
