@@ -1,10 +1,9 @@
 -- Each broken run breaks a clause of the headline.
-use Rattle.std.proofs.Common.{◌≡◌, ◌+◌, ◌≤◌, ℕ, List, [], ◌∷◌, ◌++◌, length, Some, None, Result, Ok, Err, true, false, Option, refl, inl, inr, ap, sym, ◌∙◌, subst, arith}
+use Rattle.std.proofs.Common.{◌≡◌, ◌+◌, ◌≤◌, ℕ, List, [], ◌∷◌, ◌++◌, Some, None, Result, Ok, Err, true, false, Option, refl, inl, ap, sym, ◌∙◌, subst, arith}
 use Rattle.std.specs.Prelude.{slice_index, ◌==◌, eqb, if◌then◌else◌}
 use Rattle.std.specs.List.{IsDistinct}
 use Rattle.quic_wire_core.specs.declared.stream_id.Side.TheVariants.{Client, Server}
 use Rattle.quic_wire_core.specs.declared.stream_id.Dir.TheVariants.{Bi}
-use Rattle.quic_wire.specs.Value.{stream}
 use Rattle.quic_wire.specs.FrameTypes.{kind_of}
 use Rattle.quic_wire.specs.Reading.{block_at, sized_at, offset_at, data_at, stream_at, body_at}
 use Rattle.quic_wire.specs.Items.{frame_at, items_within, items}
@@ -15,7 +14,7 @@ use Rattle.quic_connection_core.specs.declared.answers.FinishError.TheVariants a
 use Rattle.quic_connection_core.specs.declared.answers.Received.{Received}
 use Rattle.quic_connection_core.specs.declared.answers.Received.TheVariants as receives
 use Rattle.quic_connection_core.specs.declared.run.ReadCall.{ReadCall}
-use Rattle.quic_connection_core.specs.Runs.{Packet, Next, In, until, nexts, chunks_of, reads, bytes_of, offsets_of, written, took, WasTaken, HasArrived}
+use Rattle.quic_connection_core.specs.Runs.{Packet, Next, In, until, nexts, chunks_of, reads, bytes_of, offsets_of, took, WasTaken, HasArrived}
 use Rattle.quic_connection_core.specs.Headline.{OrderedPrefix, Slices, Once, EndAfterAll, BlockedOnlyWithoutBytes, AcceptsAll, NumbersRise, IsNumbered}
 use Rattle.quic_connection_core.specs.Worked.{worked_policies, server_id, hello, hello_frame, run_with}
 use Rattle.quic_connection_core.specs.Broken.{Nexts, answers_with, duplicate, hellp, gives_chunk, all_nexts, changed_nexts, repeated_nexts, early_nexts, changed_byte, repeated_bytes, unwritten_byte, early_end, unwritten_end, taken_twice, blocked_read, never_accepted, empty_datagram, repeated_number}

@@ -1,6 +1,5 @@
 -- The worked run meets the premises of the headline.
-use Rattle.std.proofs.Common.{◌≡◌, ◌<◌, ◌^◌, ℕ, zero, suc, List, [], ◌∷◌, Option, Some, None, Ok, true, refl, inl, inr, sym, ap, subst, ◌∙◌, lit<}
-use Rattle.std.specs.Prelude.{slice_get}
+use Rattle.std.proofs.Common.{◌≡◌, ℕ, zero, suc, List, [], ◌∷◌, Some, Ok, true, refl, inl, sym, ap, subst, ◌∙◌, lit<}
 use Rattle.quic_wire_core.specs.declared.stream_id.Side.{Side}
 use Rattle.quic_wire_core.specs.declared.stream_id.Side.TheVariants.{Client, Server}
 use Rattle.quic_wire_core.specs.declared.stream_id.Dir.TheVariants.{Bi}
@@ -11,8 +10,8 @@ use Rattle.quic_connection_core.specs.declared.run.Call.{Call}
 use Rattle.quic_connection_core.specs.declared.run.Call.TheVariants as calls
 use Rattle.quic_connection_core.specs.Settings.{default_settings, parameters_of}
 use Rattle.quic_connection_core.specs.Runs.{In, until, ids_of}
-use Rattle.quic_connection_core.specs.Headline.{IsInRange, Making, IsMaking, AreStarted, UsesOwnIds, used, IsHonest, IsRun}
-use Rattle.quic_connection_core.specs.Worked.{worked_parameters, client_id, server_id, client_made, delivers, before_sending, after_sending, server_read, hello, worked_events, worked_run}
+use Rattle.quic_connection_core.specs.Headline.{IsInRange, Making, AreStarted, UsesOwnIds, used, IsHonest, IsRun}
+use Rattle.quic_connection_core.specs.Worked.{worked_parameters, client_id, server_id, client_made, delivers, before_sending, after_sending, server_read, hello, worked_run}
 use Rattle.quic_connection_core.proofs.WorkedRun.{client_is_made, server_is_made, follows}
 use Rattle.quic_connection_core.proofs.WorkedKeys.{are_keys}
 

@@ -1,6 +1,6 @@
 //! The definitions computed on one worked run: the client opens stream 0, writes `hello` and ends it, and the server reads
 //! it. Each function does nothing: its contract is the law.
-ghost use Rattle.std.specs.Prelude.{◌≡◌, ℕ, ◌-◌, ◌<◌, ◌^◌, true, false, [], ◌∷◌, ◌++◌, length, take, drop, replicate, slice_get, Some, None, Ok, Err, alloc_error};
+ghost use Rattle.std.specs.Prelude.{◌≡◌, ℕ, ◌-◌, ◌<◌, ◌^◌, true, false, [], ◌∷◌, ◌++◌, length, take, drop, replicate, Some, None, Ok, Err, alloc_error};
 ghost use Rattle.quic_wire_core.specs.TransportError.{error_in, plain_error};
 ghost use Rattle.quic_wire_core.specs.declared.stream_id.Side.TheVariants.{Client, Server};
 ghost use Rattle.quic_wire_core.specs.declared.stream_id.Dir.TheVariants.{Bi, Uni};
