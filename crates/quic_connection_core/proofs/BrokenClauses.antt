@@ -17,17 +17,17 @@ use Rattle.quic_connection_core.specs.declared.run.ReadCall.{ReadCall}
 use Rattle.quic_connection_core.specs.Runs.{Packet, Next, In, until, nexts, chunks_of, reads, bytes_of, offsets_of, took, WasTaken, HasArrived}
 use Rattle.quic_connection_core.specs.Headline.{OrderedPrefix, Slices, Once, EndAfterAll, BlockedOnlyWithoutBytes, AcceptsAll, NumbersRise, IsNumbered}
 use Rattle.quic_connection_core.specs.Worked.{worked_policies, server_id, hello, hello_frame, run_with}
-use Rattle.quic_connection_core.specs.Broken.{Nexts, answers_with, duplicate, hellp, gives_chunk, all_nexts, changed_nexts, repeated_nexts, early_nexts, changed_byte, repeated_bytes, unwritten_byte, early_end, unwritten_end, taken_twice, blocked_read, never_accepted, empty_datagram, repeated_number}
+use Rattle.quic_connection_core.specs.Broken.{NextAnswers, answers_with, duplicate, hellp, gives_chunk, all_nexts, changed_nexts, repeated_nexts, early_nexts, changed_byte, repeated_bytes, unwritten_byte, early_end, unwritten_end, taken_twice, blocked_read, never_accepted, empty_datagram, repeated_number}
 use Rattle.quic_connection_core.proofs.WorkedNumber.{only_number}
 use Rattle.quic_connection_core.proofs.WorkedRun.{hello_packet, frame_taken}
 
 -- what the nexts of the server answered: those of the read
-nexts_are : (read : ReadCall) (count : Result ℕ WriteError) (done : Result (Unit {0}) FinishError) (first second : Received) (id : Option ℕ) (said : Nexts) → read.id ≡ 0
+nexts_are : (read : ReadCall) (count : Result ℕ WriteError) (done : Result (Unit {0}) FinishError) (first second : Received) (id : Option ℕ) (said : NextAnswers) → read.id ≡ 0
     → nexts 0 (until (run_with read (answers_with count done first second id said)) Server 8) ≡ said ++ []
 nexts_are read count done first second id said e = ap (λ (n : ℕ). (if n == 0 then said else []) ++ []) e
 
 -- of a run whose deliveries and accept went well
-nexts_of : (read : ReadCall) (count : Result ℕ WriteError) (done : Result (Unit {0}) FinishError) (said : Nexts) → read.id ≡ 0
+nexts_of : (read : ReadCall) (count : Result ℕ WriteError) (done : Result (Unit {0}) FinishError) (said : NextAnswers) → read.id ≡ 0
     → nexts 0 (until (run_with read (answers_with count done receives.Taken duplicate (Some 0) said)) Server 8) ≡ said ++ []
 nexts_of read count done said e = nexts_are read count done receives.Taken duplicate (Some 0) said e
 

@@ -23,7 +23,7 @@ use Rattle.quic_connection_core.specs.declared.run.Answer.TheVariants as answers
 use Rattle.quic_connection_core.specs.declared.run.View.{View}
 use Rattle.quic_connection_core.specs.Machine.{IsAnswer, IsRead, IsStep, Follows, World, policy_at, end_at, given_by, fails}
 use Rattle.quic_connection_core.specs.Worked.{client_made, server_made, server_took, server_accepted, hello, hello_datagram, delivery, delivers, before_sending, after_sending, worked_policies, worked_events}
-use Rattle.quic_connection_core.specs.Broken.{Nexts, hellp, gives_chunk, changed_nexts, repeated_nexts, early_nexts, blocked_nexts, changed_byte, repeated_bytes, unwritten_byte, early_end, unwritten_end, taken_twice, never_taken, blocked_read, never_accepted}
+use Rattle.quic_connection_core.specs.Broken.{NextAnswers, hellp, gives_chunk, changed_nexts, repeated_nexts, early_nexts, blocked_nexts, changed_byte, repeated_bytes, unwritten_byte, early_end, unwritten_end, taken_twice, never_taken, blocked_read, never_accepted}
 use Rattle.quic_connection_core.proofs.OneRun.{one_world}
 use Rattle.quic_connection_core.proofs.WorkedRun.{opens, writes, finishes, gives, takes, drops_duplicate, accepts}
 
@@ -74,7 +74,7 @@ accepted : {events : List RunEvent} {told : List Answer}
 accepted r = goes_on refl accepts (goes_on refl drops_duplicate (goes_on refl takes r))
 
 -- a read of two chunks of stream 0 that isn't answered so
-unread : (nexts : Nexts) → (IsRead server_accepted 0 (32 ∷ 32 ∷ []) (answers.Read (Ok nexts)) → ⊥)
+unread : (nexts : NextAnswers) → (IsRead server_accepted 0 (32 ∷ 32 ∷ []) (answers.Read (Ok nexts)) → ⊥)
     → (read : ReadCall) → read.id ≡ 0 → read.nexts.items ≡ 32 ∷ 32 ∷ [] → IsRead server_accepted read.id read.nexts.items (answers.Read (Ok nexts)) → ⊥
 unread nexts not_so read e f h =
     not_so (subst (λ (ms : List ℕ). IsRead server_accepted 0 ms (answers.Read (Ok nexts))) f (subst (λ (n : ℕ). IsRead server_accepted n read.nexts.items (answers.Read (Ok nexts))) e h))

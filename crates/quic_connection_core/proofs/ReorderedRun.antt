@@ -17,7 +17,7 @@ use Rattle.quic_connection_core.specs.Calls.{after_nexts}
 use Rattle.quic_connection_core.specs.Machine.{World, IsRead, IsStep, Follows}
 use Rattle.quic_connection_core.specs.Worked.{worked_policies, client_made, server_made}
 use Rattle.quic_connection_core.specs.Runs.{took}
-use Rattle.quic_connection_core.specs.Broken.{Nexts}
+use Rattle.quic_connection_core.specs.Broken.{NextAnswers}
 use Rattle.quic_connection_core.specs.Reordered.{abc, def, abc_datagram, def_datagram, client_after, server_after, half_late, half_whole, half_read, two_ends, delivers_at, reordered_events, reordered_answers, reordered_views, reordered_packets, reordered_run}
 
 -- ---- what each event leaves
@@ -71,12 +71,12 @@ takes_abc = record { answer = inl refl; end = refl; others = refl }
 -- ---- the reads
 
 -- a read at an end of this stream, by these bounds, is answered so, and leaves the end so
-record ReadsSo (e : End) (id : ℕ) (mosts : List ℕ) (nexts : Nexts) (next : End) : Type 0 where
+record ReadsSo (e : End) (id : ℕ) (mosts : List ℕ) (nexts : NextAnswers) (next : End) : Type 0 where
   answer : IsRead e id mosts (answers.Read (Ok nexts))
   end : next ≡ after_nexts e id mosts nexts
 
 -- it is a step
-step_of : (e : End) (read : ReadCall) (mosts : List ℕ) (nexts : Nexts) (next : End) → read.id ≡ 0 → read.nexts.items ≡ mosts → ReadsSo e 0 mosts nexts next → IsStep worked_policies (gave_all e) (record { side = Server; call = calls.Read read }) (answers.Read (Ok nexts)) (gave_all next)
+step_of : (e : End) (read : ReadCall) (mosts : List ℕ) (nexts : NextAnswers) (next : End) → read.id ≡ 0 → read.nexts.items ≡ mosts → ReadsSo e 0 mosts nexts next → IsStep worked_policies (gave_all e) (record { side = Server; call = calls.Read read }) (answers.Read (Ok nexts)) (gave_all next)
 step_of e read mosts nexts next is_id are_mosts so =
     let by_mosts : ReadsSo e 0 read.nexts.items nexts next = subst (λ ms. ReadsSo e 0 ms nexts next) (sym are_mosts) so in
     let all : ReadsSo e read.id read.nexts.items nexts next = subst (λ n. ReadsSo e n read.nexts.items nexts next) (sym is_id) by_mosts in

@@ -22,15 +22,15 @@ use Rattle.quic_connection_core.specs.Worked.{worked_policies, client_ended, hel
 -- ---- the worked run with other answers
 
 -- what the nexts of a read answer
-abbrev pub Nexts : Type 0
-Nexts = List (Result (Option Chunk) ReadError)
+abbrev pub NextAnswers : Type 0
+NextAnswers = List (Result (Option Chunk) ReadError)
 
 -- a chunk of these bytes at the front of the stream
 abbrev pub gives_chunk : List ℕ → Result (Option Chunk) ReadError
 gives_chunk bytes = Ok (Some (record { offset = 0; bytes = bytes }))
 
 -- the answers of the worked run, with these to the write, the finish, the two deliveries, the accept and the read
-abbrev pub answers_with : Result ℕ WriteError → Result (Unit {0}) FinishError → Received → Received → Option ℕ → Nexts → List Answer
+abbrev pub answers_with : Result ℕ WriteError → Result (Unit {0}) FinishError → Received → Received → Option ℕ → NextAnswers → List Answer
 answers_with count done first second id nexts =
     answers.Open (Ok (Some 0))
     ∷ answers.Write count
@@ -43,7 +43,7 @@ answers_with count done first second id nexts =
     ∷ []
 
 -- the read that gives what was written, and then the end
-abbrev pub all_nexts : Nexts
+abbrev pub all_nexts : NextAnswers
 all_nexts = gives_chunk hello ∷ Ok None ∷ []
 
 -- the second delivery is dropped as a duplicate
@@ -55,7 +55,7 @@ abbrev pub hellp : List ℕ
 hellp = 104 ∷ 101 ∷ 108 ∷ 108 ∷ 112 ∷ []
 
 -- a read that gives that word
-abbrev pub changed_nexts : Nexts
+abbrev pub changed_nexts : NextAnswers
 changed_nexts = gives_chunk hellp ∷ Ok None ∷ []
 
 -- a byte of the stream is changed
@@ -63,7 +63,7 @@ abbrev pub changed_byte : List Answer
 changed_byte = answers_with (Ok 5) (Ok tt) receives.Taken duplicate (Some 0) changed_nexts
 
 -- a read that gives the five bytes twice
-abbrev pub repeated_nexts : Nexts
+abbrev pub repeated_nexts : NextAnswers
 repeated_nexts = gives_chunk hello ∷ gives_chunk hello ∷ []
 
 -- bytes come twice
@@ -75,7 +75,7 @@ abbrev pub unwritten_byte : List Answer
 unwritten_byte = answers_with (Ok 4) (Ok tt) receives.Taken duplicate (Some 0) all_nexts
 
 -- a read that gives the end first
-abbrev pub early_nexts : Nexts
+abbrev pub early_nexts : NextAnswers
 early_nexts = Ok None ∷ Ok None ∷ []
 
 -- the end comes over unread bytes
@@ -95,7 +95,7 @@ abbrev pub never_taken : List Answer
 never_taken = answers_with (Ok 5) (Ok tt) (receives.Dropped drops.NotOpened) (receives.Dropped drops.NotOpened) (Some 0) all_nexts
 
 -- a read that gives nothing
-abbrev pub blocked_nexts : Nexts
+abbrev pub blocked_nexts : NextAnswers
 blocked_nexts = Err read_errors.Blocked ∷ []
 
 -- a read is blocked, although all bytes and the end came
