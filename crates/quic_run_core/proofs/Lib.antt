@@ -1,3 +1,4 @@
 pub mod InPlace
 pub mod Mates
 pub mod Constant
+pub mod Saying

@@ -4,3 +4,4 @@ pub mod KeysOf
 pub mod Words
 pub mod ExitStatus
 pub mod Named
+pub mod Language
