@@ -5,6 +5,7 @@ mod answer;
 mod error;
 pub mod key;
 mod lines;
+mod options;
 mod runner;
 #[cfg(test)]
 mod runs;
