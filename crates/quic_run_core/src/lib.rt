@@ -5,6 +5,8 @@ mod answer;
 mod error;
 pub mod key;
 mod lines;
+#[cfg(test)]
+mod memory;
 mod options;
 mod runner;
 #[cfg(test)]
