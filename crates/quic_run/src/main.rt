@@ -6,7 +6,7 @@ use std::io;
 use std::process::ExitCode;
 
 fn main(rt: HostRuntime) -> ExitCode {
-    match run_script(rt.alloc(), rt.stdin(), io::writer(&rt)) {
+    match run_script(rt.alloc(), rt.stdin(), &mut io::writer(&rt)) {
         Ok(()) => ExitCode::SUCCESS,
         Err(fault) => {
             let _ = eprintln!(rt; "{fault}");

@@ -1,3 +1,8 @@
 pub mod InPlace
 pub mod Mates
 pub mod Constant
+pub mod Saying
+pub mod Showing
+pub mod Taking
+pub mod Running
+pub mod Making

@@ -1,5 +1,5 @@
 -- The exit status of the program.
-use Rattle.std.specs.Prelude.{ℕ, ◌≤◌}
+use Rattle.std.specs.Prelude.{ℕ}
 use Rattle.quic_run_core.specs.declared.error.ScriptError.{ScriptError}
 use Rattle.quic_run_core.specs.declared.error.ScriptError.TheVariants.{BadCommand, ReadFault, WriteFault, OutOfMemory}
 
@@ -9,10 +9,3 @@ exit_status (BadCommand line) = 2
 exit_status ReadFault = 1
 exit_status WriteFault = 1
 exit_status OutOfMemory = 1
-
--- lines count from 1
-abbrev pub CountsFromOne : ScriptError → Type 0
-CountsFromOne (BadCommand line) = 1 ≤ line
-CountsFromOne ReadFault = Unit {0}
-CountsFromOne WriteFault = Unit {0}
-CountsFromOne OutOfMemory = Unit {0}

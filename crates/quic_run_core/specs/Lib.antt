@@ -4,3 +4,13 @@ pub mod KeysOf
 pub mod Words
 pub mod ExitStatus
 pub mod Named
+pub mod Language
+pub mod Printed
+pub mod Shown
+pub mod Policies
+pub mod Scripts
+pub mod Stages
+pub mod Reading
+pub mod Outcomes
+pub mod Opened
+pub mod Refusals

@@ -1,5 +1,5 @@
 -- The words of a script's line.
-use Rattle.std.specs.Prelude.{◌≡◌, ℕ, List, [], ◌∷◌, Option, Some, None, if◌then◌else◌, codes, nat_eq, ◌||◌, ◌==◌, length}
+use Rattle.std.specs.Prelude.{ℕ, List, [], ◌∷◌, Option, Some, None, if◌then◌else◌, codes, nat_eq, ◌||◌, ◌==◌, length}
 use Rattle.std.specs.Char.{is_ascii_uppercase}
 use Rattle.std.specs.List.{list_any}
 use Rattle.std.specs.Result.{result_ok}
@@ -41,8 +41,3 @@ bytes_named word =
     if pointwise nat_eq word (codes "-") then Some []
     else (if (length word == 0) || list_any is_ascii_uppercase word then None
     else result_ok (decode_of word))
-
--- an empty line, or a comment, which begins with `#`
-abbrev pub IsSkipped : List ℕ → Type 0
-IsSkipped [] = Unit {0}
-IsSkipped (first ∷ line) = first ≡ 35

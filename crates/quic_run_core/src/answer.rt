@@ -1,20 +1,26 @@
 //! What is printed of an answer.
+ghost use Rattle.std.specs.Prelude.{◌≡◌, ◌++◌, OnOk, string_bytes};
+ghost use Rattle.quic_run_core.specs.Printed.{bytes_text, coded_text, id_text, mark_text, write_text, finish_text, next_text, transmit_text, reason_text, received_text, answer_text, call_text};
 
 use quic_connection::{
-    Answer, Chunk, DropReason, FinishError, ReadError, ReadableError, Received, Transmit,
+    Answer, Call, Chunk, DropReason, FinishError, ReadError, ReadableError, Received, Transmit,
     WriteError,
 };
 use quic_wire_core::{EcnCodepoint, StreamId, VarInt};
 use std::alloc::{AllocError, Global};
 
 /// Appends a number in words, as `stopped 7`.
-fn put_code(out: &mut String, word: &str, code: VarInt) -> Result<(), AllocError> {
+fn put_code(out: &mut String, word: &str, code: VarInt) -> Result<(), AllocError>
+    ensures { OnOk result (string_bytes out.new ≡ string_bytes out.old ++ coded_text word.now code) }
+{
     let code = code.into_inner();
     write!(out, "{word} {code}")
 }
 
 /// Appends bytes in hexadecimal, where `-` stands for none.
-pub fn put_bytes(alloc: Global, out: &mut String, bytes: &[u8]) -> Result<(), AllocError> {
+pub(crate) fn put_bytes(alloc: Global, out: &mut String, bytes: &[u8]) -> Result<(), AllocError>
+    ensures { OnOk result (string_bytes out.new ≡ string_bytes out.old ++ bytes_text bytes.now) }
+{
     if bytes.is_empty() {
         return out.push_str("-");
     }
@@ -22,7 +28,10 @@ pub fn put_bytes(alloc: Global, out: &mut String, bytes: &[u8]) -> Result<(), Al
     out.push_str(text.as_str())
 }
 
-fn put_id(out: &mut String, id: Option<StreamId>) -> Result<(), AllocError> {
+/// Appends a stream's id, if there is one.
+fn put_id(out: &mut String, id: Option<StreamId>) -> Result<(), AllocError>
+    ensures { OnOk result (string_bytes out.new ≡ string_bytes out.old ++ id_text id) }
+{
     match id {
         Some(id) => {
             let id = u64::from(id);
@@ -32,7 +41,10 @@ fn put_id(out: &mut String, id: Option<StreamId>) -> Result<(), AllocError> {
     }
 }
 
-fn put_write(out: &mut String, written: &Result<usize, WriteError>) -> Result<(), AllocError> {
+/// Appends how many bytes a write took, or why none.
+fn put_write(out: &mut String, written: &Result<usize, WriteError>) -> Result<(), AllocError>
+    ensures { OnOk result (string_bytes out.new ≡ string_bytes out.old ++ write_text written.now) }
+{
     match written {
         Ok(count) => write!(out, "{count}"),
         Err(WriteError::Blocked) => out.push_str("blocked"),
@@ -42,7 +54,10 @@ fn put_write(out: &mut String, written: &Result<usize, WriteError>) -> Result<()
     }
 }
 
-fn put_finish(out: &mut String, finished: &Result<(), FinishError>) -> Result<(), AllocError> {
+/// Appends whether a stream was finished, or why not.
+fn put_finish(out: &mut String, finished: &Result<(), FinishError>) -> Result<(), AllocError>
+    ensures { OnOk result (string_bytes out.new ≡ string_bytes out.old ++ finish_text finished.now) }
+{
     match finished {
         Ok(()) => out.push_str("ok"),
         Err(FinishError::Stopped(code)) => put_code(out, "stopped", *code),
@@ -55,7 +70,9 @@ fn put_next(
     alloc: Global,
     out: &mut String,
     next: &Result<Option<Chunk>, ReadError>,
-) -> Result<(), AllocError> {
+) -> Result<(), AllocError>
+    ensures { OnOk result (string_bytes out.new ≡ string_bytes out.old ++ next_text next.now) }
+{
     match next {
         Ok(Some(chunk)) => {
             let offset = chunk.offset;
@@ -69,7 +86,10 @@ fn put_next(
     }
 }
 
-fn mark_name(ecn: Option<EcnCodepoint>) -> &'static str {
+/// How a mark is printed, where `-` stands for none.
+fn mark_name(ecn: Option<EcnCodepoint>) -> &'static str
+    ensures { result.now ≡ mark_text ecn }
+{
     match ecn {
         None => "-",
         Some(EcnCodepoint::Ect0) => "ect0",
@@ -79,13 +99,18 @@ fn mark_name(ecn: Option<EcnCodepoint>) -> &'static str {
 }
 
 /// Appends which datagram of its end it is, its size and its mark.
-fn put_transmit(out: &mut String, transmit: &Transmit, index: usize) -> Result<(), AllocError> {
+fn put_transmit(out: &mut String, transmit: &Transmit, index: usize) -> Result<(), AllocError>
+    ensures { OnOk result (string_bytes out.new ≡ string_bytes out.old ++ transmit_text index transmit.now) }
+{
     let size = transmit.size;
     let mark = mark_name(transmit.ecn);
     write!(out, "{index} {size} {mark}")
 }
 
-fn reason_name(reason: DropReason) -> &'static str {
+/// How the reason why a datagram was dropped is printed.
+fn reason_name(reason: DropReason) -> &'static str
+    ensures { result.now ≡ reason_text reason }
+{
     match reason {
         DropReason::TooShort => "tooshort",
         DropReason::NotShort => "notshort",
@@ -100,7 +125,10 @@ fn reason_name(reason: DropReason) -> &'static str {
     }
 }
 
-fn put_received(out: &mut String, received: &Received) -> Result<(), AllocError> {
+/// Appends what came of a datagram.
+fn put_received(out: &mut String, received: &Received) -> Result<(), AllocError>
+    ensures { OnOk result (string_bytes out.new ≡ string_bytes out.old ++ received_text received.now) }
+{
     match received {
         Received::Taken => out.push_str("taken"),
         Received::Dropped(reason) => {
@@ -113,12 +141,14 @@ fn put_received(out: &mut String, received: &Received) -> Result<(), AllocError>
 }
 
 /// Appends an answer. A datagram that was given out is the last of the `given` datagrams of its end.
-pub fn put_answer(
+pub(crate) fn put_answer(
     alloc: Global,
     out: &mut String,
     answer: &Answer,
     given: usize,
-) -> Result<(), AllocError> {
+) -> Result<(), AllocError>
+    ensures { OnOk result (string_bytes out.new ≡ string_bytes out.old ++ answer_text given answer.now) }
+{
     match answer {
         Answer::Open(Ok(id)) => put_id(out, *id),
         Answer::Accept(id) => put_id(out, *id),
@@ -135,5 +165,20 @@ pub fn put_answer(
         Answer::Poll(Err(_)) => out.push_str("failed"),
         Answer::Deliver(received) => put_received(out, received),
         Answer::NoDatagram => out.push_str("nodatagram"),
+    }
+}
+
+/// How a call is named in a script.
+pub(crate) fn call_name(call: &Call) -> &'static str
+    ensures { result.now ≡ call_text call.now }
+{
+    match call {
+        Call::Open(_) => "open",
+        Call::Accept(_) => "accept",
+        Call::Write(_, _) => "write",
+        Call::Finish(_) => "finish",
+        Call::Read(_) => "read",
+        Call::Poll(_) => "poll",
+        Call::Deliver(_) => "deliver",
     }
 }

@@ -8,7 +8,7 @@ use thiserror::Error;
 /// Why a script ends before its last line is run. What was written till then stands.
 #[derive(Clone, Copy, Debug, PartialEq, Eq, Error)]
 pub enum ScriptError {
-    /// This line, counted from 1, isn't in the language, or the ends can't be made at it.
+    /// This line, counted from 1, isn't in the language, or sets an option when the ends are made.
     #[error("line {0}: bad command")]
     BadCommand(u64),
     /// The script can't be read on.

@@ -6,6 +6,9 @@ mod error;
 pub mod key;
 pub mod laws;
 mod lines;
+#[cfg(test)]
+mod memory;
+mod options;
 mod runner;
 #[cfg(test)]
 mod runs;

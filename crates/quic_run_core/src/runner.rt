@@ -1,18 +1,26 @@
 //! Runs a script: reads its lines, and prints what each answers.
-ghost use Rattle.std.specs.Prelude.{IfErr, OnOk};
+ghost use Rattle.std.specs.Prelude.{◌≡◌, ◌⊎◌, MatchResult, IfErr, IfOk, OnOk, IsSome, string_bytes};
 ghost use Rattle.std.specs.Io.KnownBytes.{Appends};
-ghost use Rattle.quic_run_core.specs.ExitStatus.{CountsFromOne};
+ghost use Rattle.quic_run_core.specs.Language.{sets, asks, shows, asked_of, said};
+ghost use Rattle.quic_run_core.specs.Scripts.{first_stage, with_world, world_at, IsDone, Does, IsRefused};
+ghost use Rattle.quic_run_core.specs.Scripts.{heading as heading_of};
+ghost use Rattle.quic_run_core.specs.Stages.{stage_of};
+ghost use Rattle.quic_run_core.specs.Reading.{left_of, KnowsEnd};
+ghost use Rattle.quic_run_core.specs.Outcomes.{RanAll, Stopped};
 
+use crate::answer::call_name;
 use crate::error::ScriptError;
 use crate::lines::Lines;
-use crate::script::{Line, LineError, parse_line};
-use crate::session::{Options, Session, call_name};
+use crate::options::Options;
+use crate::script::{Line, LineError, Setting, parse_line};
+use crate::session::Session;
+use quic_connection::RunEvent;
 use quic_wire_core::Side;
 use std::alloc::{AllocError, Global};
 use std::io::{Read, Write};
 
 /// How often the reader of a script is called at most.
-pub const MOST_TURNS: u64 = 1 << 32;
+const MOST_TURNS: u64 = 1 << 32;
 
 /// A script as far as it was run.
 #[derive(Drop)]
@@ -25,7 +33,10 @@ struct Runner {
 }
 
 impl Runner {
-    fn new(alloc: Global) -> Self {
+    /// No line was run.
+    fn new(alloc: Global) -> Self
+        ensures { stage_of result ≡ first_stage }
+    {
         Runner {
             alloc,
             client: Options::new(),
@@ -34,99 +45,154 @@ impl Runner {
         }
     }
 
-    /// Runs one line, and gives what is printed of it.
-    fn run_line(&mut self, line: &[u8]) -> Result<String, LineError> {
-        let mut out = String::new(self.alloc);
-        match parse_line(self.alloc, line)? {
-            Line::Empty => {}
-            Line::Set(side, setting) => {
-                if self.session.is_some() {
-                    return Err(LineError::BadCommand);
-                }
-                match side {
-                    Side::Client => self.client.set(setting),
-                    Side::Server => self.server.set(setting),
-                }
-                put_words(&mut out, side, "set")?;
-                out.push_str("ok\n")?;
+    /// Runs the lines of a script in turn, of which none was run.
+    fn run_lines<R: Read + Drop, W: Write>(
+        &mut self,
+        lines: &mut Lines<R>,
+        writer: &mut W,
+    ) -> Result<(), ScriptError>
+        requires first { stage_of self.old ≡ first_stage }
+        requires known { KnowsEnd R.remaining lines.old }
+        ensures ok { OnOk result (RanAll (left_of R.remaining lines.old) (W.contents writer.old) (W.contents writer.new)) }
+        ensures err { IfErr result (λ e. Stopped e (left_of R.remaining lines.old) (W.contents writer.old) (W.contents writer.new)) }
+    {
+        let mut line = Vec::new(self.alloc);
+        for number in 1..u64::MAX {
+            if !lines.next(&mut line)? {
+                return Ok(());
             }
-            Line::Call(event) => {
-                put_words(&mut out, event.side, call_name(&event.call))?;
-                self.session()?.call(&event, &mut out)?;
-                out.push_str("\n")?;
-            }
-            Line::Show(side, index) => {
-                put_words(&mut out, side, "show")?;
-                self.session()?.show(side, index, &mut out)?;
-                out.push_str("\n")?;
+            match self.run_line(&line) {
+                Ok(answer) => print(writer, answer.as_str())?,
+                Err(LineError::BadCommand) => return Err(ScriptError::BadCommand(number)),
+                Err(LineError::OutOfMemory) => return Err(ScriptError::OutOfMemory),
             }
         }
+        Err(ScriptError::ReadFault)
+    }
+
+    /// Runs one line, and gives what is printed of it.
+    fn run_line(&mut self, line: &[u8]) -> Result<String, LineError>
+        ensures { MatchResult result
+            (λ text. Does (said line.now) (stage_of self.old) (string_bytes text) (stage_of self.new))
+            (λ e. (e ≡ LineError.OutOfMemory) ⊎ ((e ≡ LineError.BadCommand) × IsRefused (said line.now) (stage_of self.old))) }
+    {
+        match parse_line(self.alloc, line)? {
+            Line::Empty => Ok(String::new(self.alloc)),
+            Line::Set(side, setting) => self.set(side, setting),
+            Line::Call(event) => self.call(&event),
+            Line::Show(side, index) => self.show(side, index),
+        }
+    }
+
+    /// Sets an option, unless the ends are made.
+    fn set(&mut self, side: Side, setting: Setting) -> Result<String, LineError>
+        ensures { MatchResult result
+            (λ text. IsDone (sets side setting) (stage_of self.old) (string_bytes text) (stage_of self.new))
+            (λ e. (e ≡ LineError.OutOfMemory) ⊎ ((e ≡ LineError.BadCommand) × IsSome (stage_of self.old).world)) }
+    {
+        if self.session.is_some() {
+            return Err(LineError::BadCommand);
+        }
+        match side {
+            Side::Client => self.client.set(setting),
+            Side::Server => self.server.set(setting),
+        }
+        let mut out = heading(self.alloc, side, "set")?;
+        out.push_str("ok\n")?;
         Ok(out)
     }
 
-    /// The ends, which are made now if they aren't yet.
-    fn session(&mut self) -> Result<&mut Session, LineError> {
+    /// Makes a call at an end.
+    fn call(&mut self, event: &RunEvent) -> Result<String, LineError>
+        ensures { MatchResult result
+            (λ text. IsDone (asks event.now.side (asked_of event.now.call)) (stage_of self.old) (string_bytes text) (stage_of self.new))
+            (λ e. e ≡ LineError.OutOfMemory) }
+    {
+        self.begin()?;
+        let mut out = heading(self.alloc, event.side, call_name(&event.call))?;
+        match &mut self.session {
+            Some(session) => session.call(event, &mut out)?,
+            None => unreachable!(),
+        }
+        out.push_str("\n")?;
+        Ok(out)
+    }
+
+    /// Shows a datagram that an end gave out.
+    fn show(&mut self, side: Side, index: usize) -> Result<String, LineError>
+        ensures { MatchResult result
+            (λ text. IsDone (shows side index) (stage_of self.old) (string_bytes text) (stage_of self.new))
+            (λ e. e ≡ LineError.OutOfMemory) }
+    {
+        self.begin()?;
+        let mut out = heading(self.alloc, side, "show")?;
+        match &mut self.session {
+            Some(session) => session.show(side, index, &mut out)?,
+            None => unreachable!(),
+        }
+        out.push_str("\n")?;
+        Ok(out)
+    }
+
+    /// Makes the ends, unless they are made.
+    fn begin(&mut self) -> Result<(), LineError>
+        ensures stage { OnOk result (stage_of self.new ≡ with_world (world_at (stage_of self.old)) (stage_of self.old)) }
+        ensures memory { IfErr result (λ e. e ≡ LineError.OutOfMemory) }
+    {
         if self.session.is_none() {
             self.session = Some(Session::new(self.alloc, &self.client, &self.server)?);
         }
-        self.session.as_mut().ok_or(LineError::BadCommand)
+        Ok(())
     }
 }
 
-/// Appends the first two words of a line, and a space.
-fn put_words(out: &mut String, side: Side, name: &str) -> Result<(), AllocError> {
+/// The first two words of a line, and a blank.
+fn heading(alloc: Global, side: Side, name: &str) -> Result<String, AllocError>
+    ensures { IfOk result (λ text. string_bytes text ≡ heading_of side name.now) }
+{
     let end = match side {
-        Side::Client => 'c',
-        Side::Server => 's',
+        Side::Client => "c",
+        Side::Server => "s",
     };
-    write!(out, "{end} {name} ")
+    format!(in alloc; "{end} {name} ")
 }
 
 /// Runs a script, each of whose lines is a call at one of two ends: prints each answer before the next line is run.
 /// The ends are made at the first line that isn't a setting.
 ///
 /// `ReadFault`: the reader failed, or gave no end within 2^32 calls. `WriteFault`: the writer failed, or took nothing.
-/// `BadCommand`: a line isn't in the language, or the ends can't be made. `OutOfMemory`: memory lacked. What was printed
-/// before stands.
-pub fn run_script<R: Read + Drop, W: Write + Drop>(
+/// `BadCommand`: a line isn't in the language, or sets an option when the ends are made. `OutOfMemory`: memory lacked.
+/// What was printed before stands.
+pub fn run_script<R: Read + Drop, W: Write>(
     alloc: Global,
     reader: R,
-    writer: W,
+    writer: &mut W,
 ) -> Result<(), ScriptError>
-    ensures { IfErr result CountsFromOne }
+    ensures ok { OnOk result (RanAll (R.remaining reader) (W.contents writer.old) (W.contents writer.new)) }
+    ensures err { IfErr result (λ e. Stopped e (R.remaining reader) (W.contents writer.old) (W.contents writer.new)) }
 {
     run_script_within(alloc, reader, writer, MOST_TURNS)
 }
 
 /// As [`run_script`], where the reader is called at most `turns` times.
-pub fn run_script_within<R: Read + Drop, W: Write + Drop>(
+pub fn run_script_within<R: Read + Drop, W: Write>(
     alloc: Global,
     reader: R,
-    mut writer: W,
+    writer: &mut W,
     turns: u64,
 ) -> Result<(), ScriptError>
-    ensures { IfErr result CountsFromOne }
+    ensures ok { OnOk result (RanAll (R.remaining reader) (W.contents writer.old) (W.contents writer.new)) }
+    ensures err { IfErr result (λ e. Stopped e (R.remaining reader) (W.contents writer.old) (W.contents writer.new)) }
 {
     let mut lines = Lines::new(alloc, reader, turns)?;
     let mut runner = Runner::new(alloc);
-    let mut line = Vec::new(alloc);
-    for number in 1..u64::MAX {
-        if !lines.next(&mut line)? {
-            return Ok(());
-        }
-        match runner.run_line(&line) {
-            Ok(answer) => print(&mut writer, answer.as_str())?,
-            Err(LineError::BadCommand) => return Err(ScriptError::BadCommand(number)),
-            Err(LineError::OutOfMemory) => return Err(ScriptError::OutOfMemory),
-        }
-    }
-    Err(ScriptError::ReadFault)
+    runner.run_lines(&mut lines, writer)
 }
 
 /// Prints an answer, where there is one.
 fn print<W: Write>(writer: &mut W, answer: &str) -> Result<(), ScriptError>
     ensures printed { OnOk result (Appends (W.contents writer.old) (W.contents writer.new) answer.now) }
-    ensures fault { IfErr result CountsFromOne }
+    ensures fault { IfErr result (λ e. e ≡ ScriptError.WriteFault) }
 {
     if answer.is_empty() {
         return Ok(());

@@ -3,11 +3,12 @@ use crate::key::{PlainHeaderKey, PlainKey, keys_for};
 use crate::words::Words;
 use bytes::Bytes;
 use quic_connection::{
-    Answer, Call, Config, Connection, Delivery, Ends, Given, Instant, ReadCall, RunEvent,
-    TransportConfig, run, step,
+    Answer, Call, Config, Connection, Delivery, DropReason, Ends, Given, Instant, ReadCall,
+    Received, RunEvent, TransportConfig, run, step,
 };
 use quic_wire_core::{ConnectionId, Dir, EcnCodepoint, Side, StreamId};
 use std::alloc::Global;
+use std::process::Abort;
 use std::test::Fail;
 
 /// The order in which transport parameters are written.
@@ -134,5 +135,58 @@ fn nothing_is_delivered_that_was_not_given(rt: HostRuntime) -> Result<(), Fail> 
     let event = event(Side::Client, Call::Deliver(delivery));
     let answer = step(rt.alloc(), &mut ends, &mut given, &event)?;
     assert!(rt; matches!(answer, Answer::NoDatagram));
+    Ok(())
+}
+
+/// A server that took nothing yet drops these bytes for this reason, and still waits for the stream.
+fn assert_dropped<R: Abort>(rt: &R, server: &mut End, datagram: &mut [u8], reason: DropReason) {
+    let received = server.receive(Instant::from_nanos(7), None, datagram);
+    assert!(rt; matches!(received, Received::Dropped(told) if told == reason), "{reason:?}");
+    assert!(rt; !server.is_closed() && server.lost().is_none());
+    assert_eq!(rt; server.streams().accept(Dir::Bi), None);
+}
+
+#[test]
+fn bad_datagrams_are_dropped(rt: HostRuntime) -> Result<(), Fail> {
+    let mut server = end(rt.alloc(), Side::Server, 0x50, 0xc0)?;
+    for length in 0..SEALED.len() {
+        let reason = if length < 29 {
+            DropReason::TooShort
+        } else {
+            DropReason::NotOpened
+        };
+        let mut cut = SEALED;
+        assert_dropped(&rt, &mut server, &mut cut[..length], reason);
+    }
+    // A long header, a fixed bit of 0, another id at both ends of it, another number, another key phase, and another
+    // number and mark in the tag.
+    let flips = [
+        (0, 0x80, DropReason::NotShort),
+        (0, 0x40, DropReason::FixedBit),
+        (1, 0x01, DropReason::UnknownId),
+        (8, 0x80, DropReason::UnknownId),
+        (9, 0x01, DropReason::NotOpened),
+        (0, 0x04, DropReason::KeyPhase),
+        (25, 0x01, DropReason::NotOpened),
+        (33, 0x01, DropReason::NotOpened),
+    ];
+    for (at, bits, reason) in flips {
+        let mut flipped = SEALED;
+        flipped[at] ^= bits;
+        assert_dropped(&rt, &mut server, &mut flipped, reason);
+    }
+    // A datagram that the server itself sealed.
+    let mut foreign = SEALED;
+    foreign[26..].fill(b's');
+    assert_dropped(&rt, &mut server, &mut foreign, DropReason::NotOpened);
+    // None of these changed what the good one comes to.
+    let now = Instant::from_nanos(0);
+    let mut good = SEALED;
+    let received = server.receive(now, None, &mut good);
+    assert!(rt; matches!(received, Received::Taken));
+    assert_eq!(rt; server.streams().accept(Dir::Bi), Some(StreamId::new(Side::Client, Dir::Bi, 0)));
+    let mut again = SEALED;
+    let received = server.receive(now, None, &mut again);
+    assert!(rt; matches!(received, Received::Dropped(DropReason::Duplicate)));
     Ok(())
 }

@@ -1,10 +1,12 @@
 //! The language of scripts: a line is a call at one end.
-ghost use Rattle.std.specs.Prelude.{◌≡◌, ◌<◌, ◌≤◌, ◌^◌, ◌⊎◌, Some, None, Ok, Err, MatchResult, length};
+ghost use Rattle.std.specs.Prelude.{◌≡◌, ◌<◌, ◌≤◌, ◌^◌, ◌⊎◌, ◌∷◌, [], Some, None, Ok, Err, MatchResult, true, length, drop, ok_or};
 ghost use Rattle.std.specs.Char.{is_ascii_uppercase};
 ghost use Rattle.std.specs.List.{list_any};
 ghost use Rattle.std.specs.Option.{SomeIff};
 ghost use Rattle.std.specs.Str.Parse.{IsNumeral, digits_value};
-ghost use Rattle.quic_run_core.specs.Named.{side_named, dir_named, mark_named, bytes_named, IsSkipped};
+ghost use Rattle.quic_run_core.specs.Named.{side_named, dir_named, mark_named, bytes_named};
+ghost use Rattle.quic_run_core.specs.Language.{number_named, varint_named, first, two, three, reads, delivers, words_left, setting_said, settings_said, call_said, command_said, words_said, is_skipped, said, command_of, asked_of, asked_read, Reads};
+ghost use Rattle.quic_run_core.specs.Language.{words as words_of};
 
 use bytes::Bytes;
 use hex::FromHexError;
@@ -69,7 +71,10 @@ struct LineWords<'a> {
 
 impl<'a> LineWords<'a> {
     /// The next word.
-    fn next(&mut self) -> Result<&'a str, LineError> {
+    fn next(&mut self) -> Result<&'a str, LineError>
+        ensures word { MatchResult result (λ w. words_left self.old.rest ≡ w.now ∷ words_left self.new.rest) (λ e. (e ≡ LineError.BadCommand) × (words_left self.old.rest ≡ [])) }
+        ensures rest { words_left self.new.rest ≡ drop 1 (words_left self.old.rest) }
+    {
         let Some(text) = self.rest else {
             return Err(LineError::BadCommand);
         };
@@ -85,54 +90,82 @@ impl<'a> LineWords<'a> {
         }
     }
 
-    fn number(&mut self) -> Result<u64, LineError> {
+    fn number(&mut self) -> Result<u64, LineError>
+        ensures answer { result ≡ ok_or (first number_named (words_left self.old.rest)) LineError.BadCommand }
+        ensures rest { words_left self.new.rest ≡ drop 1 (words_left self.old.rest) }
+    {
         number(self.next()?).ok_or(LineError::BadCommand)
     }
 
-    fn varint(&mut self) -> Result<VarInt, LineError> {
+    fn varint(&mut self) -> Result<VarInt, LineError>
+        ensures answer { result ≡ ok_or (first varint_named (words_left self.old.rest)) LineError.BadCommand }
+        ensures rest { words_left self.new.rest ≡ drop 1 (words_left self.old.rest) }
+    {
         VarInt::from_u64(self.number()?).map_err(|_| LineError::BadCommand)
     }
 
-    fn stream_id(&mut self) -> Result<StreamId, LineError> {
+    fn stream_id(&mut self) -> Result<StreamId, LineError>
+        ensures answer { result ≡ ok_or (first varint_named (words_left self.old.rest)) LineError.BadCommand }
+        ensures rest { words_left self.new.rest ≡ drop 1 (words_left self.old.rest) }
+    {
         Ok(StreamId::from(self.varint()?))
     }
 
-    fn moment(&mut self) -> Result<Instant, LineError> {
+    fn moment(&mut self) -> Result<Instant, LineError>
+        ensures answer { result ≡ ok_or (first number_named (words_left self.old.rest)) LineError.BadCommand }
+        ensures rest { words_left self.new.rest ≡ drop 1 (words_left self.old.rest) }
+    {
         Ok(Instant::from_nanos(self.number()?))
     }
 
-    fn index(&mut self) -> Result<usize, LineError> {
+    fn index(&mut self) -> Result<usize, LineError>
+        ensures answer { result ≡ ok_or (first number_named (words_left self.old.rest)) LineError.BadCommand }
+        ensures rest { words_left self.new.rest ≡ drop 1 (words_left self.old.rest) }
+    {
         Ok(self.number()? as usize)
     }
 
-    fn side(&mut self) -> Result<Side, LineError> {
+    fn side(&mut self) -> Result<Side, LineError>
+        ensures answer { result ≡ ok_or (first side_named (words_left self.old.rest)) LineError.BadCommand }
+        ensures rest { words_left self.new.rest ≡ drop 1 (words_left self.old.rest) }
+    {
         side(self.next()?).ok_or(LineError::BadCommand)
     }
 
-    fn dir(&mut self) -> Result<Dir, LineError> {
+    fn dir(&mut self) -> Result<Dir, LineError>
+        ensures answer { result ≡ ok_or (first dir_named (words_left self.old.rest)) LineError.BadCommand }
+        ensures rest { words_left self.new.rest ≡ drop 1 (words_left self.old.rest) }
+    {
         dir(self.next()?).ok_or(LineError::BadCommand)
     }
 
-    fn mark(&mut self) -> Result<Option<EcnCodepoint>, LineError> {
+    fn mark(&mut self) -> Result<Option<EcnCodepoint>, LineError>
+        ensures answer { result ≡ ok_or (first mark_named (words_left self.old.rest)) LineError.BadCommand }
+        ensures rest { words_left self.new.rest ≡ drop 1 (words_left self.old.rest) }
+    {
         mark(self.next()?).ok_or(LineError::BadCommand)
     }
 
-    fn bytes(&mut self, alloc: Global) -> Result<Bytes, LineError> {
+    fn bytes(&mut self, alloc: Global) -> Result<Bytes, LineError>
+        ensures answer { MatchResult result
+            (λ bytes. first bytes_named (words_left self.old.rest) ≡ Some bytes)
+            (λ e. (e ≡ LineError.OutOfMemory) ⊎ ((e ≡ LineError.BadCommand) × (first bytes_named (words_left self.old.rest) ≡ None))) }
+        ensures rest { words_left self.new.rest ≡ drop 1 (words_left self.old.rest) }
+    {
         let bytes = bytes_of(alloc, self.next()?)?;
         Ok(Bytes::copy_from_slice(alloc, &bytes)?)
     }
 
-    fn setting(&mut self) -> Result<Setting, LineError> {
-        match self.next()? {
-            "receive_window" => Ok(Setting::ReceiveWindow(self.varint()?)),
-            "stream_window" => Ok(Setting::StreamWindow(self.varint()?)),
-            "send_window" => Ok(Setting::SendWindow(self.number()?)),
-            "word" => Ok(Setting::Word(self.number()?)),
-            _ => Err(LineError::BadCommand),
-        }
+    fn setting(&mut self) -> Result<Setting, LineError>
+        ensures { Reads result (λ setting. setting) (settings_said (words_left self.old.rest)) (words_left self.new.rest) }
+    {
+        let name = self.next()?;
+        setting_of(name, self)
     }
 
-    fn read_call(&mut self, alloc: Global) -> Result<ReadCall, LineError> {
+    fn read_call(&mut self, alloc: Global) -> Result<ReadCall, LineError>
+        ensures { Reads result (λ read. asked_read read.id read.nexts.items read.finalize) (two reads varint_named number_named (words_left self.old.rest)) (words_left self.new.rest) }
+    {
         let id = self.stream_id()?;
         let max = self.index()?;
         Ok(ReadCall {
@@ -142,7 +175,9 @@ impl<'a> LineWords<'a> {
         })
     }
 
-    fn delivery(&mut self) -> Result<Delivery, LineError> {
+    fn delivery(&mut self) -> Result<Delivery, LineError>
+        ensures { Reads result (λ delivery. delivers delivery.now delivery.ecn delivery.index) (three delivers number_named mark_named number_named (words_left self.old.rest)) (words_left self.new.rest) }
+    {
         Ok(Delivery {
             now: self.moment()?,
             ecn: self.mark()?,
@@ -153,7 +188,8 @@ impl<'a> LineWords<'a> {
 
 /// A decimal number: digits alone, and at most the greatest 64-bit number.
 fn number(word: &str) -> Option<u64>
-    ensures { SomeIff result (IsNumeral 10 word.now × (digits_value 10 word.now < 2 ^ 64)) (digits_value 10 word.now) }
+    ensures numeral { SomeIff result (IsNumeral 10 word.now × (digits_value 10 word.now < 2 ^ 64)) (digits_value 10 word.now) }
+    ensures value { result ≡ number_named word.now }
 {
     match word.as_bytes() {
         [b'+', ..] => None,
@@ -222,8 +258,23 @@ fn bytes_of(alloc: Global, word: &str) -> Result<Vec<u8>, LineError>
     }
 }
 
+/// The option of this name, set to what the next word names.
+fn setting_of(name: &str, words: &mut LineWords) -> Result<Setting, LineError>
+    ensures { Reads result (λ setting. setting) (setting_said name.now (words_left words.old.rest)) (words_left words.new.rest) }
+{
+    match name {
+        "receive_window" => Ok(Setting::ReceiveWindow(words.varint()?)),
+        "stream_window" => Ok(Setting::StreamWindow(words.varint()?)),
+        "send_window" => Ok(Setting::SendWindow(words.number()?)),
+        "word" => Ok(Setting::Word(words.number()?)),
+        _ => Err(LineError::BadCommand),
+    }
+}
+
 /// The call that these words name.
-fn call_of(alloc: Global, name: &str, words: &mut LineWords) -> Result<Call, LineError> {
+fn call_of(alloc: Global, name: &str, words: &mut LineWords) -> Result<Call, LineError>
+    ensures { Reads result asked_of (call_said name.now (words_left words.old.rest)) (words_left words.new.rest) }
+{
     match name {
         "open" => Ok(Call::Open(words.dir()?)),
         "accept" => Ok(Call::Accept(words.dir()?)),
@@ -239,37 +290,68 @@ fn call_of(alloc: Global, name: &str, words: &mut LineWords) -> Result<Call, Lin
     }
 }
 
-/// What a line's words ask for.
-fn parse_words(alloc: Global, words: &mut LineWords) -> Result<Line, LineError> {
-    let side = words.side()?;
-    match words.next()? {
+/// What the words behind this name ask of an end.
+fn command(alloc: Global, side: Side, name: &str, words: &mut LineWords) -> Result<Line, LineError>
+    ensures { Reads result command_of (command_said side name.now (words_left words.old.rest)) (words_left words.new.rest) }
+{
+    match name {
         "set" => Ok(Line::Set(side, words.setting()?)),
         "show" => Ok(Line::Show(side, words.index()?)),
-        name => Ok(Line::Call(RunEvent {
+        _ => Ok(Line::Call(RunEvent {
             side,
             call: call_of(alloc, name, words)?,
         })),
     }
 }
 
-/// Reads one line, which has no line break.
-pub fn parse_line(alloc: Global, line: &[u8]) -> Result<Line, LineError>
-    ensures too_long { MAX_LINE < length line.now → result ≡ Err LineError.BadCommand }
-    ensures skipped { length line.now ≤ MAX_LINE → IsSkipped line.now → result ≡ Ok Line.Empty }
+/// What a line's words ask for.
+fn parse_words(alloc: Global, words: &mut LineWords) -> Result<Line, LineError>
+    ensures { Reads result command_of (words_said (words_left words.old.rest)) (words_left words.new.rest) }
 {
-    if line.len() > MAX_LINE {
-        return Err(LineError::BadCommand);
-    }
-    if line.is_empty() || line[0] == b'#' {
-        return Ok(Line::Empty);
-    }
-    let Ok(text) = str::from_utf8(line) else {
-        return Err(LineError::BadCommand);
-    };
+    let side = words.side()?;
+    let name = words.next()?;
+    command(alloc, side, name, words)
+}
+
+/// What a line's text asks for: nothing stands behind the words that are read.
+fn parse_text(alloc: Global, text: &str) -> Result<Line, LineError>
+    ensures { MatchResult result
+        (λ command. words_said (words_of text.now) ≡ Some (command_of command))
+        (λ e. (e ≡ LineError.OutOfMemory) ⊎ ((e ≡ LineError.BadCommand) × (words_said (words_of text.now) ≡ None))) }
+{
     let mut words = LineWords { rest: Some(text) };
     let parsed = parse_words(alloc, &mut words)?;
     match words.rest {
         None => Ok(parsed),
         Some(_) => Err(LineError::BadCommand),
+    }
+}
+
+/// Whether a line is empty or a comment.
+fn is_skipped(line: &[u8]) -> bool
+    ensures { result ≡ is_skipped line.now }
+{
+    line.is_empty() || line[0] == b'#'
+}
+
+/// Reads one line, which has no line break.
+///
+/// `BadCommand`: it isn't in the language. `OutOfMemory`: memory lacked.
+pub fn parse_line(alloc: Global, line: &[u8]) -> Result<Line, LineError>
+    ensures too_long { MAX_LINE < length line.now → result ≡ Err LineError.BadCommand }
+    ensures skipped { length line.now ≤ MAX_LINE → is_skipped line.now ≡ true → result ≡ Ok Line.Empty }
+    ensures meaning { MatchResult result
+        (λ command. said line.now ≡ Some (command_of command))
+        (λ e. (e ≡ LineError.OutOfMemory) ⊎ ((e ≡ LineError.BadCommand) × (said line.now ≡ None))) }
+{
+    if line.len() > MAX_LINE {
+        return Err(LineError::BadCommand);
+    }
+    if is_skipped(line) {
+        return Ok(Line::Empty);
+    }
+    match str::from_utf8(line) {
+        Ok(text) => parse_text(alloc, text),
+        Err(_) => Err(LineError::BadCommand),
     }
 }

@@ -1,69 +1,59 @@
 //! The two ends of a script.
+ghost use Rattle.std.specs.Prelude.{◌≡◌, ◌++◌, IfOk, IfErr, OnOk, string_bytes};
+ghost use Rattle.quic_wire_core.specs.declared.stream_id.Side.TheVariants.{Client, Server};
+ghost use Rattle.quic_connection_core.specs.Machine.{given_by};
+ghost use Rattle.quic_connection.specs.Ends.{world_of};
+ghost use Rattle.quic_run_core.specs.KeysOf.{keys_of};
+ghost use Rattle.quic_run_core.specs.Policies.{plain_policies, policies_in};
+ghost use Rattle.quic_run_core.specs.Shown.{AreNumbers, shown_text};
+ghost use Rattle.quic_run_core.specs.Refusals.{line_error};
+ghost use Rattle.quic_run_core.specs.Scripts.{first_id, first_end, first_world, Tells};
 
 use crate::answer::put_answer;
 use crate::key::{PlainHeaderKey, PlainKey, keys_for};
-use crate::script::{LineError, Setting};
+use crate::options::Options;
+use crate::script::LineError;
 use crate::show::put_datagram;
 use crate::words::Words;
-use quic_connection::{
-    Call, Config, ConfigError, Connection, Ends, Given, Instant, RunEvent, TransportConfig, step,
-};
+use quic_connection::{Config, ConfigError, Connection, Ends, Given, Instant, RunEvent, step};
 use quic_wire_core::{ConnectionId, Side};
 use std::alloc::{AllocError, Global};
-
-/// The random word of an end that is given no other.
-const WORD: u64 = 63;
 
 /// The order in which transport parameters are written.
 const ORDER: [u8; 13] = [0, 1, 2, 3, 4, 5, 6, 7, 8, 9, 10, 11, 12];
 
 type End = Connection<PlainHeaderKey, PlainKey, Words>;
 
-/// The options of an end.
-#[derive(Clone, Copy, Debug)]
-pub struct Options {
-    transport: TransportConfig,
-    word: u64,
-}
-
-impl Options {
-    /// The options of an end for which none is set.
-    pub fn new() -> Self {
-        Options {
-            transport: TransportConfig::default(),
-            word: WORD,
-        }
-    }
-
-    /// Sets one option, in place of what it was.
-    pub fn set(&mut self, setting: Setting) {
-        match setting {
-            Setting::ReceiveWindow(value) => {
-                self.transport.receive_window(value);
-            }
-            Setting::StreamWindow(value) => {
-                self.transport.stream_receive_window(value);
-            }
-            Setting::SendWindow(value) => {
-                self.transport.send_window(value);
-            }
-            Setting::Word(word) => self.word = word,
-        }
-    }
-}
-
 /// The first id of an end.
-fn first_id(side: Side) -> ConnectionId {
+fn first_id(side: Side) -> ConnectionId
+    ensures { result ≡ first_id side }
+{
     match side {
         Side::Client => ConnectionId::new(&[0xc0; 8]),
         Side::Server => ConnectionId::new(&[0x50; 8]),
     }
 }
 
-/// An end that is made at moment 0.
-fn make_end(alloc: Global, side: Side, own: &Options, peer: &Options) -> Result<End, LineError> {
+/// Ends that can't be made are a bad command, but for want of memory.
+impl From<ConfigError> for LineError {
+    ghost from_gives = { λ error e. e ≡ line_error error };
+
+    fn from(error: ConfigError) -> LineError {
+        match error {
+            ConfigError::Memory => LineError::OutOfMemory,
+            ConfigError::Parameters | ConfigError::IdLength => LineError::BadCommand,
+        }
+    }
+}
+
+/// An end that is made at moment 0. Its options and those of the peer are always lawful: an error is want of memory.
+fn make_end(alloc: Global, side: Side, own: &Options, peer: &Options) -> Result<End, LineError>
+    ensures end { IfOk result (λ made. made.end ≡ first_end side own.now peer.now) }
+    ensures keys { IfOk result (λ made. made.keys ≡ keys_of side) }
+    ensures memory { IfErr result (λ e. e ≡ LineError.OutOfMemory) }
+{
     let parameters = Config::new(peer.transport).write_parameters(alloc, &ORDER)?;
-    Connection::new(
+    let end = Connection::new(
         alloc,
         side,
         &Config::new(own.transport),
@@ -74,27 +64,30 @@ fn make_end(alloc: Global, side: Side, own: &Options, peer: &Options) -> Result<
         Instant::from_nanos(0),
         Words::word(own.word),
         true,
-    )
-    .map_err(|e| match e {
-        ConfigError::Memory => LineError::OutOfMemory,
-        _ => LineError::BadCommand,
-    })
+    )?;
+    Ok(end)
 }
 
 /// Two ends, and what they gave out.
 #[derive(Drop)]
-pub struct Session {
+pub(crate) struct Session {
     alloc: Global,
     ends: Ends<PlainHeaderKey, PlainKey, Words>,
     given: Given,
     // The numbers of each end's first datagrams, as far as they were shown.
     client_numbers: Vec<u64>,
     server_numbers: Vec<u64>,
+    ghost plain: { policies_in ends ≡ plain_policies },
+    ghost client_known: { AreNumbers Client given.client.items client_numbers.items },
+    ghost server_known: { AreNumbers Server given.server.items server_numbers.items },
 }
 
 impl Session {
-    /// Two ends with these options.
-    pub fn new(alloc: Global, client: &Options, server: &Options) -> Result<Self, LineError> {
+    /// Two ends with these options. An error is want of memory.
+    pub(crate) fn new(alloc: Global, client: &Options, server: &Options) -> Result<Self, LineError>
+        ensures world { IfOk result (λ session. world_of session.ends session.given ≡ first_world client.now server.now) }
+        ensures memory { IfErr result (λ e. e ≡ LineError.OutOfMemory) }
+    {
         Ok(Session {
             alloc,
             ends: Ends {
@@ -108,7 +101,9 @@ impl Session {
     }
 
     /// Makes a call, and appends what it answers.
-    pub fn call(&mut self, event: &RunEvent, out: &mut String) -> Result<(), AllocError> {
+    pub(crate) fn call(&mut self, event: &RunEvent, out: &mut String) -> Result<(), AllocError>
+        ensures { OnOk result (Tells (world_of self.old.ends self.old.given) event.now (string_bytes out.old) (string_bytes out.new) (world_of self.new.ends self.new.given)) }
+    {
         let answer = step(self.alloc, &mut self.ends, &mut self.given, event)?;
         let given = match event.side {
             Side::Client => self.given.client.len(),
@@ -118,7 +113,15 @@ impl Session {
     }
 
     /// Appends what stands in a datagram that an end gave out.
-    pub fn show(&mut self, side: Side, index: usize, out: &mut String) -> Result<(), AllocError> {
+    pub(crate) fn show(
+        &mut self,
+        side: Side,
+        index: usize,
+        out: &mut String,
+    ) -> Result<(), AllocError>
+        ensures same { world_of self.new.ends self.new.given ≡ world_of self.old.ends self.old.given }
+        ensures text { OnOk result (string_bytes out.new ≡ string_bytes out.old ++ shown_text side (given_by side (world_of self.old.ends self.old.given)) index) }
+    {
         match side {
             Side::Client => {
                 let numbers = &mut self.client_numbers;
@@ -129,18 +132,5 @@ impl Session {
                 put_datagram(self.alloc, side, &self.given.server, index, numbers, out)
             }
         }
-    }
-}
-
-/// How a call is named in a script.
-pub fn call_name(call: &Call) -> &'static str {
-    match call {
-        Call::Open(_) => "open",
-        Call::Accept(_) => "accept",
-        Call::Write(_, _) => "write",
-        Call::Finish(_) => "finish",
-        Call::Read(_) => "read",
-        Call::Poll(_) => "poll",
-        Call::Deliver(_) => "deliver",
     }
 }

@@ -1,0 +1,55 @@
+-- The two ends of a script, as they are made and as they go on.
+use Rattle.std.proofs.Common.{◌≡◌, ◌≢◌, ℕ, true, List, ◌++◌, [], Option, Some, None, Result, Ok, Err, IfOk, OnErr, refl, sym, ap, ◌∙◌, append-nil}
+use Rattle.std.specs.declared.alloc.AllocError.{AllocError}
+use Rattle.quic_wire_core.specs.declared.stream_id.Side.{Side}
+use Rattle.quic_wire_core.specs.declared.stream_id.Side.TheVariants.{Client, Server}
+use Rattle.quic_wire_core.specs.StreamId.{other_side}
+use Rattle.quic_wire.specs.Parameters.{ParameterValues}
+use Rattle.quic_wire.specs.ParametersRead.{parameters_at}
+use Rattle.quic_connection_core.specs.declared.answers.ConfigError.{ConfigError}
+use Rattle.quic_connection_core.specs.declared.answers.ConfigError.TheVariants as config_errors
+use Rattle.quic_connection_core.specs.declared.run.RunEvent.{RunEvent}
+use Rattle.quic_connection_core.specs.declared.run.Answer.{Answer}
+use Rattle.quic_connection_core.specs.Settings.{Settings, parameters_of}
+use Rattle.quic_connection_core.specs.End.{End, MadeFrom, refusal_of}
+use Rattle.quic_connection_core.specs.Machine.{World, Policies, IsStep, given_by, end_at, changed, gives, policy_at}
+use Rattle.quic_run_core.specs.declared.options.Options.{Options}
+use Rattle.quic_run_core.specs.Scripts.{first_id, first_end}
+
+-- the ids of both ends are lawful
+lawful : (E : Type 0) (side : Side) (theirs : ParameterValues) → refusal_of {E = E} (Ok theirs) (first_id side) (first_id (other_side side)) ≡ None
+lawful E Client theirs = refl
+lawful E Server theirs = refl
+
+-- an end is never refused, but for want of memory
+pub never_refused : {E : Type 0} (side other : Side) (e : ConfigError) (read : Result ParameterValues E) (theirs : ParameterValues) (own_id peer_id : List ℕ) → read ≡ Ok theirs → own_id ≡ first_id side → other ≡ other_side side → peer_id ≡ first_id other → (e ≢ config_errors.Memory → Some e ≡ refusal_of read own_id peer_id) → e ≢ config_errors.Memory → ⊥
+never_refused {E} side other e read theirs own_id peer_id is own turned peer refusal no_memory =
+    let refused : Some e ≡ refusal_of {E = E} (Ok theirs) (first_id side) (first_id (other_side side)) = rw (is, own, peer, turned) at (refusal no_memory) in
+    let never : Some e ≡ None = refused ∙ lawful E side theirs in
+    cc
+
+-- what is made of the options is the first end
+pub made_first : (side other : Side) (own peer : Options) (settings told : Settings) (bytes items own_id peer_id : List ℕ) (now : ℕ) (end : End) → settings ≡ own.transport → told ≡ peer.transport → bytes ≡ items → parameters_at items ≡ Ok (parameters_of told) → own_id ≡ first_id side → other ≡ other_side side → peer_id ≡ first_id other → now ≡ 0 → MadeFrom side settings bytes own_id peer_id now true end → end ≡ first_end side own peer
+made_first side other own peer settings told bytes items own_id peer_id now end set said same read own_is turned peer_is zero made =
+    rw (same, read, said, set, own_is, peer_is, turned, zero) at made
+
+-- an end has given what it had given, and more
+pub given_more : (k : Policies) (w next : World) (event : RunEvent) (r : Result Answer AllocError) (side : Side) → IfOk r (λ a. IsStep k w event a next) → OnErr r (next ≡ w) → (more : List (List ℕ)) × (given_by side next ≡ given_by side w ++ more)
+given_more k w next event (Err e) side ok err = ([], ap (λ (v : World). given_by side v) err ∙ sym (append-nil (given_by side w)))
+given_more k w next event (Ok a) side ok err =
+    let e = end_at event.side next in
+    let ds = gives (policy_at event.side k) (end_at event.side w) event.call a in
+    let here = go event.side side e ds in
+    (here.0, ap (λ (v : World). given_by side v) ok.others ∙ here.1)
+  where
+    go : (at side : Side) (e : End) (ds : List (List ℕ)) → (more : List (List ℕ)) × (given_by side (changed at w e ds) ≡ given_by side w ++ more)
+    go Client Client e ds = (ds, refl)
+    go Client Server e ds = ([], sym (append-nil w.from_server))
+    go Server Client e ds = ([], sym (append-nil w.from_client))
+    go Server Server e ds = (ds, refl)
+
+-- what is nothing but want of memory is it
+pub is_memory : (e : ConfigError) → (e ≢ config_errors.Memory → ⊥) → e ≡ config_errors.Memory
+is_memory config_errors.Parameters h = absurd (h (λ is. (cc)))
+is_memory config_errors.IdLength h = absurd (h (λ is. (cc)))
+is_memory config_errors.Memory h = refl

@@ -1,0 +1,91 @@
+-- How the words of a line are read, one after another.
+use Rattle.std.proofs.Common.{◌≡◌, ℕ, ◌+◌, ◌<◌, ◌^◌, ◌==◌, List, [], ◌∷◌, length, drop, Bool, true, false, cond, not, ◌&&◌, nat_lt, if◌then◌else◌, Option, Some, None, Result, Ok, Err, ok_or, refl, arith}
+use Rattle.std.specs.List.{slice_split, onto_first, position_or_len, before_first, after_first}
+use Rattle.std.specs.Option.{SomeIff}
+use Rattle.std.specs.Str.{all_ascii_digits, is_utf8, IsUtf8}
+use Rattle.std.specs.Str.Parse.{IsNumeral, digits_value}
+use Rattle.std.proofs.lemmas.List.Splits.{slice_split_first}
+use Rattle.std.proofs.lemmas.Bool.{ltb-true, lt-ltb}
+use Rattle.std.proofs.lemmas.Str.{IsUtf8-from_is_utf8}
+use Rattle.std.proofs.lemmas.Str.Parse.{IsNumeralModel, numerals_by_value, tells_all_ascii_digits}
+use Rattle.quic_wire_core.specs.declared.stream_id.Side.{Side}
+use Rattle.quic_run_core.specs.Named.{side_named}
+use Rattle.quic_run_core.specs.Language.{Command, words, ends, first, number_named, at_side, command_said, words_said, is_skipped, said}
+
+-- a blank
+abbrev is_blank : ℕ → Bool
+is_blank b = b == 32
+
+-- the first word ends at the first blank
+pub words-split : (text word rest : List ℕ) → (word ≡ before_first is_blank text) × (rest ≡ after_first is_blank text) × (position_or_len is_blank text < length text) → words text ≡ word ∷ words rest
+words-split text word rest h = rw (h.0, h.1) (slice_split_first is_blank text 0 h.2)
+
+-- a text without a blank is one word
+pub words-whole : (text : List ℕ) → position_or_len is_blank text ≡ length text → words text ≡ text ∷ []
+words-whole [] h = refl
+words-whole (b ∷ bs) h = go (b == 32) (words-whole bs) h
+  where
+    go : (t : Bool) → (position_or_len is_blank bs ≡ length bs → words bs ≡ bs ∷ []) → cond (not t) (1 + position_or_len is_blank bs) 0 ≡ length (b ∷ bs) → cond t ([] ∷ words bs) (onto_first b (words bs)) ≡ (b ∷ bs) ∷ []
+    go true ih e = absurd (omega arith)
+    go false ih e = let whole : words bs ≡ bs ∷ [] = ih (omega arith) in rw whole refl
+
+-- a text has a word at least
+pub words_stand : {A : Type 0} (text : List ℕ) (whole : Option A) → ends (words text) whole ≡ None
+words_stand [] whole = refl
+words_stand (b ∷ bs) whole = go (b == 32) (words bs)
+  where
+    go : (t : Bool) (ws : List (List ℕ)) → ends (cond t ([] ∷ ws) (onto_first b ws)) whole ≡ None
+    go true ws = refl
+    go false [] = refl
+    go false (w ∷ ws) = refl
+
+-- a text is told as one
+pub is_utf8_not : (bs : List ℕ) → (IsUtf8 bs → ⊥) → is_utf8 bs ≡ false
+is_utf8_not bs h = go (is_utf8 bs) (λ e. h (IsUtf8-from_is_utf8 bs e))
+  where
+    go : (t : Bool) → (t ≡ true → ⊥) → t ≡ false
+    go true f = absurd (f refl)
+    go false f = refl
+
+-- digits are told as digits
+own : IsNumeralModel (λ ds. all_ascii_digits ds ≡ true) (digits_value 10)
+own = numerals_by_value _ tells_all_ascii_digits
+
+-- what is answered of a numeral is the number that it names
+pub number_named-from : (word : List ℕ) (r : Option ℕ) → SomeIff r (IsNumeral 10 word × (digits_value 10 word < 2 ^ 64)) (digits_value 10 word) → r ≡ number_named word
+number_named-from word (Some n) h =
+    let some : nat_lt 0 (length word) ≡ true = lt-ltb 0 (length word) h.0.0.0 in
+    let digits : all_ascii_digits word ≡ true = own.from word h.0.0.1 in
+    let fits : nat_lt (digits_value 10 word) (2 ^ 64) ≡ true = lt-ltb (digits_value 10 word) (2 ^ 64) h.0.1 in
+    rw (some, digits, fits, h.1) refl
+number_named-from word None h =
+    go (nat_lt 0 (length word)) (all_ascii_digits word) (nat_lt (digits_value 10 word) (2 ^ 64))
+    (λ some digits fits. h ((ltb-true 0 (length word) some, own.to word digits), ltb-true (digits_value 10 word) (2 ^ 64) fits))
+  where
+    go : (a b d : Bool) → (a ≡ true → b ≡ true → d ≡ true → ⊥) → None ≡ (if a && b && d then Some (digits_value 10 word) else None)
+    go true true true f = absurd (f refl refl refl)
+    go true true false f = refl
+    go true false d f = refl
+    go false b d f = refl
+
+-- the words behind the name of an end are asked of that end
+pub words_said-at : {E : Type 0} (e : E) (ws : List (List ℕ)) (side : Side) (name : List ℕ) (args : List (List ℕ)) → Ok side ≡ ok_or (first side_named ws) e → drop 1 ws ≡ name ∷ args → words_said ws ≡ command_said side name args
+words_said-at e [] side name args h r = absurd cc
+words_said-at e (w ∷ []) side name args h r = absurd cc
+words_said-at e (w ∷ v ∷ vs) side name args h r = go (side_named w) h
+  where
+    go : (o : Option Side) → Ok side ≡ ok_or o e → at_side o v vs ≡ command_said side name args
+    go None h = absurd cc
+    go (Some s) h =
+        let same : s ≡ side = cc in
+        let named : v ≡ name = cc in
+        let others : vs ≡ args = cc in
+        rw (same, named, others) refl
+
+-- a line of text that is neither too long nor skipped asks for what its words do
+pub said-words : (line : List ℕ) → nat_lt 1048576 (length line) ≡ false → is_skipped line ≡ false → is_utf8 line ≡ true → said line ≡ words_said (words line)
+said-words line short stands text = rw (short, stands, text) refl
+
+-- a line that is no text asks for nothing
+pub said-no_text : (line : List ℕ) → nat_lt 1048576 (length line) ≡ false → is_skipped line ≡ false → is_utf8 line ≡ false → said line ≡ None
+said-no_text line short stands text = rw (short, stands, text) refl

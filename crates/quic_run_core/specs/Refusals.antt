@@ -1,0 +1,11 @@
+-- Why a line that makes the ends can't be run.
+use Rattle.quic_connection_core.specs.declared.answers.ConfigError.{ConfigError}
+use Rattle.quic_connection_core.specs.declared.answers.ConfigError.TheVariants.{Parameters, IdLength, Memory}
+use Rattle.quic_run_core.specs.declared.script.LineError.{LineError}
+use Rattle.quic_run_core.specs.declared.script.LineError.TheVariants.{BadCommand, OutOfMemory}
+
+-- ends that can't be made are a bad command, but for want of memory
+abbrev pub line_error : ConfigError → LineError
+line_error Parameters = BadCommand
+line_error IdLength = BadCommand
+line_error Memory = OutOfMemory

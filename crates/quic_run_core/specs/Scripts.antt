@@ -1,0 +1,156 @@
+-- What a script does: its lines in turn, each with what it prints.
+use Rattle.std.specs.Prelude.{◌≡◌, ◌==◌, ℕ, true, List, [], ◌∷◌, ◌++◌, length, replicate, codes, Option, Some, None, IsSome}
+use Rattle.std.specs.List.{slice_split}
+use Rattle.quic_wire_core.specs.declared.stream_id.Side.{Side}
+use Rattle.quic_wire_core.specs.declared.stream_id.Side.TheVariants.{Client, Server}
+use Rattle.quic_wire_core.specs.StreamId.{other_side}
+use Rattle.quic_connection_core.specs.Settings.{Settings, default_settings, parameters_of}
+use Rattle.quic_connection_core.specs.End.{End, new_end}
+use Rattle.quic_connection_core.specs.Machine.{World, IsStep, given_by}
+use Rattle.quic_connection_core.specs.declared.run.RunEvent.{RunEvent}
+use Rattle.quic_connection_core.specs.declared.run.Answer.{Answer}
+use Rattle.quic_run_core.specs.declared.options.Options.{Options}
+use Rattle.quic_run_core.specs.declared.script.Setting.{Setting}
+use Rattle.quic_run_core.specs.declared.script.Setting.TheVariants.{ReceiveWindow, StreamWindow, SendWindow, Word}
+use Rattle.quic_run_core.specs.Policies.{plain_policies}
+use Rattle.quic_run_core.specs.Printed.{call_text, answer_text}
+use Rattle.quic_run_core.specs.Shown.{shown_text}
+use Rattle.quic_run_core.specs.Language.{Command, Asked, nothing, sets, asks, shows, opens, accepts, writes, finishes, reads, polls, delivers, others, asked_of, said}
+
+-- ---- options
+
+-- the options of an end for which none is set
+abbrev pub first_options : Options
+first_options = record { transport = default_settings; word = 63 }
+
+-- the options with one of them set
+abbrev pub with_setting : Setting → Options → Options
+with_setting (ReceiveWindow value) o = record { transport = record o.transport { receive_window = value }; word = o.word }
+with_setting (StreamWindow value) o = record { transport = record o.transport { stream_receive_window = value }; word = o.word }
+with_setting (SendWindow value) o = record { transport = record o.transport { send_window = value }; word = o.word }
+with_setting (Word word) o = record { transport = o.transport; word = word }
+
+-- ---- the ends
+
+-- the first id of an end: eight times c0 or 50
+abbrev pub first_id : Side → List ℕ
+first_id Client = replicate 8 0xc0
+first_id Server = replicate 8 0x50
+
+-- an end as it is made at moment 0: the other end's options are its limits
+abbrev pub first_end : Side → Options → Options → End
+first_end side own peer = new_end side own.transport (parameters_of peer.transport) (first_id side) (first_id (other_side side)) 0 true
+
+-- both ends as they are made, of the client's options and the server's
+abbrev pub first_world : Options → Options → World
+first_world client server = record { client = first_end Client client server; server = first_end Server server client; from_client = []; from_server = [] }
+
+-- What is printed of an event in a world, and the world behind it: the machine answers so, and leaves it so.
+pub record IsTold (w : World) (event : RunEvent) (text : List ℕ) (next : World) : Type 0 where
+  pub answer : Answer
+  pub step : IsStep plain_policies w event answer next
+  pub is : text ≡ answer_text (length (given_by event.side next)) answer
+
+-- an event's answer is appended to a text
+abbrev pub Tells : World → RunEvent → List ℕ → List ℕ → World → Type 0
+Tells w event old new next = (text : List ℕ) × IsTold w event text next × (new ≡ old ++ text)
+
+-- ---- a line
+
+-- how far a script is: the options of both ends, and the ends once they are made
+pub record Stage : Type 0 where
+  pub client : Options
+  pub server : Options
+  pub world : Option World
+
+-- nothing was done
+abbrev pub first_stage : Stage
+first_stage = record { client = first_options; server = first_options; world = None }
+
+-- a stage with an option of an end set
+abbrev pub with_option : Side → Setting → Stage → Stage
+with_option Client setting s = record { client = with_setting setting s.client; server = s.server; world = s.world }
+with_option Server setting s = record { client = s.client; server = with_setting setting s.server; world = s.world }
+
+-- a stage with these ends
+abbrev pub with_world : World → Stage → Stage
+with_world w s = record { client = s.client; server = s.server; world = Some w }
+
+-- these ends, or those that are made of the options
+abbrev pub world_or_first : Option World → Options → Options → World
+world_or_first None client server = first_world client server
+world_or_first (Some w) client server = w
+
+-- the ends at a stage, which are made now if they aren't yet
+abbrev pub world_at : Stage → World
+world_at s = world_or_first s.world s.client s.server
+
+-- how an end is named
+abbrev pub side_text : Side → List ℕ
+side_text Client = codes "c"
+side_text Server = codes "s"
+
+-- the first two words of a line, and a blank
+abbrev pub heading : Side → List ℕ → List ℕ
+heading side name = side_text side ++ (codes " " ++ (name ++ codes " "))
+
+-- what ends a line
+abbrev pub line_feed : List ℕ
+line_feed = 10 ∷ []
+
+-- a line's answer behind its first two words
+abbrev pub line_text : Side → List ℕ → List ℕ → List ℕ
+line_text side name answer = heading side name ++ (answer ++ line_feed)
+
+-- A call that was asked for: the line has its first two words and what the end answers.
+pub record IsCall (side : Side) (asked : Asked) (s : Stage) (text : List ℕ) (t : Stage) : Type 0 where
+  pub event : RunEvent
+  pub of_side : event.side ≡ side
+  pub of_call : asked_of event.call ≡ asked
+  pub answer : List ℕ
+  pub next : World
+  pub told : IsTold (world_at s) event answer next
+  pub line : text ≡ line_text side (call_text event.call) answer
+  pub after : t ≡ with_world next s
+
+-- What a command prints, and the stage behind it. An option is set before the ends are made.
+abbrev pub IsDone : Command → Stage → List ℕ → Stage → Type 0
+IsDone nothing s text t = (text ≡ []) × (t ≡ s)
+IsDone (sets side setting) s text t = (s.world ≡ None) × (text ≡ line_text side (codes "set") (codes "ok")) × (t ≡ with_option side setting s)
+IsDone (asks side asked) s text t = IsCall side asked s text t
+IsDone (shows side index) s text t = (text ≡ line_text side (codes "show") (shown_text side (given_by side (world_at s)) index)) × (t ≡ with_world (world_at s) s)
+
+-- what a line prints, and the stage behind it, by what it asks for
+abbrev pub Does : Option Command → Stage → List ℕ → Stage → Type 0
+Does None s text t = ⊥
+Does (Some command) s text t = IsDone command s text t
+
+-- a line that can't be run at a stage: it isn't in the language, or sets an option once the ends are made
+abbrev pub IsRefused : Option Command → Stage → Type 0
+IsRefused None s = Unit {0}
+IsRefused (Some nothing) s = ⊥
+IsRefused (Some (sets side setting)) s = IsSome s.world
+IsRefused (Some (asks side asked)) s = ⊥
+IsRefused (Some (shows side index)) s = ⊥
+
+-- ---- a script
+
+-- what stands behind the last line feed is a line where it isn't empty
+abbrev pub last_line : List ℕ → List (List ℕ)
+last_line [] = []
+last_line (b ∷ bs) = (b ∷ bs) ∷ []
+
+-- the lines that are made of the parts between line feeds
+abbrev pub ended : List (List ℕ) → List (List ℕ)
+ended [] = []
+ended (x ∷ []) = last_line x
+ended (x ∷ y ∷ more) = x ∷ ended (y ∷ more)
+
+-- the lines of a script, each ended by a line feed, which the last may lack
+abbrev pub lines_of : List ℕ → List (List ℕ)
+lines_of bytes = ended (slice_split (λ b. b == 10) bytes)
+
+-- lines that are run in turn from a stage, what they print, and the stage behind them
+abbrev pub IsRun : Stage → List (List ℕ) → List ℕ → Stage → Type 0
+IsRun s [] text t = (text ≡ []) × (t ≡ s)
+IsRun s (line ∷ lines) text t = (first : List ℕ) × (mid : Stage) × (rest : List ℕ) × Does (said line) s first mid × IsRun mid lines rest t × (text ≡ first ++ rest)
