@@ -141,7 +141,10 @@ fn nothing_is_delivered_that_was_not_given(rt: HostRuntime) -> Result<(), Fail> 
 /// A server that took nothing yet drops these bytes for this reason, and still waits for the stream.
 fn assert_dropped<R: Abort>(rt: &R, server: &mut End, datagram: &mut [u8], reason: DropReason) {
     let received = server.receive(Instant::from_nanos(7), None, datagram);
-    assert!(rt; matches!(received, Received::Dropped(told) if told == reason), "{reason:?}");
+    assert!(rt;
+        matches!(received, Received::Dropped(told) if told == reason),
+        "{reason:?}"
+    );
     assert!(rt; !server.is_closed() && server.lost().is_none());
     assert_eq!(rt; server.streams().accept(Dir::Bi), None);
 }
@@ -184,7 +187,10 @@ fn bad_datagrams_are_dropped(rt: HostRuntime) -> Result<(), Fail> {
     let mut good = SEALED;
     let received = server.receive(now, None, &mut good);
     assert!(rt; matches!(received, Received::Taken));
-    assert_eq!(rt; server.streams().accept(Dir::Bi), Some(StreamId::new(Side::Client, Dir::Bi, 0)));
+    assert_eq!(rt;
+        server.streams().accept(Dir::Bi),
+        Some(StreamId::new(Side::Client, Dir::Bi, 0))
+    );
     let mut again = SEALED;
     let received = server.receive(now, None, &mut again);
     assert!(rt; matches!(received, Received::Dropped(DropReason::Duplicate)));
