@@ -62,7 +62,7 @@ fn protect_behind<H: HeaderKey, K: PacketKey>(
 /// starts `number_at` bytes behind `start`, and the number and the payload have four bytes or
 /// more.
 ///
-/// `AllocError`: there is no memory for the tag's 16 bytes, and `out` stays as it was.
+/// `AllocError`: `out` has no room for the tag's 16 bytes and there is no memory for them, and `out` stays as it was.
 pub fn seal_packet<H: HeaderKey, K: PacketKey>(
     out: &mut Vec<u8>,
     start: usize,
@@ -76,6 +76,7 @@ pub fn seal_packet<H: HeaderKey, K: PacketKey>(
     requires start { start + number_at + 4 ≤ vec_len out.old }
     ensures ok { OnOk result (out.new.items ≡ take start out.old.items ++ protected (H.masks header_key.now) (H.hides header_key.now) (K.sealed packet_key.now) number_at number (drop start out.old.items)) }
     ensures err { OnErr result (out.new.items ≡ out.old.items) }
+    ensures full { OnErr result (vec_capacity out.old < vec_len out.old + 16) }
 {
     out.reserve(TAG_LEN)?;
     seal_reserved(out, start, number_at, number, header_key, packet_key);
