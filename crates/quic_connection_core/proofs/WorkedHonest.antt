@@ -1,5 +1,5 @@
 -- The worked run meets the premises of the headline.
-use Rattle.std.proofs.Common.{◌≡◌, ℕ, zero, suc, List, [], ◌∷◌, Some, Ok, true, refl, inl, sym, ap, subst, ◌∙◌, lit<}
+use Rattle.std.proofs.Common.{◌≡◌, ℕ, zero, suc, slice_get, List, [], ◌∷◌, Some, Ok, true, refl, inl, sym, ap, subst, ◌∙◌, lit<}
 use Rattle.quic_wire_core.specs.declared.stream_id.Side.{Side}
 use Rattle.quic_wire_core.specs.declared.stream_id.Side.TheVariants.{Client, Server}
 use Rattle.quic_wire_core.specs.declared.stream_id.Dir.TheVariants.{Bi}
@@ -57,25 +57,28 @@ uses e f id q u = ap (λ (c : Call). used c) (call_of e f q) ∙ u
 first_id : (a id : ℕ) → Some a ≡ Some id → id ≡ a
 first_id a id e = let same : a ≡ id = cc in sym same
 
-own_ids : (read : ReadCall) → read.id ≡ 0 → UsesOwnIds (worked_run read)
-own_ids read z side zero id call q u = let never = uses (record { side = Client; call = calls.Open Bi }) (record { side = side; call = call }) id q u in cc
-own_ids read z side (suc zero) id call q u =
+own_at : (read : ReadCall) → read.id ≡ 0 → (side : Side) (i id : ℕ) (call : Call) → slice_get (worked_run read).events i ≡ Some (record { side = side; call = call }) → used call ≡ Some id → In id (ids_of (until (worked_run read) side i))
+own_at read z side zero id call q u = let never = uses (record { side = Client; call = calls.Open Bi }) (record { side = side; call = call }) id q u in cc
+own_at read z side (suc zero) id call q u =
     let e : RunEvent = record { side = Client; call = calls.Write 0 hello } in
     let f : RunEvent = record { side = side; call = call } in
     subst (λ (s : Side). IsOwn read s 1 id) (side_of e f q) (inl (first_id 0 id (uses e f id q u)))
-own_ids read z side (suc (suc zero)) id call q u =
+own_at read z side (suc (suc zero)) id call q u =
     let e : RunEvent = record { side = Client; call = calls.Finish 0 } in
     let f : RunEvent = record { side = side; call = call } in
     subst (λ (s : Side). IsOwn read s 2 id) (side_of e f q) (inl (first_id 0 id (uses e f id q u)))
-own_ids read z side (suc (suc (suc zero))) id call q u = let never = uses (record { side = Client; call = calls.Poll 0 }) (record { side = side; call = call }) id q u in cc
-own_ids read z side (suc (suc (suc (suc zero)))) id call q u = let never = uses delivers (record { side = side; call = call }) id q u in cc
-own_ids read z side (suc (suc (suc (suc (suc zero))))) id call q u = let never = uses delivers (record { side = side; call = call }) id q u in cc
-own_ids read z side (suc (suc (suc (suc (suc (suc zero)))))) id call q u = let never = uses (record { side = Server; call = calls.Accept Bi }) (record { side = side; call = call }) id q u in cc
-own_ids read z side (suc (suc (suc (suc (suc (suc (suc zero))))))) id call q u =
+own_at read z side (suc (suc (suc zero))) id call q u = let never = uses (record { side = Client; call = calls.Poll 0 }) (record { side = side; call = call }) id q u in cc
+own_at read z side (suc (suc (suc (suc zero)))) id call q u = let never = uses delivers (record { side = side; call = call }) id q u in cc
+own_at read z side (suc (suc (suc (suc (suc zero))))) id call q u = let never = uses delivers (record { side = side; call = call }) id q u in cc
+own_at read z side (suc (suc (suc (suc (suc (suc zero)))))) id call q u = let never = uses (record { side = Server; call = calls.Accept Bi }) (record { side = side; call = call }) id q u in cc
+own_at read z side (suc (suc (suc (suc (suc (suc (suc zero))))))) id call q u =
     let e : RunEvent = record { side = Server; call = calls.Read read } in
     let f : RunEvent = record { side = side; call = call } in
     subst (λ (s : Side). IsOwn read s 7 id) (side_of e f q) (inl (first_id read.id id (uses e f id q u) ∙ z))
-own_ids read z side (suc (suc (suc (suc (suc (suc (suc (suc i)))))))) id call q u = cc
+own_at read z side (suc (suc (suc (suc (suc (suc (suc (suc i)))))))) id call q u = cc
+
+own_ids : (read : ReadCall) → read.id ≡ 0 → UsesOwnIds (worked_run read)
+own_ids read z side i id call a at u = own_at read z side i id call at.event u
 
 pub is_honest : (read : ReadCall) → read.id ≡ 0 → IsHonest (worked_run read)
 is_honest read z = record { start = are_started; keys = are_keys; ids = own_ids read z }

@@ -75,9 +75,14 @@ used (calls.Finish id) = Some id
 used (calls.Read read) = Some read.id
 used call = None
 
--- applications use only ids that were opened or accepted at their end
+-- a call at an end, and what it was answered
+pub record IsAt (r : Run) (i : ℕ) (side : Side) (call : Call) (a : Answer) : Type 0 where
+  pub event : slice_get r.events i ≡ Some (record { side = side; call = call })
+  pub answer : slice_get r.answers i ≡ Some a
+
+-- applications use only ids that were opened or accepted at their end before, in each call that was answered
 abbrev pub UsesOwnIds : Run → Type 0
-UsesOwnIds r = (side : Side) (i id : ℕ) (call : Call) → slice_get r.events i ≡ Some (record { side = side; call = call }) → used call ≡ Some id → In id (ids_of (until r side i))
+UsesOwnIds r = (side : Side) (i id : ℕ) (call : Call) (a : Answer) → IsAt r i side call a → used call ≡ Some id → In id (ids_of (until r side i))
 
 -- the premises of the headline
 pub record IsHonest (r : Run) : Type 0 where
@@ -90,11 +95,6 @@ pub record IsHonest (r : Run) : Type 0 where
 -- xs are the first of ys
 abbrev pub IsPrefixOf : List ℕ → List ℕ → Type 0
 IsPrefixOf xs ys = (rest : List ℕ) × (xs ++ rest ≡ ys)
-
--- a call at an end, and what it was answered
-pub record IsAt (r : Run) (i : ℕ) (side : Side) (call : Call) (a : Answer) : Type 0 where
-  pub event : slice_get r.events i ≡ Some (record { side = side; call = call })
-  pub answer : slice_get r.answers i ≡ Some a
 
 -- Each clause speaks of the end at `side`, and of a place before which no delivery and no poll met want of memory.
 
