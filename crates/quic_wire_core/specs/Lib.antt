@@ -9,3 +9,4 @@ pub mod FrameType
 pub mod Reason
 pub mod TransportError
 pub mod Ecn
+pub mod Runs

@@ -4,6 +4,7 @@
 mod coding;
 mod frame_type;
 pub mod laws;
+mod range_set;
 mod reason;
 mod shared;
 mod stream_id;
@@ -12,6 +13,7 @@ mod varint;
 
 pub use coding::{Codec, UnexpectedEnd};
 pub use frame_type::FrameType;
+pub use range_set::{ArrayRangeSet, RangeSet};
 pub use reason::Reason;
 pub use shared::{ConnectionId, EcnCodepoint, MAX_CID_SIZE};
 pub use stream_id::{Dir, Side, StreamId};
