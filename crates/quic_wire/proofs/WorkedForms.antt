@@ -3,7 +3,7 @@ use Rattle.std.proofs.Common.{ℕ, zero, suc, ◌*◌, ◌^◌, ◌<◌, ◌≤�
 use Rattle.std.specs.Prelude.{true, false, replicate}
 use Rattle.quic_wire_core.specs.Varint.{Spells}
 use Rattle.quic_wire.specs.declared.transport_parameters.id.TransportParameterId.{TransportParameterId}
-use Rattle.quic_wire.specs.declared.transport_parameters.id.TransportParameterId.TheVariants.{InitialMaxData, InitialMaxStreamDataBidiLocal, InitialMaxStreamDataBidiRemote, InitialMaxStreamDataUni, InitialMaxStreamsBidi, InitialMaxStreamsUni}
+use Rattle.quic_wire.specs.declared.transport_parameters.id.TransportParameterId.TheVariants.{MaxIdleTimeout, MaxUdpPayloadSize, InitialMaxData, InitialMaxStreamDataBidiLocal, InitialMaxStreamDataBidiRemote, InitialMaxStreamDataUni, InitialMaxStreamsBidi, InitialMaxStreamsUni, AckDelayExponent, MaxAckDelay, ActiveConnectionIdLimit, MaxDatagramFrameSize, MinAckDelay}
 use Rattle.quic_wire.specs.Number.{IsFewest}
 use Rattle.quic_wire.specs.Value.{padding, ping, stream}
 use Rattle.quic_wire.specs.Grammar.{Numbers, IsForm, Payload}
@@ -57,7 +57,10 @@ three_frames = (
 entry : (id : ℕ) (value : List ℕ) → id < 64 → length value < 64 → EntrySpells (id, value) (id ∷ length value ∷ value)
 entry id value h k = (id ∷ [], length value ∷ [], inl (h, refl), inl (k, refl), refl)
 
--- 2^62 - 1, 1250000 and 100
+-- 30000, 2^62 - 1, 1250000, 100, 5, 65535 and 1000
+abbrev idle_bytes : List ℕ
+idle_bytes = 0x80 ∷ 0x00 ∷ 0x75 ∷ 0x30 ∷ []
+
 abbrev all_bytes : List ℕ
 all_bytes = replicate 8 0xff
 
@@ -66,6 +69,18 @@ stream_bytes = 0x80 ∷ 0x13 ∷ 0x12 ∷ 0xd0 ∷ []
 
 abbrev count_bytes : List ℕ
 count_bytes = 0x40 ∷ 0x64 ∷ []
+
+abbrev ids_bytes : List ℕ
+ids_bytes = 0x05 ∷ []
+
+abbrev message_bytes : List ℕ
+message_bytes = 0x80 ∷ 0x00 ∷ 0xff ∷ 0xff ∷ []
+
+abbrev delay_bytes : List ℕ
+delay_bytes = 0x43 ∷ 0xe8 ∷ []
+
+idle_spelled : Spells 30000 idle_bytes
+idle_spelled = inr (inr (inl (lit< tt, refl)))
 
 all_spelled : Spells 4611686018427387903 all_bytes
 all_spelled = inr (inr (inr (lit< tt, refl)))
@@ -76,31 +91,72 @@ stream_spelled = inr (inr (inl (lit< tt, refl)))
 count_spelled : Spells 100 count_bytes
 count_spelled = inr (inl (lit< tt, refl))
 
+ids_spelled : Spells 5 ids_bytes
+ids_spelled = inl (lit< tt, refl)
+
+message_spelled : Spells 65535 message_bytes
+message_spelled = inr (inr (inl (lit< tt, refl)))
+
+delay_spelled : Spells 1000 delay_bytes
+delay_spelled = inr (inl (lit< tt, refl))
+
+-- the last id, in its eight bytes
+last_id : Spells 0xff04de1b (0xc0 ∷ 0x00 ∷ 0x00 ∷ 0x00 ∷ 0xff ∷ 0x04 ∷ 0xde ∷ 0x1b ∷ [])
+last_id = inr (inr (inr (lit< tt, refl)))
+
+last_entry : EntrySpells (0xff04de1b, delay_bytes) (drop 51 limits_spelled)
+last_entry = (0xc0 ∷ 0x00 ∷ 0x00 ∷ 0x00 ∷ 0xff ∷ 0x04 ∷ 0xde ∷ 0x1b ∷ [], 0x02 ∷ [], last_id, inl (lit< tt, refl), refl)
+
 abbrev entries : List (ℕ × List ℕ)
-entries = (0x04, all_bytes) ∷ (0x05, stream_bytes) ∷ (0x06, stream_bytes) ∷ (0x07, stream_bytes) ∷ (0x08, count_bytes) ∷ (0x09, count_bytes) ∷ []
+entries =
+    (0x01, idle_bytes) ∷ (0x04, all_bytes) ∷ (0x05, stream_bytes) ∷ (0x06, stream_bytes) ∷ (0x07, stream_bytes) ∷ (0x08, count_bytes) ∷ (0x09, count_bytes) ∷ (0x0e, ids_bytes) ∷ (0x20, message_bytes) ∷ (0xff04de1b, delay_bytes) ∷ []
 
 entries_spelled : EntriesSpell entries limits_spelled
 entries_spelled = (
-  take 10 limits_spelled,
-  drop 10 limits_spelled,
-  entry 0x04 all_bytes (lit< tt) (lit< tt),
+  take 6 limits_spelled,
+  drop 6 limits_spelled,
+  entry 0x01 idle_bytes (lit< tt) (lit< tt),
   (
-    take 6 (drop 10 limits_spelled),
+    take 10 (drop 6 limits_spelled),
     drop 16 limits_spelled,
-    entry 0x05 stream_bytes (lit< tt) (lit< tt),
+    entry 0x04 all_bytes (lit< tt) (lit< tt),
     (
       take 6 (drop 16 limits_spelled),
       drop 22 limits_spelled,
-      entry 0x06 stream_bytes (lit< tt) (lit< tt),
+      entry 0x05 stream_bytes (lit< tt) (lit< tt),
       (
         take 6 (drop 22 limits_spelled),
         drop 28 limits_spelled,
-        entry 0x07 stream_bytes (lit< tt) (lit< tt),
+        entry 0x06 stream_bytes (lit< tt) (lit< tt),
         (
-          take 4 (drop 28 limits_spelled),
-          drop 32 limits_spelled,
-          entry 0x08 count_bytes (lit< tt) (lit< tt),
-          (take 4 (drop 32 limits_spelled), [], entry 0x09 count_bytes (lit< tt) (lit< tt), refl, refl),
+          take 6 (drop 28 limits_spelled),
+          drop 34 limits_spelled,
+          entry 0x07 stream_bytes (lit< tt) (lit< tt),
+          (
+            take 4 (drop 34 limits_spelled),
+            drop 38 limits_spelled,
+            entry 0x08 count_bytes (lit< tt) (lit< tt),
+            (
+              take 4 (drop 38 limits_spelled),
+              drop 42 limits_spelled,
+              entry 0x09 count_bytes (lit< tt) (lit< tt),
+              (
+                take 3 (drop 42 limits_spelled),
+                drop 45 limits_spelled,
+                entry 0x0e ids_bytes (lit< tt) (lit< tt),
+                (
+                  take 6 (drop 45 limits_spelled),
+                  drop 51 limits_spelled,
+                  entry 0x20 message_bytes (lit< tt) (lit< tt),
+                  (drop 51 limits_spelled, [], last_entry, refl, refl),
+                  refl,
+                ),
+                refl,
+              ),
+              refl,
+            ),
+            refl,
+          ),
           refl,
         ),
         refl,
@@ -112,14 +168,21 @@ entries_spelled = (
   refl,
 )
 
--- each parameter stands once
+-- each parameter that isn't the default stands once
 stand : (k : TransportParameterId) → Says entries k (value_of limits k)
-stand InitialMaxData = inr (all_bytes, refl, all_spelled)
-stand InitialMaxStreamDataBidiLocal = inr (stream_bytes, refl, stream_spelled)
-stand InitialMaxStreamDataBidiRemote = inr (stream_bytes, refl, stream_spelled)
-stand InitialMaxStreamDataUni = inr (stream_bytes, refl, stream_spelled)
-stand InitialMaxStreamsBidi = inr (count_bytes, refl, count_spelled)
-stand InitialMaxStreamsUni = inr (count_bytes, refl, count_spelled)
+stand MaxIdleTimeout = inr (idle_bytes, refl, (30000, idle_spelled, refl))
+stand MaxUdpPayloadSize = inl (refl, refl)
+stand InitialMaxData = inr (all_bytes, refl, (4611686018427387903, all_spelled, refl))
+stand InitialMaxStreamDataBidiLocal = inr (stream_bytes, refl, (1250000, stream_spelled, refl))
+stand InitialMaxStreamDataBidiRemote = inr (stream_bytes, refl, (1250000, stream_spelled, refl))
+stand InitialMaxStreamDataUni = inr (stream_bytes, refl, (1250000, stream_spelled, refl))
+stand InitialMaxStreamsBidi = inr (count_bytes, refl, (100, count_spelled, refl))
+stand InitialMaxStreamsUni = inr (count_bytes, refl, (100, count_spelled, refl))
+stand AckDelayExponent = inl (refl, refl)
+stand MaxAckDelay = inl (refl, refl)
+stand ActiveConnectionIdLimit = inr (ids_bytes, refl, (5, ids_spelled, refl))
+stand MaxDatagramFrameSize = inr (message_bytes, refl, (65535, message_spelled, refl))
+stand MinAckDelay = inr (delay_bytes, refl, (1000, delay_spelled, refl))
 
 pub limits_are_spelled : ParametersSpell limits limits_spelled
 limits_are_spelled = record { entries = entries; spelled = entries_spelled; says = stand }

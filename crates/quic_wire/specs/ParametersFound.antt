@@ -1,6 +1,6 @@
 -- What is read is spelled.
 use Rattle.std.proofs.Common.{◌≡◌, ℕ, zero, suc, ◌+◌, ◌≤◌, Bool, true, false, cond, ltb, eqb, List, [], ◌∷◌, ◌++◌, length, take, drop, set, Option, Some, None, Result, Ok, Err, refl, sym, ap, ◌∙◌, inl, inr, ◌⊎◌, arith, subst, append_assoc}
-use Rattle.std.specs.Prelude.{is_some, unwrap_or}
+use Rattle.std.specs.Prelude.{is_some, ◌||◌, IfOk}
 use Rattle.std.proofs.lemmas.Bool.{cases_eq, eqb-true, ltb-false}
 use Rattle.std.proofs.lemmas.List.{drop_at, take-append-drop, length-take, append-nil, get_or-drop, length-set}
 use Rattle.quic_wire_core.specs.Coding.{IsBytes}
@@ -9,11 +9,11 @@ use Rattle.quic_wire_core.specs.Law.{IsBytes-take, varint_found}
 use Rattle.quic_wire.specs.declared.transport_parameters.id.TransportParameterId.{TransportParameterId}
 use Rattle.quic_wire.specs.declared.transport_parameters.error.TransportParametersError.{TransportParametersError}
 use Rattle.quic_wire.specs.declared.transport_parameters.error.TransportParametersError.TheVariants.{Malformed, IllegalValue}
-use Rattle.quic_wire.specs.Parameters.{ParameterValues, id_of, place_of, default_of, most_of, value_of, values_by, AreInRange, EntrySpells, EntriesSpell, standing, Says, ParametersSpell}
+use Rattle.quic_wire.specs.Parameters.{ParameterValues, id_of, place_of, default_of, least_of, most_of, counted, value_of, IsInRange, IsNoLonger, AreInRange, EntrySpells, EntriesSpell, standing, SpellsValue, Says, ParametersSpell}
 use Rattle.quic_wire.specs.Taking.{◌>>=◌}
-use Rattle.quic_wire.specs.ParametersRead.{or_malformed, number_at, entry_at, whole_at, parameter_at, met_at, met_after, met_with, met_within, none_met, met_in, values_met, parameters_at}
+use Rattle.quic_wire.specs.ParametersRead.{or_malformed, number_at, entry_at, whole_at, parameter_at, met_at, is_out, met_after, met_with, met_within, none_met, met_in, met_or, values_met, is_longer, judged, parameters_at}
 use Rattle.quic_wire.specs.ParametersSteps.{entry_shorter}
-use Rattle.quic_wire.specs.ParametersTable.{some, parameter_again, none_met_at, parameter_is, same_place, same_id, standing_same, standing_other, met_at_same, met_at_other, default_in_range, value_by}
+use Rattle.quic_wire.specs.ParametersTable.{some, parameter_again, none_met_at, parameter_is, same_place, same_id, standing_same, standing_other, met_at_same, met_at_other, default_in_range, value_met}
 
 -- ---- what is read is spelled
 
@@ -104,79 +104,89 @@ whole_found bytes v h e =
 record Added (met more : List (Option ℕ)) (k : TransportParameterId) (x : List ℕ) : Type 0 where
   pub value : ℕ
   pub free : met_at met k ≡ None
-  pub spells : Spells value x
-  pub most : value ≤ most_of k
+  pub spells : SpellsValue k (Some value) x
+  pub range : IsInRange k (Some value)
   pub is : more ≡ set met (place_of k) (Some value)
 
 not_some : {T : Type 0} (o : Option T) → is_some o ≡ false → o ≡ None
 not_some (Some x) e = absurd cc
 not_some None e = refl
 
+neither : (a b : Bool) → a || b ≡ false → (a ≡ false) × (b ≡ false)
+neither true b e = absurd cc
+neither false b e = (refl, e)
+
+not_out : (k : TransportParameterId) (v : ℕ) → is_out k v ≡ false → IsInRange k (Some v)
+not_out k v e =
+    let both = neither (ltb v (least_of k)) (ltb (most_of k) v) e in
+    (ltb-false _ _ both.0, ltb-false _ _ both.1)
+
 added : (met more : List (Option ℕ)) (k : TransportParameterId) (x : List ℕ) → IsBytes x → met_after met k x ≡ Ok more → Added met more k x
 unfolding met_after
 added met more k x h e =
     let a = unguarded (is_some (met_at met k)) Malformed _ more e in
     let b = through (whole_at x) _ more a.1 in
-    let c = unguarded (ltb (most_of k) b.first) IllegalValue _ more b.then in
+    let v = counted k b.first in
+    let c = unguarded (is_out k v) IllegalValue _ more b.then in
     record {
-      value = b.first;
+      value = v;
       free = not_some (met_at met k) a.0;
-      spells = whole_found x b.first h b.reads;
-      most = ltb-false _ _ c.0;
-      is = sym (fine_is (set met (place_of k) (Some b.first)) more c.1);
+      spells = (b.first, whole_found x b.first h b.reads, refl);
+      range = not_out k v c.0;
+      is = sym (fine_is (set met (place_of k) (Some v)) more c.1);
     }
 
 -- What a parameter has met, what stands at its id in the rest of the list, and what it has met at the end.
-abbrev Gives : Option ℕ → List (List ℕ) → ℕ → Option ℕ → Type 0
-Gives (Some w) xs most o = (xs ≡ []) × (o ≡ Some w)
-Gives None xs most o = ((xs ≡ []) × (o ≡ None)) ⊎ ((x : List ℕ) × (v : ℕ) × (xs ≡ x ∷ []) × Spells v x × (v ≤ most) × (o ≡ Some v))
+abbrev Gives : TransportParameterId → Option ℕ → List (List ℕ) → Option ℕ → Type 0
+Gives k (Some w) xs o = (xs ≡ []) × (o ≡ Some w)
+Gives k None xs o = ((xs ≡ []) × (o ≡ None)) ⊎ ((x : List ℕ) × (v : ℕ) × (xs ≡ x ∷ []) × SpellsValue k (Some v) x × IsInRange k (Some v) × (o ≡ Some v))
 
 record Found (met after : List (Option ℕ)) (bytes : List ℕ) : Type 0 where
   pub entries : List (ℕ × List ℕ)
   pub spelled : EntriesSpell entries bytes
-  pub at : (k : TransportParameterId) → Gives (met_at met k) (standing (id_of k) entries) (most_of k) (met_at after k)
+  pub at : (k : TransportParameterId) → Gives k (met_at met k) (standing (id_of k) entries) (met_at after k)
 
-gives_nothing : (o : Option ℕ) (most : ℕ) → Gives o [] most o
-gives_nothing (Some w) most = (refl, refl)
-gives_nothing None most = inl (refl, refl)
+gives_nothing : (k : TransportParameterId) (o : Option ℕ) → Gives k o [] o
+gives_nothing k (Some w) = (refl, refl)
+gives_nothing k None = inl (refl, refl)
 
 found_end : (met after : List (Option ℕ)) → met ≡ after → Found met after []
 found_end met after e = record {
   entries = [];
   spelled = refl;
-  at = λ k. subst (λ (m : List (Option ℕ)). Gives (met_at met k) [] (most_of k) (met_at m k)) e (gives_nothing (met_at met k) (most_of k));
+  at = λ k. subst (λ (m : List (Option ℕ)). Gives k (met_at met k) [] (met_at m k)) e (gives_nothing k (met_at met k));
 }
 
 with_first : (met after : List (Option ℕ)) (bytes rest : List ℕ) (e : ℕ × List ℕ) (es : List (ℕ × List ℕ)) → EntryBegins bytes e rest → EntriesSpell es rest
-    → ((k : TransportParameterId) → Gives (met_at met k) (standing (id_of k) (e ∷ es)) (most_of k) (met_at after k)) → Found met after bytes
+    → ((k : TransportParameterId) → Gives k (met_at met k) (standing (id_of k) (e ∷ es)) (met_at after k)) → Found met after bytes
 with_first met after bytes rest e es b others at = record { entries = e ∷ es; spelled = (b.front, rest, b.spells, others, b.parts); at = at }
 
 -- an entry of another id
 gives_skip : (met after : List (Option ℕ)) (e : ℕ × List ℕ) (es : List (ℕ × List ℕ)) → parameter_at e.0 ≡ None → (k : TransportParameterId)
-    → Gives (met_at met k) (standing (id_of k) es) (most_of k) (met_at after k) → Gives (met_at met k) (standing (id_of k) (e ∷ es)) (most_of k) (met_at after k)
+    → Gives k (met_at met k) (standing (id_of k) es) (met_at after k) → Gives k (met_at met k) (standing (id_of k) (e ∷ es)) (met_at after k)
 gives_skip met after e es unknown k g =
     let other : e.0 ≡ id_of k → ⊥ = λ same. let known : parameter_at e.0 ≡ Some k = ap parameter_at same ∙ parameter_again k in cc in
-    subst (λ (xs : List (List ℕ)). Gives (met_at met k) xs (most_of k) (met_at after k)) (sym (standing_other (id_of k) e es other)) g
+    subst (λ (xs : List (List ℕ)). Gives k (met_at met k) xs (met_at after k)) (sym (standing_other (id_of k) e es other)) g
 
-gives_first : (o : Option ℕ) (x : List ℕ) (v most : ℕ) (xs : List (List ℕ)) (last : Option ℕ) → o ≡ None → Spells v x → v ≤ most → Gives (Some v) xs most last → Gives o (x ∷ xs) most last
-gives_first o x v most xs last free s le g =
-    subst (λ (p : Option ℕ). Gives p (x ∷ xs) most last) (sym free) (inr (x, v, ap (λ (ys : List (List ℕ)). x ∷ ys) g.0, s, le, g.1))
+gives_first : (k : TransportParameterId) (o : Option ℕ) (x : List ℕ) (v : ℕ) (xs : List (List ℕ)) (last : Option ℕ) → o ≡ None → SpellsValue k (Some v) x → IsInRange k (Some v) → Gives k (Some v) xs last → Gives k o (x ∷ xs) last
+gives_first k o x v xs last free s range g =
+    subst (λ (p : Option ℕ). Gives k p (x ∷ xs) last) (sym free) (inr (x, v, ap (λ (ys : List (List ℕ)). x ∷ ys) g.0, s, range, g.1))
 
 -- an entry of a parameter
 gives_meet : (met more after : List (Option ℕ)) (e : ℕ × List ℕ) (es : List (ℕ × List ℕ)) (j k : TransportParameterId) → e.0 ≡ id_of j → length met ≡ 13 → Added met more j e.1
-    → ((i : TransportParameterId) → Gives (met_at more i) (standing (id_of i) es) (most_of i) (met_at after i)) → (place_of k ≡ place_of j) ⊎ (place_of k ≡ place_of j → ⊥)
-    → Gives (met_at met k) (standing (id_of k) (e ∷ es)) (most_of k) (met_at after k)
+    → ((i : TransportParameterId) → Gives i (met_at more i) (standing (id_of i) es) (met_at after i)) → (place_of k ≡ place_of j) ⊎ (place_of k ≡ place_of j → ⊥)
+    → Gives k (met_at met k) (standing (id_of k) (e ∷ es)) (met_at after k)
 gives_meet met more after e es j k same whole a others (inl here) =
-    let P : TransportParameterId → Type 0 = λ i. Gives (met_at met i) (standing (id_of i) (e ∷ es)) (most_of i) (met_at after i) in
+    let P : TransportParameterId → Type 0 = λ i. Gives i (met_at met i) (standing (id_of i) (e ∷ es)) (met_at after i) in
     let now : met_at more j ≡ Some a.value = ap (λ (m : List (Option ℕ)). met_at m j) a.is ∙ met_at_same met j a.value whole in
-    let rest = subst (λ (o : Option ℕ). Gives o (standing (id_of j) es) (most_of j) (met_at after j)) now (others j) in
-    let here_now = gives_first (met_at met j) e.1 a.value (most_of j) (standing (id_of j) es) (met_at after j) a.free a.spells a.most rest in
-    subst P (sym (same_place k j here)) (subst (λ (xs : List (List ℕ)). Gives (met_at met j) xs (most_of j) (met_at after j)) (sym (standing_same (id_of j) e es same)) here_now)
+    let rest = subst (λ (o : Option ℕ). Gives j o (standing (id_of j) es) (met_at after j)) now (others j) in
+    let here_now = gives_first j (met_at met j) e.1 a.value (standing (id_of j) es) (met_at after j) a.free a.spells a.range rest in
+    subst P (sym (same_place k j here)) (subst (λ (xs : List (List ℕ)). Gives j (met_at met j) xs (met_at after j)) (sym (standing_same (id_of j) e es same)) here_now)
 gives_meet met more after e es j k same whole a others (inr other) =
     let apart : e.0 ≡ id_of k → ⊥ = λ is. other (ap place_of (same_id k j (sym is ∙ same))) in
     let as_before : met_at more k ≡ met_at met k = ap (λ (m : List (Option ℕ)). met_at m k) a.is ∙ met_at_other met j k a.value other in
-    subst (λ (xs : List (List ℕ)). Gives (met_at met k) xs (most_of k) (met_at after k)) (sym (standing_other (id_of k) e es apart))
-    (subst (λ (o : Option ℕ). Gives o (standing (id_of k) es) (most_of k) (met_at after k)) as_before (others k))
+    subst (λ (xs : List (List ℕ)). Gives k (met_at met k) xs (met_at after k)) (sym (standing_other (id_of k) e es apart))
+    (subst (λ (o : Option ℕ). Gives k o (standing (id_of k) es) (met_at after k)) as_before (others k))
 
 -- the list behind an entry, and then the whole
 found_entry : (met more after : List (Option ℕ)) (bytes rest : List ℕ) (e : ℕ × List ℕ) (o : Option TransportParameterId) → parameter_at e.0 ≡ o → length met ≡ 13 → EntryBegins bytes e rest
@@ -184,7 +194,7 @@ found_entry : (met more after : List (Option ℕ)) (bytes rest : List ℕ) (e : 
 found_entry met more after bytes rest e None is whole b step others =
     let same : met ≡ more = fine_is met more step in
     let f = others (ap length (sym same) ∙ whole) in
-    with_first met after bytes rest e f.entries b f.spelled (λ k. gives_skip met after e f.entries is k (subst (λ (m : List (Option ℕ)). Gives (met_at m k) (standing (id_of k) f.entries) (most_of k) (met_at after k)) (sym same) (f.at k)))
+    with_first met after bytes rest e f.entries b f.spelled (λ k. gives_skip met after e f.entries is k (subst (λ (m : List (Option ℕ)). Gives k (met_at m k) (standing (id_of k) f.entries) (met_at after k)) (sym same) (f.at k)))
 found_entry met more after bytes rest e (Some j) is whole b step others =
     let a = added met more j e.1 b.value_fits step in
     let f = others (ap length a.is ∙ length-set met (place_of j) (Some a.value) ∙ whole) in
@@ -202,18 +212,47 @@ found_within (suc n) met after (b ∷ bytes) fits whole h e =
     let shorter = entry_shorter (b ∷ bytes) a.first a.reads in
     found_entry met c.first after (b ∷ bytes) a.first.1 a.first.0 (parameter_at a.first.0.0) refl whole begins c.reads (λ w. found_within n c.first after a.first.1 (omega arith) w begins.rest_fits c.then)
 
-gives_says : (es : List (ℕ × List ℕ)) (k : TransportParameterId) (o : Option ℕ) → Gives None (standing (id_of k) es) (most_of k) o → Says es k (unwrap_or o (default_of k)) × (unwrap_or o (default_of k) ≤ most_of k)
+gives_says : (es : List (ℕ × List ℕ)) (k : TransportParameterId) (o : Option ℕ) → Gives k None (standing (id_of k) es) o → Says es k (met_or o (default_of k)) × IsInRange k (met_or o (default_of k))
 gives_says es k o (inl g) = rw g.1 (inl (g.0, refl), default_in_range k)
 gives_says es k o (inr g) = rw g.5 (inr (g.0, g.2, g.3), g.4)
 
+no_longer : (o : Option ℕ) (ms : ℕ) → is_longer o ms ≡ false → IsNoLonger o ms
+no_longer None ms e = tt
+no_longer (Some us) ms e = ltb-false _ _ e
+
+-- values that were judged fit, and are the same
+record Judged (p q : ParameterValues) : Type 0 where
+  pub same : p ≡ q
+  pub delays : IsNoLonger p.min_ack_delay p.max_ack_delay
+
+judged_found : (p q : ParameterValues) → judged p ≡ Ok q → Judged p q
+unfolding judged
+judged_found p q e =
+    let a = unguarded (is_longer p.min_ack_delay p.max_ack_delay) IllegalValue _ q e in
+    record { same = fine_is p q a.1; delays = no_longer p.min_ack_delay p.max_ack_delay a.0 }
+
+-- What was met gives values that the list spells, and that are in range.
+met_found : (bytes : List ℕ) (after : List (Option ℕ)) (p : ParameterValues) → Found none_met after bytes → Judged (values_met after) p → ParametersSpell p bytes × AreInRange p
+met_found bytes after p f j =
+    let each : (k : TransportParameterId) → met_or (met_at after k) (default_of k) ≡ value_of p k = λ k. sym (value_met after k) ∙ ap (λ (q : ParameterValues). value_of q k) j.same in
+    let said : (k : TransportParameterId) → Says f.entries k (met_or (met_at after k) (default_of k)) × IsInRange k (met_or (met_at after k) (default_of k)) =
+    λ k. gives_says f.entries k (met_at after k) (subst (λ (o : Option ℕ). Gives k o (standing (id_of k) f.entries) (met_at after k)) (none_met_at k) (f.at k)) in (
+      record { entries = f.entries; spelled = f.spelled; says = λ k. subst (Says f.entries k) (each k) (said k).0 },
+      record {
+        each = λ k. subst (IsInRange k) (each k) (said k).1;
+        delays = subst (λ (q : ParameterValues). IsNoLonger q.min_ack_delay q.max_ack_delay) j.same j.delays;
+      },
+    )
+
 -- What is read is spelled so, by values in range.
 pub read_found : (bytes : List ℕ) (p : ParameterValues) → IsBytes bytes → parameters_at bytes ≡ Ok p → ParametersSpell p bytes × AreInRange p
-unfolding parameters_at met_in values_met
+unfolding parameters_at met_in
 read_found bytes p h e =
     let a = through (met_in none_met bytes) _ p e in
     let f = found_within (length bytes) none_met a.first bytes (omega arith) refl h a.reads in
-    let is = fine_is (values_by (λ k. unwrap_or (met_at a.first k) (default_of k))) p a.then in
-    let each : (k : TransportParameterId) → unwrap_or (met_at a.first k) (default_of k) ≡ value_of p k = λ k. sym (value_by (λ k. unwrap_or (met_at a.first k) (default_of k)) k) ∙ ap (λ (q : ParameterValues). value_of q k) is in
-    let said : (k : TransportParameterId) → Says f.entries k (unwrap_or (met_at a.first k) (default_of k)) × (unwrap_or (met_at a.first k) (default_of k) ≤ most_of k) =
-    λ k. gives_says f.entries k (met_at a.first k) (subst (λ (o : Option ℕ). Gives o (standing (id_of k) f.entries) (most_of k) (met_at a.first k)) (none_met_at k) (f.at k)) in
-    (record { entries = f.entries; spelled = f.spelled; says = λ k. subst (Says f.entries k) (each k) (said k).0 }, λ k. subst (λ (v : ℕ). v ≤ most_of k) (each k) (said k).1)
+    met_found bytes a.first p f (judged_found (values_met a.first) p a.then)
+
+-- An answer of values is of such values.
+pub found_if : (bytes : List ℕ) (r : Result ParameterValues TransportParametersError) → IsBytes bytes → parameters_at bytes ≡ r → IfOk r (λ p. ParametersSpell p bytes × AreInRange p)
+found_if bytes (Ok p) h e = read_found bytes p h e
+found_if bytes (Err x) h e = tt

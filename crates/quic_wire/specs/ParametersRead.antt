@@ -1,12 +1,12 @@
 -- What a list of transport parameters is read as: the values, or the first refusal (RFC 9000, sections 7.4 and 18).
-use Rattle.std.specs.Prelude.{ℕ, zero, suc, List, [], ◌∷◌, length, take, drop, replicate, Option, Some, None, is_some, unwrap_or, Result, Ok, Err, nat_lt, ◌==◌, slice_index_or, slice_set, if◌then◌else◌}
+use Rattle.std.specs.Prelude.{ℕ, zero, suc, ◌*◌, Bool, false, ◌||◌, List, [], ◌∷◌, length, take, drop, replicate, Option, Some, None, is_some, Result, Ok, Err, nat_lt, ◌==◌, slice_index_or, slice_set, if◌then◌else◌}
 use Rattle.quic_wire_core.specs.Varint.{varint_at}
 use Rattle.quic_wire.specs.declared.transport_parameters.id.TransportParameterId.{TransportParameterId}
-use Rattle.quic_wire.specs.declared.transport_parameters.id.TransportParameterId.TheVariants.{InitialMaxData, InitialMaxStreamDataBidiLocal, InitialMaxStreamDataBidiRemote, InitialMaxStreamDataUni, InitialMaxStreamsBidi, InitialMaxStreamsUni}
+use Rattle.quic_wire.specs.declared.transport_parameters.id.TransportParameterId.TheVariants.{MaxIdleTimeout, MaxUdpPayloadSize, InitialMaxData, InitialMaxStreamDataBidiLocal, InitialMaxStreamDataBidiRemote, InitialMaxStreamDataUni, InitialMaxStreamsBidi, InitialMaxStreamsUni, AckDelayExponent, MaxAckDelay, ActiveConnectionIdLimit, MaxDatagramFrameSize, MinAckDelay}
 use Rattle.quic_wire.specs.declared.transport_parameters.error.TransportParametersError.{TransportParametersError}
 use Rattle.quic_wire.specs.declared.transport_parameters.error.TransportParametersError.TheVariants.{Malformed, IllegalValue}
 use Rattle.quic_wire.specs.Taking.{◌>>=◌}
-use Rattle.quic_wire.specs.Parameters.{ParameterValues, place_of, default_of, most_of, values_by}
+use Rattle.quic_wire.specs.Parameters.{ParameterValues, place_of, default_of, least_of, most_of, counted, values_by}
 
 -- A list that can't be read on is malformed.
 abbrev pub or_malformed : {T : Type 0} → Option T → Result T TransportParametersError
@@ -33,24 +33,35 @@ whole_at bytes = do
 -- The parameter of an id, where it is one that is kept.
 abbrev pub parameter_at : ℕ → Option TransportParameterId
 parameter_at id =
-    if id == 0x04 then Some InitialMaxData
+    if id == 0x01 then Some MaxIdleTimeout
+    else (if id == 0x03 then Some MaxUdpPayloadSize
+    else (if id == 0x04 then Some InitialMaxData
     else (if id == 0x05 then Some InitialMaxStreamDataBidiLocal
     else (if id == 0x06 then Some InitialMaxStreamDataBidiRemote
     else (if id == 0x07 then Some InitialMaxStreamDataUni
     else (if id == 0x08 then Some InitialMaxStreamsBidi
     else (if id == 0x09 then Some InitialMaxStreamsUni
-    else None)))))
+    else (if id == 0x0a then Some AckDelayExponent
+    else (if id == 0x0b then Some MaxAckDelay
+    else (if id == 0x0e then Some ActiveConnectionIdLimit
+    else (if id == 0x20 then Some MaxDatagramFrameSize
+    else (if id == 0xff04de1b then Some MinAckDelay
+    else None))))))))))))
 
 -- The value of a parameter that was met, by its place: nothing before it is met.
 abbrev pub met_at : List (Option ℕ) → TransportParameterId → Option ℕ
 met_at met k = slice_index_or met (place_of k) None
 
--- An entry of a parameter, judged after the entries before it: it repeats none, its value is an integer, and in range.
+-- A number is below a parameter's range, or above it.
+abbrev pub is_out : TransportParameterId → ℕ → Bool
+is_out k v = nat_lt v (least_of k) || nat_lt (most_of k) v
+
+-- An entry of a parameter, judged after the entries before it: it repeats none, its value is an integer, and what this stands for in range.
 unfoldable pub met_after : List (Option ℕ) → TransportParameterId → List ℕ → Result (List (Option ℕ)) TransportParametersError
 met_after met k value =
     if is_some (met_at met k) then Err Malformed else do
-      v ← whole_at value
-      if nat_lt (most_of k) v then Err IllegalValue else Ok (slice_set met (place_of k) (Some v))
+      n ← whole_at value
+      if is_out k (counted k n) then Err IllegalValue else Ok (slice_set met (place_of k) (Some (counted k n)))
 
 -- An entry, judged after the entries before it: that of another id is skipped (RFC 9000, section 7.4.2).
 abbrev pub met_with : List (Option ℕ) → Option TransportParameterId → List ℕ → Result (List (Option ℕ)) TransportParametersError
@@ -74,12 +85,26 @@ none_met = replicate 13 None
 unfoldable pub met_in : List (Option ℕ) → List ℕ → Result (List (Option ℕ)) TransportParametersError
 met_in met bytes = met_within (length bytes) met bytes
 
+-- What was met, or else the default.
+abbrev pub met_or : Option ℕ → Option ℕ → Option ℕ
+met_or None default = default
+met_or (Some v) default = Some v
+
 -- The values that were met, and the defaults of the others.
 unfoldable pub values_met : List (Option ℕ) → ParameterValues
-values_met met = values_by (λ k. unwrap_or (met_at met k) (default_of k))
+values_met met = values_by (λ k. met_or (met_at met k) (default_of k))
 
--- The values of a list of parameters, or the first refusal in its order.
+-- The least delay of an ACK, in microseconds, is longer than the greatest, in milliseconds.
+abbrev pub is_longer : Option ℕ → ℕ → Bool
+is_longer None ms = false
+is_longer (Some us) ms = nat_lt (1000 * ms) us
+
+-- The values, where the two delays fit one another.
+unfoldable pub judged : ParameterValues → Result ParameterValues TransportParametersError
+judged p = if is_longer p.min_ack_delay p.max_ack_delay then Err IllegalValue else Ok p
+
+-- The values of a list of parameters, or the first refusal in its order. Two delays are judged by one another once all of the list is read.
 unfoldable pub parameters_at : List ℕ → Result ParameterValues TransportParametersError
 parameters_at bytes = do
   met ← met_in none_met bytes
-  Ok (values_met met)
+  judged (values_met met)

@@ -116,7 +116,7 @@ pub fn frames_are_read()
 
 /// The limits are spelled as RFC 9000, section 18, has them, and read again; what can't be read is refused for the first
 /// reason in the list's order.
-#[tactic(auto, unfolding(crate::specs::ParametersRead::parameters_at, crate::specs::ParametersRead::values_met, crate::specs::ParametersRead::met_in, crate::specs::ParametersRead::met_within, crate::specs::ParametersRead::met_after, crate::specs::ParametersRead::whole_at, crate::specs::ParametersRead::entry_at))]
+#[tactic(auto, unfolding(crate::specs::ParametersRead::parameters_at, crate::specs::ParametersRead::judged, crate::specs::ParametersRead::values_met, crate::specs::ParametersRead::met_in, crate::specs::ParametersRead::met_within, crate::specs::ParametersRead::met_after, crate::specs::ParametersRead::whole_at, crate::specs::ParametersRead::entry_at))]
 pub fn parameters_are_read()
     ensures written { written_parameters limits places ≡ limits_spelled }
     ensures order { IsWriteOrder places }
@@ -125,10 +125,16 @@ pub fn parameters_are_read()
     ensures other_order { written_parameters (record no_limits { initial_max_data = 1; initial_max_streams_bidi = 64; initial_max_streams_uni = 63 }) (12 ∷ 7 ∷ 6 ∷ 0 ∷ 1 ∷ 2 ∷ 3 ∷ 4 ∷ 5 ∷ 8 ∷ 9 ∷ 10 ∷ 11 ∷ []) ≡ 0x09 ∷ 0x01 ∷ 0x3f ∷ 0x08 ∷ 0x02 ∷ 0x40 ∷ 0x40 ∷ 0x04 ∷ 0x01 ∷ 0x01 ∷ [] }
     ensures nothing { parameters_at [] ≡ Ok no_limits }
     ensures nothing_written { written_parameters no_limits places ≡ [] }
-    ensures skipped { parameters_at (0x01 ∷ 0x00 ∷ 0x04 ∷ 0x01 ∷ 0x07 ∷ 0x03 ∷ 0x02 ∷ 0xff ∷ 0xff ∷ []) ≡ Ok (record no_limits { initial_max_data = 7 }) }
+    ensures skipped { parameters_at (0x02 ∷ 0x00 ∷ 0x04 ∷ 0x01 ∷ 0x07 ∷ 0x0c ∷ 0x00 ∷ 0x02 ∷ 0x02 ∷ 0xff ∷ 0xff ∷ []) ≡ Ok (record no_limits { initial_max_data = 7 }) }
     ensures cut { parameters_at (0x04 ∷ 0x02 ∷ 0x40 ∷ []) ≡ Err Malformed }
     ensures twice { parameters_at (0x04 ∷ 0x01 ∷ 0x07 ∷ 0x40 ∷ 0x04 ∷ 0x01 ∷ 0x08 ∷ []) ≡ Err Malformed }
     ensures longer { parameters_at (0x04 ∷ 0x02 ∷ 0x07 ∷ 0x00 ∷ []) ≡ Err Malformed }
     ensures most { parameters_at (0x08 ∷ 0x08 ∷ 0xd0 ∷ 0x00 ∷ 0x00 ∷ 0x00 ∷ 0x00 ∷ 0x00 ∷ 0x00 ∷ 0x00 ∷ []) ≡ Ok (record no_limits { initial_max_streams_bidi = 1152921504606846976 }) }
     ensures above { parameters_at (0x08 ∷ 0x08 ∷ 0xd0 ∷ 0x00 ∷ 0x00 ∷ 0x00 ∷ 0x00 ∷ 0x00 ∷ 0x00 ∷ 0x01 ∷ []) ≡ Err IllegalValue }
+    ensures cut_payload { parameters_at (0x03 ∷ 0x04 ∷ 0x80 ∷ 0x01 ∷ 0x00 ∷ 0x00 ∷ []) ≡ Ok no_limits }
+    ensures short_payload { parameters_at (0x03 ∷ 0x02 ∷ 0x44 ∷ 0xaf ∷ []) ≡ Err IllegalValue }
+    ensures one_id { parameters_at (0x0e ∷ 0x01 ∷ 0x01 ∷ []) ≡ Err IllegalValue }
+    ensures delay_first { parameters_at (0x80 ∷ 0x00 ∷ 0x00 ∷ 0x0b ∷ 0x01 ∷ 0x01 ∷ 0xc0 ∷ 0x00 ∷ 0x00 ∷ 0x00 ∷ 0xff ∷ 0x04 ∷ 0xde ∷ 0x1b ∷ 0x02 ∷ 0x43 ∷ 0xe8 ∷ []) ≡ Ok (record no_limits { max_ack_delay = 1; min_ack_delay = Some 1000 }) }
+    ensures delay_behind { parameters_at (0xc0 ∷ 0x00 ∷ 0x00 ∷ 0x00 ∷ 0xff ∷ 0x04 ∷ 0xde ∷ 0x1b ∷ 0x02 ∷ 0x43 ∷ 0xe9 ∷ 0x0b ∷ 0x01 ∷ 0x01 ∷ []) ≡ Err IllegalValue }
+    ensures delay_malformed { parameters_at (0xc0 ∷ 0x00 ∷ 0x00 ∷ 0x00 ∷ 0xff ∷ 0x04 ∷ 0xde ∷ 0x1b ∷ 0x02 ∷ 0x43 ∷ 0xe9 ∷ 0x0b ∷ 0x01 ∷ 0x01 ∷ 0x04 ∷ []) ≡ Err Malformed }
 {}

@@ -70,11 +70,11 @@ fn meet(
     if met[place].is_some() {
         return Err(TransportParametersError::Malformed);
     }
-    let number = whole_of(value)?;
-    if number.into_inner() > parameter.most() {
+    let counted = parameter.counted(whole_of(value)?);
+    if parameter.is_out(counted) {
         return Err(TransportParametersError::IllegalValue);
     }
-    met[place] = Some(number);
+    met[place] = Some(counted);
     Ok(())
 }
 

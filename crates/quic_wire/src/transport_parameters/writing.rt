@@ -24,16 +24,16 @@ fn put_entry(buf: &mut Vec<u8>, id: VarInt, value: VarInt) -> Result<(), AllocEr
     value.encode(buf)
 }
 
-/// Writes a parameter where its value isn't the default.
+/// Writes a parameter where it has a value, which isn't the default.
 pub(crate) fn put_parameter(
     buf: &mut Vec<u8>,
     parameter: TransportParameterId,
-    value: VarInt,
+    value: Option<VarInt>,
 ) -> Result<(), AllocError>
     ensures { OnOk result (buf.new.items ≡ buf.old.items ++ written_value parameter value) }
 {
-    if value.into_inner() == parameter.default_value().into_inner() {
-        return Ok(());
+    match value {
+        Some(value) if !parameter.is_default(value) => put_entry(buf, parameter.id(), value),
+        _ => Ok(()),
     }
-    put_entry(buf, parameter.id(), value)
 }
