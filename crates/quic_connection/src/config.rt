@@ -1,11 +1,13 @@
 //! What both ends of a connection are made from.
-ghost use Rattle.std.specs.Prelude.{◌≡◌, IfOk, Ok};
+ghost use Rattle.std.specs.Prelude.{◌≡◌, IfOk, Ok, true};
+ghost use Rattle.quic_wire.specs.Parameters.{AreInRange};
 ghost use Rattle.quic_wire.specs.ParametersWritten.{IsWriteOrder, written_parameters};
 ghost use Rattle.quic_wire.specs.ParametersRead.{parameters_at};
-ghost use Rattle.quic_connection_core.specs.Settings.{parameters_of};
+ghost use Rattle.quic_connection_core.specs.Settings.{settings_with, transport_of, parameters_of};
 ghost use Rattle.quic_connection_core.specs.Headline.{IsInRange};
 
 use quic_connection_core::TransportConfig;
+use quic_wire::TransportParameters;
 use std::alloc::{AllocError, Global};
 use std::marker::Model;
 
@@ -13,31 +15,64 @@ use std::marker::Model;
 #[derive(Clone, Copy, Debug)]
 pub struct Config {
     transport: TransportConfig,
+    ack_frequency_support: bool,
 }
 
 impl Model for Config {
-    ghost use Rattle.quic_connection_core.specs.Settings.{Settings};
+    ghost use Rattle.quic_connection_core.specs.Settings.{Settings, settings_with, transport_of};
 
     ghost Value = { Settings };
 
-    ghost view = { λ c. c.transport };
+    ghost view = { λ c. settings_with c.transport c.ack_frequency_support };
 
-    ghost inverse = { λ s. record { transport = s } };
+    ghost inverse = { λ s. record {
+      transport = transport_of s;
+      ack_frequency_support = s.ack_frequency_support;
+    } };
 }
 
 impl Config {
-    /// A configuration with these settings.
+    /// A configuration with these settings, of an end that can be asked when to acknowledge.
     pub fn new(transport: TransportConfig) -> Self
-        ensures { result ≡ transport }
+        ensures { result ≡ settings_with transport true }
     {
-        Config { transport }
+        Config {
+            transport,
+            ack_frequency_support: true,
+        }
     }
 
-    /// The settings.
+    /// The settings of the transport.
     pub fn transport(&self) -> TransportConfig
-        ensures { result ≡ self.now }
+        ensures { result ≡ transport_of self.now }
     {
         self.transport
+    }
+
+    /// Whether the peer is told that it can ask when to acknowledge, with 1000 microseconds as the least delay (QUIC
+    /// Acknowledgement Frequency, section 3).
+    pub fn ack_frequency_support(&mut self, value: bool) -> &mut Self
+        ensures same_reference { result.ghost_name ≡ self.entry.ghost_name }
+        ensures value { result.now ≡ record self.old { ack_frequency_support = value } }
+    {
+        self.ack_frequency_support = value;
+        self
+    }
+
+    /// What the peer is told of the settings (RFC 9000, section 18.2).
+    fn parameters(&self) -> TransportParameters
+        ensures value { result ≡ parameters_of self.now }
+        ensures in_range { AreInRange (parameters_of self.now) }
+    {
+        let told = self.transport.transport_parameters();
+        if self.ack_frequency_support {
+            told
+        } else {
+            TransportParameters {
+                min_ack_delay: None,
+                ..told
+            }
+        }
     }
 
     /// The transport parameters that the peer is told, as bytes (RFC 9000, section 18), in this order of their places:
@@ -48,6 +83,49 @@ impl Config {
         ensures read_back { IfOk result (λ v. parameters_at v.items ≡ Ok (parameters_of self.now)) }
         ensures range { IsInRange self.now }
     {
-        self.transport.transport_parameters().write(alloc, order)
+        self.parameters().write(alloc, order)
+    }
+}
+
+#[cfg(test)]
+mod tests {
+    use super::*;
+    use std::test::Fail;
+
+    const ASCENDING: [u8; 13] = [0, 1, 2, 3, 4, 5, 6, 7, 8, 9, 10, 11, 12];
+
+    const DEFAULTS: [u8; 62] = [
+        0x01, 0x04, 0x80, 0x00, 0x75, 0x30, // 30000
+        0x04, 0x08, 0xff, 0xff, 0xff, 0xff, 0xff, 0xff, 0xff, 0xff, // 2^62 - 1
+        0x05, 0x04, 0x80, 0x13, 0x12, 0xd0, // 1250000
+        0x06, 0x04, 0x80, 0x13, 0x12, 0xd0, //
+        0x07, 0x04, 0x80, 0x13, 0x12, 0xd0, //
+        0x08, 0x02, 0x40, 0x64, // 100
+        0x09, 0x02, 0x40, 0x64, //
+        0x0e, 0x01, 0x05, // 5
+        0x20, 0x04, 0x80, 0x00, 0xff, 0xff, // 65535
+        0xc0, 0x00, 0x00, 0x00, 0xff, 0x04, 0xde, 0x1b, 0x02, 0x43, 0xe8, // 1000
+    ];
+
+    #[test]
+    fn writes_defaults(rt: HostRuntime) -> Result<(), Fail> {
+        let config = Config::new(TransportConfig::default());
+        let bytes = config.write_parameters(rt.alloc(), &ASCENDING)?;
+        assert_eq!(rt; bytes.as_slice(), DEFAULTS.as_slice());
+        Ok(())
+    }
+
+    // Without support no delay is told; no timeout and no messages are 0, which is not written.
+    #[test]
+    fn leaves_out_what_is_not_offered(rt: HostRuntime) -> Result<(), Fail> {
+        let mut transport = TransportConfig::default();
+        transport
+            .max_idle_timeout(None)
+            .datagram_receive_buffer_size(None);
+        let mut config = Config::new(transport);
+        config.ack_frequency_support(false);
+        let bytes = config.write_parameters(rt.alloc(), &ASCENDING)?;
+        assert_eq!(rt; bytes.as_slice(), &DEFAULTS[6..45]);
+        Ok(())
     }
 }

@@ -3,7 +3,7 @@ use Rattle.std.proofs.Common.{◌≡◌, ℕ, zero, suc, slice_get, List, [], �
 use Rattle.quic_wire_core.specs.declared.stream_id.Side.{Side}
 use Rattle.quic_wire_core.specs.declared.stream_id.Side.TheVariants.{Client, Server}
 use Rattle.quic_wire_core.specs.declared.stream_id.Dir.TheVariants.{Bi}
-use Rattle.quic_wire.specs.ParametersRead.{entry_at, whole_at, met_after, met_within, met_in, values_met, parameters_at}
+use Rattle.quic_wire.specs.ParametersRead.{entry_at, whole_at, met_after, met_within, met_in, values_met, judged, parameters_at}
 use Rattle.quic_connection_core.specs.declared.run.ReadCall.{ReadCall}
 use Rattle.quic_connection_core.specs.declared.run.RunEvent.{RunEvent}
 use Rattle.quic_connection_core.specs.declared.run.Call.{Call}
@@ -23,7 +23,7 @@ in_range : IsInRange default_settings
 in_range = record { receive_window = lit< tt; stream_receive_window = lit< tt }
 
 parameters_say : parameters_at worked_parameters ≡ Ok (parameters_of default_settings)
-unfolding parameters_at values_met met_in met_within met_after whole_at entry_at
+unfolding parameters_at judged values_met met_in met_within met_after whole_at entry_at
 parameters_say = refl
 
 pub are_started : AreStarted (before_sending client_made)

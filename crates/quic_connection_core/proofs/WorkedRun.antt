@@ -9,7 +9,7 @@ use Rattle.quic_wire.specs.FrameTypes.{kind_of}
 use Rattle.quic_wire.specs.Reading.{block_at, sized_at, offset_at, data_at, stream_at, body_at}
 use Rattle.quic_wire.specs.Items.{frame_at, items_within, items}
 use Rattle.quic_wire.specs.Writing.{stream_spelling}
-use Rattle.quic_wire.specs.ParametersRead.{entry_at, whole_at, met_after, met_within, met_in, values_met, parameters_at}
+use Rattle.quic_wire.specs.ParametersRead.{entry_at, whole_at, met_after, met_within, met_in, values_met, judged, parameters_at}
 use Rattle.quic_connection_core.specs.declared.answers.Received.TheVariants as receives
 use Rattle.quic_connection_core.specs.declared.answers.DropReason.TheVariants as drops
 use Rattle.quic_connection_core.specs.declared.run.ReadCall.{ReadCall}
@@ -25,11 +25,11 @@ use Rattle.quic_connection_core.specs.Runs.{Packet, took, WasTaken, HasArrived, 
 use Rattle.quic_connection_core.specs.Worked.{worked_parameters, client_id, server_id, client_made, server_made, client_opened, client_wrote, client_ended, server_took, server_accepted, server_read, hello, hello_frame, hello_payload, hello_datagram, delivers, before_sending, after_sending, worked_policies, worked_events, worked_answers, worked_views, worked_run}
 
 pub client_is_made : MadeFrom Client default_settings worked_parameters client_id server_id 0 true client_made
-unfolding parameters_at values_met met_in met_within met_after whole_at entry_at
+unfolding parameters_at judged values_met met_in met_within met_after whole_at entry_at
 client_is_made = refl
 
 pub server_is_made : MadeFrom Server default_settings worked_parameters server_id client_id 0 true server_made
-unfolding parameters_at values_met met_in met_within met_after whole_at entry_at
+unfolding parameters_at judged values_met met_in met_within met_after whole_at entry_at
 server_is_made = refl
 
 pub opens : IsStep worked_policies (before_sending client_made) (record { side = Client; call = calls.Open Bi }) (answers.Open (Ok (Some 0))) (before_sending client_opened)

@@ -16,6 +16,6 @@ pub use answers::{
     Breach, ConfigError, DropReason, Failed, FinishError, LostReason, ReadError, ReadableError,
     Received, State, Transmit, WriteError,
 };
-pub use config::TransportConfig;
+pub use config::{IdleTimeout, TransportConfig};
 pub use instant::Instant;
 pub use run::{Answer, Call, Datagram, Delivery, EndView, Nexts, ReadCall, RunEvent, View};

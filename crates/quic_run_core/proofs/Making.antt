@@ -10,7 +10,7 @@ use Rattle.quic_connection_core.specs.declared.answers.ConfigError.{ConfigError}
 use Rattle.quic_connection_core.specs.declared.answers.ConfigError.TheVariants as config_errors
 use Rattle.quic_connection_core.specs.declared.run.RunEvent.{RunEvent}
 use Rattle.quic_connection_core.specs.declared.run.Answer.{Answer}
-use Rattle.quic_connection_core.specs.Settings.{Settings, parameters_of}
+use Rattle.quic_connection_core.specs.Settings.{Settings, settings_with, parameters_of}
 use Rattle.quic_connection_core.specs.End.{End, MadeFrom, refusal_of}
 use Rattle.quic_connection_core.specs.Machine.{World, Policies, IsStep, given_by, end_at, changed, gives, policy_at}
 use Rattle.quic_run_core.specs.declared.options.Options.{Options}
@@ -29,7 +29,7 @@ never_refused {E} side other e read theirs own_id peer_id is own turned peer ref
     cc
 
 -- what is made of the options is the first end
-pub made_first : (side other : Side) (own peer : Options) (settings told : Settings) (bytes items own_id peer_id : List ℕ) (now : ℕ) (end : End) → settings ≡ own.transport → told ≡ peer.transport → bytes ≡ items → parameters_at items ≡ Ok (parameters_of told) → own_id ≡ first_id side → other ≡ other_side side → peer_id ≡ first_id other → now ≡ 0 → MadeFrom side settings bytes own_id peer_id now true end → end ≡ first_end side own peer
+pub made_first : (side other : Side) (own peer : Options) (settings told : Settings) (bytes items own_id peer_id : List ℕ) (now : ℕ) (end : End) → settings ≡ settings_with own.transport true → told ≡ settings_with peer.transport true → bytes ≡ items → parameters_at items ≡ Ok (parameters_of told) → own_id ≡ first_id side → other ≡ other_side side → peer_id ≡ first_id other → now ≡ 0 → MadeFrom side settings bytes own_id peer_id now true end → end ≡ first_end side own peer
 made_first side other own peer settings told bytes items own_id peer_id now end set said same read own_is turned peer_is zero made =
     rw (same, read, said, set, own_is, peer_is, turned, zero) at made
 

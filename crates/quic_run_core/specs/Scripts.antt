@@ -4,7 +4,7 @@ use Rattle.std.specs.List.{slice_split}
 use Rattle.quic_wire_core.specs.declared.stream_id.Side.{Side}
 use Rattle.quic_wire_core.specs.declared.stream_id.Side.TheVariants.{Client, Server}
 use Rattle.quic_wire_core.specs.StreamId.{other_side}
-use Rattle.quic_connection_core.specs.Settings.{Settings, default_settings, parameters_of}
+use Rattle.quic_connection_core.specs.Settings.{settings_with, default_transport, parameters_of}
 use Rattle.quic_connection_core.specs.End.{End, new_end}
 use Rattle.quic_connection_core.specs.Machine.{World, IsStep, given_by}
 use Rattle.quic_connection_core.specs.declared.run.RunEvent.{RunEvent}
@@ -21,7 +21,7 @@ use Rattle.quic_run_core.specs.Language.{Command, Asked, nothing, sets, asks, sh
 
 -- the options of an end for which none is set
 abbrev pub first_options : Options
-first_options = record { transport = default_settings; word = 63 }
+first_options = record { transport = default_transport; word = 63 }
 
 -- the options with one of them set
 abbrev pub with_setting : Setting → Options → Options
@@ -39,7 +39,7 @@ first_id Server = replicate 8 0x50
 
 -- an end as it is made at moment 0: the other end's options are its limits
 abbrev pub first_end : Side → Options → Options → End
-first_end side own peer = new_end side own.transport (parameters_of peer.transport) (first_id side) (first_id (other_side side)) 0 true
+first_end side own peer = new_end side (settings_with own.transport true) (parameters_of (settings_with peer.transport true)) (first_id side) (first_id (other_side side)) 0 true
 
 -- both ends as they are made, of the client's options and the server's
 abbrev pub first_world : Options → Options → World

@@ -4,6 +4,7 @@ use Rattle.quic_connection_core.proofs.config.TransportConfig.transport_paramete
 pub returns-clause-in_range : goal.returns-clause-in_range
 returns-clause-in_range c =
     in_range c.args.self.now
+    (rw (← c.self.view_is) c.milliseconds.ensures.bound)
     (rw (← c.self.view_is) c.bounded.ensures.bound)
     (rw (← c.self.view_is) c.bounded-stream_window.ensures.bound)
     (rw (← c.self.view_is) c.self.invariant.0)

@@ -12,8 +12,8 @@ pub invariant_of-result : goal.invariant_of-result
 invariant_of-result c =
     let P : ParameterValues → Type 0 = λ p. p.initial_max_streams_bidi ≤ 2 ^ 60 in
     let Q : ParameterValues → Type 0 = λ p. p.initial_max_streams_uni ≤ 2 ^ 60 in
-    let bi = subst P (sym c.theirs.view_is) (c.requires InitialMaxStreamsBidi) in
-    let uni = subst Q (sym c.theirs.view_is) (c.requires InitialMaxStreamsUni) in
+    let bi = subst P (sym c.theirs.view_is) (c.requires.each InitialMaxStreamsBidi).1 in
+    let uni = subst Q (sym c.theirs.view_is) (c.requires.each InitialMaxStreamsUni).1 in
     record {
       ordered = c.new.ensures.ordered;
       ids = subst (λ (es : Table SendHalf). AllByRecursion (λ q. q < 2 ^ 62) (keys_of es)) (sym c.new.ensures.empty) tt;
