@@ -16,7 +16,7 @@ pub use coding::{Codec, UnexpectedEnd};
 pub use frame_type::FrameType;
 pub use range_set::{ArrayRangeSet, RangeSet};
 pub use reason::Reason;
-pub use shared::{ConnectionId, EcnCodepoint, MAX_CID_SIZE};
+pub use shared::{ConnectionId, EcnCodepoint, IssuedCid, MAX_CID_SIZE};
 pub use stream_id::{Dir, Side, StreamId};
 pub use token::{RESET_TOKEN_SIZE, ResetToken};
 pub use transport_error::{Code, TransportError};

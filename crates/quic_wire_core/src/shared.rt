@@ -9,6 +9,7 @@ ghost use Rattle.std.specs.Hash as fed;
 ghost use Rattle.quic_wire_core.specs.ConnectionId.{id_cmp, id_cmp_total, id_ties, hex_text, hex_byte_text};
 ghost use Rattle.quic_wire_core.specs.Ecn.{ecn_of};
 
+use crate::token::ResetToken;
 use bytes::Buf;
 use std::cmp::Ordering;
 use std::convert::AsSlice;
@@ -176,6 +177,18 @@ impl fmt::Display for ConnectionId {
     fn fmt<W: fmt::Write>(&self, f: &mut fmt::Formatter<W>) -> fmt::Result {
         write_hex(f, self.as_slice())
     }
+}
+
+/// A connection id that an end gave its peer, with what the peer is told of it (RFC 9000, section 19.15; quinn-proto's
+/// `IssuedCid`).
+#[derive(Clone, Copy, Debug, PartialEq, Eq)]
+pub struct IssuedCid {
+    /// The number of the id, counted from 0 for the first one.
+    pub sequence: u64,
+    /// The id.
+    pub id: ConnectionId,
+    /// The token by which a stateless reset of packets to the id is known.
+    pub reset_token: ResetToken,
 }
 
 /// Writes the two hexadecimal digits of each byte.
