@@ -15,8 +15,8 @@ pub use handles::{Chunks, RecvStream, SendStream, ShouldTransmit, Streams};
 pub use pair::Making;
 pub use quic_connection_core::{
     Answer, Call, ConfigError, Datagram, Delivery, DropReason, EndView, Failed, FinishError,
-    IdleTimeout, Instant, LostReason, Nexts, ReadCall, ReadError, ReadableError, Received, RunEvent, State,
-    Transmit, TransportConfig, View, WriteError,
+    IdleTimeout, Instant, LostReason, Nexts, ReadCall, ReadError, ReadableError, Received,
+    RunEvent, State, Transmit, TransportConfig, View, WriteError,
 };
 pub use quic_streams_core::Chunk;
 pub use running::{Ends, Given, Outcome, run, step};

@@ -1,9 +1,15 @@
-use Rattle.std.proofs.Common.{◌≡◌}
-use Rattle.std.specs.Prelude.{Ok}
+use Rattle.std.proofs.Common.{◌≡◌, ℕ, List, ◌∙◌, subst}
+use Rattle.std.specs.Prelude.{Ok, IfOk}
 use Rattle.quic_wire.specs.ParametersRead.{parameters_at}
 use Rattle.quic_connection_core.specs.Settings.{parameters_of}
+use Rattle.quic_connection_core.specs.End.{MadeFrom}
 use Rattle.quic_connection.proofs.Pairs.{on_ok, on_ok_then, if_err_then, id_length, only_ids}
 use Rattle.quic_connection.proofs.pair.end_for.Goals as goal
+
+pub returns-clause-made : goal.returns-clause-made
+returns-clause-made g c =
+    subst (λ (bytes : List ℕ). IfOk c.new.result (λ made. MadeFrom c.args.side c.args.own.config bytes c.args.own.id c.args.peer_id c.args.now c.args.own.validated made.end))
+    (c.deref.ensures.value ∙ c.in_ok-parameters.ensures.bytes) c.new.ensures.made
 
 pub returns-clause-id : goal.returns-clause-id
 returns-clause-id g c =

@@ -1,4 +1,5 @@
 use Rattle.std.proofs.Common.{◌≡◌, refl, sym, subst}
+use Rattle.std.proofs.lemmas.Result.{err_from_is_err_and}
 use Rattle.quic_wire.specs.declared.crypto.Keys.{Keys}
 use Rattle.quic_wire.specs.ParametersWritten.{written_parameters}
 use Rattle.quic_connection_core.specs.Settings.{parameters_of}
@@ -6,6 +7,11 @@ use Rattle.quic_connection_core.specs.Policy.{Policy}
 use Rattle.quic_connection_core.specs.Headline.{IsLawful, AreKeys}
 use Rattle.quic_connection.specs.Ends.{keys_policy, in_order}
 use Rattle.quic_connection.proofs.running.Ends.new.Goals as goal
+
+pub returns-in_err-end_for-2-clause-refusal : goal.returns-in_err-end_for-2-clause-refusal
+returns-in_err-end_for-2-clause-refusal g c =
+    let p = err_from_is_err_and c.from_residual-in_err-end_for-2.result c.from_residual-in_err-end_for-2.ensures.1 in
+    rw (p.1, p.2) c.in_err-end_for-2.ensures.refusal
 
 pub returns-clause-started : goal.returns-clause-started
 returns-clause-started g c =
