@@ -4,7 +4,7 @@ use Rattle.quic_wire_core.specs.Varint.{Spells}
 use Rattle.quic_wire.specs.declared.transport_parameters.id.TransportParameterId.{TransportParameterId}
 use Rattle.quic_wire.specs.declared.transport_parameters.id.TransportParameterId.TheVariants.{MaxIdleTimeout, MaxUdpPayloadSize, InitialMaxData, InitialMaxStreamDataBidiLocal, InitialMaxStreamDataBidiRemote, InitialMaxStreamDataUni, InitialMaxStreamsBidi, InitialMaxStreamsUni, AckDelayExponent, MaxAckDelay, ActiveConnectionIdLimit, MaxDatagramFrameSize, MinAckDelay}
 
--- The values of the parameters (RFC 9000, section 18.2). A delay that no list has to give is none.
+-- The values of the parameters (RFC 9000, section 18.2). The least delay of an ACK has no default: it is none where the list has none.
 pub record ParameterValues : Type 0 where
   pub max_idle_timeout : ℕ
   pub max_udp_payload_size : ℕ
@@ -135,7 +135,7 @@ value_of p ActiveConnectionIdLimit = Some p.active_connection_id_limit
 value_of p MaxDatagramFrameSize = Some p.max_datagram_frame_size
 value_of p MinAckDelay = p.min_ack_delay
 
--- The number that an answer holds: each parameter but the last has a default.
+-- The number of a parameter that has a default, and so is never none.
 abbrev pub number : Option ℕ → ℕ
 number o = unwrap_or o 0
 
