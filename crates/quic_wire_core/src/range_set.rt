@@ -5,6 +5,7 @@ ghost use Rattle.quic_wire_core.specs.Runs.{AreRuns};
 mod array_range_set;
 
 pub use array_range_set::ArrayRangeSet;
+
 use std::alloc::Global;
 use std::marker::Model;
 use std::ops::Range;
