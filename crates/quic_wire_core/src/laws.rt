@@ -7,6 +7,7 @@ ghost use Rattle.quic_wire_core.specs.Coding.{IsBytes, fixed_at, BeginsWith};
 ghost use Rattle.quic_wire_core.specs.ConnectionId.{id_cmp};
 ghost use Rattle.quic_wire_core.specs.StreamId.{stream_id, initiator_of, dir_of, index_of};
 ghost use Rattle.quic_wire_core.specs.StreamIdLaw.{AreSameParts};
+ghost use Rattle.quic_wire_core.specs.TransportError.{ErrorValue, same_error};
 ghost use Rattle.quic_wire_core.specs.Varint.{Spells, varint_at, shortest, varint_size, Begins};
 ghost use Rattle.quic_wire_core.specs.declared.stream_id.Side.{Side};
 ghost use Rattle.quic_wire_core.specs.declared.stream_id.Dir.{Dir};
@@ -85,4 +86,9 @@ pub fn stream_ids_differ()
 pub fn connection_ids_are_their_bytes()
     ensures eq { (a b : List ℕ) → IsTrue (pointwise nat_eq a b) ↔ a ≡ b }
     ensures cmp { (a b : List ℕ) → (id_cmp a b ≡ Equal) ↔ a ≡ b }
+{}
+
+/// What `==` answers of two errors of the transport: whether they have the same code and the same frame.
+pub fn errors_are_code_and_frame()
+    ensures { (a b : ErrorValue) → IsTrue (same_error a b) ↔ a ≡ b }
 {}
