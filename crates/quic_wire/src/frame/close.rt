@@ -218,6 +218,27 @@ mod tests {
         Ok(())
     }
 
+    // Where an allocation fails nothing is made, and the next call is as any other.
+    #[test]
+    fn says_where_memory_lacks(rt: HostRuntime) -> Result<(), Fail> {
+        let error = TransportError::new(Code::PROTOCOL_VIOLATION, None, Reason::NoFrame);
+        let close = match Close::of_error(rt.alloc(), &error) {
+            Ok(close) => close,
+            Err(AllocError) => Close::of_error(rt.alloc(), &error)?,
+        };
+        let Close::Connection(close) = close else {
+            return Err(Fail::from(AllocError));
+        };
+        assert!(rt; close.reason.as_slice() == b"no frame".as_slice());
+        let code = VarInt::from_u32(7);
+        let close = match ApplicationClose::new(rt.alloc(), code, b"bye") {
+            Ok(close) => close,
+            Err(AllocError) => ApplicationClose::new(rt.alloc(), code, b"bye")?,
+        };
+        assert!(rt; close.reason.as_slice() == b"bye".as_slice());
+        Ok(())
+    }
+
     #[test]
     fn prints_reasons_as_text(rt: HostRuntime) -> Result<(), Fail> {
         let ping = Some(FrameType::PING);
