@@ -239,26 +239,26 @@ mod tests {
         Ok(())
     }
 
+    /// Whether a close is printed so.
+    fn prints(rt: &HostRuntime, close: &Close, wanted: &str) -> Result<bool, Fail> {
+        let text = format!(in rt.alloc(); "{close}")?;
+        Ok(text.as_str() == wanted)
+    }
+
     #[test]
     fn prints_reasons_as_text(rt: HostRuntime) -> Result<(), Fail> {
-        let ping = Some(FrameType::PING);
-        let cases: [(&[u8], &str); 3] = [
-            (b"", "PROTOCOL_VIOLATION"),
-            (b"no frame", "PROTOCOL_VIOLATION: no frame"),
-            (b"a\xffb", "PROTOCOL_VIOLATION: a\u{FFFD}b"),
-        ];
-        for (reason, wanted) in cases {
-            let code = Code::PROTOCOL_VIOLATION;
-            let close = ConnectionClose::new(rt.alloc(), code, ping, reason)?;
-            let text = format!(in rt.alloc(); "{}", Close::from(close))?;
-            assert_eq!(rt; text.as_str(), wanted);
-        }
-        let cases: [(&[u8], &str); 2] = [(b"", "7"), (b"bye", "bye (code 7)")];
-        for (reason, wanted) in cases {
-            let close = ApplicationClose::new(rt.alloc(), VarInt::from_u32(7), reason)?;
-            let text = format!(in rt.alloc(); "{}", Close::from(close))?;
-            assert_eq!(rt; text.as_str(), wanted);
-        }
+        let code = Code::PROTOCOL_VIOLATION;
+        let close = ConnectionClose::new(rt.alloc(), code, None, b"")?;
+        assert!(rt; prints(&rt, &Close::from(close), "PROTOCOL_VIOLATION")?);
+        let close = ConnectionClose::new(rt.alloc(), code, None, b"no frame")?;
+        assert!(rt; prints(&rt, &Close::from(close), "PROTOCOL_VIOLATION: no frame")?);
+        let close = ConnectionClose::new(rt.alloc(), code, None, b"a\xffb")?;
+        assert!(rt; prints(&rt, &Close::from(close), "PROTOCOL_VIOLATION: a\u{FFFD}b")?);
+        let code = VarInt::from_u32(7);
+        let close = ApplicationClose::new(rt.alloc(), code, b"")?;
+        assert!(rt; prints(&rt, &Close::from(close), "7")?);
+        let close = ApplicationClose::new(rt.alloc(), code, b"bye")?;
+        assert!(rt; prints(&rt, &Close::from(close), "bye (code 7)")?);
         Ok(())
     }
 }
