@@ -12,3 +12,5 @@ pub mod FrameWritten
 pub mod FrameReadBack
 pub mod Room
 pub mod WorkedForms
+pub mod Closes
+pub mod Arriving

@@ -20,3 +20,5 @@ pub mod ParametersTable
 pub mod ParametersLaw
 pub mod ParametersFound
 pub mod Worked
+pub mod Close
+pub mod Arriving

@@ -43,6 +43,10 @@ pub record IsExpansion (t : Truncated) (expected value : ℕ) : Type 0 where
   pub residue : value % window t.width ≡ t.residue
   pub around : ((expected < value + window t.width / 2) × (value ≤ expected + window t.width / 2)) ⊎ ((expected + window t.width / 2 < t.residue) × (value ≡ t.residue))
 
+-- a number is cut to the fewest bytes that are enough for what lies between it and the greatest acknowledged
+abbrev pub TakesFewest : Type 0
+TakesFewest = (number acked : ℕ) → number - acked < 2 ^ 31 → IsFewest (number - acked) (truncated number acked).width
+
 -- the newest number expands to itself, wherever the expected one lies from the greatest acknowledged up to the one behind it
 abbrev pub NewestOpens : Type 0
 NewestOpens = (number acked expected : ℕ) → number - acked < 2 ^ 31 → acked ≤ expected → expected ≤ number + 1 → expanded (truncated number acked) expected ≡ number

@@ -1,5 +1,6 @@
 //! What the definitions say together, for the crates above.
-ghost use Rattle.quic_wire.specs.Number.{NewestOpens, LateOpens};
+ghost use Rattle.quic_wire.specs.Arriving.{FramesArrive};
+ghost use Rattle.quic_wire.specs.Number.{TakesFewest, NewestOpens, LateOpens};
 ghost use Rattle.quic_wire.specs.Datagram.{MatesOpen, SealedIsSent, SentLength};
 ghost use Rattle.quic_wire.specs.Destination.{KnownIsMember, SentIsDecoded, FixedLengthFinds};
 
@@ -7,6 +8,12 @@ ghost use Rattle.quic_wire.specs.Destination.{KnownIsMember, SentIsDecoded, Fixe
 /// expand to the number, and to nothing else.
 pub fn mates_open()
     ensures { MatesOpen }
+{}
+
+/// A number takes the fewest bytes, at most 4, that tell apart more than twice as many numbers as lie between it and the
+/// greatest acknowledged (RFC 9000, 17.1).
+pub fn numbers_take_fewest()
+    ensures { TakesFewest }
 {}
 
 /// The newest number expands to itself where the expected one lies from the greatest
@@ -24,6 +31,12 @@ pub fn late_opens()
 /// Sealing a header and a payload behind other bytes gives the datagram behind them.
 pub fn sealed_is_sent()
     ensures { SealedIsSent }
+{}
+
+/// Frames that were sent are the frames that a mate reads, where the expected number lies from the greatest acknowledged up
+/// to less than half a window above the datagram's.
+pub fn frames_arrive()
+    ensures { FramesArrive }
 {}
 
 /// A datagram is as long as its header, its payload and the tag.

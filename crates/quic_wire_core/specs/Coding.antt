@@ -1,6 +1,6 @@
 -- Reading values from bytes.
-use Rattle.std.specs.Prelude.{◌≡◌, ◌<◌, ◌≤◌, ℕ, List, Option, Some, None, Result, Ok, Err, length, take, drop, get_or, nat_lt, if◌then◌else◌}
-use Rattle.std.specs.Int.{Width, byte_len, from_be_bytes}
+use Rattle.std.specs.Prelude.{◌≡◌, ◌<◌, ◌≤◌, ◌*◌, ◌^◌, ◌++◌, ℕ, List, Option, Some, None, Result, Ok, Err, length, take, drop, get_or, nat_lt, if◌then◌else◌}
+use Rattle.std.specs.Int.{Width, byte_len, from_be_bytes, to_be_bytes}
 
 -- What a decoder answers, and what it leaves unread: the value and what follows it, or a refusal that takes nothing.
 abbrev pub Decodes : {T E : Type 0} → (List ℕ → Option (T × List ℕ)) → Result T E → List ℕ → List ℕ → Type 0
@@ -21,3 +21,7 @@ abbrev pub fixed_at : Width → List ℕ → Option (ℕ × List ℕ)
 fixed_at w bytes =
     if nat_lt (length bytes) (byte_len w) then None
     else Some (from_be_bytes w (take (byte_len w) bytes), drop (byte_len w) bytes)
+
+-- The number fits in this width, and its big-endian bytes stand in front of `rest`.
+abbrev pub BeginsWith : Width → List ℕ → ℕ → List ℕ → Type 0
+BeginsWith w bytes n rest = (n < 2 ^ (8 * byte_len w)) × (bytes ≡ to_be_bytes w n ++ rest)

@@ -4,7 +4,7 @@ use Rattle.std.specs.Int.{Width, w8, w16, w32, w64, byte_len, from_be_bytes, to_
 use Rattle.std.proofs.lemmas.Bool.{cases_lt, ltb-false, le-ltb, lt-ltb, eqb-true, eqb-false}
 use Rattle.std.proofs.lemmas.List.{take_at, drop_at, take-append-drop, length-append, length-take, get_or-take, get_or_past}
 use Rattle.std.proofs.lemmas.Nat.{from_be_bytes-to_be_bytes_2, from_be_bytes-to_be_bytes_4, from_be_bytes-to_be_bytes_8, be_bytes_2, be_bytes_4, be_bytes_8}
-use Rattle.quic_wire_core.specs.Coding.{IsBytes, fixed_at}
+use Rattle.quic_wire_core.specs.Coding.{IsBytes, fixed_at, BeginsWith}
 use Rattle.quic_wire_core.specs.Varint.{varint_at, wide_at, shortest, varint_size, Spells, Begins}
 
 -- the number of a width is read again
@@ -240,3 +240,53 @@ spells_once v w bytes a b =
     let one = spells_again v bytes [] a in
     let other = spells_again w bytes [] b in
     ap (λ (p : ℕ × List ℕ). p.0) (some_is (v, []) (w, []) (sym one ∙ other))
+
+-- what a read of a fixed width took
+fixed_parts : (w : Width) (bytes : List ℕ) (n : ℕ) (rest : List ℕ) → fixed_at w bytes ≡ Some (n, rest) → (byte_len w ≤ length bytes) × (from_be_bytes w (take (byte_len w) bytes) ≡ n) × (drop (byte_len w) bytes ≡ rest)
+fixed_parts w bytes n rest e =
+    elim (chosen (ltb (length bytes) (byte_len w)) None (Some (from_be_bytes w (take (byte_len w) bytes), drop (byte_len w) bytes)) (Some (n, rest)) e) [
+      | inl a ↦ absurd (let n = a.1 in cc)
+      | inr a ↦ (let e = some_is (from_be_bytes w (take (byte_len w) bytes), drop (byte_len w) bytes) (n, rest) a.1 in (ltb-false _ _ a.0, ap (λ (p : ℕ × List ℕ). p.0) e, ap (λ (p : ℕ × List ℕ). p.1) e))
+    ]
+
+-- the bytes in front are those of the number
+fixed_begins : (w : Width) (bytes : List ℕ) (n : ℕ) (rest : List ℕ) → n < 2 ^ (8 * byte_len w) → to_be_bytes w n ≡ take (byte_len w) bytes → drop (byte_len w) bytes ≡ rest → BeginsWith w bytes n rest
+fixed_begins w bytes n rest small front behind = (small, sym (take-append-drop (byte_len w) bytes) ∙ ap (λ (t : List ℕ). t ++ drop (byte_len w) bytes) (sym front) ∙ ap (λ (t : List ℕ). to_be_bytes w n ++ t) behind)
+
+-- A byte that is read stands in front.
+pub fixed_found_8 : (bytes : List ℕ) (n : ℕ) (rest : List ℕ) → IsBytes bytes → fixed_at w8 bytes ≡ Some (n, rest) → BeginsWith w8 bytes n rest
+fixed_found_8 [] n rest h e = absurd cc
+fixed_found_8 (b ∷ bytes) n rest h e =
+    let p = fixed_parts w8 (b ∷ bytes) n rest e in
+    let byte : b < 256 = h 0 in
+    let same : b ≡ n = omega (arith, p.1) in
+    let small : n < 256 = omega arith in
+    let low : n % 256 ≡ n = omega arith in
+    fixed_begins w8 (b ∷ bytes) n rest small (rw (low, same) refl) p.2
+
+-- Two bytes that are read stand in front.
+pub fixed_found_16 : (bytes : List ℕ) (n : ℕ) (rest : List ℕ) → IsBytes bytes → fixed_at w16 bytes ≡ Some (n, rest) → BeginsWith w16 bytes n rest
+fixed_found_16 bytes n rest h e =
+    let p = fixed_parts w16 bytes n rest e in
+    let fits = IsBytes-take 2 bytes h in
+    let small : n < 2 ^ 16 = omega (arith, p.1, fits 0, fits 1) in
+    let len : length (take 2 bytes) ≡ 2 = omega (arith, length-take 2 bytes, p.0) in
+    fixed_begins w16 bytes n rest small (be_bytes_2 (take 2 bytes) n len fits (sym p.1)) p.2
+
+-- Four bytes that are read stand in front.
+pub fixed_found_32 : (bytes : List ℕ) (n : ℕ) (rest : List ℕ) → IsBytes bytes → fixed_at w32 bytes ≡ Some (n, rest) → BeginsWith w32 bytes n rest
+fixed_found_32 bytes n rest h e =
+    let p = fixed_parts w32 bytes n rest e in
+    let fits = IsBytes-take 4 bytes h in
+    let small : n < 2 ^ 32 = omega (arith, p.1, fits 0, fits 1, fits 2, fits 3) in
+    let len : length (take 4 bytes) ≡ 4 = omega (arith, length-take 4 bytes, p.0) in
+    fixed_begins w32 bytes n rest small (be_bytes_4 (take 4 bytes) n len fits (sym p.1)) p.2
+
+-- Eight bytes that are read stand in front.
+pub fixed_found_64 : (bytes : List ℕ) (n : ℕ) (rest : List ℕ) → IsBytes bytes → fixed_at w64 bytes ≡ Some (n, rest) → BeginsWith w64 bytes n rest
+fixed_found_64 bytes n rest h e =
+    let p = fixed_parts w64 bytes n rest e in
+    let fits = IsBytes-take 8 bytes h in
+    let small : n < 2 ^ 64 = omega (arith, p.1, fits 0, fits 1, fits 2, fits 3, fits 4, fits 5, fits 6, fits 7) in
+    let len : length (take 8 bytes) ≡ 8 = omega (arith, length-take 8 bytes, p.0) in
+    fixed_begins w64 bytes n rest small (be_bytes_8 (take 8 bytes) n len fits (sym p.1)) p.2

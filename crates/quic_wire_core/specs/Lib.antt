@@ -8,5 +8,6 @@ pub mod Text
 pub mod FrameType
 pub mod Reason
 pub mod TransportError
+pub mod TransportErrorLaw
 pub mod Ecn
 pub mod Runs

@@ -36,6 +36,10 @@ abbrev pub other_side : Side → Side
 other_side Client = Server
 other_side Server = Client
 
+-- Both sides, the client first.
+abbrev pub all_sides : List Side
+all_sides = Client ∷ Server ∷ []
+
 -- Both kinds of directions, two ways first.
 abbrev pub all_dirs : List Dir
 all_dirs = Bi ∷ Uni ∷ []

@@ -1,5 +1,7 @@
 -- Errors of the transport (RFC 9000, section 20.1).
-use Rattle.std.specs.Prelude.{ℕ, Option, Some, None, List, [], ◌∷◌, ◌++◌, codes}
+use Rattle.std.specs.Prelude.{ℕ, Bool, Option, Some, None, List, [], ◌∷◌, ◌++◌, codes, nat_eq}
+use Rattle.std.specs.Option.{option_eq}
+use Rattle.std.specs.Ordering.{on, eq_of_both}
 use Rattle.quic_wire_core.specs.declared.reason.Reason.{Reason}
 use Rattle.quic_wire_core.specs.declared.reason.Reason.TheVariants.{Unsaid}
 use Rattle.quic_wire_core.specs.FrameType.{frame_text}
@@ -18,6 +20,10 @@ error_in code frame = record { code = code; frame = frame }
 -- An error with this code, which no frame caused.
 abbrev pub plain_error : ℕ → ErrorValue
 plain_error code = error_in code None
+
+-- Whether two errors have the same code and the same frame.
+abbrev pub same_error : ErrorValue → ErrorValue → Bool
+same_error = eq_of_both (on (λ e. e.code) nat_eq) (on (λ e. e.frame) (option_eq nat_eq))
 
 -- The connection closes without an error (RFC 9000, section 20.1).
 abbrev pub no_error : ℕ

@@ -1,14 +1,22 @@
 //! What the definitions of this crate say together. Each function does nothing: its contract is the law.
 ghost use Rattle.std.specs.Prelude.{◌≡◌, ℕ, ◌<◌, ◌≤◌, ◌^◌, ◌↔◌, List, ◌++◌, Some, IsTrue, length, nat_eq};
 ghost use Rattle.std.specs.Cmp.Lexicographic.{pointwise};
+ghost use Rattle.std.specs.Int.{w8, w16, w32, w64};
 ghost use Rattle.std.specs.declared.cmp.Ordering.TheVariants.{Equal};
-ghost use Rattle.quic_wire_core.specs.Coding.{IsBytes};
+ghost use Rattle.quic_wire_core.specs.Coding.{IsBytes, fixed_at, BeginsWith};
 ghost use Rattle.quic_wire_core.specs.ConnectionId.{id_cmp};
 ghost use Rattle.quic_wire_core.specs.StreamId.{stream_id, initiator_of, dir_of, index_of};
 ghost use Rattle.quic_wire_core.specs.StreamIdLaw.{AreSameParts};
+ghost use Rattle.quic_wire_core.specs.TransportError.{ErrorValue, same_error};
 ghost use Rattle.quic_wire_core.specs.Varint.{Spells, varint_at, shortest, varint_size, Begins};
 ghost use Rattle.quic_wire_core.specs.declared.stream_id.Side.{Side};
 ghost use Rattle.quic_wire_core.specs.declared.stream_id.Dir.{Dir};
+
+use crate::coding::Codec;
+use crate::frame_type::FrameType;
+use crate::stream_id::StreamId;
+use crate::transport_error::Code;
+use crate::varint::VarInt;
 
 /// Each form of a variable-length integer is read as that integer, whatever follows it.
 pub fn spelled_is_read()
@@ -40,6 +48,27 @@ pub fn forms_are_of_one()
     ensures { (v w : ℕ) (bytes : List ℕ) → Spells v bytes → Spells w bytes → v ≡ w }
 {}
 
+/// What each type with a form in bytes writes for a value, followed by any bytes, is read as that value, and those bytes
+/// are left.
+pub fn encoded_is_decoded()
+    ensures varint { (n : ℕ) (rest : List ℕ) → n < 2 ^ 62 → ⟦<VarInt as Codec>⟧.reads (⟦<VarInt as Codec>⟧.spelling n ++ rest) ≡ Some (n, rest) }
+    ensures stream_id { (n : ℕ) (rest : List ℕ) → n < 2 ^ 62 → ⟦<StreamId as Codec>⟧.reads (⟦<StreamId as Codec>⟧.spelling n ++ rest) ≡ Some (n, rest) }
+    ensures frame_type { (n : ℕ) (rest : List ℕ) → n < 2 ^ 62 → ⟦<FrameType as Codec>⟧.reads (⟦<FrameType as Codec>⟧.spelling n ++ rest) ≡ Some (n, rest) }
+    ensures code { (n : ℕ) (rest : List ℕ) → n < 2 ^ 62 → ⟦<Code as Codec>⟧.reads (⟦<Code as Codec>⟧.spelling n ++ rest) ≡ Some (n, rest) }
+    ensures byte { (n : ℕ) (rest : List ℕ) → n < 2 ^ 8 → ⟦<u8 as Codec>⟧.reads (⟦<u8 as Codec>⟧.spelling n ++ rest) ≡ Some (n, rest) }
+    ensures two_bytes { (n : ℕ) (rest : List ℕ) → n < 2 ^ 16 → ⟦<u16 as Codec>⟧.reads (⟦<u16 as Codec>⟧.spelling n ++ rest) ≡ Some (n, rest) }
+    ensures four_bytes { (n : ℕ) (rest : List ℕ) → n < 2 ^ 32 → ⟦<u32 as Codec>⟧.reads (⟦<u32 as Codec>⟧.spelling n ++ rest) ≡ Some (n, rest) }
+    ensures eight_bytes { (n : ℕ) (rest : List ℕ) → n < 2 ^ 64 → ⟦<u64 as Codec>⟧.reads (⟦<u64 as Codec>⟧.spelling n ++ rest) ≡ Some (n, rest) }
+{}
+
+/// Numbers of a fixed width are read where their big-endian bytes stand at the front, and only there.
+pub fn fixed_is_spelled()
+    ensures byte { (bytes : List ℕ) (n : ℕ) (rest : List ℕ) → IsBytes bytes → fixed_at w8 bytes ≡ Some (n, rest) → BeginsWith w8 bytes n rest }
+    ensures two_bytes { (bytes : List ℕ) (n : ℕ) (rest : List ℕ) → IsBytes bytes → fixed_at w16 bytes ≡ Some (n, rest) → BeginsWith w16 bytes n rest }
+    ensures four_bytes { (bytes : List ℕ) (n : ℕ) (rest : List ℕ) → IsBytes bytes → fixed_at w32 bytes ≡ Some (n, rest) → BeginsWith w32 bytes n rest }
+    ensures eight_bytes { (bytes : List ℕ) (n : ℕ) (rest : List ℕ) → IsBytes bytes → fixed_at w64 bytes ≡ Some (n, rest) → BeginsWith w64 bytes n rest }
+{}
+
 /// A stream id gives back the side, the directions and the place that it was made of.
 pub fn stream_ids_have_parts()
     ensures sides { (side : Side) (dir : Dir) (index : ℕ) → initiator_of (stream_id side dir index) ≡ side }
@@ -57,4 +86,9 @@ pub fn stream_ids_differ()
 pub fn connection_ids_are_their_bytes()
     ensures eq { (a b : List ℕ) → IsTrue (pointwise nat_eq a b) ↔ a ≡ b }
     ensures cmp { (a b : List ℕ) → (id_cmp a b ≡ Equal) ↔ a ≡ b }
+{}
+
+/// What `==` answers of two errors of the transport: whether they have the same code and the same frame.
+pub fn errors_are_code_and_frame()
+    ensures { (a b : ErrorValue) → IsTrue (same_error a b) ↔ a ≡ b }
 {}

@@ -1,7 +1,7 @@
 //! Sides, directions and stream ids (RFC 9000, section 2.1).
 ghost use Rattle.std.specs.Prelude.{◌≡◌, ◌<◌, ◌^◌, ◌==◌, IsTrue, ◌↔◌, Some};
 ghost use Rattle.std.specs.Array.Iter.{array_into_iter_items};
-ghost use Rattle.quic_wire_core.specs.StreamId.{side_bit, dir_bit, stream_id, initiator_of, dir_of, index_of, other_side, all_dirs, side_text, dir_text, stream_text};
+ghost use Rattle.quic_wire_core.specs.StreamId.{side_bit, dir_bit, stream_id, initiator_of, dir_of, index_of, other_side, all_sides, all_dirs, side_text, dir_text, stream_text};
 
 use crate::varint::VarInt;
 use std::marker::Model;
@@ -18,6 +18,13 @@ pub enum Side {
 }
 
 impl Side {
+    /// Both, the client first.
+    pub fn iter() -> array::IntoIter<Side, 2>
+        ensures { array_into_iter_items result ≡ all_sides }
+    {
+        [Side::Client, Side::Server].into_iter()
+    }
+
     /// Whether it is the client.
     pub fn is_client(self) -> bool
         ensures { IsTrue result ↔ self ≡ Side.Client }

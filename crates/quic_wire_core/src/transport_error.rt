@@ -1,7 +1,9 @@
 //! Errors of the transport, which close a connection (RFC 9000, section 20.1).
 ghost use Rattle.std.specs.Prelude.{◌≡◌, Some, None, MatchOption};
+ghost use Rattle.std.specs.Cmp.{partial_equiv_from_equiv};
 ghost use Rattle.std.specs.Fmt.{DisplaysOnOk};
-ghost use Rattle.quic_wire_core.specs.TransportError.{all_codes, code_name, code_text, frame_part, reason_part, error_text, error_in, plain_error};
+ghost use Rattle.quic_wire_core.specs.TransportError.{all_codes, code_name, code_text, frame_part, reason_part, error_text, error_in, plain_error, same_error};
+ghost use Rattle.quic_wire_core.specs.TransportErrorLaw.{same_error_equiv};
 ghost use Rattle.quic_wire_core.specs.declared.reason.Reason.{Reason};
 
 use crate::frame_type::FrameType;
@@ -175,7 +177,7 @@ fn name_of(code: u64) -> Option<&'static str>
 /// An error of the transport: its code, the type of the frame that caused it, where one did, and a reason for
 /// people to read (quinn-proto's `transport_error::Error`).
 ///
-/// Contracts see the code and the type of the frame.
+/// Contracts see the code and the type of the frame. Two errors are equal where these are, whatever their reasons.
 #[derive(Clone, Debug, Drop)]
 pub struct TransportError {
     code: Code,
@@ -232,6 +234,20 @@ impl TransportError {
             reason: self.reason,
         }
     }
+}
+
+impl PartialEq for TransportError {
+    ghost eq = { same_error };
+
+    ghost laws = { partial_equiv_from_equiv same_error_equiv };
+
+    fn eq(&self, other: &TransportError) -> bool {
+        self.code == other.code && self.frame == other.frame
+    }
+}
+
+impl Eq for TransportError {
+    ghost laws = { same_error_equiv };
 }
 
 impl From<Code> for TransportError {
@@ -307,6 +323,8 @@ mod tests {
             "FLOW_CONTROL_ERROR in STREAM: past a limit on bytes"
         );
         assert_eq!(rt; error.copied().reason(), Reason::TooManyBytes);
+        assert!(rt; error.copied() == error);
+        assert!(rt; error != TransportError::from(Code::FLOW_CONTROL_ERROR));
         let plain = TransportError::from(Code::from(VarInt::from_u32(0x1234)));
         let text = format!(in rt.alloc(); "{plain}")?;
         assert_eq!(rt; text.as_str(), "unknown error 4660");

@@ -278,6 +278,7 @@ mod tests {
 
     #[test]
     fn ends_below_two_to_the_62(rt: HostRuntime) -> Result<(), Fail> {
+        assert_eq!(rt; VarInt::default().into_inner(), 0);
         assert_eq!(rt; VarInt::from_u64(4_611_686_018_427_387_903)?, VarInt::MAX);
         assert_eq!(rt;
             VarInt::from_u64(4_611_686_018_427_387_904),
