@@ -3,7 +3,9 @@ ghost use Rattle.std.specs.Prelude.{◌≡◌, ℕ, ◌<◌, ◌≤◌, ◌^◌,
 ghost use Rattle.std.specs.Cmp.Lexicographic.{pointwise};
 ghost use Rattle.std.specs.declared.cmp.Ordering.TheVariants.{Equal};
 ghost use Rattle.quic_wire_core.specs.Coding.{IsBytes};
+ghost use Rattle.std.specs.List.{Contains};
 ghost use Rattle.quic_wire_core.specs.ConnectionId.{id_cmp};
+ghost use Rattle.quic_wire_core.specs.Runs.{Run, AreRuns, AreSame, IsMaximal};
 ghost use Rattle.quic_wire_core.specs.StreamId.{stream_id, initiator_of, dir_of, index_of};
 ghost use Rattle.quic_wire_core.specs.StreamIdLaw.{AreSameParts};
 ghost use Rattle.quic_wire_core.specs.Varint.{Spells, varint_at, shortest, varint_size, Begins};
@@ -57,4 +59,14 @@ pub fn stream_ids_differ()
 pub fn connection_ids_are_their_bytes()
     ensures eq { (a b : List ℕ) → IsTrue (pointwise nat_eq a b) ↔ a ≡ b }
     ensures cmp { (a b : List ℕ) → (id_cmp a b ≡ Equal) ↔ a ≡ b }
+{}
+
+/// Two lists of maximal runs that have the same numbers are the same list: a set has one.
+pub fn runs_are_their_numbers()
+    ensures { (a b : List Run) → AreRuns a → AreRuns b → AreSame a b → a ≡ b }
+{}
+
+/// The runs of a set are maximal: the numbers beside one aren't in the set.
+pub fn runs_are_maximal()
+    ensures { (runs : List Run) (run : Run) → AreRuns runs → Contains runs run → IsMaximal runs run }
 {}
