@@ -1,12 +1,16 @@
 //! Finite sets of numbers, kept as their maximal runs in ascending order (quinn-proto's `range_set`).
-ghost use Rattle.std.specs.Prelude.{◌≡◌, [], length, IsTrue, ◌↔◌};
-ghost use Rattle.quic_wire_core.specs.Runs.{AreRuns};
+ghost use Rattle.std.specs.Prelude.{◌≡◌, ℕ, ◌+◌, ◌≤◌, ◌<◌, [], ◌∷◌, length, IsTrue, ◌↔◌, OnOk, OnErr, IfOk, MatchOption, vec_len};
+ghost use Rattle.std.specs.Vec.{vec_capacity};
+ghost use Rattle.quic_wire_core.specs.Runs.{Has, AreRuns, Adds, Drops, IsUnion, IsDifference, TellsChange, IsLeast, IsGreatest, IsApart, IsInside};
+ghost use Rattle.quic_wire_core.specs.RunEdits.{edited, HasPlaces, Grows};
 
 mod array_range_set;
+mod runs;
 
 pub use array_range_set::ArrayRangeSet;
 
-use std::alloc::Global;
+use runs::Edit;
+use std::alloc::{AllocError, Global};
 use std::marker::Model;
 use std::ops::Range;
 
@@ -53,11 +57,145 @@ impl RangeSet {
         self.runs.is_empty()
     }
 
+    /// Whether a number is in the set, by halving.
+    pub fn contains(&self, x: u64) -> bool
+        ensures { IsTrue result ↔ Has self.now x }
+    {
+        runs::contains(&self.runs, x)
+    }
+
+    /// Adds the numbers of a range, and tells whether one of them is new. An empty or a reversed range changes nothing. The
+    /// runs behind the place move up or down once.
+    ///
+    /// # Errors
+    ///
+    /// [`AllocError`] where the numbers are a run of their own, which no run of the set meets or touches, and memory lacks;
+    /// the set stays.
+    pub fn insert(&mut self, x: Range<u64>) -> Result<bool, AllocError>
+        ensures ok { OnOk result (Adds self.old self.new x.start x.end) }
+        ensures runs { AreRuns self.new }
+        ensures changed { IfOk result (λ changed. TellsChange changed self.old self.new) }
+        ensures err { OnErr result (self.new ≡ self.old) }
+        ensures lacking { OnErr result (IsApart self.old x.start x.end) }
+    {
+        insert(&mut self.runs, x)
+    }
+
+    /// Adds a number below the greatest, and tells whether it is new.
+    ///
+    /// # Errors
+    ///
+    /// [`AllocError`] where the number is a run of its own and memory lacks; the set stays.
+    pub fn insert_one(&mut self, x: u64) -> Result<bool, AllocError>
+        requires { x < u64.MAX }
+        ensures ok { OnOk result (Adds self.old self.new x (x + 1)) }
+        ensures runs { AreRuns self.new }
+        ensures changed { IfOk result (λ changed. TellsChange changed self.old self.new) }
+        ensures err { OnErr result (self.new ≡ self.old) }
+        ensures lacking { OnErr result (IsApart self.old x (x + 1)) }
+    {
+        insert(&mut self.runs, x..x + 1)
+    }
+
+    /// Takes the numbers of a range out, and tells whether one of them was in the set. An empty or a reversed range changes
+    /// nothing. The runs behind the place move up or down once.
+    ///
+    /// # Errors
+    ///
+    /// [`AllocError`] where a run goes on at both ends of the range, so that it comes to be two, and memory lacks; the set
+    /// stays.
+    pub fn remove(&mut self, x: Range<u64>) -> Result<bool, AllocError>
+        ensures ok { OnOk result (Drops self.old self.new x.start x.end) }
+        ensures runs { AreRuns self.new }
+        ensures changed { IfOk result (λ changed. TellsChange changed self.old self.new) }
+        ensures err { OnErr result (self.new ≡ self.old) }
+        ensures lacking { OnErr result (IsInside self.old x.start x.end) }
+    {
+        remove(&mut self.runs, x)
+    }
+
     /// The runs, ascending.
     pub fn as_slice(&self) -> &[Range<u64>]
         ensures value { result.now ≡ self.now }
         ensures runs { AreRuns self.now }
     {
         &self.runs
+    }
+}
+
+/// Makes an edit. Only one that leaves a run more takes memory, and it does so first.
+fn apply(runs: &mut Vec<Range<u64>>, edit: Edit) -> Result<(), AllocError>
+    requires { HasPlaces edit (length runs.old.items) }
+    ensures ok { OnOk result (runs.new.items ≡ edited edit runs.old.items) }
+    ensures err { OnErr result (runs.new.items ≡ runs.old.items) }
+    ensures lacking { OnErr result (Grows edit) }
+    ensures full { OnErr result (vec_capacity runs.old ≤ vec_len runs.old) }
+    ensures len { vec_len runs.new ≤ vec_len runs.old + 1 }
+    ensures capacity { vec_capacity runs.old ≤ vec_capacity runs.new }
+{
+    match edit {
+        Edit::Insert { place, run } => runs.insert(place, run)?,
+        Edit::Split { place, left, right } => {
+            runs.insert(place + 1, right)?;
+            runs[place] = left;
+        }
+        Edit::Merge { from, to, run } => {
+            runs[from] = run;
+            runs.drain(from + 1..to);
+        }
+        Edit::Trim {
+            from,
+            to,
+            left,
+            right,
+        } => {
+            runs[from] = left;
+            runs[to - 1] = right;
+            runs.drain(from + 1..to - 1);
+        }
+        Edit::Remove { from, to } => {
+            runs.drain(from..to);
+        }
+    }
+    Ok(())
+}
+
+fn insert(runs: &mut Vec<Range<u64>>, x: Range<u64>) -> Result<bool, AllocError>
+    requires { AreRuns runs.old.items }
+    ensures runs { AreRuns runs.new.items }
+    ensures ok { OnOk result (Adds runs.old.items runs.new.items x.start x.end) }
+    ensures changed { IfOk result (λ changed. TellsChange changed runs.old.items runs.new.items) }
+    ensures err { OnErr result (runs.new.items ≡ runs.old.items) }
+    ensures lacking { OnErr result (IsApart runs.old.items x.start x.end) }
+    ensures full { OnErr result (vec_capacity runs.old ≤ vec_len runs.old) }
+    ensures len { vec_len runs.new ≤ vec_len runs.old + 1 }
+    ensures capacity { vec_capacity runs.old ≤ vec_capacity runs.new }
+{
+    match runs::insertion(runs, &x) {
+        None => Ok(false),
+        Some(edit) => {
+            apply(runs, edit)?;
+            Ok(true)
+        }
+    }
+}
+
+fn remove(runs: &mut Vec<Range<u64>>, x: Range<u64>) -> Result<bool, AllocError>
+    requires { AreRuns runs.old.items }
+    ensures runs { AreRuns runs.new.items }
+    ensures ok { OnOk result (Drops runs.old.items runs.new.items x.start x.end) }
+    ensures changed { IfOk result (λ changed. TellsChange changed runs.old.items runs.new.items) }
+    ensures err { OnErr result (runs.new.items ≡ runs.old.items) }
+    ensures lacking { OnErr result (IsInside runs.old.items x.start x.end) }
+    ensures full { OnErr result (vec_capacity runs.old ≤ vec_len runs.old) }
+    ensures len { vec_len runs.new ≤ vec_len runs.old + 1 }
+    ensures capacity { vec_capacity runs.old ≤ vec_capacity runs.new }
+{
+    match runs::removal(runs, &x) {
+        None => Ok(false),
+        Some(edit) => {
+            apply(runs, edit)?;
+            Ok(true)
+        }
     }
 }

@@ -1,0 +1,54 @@
+-- How a call changes a list of runs: the runs at some places give way to others.
+use Rattle.std.specs.Prelude.{◌≡◌, ℕ, ◌+◌, ◌≤◌, ◌<◌, List, [], ◌∷◌, ◌++◌, length, take, drop, slice_index_or}
+use Rattle.std.specs.declared.ops.Range.{Range}
+use Rattle.quic_wire_core.specs.Runs.{Run, Has, AreRuns, Adds, Drops, IsApart, IsInside}
+use Rattle.quic_wire_core.specs.declared.range_set.runs.Edit.{Edit}
+use Rattle.quic_wire_core.specs.declared.range_set.runs.Edit.TheVariants as edits
+
+-- the runs at these places are those that have a number from the first one to the last
+pub record AreMet (rs : List Run) (first last from to : ℕ) : Type 0 where
+  pub ascend : from ≤ to
+  pub within : to ≤ length rs
+  pub before : (k : ℕ) (d : Run) → k < from → (slice_index_or rs k d).end ≤ first
+  pub meet : (k : ℕ) (d : Run) → from ≤ k → k < to → (first < (slice_index_or rs k d).end) × ((slice_index_or rs k d).start ≤ last)
+  pub behind : (k : ℕ) (d : Run) → to ≤ k → k < length rs → last < (slice_index_or rs k d).start
+
+-- the list after the edit
+abbrev pub edited : Edit → List Run → List Run
+edited (edits.Insert place run) rs = take place rs ++ (run ∷ drop place rs)
+edited (edits.Split place left right) rs = take place rs ++ (left ∷ right ∷ drop (place + 1) rs)
+edited (edits.Merge from to run) rs = take from rs ++ (run ∷ drop to rs)
+edited (edits.Trim from to left right) rs = take from rs ++ (left ∷ right ∷ drop to rs)
+edited (edits.Remove from to) rs = take from rs ++ drop to rs
+
+-- a list of that many runs has the places, and as many as are written
+abbrev pub HasPlaces : Edit → ℕ → Type 0
+HasPlaces (edits.Insert place run) n = place ≤ n
+HasPlaces (edits.Split place left right) n = place < n
+HasPlaces (edits.Merge from to run) n = (from < to) × (to ≤ n)
+HasPlaces (edits.Trim from to left right) n = (from + 2 ≤ to) × (to ≤ n)
+HasPlaces (edits.Remove from to) n = (from ≤ to) × (to ≤ n)
+
+-- the edit leaves one run more
+abbrev pub Grows : Edit → Type 0
+Grows (edits.Insert place run) = Unit {0}
+Grows (edits.Split place left right) = Unit {0}
+Grows (edits.Merge from to run) = ⊥
+Grows (edits.Trim from to left right) = ⊥
+Grows (edits.Remove from to) = ⊥
+
+-- the edit puts the numbers from a up to b into the set, of which some weren't there
+pub record IsInsertion (rs : List Run) (a b : ℕ) (e : Edit) : Type 0 where
+  pub places : HasPlaces e (length rs)
+  pub adds : Adds rs (edited e rs) a b
+  pub runs : AreRuns (edited e rs)
+  pub changes : edited e rs ≡ rs → ⊥
+  pub apart : Grows e → IsApart rs a b
+
+-- the edit takes the numbers from a up to b out of the set, of which some were there
+pub record IsRemoval (rs : List Run) (a b : ℕ) (e : Edit) : Type 0 where
+  pub places : HasPlaces e (length rs)
+  pub drops : Drops rs (edited e rs) a b
+  pub runs : AreRuns (edited e rs)
+  pub changes : edited e rs ≡ rs → ⊥
+  pub inside : Grows e → IsInside rs a b

@@ -1,0 +1,140 @@
+//! Lists of maximal runs: where a number is, and what a call changes. Both sets are made of these.
+ghost use Rattle.std.specs.Prelude.{◌≡◌, ℕ, ◌≤◌, ◌<◌, length, slice_index_or, IsTrue, ◌↔◌, MatchOption};
+ghost use Rattle.quic_wire_core.specs.Runs.{Run, Has, AreRuns, Adds, Drops};
+ghost use Rattle.quic_wire_core.specs.RunEdits.{AreMet, IsInsertion, IsRemoval};
+
+use std::ops::Range;
+
+/// How a call changes a list of runs.
+#[derive(Drop)]
+pub(super) enum Edit {
+    /// A run goes in before the one at a place.
+    Insert { place: usize, run: Range<u64> },
+    /// The run at a place gives way to two.
+    Split {
+        place: usize,
+        left: Range<u64>,
+        right: Range<u64>,
+    },
+    /// The runs of `from..to`, at least one, give way to one.
+    Merge {
+        from: usize,
+        to: usize,
+        run: Range<u64>,
+    },
+    /// The runs of `from..to`, at least two, give way to two.
+    Trim {
+        from: usize,
+        to: usize,
+        left: Range<u64>,
+        right: Range<u64>,
+    },
+    /// The runs of `from..to` go.
+    Remove { from: usize, to: usize },
+}
+
+/// How many runs end at a number or below it, by halving.
+fn ending_by(runs: &[Range<u64>], n: u64) -> usize
+    requires { AreRuns runs.now }
+    ensures within { result ≤ length runs.now }
+    ensures front { (k : ℕ) (d : Run) → k < result → (slice_index_or runs.now k d).end ≤ n }
+    ensures back { (k : ℕ) (d : Run) → result ≤ k → k < length runs.now → n < (slice_index_or runs.now k d).end }
+{
+    runs.partition_point(|run| run.end <= n)
+}
+
+/// How many runs start at a number or below it, by halving.
+fn starting_by(runs: &[Range<u64>], n: u64) -> usize
+    requires { AreRuns runs.now }
+    ensures within { result ≤ length runs.now }
+    ensures front { (k : ℕ) (d : Run) → k < result → (slice_index_or runs.now k d).start ≤ n }
+    ensures back { (k : ℕ) (d : Run) → result ≤ k → k < length runs.now → n < (slice_index_or runs.now k d).start }
+{
+    runs.partition_point(|run| run.start <= n)
+}
+
+/// The places of the runs that have a number from the first one to the last.
+fn met(runs: &[Range<u64>], first: u64, last: u64) -> Range<usize>
+    requires runs { AreRuns runs.now }
+    requires ascend { first ≤ last }
+    ensures { AreMet runs.now first last result.start result.end }
+{
+    ending_by(runs, first)..starting_by(runs, last)
+}
+
+/// Whether a number is in the set.
+pub(super) fn contains(runs: &[Range<u64>], x: u64) -> bool
+    requires { AreRuns runs.now }
+    ensures { IsTrue result ↔ Has runs.now x }
+{
+    let place = ending_by(runs, x);
+    place < runs.len() && runs[place].start <= x
+}
+
+/// What puts a range into the set. `None` where that changes nothing.
+pub(super) fn insertion(runs: &[Range<u64>], x: &Range<u64>) -> Option<Edit>
+    requires { AreRuns runs.now }
+    ensures { MatchOption result (Adds runs.now runs.now x.now.start x.now.end) (IsInsertion runs.now x.now.start x.now.end) }
+{
+    if x.end <= x.start {
+        return None;
+    }
+    // A run that ends where the range starts, or starts where it ends, comes to be one with it.
+    let Range { start: from, end: to } = met(runs, x.start.saturating_sub(1), x.end);
+    if from == to {
+        return Some(Edit::Insert {
+            place: from,
+            run: x.start..x.end,
+        });
+    }
+    if runs[from].start <= x.start && x.end <= runs[from].end {
+        return None;
+    }
+    let start = x.start.min(runs[from].start);
+    let end = x.end.max(runs[to - 1].end);
+    Some(Edit::Merge {
+        from,
+        to,
+        run: start..end,
+    })
+}
+
+/// What takes a range out of the set. `None` where that changes nothing.
+pub(super) fn removal(runs: &[Range<u64>], x: &Range<u64>) -> Option<Edit>
+    requires { AreRuns runs.now }
+    ensures { MatchOption result (Drops runs.now runs.now x.now.start x.now.end) (IsRemoval runs.now x.now.start x.now.end) }
+{
+    if x.end <= x.start {
+        return None;
+    }
+    let Range { start: from, end: to } = met(runs, x.start, x.end - 1);
+    if from == to {
+        return None;
+    }
+    let left = runs[from].start..x.start;
+    let right = x.end..runs[to - 1].end;
+    Some(match (left.start < left.end, right.start < right.end) {
+        (false, false) => Edit::Remove { from, to },
+        (false, true) => Edit::Merge {
+            from,
+            to,
+            run: right,
+        },
+        (true, false) => Edit::Merge {
+            from,
+            to,
+            run: left,
+        },
+        (true, true) if to - from == 1 => Edit::Split {
+            place: from,
+            left,
+            right,
+        },
+        (true, true) => Edit::Trim {
+            from,
+            to,
+            left,
+            right,
+        },
+    })
+}
