@@ -1,10 +1,15 @@
 -- What an edit does to the numbers of a list of runs.
 use Rattle.std.proofs.Common.{◌≡◌, ℕ, suc, zero, ◌+◌, ◌-◌, ◌≤◌, ◌<◌, min, max, ◌⊎◌, ◌↔◌, List, [], ◌∷◌, ◌++◌, length, take, drop, get_or, refl, sym, ap, ◌∙◌, inl, inr, arith}
 use Rattle.std.proofs.lemmas.Bool.{cases_lt}
-use Rattle.quic_wire_core.specs.Runs.{Run, In, Has, AreRunsFrom, AreRuns, Adds, Drops, IsApart, IsInside}
-use Rattle.quic_wire_core.specs.RunEdits.{AreMet, IsInsertion, IsRemoval, edited}
+use Rattle.std.specs.List.{insert, remove}
+use Rattle.std.specs.Prelude.{slice_get, set, Some}
+use Rattle.std.proofs.Common.{add-one, length-append, length-take, length-drop}
+use Rattle.std.proofs.lemmas.List.{take_more, take_all}
+use Rattle.quic_wire_core.specs.Runs.{Run, In, Has, AreRunsFrom, AreRuns, Adds, Drops, IsUnion, IsDifference, IsLeast, IsGreatest, IsApart, IsInside}
+use Rattle.quic_wire_core.specs.RunEdits.{AreMet, IsInsertion, IsRemoval, HasPlaces, edited}
+use Rattle.quic_wire_core.specs.declared.range_set.runs.Edit.{Edit}
 use Rattle.quic_wire_core.specs.declared.range_set.runs.Edit.TheVariants as edits
-use Rattle.quic_wire_core.proofs.RunLists.{lower, has_at, at_has, filled, ordered, has_left, has_right, has_either, in_take, take_has, in_drop, drop_has, after, joined, taken, after_taken, dropped}
+use Rattle.quic_wire_core.proofs.RunLists.{lower, has_at, at_has, filled, ordered, starts_rise, ends_rise, has_left, has_right, has_either, in_take, take_has, in_drop, drop_has, after, joined, taken, after_taken, dropped}
 
 abbrev pub empty : Run
 empty = record { start = 0; end = 0 }
@@ -18,6 +23,14 @@ pub between_runs : (rs mid : List Run) (i t m : ℕ) → AreRuns rs → ((j : �
 between_runs rs mid i t m runs front here back =
     let behind = joined m mid (drop t rs) here (dropped 0 (after m mid) rs t empty runs back) in
     joined 0 (take i rs) (mid ++ drop t rs) (taken 0 rs i runs) (lower m (after 0 (take i rs)) (mid ++ drop t rs) (after_taken 0 m rs i empty (omega arith) front) behind)
+
+-- an edit leaves at most one run more
+edited_short : (rs : List Run) (e : Edit) → HasPlaces e (length rs) → length (edited e rs) ≤ length rs + 1
+edited_short rs (edits.Insert i run) h = simp (length-append, length-take, length-drop) (omega arith)
+edited_short rs (edits.Split i t left right) h = simp (length-append, length-take, length-drop) (omega arith)
+edited_short rs (edits.Merge i t run) h = simp (length-append, length-take, length-drop) (omega arith)
+edited_short rs (edits.Trim i t left right) h = simp (length-append, length-take, length-drop) (omega arith)
+edited_short rs (edits.Remove i t) h = simp (length-append, length-take, length-drop) (omega arith)
 
 -- ---- adding
 
@@ -106,6 +119,7 @@ inserts rs a b i t runs ab met e =
     let met' : AreMet rs (a - 1) b i i = rw (← e) at met in
     record {
       places = omega (arith, met'.within);
+      short = edited_short rs (edits.Insert i (record { start = a; end = b })) (omega (arith, met'.within));
       adds = widens rs i i a b a b (lone_widens rs a b i ab);
       runs = lone_runs rs a b i runs ab met';
       changes = lone_changes rs a b i runs ab met';
@@ -186,6 +200,7 @@ merge_changes rs a b i t runs ab met it past e =
 pub merges : (rs : List Run) (a b i t : ℕ) → AreRuns rs → a < b → AreMet rs (a - 1) b i t → i < t → GoesPast a b (at rs i) → IsInsertion rs a b (edits.Merge i t (record { start = min a (at rs i).start; end = max b (at rs (t - 1)).end }))
 merges rs a b i t runs ab met it past = record {
   places = (it, met.within);
+  short = edited_short rs (edits.Merge i t (record { start = min a (at rs i).start; end = max b (at rs (t - 1)).end })) (it, met.within);
   adds = widens rs i t a b (min a (at rs i).start) (max b (at rs (t - 1)).end) (merge_widens rs a b i t runs ab met it);
   runs = merge_runs rs a b i t runs ab met it;
   changes = merge_changes rs a b i t runs ab met it past;
@@ -335,6 +350,7 @@ both_runs rs a b i t c l r =
 pub removes : (rs : List Run) (a b i t : ℕ) → Cuts rs a b i t → a ≤ (at rs i).start → (at rs (t - 1)).end ≤ b → IsRemoval rs a b (edits.Remove i t)
 removes rs a b i t c l r = record {
   places = (c.met.ascend, c.met.within);
+  short = edited_short rs (edits.Remove i t) (c.met.ascend, c.met.within);
   drops = narrows rs [] i t a b (cut_narrows rs [] a b i t c (none_left rs a b i t l r));
   runs = removed_runs rs a b i t c;
   changes = cut_changes rs [] a b i t c (none_left rs a b i t l r);
@@ -344,6 +360,7 @@ removes rs a b i t c l r = record {
 pub leaves_first : (rs : List Run) (a b i t : ℕ) → Cuts rs a b i t → (at rs i).start < a → (at rs (t - 1)).end ≤ b → IsRemoval rs a b (edits.Merge i t (left_of rs i a))
 leaves_first rs a b i t c l r = record {
   places = (c.some, c.met.within);
+  short = edited_short rs (edits.Merge i t (left_of rs i a)) (c.some, c.met.within);
   drops = narrows rs (left_of rs i a ∷ []) i t a b (cut_narrows rs (left_of rs i a ∷ []) a b i t c (first_left rs a b i t r));
   runs = first_runs rs a b i t c l;
   changes = cut_changes rs (left_of rs i a ∷ []) a b i t c (first_left rs a b i t r);
@@ -353,6 +370,7 @@ leaves_first rs a b i t c l r = record {
 pub leaves_last : (rs : List Run) (a b i t : ℕ) → Cuts rs a b i t → a ≤ (at rs i).start → b < (at rs (t - 1)).end → IsRemoval rs a b (edits.Merge i t (right_of rs t b))
 leaves_last rs a b i t c l r = record {
   places = (c.some, c.met.within);
+  short = edited_short rs (edits.Merge i t (right_of rs t b)) (c.some, c.met.within);
   drops = narrows rs (right_of rs t b ∷ []) i t a b (cut_narrows rs (right_of rs t b ∷ []) a b i t c (last_left rs a b i t l));
   runs = last_runs rs a b i t c r;
   changes = cut_changes rs (right_of rs t b ∷ []) a b i t c (last_left rs a b i t l);
@@ -362,25 +380,27 @@ leaves_last rs a b i t c l r = record {
 pub leaves_both : (rs : List Run) (a b i t : ℕ) → Cuts rs a b i t → i + 2 ≤ t → (at rs i).start < a → b < (at rs (t - 1)).end → IsRemoval rs a b (edits.Trim i t (left_of rs i a) (right_of rs t b))
 leaves_both rs a b i t c apart l r = record {
   places = (apart, c.met.within);
+  short = edited_short rs (edits.Trim i t (left_of rs i a) (right_of rs t b)) (apart, c.met.within);
   drops = narrows rs (left_of rs i a ∷ right_of rs t b ∷ []) i t a b (cut_narrows rs (left_of rs i a ∷ right_of rs t b ∷ []) a b i t c (both_left rs a b i t));
   runs = both_runs rs a b i t c l r;
   changes = cut_changes rs (left_of rs i a ∷ right_of rs t b ∷ []) a b i t c (both_left rs a b i t);
   inside = λ h. absurd h;
 }
 
-pub splits : (rs : List Run) (a b i : ℕ) → Cuts rs a b i (i + 1) → (at rs i).start < a → b < (at rs (i + 1 - 1)).end → IsRemoval rs a b (edits.Split i (left_of rs i a) (right_of rs (i + 1) b))
+pub splits : (rs : List Run) (a b i : ℕ) → Cuts rs a b i (i + 1) → (at rs i).start < a → b < (at rs (i + 1 - 1)).end → IsRemoval rs a b (edits.Split i (i + 1) (left_of rs i a) (right_of rs (i + 1) b))
 splits rs a b i c l r =
     let same : i + 1 - 1 ≡ i = omega arith in
     let r' : b < (at rs i).end = rw same at r in
     record {
-      places = omega (arith, c.met.within);
+      places = (refl, c.met.within);
+      short = edited_short rs (edits.Split i (i + 1) (left_of rs i a) (right_of rs (i + 1) b)) (refl, c.met.within);
       drops = narrows rs (left_of rs i a ∷ right_of rs (i + 1) b ∷ []) i (i + 1) a b (cut_narrows rs (left_of rs i a ∷ right_of rs (i + 1) b ∷ []) a b i (i + 1) c (both_left rs a b i (i + 1)));
       runs = both_runs rs a b i (i + 1) c l r;
       changes = cut_changes rs (left_of rs i a ∷ right_of rs (i + 1) b ∷ []) a b i (i + 1) c (both_left rs a b i (i + 1));
       inside = λ _. (omega arith, c.filled, λ k lo hi. has_at rs i k empty (omega (arith, c.met.within)) (omega (arith, lo, l), omega (arith, hi, r')));
     }
 
-pub splits_at : (rs : List Run) (a b i t : ℕ) → Cuts rs a b i t → t ≡ i + 1 → (at rs i).start < a → b < (at rs (t - 1)).end → IsRemoval rs a b (edits.Split i (left_of rs i a) (right_of rs t b))
+pub splits_at : (rs : List Run) (a b i t : ℕ) → Cuts rs a b i t → t ≡ i + 1 → (at rs i).start < a → b < (at rs (t - 1)).end → IsRemoval rs a b (edits.Split i t (left_of rs i a) (right_of rs t b))
 splits_at rs a b i t c e l r = rw e (splits rs a b i (rw e at c) l (rw e at r))
 
 -- no run meets the range
@@ -409,3 +429,77 @@ starts_below rs x p runs front within h =
 
 pub lacks_all : (rs : List Run) (x p : ℕ) → ((k : ℕ) (d : Run) → k < p → (get_or rs k d).end ≤ x) → length rs ≤ p → Has rs x → ⊥
 lacks_all rs x p front le h = let j = at_has rs x empty h in let e = front j.0 empty (omega (arith, j.1)) in omega (arith, e, j.2)
+
+-- ---- a run that comes to be two
+
+set_first : (rs ys : List Run) (p : ℕ) (l : Run) → p < length rs → set (take (suc p) rs ++ ys) p l ≡ take p rs ++ (l ∷ ys)
+set_first [] ys p l lt = absurd (omega arith)
+set_first (x ∷ rs) ys zero l lt = refl
+set_first (x ∷ rs) ys (suc p) l lt = ap (λ (zs : List Run). x ∷ zs) (set_first rs ys p l (omega arith))
+
+pub split_is : (rs : List Run) (i t : ℕ) (l r : Run) → i + 1 ≡ t → t ≤ length rs → set (insert rs t r) i l ≡ take i rs ++ (l ∷ r ∷ drop t rs)
+split_is rs i t l r e le = rw (← e, add-one) (set_first rs (r ∷ drop (suc i) rs) i l (omega arith))
+
+-- ---- the first and the last
+
+pub got : (rs : List Run) (i : ℕ) (r : Run) → slice_get rs i ≡ Some r → (i < length rs) × (at rs i ≡ r)
+got [] i r e = absurd cc
+got (x ∷ rs) zero r e = (omega arith, cc)
+got (x ∷ rs) (suc i) r e = let g = got rs i r e in (omega (arith, g.0), g.1)
+
+pub least_is : (rs : List Run) (r : Run) → AreRuns rs → slice_get rs 0 ≡ Some r → IsLeast rs r.start
+least_is rs r runs e =
+    let g = got rs 0 r e in
+    let f = filled 0 rs 0 empty runs g.0 in
+    rw (← g.1) (has_at rs 0 (at rs 0).start empty g.0 (omega arith, f), λ k h. (let j = at_has rs k empty h in let o = starts_rise rs runs 0 j.0 empty (omega arith) j.1 in omega (arith, o, j.2)))
+
+pub greatest_is : (rs : List Run) (r : Run) → AreRuns rs → slice_get rs (length rs - 1) ≡ Some r → IsGreatest rs (r.end - 1)
+greatest_is rs r runs e =
+    let g = got rs (length rs - 1) r e in
+    let f = filled 0 rs (length rs - 1) empty runs g.0 in
+    rw (← g.1) (has_at rs (length rs - 1) ((at rs (length rs - 1)).end - 1) empty g.0 (omega (arith, f), omega (arith, f)), λ k h. (let j = at_has rs k empty h in let o = ends_rise rs runs j.0 (length rs - 1) empty (omega (arith, j.1)) g.0 in omega (arith, o, j.2)))
+
+pub not_empty : (rs : List Run) (r : Run) (i : ℕ) → AreRuns rs → slice_get rs i ≡ Some r → 0 < r.end
+not_empty rs r i runs e = let g = got rs i r e in let f = filled 0 rs i empty runs g.0 in rw (← g.1) (omega (arith, f))
+
+pub tail_runs : (rs : List Run) → AreRuns rs → AreRuns (remove rs 0)
+tail_runs [] h = tt
+tail_runs (r ∷ rs) h = lower (r.end + 1) 0 rs (omega arith) h.2
+
+-- ---- run after run
+
+has_more : (rs : List Run) (i k : ℕ) → i < length rs → Has (take (i + 1) rs) k → Has (take i rs) k ⊎ In k (at rs i)
+has_more rs i k lt h = elim (has_either (take i rs) (at rs i ∷ []) k (rw (take_more rs i empty lt) at h)) [ inl x ↦ inl x | inr x ↦ elim x [ inl y ↦ inr y | inr y ↦ absurd y ] ]
+
+more_has : (rs : List Run) (i k : ℕ) → i < length rs → Has (take i rs) k ⊎ In k (at rs i) → Has (take (i + 1) rs) k
+more_has rs i k lt h = rw (take_more rs i empty lt) (elim h [ inl x ↦ has_left (take i rs) (at rs i ∷ []) k x | inr x ↦ has_right (take i rs) (at rs i ∷ []) k (inl x) ])
+
+pub union_none : (rs other : List Run) → IsUnion rs (take 0 other) rs
+union_none rs other k = (λ h. inl h, λ h. elim h [ inl x ↦ x | inr x ↦ absurd x ])
+
+pub union_more : (old other mid new : List Run) (i : ℕ) → i < length other → IsUnion old (take i other) mid → Adds mid new (at other i).start (at other i).end → IsUnion old (take (i + 1) other) new
+union_more old other mid new i lt so_far adds k = (
+    λ h. elim ((adds k).0 h) [
+      | inl x ↦ elim ((so_far k).0 x) [ inl y ↦ inl y | inr y ↦ inr (more_has other i k lt (inl y)) ]
+      | inr x ↦ inr (more_has other i k lt (inr x))
+    ],
+    λ h. (adds k).1 (elim h [
+      | inl x ↦ inl ((so_far k).1 (inl x))
+      | inr x ↦ elim (has_more other i k lt x) [ inl y ↦ inl ((so_far k).1 (inr y)) | inr y ↦ inr y ]
+    ])
+  )
+
+pub union_all : (old other new : List Run) (i : ℕ) → length other ≤ i → IsUnion old (take i other) new → IsUnion old other new
+union_all old other new i le h = rw (take_all i other le) at h
+
+pub difference_none : (rs other : List Run) → IsDifference rs (take 0 other) rs
+difference_none rs other k = (λ h. (h, λ x. x), λ h. h.0)
+
+pub difference_more : (old other mid new : List Run) (i : ℕ) → i < length other → IsDifference old (take i other) mid → Drops mid new (at other i).start (at other i).end → IsDifference old (take (i + 1) other) new
+difference_more old other mid new i lt so_far drops k = (
+    λ h. (((so_far k).0 ((drops k).0 h).0).0, λ x. elim (has_more other i k lt x) [ inl y ↦ ((so_far k).0 ((drops k).0 h).0).1 y | inr y ↦ ((drops k).0 h).1 y ]),
+    λ h. (drops k).1 ((so_far k).1 (h.0, λ x. h.1 (more_has other i k lt (inl x))), λ x. h.1 (more_has other i k lt (inr x)))
+  )
+
+pub difference_all : (old other new : List Run) (i : ℕ) → length other ≤ i → IsDifference old (take i other) new → IsDifference old other new
+difference_all old other new i le h = rw (take_all i other le) at h

@@ -16,7 +16,7 @@ pub record AreMet (rs : List Run) (first last from to : ℕ) : Type 0 where
 -- the list after the edit
 abbrev pub edited : Edit → List Run → List Run
 edited (edits.Insert place run) rs = take place rs ++ (run ∷ drop place rs)
-edited (edits.Split place left right) rs = take place rs ++ (left ∷ right ∷ drop (place + 1) rs)
+edited (edits.Split from to left right) rs = take from rs ++ (left ∷ right ∷ drop to rs)
 edited (edits.Merge from to run) rs = take from rs ++ (run ∷ drop to rs)
 edited (edits.Trim from to left right) rs = take from rs ++ (left ∷ right ∷ drop to rs)
 edited (edits.Remove from to) rs = take from rs ++ drop to rs
@@ -24,7 +24,7 @@ edited (edits.Remove from to) rs = take from rs ++ drop to rs
 -- a list of that many runs has the places, and as many as are written
 abbrev pub HasPlaces : Edit → ℕ → Type 0
 HasPlaces (edits.Insert place run) n = place ≤ n
-HasPlaces (edits.Split place left right) n = place < n
+HasPlaces (edits.Split from to left right) n = (from + 1 ≡ to) × (to ≤ n)
 HasPlaces (edits.Merge from to run) n = (from < to) × (to ≤ n)
 HasPlaces (edits.Trim from to left right) n = (from + 2 ≤ to) × (to ≤ n)
 HasPlaces (edits.Remove from to) n = (from ≤ to) × (to ≤ n)
@@ -32,7 +32,7 @@ HasPlaces (edits.Remove from to) n = (from ≤ to) × (to ≤ n)
 -- the edit leaves one run more
 abbrev pub Grows : Edit → Type 0
 Grows (edits.Insert place run) = Unit {0}
-Grows (edits.Split place left right) = Unit {0}
+Grows (edits.Split from to left right) = Unit {0}
 Grows (edits.Merge from to run) = ⊥
 Grows (edits.Trim from to left right) = ⊥
 Grows (edits.Remove from to) = ⊥
@@ -40,6 +40,7 @@ Grows (edits.Remove from to) = ⊥
 -- the edit puts the numbers from a up to b into the set, of which some weren't there
 pub record IsInsertion (rs : List Run) (a b : ℕ) (e : Edit) : Type 0 where
   pub places : HasPlaces e (length rs)
+  pub short : length (edited e rs) ≤ length rs + 1
   pub adds : Adds rs (edited e rs) a b
   pub runs : AreRuns (edited e rs)
   pub changes : edited e rs ≡ rs → ⊥
@@ -48,6 +49,7 @@ pub record IsInsertion (rs : List Run) (a b : ℕ) (e : Edit) : Type 0 where
 -- the edit takes the numbers from a up to b out of the set, of which some were there
 pub record IsRemoval (rs : List Run) (a b : ℕ) (e : Edit) : Type 0 where
   pub places : HasPlaces e (length rs)
+  pub short : length (edited e rs) ≤ length rs + 1
   pub drops : Drops rs (edited e rs) a b
   pub runs : AreRuns (edited e rs)
   pub changes : edited e rs ≡ rs → ⊥

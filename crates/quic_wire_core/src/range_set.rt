@@ -1,5 +1,5 @@
 //! Finite sets of numbers, kept as their maximal runs in ascending order (quinn-proto's `range_set`).
-ghost use Rattle.std.specs.Prelude.{◌≡◌, ℕ, ◌+◌, ◌≤◌, ◌<◌, [], ◌∷◌, length, IsTrue, ◌↔◌, OnOk, OnErr, IfOk, MatchOption, vec_len};
+ghost use Rattle.std.specs.Prelude.{◌≡◌, ℕ, ◌+◌, ◌≤◌, ◌<◌, [], ◌∷◌, length, IsTrue, ◌↔◌, OnOk, OnErr, IsOk, IfOk, MatchOption, slice_get, vec_len};
 ghost use Rattle.std.specs.Vec.{vec_capacity};
 ghost use Rattle.quic_wire_core.specs.Runs.{Has, AreRuns, Adds, Drops, IsUnion, IsDifference, TellsChange, IsLeast, IsGreatest, IsApart, IsInside};
 ghost use Rattle.quic_wire_core.specs.RunEdits.{edited, HasPlaces, Grows};
@@ -114,6 +114,78 @@ impl RangeSet {
         remove(&mut self.runs, x)
     }
 
+    /// Takes the numbers of another set out, run by run.
+    ///
+    /// # Errors
+    ///
+    /// [`AllocError`] where there is no memory for as many runs more as the other set has; the set stays.
+    pub fn subtract(&mut self, other: &RangeSet) -> Result<(), AllocError>
+        ensures ok { OnOk result (IsDifference self.old other.now self.new) }
+        ensures runs { AreRuns self.new }
+        ensures err { OnErr result (self.new ≡ self.old) }
+    {
+        subtract(&mut self.runs, &other.runs)
+    }
+
+    /// Adds the numbers of another set, run by run.
+    ///
+    /// # Errors
+    ///
+    /// [`AllocError`] where there is no memory for as many runs more as the other set has; the set stays.
+    pub fn add(&mut self, other: &RangeSet) -> Result<(), AllocError>
+        ensures ok { OnOk result (IsUnion self.old other.now self.new) }
+        ensures runs { AreRuns self.new }
+        ensures err { OnErr result (self.new ≡ self.old) }
+    {
+        add(&mut self.runs, &other.runs)
+    }
+
+    /// The least number.
+    pub fn min(&self) -> Option<u64>
+        ensures { MatchOption result (self.now ≡ []) (IsLeast self.now) }
+    {
+        runs::least(&self.runs)
+    }
+
+    /// The greatest number.
+    pub fn max(&self) -> Option<u64>
+        ensures { MatchOption result (self.now ≡ []) (IsGreatest self.now) }
+    {
+        runs::greatest(&self.runs)
+    }
+
+    /// The run of the least number.
+    pub fn peek_min(&self) -> Option<Range<u64>>
+        ensures { result ≡ slice_get self.now 0 }
+    {
+        runs::first(&self.runs)
+    }
+
+    /// Takes the run of the least number out. The others move down by one place, so this takes time for each of them.
+    pub fn pop_min(&mut self) -> Option<Range<u64>>
+        ensures taken { MatchOption result ((self.old ≡ []) × (self.new ≡ [])) (λ run. self.old ≡ run ∷ self.new) }
+        ensures runs { AreRuns self.new }
+    {
+        if self.runs.is_empty() {
+            None
+        } else {
+            Some(self.runs.remove(0))
+        }
+    }
+
+    /// A second set of the same numbers.
+    ///
+    /// # Errors
+    ///
+    /// [`AllocError`] where memory lacks for it.
+    pub fn try_clone(&self) -> Result<Self, AllocError>
+        ensures { IfOk result (λ copy. copy ≡ self.now) }
+    {
+        Ok(RangeSet {
+            runs: self.runs.clone()?,
+        })
+    }
+
     /// The runs, ascending.
     pub fn as_slice(&self) -> &[Range<u64>]
         ensures value { result.now ≡ self.now }
@@ -129,15 +201,20 @@ fn apply(runs: &mut Vec<Range<u64>>, edit: Edit) -> Result<(), AllocError>
     ensures ok { OnOk result (runs.new.items ≡ edited edit runs.old.items) }
     ensures err { OnErr result (runs.new.items ≡ runs.old.items) }
     ensures lacking { OnErr result (Grows edit) }
-    ensures full { OnErr result (vec_capacity runs.old ≤ vec_len runs.old) }
+    ensures room { vec_len runs.old < vec_capacity runs.old → IsOk result }
     ensures len { vec_len runs.new ≤ vec_len runs.old + 1 }
     ensures capacity { vec_capacity runs.old ≤ vec_capacity runs.new }
 {
     match edit {
         Edit::Insert { place, run } => runs.insert(place, run)?,
-        Edit::Split { place, left, right } => {
-            runs.insert(place + 1, right)?;
-            runs[place] = left;
+        Edit::Split {
+            from,
+            to,
+            left,
+            right,
+        } => {
+            runs.insert(to, right)?;
+            runs[from] = left;
         }
         Edit::Merge { from, to, run } => {
             runs[from] = run;
@@ -167,7 +244,7 @@ fn insert(runs: &mut Vec<Range<u64>>, x: Range<u64>) -> Result<bool, AllocError>
     ensures changed { IfOk result (λ changed. TellsChange changed runs.old.items runs.new.items) }
     ensures err { OnErr result (runs.new.items ≡ runs.old.items) }
     ensures lacking { OnErr result (IsApart runs.old.items x.start x.end) }
-    ensures full { OnErr result (vec_capacity runs.old ≤ vec_len runs.old) }
+    ensures room { vec_len runs.old < vec_capacity runs.old → IsOk result }
     ensures len { vec_len runs.new ≤ vec_len runs.old + 1 }
     ensures capacity { vec_capacity runs.old ≤ vec_capacity runs.new }
 {
@@ -187,7 +264,7 @@ fn remove(runs: &mut Vec<Range<u64>>, x: Range<u64>) -> Result<bool, AllocError>
     ensures changed { IfOk result (λ changed. TellsChange changed runs.old.items runs.new.items) }
     ensures err { OnErr result (runs.new.items ≡ runs.old.items) }
     ensures lacking { OnErr result (IsInside runs.old.items x.start x.end) }
-    ensures full { OnErr result (vec_capacity runs.old ≤ vec_len runs.old) }
+    ensures room { vec_len runs.old < vec_capacity runs.old → IsOk result }
     ensures len { vec_len runs.new ≤ vec_len runs.old + 1 }
     ensures capacity { vec_capacity runs.old ≤ vec_capacity runs.new }
 {
@@ -198,4 +275,32 @@ fn remove(runs: &mut Vec<Range<u64>>, x: Range<u64>) -> Result<bool, AllocError>
             Ok(true)
         }
     }
+}
+
+fn subtract(runs: &mut Vec<Range<u64>>, other: &[Range<u64>]) -> Result<(), AllocError>
+    requires { AreRuns runs.old.items }
+    ensures runs { AreRuns runs.new.items }
+    ensures ok { OnOk result (IsDifference runs.old.items other.now runs.new.items) }
+    ensures err { OnErr result (runs.new.items ≡ runs.old.items) }
+{
+    // Each run of the other makes at most one run more.
+    runs.reserve(other.len())?;
+    for run in other {
+        remove(runs, run.start..run.end).unwrap();
+    }
+    Ok(())
+}
+
+fn add(runs: &mut Vec<Range<u64>>, other: &[Range<u64>]) -> Result<(), AllocError>
+    requires { AreRuns runs.old.items }
+    ensures runs { AreRuns runs.new.items }
+    ensures ok { OnOk result (IsUnion runs.old.items other.now runs.new.items) }
+    ensures err { OnErr result (runs.new.items ≡ runs.old.items) }
+{
+    // Each run of the other is at most one run more.
+    runs.reserve(other.len())?;
+    for run in other {
+        insert(runs, run.start..run.end).unwrap();
+    }
+    Ok(())
 }

@@ -1,6 +1,6 @@
 //! Lists of maximal runs: where a number is, and what a call changes. Both sets are made of these.
-ghost use Rattle.std.specs.Prelude.{◌≡◌, ℕ, ◌≤◌, ◌<◌, length, slice_index_or, IsTrue, ◌↔◌, MatchOption};
-ghost use Rattle.quic_wire_core.specs.Runs.{Run, Has, AreRuns, Adds, Drops};
+ghost use Rattle.std.specs.Prelude.{◌≡◌, ℕ, ◌≤◌, ◌<◌, [], length, slice_get, slice_index_or, IsTrue, ◌↔◌, MatchOption};
+ghost use Rattle.quic_wire_core.specs.Runs.{Run, Has, AreRuns, Adds, Drops, IsLeast, IsGreatest};
 ghost use Rattle.quic_wire_core.specs.RunEdits.{AreMet, IsInsertion, IsRemoval};
 
 use std::ops::Range;
@@ -10,9 +10,10 @@ use std::ops::Range;
 pub(super) enum Edit {
     /// A run goes in before the one at a place.
     Insert { place: usize, run: Range<u64> },
-    /// The run at a place gives way to two.
+    /// The runs of `from..to`, which is one, give way to two.
     Split {
-        place: usize,
+        from: usize,
+        to: usize,
         left: Range<u64>,
         right: Range<u64>,
     },
@@ -71,6 +72,30 @@ pub(super) fn contains(runs: &[Range<u64>], x: u64) -> bool
     place < runs.len() && runs[place].start <= x
 }
 
+/// The least number.
+pub(super) fn least(runs: &[Range<u64>]) -> Option<u64>
+    requires { AreRuns runs.now }
+    ensures { MatchOption result (runs.now ≡ []) (IsLeast runs.now) }
+{
+    Some(runs.first()?.start)
+}
+
+/// The greatest number.
+pub(super) fn greatest(runs: &[Range<u64>]) -> Option<u64>
+    requires { AreRuns runs.now }
+    ensures { MatchOption result (runs.now ≡ []) (IsGreatest runs.now) }
+{
+    Some(runs.last()?.end - 1)
+}
+
+/// The first run.
+pub(super) fn first(runs: &[Range<u64>]) -> Option<Range<u64>>
+    ensures { result ≡ slice_get runs.now 0 }
+{
+    let run = runs.first()?;
+    Some(run.start..run.end)
+}
+
 /// What puts a range into the set. `None` where that changes nothing.
 pub(super) fn insertion(runs: &[Range<u64>], x: &Range<u64>) -> Option<Edit>
     requires { AreRuns runs.now }
@@ -126,7 +151,8 @@ pub(super) fn removal(runs: &[Range<u64>], x: &Range<u64>) -> Option<Edit>
             run: left,
         },
         (true, true) if to - from == 1 => Edit::Split {
-            place: from,
+            from,
+            to,
             left,
             right,
         },
