@@ -1,10 +1,10 @@
 -- What an edit does to the numbers of a list of runs.
 use Rattle.std.proofs.Common.{◌≡◌, ℕ, suc, zero, ◌+◌, ◌-◌, ◌≤◌, ◌<◌, min, max, ◌⊎◌, ◌↔◌, List, [], ◌∷◌, ◌++◌, length, take, drop, get_or, refl, sym, ap, ◌∙◌, inl, inr, arith}
 use Rattle.std.proofs.lemmas.Bool.{cases_lt}
-use Rattle.std.specs.List.{insert, remove}
+use Rattle.std.specs.List.{insert, remove, refill}
 use Rattle.std.specs.Prelude.{slice_get, set, Some}
-use Rattle.std.proofs.Common.{add-one, length-append, length-take, length-drop}
-use Rattle.std.proofs.lemmas.List.{take_more, take_all}
+use Rattle.std.proofs.Common.{add-one, length-append, length-take, length-drop, length-set}
+use Rattle.std.proofs.lemmas.List.{take_more, take_all, take_at}
 use Rattle.quic_wire_core.specs.Runs.{Run, In, Has, AreRunsFrom, AreRuns, Adds, Drops, IsUnion, IsDifference, IsLeast, IsGreatest, IsApart, IsInside}
 use Rattle.quic_wire_core.specs.RunEdits.{AreMet, IsInsertion, IsRemoval, HasPlaces, edited}
 use Rattle.quic_wire_core.specs.declared.range_set.runs.Edit.{Edit}
@@ -51,12 +51,12 @@ widens_only rs i t a b s e w k h =
     elim (has_either (take i rs) (record { start = s; end = e } ∷ drop t rs) k h) [
       | inl front ↦ (let j = take_has rs i k empty front in inl (has_at rs j.0 k empty j.2 j.3))
       | inr behind ↦ elim behind [
-          | inl it ↦ elim (cases_lt k a) [
-              | inl lt ↦ inl (w.below k it.0 lt)
-              | inr le ↦ elim (cases_lt k b) [ inl lt ↦ inr (le, lt) | inr ge ↦ inl (w.above k ge it.1) ]
-            ]
-          | inr back ↦ (let j = drop_has rs t k empty back in inl (has_at rs j.0 k empty j.2 j.3))
+        | inl it ↦ elim (cases_lt k a) [
+          | inl lt ↦ inl (w.below k it.0 lt)
+          | inr le ↦ elim (cases_lt k b) [ inl lt ↦ inr (le, lt) | inr ge ↦ inl (w.above k ge it.1) ]
         ]
+        | inr back ↦ (let j = drop_has rs t k empty back in inl (has_at rs j.0 k empty j.2 j.3))
+      ]
     ]
 
 pub widens_keeps : (rs : List Run) (i t a b s e : ℕ) → Widens rs i t a b s e → (k : ℕ) → Has rs k → Has (widened rs i t s e) k
@@ -66,16 +66,19 @@ widens_keeps rs i t a b s e w k h =
     elim (cases_lt j.0 i) [
       | inl front ↦ has_left (take i rs) rest k (in_take rs i j.0 k empty front j.1 j.2)
       | inr ge ↦ has_right (take i rs) rest k (elim (cases_lt j.0 t) [
-          | inl lt ↦ (let o = w.all j.0 ge lt j.1 in inl (omega (arith, o, j.2), omega (arith, o, j.2)))
-          | inr le ↦ inr (in_drop rs t j.0 k empty le j.1 j.2)
-        ])
+        | inl lt ↦ (let o = w.all j.0 ge lt j.1 in inl (omega (arith, o, j.2), omega (arith, o, j.2)))
+        | inr le ↦ inr (in_drop rs t j.0 k empty le j.1 j.2)
+      ])
     ]
 
 pub widens : (rs : List Run) (i t a b s e : ℕ) → Widens rs i t a b s e → Adds rs (widened rs i t s e) a b
-widens rs i t a b s e w k = (widens_only rs i t a b s e w k, λ h. elim h [
+widens rs i t a b s e w k = (
+  widens_only rs i t a b s e w k,
+  λ h. elim h [
     | inl old ↦ widens_keeps rs i t a b s e w k old
     | inr new ↦ has_right (take i rs) (record { start = s; end = e } ∷ drop t rs) k (inl (omega (arith, w.starts, new.0), omega (arith, w.ends, new.1)))
-  ])
+  ],
+)
 
 -- what the set has after an insert that changes nothing
 no_change : (rs new : List Run) (a b : ℕ) → Adds rs new a b → new ≡ rs → (k : ℕ) → a ≤ k → k < b → Has rs k
@@ -90,11 +93,14 @@ before_ends : (rs : List Run) (a b i t j : ℕ) → AreRuns rs → AreMet rs (a 
 before_ends rs a b i t j runs met lt within = let e = met.before j empty lt in let f = filled 0 rs j empty runs within in omega (arith, e, f)
 
 lone_apart : (rs : List Run) (a b i : ℕ) → AreRuns rs → a < b → AreMet rs (a - 1) b i i → IsApart rs a b
-lone_apart rs a b i runs ab met = (ab, λ k h. (let j = at_has rs k empty h in
-    elim (cases_lt j.0 i) [
-      | inl lt ↦ (let e = before_ends rs a b i i j.0 runs met lt j.1 in inl (omega (arith, e, j.2)))
-      | inr le ↦ (let s = met.behind j.0 empty le j.1 in inr (omega (arith, s, j.2)))
-    ]))
+lone_apart rs a b i runs ab met = (
+  ab,
+  λ k h. (let j = at_has rs k empty h in
+      elim (cases_lt j.0 i) [
+        | inl lt ↦ (let e = before_ends rs a b i i j.0 runs met lt j.1 in inl (omega (arith, e, j.2)))
+        | inr le ↦ (let s = met.behind j.0 empty le j.1 in inr (omega (arith, s, j.2)))
+      ]),
+)
 
 lone_widens : (rs : List Run) (a b i : ℕ) → a < b → Widens rs i i a b a b
 lone_widens rs a b i ab = record {
@@ -155,7 +161,8 @@ merge_widens rs a b i t runs ab met it =
         elim (cases_lt j (t - 1)) [
           | inl under ↦ (let o = ordered 0 rs j (t - 1) empty runs under inside' in omega (arith, o, g))
           | inr over ↦ (let same : j ≡ t - 1 = omega arith in rw same (omega arith))
-        ]);
+        ],
+      );
     }
 
 merge_runs : (rs : List Run) (a b i t : ℕ) → AreRuns rs → a < b → AreMet rs (a - 1) b i t → i < t → AreRuns (widened rs i t (min a (at rs i).start) (max b (at rs (t - 1)).end))
@@ -183,17 +190,17 @@ merge_changes rs a b i t runs ab met it past e =
           elim (cases_lt j.0 i) [
             | inl under ↦ (let o = before_ends rs a b i t j.0 runs met under j.1 in omega (arith, o, j.2))
             | inr le ↦ elim (cases_lt i j.0) [
-                | inl over ↦ (let o = ordered 0 rs i j.0 empty runs over j.1 in omega (arith, o, f, lt, j.2))
-                | inr ge ↦ (let same : j.0 ≡ i = omega arith in let it = rw same at j.2 in omega (arith, it, lt))
-              ]
+              | inl over ↦ (let o = ordered 0 rs i j.0 empty runs over j.1 in omega (arith, o, f, lt, j.2))
+              | inr ge ↦ (let same : j.0 ≡ i = omega arith in let it = rw same at j.2 in omega (arith, it, lt))
+            ]
           ])
       | inr lt ↦ (let n = (at rs i).end in let j = at_has rs n empty (has n (omega (arith, first, f)) lt) in
           elim (cases_lt j.0 i) [
             | inl under ↦ (let o = ordered 0 rs j.0 i empty runs under inside in omega (arith, o, f, j.2))
             | inr le ↦ elim (cases_lt i j.0) [
-                | inl over ↦ (let o = ordered 0 rs i j.0 empty runs over j.1 in omega (arith, o, j.2))
-                | inr ge ↦ (let same : j.0 ≡ i = omega arith in let it = rw same at j.2 in omega (arith, it))
-              ]
+              | inl over ↦ (let o = ordered 0 rs i j.0 empty runs over j.1 in omega (arith, o, j.2))
+              | inr ge ↦ (let same : j.0 ≡ i = omega arith in let it = rw same at j.2 in omega (arith, it))
+            ]
           ])
     ]
 
@@ -222,9 +229,9 @@ narrows_only rs mid i t a b w k h =
     elim (has_either (take i rs) (mid ++ drop t rs) k h) [
       | inl front ↦ (let j = take_has rs i k empty front in let e = w.front j.0 j.1 j.2 in (has_at rs j.0 k empty j.2 j.3, λ x. omega (arith, e, j.3, x)))
       | inr behind ↦ elim (has_either mid (drop t rs) k behind) [
-          | inl it ↦ w.only k it
-          | inr back ↦ (let j = drop_has rs t k empty back in let e = w.back j.0 j.1 j.2 in (has_at rs j.0 k empty j.2 j.3, λ x. omega (arith, e, j.3, x)))
-        ]
+        | inl it ↦ w.only k it
+        | inr back ↦ (let j = drop_has rs t k empty back in let e = w.back j.0 j.1 j.2 in (has_at rs j.0 k empty j.2 j.3, λ x. omega (arith, e, j.3, x)))
+      ]
     ]
 
 narrows_keeps : (rs mid : List Run) (i t a b : ℕ) → Narrows rs mid i t a b → (k : ℕ) → Has rs k → ((a ≤ k) × (k < b) → ⊥) → Has (take i rs ++ (mid ++ drop t rs)) k
@@ -233,9 +240,9 @@ narrows_keeps rs mid i t a b w k h out =
     elim (cases_lt j.0 i) [
       | inl front ↦ has_left (take i rs) (mid ++ drop t rs) k (in_take rs i j.0 k empty front j.1 j.2)
       | inr ge ↦ has_right (take i rs) (mid ++ drop t rs) k (elim (cases_lt j.0 t) [
-          | inl lt ↦ has_left mid (drop t rs) k (w.keeps j.0 k ge lt j.1 j.2 out)
-          | inr le ↦ has_right mid (drop t rs) k (in_drop rs t j.0 k empty le j.1 j.2)
-        ])
+        | inl lt ↦ has_left mid (drop t rs) k (w.keeps j.0 k ge lt j.1 j.2 out)
+        | inr le ↦ has_right mid (drop t rs) k (in_drop rs t j.0 k empty le j.1 j.2)
+      ])
     ]
 
 pub narrows : (rs mid : List Run) (i t a b : ℕ) → Narrows rs mid i t a b → Drops rs (take i rs ++ (mid ++ drop t rs)) a b
@@ -271,16 +278,16 @@ cut_keeps rs a b i t j k c ge lt within h out =
     let last = c.met.meet (t - 1) empty (omega (arith, c.some)) (omega (arith, c.some)) in
     elim (cases_lt k a) [
       | inl under ↦ inl (elim (cases_lt i j) [
-          | inl over ↦ absurd (let o = ordered 0 rs i j empty c.runs over within in omega (arith, o, first, h.0, under))
-          | inr le ↦ (let same : j ≡ i = omega arith in let it = rw same at h in (it.0, under))
-        ])
+        | inl over ↦ absurd (let o = ordered 0 rs i j empty c.runs over within in omega (arith, o, first, h.0, under))
+        | inr le ↦ (let same : j ≡ i = omega arith in let it = rw same at h in (it.0, under))
+      ])
       | inr from ↦ elim (cases_lt k b) [
-          | inl below ↦ absurd (out (from, below))
-          | inr beyond ↦ inr (elim (cases_lt j (t - 1)) [
-              | inl lower ↦ absurd (let o = ordered 0 rs j (t - 1) empty c.runs lower (omega (arith, c.met.within, c.some)) in omega (arith, o, last, c.filled, h.1, beyond))
-              | inr le ↦ (let same : j ≡ t - 1 = omega (arith, c.some) in let it = rw same at h in (beyond, it.1))
-            ])
-        ]
+        | inl below ↦ absurd (out (from, below))
+        | inr beyond ↦ inr (elim (cases_lt j (t - 1)) [
+          | inl lower ↦ absurd (let o = ordered 0 rs j (t - 1) empty c.runs lower (omega (arith, c.met.within, c.some)) in omega (arith, o, last, c.filled, h.1, beyond))
+          | inr le ↦ (let same : j ≡ t - 1 = omega (arith, c.some) in let it = rw same at h in (beyond, it.1))
+        ])
+      ]
     ]
 
 -- what comes in has the numbers of the two that are left
@@ -405,11 +412,17 @@ splits_at rs a b i t c e l r = rw e (splits rs a b i (rw e at c) l (rw e at r))
 
 -- no run meets the range
 pub none_dropped : (rs : List Run) (a b i : ℕ) → a < b → AreMet rs a (b - 1) i i → Drops rs rs a b
-none_dropped rs a b i ab met k = (λ h. (h, λ x. (let j = at_has rs k empty h in
-    elim (cases_lt j.0 i) [
-      | inl lt ↦ (let e = met.before j.0 empty lt in omega (arith, e, j.2, x))
-      | inr le ↦ (let s = met.behind j.0 empty le j.1 in omega (arith, s, j.2, x))
-    ])), λ h. h.0)
+none_dropped rs a b i ab met k = (
+  λ h. (
+    h,
+    λ x. (let j = at_has rs k empty h in
+        elim (cases_lt j.0 i) [
+          | inl lt ↦ (let e = met.before j.0 empty lt in omega (arith, e, j.2, x))
+          | inr le ↦ (let s = met.behind j.0 empty le j.1 in omega (arith, s, j.2, x))
+        ]),
+  ),
+  λ h. h.0,
+)
 
 pub drops_nothing : (rs : List Run) (a b : ℕ) → b ≤ a → Drops rs rs a b
 drops_nothing rs a b le k = (λ h. (h, λ x. omega (arith, x)), λ h. h.0)
@@ -422,9 +435,9 @@ starts_below rs x p runs front within h =
     elim (cases_lt j.0 p) [
       | inl lt ↦ absurd (let e = front j.0 empty lt in omega (arith, e, j.2))
       | inr le ↦ elim (cases_lt p j.0) [
-          | inl lt ↦ (let o = ordered 0 rs p j.0 empty runs lt j.1 in let f = filled 0 rs p empty runs within in omega (arith, o, f, j.2))
-          | inr ge ↦ (let same : j.0 ≡ p = omega arith in let it = rw same at j.2 in it.0)
-        ]
+        | inl lt ↦ (let o = ordered 0 rs p j.0 empty runs lt j.1 in let f = filled 0 rs p empty runs within in omega (arith, o, f, j.2))
+        | inr ge ↦ (let same : j.0 ≡ p = omega arith in let it = rw same at j.2 in it.0)
+      ]
     ]
 
 pub lacks_all : (rs : List Run) (x p : ℕ) → ((k : ℕ) (d : Run) → k < p → (get_or rs k d).end ≤ x) → length rs ≤ p → Has rs x → ⊥
@@ -439,6 +452,12 @@ set_first (x ∷ rs) ys (suc p) l lt = ap (λ (zs : List Run). x ∷ zs) (set_fi
 
 pub split_is : (rs : List Run) (i t : ℕ) (l r : Run) → i + 1 ≡ t → t ≤ length rs → set (insert rs t r) i l ≡ take i rs ++ (l ∷ r ∷ drop t rs)
 split_is rs i t l r e le = rw (← e, add-one) (set_first rs (r ∷ drop (suc i) rs) i l (omega arith))
+
+-- the same where the list is written through a slice, which keeps its length
+pub split_refills : (rs : List Run) (i t : ℕ) (l r : Run) → i + 1 ≡ t → t ≤ length rs → refill (length (insert rs t r)) (insert rs t r) (set (insert rs t r) i l) ≡ take i rs ++ (l ∷ r ∷ drop t rs)
+split_refills rs i t l r e le =
+    let ys = insert rs t r in
+    take_at (set ys i l) (drop (length (set ys i l)) ys) (length ys) (length-set ys i l) ∙ split_is rs i t l r e le
 
 -- ---- the first and the last
 
@@ -479,15 +498,15 @@ union_none rs other k = (λ h. inl h, λ h. elim h [ inl x ↦ x | inr x ↦ abs
 
 pub union_more : (old other mid new : List Run) (i : ℕ) → i < length other → IsUnion old (take i other) mid → Adds mid new (at other i).start (at other i).end → IsUnion old (take (i + 1) other) new
 union_more old other mid new i lt so_far adds k = (
-    λ h. elim ((adds k).0 h) [
-      | inl x ↦ elim ((so_far k).0 x) [ inl y ↦ inl y | inr y ↦ inr (more_has other i k lt (inl y)) ]
-      | inr x ↦ inr (more_has other i k lt (inr x))
-    ],
-    λ h. (adds k).1 (elim h [
-      | inl x ↦ inl ((so_far k).1 (inl x))
-      | inr x ↦ elim (has_more other i k lt x) [ inl y ↦ inl ((so_far k).1 (inr y)) | inr y ↦ inr y ]
-    ])
-  )
+  λ h. elim ((adds k).0 h) [
+    | inl x ↦ elim ((so_far k).0 x) [ inl y ↦ inl y | inr y ↦ inr (more_has other i k lt (inl y)) ]
+    | inr x ↦ inr (more_has other i k lt (inr x))
+  ],
+  λ h. (adds k).1 (elim h [
+    | inl x ↦ inl ((so_far k).1 (inl x))
+    | inr x ↦ elim (has_more other i k lt x) [ inl y ↦ inl ((so_far k).1 (inr y)) | inr y ↦ inr y ]
+  ]),
+)
 
 pub union_all : (old other new : List Run) (i : ℕ) → length other ≤ i → IsUnion old (take i other) new → IsUnion old other new
 union_all old other new i le h = rw (take_all i other le) at h
@@ -497,9 +516,9 @@ difference_none rs other k = (λ h. (h, λ x. x), λ h. h.0)
 
 pub difference_more : (old other mid new : List Run) (i : ℕ) → i < length other → IsDifference old (take i other) mid → Drops mid new (at other i).start (at other i).end → IsDifference old (take (i + 1) other) new
 difference_more old other mid new i lt so_far drops k = (
-    λ h. (((so_far k).0 ((drops k).0 h).0).0, λ x. elim (has_more other i k lt x) [ inl y ↦ ((so_far k).0 ((drops k).0 h).0).1 y | inr y ↦ ((drops k).0 h).1 y ]),
-    λ h. (drops k).1 ((so_far k).1 (h.0, λ x. h.1 (more_has other i k lt (inl x))), λ x. h.1 (more_has other i k lt (inr x)))
-  )
+  λ h. (((so_far k).0 ((drops k).0 h).0).0, λ x. elim (has_more other i k lt x) [ inl y ↦ ((so_far k).0 ((drops k).0 h).0).1 y | inr y ↦ ((drops k).0 h).1 y ]),
+  λ h. (drops k).1 ((so_far k).1 (h.0, λ x. h.1 (more_has other i k lt (inl x))), λ x. h.1 (more_has other i k lt (inr x))),
+)
 
 pub difference_all : (old other new : List Run) (i : ℕ) → length other ≤ i → IsDifference old (take i other) new → IsDifference old other new
 difference_all old other new i le h = rw (take_all i other le) at h

@@ -29,9 +29,9 @@ ends_by m n x y xs ys rx ry same e =
     elim (cases_lt x.end y.end) [
       | inr le ↦ le
       | inl lt ↦ absurd (elim ((same x.end).1 (inl (omega (arith, rx.1), lt))) [
-          | inl i ↦ omega (arith, i.1)
-          | inr i ↦ (let le = at_least x.end (x.end + 1) xs rx.2 i in omega (arith, le))
-        ])
+        | inl i ↦ omega (arith, i.1)
+        | inr i ↦ (let le = at_least x.end (x.end + 1) xs rx.2 i in omega (arith, le))
+      ])
     ]
 
 swapped : (xs ys : List Run) → AreSame xs ys → AreSame ys xs
@@ -102,21 +102,21 @@ starts_rise rs runs i j d le within =
 pub maximal_at : (rs : List Run) (i : ℕ) (d : Run) → AreRuns rs → i < length rs → IsMaximal rs (get_or rs i d)
 maximal_at rs i d runs lt =
     let end : Has rs (get_or rs i d).end → ⊥ = λ h. (let w = at_has rs (get_or rs i d).end d h in
-        elim (cases_lt w.0 i) [
-          | inl under ↦ (let o = ordered 0 rs w.0 i d runs under lt in let f = filled 0 rs i d runs lt in omega (arith, o, f, w.2))
-          | inr le ↦ elim (cases_lt i w.0) [
-              | inl over ↦ (let o = ordered 0 rs i w.0 d runs over w.1 in omega (arith, o, w.2))
-              | inr ge ↦ (let same : w.0 ≡ i = omega arith in let it = rw same at w.2 in omega (arith, it))
-            ]
-        ]) in
+    elim (cases_lt w.0 i) [
+      | inl under ↦ (let o = ordered 0 rs w.0 i d runs under lt in let f = filled 0 rs i d runs lt in omega (arith, o, f, w.2))
+      | inr le ↦ elim (cases_lt i w.0) [
+        | inl over ↦ (let o = ordered 0 rs i w.0 d runs over w.1 in omega (arith, o, w.2))
+        | inr ge ↦ (let same : w.0 ≡ i = omega arith in let it = rw same at w.2 in omega (arith, it))
+      ]
+    ]) in
     let start : (k : ℕ) → k + 1 ≡ (get_or rs i d).start → Has rs k → ⊥ = λ k e h. (let w = at_has rs k d h in
-        elim (cases_lt w.0 i) [
-          | inl under ↦ (let o = ordered 0 rs w.0 i d runs under lt in omega (arith, o, e, w.2))
-          | inr le ↦ elim (cases_lt i w.0) [
-              | inl over ↦ (let o = ordered 0 rs i w.0 d runs over w.1 in let f = filled 0 rs i d runs lt in omega (arith, o, f, e, w.2))
-              | inr ge ↦ (let same : w.0 ≡ i = omega arith in let it = rw same at w.2 in omega (arith, e, it))
-            ]
-        ]) in
+    elim (cases_lt w.0 i) [
+      | inl under ↦ (let o = ordered 0 rs w.0 i d runs under lt in omega (arith, o, e, w.2))
+      | inr le ↦ elim (cases_lt i w.0) [
+        | inl over ↦ (let o = ordered 0 rs i w.0 d runs over w.1 in let f = filled 0 rs i d runs lt in omega (arith, o, f, e, w.2))
+        | inr ge ↦ (let same : w.0 ≡ i = omega arith in let it = rw same at w.2 in omega (arith, e, it))
+      ]
+    ]) in
     (end, start)
 
 pub maximal : (rs : List Run) (r : Run) → AreRuns rs → Contains rs r → IsMaximal rs r

@@ -8,7 +8,6 @@ mod array_range_set;
 mod runs;
 
 pub use array_range_set::ArrayRangeSet;
-
 use runs::Edit;
 use std::alloc::{AllocError, Global};
 use std::marker::Model;

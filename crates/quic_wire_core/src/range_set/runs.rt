@@ -9,7 +9,10 @@ use std::ops::Range;
 #[derive(Drop)]
 pub(super) enum Edit {
     /// A run goes in before the one at a place.
-    Insert { place: usize, run: Range<u64> },
+    Insert {
+        place: usize,
+        run: Range<u64>,
+    },
     /// The runs of `from..to`, which is one, give way to two.
     Split {
         from: usize,
@@ -31,7 +34,10 @@ pub(super) enum Edit {
         right: Range<u64>,
     },
     /// The runs of `from..to` go.
-    Remove { from: usize, to: usize },
+    Remove {
+        from: usize,
+        to: usize,
+    },
 }
 
 /// How many runs end at a number or below it, by halving.
@@ -105,7 +111,10 @@ pub(super) fn insertion(runs: &[Range<u64>], x: &Range<u64>) -> Option<Edit>
         return None;
     }
     // A run that ends where the range starts, or starts where it ends, comes to be one with it.
-    let Range { start: from, end: to } = met(runs, x.start.saturating_sub(1), x.end);
+    let Range {
+        start: from,
+        end: to,
+    } = met(runs, x.start.saturating_sub(1), x.end);
     if from == to {
         return Some(Edit::Insert {
             place: from,
@@ -132,7 +141,10 @@ pub(super) fn removal(runs: &[Range<u64>], x: &Range<u64>) -> Option<Edit>
     if x.end <= x.start {
         return None;
     }
-    let Range { start: from, end: to } = met(runs, x.start, x.end - 1);
+    let Range {
+        start: from,
+        end: to,
+    } = met(runs, x.start, x.end - 1);
     if from == to {
         return None;
     }

@@ -8,5 +8,5 @@ abbrev pub invariant-loop-run : goal.invariant-loop-run
 invariant-loop-run l = record {
   runs : AreRuns l.runs.items;
   room : HasRoomFor l.runs (length l.other - l.run-index);
-  so_far : IsDifference l.fn.runs.items (take l.run-index l.other) l.runs.items
+  so_far : IsDifference l.fn.runs.items (take l.run-index l.other) l.runs.items;
 }
