@@ -1,6 +1,7 @@
 -- What an edit does to the numbers of a list of runs.
 use Rattle.std.proofs.Common.{◌≡◌, ℕ, suc, zero, ◌+◌, ◌-◌, ◌≤◌, ◌<◌, min, max, ◌⊎◌, ◌↔◌, List, [], ◌∷◌, ◌++◌, length, take, drop, get_or, refl, sym, ap, ◌∙◌, inl, inr, arith}
 use Rattle.std.proofs.lemmas.Bool.{cases_lt}
+use Rattle.std.specs.declared.ops.Range.{Range}
 use Rattle.std.specs.List.{insert, remove, refill}
 use Rattle.std.specs.Prelude.{slice_get, set, Some}
 use Rattle.std.proofs.Common.{add-one, length-append, length-take, length-drop, length-set}
@@ -13,6 +14,10 @@ use Rattle.quic_wire_core.proofs.RunLists.{lower, has_at, at_has, filled, ordere
 
 abbrev pub empty : Run
 empty = record { start = 0; end = 0 }
+
+-- the places from one up to another
+abbrev pub places : ℕ → ℕ → Range ℕ
+places i t = record { start = i; end = t }
 
 -- the run at a place
 abbrev pub at : List Run → ℕ → Run
@@ -27,10 +32,10 @@ between_runs rs mid i t m runs front here back =
 -- an edit leaves at most one run more
 edited_short : (rs : List Run) (e : Edit) → HasPlaces e (length rs) → length (edited e rs) ≤ length rs + 1
 edited_short rs (edits.Insert i run) h = simp (length-append, length-take, length-drop) (omega arith)
-edited_short rs (edits.Split i t left right) h = simp (length-append, length-take, length-drop) (omega arith)
-edited_short rs (edits.Merge i t run) h = simp (length-append, length-take, length-drop) (omega arith)
-edited_short rs (edits.Trim i t left right) h = simp (length-append, length-take, length-drop) (omega arith)
-edited_short rs (edits.Remove i t) h = simp (length-append, length-take, length-drop) (omega arith)
+edited_short rs (edits.Split p left right) h = simp (length-append, length-take, length-drop) (omega arith)
+edited_short rs (edits.Merge p run) h = simp (length-append, length-take, length-drop) (omega arith)
+edited_short rs (edits.Trim p left right) h = simp (length-append, length-take, length-drop) (omega arith)
+edited_short rs (edits.Remove p) h = simp (length-append, length-take, length-drop) (omega arith)
 
 -- ---- adding
 
@@ -204,10 +209,10 @@ merge_changes rs a b i t runs ab met it past e =
           ])
     ]
 
-pub merges : (rs : List Run) (a b i t : ℕ) → AreRuns rs → a < b → AreMet rs (a - 1) b i t → i < t → GoesPast a b (at rs i) → IsInsertion rs a b (edits.Merge i t (record { start = min a (at rs i).start; end = max b (at rs (t - 1)).end }))
+pub merges : (rs : List Run) (a b i t : ℕ) → AreRuns rs → a < b → AreMet rs (a - 1) b i t → i < t → GoesPast a b (at rs i) → IsInsertion rs a b (edits.Merge (places i t) (record { start = min a (at rs i).start; end = max b (at rs (t - 1)).end }))
 merges rs a b i t runs ab met it past = record {
   places = (it, met.within);
-  short = edited_short rs (edits.Merge i t (record { start = min a (at rs i).start; end = max b (at rs (t - 1)).end })) (it, met.within);
+  short = edited_short rs (edits.Merge (places i t) (record { start = min a (at rs i).start; end = max b (at rs (t - 1)).end })) (it, met.within);
   adds = widens rs i t a b (min a (at rs i).start) (max b (at rs (t - 1)).end) (merge_widens rs a b i t runs ab met it);
   runs = merge_runs rs a b i t runs ab met it;
   changes = merge_changes rs a b i t runs ab met it past;
@@ -354,60 +359,60 @@ both_runs rs a b i t c l r =
     between_runs rs (left_of rs i a ∷ right_of rs t b ∷ []) i t (at rs i).start c.runs (λ j lt within. cut_front rs a b i t j c lt within) (omega arith, l, (omega (arith, c.filled), r, tt))
     (λ j le within. let o = cut_back rs a b i t j c le within in omega (arith, o))
 
-pub removes : (rs : List Run) (a b i t : ℕ) → Cuts rs a b i t → a ≤ (at rs i).start → (at rs (t - 1)).end ≤ b → IsRemoval rs a b (edits.Remove i t)
+pub removes : (rs : List Run) (a b i t : ℕ) → Cuts rs a b i t → a ≤ (at rs i).start → (at rs (t - 1)).end ≤ b → IsRemoval rs a b (edits.Remove (places i t))
 removes rs a b i t c l r = record {
   places = (c.met.ascend, c.met.within);
-  short = edited_short rs (edits.Remove i t) (c.met.ascend, c.met.within);
+  short = edited_short rs (edits.Remove (places i t)) (c.met.ascend, c.met.within);
   drops = narrows rs [] i t a b (cut_narrows rs [] a b i t c (none_left rs a b i t l r));
   runs = removed_runs rs a b i t c;
   changes = cut_changes rs [] a b i t c (none_left rs a b i t l r);
   inside = λ h. absurd h;
 }
 
-pub leaves_first : (rs : List Run) (a b i t : ℕ) → Cuts rs a b i t → (at rs i).start < a → (at rs (t - 1)).end ≤ b → IsRemoval rs a b (edits.Merge i t (left_of rs i a))
+pub leaves_first : (rs : List Run) (a b i t : ℕ) → Cuts rs a b i t → (at rs i).start < a → (at rs (t - 1)).end ≤ b → IsRemoval rs a b (edits.Merge (places i t) (left_of rs i a))
 leaves_first rs a b i t c l r = record {
   places = (c.some, c.met.within);
-  short = edited_short rs (edits.Merge i t (left_of rs i a)) (c.some, c.met.within);
+  short = edited_short rs (edits.Merge (places i t) (left_of rs i a)) (c.some, c.met.within);
   drops = narrows rs (left_of rs i a ∷ []) i t a b (cut_narrows rs (left_of rs i a ∷ []) a b i t c (first_left rs a b i t r));
   runs = first_runs rs a b i t c l;
   changes = cut_changes rs (left_of rs i a ∷ []) a b i t c (first_left rs a b i t r);
   inside = λ h. absurd h;
 }
 
-pub leaves_last : (rs : List Run) (a b i t : ℕ) → Cuts rs a b i t → a ≤ (at rs i).start → b < (at rs (t - 1)).end → IsRemoval rs a b (edits.Merge i t (right_of rs t b))
+pub leaves_last : (rs : List Run) (a b i t : ℕ) → Cuts rs a b i t → a ≤ (at rs i).start → b < (at rs (t - 1)).end → IsRemoval rs a b (edits.Merge (places i t) (right_of rs t b))
 leaves_last rs a b i t c l r = record {
   places = (c.some, c.met.within);
-  short = edited_short rs (edits.Merge i t (right_of rs t b)) (c.some, c.met.within);
+  short = edited_short rs (edits.Merge (places i t) (right_of rs t b)) (c.some, c.met.within);
   drops = narrows rs (right_of rs t b ∷ []) i t a b (cut_narrows rs (right_of rs t b ∷ []) a b i t c (last_left rs a b i t l));
   runs = last_runs rs a b i t c r;
   changes = cut_changes rs (right_of rs t b ∷ []) a b i t c (last_left rs a b i t l);
   inside = λ h. absurd h;
 }
 
-pub leaves_both : (rs : List Run) (a b i t : ℕ) → Cuts rs a b i t → i + 2 ≤ t → (at rs i).start < a → b < (at rs (t - 1)).end → IsRemoval rs a b (edits.Trim i t (left_of rs i a) (right_of rs t b))
+pub leaves_both : (rs : List Run) (a b i t : ℕ) → Cuts rs a b i t → i + 2 ≤ t → (at rs i).start < a → b < (at rs (t - 1)).end → IsRemoval rs a b (edits.Trim (places i t) (left_of rs i a) (right_of rs t b))
 leaves_both rs a b i t c apart l r = record {
   places = (apart, c.met.within);
-  short = edited_short rs (edits.Trim i t (left_of rs i a) (right_of rs t b)) (apart, c.met.within);
+  short = edited_short rs (edits.Trim (places i t) (left_of rs i a) (right_of rs t b)) (apart, c.met.within);
   drops = narrows rs (left_of rs i a ∷ right_of rs t b ∷ []) i t a b (cut_narrows rs (left_of rs i a ∷ right_of rs t b ∷ []) a b i t c (both_left rs a b i t));
   runs = both_runs rs a b i t c l r;
   changes = cut_changes rs (left_of rs i a ∷ right_of rs t b ∷ []) a b i t c (both_left rs a b i t);
   inside = λ h. absurd h;
 }
 
-pub splits : (rs : List Run) (a b i : ℕ) → Cuts rs a b i (i + 1) → (at rs i).start < a → b < (at rs (i + 1 - 1)).end → IsRemoval rs a b (edits.Split i (i + 1) (left_of rs i a) (right_of rs (i + 1) b))
+pub splits : (rs : List Run) (a b i : ℕ) → Cuts rs a b i (i + 1) → (at rs i).start < a → b < (at rs (i + 1 - 1)).end → IsRemoval rs a b (edits.Split (places i (i + 1)) (left_of rs i a) (right_of rs (i + 1) b))
 splits rs a b i c l r =
     let same : i + 1 - 1 ≡ i = omega arith in
     let r' : b < (at rs i).end = rw same at r in
     record {
       places = (refl, c.met.within);
-      short = edited_short rs (edits.Split i (i + 1) (left_of rs i a) (right_of rs (i + 1) b)) (refl, c.met.within);
+      short = edited_short rs (edits.Split (places i (i + 1)) (left_of rs i a) (right_of rs (i + 1) b)) (refl, c.met.within);
       drops = narrows rs (left_of rs i a ∷ right_of rs (i + 1) b ∷ []) i (i + 1) a b (cut_narrows rs (left_of rs i a ∷ right_of rs (i + 1) b ∷ []) a b i (i + 1) c (both_left rs a b i (i + 1)));
       runs = both_runs rs a b i (i + 1) c l r;
       changes = cut_changes rs (left_of rs i a ∷ right_of rs (i + 1) b ∷ []) a b i (i + 1) c (both_left rs a b i (i + 1));
       inside = λ _. (omega arith, c.filled, λ k lo hi. has_at rs i k empty (omega (arith, c.met.within)) (omega (arith, lo, l), omega (arith, hi, r')));
     }
 
-pub splits_at : (rs : List Run) (a b i t : ℕ) → Cuts rs a b i t → t ≡ i + 1 → (at rs i).start < a → b < (at rs (t - 1)).end → IsRemoval rs a b (edits.Split i t (left_of rs i a) (right_of rs t b))
+pub splits_at : (rs : List Run) (a b i t : ℕ) → Cuts rs a b i t → t ≡ i + 1 → (at rs i).start < a → b < (at rs (t - 1)).end → IsRemoval rs a b (edits.Split (places i t) (left_of rs i a) (right_of rs t b))
 splits_at rs a b i t c e l r = rw e (splits rs a b i (rw e at c) l (rw e at r))
 
 -- no run meets the range

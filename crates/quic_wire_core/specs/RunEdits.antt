@@ -16,26 +16,26 @@ pub record AreMet (rs : List Run) (first last from to : ℕ) : Type 0 where
 -- the list after the edit
 abbrev pub edited : Edit → List Run → List Run
 edited (edits.Insert place run) rs = take place rs ++ (run ∷ drop place rs)
-edited (edits.Split from to left right) rs = take from rs ++ (left ∷ right ∷ drop to rs)
-edited (edits.Merge from to run) rs = take from rs ++ (run ∷ drop to rs)
-edited (edits.Trim from to left right) rs = take from rs ++ (left ∷ right ∷ drop to rs)
-edited (edits.Remove from to) rs = take from rs ++ drop to rs
+edited (edits.Split places left right) rs = take places.start rs ++ (left ∷ right ∷ drop places.end rs)
+edited (edits.Merge places run) rs = take places.start rs ++ (run ∷ drop places.end rs)
+edited (edits.Trim places left right) rs = take places.start rs ++ (left ∷ right ∷ drop places.end rs)
+edited (edits.Remove places) rs = take places.start rs ++ drop places.end rs
 
 -- a list of that many runs has the places, and as many as are written
 abbrev pub HasPlaces : Edit → ℕ → Type 0
 HasPlaces (edits.Insert place run) n = place ≤ n
-HasPlaces (edits.Split from to left right) n = (from + 1 ≡ to) × (to ≤ n)
-HasPlaces (edits.Merge from to run) n = (from < to) × (to ≤ n)
-HasPlaces (edits.Trim from to left right) n = (from + 2 ≤ to) × (to ≤ n)
-HasPlaces (edits.Remove from to) n = (from ≤ to) × (to ≤ n)
+HasPlaces (edits.Split places left right) n = (places.start + 1 ≡ places.end) × (places.end ≤ n)
+HasPlaces (edits.Merge places run) n = (places.start < places.end) × (places.end ≤ n)
+HasPlaces (edits.Trim places left right) n = (places.start + 2 ≤ places.end) × (places.end ≤ n)
+HasPlaces (edits.Remove places) n = (places.start ≤ places.end) × (places.end ≤ n)
 
 -- the edit leaves one run more
 abbrev pub Grows : Edit → Type 0
 Grows (edits.Insert place run) = Unit {0}
-Grows (edits.Split from to left right) = Unit {0}
-Grows (edits.Merge from to run) = ⊥
-Grows (edits.Trim from to left right) = ⊥
-Grows (edits.Remove from to) = ⊥
+Grows (edits.Split places left right) = Unit {0}
+Grows (edits.Merge places run) = ⊥
+Grows (edits.Trim places left right) = ⊥
+Grows (edits.Remove places) = ⊥
 
 -- the edit puts the numbers from a up to b into the set, of which some weren't there
 pub record IsInsertion (rs : List Run) (a b : ℕ) (e : Edit) : Type 0 where

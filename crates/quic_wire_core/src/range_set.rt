@@ -6,6 +6,8 @@ ghost use Rattle.quic_wire_core.specs.RunEdits.{edited, HasPlaces, Grows};
 
 mod array_range_set;
 mod runs;
+#[cfg(test)]
+mod tests;
 
 pub use array_range_set::ArrayRangeSet;
 use runs::Edit;
@@ -207,30 +209,28 @@ fn apply(runs: &mut Vec<Range<u64>>, edit: Edit) -> Result<(), AllocError>
     match edit {
         Edit::Insert { place, run } => runs.insert(place, run)?,
         Edit::Split {
-            from,
-            to,
+            places,
             left,
             right,
         } => {
-            runs.insert(to, right)?;
-            runs[from] = left;
+            runs.insert(places.end, right)?;
+            runs[places.start] = left;
         }
-        Edit::Merge { from, to, run } => {
-            runs[from] = run;
-            runs.drain(from + 1..to);
+        Edit::Merge { places, run } => {
+            runs[places.start] = run;
+            runs.drain(places.start + 1..places.end);
         }
         Edit::Trim {
-            from,
-            to,
+            places,
             left,
             right,
         } => {
-            runs[from] = left;
-            runs[to - 1] = right;
-            runs.drain(from + 1..to - 1);
+            runs[places.start] = left;
+            runs[places.end - 1] = right;
+            runs.drain(places.start + 1..places.end - 1);
         }
-        Edit::Remove { from, to } => {
-            runs.drain(from..to);
+        Edit::Remove { places } => {
+            runs.drain(places);
         }
     }
     Ok(())

@@ -9,35 +9,26 @@ use std::ops::Range;
 #[derive(Drop)]
 pub(super) enum Edit {
     /// A run goes in before the one at a place.
-    Insert {
-        place: usize,
-        run: Range<u64>,
-    },
-    /// The runs of `from..to`, which is one, give way to two.
+    Insert { place: usize, run: Range<u64> },
+    /// The run at the places, which is one, gives way to two.
     Split {
-        from: usize,
-        to: usize,
+        places: Range<usize>,
         left: Range<u64>,
         right: Range<u64>,
     },
-    /// The runs of `from..to`, at least one, give way to one.
+    /// The runs at the places, at least one, give way to one.
     Merge {
-        from: usize,
-        to: usize,
+        places: Range<usize>,
         run: Range<u64>,
     },
-    /// The runs of `from..to`, at least two, give way to two.
+    /// The runs at the places, at least two, give way to two.
     Trim {
-        from: usize,
-        to: usize,
+        places: Range<usize>,
         left: Range<u64>,
         right: Range<u64>,
     },
-    /// The runs of `from..to` go.
-    Remove {
-        from: usize,
-        to: usize,
-    },
+    /// The runs at the places go.
+    Remove { places: Range<usize> },
 }
 
 /// How many runs end at a number or below it, by halving.
@@ -111,24 +102,21 @@ pub(super) fn insertion(runs: &[Range<u64>], x: &Range<u64>) -> Option<Edit>
         return None;
     }
     // A run that ends where the range starts, or starts where it ends, comes to be one with it.
-    let Range {
-        start: from,
-        end: to,
-    } = met(runs, x.start.saturating_sub(1), x.end);
-    if from == to {
+    let places = met(runs, x.start.saturating_sub(1), x.end);
+    if places.start == places.end {
         return Some(Edit::Insert {
-            place: from,
+            place: places.start,
             run: x.start..x.end,
         });
     }
-    if runs[from].start <= x.start && x.end <= runs[from].end {
+    let first = &runs[places.start];
+    if first.start <= x.start && x.end <= first.end {
         return None;
     }
-    let start = x.start.min(runs[from].start);
-    let end = x.end.max(runs[to - 1].end);
+    let start = x.start.min(first.start);
+    let end = x.end.max(runs[places.end - 1].end);
     Some(Edit::Merge {
-        from,
-        to,
+        places,
         run: start..end,
     })
 }
@@ -141,36 +129,23 @@ pub(super) fn removal(runs: &[Range<u64>], x: &Range<u64>) -> Option<Edit>
     if x.end <= x.start {
         return None;
     }
-    let Range {
-        start: from,
-        end: to,
-    } = met(runs, x.start, x.end - 1);
-    if from == to {
+    let places = met(runs, x.start, x.end - 1);
+    if places.start == places.end {
         return None;
     }
-    let left = runs[from].start..x.start;
-    let right = x.end..runs[to - 1].end;
+    let left = runs[places.start].start..x.start;
+    let right = x.end..runs[places.end - 1].end;
     Some(match (left.start < left.end, right.start < right.end) {
-        (false, false) => Edit::Remove { from, to },
-        (false, true) => Edit::Merge {
-            from,
-            to,
-            run: right,
-        },
-        (true, false) => Edit::Merge {
-            from,
-            to,
-            run: left,
-        },
-        (true, true) if to - from == 1 => Edit::Split {
-            from,
-            to,
+        (false, false) => Edit::Remove { places },
+        (false, true) => Edit::Merge { places, run: right },
+        (true, false) => Edit::Merge { places, run: left },
+        (true, true) if places.end - places.start == 1 => Edit::Split {
+            places,
             left,
             right,
         },
         (true, true) => Edit::Trim {
-            from,
-            to,
+            places,
             left,
             right,
         },
