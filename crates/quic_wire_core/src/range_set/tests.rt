@@ -4,6 +4,7 @@ use std::process::Abort;
 use std::test::Fail;
 
 /// Which of the numbers below 64 are in a set, one by one: what both sets have to equal.
+#[derive(Drop)]
 struct Plain {
     has: [bool; 64],
 }
