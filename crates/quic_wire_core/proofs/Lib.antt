@@ -1,1 +1,3 @@
 mod Examples
+pub mod RunLists
+pub mod RunEdits

@@ -11,3 +11,4 @@ pub mod TransportError
 pub mod TransportErrorLaw
 pub mod Ecn
 pub mod Runs
+pub mod RunEdits

@@ -48,3 +48,23 @@ AreSame old new = (k : ℕ) → Has old k ↔ Has new k
 abbrev pub TellsChange : Bool → List Run → List Run → Type 0
 TellsChange true old new = new ≡ old → ⊥
 TellsChange false old new = new ≡ old
+
+-- a number below each other of the set
+abbrev pub IsLeast : List Run → ℕ → Type 0
+IsLeast rs n = Has rs n × ((k : ℕ) → Has rs k → n ≤ k)
+
+-- a number above each other of the set
+abbrev pub IsGreatest : List Run → ℕ → Type 0
+IsGreatest rs n = Has rs n × ((k : ℕ) → Has rs k → k ≤ n)
+
+-- no number from a up to b is in the set, nor one that stands beside them: they'd be a run of their own
+abbrev pub IsApart : List Run → ℕ → ℕ → Type 0
+IsApart rs a b = (a < b) × ((k : ℕ) → Has rs k → (k + 1 < a) ⊎ (b < k))
+
+-- the numbers from a up to b are in the set, and those beside them, below and above: without them a run would be two
+abbrev pub IsInside : List Run → ℕ → ℕ → Type 0
+IsInside rs a b = (0 < a) × (a < b) × ((k : ℕ) → a ≤ k + 1 → k ≤ b → Has rs k)
+
+-- the numbers before and behind the run lack in the set
+abbrev pub IsMaximal : List Run → Run → Type 0
+IsMaximal rs r = (Has rs r.end → ⊥) × ((k : ℕ) → k + 1 ≡ r.start → Has rs k → ⊥)
