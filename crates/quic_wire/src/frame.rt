@@ -1,14 +1,19 @@
 //! Frames (RFC 9000, section 19): their values, the reader of a payload and the writers.
 ghost use Rattle.std.specs.Prelude.{◌<◌, ◌^◌};
 
-use quic_wire_core::{Code, FrameType, Reason, StreamId, TransportError, VarInt};
+use quic_wire_core::{Code, Dir, FrameType, Reason, StreamId, TransportError, VarInt};
 use thiserror::Error;
 
 mod iter;
+mod kinds;
 mod reading;
 mod writing;
 
 pub use iter::Iter;
+pub use kinds::{
+    AckFrequency, ApplicationCloseFrame, ConnectionCloseFrame, Crypto, Datagram, NewToken,
+    ResetStream, StopSending,
+};
 pub use writing::{
     put_frame, put_stream, put_stream_parts, size_of_frame, size_of_stream_header, write_frame,
 };
@@ -20,8 +25,72 @@ pub enum Frame<'a> {
     Padding,
     /// Asks for an acknowledgement (section 19.2).
     Ping,
+    /// Ends the sending part of a stream abruptly (section 19.4).
+    ResetStream(ResetStream),
+    /// Asks the peer to cease sending on a stream (section 19.5).
+    StopSending(StopSending),
+    /// Bytes of the handshake (section 19.6).
+    Crypto(Crypto<'a>),
+    /// A token for a later connection (section 19.7).
+    NewToken(NewToken<'a>),
     /// Bytes of a stream (section 19.8).
     Stream(Stream<'a>),
+    /// How many bytes may be sent on all streams together (section 19.9).
+    MaxData(VarInt),
+    /// How many bytes may be sent on a stream (section 19.10).
+    MaxStreamData {
+        /// The stream's id.
+        id: StreamId,
+        /// The limit, in bytes: below 2^62.
+        offset: u64,
+    },
+    /// How many streams may be opened (section 19.11).
+    MaxStreams {
+        /// Which streams.
+        dir: Dir,
+        /// How many of them since the connection began: below 2^62, and no reader takes it above 2^60.
+        count: u64,
+    },
+    /// The limit of the connection holds data back (section 19.12).
+    DataBlocked {
+        /// That limit, in bytes: below 2^62.
+        offset: u64,
+    },
+    /// The limit of a stream holds data back (section 19.13).
+    StreamDataBlocked {
+        /// The stream's id.
+        id: StreamId,
+        /// That limit, in bytes: below 2^62.
+        offset: u64,
+    },
+    /// The number of streams holds back a stream (section 19.14).
+    StreamsBlocked {
+        /// Which streams.
+        dir: Dir,
+        /// How many may be opened: below 2^62, and no reader takes it above 2^60.
+        limit: u64,
+    },
+    /// Ends the use of an id of the connection (section 19.16).
+    RetireConnectionId {
+        /// The number of the id: below 2^62.
+        sequence: u64,
+    },
+    /// Asks for these eight bytes back, the most significant first (section 19.17).
+    PathChallenge(u64),
+    /// Gives these eight bytes back, the most significant first (section 19.18).
+    PathResponse(u64),
+    /// Closes the connection by an error of QUIC (section 19.19, type 1c).
+    ConnectionClose(ConnectionCloseFrame<'a>),
+    /// Closes the connection by an error of the application (section 19.19, type 1d).
+    ApplicationClose(ApplicationCloseFrame<'a>),
+    /// Confirms the handshake (section 19.20).
+    HandshakeDone,
+    /// Asks for an acknowledgement at once (the ACK frequency extension, section 5).
+    ImmediateAck,
+    /// A message of the application (RFC 9221, section 4).
+    Datagram(Datagram<'a>),
+    /// Asks the peer to acknowledge more or less often (the ACK frequency extension, section 4).
+    AckFrequency(AckFrequency),
 }
 
 impl<'a> Frame<'a> {
@@ -39,6 +108,7 @@ impl<'a> Frame<'a> {
             Frame::Padding => FrameType::PADDING,
             Frame::Ping => FrameType::PING,
             Frame::Stream(stream) => VarInt::from_u32(stream.ty(false)).into(),
+            _ => FrameType::PADDING,
         }
     }
 

@@ -1,14 +1,18 @@
 //! Frames from bytes. Each reader takes its field from the front of the slice; where it refuses, the bytes left are
 //! of no use.
 ghost use Rattle.std.specs.Prelude.{◌≡◌, ◌<◌, ◌^◌, IfOk};
+ghost use Rattle.std.specs.Int.{w64, to_be_bytes};
 ghost use Rattle.quic_wire.specs.Taking.{Reads};
-ghost use Rattle.quic_wire.specs.Reading.{var_at, block_at, sized_at, offset_at, data_at, stream_at, body_at};
-ghost use Rattle.quic_wire.specs.FrameTypes.{has_bit};
+ghost use Rattle.quic_wire.specs.Reading.{var_at, block_at, sized_at, offset_at, data_at, of_kind_at, body_at};
+ghost use Rattle.quic_wire.specs.FrameTypes.{is_reset_stream, is_stop_sending, is_crypto, is_new_token, is_stream, is_max_data, is_max_stream_data, is_max_streams, is_data_blocked, is_stream_data_blocked, is_streams_blocked, is_retire_connection_id, is_path_challenge, is_path_response, is_connection_close, is_application_close, is_datagram, is_ack_frequency, has_bit};
 ghost use Rattle.quic_wire.specs.Items.{frame_at};
-ghost use Rattle.quic_wire.specs.FrameView.{stream_view, frame_view};
+ghost use Rattle.quic_wire.specs.FrameView.{is_one_way, frame_view};
 
-use crate::frame::{Frame, FrameError, InvalidFrame, Stream};
-use quic_wire_core::{Codec, FrameType, StreamId, VarInt};
+use crate::frame::{
+    AckFrequency, ApplicationCloseFrame, ConnectionCloseFrame, Crypto, Datagram, Frame, FrameError,
+    InvalidFrame, NewToken, ResetStream, StopSending, Stream,
+};
+use quic_wire_core::{Code, Codec, Dir, FrameType, StreamId, VarInt};
 
 /// A variable-length integer.
 fn var_of(bytes: &mut &[u8]) -> Result<VarInt, FrameError>
@@ -71,20 +75,198 @@ fn data_of<'a>(sized: bool, bytes: &mut &'a [u8]) -> Result<&'a [u8], FrameError
     }
 }
 
+/// A RESET_STREAM frame behind its type.
+#[tactic(auto, unfolding(crate::specs::Reading::reset_stream_at))]
+fn reset_stream_of<'a>(bytes: &mut &'a [u8]) -> Result<Frame<'a>, FrameError>
+    ensures { Reads frame_view result bytes.new.now (of_kind_at is_reset_stream bytes.old.now) }
+{
+    Ok(Frame::ResetStream(ResetStream {
+        id: StreamId::from(var_of(bytes)?),
+        error_code: var_of(bytes)?,
+        final_offset: var_of(bytes)?,
+    }))
+}
+
+/// A STOP_SENDING frame behind its type.
+#[tactic(auto, unfolding(crate::specs::Reading::stop_sending_at))]
+fn stop_sending_of<'a>(bytes: &mut &'a [u8]) -> Result<Frame<'a>, FrameError>
+    ensures { Reads frame_view result bytes.new.now (of_kind_at is_stop_sending bytes.old.now) }
+{
+    Ok(Frame::StopSending(StopSending {
+        id: StreamId::from(var_of(bytes)?),
+        error_code: var_of(bytes)?,
+    }))
+}
+
+/// A CRYPTO frame behind its type.
+#[tactic(auto, unfolding(crate::specs::Reading::crypto_at))]
+fn crypto_of<'a>(bytes: &mut &'a [u8]) -> Result<Frame<'a>, FrameError>
+    ensures { Reads frame_view result bytes.new.now (of_kind_at is_crypto bytes.old.now) }
+{
+    let offset = number_of(bytes)?;
+    let data = sized_of(bytes)?;
+    Ok(Frame::Crypto(Crypto { offset, data }))
+}
+
+/// A NEW_TOKEN frame behind its type.
+fn new_token_of<'a>(bytes: &mut &'a [u8]) -> Result<Frame<'a>, FrameError>
+    ensures { Reads frame_view result bytes.new.now (of_kind_at is_new_token bytes.old.now) }
+{
+    let token = sized_of(bytes)?;
+    Ok(Frame::NewToken(NewToken { token }))
+}
+
 /// A STREAM frame behind its type.
 #[tactic(auto, unfolding(crate::specs::Reading::stream_at))]
-fn stream_of<'a>(ty: u64, bytes: &mut &'a [u8]) -> Result<Stream<'a>, FrameError>
-    ensures { Reads stream_view result bytes.new.now (stream_at (has_bit ty 4) (has_bit ty 2) (has_bit ty 1) bytes.old.now) }
+fn stream_of<'a>(ty: u64, bytes: &mut &'a [u8]) -> Result<Frame<'a>, FrameError>
+    ensures { Reads frame_view result bytes.new.now (of_kind_at (is_stream (has_bit ty 4) (has_bit ty 2) (has_bit ty 1)) bytes.old.now) }
 {
     let id = StreamId::from(var_of(bytes)?);
     let offset = offset_of(ty & 4 != 0, bytes)?;
     let data = data_of(ty & 2 != 0, bytes)?;
-    Ok(Stream {
+    Ok(Frame::Stream(Stream {
         id,
         offset,
         fin: ty & 1 != 0,
         data,
+    }))
+}
+
+/// A MAX_DATA frame behind its type.
+fn max_data_of<'a>(bytes: &mut &'a [u8]) -> Result<Frame<'a>, FrameError>
+    ensures { Reads frame_view result bytes.new.now (of_kind_at is_max_data bytes.old.now) }
+{
+    Ok(Frame::MaxData(var_of(bytes)?))
+}
+
+/// A MAX_STREAM_DATA frame behind its type.
+#[tactic(auto, unfolding(crate::specs::Reading::stream_limit_at))]
+fn max_stream_data_of<'a>(bytes: &mut &'a [u8]) -> Result<Frame<'a>, FrameError>
+    ensures { Reads frame_view result bytes.new.now (of_kind_at is_max_stream_data bytes.old.now) }
+{
+    Ok(Frame::MaxStreamData {
+        id: StreamId::from(var_of(bytes)?),
+        offset: number_of(bytes)?,
     })
+}
+
+/// A MAX_STREAMS frame behind its type.
+fn max_streams_of<'a>(dir: Dir, bytes: &mut &'a [u8]) -> Result<Frame<'a>, FrameError>
+    ensures { Reads frame_view result bytes.new.now (of_kind_at (is_max_streams (is_one_way dir)) bytes.old.now) }
+{
+    Ok(Frame::MaxStreams {
+        dir,
+        count: number_of(bytes)?,
+    })
+}
+
+/// A DATA_BLOCKED frame behind its type.
+fn data_blocked_of<'a>(bytes: &mut &'a [u8]) -> Result<Frame<'a>, FrameError>
+    ensures { Reads frame_view result bytes.new.now (of_kind_at is_data_blocked bytes.old.now) }
+{
+    Ok(Frame::DataBlocked {
+        offset: number_of(bytes)?,
+    })
+}
+
+/// A STREAM_DATA_BLOCKED frame behind its type.
+#[tactic(auto, unfolding(crate::specs::Reading::stream_limit_at))]
+fn stream_data_blocked_of<'a>(bytes: &mut &'a [u8]) -> Result<Frame<'a>, FrameError>
+    ensures { Reads frame_view result bytes.new.now (of_kind_at is_stream_data_blocked bytes.old.now) }
+{
+    Ok(Frame::StreamDataBlocked {
+        id: StreamId::from(var_of(bytes)?),
+        offset: number_of(bytes)?,
+    })
+}
+
+/// A STREAMS_BLOCKED frame behind its type.
+fn streams_blocked_of<'a>(dir: Dir, bytes: &mut &'a [u8]) -> Result<Frame<'a>, FrameError>
+    ensures { Reads frame_view result bytes.new.now (of_kind_at (is_streams_blocked (is_one_way dir)) bytes.old.now) }
+{
+    Ok(Frame::StreamsBlocked {
+        dir,
+        limit: number_of(bytes)?,
+    })
+}
+
+/// A RETIRE_CONNECTION_ID frame behind its type.
+fn retire_connection_id_of<'a>(bytes: &mut &'a [u8]) -> Result<Frame<'a>, FrameError>
+    ensures { Reads frame_view result bytes.new.now (of_kind_at is_retire_connection_id bytes.old.now) }
+{
+    Ok(Frame::RetireConnectionId {
+        sequence: number_of(bytes)?,
+    })
+}
+
+/// The eight bytes of a PATH_CHALLENGE or PATH_RESPONSE frame, as a number.
+fn path_data_of(bytes: &mut &[u8]) -> Result<u64, FrameError>
+    ensures { Reads (to_be_bytes w64) result bytes.new.now (block_at 8 bytes.old.now) }
+{
+    u64::decode(bytes).map_err(|_| FrameError::UnexpectedEnd)
+}
+
+/// A PATH_CHALLENGE frame behind its type.
+fn path_challenge_of<'a>(bytes: &mut &'a [u8]) -> Result<Frame<'a>, FrameError>
+    ensures { Reads frame_view result bytes.new.now (of_kind_at is_path_challenge bytes.old.now) }
+{
+    Ok(Frame::PathChallenge(path_data_of(bytes)?))
+}
+
+/// A PATH_RESPONSE frame behind its type.
+fn path_response_of<'a>(bytes: &mut &'a [u8]) -> Result<Frame<'a>, FrameError>
+    ensures { Reads frame_view result bytes.new.now (of_kind_at is_path_response bytes.old.now) }
+{
+    Ok(Frame::PathResponse(path_data_of(bytes)?))
+}
+
+/// A CONNECTION_CLOSE frame of type 1c behind its type.
+#[tactic(auto, unfolding(crate::specs::Reading::connection_close_at))]
+fn connection_close_of<'a>(bytes: &mut &'a [u8]) -> Result<Frame<'a>, FrameError>
+    ensures { Reads frame_view result bytes.new.now (of_kind_at is_connection_close bytes.old.now) }
+{
+    let error_code = Code::from(var_of(bytes)?);
+    let frame_type = FrameType::from(var_of(bytes)?);
+    let reason = sized_of(bytes)?;
+    Ok(Frame::ConnectionClose(ConnectionCloseFrame {
+        error_code,
+        frame_type,
+        reason,
+    }))
+}
+
+/// A CONNECTION_CLOSE frame of type 1d behind its type.
+#[tactic(auto, unfolding(crate::specs::Reading::application_close_at))]
+fn application_close_of<'a>(bytes: &mut &'a [u8]) -> Result<Frame<'a>, FrameError>
+    ensures { Reads frame_view result bytes.new.now (of_kind_at is_application_close bytes.old.now) }
+{
+    let error_code = var_of(bytes)?;
+    let reason = sized_of(bytes)?;
+    Ok(Frame::ApplicationClose(ApplicationCloseFrame {
+        error_code,
+        reason,
+    }))
+}
+
+/// A DATAGRAM frame behind its type.
+fn datagram_of<'a>(sized: bool, bytes: &mut &'a [u8]) -> Result<Frame<'a>, FrameError>
+    ensures { Reads frame_view result bytes.new.now (of_kind_at (is_datagram sized) bytes.old.now) }
+{
+    let data = data_of(sized, bytes)?;
+    Ok(Frame::Datagram(Datagram { data }))
+}
+
+/// An ACK_FREQUENCY frame behind its type.
+#[tactic(auto, unfolding(crate::specs::Reading::ack_frequency_at))]
+fn ack_frequency_of<'a>(bytes: &mut &'a [u8]) -> Result<Frame<'a>, FrameError>
+    ensures { Reads frame_view result bytes.new.now (of_kind_at is_ack_frequency bytes.old.now) }
+{
+    Ok(Frame::AckFrequency(AckFrequency {
+        sequence: var_of(bytes)?,
+        ack_eliciting_threshold: var_of(bytes)?,
+        request_max_ack_delay: var_of(bytes)?,
+        reordering_threshold: var_of(bytes)?,
+    }))
 }
 
 /// A frame behind its type.
@@ -94,10 +276,29 @@ fn body_of<'a>(ty: u64, bytes: &mut &'a [u8]) -> Result<Frame<'a>, FrameError>
     match ty {
         0x00 => Ok(Frame::Padding),
         0x01 => Ok(Frame::Ping),
-        0x08..=0x0f => match stream_of(ty, bytes) {
-            Ok(stream) => Ok(Frame::Stream(stream)),
-            Err(reason) => Err(reason),
-        },
+        0x04 => reset_stream_of(bytes),
+        0x05 => stop_sending_of(bytes),
+        0x06 => crypto_of(bytes),
+        0x07 => new_token_of(bytes),
+        0x08..=0x0f => stream_of(ty, bytes),
+        0x10 => max_data_of(bytes),
+        0x11 => max_stream_data_of(bytes),
+        0x12 => max_streams_of(Dir::Bi, bytes),
+        0x13 => max_streams_of(Dir::Uni, bytes),
+        0x14 => data_blocked_of(bytes),
+        0x15 => stream_data_blocked_of(bytes),
+        0x16 => streams_blocked_of(Dir::Bi, bytes),
+        0x17 => streams_blocked_of(Dir::Uni, bytes),
+        0x19 => retire_connection_id_of(bytes),
+        0x1a => path_challenge_of(bytes),
+        0x1b => path_response_of(bytes),
+        0x1c => connection_close_of(bytes),
+        0x1d => application_close_of(bytes),
+        0x1e => Ok(Frame::HandshakeDone),
+        0x1f => Ok(Frame::ImmediateAck),
+        0x30 => datagram_of(false, bytes),
+        0x31 => datagram_of(true, bytes),
+        0xaf => ack_frequency_of(bytes),
         _ => Err(FrameError::InvalidId),
     }
 }

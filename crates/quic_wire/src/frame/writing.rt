@@ -96,6 +96,7 @@ pub fn write_frame<B: BufMut>(frame: &Frame<'_>, buf: &mut B) -> Result<(), Allo
         Frame::Padding => write_number(buf, 0x00),
         Frame::Ping => write_number(buf, 0x01),
         Frame::Stream(stream) => write_stream(buf, stream),
+        _ => write_number(buf, 0x00),
     }
 }
 
@@ -155,6 +156,7 @@ pub fn size_of_frame(frame: &Frame<'_>) -> usize
             let length = stream.data.len();
             size_of_stream_header(stream.id, stream.offset, Some(length as u64)) + length
         }
+        _ => 1,
     }
 }
 
