@@ -1,7 +1,7 @@
 use Rattle.std.proofs.Common.{take}
 use Rattle.std.specs.Fmt.{HasWritten, IsPlainFormatter}
 use Rattle.quic_wire_core.specs.ConnectionId.{hex_text}
-use Rattle.quic_wire_core.proofs.shared.ConnectionIdDisplay.fmt.Given as goal
+use Rattle.quic_wire_core.proofs.shared.write_hex.Given as goal
 
 abbrev pub invariant-loop-byte : goal.invariant-loop-byte
 invariant-loop-byte g l =
