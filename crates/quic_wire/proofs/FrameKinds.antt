@@ -2,7 +2,7 @@
 use Rattle.std.proofs.Common.{◌≡◌, ℕ, ◌≤◌, ◌<◌, Bool, true, false, not, ◌&&◌, ◌||◌, List, [], ◌∷◌, Result, Ok, Err, refl, sym, ap, subst, arith, inl, inr}
 use Rattle.std.specs.Prelude.{if◌then◌else◌, ◌==◌, nat_lt}
 use Rattle.std.specs.List.{list_all}
-use Rattle.std.proofs.lemmas.Bool.{cases_eq, eqb-true, eq-eqb, ne_eqb, le-ltb, lt-ltb}
+use Rattle.std.proofs.lemmas.Bool.{cases_eq, cases_lt, eqb-true, eq-eqb, ne_eqb, le-ltb, lt-ltb}
 use Rattle.quic_wire.specs.declared.frame.FrameError.{FrameError}
 use Rattle.quic_wire.specs.declared.frame.FrameError.TheVariants.{InvalidId}
 use Rattle.quic_wire.specs.Value.{FrameValue}
@@ -101,11 +101,10 @@ stream_kind type least most =
 
 -- the types of frames that are read
 reads_type : ℕ → Bool
-reads_type type = (type == 0) || ((type == 1) || ((not (nat_lt type 4) && nat_lt type 24) || ((not (nat_lt type 25) && nat_lt type 32) || ((type == 48) || ((type == 49) || (type == 175))))))
+reads_type type = (type == 0) || ((type == 1) || ((not (nat_lt type 4) && nat_lt type 32) || ((type == 48) || ((type == 49) || (type == 175)))))
 
 is_read : Kind → Bool
 is_read (is_ack ecn) = false
-is_read is_new_connection_id = false
 is_read (is_unknown type) = false
 is_read kind = true
 
@@ -119,7 +118,6 @@ or_false false b e f = refl
 not_read : (kind : Kind) (bytes : List ℕ) → is_read kind ≡ false → of_kind_at kind bytes ≡ Err InvalidId
 unfolding is_read
 not_read (is_ack ecn) bytes e = refl
-not_read is_new_connection_id bytes e = refl
 not_read (is_unknown type) bytes e = refl
 not_read kind bytes e = absurd cc
 
@@ -128,13 +126,33 @@ unread : (type : ℕ) (bytes : List ℕ) → reads_type type ≡ false → body_
 unfolding kind_of body_at only_read is_read reads_type
 unread type bytes e = not_read (kind_of type) bytes (or_false (is_read (kind_of type)) (reads_type type) (all_named only_read type frame_types refl refl) e)
 
+between : (type a b : ℕ) → (a ≤ type → type < b → ⊥) → (not (nat_lt type a) && nat_lt type b) ≡ false
+between type a b out = elim (cases_lt type a) [
+  | inl lt ↦ rw (lt-ltb type a lt) refl
+  | inr ge ↦ elim (cases_lt type b) [
+      | inl lt ↦ absurd (out (omega arith) lt)
+      | inr ge' ↦ rw (le-ltb type a (omega arith), le-ltb type b (omega arith)) refl
+    ]
+]
+
+pub body_other : (type : ℕ) (bytes : List ℕ) → ¬ (type ≡ 0) → ¬ (type ≡ 1) → (4 ≤ type → type < 32 → ⊥) → ¬ (type ≡ 48) → ¬ (type ≡ 49) → ¬ (type ≡ 175) → body_at type bytes ≡ Err InvalidId
+unfolding reads_type
+body_other type bytes n0 n1 out n48 n49 n175 =
+    unread type bytes (rw (ne_eqb type 0 n0, ne_eqb type 1 n1, between type 4 32 out, ne_eqb type 48 n48, ne_eqb type 49 n49, ne_eqb type 175 n175) refl)
+
 -- ---- the frame behind a type
 
 -- the frame of a type is that of the kind that it names
-pub of_type : {X : Type 0} (view : X → FrameValue) (type n : ℕ) (kind : Kind) (bytes rest : List ℕ) (r : Result X FrameError) → type ≡ n → kind_of n ≡ kind → Reads view r rest (of_kind_at kind bytes) → Reads view r rest (body_at type bytes)
+pub of_type : {X : Type 0} (view : X → FrameValue) (kind : Kind) (type : ℕ) (bytes rest : List ℕ) (r : Result X FrameError) → IsKnown kind → type ≡ type_of kind → Reads view r rest (of_kind_at kind bytes) → Reads view r rest (body_at type bytes)
 unfolding body_at
-of_type view type n kind bytes rest r e k h = rw (e, k) h
+of_type view kind type bytes rest r known e h = rw (e, kind_of_type kind known) h
 
+-- a type whose frame has no fields
+pub body_is : (kind : Kind) (type : ℕ) (bytes : List ℕ) → IsKnown kind → type ≡ type_of kind → body_at type bytes ≡ of_kind_at kind bytes
+unfolding body_at
+body_is kind type bytes known e = rw (e, kind_of_type kind known) refl
+
+-- the bits of a type of STREAM tell which fields are read
 pub of_stream_type : {X : Type 0} (view : X → FrameValue) (type : ℕ) (bytes rest : List ℕ) (r : Result X FrameError) → 8 ≤ type → type < 16
     → Reads view r rest (of_kind_at (is_stream (has_bit type 4) (has_bit type 2) (has_bit type 1)) bytes) → Reads view r rest (body_at type bytes)
 unfolding body_at

@@ -9,11 +9,12 @@ use Rattle.quic_wire.specs.declared.frame.Stream.{Stream}
 use Rattle.quic_wire.specs.declared.frame.kinds.ResetStream.{ResetStream}
 use Rattle.quic_wire.specs.declared.frame.kinds.StopSending.{StopSending}
 use Rattle.quic_wire.specs.declared.frame.kinds.Crypto.{Crypto}
+use Rattle.quic_wire.specs.declared.frame.kinds.NewConnectionId.{NewConnectionId}
 use Rattle.quic_wire.specs.declared.frame.kinds.ConnectionCloseFrame.{ConnectionCloseFrame}
 use Rattle.quic_wire.specs.declared.frame.kinds.ApplicationCloseFrame.{ApplicationCloseFrame}
 use Rattle.quic_wire.specs.declared.frame.kinds.AckFrequency.{AckFrequency}
 use Rattle.quic_wire.specs.declared.frame.InvalidFrame.{InvalidFrame}
-use Rattle.quic_wire.specs.Value.{ResetStreamValue, StopSendingValue, CryptoValue, StreamValue, ConnectionCloseValue, ApplicationCloseValue, AckFrequencyValue, FrameValue, padding, ping, reset_stream, stop_sending, crypto, new_token, stream, max_data, max_stream_data, max_streams, data_blocked, stream_data_blocked, streams_blocked, retire_connection_id, path_challenge, path_response, connection_close, application_close, handshake_done, immediate_ack, datagram, ack_frequency}
+use Rattle.quic_wire.specs.Value.{ResetStreamValue, StopSendingValue, CryptoValue, StreamValue, NewConnectionIdValue, ConnectionCloseValue, ApplicationCloseValue, AckFrequencyValue, FrameValue, padding, ping, reset_stream, stop_sending, crypto, new_token, stream, max_data, max_stream_data, max_streams, data_blocked, stream_data_blocked, streams_blocked, new_connection_id, retire_connection_id, path_challenge, path_response, connection_close, application_close, handshake_done, immediate_ack, datagram, ack_frequency}
 
 -- What a RESET_STREAM frame says.
 abbrev pub reset_stream_view : ResetStream → ResetStreamValue
@@ -35,6 +36,10 @@ stream_view s = record { id = s.id; offset = s.offset; fin = s.fin; bytes = s.da
 abbrev pub is_one_way : Dir → Bool
 is_one_way Bi = false
 is_one_way Uni = true
+
+-- What a NEW_CONNECTION_ID frame says.
+abbrev pub new_connection_id_view : NewConnectionId → NewConnectionIdValue
+new_connection_id_view n = record { sequence = n.sequence; retire_prior_to = n.retire_prior_to; id = n.id; token = n.reset_token }
 
 -- What a CONNECTION_CLOSE frame of type 1c says.
 abbrev pub connection_close_view : ConnectionCloseFrame → ConnectionCloseValue
@@ -63,6 +68,7 @@ frame_view (frames.MaxStreams dir count) = max_streams (record { one_way = is_on
 frame_view (frames.DataBlocked offset) = data_blocked offset
 frame_view (frames.StreamDataBlocked id offset) = stream_data_blocked (record { id = id; limit = offset })
 frame_view (frames.StreamsBlocked dir limit) = streams_blocked (record { one_way = is_one_way dir; count = limit })
+frame_view (frames.NewConnectionId n) = new_connection_id (new_connection_id_view n)
 frame_view (frames.RetireConnectionId sequence) = retire_connection_id sequence
 frame_view (frames.PathChallenge n) = path_challenge (to_be_bytes w64 n)
 frame_view (frames.PathResponse n) = path_response (to_be_bytes w64 n)

@@ -11,8 +11,8 @@ mod writing;
 
 pub use iter::Iter;
 pub use kinds::{
-    AckFrequency, ApplicationCloseFrame, ConnectionCloseFrame, Crypto, Datagram, NewToken,
-    ResetStream, StopSending,
+    AckFrequency, ApplicationCloseFrame, ConnectionCloseFrame, Crypto, Datagram, NewConnectionId,
+    NewToken, ResetStream, StopSending,
 };
 pub use writing::{
     put_frame, put_stream, put_stream_parts, size_of_frame, size_of_stream_header, write_frame,
@@ -70,6 +70,8 @@ pub enum Frame<'a> {
         /// How many may be opened: below 2^62, and no reader takes it above 2^60.
         limit: u64,
     },
+    /// Gives an id of the connection (section 19.15).
+    NewConnectionId(NewConnectionId),
     /// Ends the use of an id of the connection (section 19.16).
     RetireConnectionId {
         /// The number of the id: below 2^62.
@@ -99,16 +101,37 @@ impl<'a> Frame<'a> {
     ghost use Rattle.quic_wire.specs.FrameView.{frame_view};
     ghost use Rattle.quic_wire.specs.Writing.{type_number};
 
-    /// The frame's type; of a STREAM frame the type that it has where its length isn't written (quinn-proto's
-    /// `Frame::ty`).
+    /// The frame's type; of a STREAM or DATAGRAM frame the type that it has where its length isn't written
+    /// (quinn-proto's `Frame::ty`).
     pub fn ty(&self) -> FrameType
         ensures { result ≡ type_number (frame_view self.now) }
     {
         match self {
             Frame::Padding => FrameType::PADDING,
             Frame::Ping => FrameType::PING,
+            Frame::ResetStream(_) => FrameType::RESET_STREAM,
+            Frame::StopSending(_) => FrameType::STOP_SENDING,
+            Frame::Crypto(_) => FrameType::CRYPTO,
+            Frame::NewToken(_) => FrameType::NEW_TOKEN,
             Frame::Stream(stream) => VarInt::from_u32(stream.ty(false)).into(),
-            _ => FrameType::PADDING,
+            Frame::MaxData(_) => FrameType::MAX_DATA,
+            Frame::MaxStreamData { .. } => FrameType::MAX_STREAM_DATA,
+            Frame::MaxStreams { dir: Dir::Bi, .. } => FrameType::MAX_STREAMS_BIDI,
+            Frame::MaxStreams { dir: Dir::Uni, .. } => FrameType::MAX_STREAMS_UNI,
+            Frame::DataBlocked { .. } => FrameType::DATA_BLOCKED,
+            Frame::StreamDataBlocked { .. } => FrameType::STREAM_DATA_BLOCKED,
+            Frame::StreamsBlocked { dir: Dir::Bi, .. } => FrameType::STREAMS_BLOCKED_BIDI,
+            Frame::StreamsBlocked { dir: Dir::Uni, .. } => FrameType::STREAMS_BLOCKED_UNI,
+            Frame::NewConnectionId(_) => FrameType::NEW_CONNECTION_ID,
+            Frame::RetireConnectionId { .. } => FrameType::RETIRE_CONNECTION_ID,
+            Frame::PathChallenge(_) => FrameType::PATH_CHALLENGE,
+            Frame::PathResponse(_) => FrameType::PATH_RESPONSE,
+            Frame::ConnectionClose(_) => FrameType::CONNECTION_CLOSE,
+            Frame::ApplicationClose(_) => FrameType::APPLICATION_CLOSE,
+            Frame::HandshakeDone => FrameType::HANDSHAKE_DONE,
+            Frame::ImmediateAck => FrameType::IMMEDIATE_ACK,
+            Frame::Datagram(_) => FrameType::DATAGRAM,
+            Frame::AckFrequency(_) => FrameType::ACK_FREQUENCY,
         }
     }
 
@@ -117,7 +140,10 @@ impl<'a> Frame<'a> {
     pub fn is_ack_eliciting(&self) -> bool
         ensures { result ≡ asks (frame_view self.now) }
     {
-        !matches!(self, Frame::Padding)
+        !matches!(
+            self,
+            Frame::Padding | Frame::ConnectionClose(_) | Frame::ApplicationClose(_)
+        )
     }
 }
 

@@ -2,7 +2,9 @@
 //! beside [`crate::frame::Frame`].
 ghost use Rattle.std.specs.Prelude.{◌<◌, ◌^◌};
 
-use quic_wire_core::{Code, ConnectionId, FrameType, MAX_CID_SIZE, StreamId, VarInt};
+use quic_wire_core::{
+    Code, ConnectionId, FrameType, MAX_CID_SIZE, RESET_TOKEN_SIZE, ResetToken, StreamId, VarInt,
+};
 
 /// Ends the sending part of a stream abruptly (section 19.4; quinn-proto's `frame::ResetStream`).
 #[derive(Clone, Copy, Debug, PartialEq, Eq)]
@@ -55,6 +57,24 @@ impl<'a> Crypto<'a> {
 pub struct NewToken<'a> {
     /// The token.
     pub token: &'a [u8],
+}
+
+/// Gives an id of the connection (section 19.15; quinn-proto's `frame::NewConnectionId`).
+#[derive(Clone, Copy, Debug, PartialEq, Eq)]
+pub struct NewConnectionId {
+    /// The number of the id among those of its sender: below 2^62.
+    pub sequence: u64,
+    /// Ids with lower numbers than this are to be retired: at most `sequence`.
+    pub retire_prior_to: u64,
+    /// The id: 1 to 20 bytes.
+    pub id: ConnectionId,
+    /// The token of a stateless reset that goes with the id.
+    pub reset_token: ResetToken,
+}
+
+impl NewConnectionId {
+    /// The most bytes that such a frame takes: type, two numbers, the length of the id, the id and the token.
+    pub const SIZE_BOUND: usize = 1 + 8 + 8 + 1 + MAX_CID_SIZE + RESET_TOKEN_SIZE;
 }
 
 /// Closes the connection by an error of QUIC (section 19.19, type 1c).

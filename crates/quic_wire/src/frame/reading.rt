@@ -1,18 +1,21 @@
 //! Frames from bytes. Each reader takes its field from the front of the slice; where it refuses, the bytes left are
 //! of no use.
-ghost use Rattle.std.specs.Prelude.{◌≡◌, ◌<◌, ◌^◌, IfOk};
+ghost use Rattle.std.specs.Prelude.{◌≡◌, ◌<◌, ◌^◌, length, IfOk};
 ghost use Rattle.std.specs.Int.{w64, to_be_bytes};
 ghost use Rattle.quic_wire.specs.Taking.{Reads};
-ghost use Rattle.quic_wire.specs.Reading.{var_at, block_at, sized_at, offset_at, data_at, of_kind_at, body_at};
-ghost use Rattle.quic_wire.specs.FrameTypes.{is_reset_stream, is_stop_sending, is_crypto, is_new_token, is_stream, is_max_data, is_max_stream_data, is_max_streams, is_data_blocked, is_stream_data_blocked, is_streams_blocked, is_retire_connection_id, is_path_challenge, is_path_response, is_connection_close, is_application_close, is_datagram, is_ack_frequency, has_bit};
+ghost use Rattle.quic_wire.specs.Reading.{var_at, block_at, sized_at, offset_at, data_at, byte_at, connection_id_at, of_kind_at, body_at};
+ghost use Rattle.quic_wire.specs.FrameTypes.{is_reset_stream, is_stop_sending, is_crypto, is_new_token, is_stream, is_max_data, is_max_stream_data, is_max_streams, is_data_blocked, is_stream_data_blocked, is_streams_blocked, is_new_connection_id, is_retire_connection_id, is_path_challenge, is_path_response, is_connection_close, is_application_close, is_datagram, is_ack_frequency, has_bit};
 ghost use Rattle.quic_wire.specs.Items.{frame_at};
 ghost use Rattle.quic_wire.specs.FrameView.{is_one_way, frame_view};
 
 use crate::frame::{
     AckFrequency, ApplicationCloseFrame, ConnectionCloseFrame, Crypto, Datagram, Frame, FrameError,
-    InvalidFrame, NewToken, ResetStream, StopSending, Stream,
+    InvalidFrame, NewConnectionId, NewToken, ResetStream, StopSending, Stream,
 };
-use quic_wire_core::{Code, Codec, Dir, FrameType, StreamId, VarInt};
+use quic_wire_core::{
+    Code, Codec, ConnectionId, Dir, FrameType, MAX_CID_SIZE, RESET_TOKEN_SIZE, ResetToken,
+    StreamId, VarInt,
+};
 
 /// A variable-length integer.
 fn var_of(bytes: &mut &[u8]) -> Result<VarInt, FrameError>
@@ -32,7 +35,8 @@ fn number_of(bytes: &mut &[u8]) -> Result<u64, FrameError>
 /// So many bytes.
 #[tactic(auto, unfolding(crate::specs::Reading::block_at))]
 fn block_of<'a>(len: u64, bytes: &mut &'a [u8]) -> Result<&'a [u8], FrameError>
-    ensures { Reads (λ x. x.now) result bytes.new.now (block_at len bytes.old.now) }
+    ensures value { Reads (λ x. x.now) result bytes.new.now (block_at len bytes.old.now) }
+    ensures len { IfOk result (λ x. length x.now ≡ len) }
 {
     let all = *bytes;
     if (all.len() as u64) < len {
@@ -190,6 +194,60 @@ fn streams_blocked_of<'a>(dir: Dir, bytes: &mut &'a [u8]) -> Result<Frame<'a>, F
     })
 }
 
+/// One byte.
+#[tactic(auto, unfolding(crate::specs::Reading::byte_at))]
+fn byte_of(bytes: &mut &[u8]) -> Result<u8, FrameError>
+    ensures { Reads (λ x. x) result bytes.new.now (byte_at bytes.old.now) }
+{
+    let all = *bytes;
+    match all.split_first() {
+        Some((first, rest)) => {
+            *bytes = rest;
+            Ok(*first)
+        }
+        None => Err(FrameError::UnexpectedEnd),
+    }
+}
+
+/// A length in one byte, and an id of so many, 1 to 20.
+#[tactic(auto, unfolding(crate::specs::Reading::connection_id_at, crate::specs::Reading::id_at))]
+fn connection_id_of(bytes: &mut &[u8]) -> Result<ConnectionId, FrameError>
+    ensures { Reads (λ x. x) result bytes.new.now (connection_id_at bytes.old.now) }
+{
+    let len = byte_of(bytes)?;
+    if len == 0 || usize::from(len) > MAX_CID_SIZE {
+        return Err(FrameError::Malformed);
+    }
+    Ok(ConnectionId::new(block_of(len.into(), bytes)?))
+}
+
+/// The token of a stateless reset.
+fn reset_token_of(bytes: &mut &[u8]) -> Result<ResetToken, FrameError>
+    ensures { Reads (λ x. x) result bytes.new.now (block_at 16 bytes.old.now) }
+{
+    let mut token = [0; RESET_TOKEN_SIZE];
+    token.copy_from_slice(block_of(RESET_TOKEN_SIZE as u64, bytes)?);
+    Ok(ResetToken::from(token))
+}
+
+/// A NEW_CONNECTION_ID frame behind its type. Its numbers are judged before its id is read.
+#[tactic(auto, unfolding(crate::specs::Reading::new_connection_id_at, crate::specs::Reading::issued_at, crate::specs::Reading::id_and_token_at))]
+fn new_connection_id_of<'a>(bytes: &mut &'a [u8]) -> Result<Frame<'a>, FrameError>
+    ensures { Reads frame_view result bytes.new.now (of_kind_at is_new_connection_id bytes.old.now) }
+{
+    let sequence = number_of(bytes)?;
+    let retire_prior_to = number_of(bytes)?;
+    if retire_prior_to > sequence {
+        return Err(FrameError::Malformed);
+    }
+    Ok(Frame::NewConnectionId(NewConnectionId {
+        sequence,
+        retire_prior_to,
+        id: connection_id_of(bytes)?,
+        reset_token: reset_token_of(bytes)?,
+    }))
+}
+
 /// A RETIRE_CONNECTION_ID frame behind its type.
 fn retire_connection_id_of<'a>(bytes: &mut &'a [u8]) -> Result<Frame<'a>, FrameError>
     ensures { Reads frame_view result bytes.new.now (of_kind_at is_retire_connection_id bytes.old.now) }
@@ -199,11 +257,21 @@ fn retire_connection_id_of<'a>(bytes: &mut &'a [u8]) -> Result<Frame<'a>, FrameE
     })
 }
 
+/// The number whose eight bytes these are, the most significant first.
+fn number_in(text: &[u8]) -> u64
+    requires { length text.now ≡ 8 }
+    ensures { to_be_bytes w64 result ≡ text.now }
+{
+    let mut bytes = [0; 8];
+    bytes.copy_from_slice(text);
+    u64::from_be_bytes(bytes)
+}
+
 /// The eight bytes of a PATH_CHALLENGE or PATH_RESPONSE frame, as a number.
 fn path_data_of(bytes: &mut &[u8]) -> Result<u64, FrameError>
     ensures { Reads (to_be_bytes w64) result bytes.new.now (block_at 8 bytes.old.now) }
 {
-    u64::decode(bytes).map_err(|_| FrameError::UnexpectedEnd)
+    Ok(number_in(block_of(8, bytes)?))
 }
 
 /// A PATH_CHALLENGE frame behind its type.
@@ -289,6 +357,7 @@ fn body_of<'a>(ty: u64, bytes: &mut &'a [u8]) -> Result<Frame<'a>, FrameError>
         0x15 => stream_data_blocked_of(bytes),
         0x16 => streams_blocked_of(Dir::Bi, bytes),
         0x17 => streams_blocked_of(Dir::Uni, bytes),
+        0x18 => new_connection_id_of(bytes),
         0x19 => retire_connection_id_of(bytes),
         0x1a => path_challenge_of(bytes),
         0x1b => path_response_of(bytes),
