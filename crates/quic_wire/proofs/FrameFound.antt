@@ -152,16 +152,20 @@ unfolding reset_stream_at
 reset_stream_found all bytes s =
     let type = type_of is_reset_stream in
     bind _ (var_at bytes) _ (λ a e. bind _ (var_at a.1) _ (λ b f. bind _ (var_at b.1) _ (λ c g.
-    record { is = numbers_found (reset_stream (record { id = a.0; code = b.0; final_size = c.0 })) all (type ∷ a.0 ∷ b.0 ∷ c.0 ∷ []) c.1 (λ front h. h)
-        (more all (type ∷ a.0 ∷ b.0 ∷ []) b.1 c (more all (type ∷ a.0 ∷ []) a.1 b (more all (type ∷ []) bytes a s e) f) g) })))
+    record {
+      is = numbers_found (reset_stream (record { id = a.0; code = b.0; final_size = c.0 })) all (type ∷ a.0 ∷ b.0 ∷ c.0 ∷ []) c.1 (λ front h. h)
+          (more all (type ∷ a.0 ∷ b.0 ∷ []) b.1 c (more all (type ∷ a.0 ∷ []) a.1 b (more all (type ∷ []) bytes a s e) f) g);
+    })))
 
 stop_sending_found : (all bytes : List ℕ) → Sofar all (type_of is_stop_sending ∷ []) bytes → Holds (λ x. Found (stop_sending x.0) all x.1) (stop_sending_at bytes)
 unfolding stop_sending_at
 stop_sending_found all bytes s =
     let type = type_of is_stop_sending in
     bind _ (var_at bytes) _ (λ a e. bind _ (var_at a.1) _ (λ b f.
-    record { is = numbers_found (stop_sending (record { id = a.0; code = b.0 })) all (type ∷ a.0 ∷ b.0 ∷ []) b.1 (λ front h. h)
-        (more all (type ∷ a.0 ∷ []) a.1 b (more all (type ∷ []) bytes a s e) f) }))
+    record {
+      is = numbers_found (stop_sending (record { id = a.0; code = b.0 })) all (type ∷ a.0 ∷ b.0 ∷ []) b.1 (λ front h. h)
+          (more all (type ∷ a.0 ∷ []) a.1 b (more all (type ∷ []) bytes a s e) f);
+    }))
 
 crypto_found : (all bytes : List ℕ) → Sofar all (type_of is_crypto ∷ []) bytes → Holds (λ x. Found (crypto x.0) all x.1) (crypto_at bytes)
 unfolding crypto_at
@@ -181,8 +185,10 @@ stream_limit_found : (type : ℕ) (f : StreamLimitValue → FrameValue) (all byt
 unfolding stream_limit_at
 stream_limit_found type f all bytes is s =
     bind _ (var_at bytes) _ (λ a e. bind _ (var_at a.1) _ (λ b g.
-    record { is = numbers_found (f (record { id = a.0; limit = b.0 })) all (type ∷ a.0 ∷ b.0 ∷ []) b.1 (λ front. is (record { id = a.0; limit = b.0 }) front b.1)
-        (more all (type ∷ a.0 ∷ []) a.1 b (more all (type ∷ []) bytes a s e) g) }))
+    record {
+      is = numbers_found (f (record { id = a.0; limit = b.0 })) all (type ∷ a.0 ∷ b.0 ∷ []) b.1 (λ front. is (record { id = a.0; limit = b.0 }) front b.1)
+          (more all (type ∷ a.0 ∷ []) a.1 b (more all (type ∷ []) bytes a s e) g);
+    }))
 
 -- PATH_CHALLENGE or PATH_RESPONSE
 path_found : (type : ℕ) (f : List ℕ → FrameValue) (all bytes : List ℕ) → ((d form rest : List ℕ) → length d ≡ 8 → Then (type ∷ []) d form → IsForm (f d) form rest)
@@ -215,8 +221,10 @@ unfolding ack_frequency_at
 ack_frequency_found all bytes s =
     let type = type_of is_ack_frequency in
     bind _ (var_at bytes) _ (λ a e. bind _ (var_at a.1) _ (λ b f. bind _ (var_at b.1) _ (λ c g. bind _ (var_at c.1) _ (λ d h.
-    record { is = numbers_found (ack_frequency (record { sequence = a.0; threshold = b.0; delay = c.0; reordering = d.0 })) all (type ∷ a.0 ∷ b.0 ∷ c.0 ∷ d.0 ∷ []) d.1 (λ front k. k)
-        (more all (type ∷ a.0 ∷ b.0 ∷ c.0 ∷ []) c.1 d (more all (type ∷ a.0 ∷ b.0 ∷ []) b.1 c (more all (type ∷ a.0 ∷ []) a.1 b (more all (type ∷ []) bytes a s e) f) g) h) }))))
+    record {
+      is = numbers_found (ack_frequency (record { sequence = a.0; threshold = b.0; delay = c.0; reordering = d.0 })) all (type ∷ a.0 ∷ b.0 ∷ c.0 ∷ d.0 ∷ []) d.1 (λ front k. k)
+          (more all (type ∷ a.0 ∷ b.0 ∷ c.0 ∷ []) c.1 d (more all (type ∷ a.0 ∷ b.0 ∷ []) b.1 c (more all (type ∷ a.0 ∷ []) a.1 b (more all (type ∷ []) bytes a s e) f) g) h);
+    }))))
 
 -- ---- NEW_CONNECTION_ID
 
@@ -260,10 +268,10 @@ id_found bytes =
     after _ _ (byte_at bytes) _ (byte_found bytes)
     (λ n h. guard _ (eqb n.0 0 || ltb 20 n.0) Malformed (block_at n.0 n.1) (λ range.
     weaken _ _ (block_at n.0 n.1) (plain_found n.0 n.1) (λ x k.
-        let nonzero = eqb-false n.0 0 (or_first (eqb n.0 0) (ltb 20 n.0) range) in
-        let below : n.0 ≤ 20 = omega (arith, ltb-false 20 n.0 (or_second (eqb n.0 0) (ltb 20 n.0) range)) in
-        let pos : 1 ≤ n.0 = omega (arith, nonzero) in
-        record { parts = h.parts ∙ ap (λ (t : List ℕ). n.0 ∷ t) k.parts ∙ ap (λ (m : ℕ). m ∷ (x.0 ++ x.1)) (sym k.len); some = rw k.len pos; short = rw k.len below })))
+    let nonzero = eqb-false n.0 0 (or_first (eqb n.0 0) (ltb 20 n.0) range) in
+    let below : n.0 ≤ 20 = omega (arith, ltb-false 20 n.0 (or_second (eqb n.0 0) (ltb 20 n.0) range)) in
+    let pos : 1 ≤ n.0 = omega (arith, nonzero) in
+    record { parts = h.parts ∙ ap (λ (t : List ℕ). n.0 ∷ t) k.parts ∙ ap (λ (m : ℕ). m ∷ (x.0 ++ x.1)) (sym k.len); some = rw k.len pos; short = rw k.len below })))
 
 issued_parts : (n : NewConnectionIdValue) (all ns bytes middle rest : List ℕ) → Sofar all ns bytes → bytes ≡ length n.id ∷ (n.id ++ middle) → middle ≡ n.token ++ rest → SofarThen all ns (id_and_token n) rest
 issued_parts n all ns bytes middle rest s e f =
@@ -282,10 +290,12 @@ issued_found sequence retire all bytes s =
     guard _ (ltb sequence retire) Malformed (id_and_token_at sequence retire bytes) (λ least.
     after _ _ (connection_id_at bytes) _ (id_found bytes) (λ id h.
     after _ _ (block_at 16 id.1) _ (plain_found 16 id.1) (λ token k.
-        let n : NewConnectionIdValue = record { sequence = sequence; retire_prior_to = retire; id = id.0; token = token.0 } in
-        let most : retire ≤ sequence = omega (arith, ltb-false sequence retire least) in
-        record { is = text_found (new_connection_id n) all ns (id_and_token n) token.1 (λ form t. (record { retires = most; some = h.some; short = h.short; token = k.len }, t))
-            (issued_parts n all ns bytes id.1 token.1 s h.parts k.parts) })))
+    let n : NewConnectionIdValue = record { sequence = sequence; retire_prior_to = retire; id = id.0; token = token.0 } in
+    let most : retire ≤ sequence = omega (arith, ltb-false sequence retire least) in
+    record {
+      is = text_found (new_connection_id n) all ns (id_and_token n) token.1 (λ form t. (record { retires = most; some = h.some; short = h.short; token = k.len }, t))
+          (issued_parts n all ns bytes id.1 token.1 s h.parts k.parts);
+    })))
 
 new_connection_id_found : (all bytes : List ℕ) → Sofar all (type_of is_new_connection_id ∷ []) bytes → Holds (λ x. Found (new_connection_id x.0) all x.1) (new_connection_id_at bytes)
 unfolding new_connection_id_at

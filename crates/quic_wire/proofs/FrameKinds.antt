@@ -130,9 +130,9 @@ between : (type a b : ℕ) → (a ≤ type → type < b → ⊥) → (not (nat_l
 between type a b out = elim (cases_lt type a) [
   | inl lt ↦ rw (lt-ltb type a lt) refl
   | inr ge ↦ elim (cases_lt type b) [
-      | inl lt ↦ absurd (out (omega arith) lt)
-      | inr ge' ↦ rw (le-ltb type a (omega arith), le-ltb type b (omega arith)) refl
-    ]
+    | inl lt ↦ absurd (out (omega arith) lt)
+    | inr ge' ↦ rw (le-ltb type a (omega arith), le-ltb type b (omega arith)) refl
+  ]
 ]
 
 pub body_other : (type : ℕ) (bytes : List ℕ) → ¬ (type ≡ 0) → ¬ (type ≡ 1) → (4 ≤ type → type < 32 → ⊥) → ¬ (type ≡ 48) → ¬ (type ≡ 49) → ¬ (type ≡ 175) → body_at type bytes ≡ Err InvalidId

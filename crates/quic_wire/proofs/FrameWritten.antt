@@ -205,3 +205,6 @@ spelling_form f rest h = absurd h
 -- a DATAGRAM frame without its length is a form where nothing follows it
 pub datagram_end_form : (d : List ℕ) → IsForm (datagram d) (datagram_to_end d) []
 datagram_end_form d = record { sized = false; ends = refl; text = numbers_then (type_of (is_datagram false) ∷ []) d (omega arith, tt) }
+
+pub datagram_end_length : (d : List ℕ) → length (datagram_to_end d) ≡ 1 + length d
+datagram_end_length d = omega arith

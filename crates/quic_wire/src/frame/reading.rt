@@ -310,10 +310,7 @@ fn application_close_of<'a>(bytes: &mut &'a [u8]) -> Result<Frame<'a>, FrameErro
 {
     let error_code = var_of(bytes)?;
     let reason = sized_of(bytes)?;
-    Ok(Frame::ApplicationClose(ApplicationCloseFrame {
-        error_code,
-        reason,
-    }))
+    Ok(Frame::ApplicationClose(ApplicationCloseFrame { error_code, reason }))
 }
 
 /// A DATAGRAM frame behind its type.

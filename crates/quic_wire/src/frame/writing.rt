@@ -2,14 +2,15 @@
 ghost use Rattle.std.specs.Prelude.{◌≡◌, ◌+◌, ◌<◌, ◌≤◌, ◌^◌, ◌++◌, [], ◌∷◌, length, OnOk, OnErr, vec_len, vec_capacity, IfSome, true};
 ghost use Rattle.bytes.specs.Filled.{UsesSpare};
 ghost use Rattle.quic_wire_core.specs.Varint.{shortest};
-ghost use Rattle.quic_wire.specs.FrameView.{reset_stream_view, crypto_view, stream_view, new_connection_id_view, connection_close_view, application_close_view, ack_frequency_view, frame_view};
-ghost use Rattle.quic_wire.specs.Value.{reset_stream, crypto, new_connection_id, connection_close, application_close, ack_frequency};
+ghost use Rattle.quic_wire.specs.FrameView.{is_one_way, reset_stream_view, stop_sending_view, crypto_view, stream_view, new_connection_id_view, connection_close_view, application_close_view, ack_frequency_view, frame_view};
+ghost use Rattle.quic_wire.specs.FrameTypes.{bit_if};
+ghost use Rattle.quic_wire.specs.Value.{reset_stream, stop_sending, crypto, new_connection_id, connection_close, application_close, ack_frequency};
 ghost use Rattle.quic_wire.specs.Grammar.{offset_numbers, number_if};
 ghost use Rattle.quic_wire.specs.Writing.{written, widths, AreNumbers, has_offset, stream_header, stream_spelling, spelling, StreamFits, Fits, width_of, offset_width, length_width, some_if, header_of, with_more, stream_header_size, stream_size, frame_size, BeginWith, SpendsSpare};
 
 use crate::frame::{
     AckFrequency, ApplicationCloseFrame, ConnectionCloseFrame, Crypto, Frame, NewConnectionId,
-    ResetStream, Stream,
+    ResetStream, StopSending, Stream,
 };
 use crate::reserved::append;
 use bytes::BufMut;
@@ -122,6 +123,20 @@ fn write_one<B: BufMut>(buf: &mut B, ty: u64, n: u64) -> Result<(), AllocError>
     write_parts(buf, &[ty, n], &[])
 }
 
+/// Writes a type, one greater for one-way streams, and how many of them there are.
+fn write_count<B: BufMut>(buf: &mut B, ty: u64, dir: Dir, count: u64) -> Result<(), AllocError>
+    requires ty { ty < 64 }
+    requires count { count < 2 ^ 62 }
+    ensures ok { OnOk result (B.written buf.new ≡ B.written buf.old ++ (written ((ty + bit_if (is_one_way dir) 1) ∷ count ∷ []) ++ [])) }
+    ensures err { OnErr result (BeginWith (B.written buf.old) (B.written buf.new)) }
+    ensures spare { SpendsSpare result (B.spare buf.old) (B.spare buf.new) (widths ((ty + bit_if (is_one_way dir) 1) ∷ count ∷ []) + 0) }
+{
+    match dir {
+        Dir::Bi => write_one(buf, ty, count),
+        Dir::Uni => write_one(buf, ty + 1, count),
+    }
+}
+
 /// Writes a type, a stream's id and a number.
 fn write_limit<B: BufMut>(buf: &mut B, ty: u64, id: StreamId, limit: u64) -> Result<(), AllocError>
     requires { AreNumbers (ty ∷ id ∷ limit ∷ []) }
@@ -152,6 +167,16 @@ fn write_reset_stream<B: BufMut>(buf: &mut B, frame: &ResetStream) -> Result<(),
     let code = frame.error_code.into_inner();
     let size = frame.final_offset.into_inner();
     write_parts(buf, &[0x04, frame.id.into(), code, size], &[])
+}
+
+/// Writes a STOP_SENDING frame.
+fn write_stop_sending<B: BufMut>(buf: &mut B, frame: &StopSending) -> Result<(), AllocError>
+    requires { Fits (stop_sending (stop_sending_view frame.now)) }
+    ensures ok { OnOk result (B.written buf.new ≡ B.written buf.old ++ spelling (stop_sending (stop_sending_view frame.now))) }
+    ensures err { OnErr result (BeginWith (B.written buf.old) (B.written buf.new)) }
+    ensures spare { SpendsSpare result (B.spare buf.old) (B.spare buf.new) (frame_size (stop_sending (stop_sending_view frame.now))) }
+{
+    write_limit(buf, 0x05, frame.id, frame.error_code.into_inner())
 }
 
 /// Writes a CRYPTO frame.
@@ -194,7 +219,11 @@ fn write_connection_close<B: BufMut>(
 {
     let code = frame.error_code.into();
     let len = frame.reason.len() as u64;
-    write_parts(buf, &[0x1c, code, frame.frame_type.into(), len], frame.reason)
+    write_parts(
+        buf,
+        &[0x1c, code, frame.frame_type.into(), len],
+        frame.reason,
+    )
 }
 
 /// Writes a CONNECTION_CLOSE frame of type 1d.
@@ -239,18 +268,16 @@ pub fn write_frame<B: BufMut>(frame: &Frame<'_>, buf: &mut B) -> Result<(), Allo
         Frame::Padding => write_number(buf, 0x00),
         Frame::Ping => write_number(buf, 0x01),
         Frame::ResetStream(frame) => write_reset_stream(buf, frame),
-        Frame::StopSending(frame) => write_limit(buf, 0x05, frame.id, frame.error_code.into_inner()),
+        Frame::StopSending(frame) => write_stop_sending(buf, frame),
         Frame::Crypto(frame) => write_crypto(buf, frame),
         Frame::NewToken(frame) => write_sized(buf, 0x07, frame.token),
         Frame::Stream(stream) => write_stream(buf, stream),
         Frame::MaxData(limit) => write_one(buf, 0x10, limit.into_inner()),
         Frame::MaxStreamData { id, offset } => write_limit(buf, 0x11, *id, *offset),
-        Frame::MaxStreams { dir: Dir::Bi, count } => write_one(buf, 0x12, *count),
-        Frame::MaxStreams { dir: Dir::Uni, count } => write_one(buf, 0x13, *count),
+        Frame::MaxStreams { dir, count } => write_count(buf, 0x12, *dir, *count),
         Frame::DataBlocked { offset } => write_one(buf, 0x14, *offset),
         Frame::StreamDataBlocked { id, offset } => write_limit(buf, 0x15, *id, *offset),
-        Frame::StreamsBlocked { dir: Dir::Bi, limit } => write_one(buf, 0x16, *limit),
-        Frame::StreamsBlocked { dir: Dir::Uni, limit } => write_one(buf, 0x17, *limit),
+        Frame::StreamsBlocked { dir, limit } => write_count(buf, 0x16, *dir, *limit),
         Frame::NewConnectionId(frame) => write_new_connection_id(buf, frame),
         Frame::RetireConnectionId { sequence } => write_one(buf, 0x19, *sequence),
         Frame::PathChallenge(token) => write_parts(buf, &[0x1a], &token.to_be_bytes()),
@@ -328,6 +355,35 @@ fn size_of_text(text: &[u8]) -> usize
     size_of_number(text.len() as u64) + text.len()
 }
 
+/// How many bytes a RESET_STREAM frame takes.
+fn size_of_reset_stream(frame: &ResetStream) -> usize
+    requires { Fits (reset_stream (reset_stream_view frame.now)) }
+    ensures { result ≡ frame_size (reset_stream (reset_stream_view frame.now)) }
+{
+    let code = frame.error_code.into_inner();
+    let size = frame.final_offset.into_inner();
+    1 + size_of_number(frame.id.into()) + size_of_pair(code, size)
+}
+
+/// How many bytes a NEW_CONNECTION_ID frame takes.
+#[tactic(auto, using(crate::proofs::FrameWritten::id_length))]
+fn size_of_new_connection_id(frame: &NewConnectionId) -> usize
+    requires { Fits (new_connection_id (new_connection_id_view frame.now)) }
+    ensures { result ≡ frame_size (new_connection_id (new_connection_id_view frame.now)) }
+{
+    let numbers = size_of_pair(frame.sequence, frame.retire_prior_to);
+    1 + numbers + 1 + frame.id.len() + RESET_TOKEN_SIZE
+}
+
+/// How many bytes a CONNECTION_CLOSE frame of type 1c takes.
+fn size_of_connection_close(frame: &ConnectionCloseFrame<'_>) -> usize
+    requires { Fits (connection_close (connection_close_view frame.now)) }
+    ensures { result ≡ frame_size (connection_close (connection_close_view frame.now)) }
+{
+    let numbers = size_of_pair(frame.error_code.into(), frame.frame_type.into());
+    1 + numbers + size_of_text(frame.reason)
+}
+
 /// How many bytes an ACK_FREQUENCY frame takes.
 fn size_of_ack_frequency(frame: &AckFrequency) -> usize
     requires { Fits (ack_frequency (ack_frequency_view frame.now)) }
@@ -346,11 +402,9 @@ pub fn size_of_frame(frame: &Frame<'_>) -> usize
 {
     match frame {
         Frame::Padding | Frame::Ping | Frame::HandshakeDone | Frame::ImmediateAck => 1,
-        Frame::ResetStream(frame) => {
-            let code = frame.error_code.into_inner();
-            1 + size_of_pair(frame.id.into(), code) + size_of_number(frame.final_offset.into_inner())
-        }
-        Frame::StopSending(frame) => 1 + size_of_pair(frame.id.into(), frame.error_code.into_inner()),
+        Frame::ResetStream(frame) => size_of_reset_stream(frame),
+        Frame::StopSending(frame) => 1
+            + size_of_pair(frame.id.into(), frame.error_code.into_inner()),
         Frame::Crypto(frame) => 1 + size_of_number(frame.offset) + size_of_text(frame.data),
         Frame::NewToken(frame) => 1 + size_of_text(frame.token),
         Frame::Stream(stream) => {
@@ -363,16 +417,10 @@ pub fn size_of_frame(frame: &Frame<'_>) -> usize
         Frame::MaxStreams { count, .. } => 1 + size_of_number(*count),
         Frame::StreamsBlocked { limit, .. } => 1 + size_of_number(*limit),
         Frame::DataBlocked { offset } => 1 + size_of_number(*offset),
-        Frame::NewConnectionId(frame) => {
-            let numbers = size_of_pair(frame.sequence, frame.retire_prior_to);
-            1 + numbers + 1 + frame.id.len() + RESET_TOKEN_SIZE
-        }
+        Frame::NewConnectionId(frame) => size_of_new_connection_id(frame),
         Frame::RetireConnectionId { sequence } => 1 + size_of_number(*sequence),
         Frame::PathChallenge(_) | Frame::PathResponse(_) => 1 + 8,
-        Frame::ConnectionClose(frame) => {
-            let numbers = size_of_pair(frame.error_code.into(), frame.frame_type.into());
-            1 + numbers + size_of_text(frame.reason)
-        }
+        Frame::ConnectionClose(frame) => size_of_connection_close(frame),
         Frame::ApplicationClose(frame) => {
             1 + size_of_number(frame.error_code.into_inner()) + size_of_text(frame.reason)
         }
