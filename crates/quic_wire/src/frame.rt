@@ -7,6 +7,8 @@ use thiserror::Error;
 mod iter;
 mod kinds;
 mod reading;
+#[cfg(test)]
+mod table;
 mod writing;
 
 pub use iter::Iter;
@@ -19,7 +21,7 @@ pub use writing::{
 };
 
 /// A frame of a payload (quinn-proto's `frame::Frame`).
-#[derive(Debug, Drop)]
+#[derive(Debug, PartialEq, Eq, Drop)]
 pub enum Frame<'a> {
     /// Nothing (section 19.1).
     Padding,
@@ -242,6 +244,16 @@ mod tests {
         assert!(rt; frame.is_ack_eliciting());
         assert!(rt; Frame::Ping.is_ack_eliciting());
         assert!(rt; !Frame::Padding.is_ack_eliciting());
+        assert_eq!(rt;
+            Frame::Datagram(Datagram { data: &[] }).ty(),
+            FrameType::DATAGRAM
+        );
+        let close = Frame::ApplicationClose(ApplicationCloseFrame {
+            error_code: VarInt::from_u32(0),
+            reason: &[],
+        });
+        assert_eq!(rt; close.ty(), FrameType::APPLICATION_CLOSE);
+        assert!(rt; !close.is_ack_eliciting());
         Ok(())
     }
 

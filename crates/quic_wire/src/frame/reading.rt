@@ -386,3 +386,99 @@ pub(crate) fn frame_of<'a>(bytes: &mut &'a [u8]) -> Result<Frame<'a>, InvalidFra
         }),
     }
 }
+
+#[cfg(test)]
+mod tests {
+    use super::*;
+    use std::test::Fail;
+
+    /// Why no frame stands at the front of these bytes.
+    fn refusal(bytes: &[u8]) -> Option<InvalidFrame> {
+        let mut rest = bytes;
+        match frame_of(&mut rest) {
+            Ok(_) => None,
+            Err(invalid) => Some(invalid),
+        }
+    }
+
+    #[test]
+    fn cut_fields_end_frames(rt: HostRuntime) -> Result<(), Fail> {
+        let mut id = [0; 24];
+        id[0] = 0x18;
+        id[3] = 4;
+        let frames: [&[u8]; 12] = [
+            &[0x04, 0x01, 0x40, 0x02, 0x03],
+            &[0x05, 0x01, 0x02],
+            &[0x06, 0x00, 0x02, 0x61, 0x62],
+            &[0x07, 0x01, 0x61],
+            &[0x0e, 0x01, 0x02, 0x01, 0x61],
+            &[0x10, 0x80, 0x00, 0x00, 0x01],
+            &[0x11, 0x01, 0x02],
+            &[0x1a, 1, 2, 3, 4, 5, 6, 7, 8],
+            &[0x1c, 0x01, 0x02, 0x01, 0x61],
+            &[0x1d, 0x01, 0x01, 0x61],
+            &[0x31, 0x01, 0x61],
+            &id,
+        ];
+        for frame in frames {
+            assert!(rt; refusal(frame).is_none());
+            for len in 1..frame.len() {
+                let wanted = FrameType::from(VarInt::from(frame[0]));
+                let invalid = InvalidFrame {
+                    ty: Some(wanted),
+                    reason: FrameError::UnexpectedEnd,
+                };
+                assert!(rt; refusal(&frame[..len]) == Some(invalid));
+            }
+        }
+        Ok(())
+    }
+
+    #[test]
+    fn conditions_are_judged_in_order(rt: HostRuntime) -> Result<(), Fail> {
+        let cases: [(&[u8], FrameError); 6] = [
+            // The second number can't be read.
+            (&[0x18, 0x01], FrameError::UnexpectedEnd),
+            // It is above the first one, and no length follows.
+            (&[0x18, 0x00, 0x01], FrameError::Malformed),
+            // No length follows.
+            (&[0x18, 0x01, 0x01], FrameError::UnexpectedEnd),
+            // Lengths of 0 and of 21, and no id follows.
+            (&[0x18, 0x01, 0x01, 0x00], FrameError::Malformed),
+            (&[0x18, 0x01, 0x01, 0x15], FrameError::Malformed),
+            // A length of 20, and no id follows.
+            (&[0x18, 0x01, 0x01, 0x14], FrameError::UnexpectedEnd),
+        ];
+        for (bytes, reason) in cases {
+            let ty = Some(FrameType::NEW_CONNECTION_ID);
+            assert!(rt; refusal(bytes) == Some(InvalidFrame { ty, reason }));
+        }
+        let unknown = InvalidFrame {
+            ty: Some(FrameType::from(VarInt::from_u32(0xae))),
+            reason: FrameError::InvalidId,
+        };
+        assert!(rt; refusal(&[0x80, 0x00, 0x00, 0xae]) == Some(unknown));
+        Ok(())
+    }
+
+    #[test]
+    fn types_have_any_width(rt: HostRuntime) -> Result<(), Fail> {
+        let mut done: &[u8] = &[0xc0, 0, 0, 0, 0, 0, 0, 0x1e];
+        assert!(rt; matches!(frame_of(&mut done), Ok(Frame::HandshakeDone)));
+        let mut frequency: &[u8] = &[0x80, 0, 0, 0xaf, 0x01, 0x02, 0x03, 0x04, 0x00];
+        assert!(rt; matches!(frame_of(&mut frequency), Ok(Frame::AckFrequency(_))));
+        assert_eq!(rt; frequency.len(), 1);
+        Ok(())
+    }
+
+    #[test]
+    fn a_message_without_length_ends_the_payload(rt: HostRuntime) -> Result<(), Fail> {
+        let mut bytes: &[u8] = &[0x30, 0x68, 0x69, 0x00, 0x00];
+        let wanted = Datagram {
+            data: &[0x68, 0x69, 0x00, 0x00],
+        };
+        assert!(rt; frame_of(&mut bytes) == Ok(Frame::Datagram(wanted)));
+        assert!(rt; bytes.is_empty());
+        Ok(())
+    }
+}
