@@ -10,6 +10,7 @@ pub mod FrameFound
 pub mod FrameWhole
 pub mod FrameWritten
 pub mod FrameReadBack
+pub mod FrameRange
 pub mod Room
 pub mod WorkedForms
 pub mod Closes
