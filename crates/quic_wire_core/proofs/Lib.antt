@@ -1,3 +1,4 @@
 mod Examples
+mod RunExamples
 pub mod RunLists
 pub mod RunEdits

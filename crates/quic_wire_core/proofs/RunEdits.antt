@@ -1,12 +1,12 @@
 -- What an edit does to the numbers of a list of runs.
-use Rattle.std.proofs.Common.{◌≡◌, ℕ, suc, zero, ◌+◌, ◌-◌, ◌≤◌, ◌<◌, min, max, ◌⊎◌, ◌↔◌, List, [], ◌∷◌, ◌++◌, length, take, drop, get_or, refl, sym, ap, ◌∙◌, inl, inr, arith}
+use Rattle.std.proofs.Common.{◌≡◌, ℕ, suc, zero, ◌+◌, ◌-◌, ◌≤◌, ◌<◌, min, max, ◌⊎◌, ◌↔◌, List, [], ◌∷◌, ◌++◌, length, take, drop, get_or, refl, ap, ◌∙◌, inl, inr, arith}
 use Rattle.std.proofs.lemmas.Bool.{cases_lt}
 use Rattle.std.specs.declared.ops.Range.{Range}
 use Rattle.std.specs.List.{insert, remove, refill}
 use Rattle.std.specs.Prelude.{slice_get, set, Some}
 use Rattle.std.proofs.Common.{add-one, length-append, length-take, length-drop, length-set}
 use Rattle.std.proofs.lemmas.List.{take_more, take_all, take_at}
-use Rattle.quic_wire_core.specs.Runs.{Run, In, Has, AreRunsFrom, AreRuns, Adds, Drops, IsUnion, IsDifference, IsLeast, IsGreatest, IsApart, IsInside}
+use Rattle.quic_wire_core.specs.Runs.{Run, In, Has, AreRunsFrom, AreRuns, Adds, Drops, IsUnion, IsDifference, IsLeast, IsGreatest, IsApart}
 use Rattle.quic_wire_core.specs.RunEdits.{AreMet, IsInsertion, IsRemoval, HasPlaces, edited}
 use Rattle.quic_wire_core.specs.declared.range_set.runs.Edit.{Edit}
 use Rattle.quic_wire_core.specs.declared.range_set.runs.Edit.TheVariants as edits
@@ -88,10 +88,6 @@ widens rs i t a b s e w k = (
 -- what the set has after an insert that changes nothing
 no_change : (rs new : List Run) (a b : ℕ) → Adds rs new a b → new ≡ rs → (k : ℕ) → a ≤ k → k < b → Has rs k
 no_change rs new a b adds e k lo hi = rw e at ((adds k).1 (inr (lo, hi)))
-
--- the run after those at the places that meet, from the number before the range on, is behind the range
-abbrev pub Lone : List Run → ℕ → ℕ → ℕ → Type 0
-Lone rs a b i = AreRuns rs × (a < b) × AreMet rs (a - 1) b i i
 
 -- a run before the places ends below the range
 before_ends : (rs : List Run) (a b i t j : ℕ) → AreRuns rs → AreMet rs (a - 1) b i t → j < i → j < length rs → (at rs j).end < a

@@ -1,7 +1,6 @@
 -- How a call changes a list of runs: the runs at some places give way to others.
-use Rattle.std.specs.Prelude.{◌≡◌, ℕ, ◌+◌, ◌≤◌, ◌<◌, List, [], ◌∷◌, ◌++◌, length, take, drop, slice_index_or}
-use Rattle.std.specs.declared.ops.Range.{Range}
-use Rattle.quic_wire_core.specs.Runs.{Run, Has, AreRuns, Adds, Drops, IsApart, IsInside}
+use Rattle.std.specs.Prelude.{◌≡◌, ℕ, ◌+◌, ◌≤◌, ◌<◌, List, ◌∷◌, ◌++◌, length, take, drop, slice_index_or}
+use Rattle.quic_wire_core.specs.Runs.{Run, AreRuns, Adds, Drops, IsApart, IsInside}
 use Rattle.quic_wire_core.specs.declared.range_set.runs.Edit.{Edit}
 use Rattle.quic_wire_core.specs.declared.range_set.runs.Edit.TheVariants as edits
 

@@ -236,6 +236,7 @@ fn apply(runs: &mut Vec<Range<u64>>, edit: Edit) -> Result<(), AllocError>
     Ok(())
 }
 
+/// Adds a range, and tells whether that changed the set.
 fn insert(runs: &mut Vec<Range<u64>>, x: Range<u64>) -> Result<bool, AllocError>
     requires { AreRuns runs.old.items }
     ensures runs { AreRuns runs.new.items }
@@ -256,6 +257,7 @@ fn insert(runs: &mut Vec<Range<u64>>, x: Range<u64>) -> Result<bool, AllocError>
     }
 }
 
+/// Takes a range out, and tells whether that changed the set.
 fn remove(runs: &mut Vec<Range<u64>>, x: Range<u64>) -> Result<bool, AllocError>
     requires { AreRuns runs.old.items }
     ensures runs { AreRuns runs.new.items }
@@ -276,6 +278,7 @@ fn remove(runs: &mut Vec<Range<u64>>, x: Range<u64>) -> Result<bool, AllocError>
     }
 }
 
+/// Takes the numbers of other runs out, one run after another.
 fn subtract(runs: &mut Vec<Range<u64>>, other: &[Range<u64>]) -> Result<(), AllocError>
     requires { AreRuns runs.old.items }
     ensures runs { AreRuns runs.new.items }
@@ -290,6 +293,7 @@ fn subtract(runs: &mut Vec<Range<u64>>, other: &[Range<u64>]) -> Result<(), Allo
     Ok(())
 }
 
+/// Adds the numbers of other runs, one run after another.
 fn add(runs: &mut Vec<Range<u64>>, other: &[Range<u64>]) -> Result<(), AllocError>
     requires { AreRuns runs.old.items }
     ensures runs { AreRuns runs.new.items }

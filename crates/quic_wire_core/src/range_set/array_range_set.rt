@@ -13,6 +13,7 @@ use std::ops::Range;
 /// How many runs stand in place, without memory of their own (quinn-proto's `ARRAY_RANGE_SET_INLINE_CAPACITY`).
 pub const ARRAY_RANGE_SET_INLINE_CAPACITY: usize = 2;
 
+/// The runs, as they are stored.
 type Stored = SmallVec<Range<u64>, ARRAY_RANGE_SET_INLINE_CAPACITY>;
 
 /// A finite set of numbers, of which two runs stand in place (quinn-proto's `ArrayRangeSet`). Contracts see the list of
@@ -215,6 +216,7 @@ fn apply(runs: &mut Stored, edit: Edit) -> Result<(), AllocError>
     Ok(())
 }
 
+/// Adds a range, and tells whether that changed the set.
 fn insert(runs: &mut Stored, x: Range<u64>) -> Result<bool, AllocError>
     requires { AreRuns runs.old.items }
     ensures runs { AreRuns runs.new.items }
@@ -235,6 +237,7 @@ fn insert(runs: &mut Stored, x: Range<u64>) -> Result<bool, AllocError>
     }
 }
 
+/// Takes a range out, and tells whether that changed the set.
 fn remove(runs: &mut Stored, x: Range<u64>) -> Result<bool, AllocError>
     requires { AreRuns runs.old.items }
     ensures runs { AreRuns runs.new.items }
@@ -255,6 +258,7 @@ fn remove(runs: &mut Stored, x: Range<u64>) -> Result<bool, AllocError>
     }
 }
 
+/// Takes the numbers of other runs out, one run after another.
 fn subtract(runs: &mut Stored, other: &[Range<u64>]) -> Result<(), AllocError>
     requires { AreRuns runs.old.items }
     ensures runs { AreRuns runs.new.items }

@@ -9,7 +9,10 @@ use std::ops::Range;
 #[derive(Drop)]
 pub(super) enum Edit {
     /// A run goes in before the one at a place.
-    Insert { place: usize, run: Range<u64> },
+    Insert {
+        place: usize,
+        run: Range<u64>,
+    },
     /// The run at the places, which is one, gives way to two.
     Split {
         places: Range<usize>,
@@ -28,7 +31,9 @@ pub(super) enum Edit {
         right: Range<u64>,
     },
     /// The runs at the places go.
-    Remove { places: Range<usize> },
+    Remove {
+        places: Range<usize>,
+    },
 }
 
 /// How many runs end at a number or below it, by halving.

@@ -64,22 +64,41 @@ fn put(rt: &impl Abort, set: &mut RangeSet, x: Range<u64>, adds: bool) -> Result
     if let Ok(changed) = first {
         return Ok(changed);
     }
-    assert_eq!(rt; (set.len(), set.min(), set.max(), set.contains(start)), before);
+    assert_eq!(rt;
+        (set.len(), set.min(), set.max(), set.contains(start)),
+        before
+    );
     let again = start..end;
-    Ok(if adds { set.insert(again)? } else { set.remove(again)? })
+    Ok(if adds {
+        set.insert(again)?
+    } else {
+        set.remove(again)?
+    })
 }
 
 // The same of the set that keeps few runs in place.
-fn put_array(rt: &impl Abort, set: &mut ArrayRangeSet, x: Range<u64>, adds: bool) -> Result<bool, Fail> {
+fn put_array(
+    rt: &impl Abort,
+    set: &mut ArrayRangeSet,
+    x: Range<u64>,
+    adds: bool,
+) -> Result<bool, Fail> {
     let (start, end) = (x.start, x.end);
     let before = (set.len(), set.min(), set.max(), set.contains(start));
     let first = if adds { set.insert(x) } else { set.remove(x) };
     if let Ok(changed) = first {
         return Ok(changed);
     }
-    assert_eq!(rt; (set.len(), set.min(), set.max(), set.contains(start)), before);
+    assert_eq!(rt;
+        (set.len(), set.min(), set.max(), set.contains(start)),
+        before
+    );
     let again = start..end;
-    Ok(if adds { set.insert(again)? } else { set.remove(again)? })
+    Ok(if adds {
+        set.insert(again)?
+    } else {
+        set.remove(again)?
+    })
 }
 
 // The runs of a set are these.
@@ -214,7 +233,10 @@ fn runs_are_taken_from_the_front(rt: HostRuntime) -> Result<(), Fail> {
         Err(_) => set.try_clone()?,
     };
     let copy_of_few = few.try_clone()?;
-    assert_eq!(rt; set.peek_min().map(|run| (run.start, run.end)), Some((1, 3)));
+    assert_eq!(rt;
+        set.peek_min().map(|run| (run.start, run.end)),
+        Some((1, 3))
+    );
     assert_eq!(rt; set.pop_min().map(|run| (run.start, run.end)), Some((1, 3)));
     assert_eq!(rt; few.pop_min().map(|run| (run.start, run.end)), Some((1, 3)));
     assert_runs(&rt, set.as_slice(), &[(4, 6)]);

@@ -1,4 +1,4 @@
-use Rattle.std.proofs.Common.{◌+◌, ◌-◌, ◌≤◌, length, take}
+use Rattle.std.proofs.Common.{◌-◌, length, take}
 use Rattle.smallvec.specs.SmallVec.{HasRoomFor}
 use Rattle.quic_wire_core.specs.Runs.{AreRuns, IsDifference}
 use Rattle.quic_wire_core.proofs.range_set.array_range_set.subtract.Given as goal

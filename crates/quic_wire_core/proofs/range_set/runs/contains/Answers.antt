@@ -1,4 +1,4 @@
-use Rattle.std.proofs.Common.{◌<◌, ◌≤◌, length, arith}
+use Rattle.std.proofs.Common.{◌<◌, length, arith}
 use Rattle.std.proofs.lemmas.Bool.{leb-true, le-leb, ltb-true}
 use Rattle.quic_wire_core.proofs.RunLists.{has_at}
 use Rattle.quic_wire_core.proofs.RunEdits.{empty, starts_below, lacks_all}

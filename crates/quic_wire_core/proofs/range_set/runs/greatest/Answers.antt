@@ -1,4 +1,4 @@
-use Rattle.std.proofs.Common.{◌-◌, ◌<◌, length, sym, arith}
+use Rattle.std.proofs.Common.{◌-◌, length, sym, arith}
 use Rattle.quic_wire_core.proofs.RunEdits.{greatest_is, not_empty}
 use Rattle.quic_wire_core.proofs.range_set.runs.greatest.Goals as goal
 

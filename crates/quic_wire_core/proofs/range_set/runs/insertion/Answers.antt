@@ -1,5 +1,4 @@
-use Rattle.std.proofs.Common.{◌≡◌, ◌-◌, ◌<◌, ◌≤◌, length, min, max, inl, inr, rules, arith}
-use Rattle.quic_wire_core.specs.RunEdits.{AreMet}
+use Rattle.std.proofs.Common.{◌<◌, inl, inr, rules, arith}
 use Rattle.quic_wire_core.proofs.RunEdits.{at, inserts, covered, merges, GoesPast}
 use Rattle.quic_wire_core.proofs.range_set.runs.insertion.Goals as goal
 use Rattle.quic_wire_core.proofs.range_set.runs.insertion.Goals.{else-first-x-via-then-first-x+else-x-first, else-first-x-via-else-first-x}

@@ -1,4 +1,4 @@
-use Rattle.std.proofs.Common.{◌≤◌, ◌<◌, length, inl, inr, arith}
+use Rattle.std.proofs.Common.{◌<◌, length, inl, inr, arith}
 use Rattle.std.proofs.lemmas.Bool.{cases_lt}
 use Rattle.quic_wire_core.proofs.RunLists.{filled}
 use Rattle.quic_wire_core.proofs.RunEdits.{empty}

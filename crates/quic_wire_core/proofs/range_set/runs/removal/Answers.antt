@@ -1,4 +1,4 @@
-use Rattle.std.proofs.Common.{◌≡◌, ◌+◌, ◌-◌, ◌<◌, ◌≤◌, arith}
+use Rattle.std.proofs.Common.{◌<◌, arith}
 use Rattle.quic_wire_core.proofs.RunEdits.{Cuts, removes, leaves_first, leaves_last, leaves_both, splits_at, none_dropped}
 use Rattle.quic_wire_core.proofs.range_set.runs.removal.Goals as goal
 
