@@ -1,1 +1,5 @@
 mod Examples
+mod ElementSteps
+mod Joining
+mod JoinSteps
+mod PieceSteps

@@ -10,3 +10,6 @@ pub mod Reason
 pub mod TransportError
 pub mod Ecn
 pub mod Runs
+pub mod Elements
+pub mod Pieces
+pub mod Replacing

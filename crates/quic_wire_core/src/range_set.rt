@@ -3,9 +3,14 @@ ghost use Rattle.std.specs.Prelude.{◌≡◌, [], length, IsTrue, ◌↔◌};
 ghost use Rattle.quic_wire_core.specs.Runs.{AreRuns};
 
 mod array_range_set;
+mod elt_iter;
+mod iter;
+mod replace;
 
 pub use array_range_set::ArrayRangeSet;
-
+pub use elt_iter::EltIter;
+pub use iter::Iter;
+pub use replace::Replace;
 use std::alloc::Global;
 use std::marker::Model;
 use std::ops::Range;
