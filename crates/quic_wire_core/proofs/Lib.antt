@@ -3,3 +3,4 @@ mod ElementSteps
 mod Joining
 mod JoinSteps
 mod PieceSteps
+mod PieceExamples

@@ -112,6 +112,61 @@ impl ArrayRangeSet {
         ensures members { (k : ℕ) → Lists (elements self.now) k ↔ Has self.now k }
         ensures ascending { Ascend (elements self.now) }
     {
-        EltIter::new(self.iter())
+        let runs = self.iter();
+        EltIter::new(runs)
+    }
+}
+
+#[cfg(test)]
+mod tests {
+    use super::*;
+    use std::alloc::AllocError;
+    use std::test::Fail;
+
+    fn sample(rt: &HostRuntime) -> Result<RangeSet, AllocError> {
+        let mut set = RangeSet::new(rt.alloc());
+        let _ = set.replace(1..3)?;
+        let _ = set.replace(7..8)?;
+        let _ = set.replace(4..6)?;
+        Ok(set)
+    }
+
+    #[test]
+    fn numbers_ascend(rt: HostRuntime) -> Result<(), Fail> {
+        let set = sample(&rt)?;
+        let mut numbers = set.elts();
+        for number in [1, 2, 4, 5, 7] {
+            assert_eq!(rt; numbers.next(), Some(number));
+        }
+        assert_eq!(rt; numbers.next(), None);
+        assert_eq!(rt; numbers.next_back(), None);
+        let mut numbers = set.elts();
+        for number in [7, 5, 4, 2, 1] {
+            assert_eq!(rt; numbers.next_back(), Some(number));
+        }
+        assert_eq!(rt; numbers.next_back(), None);
+        Ok(())
+    }
+
+    #[test]
+    fn both_ends_meet(rt: HostRuntime) -> Result<(), Fail> {
+        let set = sample(&rt)?;
+        let mut numbers = set.elts();
+        assert_eq!(rt; numbers.next(), Some(1));
+        assert_eq!(rt; numbers.next_back(), Some(7));
+        assert_eq!(rt; numbers.next_back(), Some(5));
+        assert_eq!(rt; numbers.next(), Some(2));
+        assert_eq!(rt; numbers.next(), Some(4));
+        assert_eq!(rt; numbers.next_back(), None);
+        assert_eq!(rt; numbers.next(), None);
+        let mut numbers = set.elts();
+        assert_eq!(rt; numbers.next_back(), Some(7));
+        assert_eq!(rt; numbers.next_back(), Some(5));
+        assert_eq!(rt; numbers.next(), Some(1));
+        assert_eq!(rt; numbers.next_back(), Some(4));
+        assert_eq!(rt; numbers.next_back(), Some(2));
+        assert_eq!(rt; numbers.next(), None);
+        assert_eq!(rt; ArrayRangeSet::new(rt.alloc()).elts().next(), None);
+        Ok(())
     }
 }

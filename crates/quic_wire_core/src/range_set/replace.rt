@@ -1,5 +1,5 @@
 //! Adding a range to a set, with the pieces that stood there before.
-ghost use Rattle.std.specs.Prelude.{◌≡◌, ℕ, ◌≤◌, ◌<◌, ◌⊎◌, ◌↔◌, length, drop, vec_len, vec_capacity, IfOk, OnErr, MatchBool};
+ghost use Rattle.std.specs.Prelude.{◌≡◌, ℕ, ◌≤◌, ◌<◌, ◌⊎◌, ◌↔◌, length, drop, vec_len, vec_capacity, IfOk, IsOk, OnErr, MatchBool};
 ghost use Rattle.quic_wire_core.specs.Runs.{Has, AreRuns, Adds};
 ghost use Rattle.quic_wire_core.specs.Pieces.{pieces, joined, with_range, count_below, count_up_to, count_started, count_met};
 ghost use Rattle.std.specs.List.{remove_range};
@@ -67,6 +67,7 @@ impl RangeSet {
         ensures ascending { AreRuns (pieces range.start range.end self.old) }
         ensures left { IfOk result (λ replace. Adds self.old (left replace) range.start range.end) }
         ensures runs { IfOk result (λ replace. AreRuns (left replace)) }
+        ensures empty { range.end ≤ range.start → IsOk result }
     {
         match self.begin(range) {
             Ok(range) => {
@@ -88,6 +89,7 @@ impl RangeSet {
         ensures left { IfOk result (λ rest. Adds self.old (joined rest.start rest.end self.new) range.start range.end) }
         ensures runs { IfOk result (λ rest. AreRuns (joined rest.start rest.end self.new)) }
         ensures err { OnErr result (self.new ≡ self.old) }
+        ensures empty { range.end ≤ range.start → IsOk result }
         ensures known { AreRuns self.old }
     {
         let _ = &self.runs;
@@ -187,4 +189,111 @@ fn remove(runs: &mut Vec<Range<u64>>, from: usize, to: usize)
     ensures { runs.new.items ≡ remove_range runs.old.items from to }
 {
     runs.drain(from..to);
+}
+
+#[cfg(test)]
+mod tests {
+    use super::*;
+    use std::alloc::Global;
+    use std::process::Abort;
+    use std::test::Fail;
+
+    // What a caller can prove: the set is the union, whether the pieces are taken or not.
+    fn add(set: &mut RangeSet, range: Range<u64>) -> Result<(), AllocError>
+        ensures ok { IfOk result (λ _. Adds set.old set.new range.start range.end) }
+        ensures runs { IfOk result (λ _. AreRuns set.new) }
+        ensures err { OnErr result (set.new ≡ set.old) }
+    {
+        let _ = set.replace(range)?;
+        Ok(())
+    }
+
+    fn add_after_one(set: &mut RangeSet, range: Range<u64>) -> Result<(), AllocError>
+        ensures ok { IfOk result (λ _. Adds set.old set.new range.start range.end) }
+        ensures err { OnErr result (set.new ≡ set.old) }
+    {
+        let mut replace = set.replace(range)?;
+        let _ = replace.next();
+        Ok(())
+    }
+
+    // The set of these ranges. Where memory lacks, the call is made again.
+    fn set_of(alloc: Global, ranges: &[(u64, u64)]) -> Result<RangeSet, AllocError> {
+        let mut set = RangeSet::new(alloc);
+        for &(start, end) in ranges {
+            if add(&mut set, start..end).is_err() {
+                add_after_one(&mut set, start..end)?;
+            }
+        }
+        Ok(set)
+    }
+
+    fn has_runs(rt: &impl Abort, set: &RangeSet, runs: &[(u64, u64)]) {
+        let mut it = set.iter();
+        for &(start, end) in runs {
+            assert_eq!(rt; it.next(), Some(start..end));
+        }
+        assert_eq!(rt; it.next(), None);
+        assert_eq!(rt; set.len(), runs.len());
+    }
+
+    // The pieces of a range in a set of these runs, some or all of them taken, and the runs that are left.
+    fn replaces(
+        rt: &impl Abort,
+        alloc: Global,
+        runs: &[(u64, u64)],
+        range: (u64, u64),
+        pieces: &[(u64, u64)],
+        left: &[(u64, u64)],
+    ) -> Result<(), Fail> {
+        let mut set = set_of(alloc, runs)?;
+        let refused = set.replace(range.0..range.1).is_err();
+        has_runs(rt, &set, if refused { runs } else { left });
+        for taken in 0..pieces.len() + 2 {
+            let mut set = set_of(alloc, runs)?;
+            let mut replace = set.replace(range.0..range.1)?;
+            for k in 0..taken {
+                assert_eq!(rt; replace.next(), pieces.get(k).map(|p| p.0..p.1));
+            }
+            drop(replace);
+            has_runs(rt, &set, left);
+        }
+        Ok(())
+    }
+
+    #[test]
+    fn pieces_are_cut(rt: HostRuntime) -> Result<(), Fail> {
+        let alloc = rt.alloc();
+        let near = [(1, 2), (3, 5)];
+        replaces(&rt, alloc, &near, (0, 4), &[(1, 2), (3, 4)], &[(0, 5)])?;
+        let far = [(10, 12), (20, 22), (30, 32)];
+        let cut = [(11, 12), (20, 22), (30, 31)];
+        replaces(&rt, alloc, &far, (11, 31), &cut, &[(10, 32)])?;
+        replaces(&rt, alloc, &far, (20, 22), &[(20, 22)], &far)
+    }
+
+    #[test]
+    fn touched_runs_are_joined(rt: HostRuntime) -> Result<(), Fail> {
+        let alloc = rt.alloc();
+        replaces(&rt, alloc, &[(1, 2), (4, 5)], (2, 4), &[], &[(1, 5)])?;
+        replaces(
+            &rt,
+            alloc,
+            &[(1, 2), (8, 9)],
+            (4, 6),
+            &[],
+            &[(1, 2), (4, 6), (8, 9)],
+        )?;
+        replaces(&rt, alloc, &[(1, 2)], (0, 1), &[], &[(0, 2)])?;
+        replaces(&rt, alloc, &[], (0, u64::MAX), &[], &[(0, u64::MAX)])
+    }
+
+    #[test]
+    fn empty_range_is_nothing(rt: HostRuntime) -> Result<(), Fail> {
+        let runs = [(1, 4), (6, 8)];
+        for range in [(2, 2), (5, 5), (7, 3)] {
+            replaces(&rt, rt.alloc(), &runs, range, &[], &runs)?;
+        }
+        Ok(())
+    }
 }

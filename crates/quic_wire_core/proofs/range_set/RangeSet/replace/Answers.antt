@@ -16,6 +16,7 @@ returns-in-Ok c =
         ascending = pieces_runs 0 c.args.range.start c.args.range.end c.args.self.now c.begin.ensures.known;
         left = c.in-Ok.ensures.left;
         runs = c.in-Ok.ensures.runs;
+        empty = λ le. refl;
       },
     )
 
@@ -30,5 +31,6 @@ returns-in-Err c = (
     ascending = pieces_runs 0 c.args.range.start c.args.range.end c.args.self.now c.begin.ensures.known;
     left = tt;
     runs = tt;
+    empty = c.in-Err.ensures.empty;
   },
 )
