@@ -12,3 +12,6 @@ pub mod TransportErrorLaw
 pub mod Ecn
 pub mod Runs
 pub mod RunEdits
+pub mod Elements
+pub mod Pieces
+pub mod Replacing

@@ -14,7 +14,7 @@ mod varint;
 
 pub use coding::{Codec, UnexpectedEnd};
 pub use frame_type::FrameType;
-pub use range_set::{ArrayRangeSet, RangeSet};
+pub use range_set::{ArrayRangeSet, EltIter, Iter, RangeSet, Replace};
 pub use reason::Reason;
 pub use shared::{ConnectionId, EcnCodepoint, IssuedCid, MAX_CID_SIZE};
 pub use stream_id::{Dir, Side, StreamId};

@@ -5,11 +5,17 @@ ghost use Rattle.quic_wire_core.specs.Runs.{Has, AreRuns, Adds, Drops, IsUnion, 
 ghost use Rattle.quic_wire_core.specs.RunEdits.{edited, HasPlaces, Grows};
 
 mod array_range_set;
+mod elt_iter;
+mod iter;
+mod replace;
 mod runs;
 #[cfg(test)]
 mod tests;
 
 pub use array_range_set::ArrayRangeSet;
+pub use elt_iter::EltIter;
+pub use iter::Iter;
+pub use replace::Replace;
 use runs::Edit;
 use std::alloc::{AllocError, Global};
 use std::marker::Model;

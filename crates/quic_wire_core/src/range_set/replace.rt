@@ -1,0 +1,299 @@
+//! Adding a range to a set, with the pieces that stood there before.
+ghost use Rattle.std.specs.Prelude.{◌≡◌, ℕ, ◌≤◌, ◌<◌, ◌⊎◌, ◌↔◌, length, drop, vec_len, vec_capacity, IfOk, IsOk, OnErr, MatchBool};
+ghost use Rattle.quic_wire_core.specs.Runs.{Has, AreRuns, Adds};
+ghost use Rattle.quic_wire_core.specs.Pieces.{pieces, joined, with_range, count_below, count_up_to, count_started, count_met};
+ghost use Rattle.std.specs.List.{remove_range};
+
+use super::RangeSet;
+use std::alloc::AllocError;
+use std::ops::Range;
+
+/// The pieces of a set that stood in a range, ascending; the set has the range once this is dropped (quinn-proto's
+/// `range_set::Replace`).
+pub struct Replace<'a> {
+    set: &'a mut RangeSet,
+    // What the drop joins to the runs that it meets or touches: empty where there is nothing to join.
+    range: Range<u64>,
+    // The place of the run that is cut next.
+    at: usize,
+}
+
+impl Drop for Replace<'_> {
+    ghost use Rattle.quic_wire_core.specs.Replacing.{left};
+
+    fn drop(self)
+        ensures set { self.exit.0.now ≡ left self.entry }
+    {
+        let Replace { set, range, at: _ } = self;
+        set.join(range);
+    }
+}
+
+impl Iterator for Replace<'_> {
+    ghost use Rattle.std.specs.Iterator.{at_most};
+    ghost use Rattle.quic_wire_core.specs.Replacing.{Steps, to_come};
+
+    type Item = Range<u64>;
+
+    ghost next_gives = { Steps };
+
+    ghost remaining = { λ r. at_most (length (to_come r)) };
+
+    fn next(&mut self) -> Option<Range<u64>> {
+        let run = self.set.as_slice().get(self.at)?;
+        if self.range.end <= run.start {
+            return None;
+        }
+        self.at += 1;
+        Some(self.range.start.max(run.start)..self.range.end.min(run.end))
+    }
+}
+
+impl RangeSet {
+    ghost use Rattle.std.specs.Borrow.{sem, follows_if, name_if_ok};
+    ghost use Rattle.quic_wire_core.specs.contracts.range_set.RangeSet.{the_row as set_row};
+    ghost use Rattle.quic_wire_core.specs.Replacing.{lender, left, to_come};
+
+    /// Adds the numbers of a range, and gives the pieces of the set that stood in it: each run cut to the range,
+    /// ascending. The range is in the set once the result is dropped, however early. An empty or reversed range gives
+    /// nothing and adds nothing.
+    ///
+    /// `AllocError`: memory lacked for one more run. The set has not changed.
+    pub fn replace(&mut self, range: Range<u64>) -> Result<Replace<'_>, AllocError>
+        ensures* unchanged_at_error { sem 𝓛 (follows_if set_row set_row self.entry.ghost_name (name_if_ok lender result) (λ set. set) self.old) }
+        ensures same_reference { IfOk result (λ replace. lender replace ≡ self.entry.ghost_name) }
+        ensures pieces { IfOk result (λ replace. to_come replace ≡ pieces range.start range.end self.old) }
+        ensures numbers { (k : ℕ) → Has (pieces range.start range.end self.old) k ↔ (Has self.old k × ((range.start ≤ k) × (k < range.end))) }
+        ensures ascending { AreRuns (pieces range.start range.end self.old) }
+        ensures left { IfOk result (λ replace. Adds self.old (left replace) range.start range.end) }
+        ensures runs { IfOk result (λ replace. AreRuns (left replace)) }
+        ensures empty { range.end ≤ range.start → IsOk result }
+    {
+        match self.begin(range) {
+            Ok(range) => {
+                let at = self.place_behind(range.start);
+                Ok(Replace {
+                    set: self,
+                    range,
+                    at,
+                })
+            }
+            Err(error) => Err(error),
+        }
+    }
+
+    /// Makes room for one more run, and puts the range in where it meets and touches no run. Gives what is left to join.
+    fn begin(&mut self, range: Range<u64>) -> Result<Range<u64>, AllocError>
+        ensures pieces { IfOk result (λ rest. pieces rest.start rest.end self.new ≡ pieces range.start range.end self.old) }
+        ensures rest { IfOk result (λ rest. (rest.start < rest.end) ⊎ (rest.end ≡ 0)) }
+        ensures left { IfOk result (λ rest. Adds self.old (joined rest.start rest.end self.new) range.start range.end) }
+        ensures runs { IfOk result (λ rest. AreRuns (joined rest.start rest.end self.new)) }
+        ensures err { OnErr result (self.new ≡ self.old) }
+        ensures empty { range.end ≤ range.start → IsOk result }
+        ensures known { AreRuns self.old }
+    {
+        let _ = &self.runs;
+        if range.end <= range.start {
+            return Ok(0..0);
+        }
+        self.runs.reserve(1)?;
+        if put_apart(&mut self.runs, &range) {
+            return Ok(0..0);
+        }
+        Ok(range)
+    }
+
+    /// The place of the first run that ends behind a number.
+    fn place_behind(&self, a: u64) -> usize
+        ensures place { result ≡ count_up_to a self.now }
+        ensures runs { AreRuns self.now }
+    {
+        ended_up_to(&self.runs, a)
+    }
+
+    /// Joins a range with the runs that it meets or touches. Where there is none, or the range is empty, the set stays.
+    fn join(&mut self, range: Range<u64>)
+        ensures { self.new ≡ joined range.start range.end self.old }
+    {
+        if range.start < range.end {
+            join(&mut self.runs, range);
+        }
+    }
+}
+
+/// How many runs end below a number.
+fn ended_below(runs: &[Range<u64>], a: u64) -> usize
+    requires { AreRuns runs.now }
+    ensures value { result ≡ count_below a runs.now }
+    ensures bound { result ≤ length runs.now }
+{
+    runs.partition_point(|run| run.end < a)
+}
+
+/// How many runs end at a number or below.
+fn ended_up_to(runs: &[Range<u64>], a: u64) -> usize
+    requires { AreRuns runs.now }
+    ensures value { result ≡ count_up_to a runs.now }
+    ensures bound { result ≤ length runs.now }
+{
+    runs.partition_point(|run| run.end <= a)
+}
+
+/// How many of the runs from a place on start at a number or below.
+fn started(runs: &[Range<u64>], front: usize, b: u64) -> usize
+    requires runs { AreRuns runs.now }
+    requires place { front ≤ length runs.now }
+    ensures value { result ≡ count_started b (drop front runs.now) }
+    ensures bound { result ≤ length (drop front runs.now) }
+{
+    runs[front..].partition_point(|run| run.start <= b)
+}
+
+/// Puts the range in as a run of its own where it meets and touches no run, in a place that there is: whether it did.
+fn put_apart(runs: &mut Vec<Range<u64>>, range: &Range<u64>) -> bool
+    requires runs { AreRuns runs.old.items }
+    requires range { range.now.start < range.now.end }
+    requires room { vec_len runs.old < vec_capacity runs.old }
+    ensures { MatchBool result
+        ((count_met range.now.start range.now.end runs.old.items ≡ 0) × (runs.new.items ≡ with_range range.now.start range.now.end runs.old.items))
+        ((0 < count_met range.now.start range.now.end runs.old.items) × (runs.new.items ≡ runs.old.items)) }
+{
+    let front = ended_below(runs, range.start);
+    let apart = started(runs, front, range.end) == 0;
+    if apart {
+        runs.insert(front, range.start..range.end).unwrap();
+    }
+    apart
+}
+
+/// Joins a range with the runs that it meets or touches, if there is one.
+fn join(runs: &mut Vec<Range<u64>>, range: Range<u64>)
+    requires runs { AreRuns runs.old.items }
+    requires range { range.start < range.end }
+    ensures { runs.new.items ≡ joined range.start range.end runs.old.items }
+{
+    let front = ended_below(runs, range.start);
+    let count = started(runs, front, range.end);
+    if count > 0 {
+        let start = range.start.min(runs[front].start);
+        let end = range.end.max(runs[front + count - 1].end);
+        runs[front] = start..end;
+        remove(runs, front + 1, front + count);
+    }
+}
+
+/// Takes runs out, from a place up to another.
+fn remove(runs: &mut Vec<Range<u64>>, from: usize, to: usize)
+    requires order { from ≤ to }
+    requires place { to ≤ vec_len runs.old }
+    ensures { runs.new.items ≡ remove_range runs.old.items from to }
+{
+    runs.drain(from..to);
+}
+
+#[cfg(test)]
+mod tests {
+    use super::*;
+    use std::alloc::Global;
+    use std::process::Abort;
+    use std::test::Fail;
+
+    // What a caller can prove: the set is the union, whether the pieces are taken or not.
+    fn add(set: &mut RangeSet, range: Range<u64>) -> Result<(), AllocError>
+        ensures ok { IfOk result (λ _. Adds set.old set.new range.start range.end) }
+        ensures runs { IfOk result (λ _. AreRuns set.new) }
+        ensures err { OnErr result (set.new ≡ set.old) }
+    {
+        let _ = set.replace(range)?;
+        Ok(())
+    }
+
+    fn add_after_one(set: &mut RangeSet, range: Range<u64>) -> Result<(), AllocError>
+        ensures ok { IfOk result (λ _. Adds set.old set.new range.start range.end) }
+        ensures err { OnErr result (set.new ≡ set.old) }
+    {
+        let mut replace = set.replace(range)?;
+        let _ = replace.next();
+        Ok(())
+    }
+
+    // The set of these ranges. Where memory lacks, the call is made again.
+    fn set_of(alloc: Global, ranges: &[(u64, u64)]) -> Result<RangeSet, AllocError> {
+        let mut set = RangeSet::new(alloc);
+        for &(start, end) in ranges {
+            if add(&mut set, start..end).is_err() {
+                add_after_one(&mut set, start..end)?;
+            }
+        }
+        Ok(set)
+    }
+
+    fn has_runs(rt: &impl Abort, set: &RangeSet, runs: &[(u64, u64)]) {
+        let mut it = set.iter();
+        for &(start, end) in runs {
+            assert_eq!(rt; it.next(), Some(start..end));
+        }
+        assert_eq!(rt; it.next(), None);
+        assert_eq!(rt; set.len(), runs.len());
+    }
+
+    // The pieces of a range in a set of these runs, some or all of them taken, and the runs that are left.
+    fn replaces(
+        rt: &impl Abort,
+        alloc: Global,
+        runs: &[(u64, u64)],
+        range: (u64, u64),
+        pieces: &[(u64, u64)],
+        left: &[(u64, u64)],
+    ) -> Result<(), Fail> {
+        let mut set = set_of(alloc, runs)?;
+        let refused = set.replace(range.0..range.1).is_err();
+        has_runs(rt, &set, if refused { runs } else { left });
+        for taken in 0..pieces.len() + 2 {
+            let mut set = set_of(alloc, runs)?;
+            let mut replace = set.replace(range.0..range.1)?;
+            for k in 0..taken {
+                assert_eq!(rt; replace.next(), pieces.get(k).map(|p| p.0..p.1));
+            }
+            drop(replace);
+            has_runs(rt, &set, left);
+        }
+        Ok(())
+    }
+
+    #[test]
+    fn pieces_are_cut(rt: HostRuntime) -> Result<(), Fail> {
+        let alloc = rt.alloc();
+        let near = [(1, 2), (3, 5)];
+        replaces(&rt, alloc, &near, (0, 4), &[(1, 2), (3, 4)], &[(0, 5)])?;
+        let far = [(10, 12), (20, 22), (30, 32)];
+        let cut = [(11, 12), (20, 22), (30, 31)];
+        replaces(&rt, alloc, &far, (11, 31), &cut, &[(10, 32)])?;
+        replaces(&rt, alloc, &far, (20, 22), &[(20, 22)], &far)
+    }
+
+    #[test]
+    fn touched_runs_are_joined(rt: HostRuntime) -> Result<(), Fail> {
+        let alloc = rt.alloc();
+        replaces(&rt, alloc, &[(1, 2), (4, 5)], (2, 4), &[], &[(1, 5)])?;
+        replaces(
+            &rt,
+            alloc,
+            &[(1, 2), (8, 9)],
+            (4, 6),
+            &[],
+            &[(1, 2), (4, 6), (8, 9)],
+        )?;
+        replaces(&rt, alloc, &[(1, 2)], (0, 1), &[], &[(0, 2)])?;
+        replaces(&rt, alloc, &[], (0, u64::MAX), &[], &[(0, u64::MAX)])
+    }
+
+    #[test]
+    fn empty_range_is_nothing(rt: HostRuntime) -> Result<(), Fail> {
+        let runs = [(1, 4), (6, 8)];
+        for range in [(2, 2), (5, 5), (7, 3)] {
+            replaces(&rt, rt.alloc(), &runs, range, &[], &runs)?;
+        }
+        Ok(())
+    }
+}
