@@ -1,5 +1,5 @@
 //! Finite sets of numbers, kept as their maximal runs in ascending order (quinn-proto's `range_set`).
-ghost use Rattle.std.specs.Prelude.{◌≡◌, ℕ, ◌+◌, ◌≤◌, ◌<◌, [], ◌∷◌, length, IsTrue, ◌↔◌, OnOk, OnErr, IsOk, IfOk, MatchOption, slice_get, vec_len};
+ghost use Rattle.std.specs.Prelude.{◌≡◌, ◌≢◌, ℕ, ◌+◌, ◌≤◌, ◌<◌, [], ◌∷◌, length, IsTrue, ◌↔◌, OnOk, OnErr, IsOk, IfOk, MatchOption, slice_get, vec_len};
 ghost use Rattle.std.specs.Vec.{vec_capacity};
 ghost use Rattle.quic_wire_core.specs.Runs.{Has, AreRuns, Adds, Drops, IsUnion, IsDifference, TellsChange, IsLeast, IsGreatest, IsApart, IsInside};
 ghost use Rattle.quic_wire_core.specs.RunEdits.{edited, HasPlaces, Grows};
@@ -125,11 +125,12 @@ impl RangeSet {
     ///
     /// # Errors
     ///
-    /// [`AllocError`] where there is no memory for as many runs more as the other set has; the set stays.
+    /// [`AllocError`] where the other set isn't empty and there is no memory for as many runs more as it has; the set stays.
     pub fn subtract(&mut self, other: &RangeSet) -> Result<(), AllocError>
         ensures ok { OnOk result (IsDifference self.old other.now self.new) }
         ensures runs { AreRuns self.new }
         ensures err { OnErr result (self.new ≡ self.old) }
+        ensures lacking { OnErr result (other.now ≢ []) }
     {
         subtract(&mut self.runs, &other.runs)
     }
@@ -138,11 +139,12 @@ impl RangeSet {
     ///
     /// # Errors
     ///
-    /// [`AllocError`] where there is no memory for as many runs more as the other set has; the set stays.
+    /// [`AllocError`] where the other set isn't empty and there is no memory for as many runs more as it has; the set stays.
     pub fn add(&mut self, other: &RangeSet) -> Result<(), AllocError>
         ensures ok { OnOk result (IsUnion self.old other.now self.new) }
         ensures runs { AreRuns self.new }
         ensures err { OnErr result (self.new ≡ self.old) }
+        ensures lacking { OnErr result (other.now ≢ []) }
     {
         add(&mut self.runs, &other.runs)
     }
@@ -290,7 +292,11 @@ fn subtract(runs: &mut Vec<Range<u64>>, other: &[Range<u64>]) -> Result<(), Allo
     ensures runs { AreRuns runs.new.items }
     ensures ok { OnOk result (IsDifference runs.old.items other.now runs.new.items) }
     ensures err { OnErr result (runs.new.items ≡ runs.old.items) }
+    ensures lacking { OnErr result (other.now ≢ []) }
 {
+    if other.is_empty() {
+        return Ok(());
+    }
     // Each run of the other makes at most one run more.
     runs.reserve(other.len())?;
     for run in other {
@@ -305,7 +311,11 @@ fn add(runs: &mut Vec<Range<u64>>, other: &[Range<u64>]) -> Result<(), AllocErro
     ensures runs { AreRuns runs.new.items }
     ensures ok { OnOk result (IsUnion runs.old.items other.now runs.new.items) }
     ensures err { OnErr result (runs.new.items ≡ runs.old.items) }
+    ensures lacking { OnErr result (other.now ≢ []) }
 {
+    if other.is_empty() {
+        return Ok(());
+    }
     // Each run of the other is at most one run more.
     runs.reserve(other.len())?;
     for run in other {

@@ -1,5 +1,5 @@
 //! A set of few runs, which stand in place.
-ghost use Rattle.std.specs.Prelude.{◌≡◌, ℕ, ◌+◌, ◌≤◌, ◌<◌, [], ◌∷◌, length, IsTrue, ◌↔◌, OnOk, OnErr, IsOk, IfOk, MatchOption};
+ghost use Rattle.std.specs.Prelude.{◌≡◌, ◌≢◌, ℕ, ◌+◌, ◌≤◌, ◌<◌, [], ◌∷◌, length, IsTrue, ◌↔◌, OnOk, OnErr, IsOk, IfOk, MatchOption};
 ghost use Rattle.smallvec.specs.SmallVec.{HasRoomFor, small_vec_len};
 ghost use Rattle.quic_wire_core.specs.Runs.{Has, AreRuns, Adds, Drops, IsDifference, TellsChange, IsLeast, IsGreatest, IsApart, IsInside};
 ghost use Rattle.quic_wire_core.specs.RunEdits.{edited, HasPlaces, Grows};
@@ -120,11 +120,12 @@ impl ArrayRangeSet {
     ///
     /// # Errors
     ///
-    /// [`AllocError`] where there is no memory for as many runs more as the other set has; the set stays.
+    /// [`AllocError`] where the other set isn't empty and there is no memory for as many runs more as it has; the set stays.
     pub fn subtract(&mut self, other: &ArrayRangeSet) -> Result<(), AllocError>
         ensures ok { OnOk result (IsDifference self.old other.now self.new) }
         ensures runs { AreRuns self.new }
         ensures err { OnErr result (self.new ≡ self.old) }
+        ensures lacking { OnErr result (other.now ≢ []) }
     {
         subtract(&mut self.runs, &other.runs)
     }
@@ -264,7 +265,11 @@ fn subtract(runs: &mut Stored, other: &[Range<u64>]) -> Result<(), AllocError>
     ensures runs { AreRuns runs.new.items }
     ensures ok { OnOk result (IsDifference runs.old.items other.now runs.new.items) }
     ensures err { OnErr result (runs.new.items ≡ runs.old.items) }
+    ensures lacking { OnErr result (other.now ≢ []) }
 {
+    if other.is_empty() {
+        return Ok(());
+    }
     // Each run of the other makes at most one run more.
     runs.reserve(other.len())?;
     for run in other {
