@@ -3,6 +3,8 @@
 
 mod answer;
 mod error;
+#[cfg(test)]
+mod frames;
 pub mod key;
 pub mod laws;
 mod lines;

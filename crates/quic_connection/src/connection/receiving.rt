@@ -4,10 +4,10 @@ ghost use Rattle.quic_wire.specs.Items.{items};
 ghost use Rattle.quic_wire.specs.Destination.{decoded, fixed_length_id};
 ghost use Rattle.quic_connection_core.specs.Ids.{known};
 ghost use Rattle.quic_wire.specs.Value.{stream};
-ghost use Rattle.quic_wire.specs.FrameView.{stream_view, item_view};
+ghost use Rattle.quic_wire.specs.FrameView.{stream_view, frame_view, item_view};
 ghost use Rattle.quic_connection_core.specs.End.{with_end, policy_of, with_closing, HasFailed};
 ghost use Rattle.quic_connection_core.specs.Closing.{closed_for};
-ghost use Rattle.quic_connection_core.specs.Receive.{received, opened_to, processed, fault_of_breach, plain_error, take_frame, take_item, take_items, take_payload, opening, error_of, reason_of, drop_of, own_id_length, violation};
+ghost use Rattle.quic_connection_core.specs.Receive.{received, opened_to, processed, fault_of_breach, fault_at, plain_error, take_frame, take_item, take_items, take_payload, opening, error_of, reason_of, drop_of, own_id_length, violation};
 ghost use Rattle.quic_connection.specs.Faults.{fault_view, TakesAs};
 ghost use Rattle.quic_connection.specs.Lacking.{TakesFrames};
 
@@ -18,7 +18,7 @@ use quic_connection_core::{Breach, DropReason, Instant, LostReason, Received, St
 use quic_wire::crypto::{HeaderKey, NotOpened, PacketKey};
 use quic_wire::frame::{Frame, InvalidFrame, Iter, Stream};
 use quic_wire::{HeaderError, Opened, open_packet};
-use quic_wire_core::{Code, ConnectionId, EcnCodepoint, Reason, TransportError};
+use quic_wire_core::{Code, ConnectionId, EcnCodepoint, Reason, Side, TransportError};
 use rand_core::Rng;
 
 /// Why the frames of a packet weren't all taken.
@@ -196,9 +196,31 @@ impl<H: HeaderKey + Drop, K: PacketKey + Drop, R: Rng + Drop> Connection<H, K, R
         ensures others { self.new ≡ with_end self.old self.new.end }
     {
         match item {
-            Ok(Frame::Padding | Frame::Ping) => Ok(()),
-            Ok(Frame::Stream(frame)) => self.take_stream(frame),
+            Ok(frame) => self.take_frame(frame),
             Err(invalid) => Err(Trouble::Broke(TransportError::from(*invalid))),
+        }
+    }
+
+    /// Takes a frame. Those that are neither of streams nor of servers alone do nothing yet.
+    fn take_frame(&mut self, frame: &Frame<'_>) -> Result<(), Trouble>
+        ensures takes { TakesAs result (take_frame (frame_view frame.now) self.old.end) self.new.end }
+        ensures others { self.new ≡ with_end self.old self.new.end }
+    {
+        match frame {
+            Frame::Stream(frame) => self.take_stream(frame),
+            Frame::NewToken(_) | Frame::HandshakeDone => self.take_of_server(),
+            _ => Ok(()),
+        }
+    }
+
+    /// Takes a frame that only servers send, and does nothing with it: a server gets none (RFC 9000, sections 19.7 and
+    /// 19.20).
+    fn take_of_server(&self) -> Result<(), Trouble>
+        ensures { TakesAs result (record { end = self.now.end; fault = fault_at self.now.end.side }) self.now.end }
+    {
+        match self.side {
+            Side::Client => Ok(()),
+            Side::Server => Err(violation(Reason::OfServers)),
         }
     }
 
