@@ -25,10 +25,11 @@ unfoldable pub with_range : ℕ → ℕ → List Run → List Run
 with_range a b [] = joining a b []
 with_range a b (r ∷ rs) = if nat_lt r.end a then r ∷ with_range a b rs else joining a b (r ∷ rs)
 
--- how many runs end below a, or, with the next word, at a or below
+-- how many runs, from the front on, end below a
 abbrev pub count_below : ℕ → List Run → ℕ
 count_below a rs = prefix_len (λ r. nat_lt r.end a) rs
 
+-- how many runs, from the front on, end at a or below
 abbrev pub count_up_to : ℕ → List Run → ℕ
 count_up_to a rs = prefix_len (λ r. nat_le r.end a) rs
 

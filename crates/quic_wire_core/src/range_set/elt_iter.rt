@@ -95,7 +95,7 @@ impl<'a> DoubleEndedIterator for EltIter<'a> {
 }
 
 impl RangeSet {
-    /// The numbers, ascending.
+    /// The numbers, ascending, each once (quinn-proto's `RangeSet::elts`).
     pub fn elts(&self) -> EltIter<'_>
         ensures value { result ≡ elements self.now }
         ensures members { (k : ℕ) → Lists (elements self.now) k ↔ Has self.now k }
@@ -106,7 +106,7 @@ impl RangeSet {
 }
 
 impl ArrayRangeSet {
-    /// The numbers, ascending.
+    /// The numbers, ascending, each once (quinn-proto's `ArrayRangeSet::elts`).
     pub fn elts(&self) -> EltIter<'_>
         ensures value { result ≡ elements self.now }
         ensures members { (k : ℕ) → Lists (elements self.now) k ↔ Has self.now k }

@@ -57,7 +57,7 @@ impl<'a> DoubleEndedIterator for Iter<'a> {
 }
 
 impl RangeSet {
-    /// The runs, ascending.
+    /// The runs, ascending (quinn-proto's `RangeSet::iter`).
     pub fn iter(&self) -> Iter<'_>
         ensures value { result ≡ self.now }
         ensures runs { AreRuns self.now }
@@ -68,7 +68,7 @@ impl RangeSet {
 }
 
 impl ArrayRangeSet {
-    /// The runs, ascending.
+    /// The runs, ascending (quinn-proto's `ArrayRangeSet::iter`).
     pub fn iter(&self) -> Iter<'_>
         ensures value { result ≡ self.now }
         ensures runs { AreRuns self.now }

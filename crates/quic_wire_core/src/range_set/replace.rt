@@ -12,7 +12,8 @@ use std::ops::Range;
 /// `range_set::Replace`).
 pub struct Replace<'a> {
     set: &'a mut RangeSet,
-    // What the drop joins to the runs that it meets or touches: empty where there is nothing to join.
+    // What the drop joins to the runs that it meets or touches. It is empty where the range was empty, or met no run and
+    // was put in at once: so the drop needs no memory.
     range: Range<u64>,
     // The place of the run that is cut next.
     at: usize,
@@ -55,10 +56,11 @@ impl RangeSet {
     ghost use Rattle.quic_wire_core.specs.Replacing.{lender, left, to_come};
 
     /// Adds the numbers of a range, and gives the pieces of the set that stood in it: each run cut to the range,
-    /// ascending. The range is in the set once the result is dropped, however early. An empty or reversed range gives
-    /// nothing and adds nothing.
+    /// ascending (quinn-proto's `RangeSet::replace`). The range is in the set once the result is dropped, however early.
+    /// Runs that only touch the range are joined to it and give no piece. An empty or reversed range gives nothing and
+    /// adds nothing.
     ///
-    /// `AllocError`: memory lacked for one more run. The set has not changed.
+    /// `AllocError`: memory lacked for one more run. The set has not changed. An empty or reversed range needs no memory.
     pub fn replace(&mut self, range: Range<u64>) -> Result<Replace<'_>, AllocError>
         ensures* unchanged_at_error { sem 𝓛 (follows_if set_row set_row self.entry.ghost_name (name_if_ok lender result) (λ set. set) self.old) }
         ensures same_reference { IfOk result (λ replace. lender replace ≡ self.entry.ghost_name) }
