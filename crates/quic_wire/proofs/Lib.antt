@@ -3,6 +3,7 @@ pub mod Places
 pub mod Opening
 pub mod Destinations
 pub mod FrameKinds
+pub mod AckSteps
 pub mod FrameShrinks
 pub mod FrameItems
 pub mod FrameAgain

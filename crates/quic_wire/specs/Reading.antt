@@ -1,20 +1,11 @@
 -- Reading frames from left to right: the first field that can't be read names the refusal.
 use Rattle.std.specs.Prelude.{ℕ, Bool, true, false, List, [], length, take, drop, Option, Some, None, Result, Ok, Err, nat_lt, if◌then◌else◌}
-use Rattle.quic_wire_core.specs.Varint.{varint_at}
 use Rattle.quic_wire.specs.declared.frame.FrameError.{FrameError}
 use Rattle.quic_wire.specs.declared.frame.FrameError.TheVariants.{UnexpectedEnd, InvalidId}
 use Rattle.quic_wire.specs.Taking.{◌>>=◌}
+pub use Rattle.quic_wire.specs.Fields.{field, var_at}
 use Rattle.quic_wire.specs.Value.{StreamValue, FrameValue, padding, ping, stream}
 use Rattle.quic_wire.specs.FrameTypes.{Kind, is_padding, is_ping, is_stream, kind_of}
-
--- A field, and the bytes after it.
-abbrev pub field : {T : Type 0} → Option (T × List ℕ) → Result (T × List ℕ) FrameError
-field None = Err UnexpectedEnd
-field (Some x) = Ok x
-
--- A variable-length integer of any width (section 16).
-abbrev pub var_at : List ℕ → Result (ℕ × List ℕ) FrameError
-var_at bytes = field (varint_at bytes)
 
 -- So many bytes.
 unfoldable pub block_at : ℕ → List ℕ → Result (List ℕ × List ℕ) FrameError

@@ -4,10 +4,12 @@ ghost use Rattle.std.specs.Prelude.{◌<◌, ◌^◌};
 use quic_wire_core::{Code, FrameType, Reason, StreamId, TransportError, VarInt};
 use thiserror::Error;
 
+pub(crate) mod ack;
 mod iter;
-mod reading;
+pub(crate) mod reading;
 mod writing;
 
+pub use ack::{Ack, AckIter, EcnCounts};
 pub use iter::Iter;
 pub use writing::{
     put_frame, put_stream, put_stream_parts, size_of_frame, size_of_stream_header, write_frame,

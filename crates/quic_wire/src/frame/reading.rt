@@ -18,7 +18,7 @@ fn var_of(bytes: &mut &[u8]) -> Result<VarInt, FrameError>
 }
 
 /// The number of a variable-length integer.
-fn number_of(bytes: &mut &[u8]) -> Result<u64, FrameError>
+pub(crate) fn number_of(bytes: &mut &[u8]) -> Result<u64, FrameError>
     ensures value { Reads (λ x. x) result bytes.new.now (var_at bytes.old.now) }
     ensures bound { IfOk result (λ x. x < 2 ^ 62) }
 {
