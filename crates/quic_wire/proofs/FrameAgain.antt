@@ -9,27 +9,9 @@ use Rattle.quic_wire.specs.Reading.{field, var_at, block_at, sized_at, offset_at
 use Rattle.quic_wire.specs.Items.{frame_at}
 use Rattle.quic_wire.specs.Grammar.{Numbers, Then, offset_numbers, length_numbers, Ends, OffsetFits, IsForm}
 use Rattle.quic_wire.proofs.FrameKinds.{kind_of_type}
-
--- the first number is read, and the others are left
-record Next (n : ℕ) (ns bytes : List ℕ) : Type 0 where
-  pub after : List ℕ
-  pub others : Numbers ns after
-  pub reads : (rest : List ℕ) → var_at (bytes ++ rest) ≡ Ok (n, after ++ rest)
-
-next : (n : ℕ) (ns bytes : List ℕ) → Numbers (n ∷ ns) bytes → Next n ns bytes
-next n ns bytes h = record {
-  after = h.1;
-  others = h.3;
-  reads = λ rest. ap (λ (b : List ℕ). var_at (b ++ rest)) h.4 ∙ ap var_at (append_assoc h.0 h.1 rest) ∙ ap field (spells_again n h.0 (h.1 ++ rest) h.2);
-}
-
-none_left : (bytes rest : List ℕ) → Numbers [] bytes → bytes ++ rest ≡ rest
-none_left bytes rest h = rw h refl
+use Rattle.quic_wire.proofs.FieldAgain.{next, none_left, number_again}
 
 -- ---- fields
-
-number_again : (n : ℕ) (bytes rest : List ℕ) → Numbers (n ∷ []) bytes → var_at (bytes ++ rest) ≡ Ok (n, rest)
-number_again n bytes rest h = let a = next n [] bytes h in a.reads rest ∙ rw (none_left a.after rest a.others) refl
 
 block_again : (text rest : List ℕ) → block_at (length text) (text ++ rest) ≡ Ok (text, rest)
 unfolding block_at

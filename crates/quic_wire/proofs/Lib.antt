@@ -4,6 +4,12 @@ pub mod Opening
 pub mod Destinations
 pub mod FrameKinds
 pub mod AckSteps
+pub mod FieldShrinks
+pub mod FieldAgain
+pub mod FieldFound
+pub mod AckShrinks
+pub mod AckAgain
+pub mod AckFound
 pub mod FrameShrinks
 pub mod FrameItems
 pub mod FrameAgain
