@@ -17,5 +17,8 @@ pub mod FrameFound
 pub mod FrameWhole
 pub mod FrameWritten
 pub mod FrameReadBack
+pub mod AckSet
+pub mod AckWritten
+pub mod AckRead
 pub mod Room
 pub mod WorkedForms

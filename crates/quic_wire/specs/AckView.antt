@@ -1,5 +1,6 @@
 -- What an ACK frame says that was read, and what makes its ranges readable again.
 use Rattle.std.specs.Prelude.{◌≡◌, ℕ, ◌+◌, ◌-◌, ◌≤◌, ◌<◌, ◌^◌, Bool, false, List, [], ◌∷◌, ◌++◌, Option, Some, None, option_map, Result, Ok, Err, IsOk}
+use Rattle.std.specs.Borrow.{Bor}
 use Rattle.std.specs.Range.{range_inclusive_start, range_inclusive_end, range_inclusive_exhausted}
 use Rattle.std.specs.declared.ops.RangeInclusive.{RangeInclusive}
 use Rattle.quic_wire.specs.declared.frame.FrameError.{FrameError}
@@ -16,6 +17,10 @@ counts_view e = (e.ect0, e.ect1, e.ce)
 -- The counts, where there are some.
 abbrev pub ecn_view : Option EcnCounts → Option (ℕ × ℕ × ℕ)
 ecn_view = option_map counts_view
+
+-- The counts behind a reference, where there are some.
+abbrev pub shown_ecn : Option (Bor EcnCounts) → Option (ℕ × ℕ × ℕ)
+shown_ecn = option_map (λ e. counts_view e.now)
 
 -- The ranges that were read.
 abbrev pub ranges_of : Result (List (ℕ × ℕ) × List ℕ) FrameError → List (ℕ × ℕ)

@@ -11,6 +11,9 @@ pub mod AckReading
 pub mod AckGrammar
 pub mod AckCounts
 pub mod AckView
+pub mod AckSet
+pub mod NumbersWritten
+pub mod AckWriting
 pub mod Items
 pub mod FrameView
 pub mod Grammar

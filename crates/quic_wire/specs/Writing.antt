@@ -1,14 +1,10 @@
 -- The form in which each frame is written: each number in its shortest width (RFC 9000, sections 16 and 19).
 use Rattle.std.specs.Prelude.{◌≡◌, ℕ, ◌+◌, ◌<◌, ◌≤◌, ◌^◌, Bool, true, false, not, List, [], ◌∷◌, ◌++◌, length, take, Option, Some, None, Result, MatchResult, ◌==◌, if◌then◌else◌}
 use Rattle.quic_wire_core.specs.Varint.{shortest}
+pub use Rattle.quic_wire.specs.NumbersWritten.{written}
 use Rattle.quic_wire.specs.Value.{StreamValue, FrameValue, padding, ping, stream}
 use Rattle.quic_wire.specs.FrameTypes.{is_padding, is_ping, is_stream, type_of}
 use Rattle.quic_wire.specs.Grammar.{stream_numbers, offset_numbers, number_if}
-
--- Numbers, one after another, each in its shortest form.
-abbrev pub written : List ℕ → List ℕ
-written [] = []
-written (n ∷ ns) = shortest n ++ written ns
 
 -- An offset is written where it isn't 0.
 abbrev pub has_offset : ℕ → Bool

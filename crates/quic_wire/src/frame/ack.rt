@@ -2,13 +2,17 @@
 ghost use Rattle.std.specs.Prelude.{◌≡◌, ◌<◌, ◌^◌};
 ghost use Rattle.quic_wire.specs.AckCounts.{one_more};
 
-use quic_wire_core::EcnCodepoint;
+use bytes::BufMut;
+use quic_wire_core::{ArrayRangeSet, EcnCodepoint};
+use std::alloc::AllocError;
 use std::marker::Model;
 use std::ops::{AddAssign, RangeInclusive};
 
 pub(crate) mod reading;
+pub(crate) mod writing;
 
 use reading::range_of;
+use writing::{write_numbers, write_set};
 
 /// The greatest count that has a form as a variable-length integer (section 16).
 const MAX_COUNT: u64 = (1 << 62) - 1;
@@ -27,12 +31,29 @@ pub struct EcnCounts {
 }
 
 impl EcnCounts {
+    ghost use Rattle.std.specs.Prelude.{◌++◌, Some, OnOk, OnErr};
+    ghost use Rattle.quic_wire.specs.AckGrammar.{ecn_numbers};
+    ghost use Rattle.quic_wire.specs.AckView.{counts_view};
+    ghost use Rattle.quic_wire.specs.NumbersWritten.{numbers_size};
+    ghost use Rattle.quic_wire.specs.Writing.{written, BeginWith, SpendsSpare};
+
     /// No packet with any mark.
     pub const ZERO: EcnCounts = EcnCounts {
         ect0: 0,
         ect1: 0,
         ce: 0,
     };
+
+    /// Writes the three counts as they stand in a frame, each in its shortest form (quinn-proto's `EcnCounts::encode`). An
+    /// error comes for want of memory or of room, never where the room is spare; a part of the counts may then be
+    /// written behind what was there.
+    pub fn encode<B: BufMut>(&self, buf: &mut B) -> Result<(), AllocError>
+        ensures ok { OnOk result (B.written buf.new ≡ B.written buf.old ++ written (ecn_numbers (Some (counts_view self.now)))) }
+        ensures err { OnErr result (BeginWith (B.written buf.old) (B.written buf.new)) }
+        ensures spare { SpendsSpare result (B.spare buf.old) (B.spare buf.new) (numbers_size (ecn_numbers (Some (counts_view self.now)))) }
+    {
+        write_numbers(buf, &[self.ect0, self.ect1, self.ce])
+    }
 }
 
 /// One more, up to the greatest count that has a form.
@@ -87,14 +108,46 @@ impl<'a> Model for Ack<'a> {
 }
 
 impl<'a> Ack<'a> {
-    ghost use Rattle.std.specs.Prelude.{◌≡◌};
-    ghost use Rattle.quic_wire.specs.AckView.{ecn_view};
+    ghost use Rattle.std.specs.Prelude.{◌+◌, ◌++◌, [], length, OnOk, OnErr};
+    ghost use Rattle.quic_wire.specs.AckGrammar.{AckFits};
+    ghost use Rattle.quic_wire.specs.AckSet.{ack_of_set, IsSmall};
+    ghost use Rattle.quic_wire.specs.AckView.{ecn_view, shown_ecn};
+    ghost use Rattle.quic_wire.specs.AckWriting.{ack_spelling, ack_size};
+    ghost use Rattle.quic_wire.specs.Writing.{BeginWith, SpendsSpare};
+
+    /// Writes the ACK frame of a set of packet numbers, each number in its shortest form: the delay is in microseconds,
+    /// shifted right by the exponent that this end told (quinn-proto's `Ack::encode`). The set isn't empty. An error comes
+    /// for want of memory or of room, never where the room is spare; a part of the frame may then be written behind what
+    /// was there.
+    pub fn encode<B: BufMut>(
+        delay: u64,
+        ranges: &ArrayRangeSet,
+        ecn: Option<&EcnCounts>,
+        buf: &mut B,
+    ) -> Result<(), AllocError>
+        requires some { ranges.now ≡ [] → ⊥ }
+        requires small { IsSmall ranges.now }
+        requires delay { delay < 2 ^ 62 }
+        ensures ok { OnOk result (B.written buf.new ≡ B.written buf.old ++ ack_spelling (ack_of_set delay ranges.now (shown_ecn ecn.entry))) }
+        ensures err { OnErr result (BeginWith (B.written buf.old) (B.written buf.new)) }
+        ensures spare { SpendsSpare result (B.spare buf.old) (B.spare buf.new) (ack_size (ack_of_set delay ranges.now (shown_ecn ecn.entry))) }
+    {
+        write_set(buf, delay, ranges.as_slice(), ecn.copied())
+    }
 
     /// The greatest number that is acknowledged.
     pub fn largest(&self) -> u64
-        ensures { result ≡ self.now.largest }
+        ensures value { result ≡ self.now.largest }
+        ensures fits { AckFits self.now }
     {
         self.largest
+    }
+
+    /// How many ranges stand below the first.
+    pub(crate) fn count(&self) -> u64
+        ensures { length self.now.ranges ≡ result + 1 }
+    {
+        self.count
     }
 
     /// How long the acknowledgement waited, in microseconds shifted right by the exponent that the sender told

@@ -13,7 +13,7 @@ use quic_wire_core::{Codec, StreamId, VarInt};
 use std::alloc::AllocError;
 
 /// Writes a number.
-fn write_number<B: BufMut>(buf: &mut B, n: u64) -> Result<(), AllocError>
+pub(crate) fn write_number<B: BufMut>(buf: &mut B, n: u64) -> Result<(), AllocError>
     requires { n < 2 ^ 62 }
     ensures ok { OnOk result (B.written buf.new ≡ B.written buf.old ++ shortest n) }
     ensures err { OnErr result (B.written buf.new ≡ B.written buf.old) }
