@@ -244,3 +244,136 @@ impl<'a> IntoIterator for &Ack<'a> {
         self.iter()
     }
 }
+
+#[cfg(test)]
+mod tests {
+    use super::*;
+    use crate::frame::FrameError;
+    use crate::frame::ack::reading::ack_of;
+    use crate::frame::ack::writing::write_ack;
+    use std::ops::Range;
+    use std::test::Fail;
+
+    /// The ACK of 1, 2, 3, 5, 10, 11 and 14, with delay 42 and counts of 42, 24 and 12.
+    const SAMPLE: [u8; 14] = [
+        0x03, 0x0e, 0x2a, 0x03, 0x00, 0x01, 0x01, 0x03, 0x00, 0x00, 0x02, 0x2a, 0x18, 0x0c,
+    ];
+
+    /// The counts of the sample.
+    fn sample_counts() -> EcnCounts {
+        EcnCounts {
+            ect0: 42,
+            ect1: 24,
+            ce: 12,
+        }
+    }
+
+    /// The runs of the sample.
+    fn sample_runs() -> [Range<u64>; 4] {
+        [1..4, 5..6, 10..12, 14..15]
+    }
+
+    /// Whether the bytes behind the type are refused for this reason.
+    fn is_refused(ecn: bool, bytes: &[u8], reason: FrameError) -> bool {
+        let mut rest = bytes;
+        match ack_of(ecn, &mut rest) {
+            Ok(_) => false,
+            Err(met) => met == reason,
+        }
+    }
+
+    #[test]
+    fn writes_a_set(rt: HostRuntime) -> Result<(), Fail> {
+        let runs = sample_runs();
+        let mut out = Vec::new(rt.alloc());
+        write_set(&mut out, 42, &runs, Some(sample_counts()))?;
+        assert_eq!(rt; out.as_slice(), SAMPLE.as_slice());
+        let mut plain = Vec::new(rt.alloc());
+        write_set(&mut plain, 0, &runs[3..], None)?;
+        assert_eq!(rt; plain.as_slice(), [0x02, 0x0e, 0x00, 0x00, 0x00].as_slice());
+        Ok(())
+    }
+
+    #[test]
+    fn reads_what_it_wrote(rt: HostRuntime) -> Result<(), Fail> {
+        let mut rest = &SAMPLE[1..];
+        let ack = ack_of(true, &mut rest)?;
+        assert_eq!(rt; rest.len(), 0);
+        assert_eq!(rt; ack.largest(), 14);
+        assert_eq!(rt; ack.delay(), 42);
+        assert_eq!(rt; ack.ecn(), Some(sample_counts()));
+        let mut ranges = ack.iter();
+        for (start, end) in [(14, 14), (10, 11), (5, 5), (1, 3)] {
+            assert_eq!(rt; ranges.next(), Some(start..=end));
+        }
+        assert_eq!(rt; ranges.next(), None);
+        let mut count = 0;
+        for range in &ack {
+            assert!(rt; range.start() <= range.end());
+            count += 1;
+        }
+        assert_eq!(rt; count, 4);
+        let mut out = Vec::new(rt.alloc());
+        write_ack(&mut out, &ack)?;
+        assert_eq!(rt; out.as_slice(), SAMPLE.as_slice());
+        Ok(())
+    }
+
+    #[test]
+    fn numbers_are_read_in_any_width(rt: HostRuntime) -> Result<(), Fail> {
+        // the greatest number in four bytes, the gap in two
+        let bytes = [0x80, 0x00, 0x00, 0x0e, 0x00, 0x01, 0x00, 0x40, 0x03, 0x01];
+        let mut rest = bytes.as_slice();
+        let ack = ack_of(false, &mut rest)?;
+        let mut ranges = ack.iter();
+        assert_eq!(rt; ranges.next(), Some(14..=14));
+        assert_eq!(rt; ranges.next(), Some(8..=9));
+        assert_eq!(rt; ranges.next(), None);
+        let mut out = Vec::new(rt.alloc());
+        write_ack(&mut out, &ack)?;
+        let wanted = [0x02, 0x0e, 0x00, 0x01, 0x00, 0x03, 0x01];
+        assert_eq!(rt; out.as_slice(), wanted.as_slice());
+        Ok(())
+    }
+
+    #[test]
+    fn fields_are_judged_in_their_order(rt: HostRuntime) -> Result<(), Fail> {
+        // cut in each field
+        for len in 0..13 {
+            let cut = &SAMPLE[1..1 + len];
+            assert!(rt; is_refused(true, cut, FrameError::UnexpectedEnd));
+        }
+        // the first range is longer than the greatest number
+        assert!(rt; is_refused(false, &[0x04, 0x00, 0x00, 0x05], FrameError::Malformed));
+        // a gap that is too large, with nothing behind it
+        assert!(rt; is_refused(false, &[0x04, 0x00, 0x01, 0x00, 0x03], FrameError::Malformed));
+        // the greatest gap, with nothing behind it
+        assert!(rt; is_refused(false, &[0x04, 0x00, 0x01, 0x00, 0x02], FrameError::UnexpectedEnd));
+        // a length above the next greatest number
+        assert!(rt; is_refused(false, &[0x04, 0x00, 0x01, 0x00, 0x02, 0x01], FrameError::Malformed));
+        // more ranges than there are
+        assert!(rt; is_refused(false, &[0x04, 0x00, 0x01, 0x00], FrameError::UnexpectedEnd));
+        // counts that lack
+        assert!(rt; is_refused(true, &[0x04, 0x00, 0x00, 0x00, 0x01], FrameError::UnexpectedEnd));
+        Ok(())
+    }
+
+    #[test]
+    fn counts_marks(rt: HostRuntime) -> Result<(), Fail> {
+        let mut counts = EcnCounts::ZERO;
+        counts += EcnCodepoint::Ect0;
+        counts += EcnCodepoint::Ce;
+        counts += EcnCodepoint::Ce;
+        let mut out = Vec::new(rt.alloc());
+        counts.encode(&mut out)?;
+        assert_eq!(rt; out.as_slice(), [0x01, 0x00, 0x02].as_slice());
+        let mut most = EcnCounts {
+            ect0: 0,
+            ect1: 4_611_686_018_427_387_903,
+            ce: 0,
+        };
+        most += EcnCodepoint::Ect1;
+        assert_eq!(rt; most.ect1, 4_611_686_018_427_387_903);
+        Ok(())
+    }
+}
