@@ -115,3 +115,12 @@ read_fits a h =
 -- and so many ranges
 pub read_count : (a : Inside) → IsAck a → length (ack_view a).ranges ≡ a.count + 1
 read_count a h = let k = (ranges_known a.count (a.largest - a.first) a.blocks.now h.ranges).number in omega (arith, k)
+
+first_is : (x r : ℕ × ℕ) (xs rs : List (ℕ × ℕ)) → x ∷ xs ≡ r ∷ rs → (x ≡ r) × (xs ≡ rs)
+first_is x r xs rs e = (cc, cc)
+
+-- its further ranges are written in no more bytes than they were read from
+pub read_room : (a : Inside) → IsAck a → (r : ℕ × ℕ) (rs : List (ℕ × ℕ)) → (ack_view a).ranges ≡ r ∷ rs → numbers_size (range_numbers r.0 rs) ≤ length a.blocks.now
+read_room a h r rs e =
+    let p = first_is (a.largest - a.first, a.largest) r (ranges_of (ranges_at a.count (a.largest - a.first) a.blocks.now)) rs e in
+    rw (← p.0, ← p.1) (ranges_known a.count (a.largest - a.first) a.blocks.now h.ranges).size

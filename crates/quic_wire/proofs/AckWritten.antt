@@ -126,3 +126,15 @@ none_left (x ∷ all) h = absurd cc
 pub type_small : (type : ℕ) (ecn : Option (ℕ × ℕ × ℕ)) → type ≡ type_of (is_ack (has_ecn ecn)) → type < 2 ^ 62
 type_small type None e = omega (arith, e)
 type_small type (Some x) e = omega (arith, e)
+
+-- a type of an ACK frame takes one byte
+type_short : (ecn : Option (ℕ × ℕ × ℕ)) → length (shortest (type_of (is_ack (has_ecn ecn)))) ≡ 1
+type_short None = refl
+type_short (Some x) = refl
+
+-- the size of an ACK frame is that of its parts
+pub front_size : (type : ℕ) (ns b x all : List ℕ) (ecn : Option (ℕ × ℕ × ℕ)) → all ≡ (type ∷ ns) ++ (b ++ x) → type ≡ type_of (is_ack (has_ecn ecn)) → numbers_size all ≡ 1 + numbers_size ns + numbers_size b + numbers_size x
+front_size type ns b x all ecn is named =
+    let e : numbers_size all ≡ numbers_size (type ∷ ns) + numbers_size b + numbers_size x = ap numbers_size is ∙ three_sizes (type ∷ ns) b x in
+    let one : length (shortest type) ≡ 1 = ap (λ (n : ℕ). length (shortest n)) named ∙ type_short ecn in
+    omega (arith, e, one)

@@ -9,9 +9,11 @@ use std::marker::Model;
 use std::ops::{AddAssign, RangeInclusive};
 
 pub(crate) mod reading;
+pub(crate) mod size;
 pub(crate) mod writing;
 
 use reading::range_of;
+use size::size_of_set;
 use writing::{write_numbers, write_set};
 
 /// The greatest count that has a form as a variable-length integer (section 16).
@@ -108,8 +110,9 @@ impl<'a> Model for Ack<'a> {
 }
 
 impl<'a> Ack<'a> {
-    ghost use Rattle.std.specs.Prelude.{◌+◌, ◌++◌, [], length, OnOk, OnErr};
-    ghost use Rattle.quic_wire.specs.AckGrammar.{AckFits};
+    ghost use Rattle.std.specs.Prelude.{ℕ, List, ◌+◌, ◌-◌, ◌*◌, ◌≤◌, ◌++◌, ◌∷◌, [], length, OnOk, OnErr};
+    ghost use Rattle.quic_wire.specs.AckGrammar.{AckFits, range_numbers};
+    ghost use Rattle.quic_wire.specs.NumbersWritten.{numbers_size};
     ghost use Rattle.quic_wire.specs.AckSet.{ack_of_set, IsSmall};
     ghost use Rattle.quic_wire.specs.AckView.{ecn_view, shown_ecn};
     ghost use Rattle.quic_wire.specs.AckWriting.{ack_spelling, ack_size};
@@ -135,6 +138,19 @@ impl<'a> Ack<'a> {
         write_set(buf, delay, ranges.as_slice(), ecn.copied())
     }
 
+    /// How many bytes [`Ack::encode`] writes for this delay, these ranges and these counts: with r ranges at most
+    /// 57 + 16 (r - 1), which is the type, four numbers of at most 8 bytes, 16 bytes for each further range, and the
+    /// counts.
+    pub fn size_of(delay: u64, ranges: &ArrayRangeSet, ecn: Option<&EcnCounts>) -> usize
+        requires some { ranges.now ≡ [] → ⊥ }
+        requires small { IsSmall ranges.now }
+        requires delay { delay < 2 ^ 62 }
+        ensures size { result ≡ ack_size (ack_of_set delay ranges.now (shown_ecn ecn.entry)) }
+        ensures bound { result ≤ 1 + 8 + 8 + 8 + 8 + 16 * (length ranges.now - 1) + 24 }
+    {
+        size_of_set(delay, ranges.as_slice(), ecn.copied())
+    }
+
     /// The greatest number that is acknowledged.
     pub fn largest(&self) -> u64
         ensures value { result ≡ self.now.largest }
@@ -145,7 +161,8 @@ impl<'a> Ack<'a> {
 
     /// How many ranges stand below the first.
     pub(crate) fn count(&self) -> u64
-        ensures { length self.now.ranges ≡ result + 1 }
+        ensures value { length self.now.ranges ≡ result + 1 }
+        ensures room { (r : ℕ × ℕ) (rs : List (ℕ × ℕ)) → self.now.ranges ≡ r ∷ rs → numbers_size (range_numbers r.0 rs) < 2 ^ 63 }
     {
         self.count
     }
@@ -346,15 +363,39 @@ mod tests {
         // the first range is longer than the greatest number
         assert!(rt; is_refused(false, &[0x04, 0x00, 0x00, 0x05], FrameError::Malformed));
         // a gap that is too large, with nothing behind it
-        assert!(rt; is_refused(false, &[0x04, 0x00, 0x01, 0x00, 0x03], FrameError::Malformed));
+        assert!(rt;
+            is_refused(
+                false,
+                &[0x04, 0x00, 0x01, 0x00, 0x03],
+                FrameError::Malformed
+            )
+        );
         // the greatest gap, with nothing behind it
-        assert!(rt; is_refused(false, &[0x04, 0x00, 0x01, 0x00, 0x02], FrameError::UnexpectedEnd));
+        assert!(rt;
+            is_refused(
+                false,
+                &[0x04, 0x00, 0x01, 0x00, 0x02],
+                FrameError::UnexpectedEnd
+            )
+        );
         // a length above the next greatest number
-        assert!(rt; is_refused(false, &[0x04, 0x00, 0x01, 0x00, 0x02, 0x01], FrameError::Malformed));
+        assert!(rt;
+            is_refused(
+                false,
+                &[0x04, 0x00, 0x01, 0x00, 0x02, 0x01],
+                FrameError::Malformed
+            )
+        );
         // more ranges than there are
         assert!(rt; is_refused(false, &[0x04, 0x00, 0x01, 0x00], FrameError::UnexpectedEnd));
         // counts that lack
-        assert!(rt; is_refused(true, &[0x04, 0x00, 0x00, 0x00, 0x01], FrameError::UnexpectedEnd));
+        assert!(rt;
+            is_refused(
+                true,
+                &[0x04, 0x00, 0x00, 0x00, 0x01],
+                FrameError::UnexpectedEnd
+            )
+        );
         Ok(())
     }
 

@@ -100,7 +100,7 @@ pub fn write_frame<B: BufMut>(frame: &Frame<'_>, buf: &mut B) -> Result<(), Allo
 }
 
 /// How many bytes a number takes.
-fn size_of_number(n: u64) -> usize
+pub(crate) fn size_of_number(n: u64) -> usize
     requires { n < 2 ^ 62 }
     ensures size { result ≡ width_of n }
     ensures bound { result ≤ 8 }
