@@ -1,7 +1,7 @@
 -- What deliveries and reads leave as it was: all that the end writes from.
 use Rattle.std.proofs.Common.{◌≡◌, ℕ, Bool, true, false, not, ◌||◌, ◌==◌, List, [], ◌∷◌, Option, Some, None, Result, Ok, Err, refl, ◌∙◌}
 use Rattle.std.specs.Prelude.{if◌then◌else◌}
-use Rattle.quic_wire.specs.Value.{FrameValue, stream}
+use Rattle.quic_wire.specs.Value.{FrameValue, stream, new_token, handshake_done}
 use Rattle.quic_wire.specs.Datagram.{Opening}
 use Rattle.quic_wire.specs.Items.{items}
 use Rattle.quic_wire.specs.Header.{key_phase, reserved_bits}
@@ -39,6 +39,8 @@ stays_on e f g s t = record { side = t.side ∙ s.side; ids = t.ids ∙ s.ids; s
 
 stays_frame : (f : FrameValue) (e : End) → Stays e (take_frame f e).end
 stays_frame (stream f) e = record { side = refl; ids = refl; sending = refl; next = refl; acknowledged = refl }
+stays_frame (new_token t) e = stays_same e
+stays_frame handshake_done e = stays_same e
 stays_frame f e = stays_same e
 
 stays_item : (i : Result FrameValue InvalidFrame) (e : End) → Stays e (take_item i e).end

@@ -1,7 +1,9 @@
 -- What an end makes of a datagram that comes (RFC 9000, sections 5.2, 12 and 13.1).
 use Rattle.std.specs.Prelude.{ℕ, ◌+◌, Bool, true, false, ◌==◌, ◌||◌, not, if◌then◌else◌, List, [], ◌∷◌, Option, Some, None, Result, Ok, Err}
 use Rattle.quic_wire_core.specs.TransportError.{ErrorValue}
-use Rattle.quic_wire.specs.Value.{FrameValue, stream}
+use Rattle.quic_wire_core.specs.declared.stream_id.Side.{Side}
+use Rattle.quic_wire_core.specs.declared.stream_id.Side.TheVariants.{Client, Server}
+use Rattle.quic_wire.specs.Value.{FrameValue, stream, new_token, handshake_done}
 use Rattle.quic_wire.specs.Items.{items}
 use Rattle.quic_wire.specs.Header.{key_phase, reserved_bits}
 use Rattle.quic_wire.specs.Destination.{decoded, fixed_length_id}
@@ -83,9 +85,16 @@ pub record Progress : Type 0 where
 abbrev pub goes_on : End → Progress
 goes_on e = record { end = e; fault = None }
 
--- what a frame makes of the end
+-- a frame that only servers send: a server that gets one has a peer that breaks the rules (RFC 9000, sections 19.7 and 19.20)
+abbrev pub fault_at : Side → Option Fault
+fault_at Client = None
+fault_at Server = Some violation
+
+-- what a frame makes of the end; frames that are neither of streams nor of servers alone are read, and do nothing yet
 abbrev pub take_frame : FrameValue → End → Progress
 take_frame (stream f) e = record { end = with_receiving e (after_stream e.side e.receiving f); fault = fault_of (stream_breach e.side e.receiving f) }
+take_frame (new_token t) e = record { end = e; fault = fault_at e.side }
+take_frame handshake_done e = record { end = e; fault = fault_at e.side }
 take_frame f e = goes_on e
 
 -- what the next item of a payload comes to

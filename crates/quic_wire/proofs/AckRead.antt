@@ -14,7 +14,7 @@ use Rattle.quic_wire.specs.AckGrammar.{Below, EcnFits, AckFits, range_numbers}
 use Rattle.quic_wire.specs.AckView.{ranges_of, ecn_view, ack_view, IsAck}
 use Rattle.quic_wire.specs.declared.frame.ack.EcnCounts.{EcnCounts}
 use Rattle.quic_wire.specs.declared.frame.ack.Ack.TheInside.{Inside}
-use Rattle.quic_wire.specs.NumbersWritten.{numbers_size}
+use Rattle.quic_wire.specs.NumbersWritten.{widths}
 use Rattle.quic_wire.proofs.FieldFound.{HoldsOf, Holds, after, guard}
 
 -- ---- a number that was read takes no more bytes when it is written
@@ -77,7 +77,7 @@ range_read low bytes =
     let two : low - (gap.0 + 2) - (low - (gap.0 + 2) - len.0) ≡ len.0 = omega arith in
     record { is = (omega arith, omega arith, rw (one, two) (omega (arith, e, f))) }))))
 
-ranges_read : (count low : ℕ) (bytes : List ℕ) → Holds (λ x. Below low x.0 × (length x.0 ≡ count) × (numbers_size (range_numbers low x.0) + length x.1 ≤ length bytes)) (ranges_at count low bytes)
+ranges_read : (count low : ℕ) (bytes : List ℕ) → Holds (λ x. Below low x.0 × (length x.0 ≡ count) × (widths (range_numbers low x.0) + length x.1 ≤ length bytes)) (ranges_at count low bytes)
 unfolding ranges_at
 ranges_read zero low bytes = record { is = (tt, refl, (let le : 0 + length bytes ≤ length bytes = omega arith in le)) }
 ranges_read (suc count) low bytes =
@@ -92,7 +92,7 @@ known (Err e) ok h = absurd cc
 pub record Known (count low : ℕ) (bytes : List ℕ) (ranges : List (ℕ × ℕ)) : Type 0 where
   pub down : Below low ranges
   pub number : length ranges ≡ count
-  pub size : numbers_size (range_numbers low ranges) ≤ length bytes
+  pub size : widths (range_numbers low ranges) ≤ length bytes
 
 pub ranges_known : (count low : ℕ) (bytes : List ℕ) → IsOk (ranges_at count low bytes) → Known count low bytes (ranges_of (ranges_at count low bytes))
 ranges_known count low bytes ok =
@@ -120,7 +120,7 @@ first_is : (x r : ℕ × ℕ) (xs rs : List (ℕ × ℕ)) → x ∷ xs ≡ r ∷
 first_is x r xs rs e = (cc, cc)
 
 -- its further ranges are written in no more bytes than they were read from
-pub read_room : (a : Inside) → IsAck a → (r : ℕ × ℕ) (rs : List (ℕ × ℕ)) → (ack_view a).ranges ≡ r ∷ rs → numbers_size (range_numbers r.0 rs) ≤ length a.blocks.now
+pub read_room : (a : Inside) → IsAck a → (r : ℕ × ℕ) (rs : List (ℕ × ℕ)) → (ack_view a).ranges ≡ r ∷ rs → widths (range_numbers r.0 rs) ≤ length a.blocks.now
 read_room a h r rs e =
     let p = first_is (a.largest - a.first, a.largest) r (ranges_of (ranges_at a.count (a.largest - a.first) a.blocks.now)) rs e in
     rw (← p.0, ← p.1) (ranges_known a.count (a.largest - a.first) a.blocks.now h.ranges).size

@@ -2,7 +2,7 @@
 use Rattle.std.proofs.Common.{◌≡◌, ℕ, ◌+◌, ◌-◌, ◌≤◌, ◌<◌, ◌^◌, List, [], ◌∷◌, ◌++◌, length, take, drop, map, Bool, Option, Some, None, Result, Ok, Err, OnOk, OnErr, refl, sym, ap, ◌∙◌, append_assoc, arith}
 use Rattle.std.proofs.lemmas.List.{take_at, length-append, take-append-drop}
 use Rattle.quic_wire_core.specs.Varint.{shortest}
-use Rattle.quic_wire.specs.NumbersWritten.{AreNumbers, numbers_size}
+use Rattle.quic_wire.specs.NumbersWritten.{AreNumbers, widths}
 use Rattle.quic_wire.specs.Writing.{written, BeginWith, SpendsSpare}
 use Rattle.quic_wire.specs.AckGrammar.{GoDown, has_ecn, range_numbers, ecn_numbers, ack_numbers}
 use Rattle.quic_wire.specs.FrameTypes.{is_ack, type_of}
@@ -13,14 +13,9 @@ use Rattle.std.specs.declared.ops.RangeInclusive.{RangeInclusive}
 use Rattle.quic_wire.proofs.FrameWritten.{written_append, stands_1}
 
 -- the sizes of two lists of numbers add up
-pub size_append : (ns ms : List ℕ) → numbers_size (ns ++ ms) ≡ numbers_size ns + numbers_size ms
+pub size_append : (ns ms : List ℕ) → widths (ns ++ ms) ≡ widths ns + widths ms
 size_append [] ms = omega arith
 size_append (n ∷ ns) ms = let k = size_append ns ms in omega (arith, k)
-
--- numbers take as many bytes as their size says
-pub written_length : (ns : List ℕ) → length (written ns) ≡ numbers_size ns
-written_length [] = refl
-written_length (n ∷ ns) = length-append (shortest n) (written ns) ∙ ap (λ k. length (shortest n) + k) (written_length ns)
 
 -- three lists of numbers one behind another are one list
 pub three_written : (w w1 w2 w3 : List ℕ) (a b x : List ℕ) → w1 ≡ w ++ written a → w2 ≡ w1 ++ written b → w3 ≡ w2 ++ written x → w3 ≡ w ++ written (a ++ (b ++ x))
@@ -28,7 +23,7 @@ three_written w w1 w2 w3 a b x e1 e2 e3 =
     rw (e3, e2, e1) (append_assoc (w ++ written a) (written b) (written x) ∙ append_assoc w (written a) (written b ++ written x)
     ∙ ap (λ (v : List ℕ). w ++ (written a ++ v)) (sym (written_append b x)) ∙ ap (λ (v : List ℕ). w ++ v) (sym (written_append a (b ++ x))))
 
-pub three_sizes : (a b x : List ℕ) → numbers_size (a ++ (b ++ x)) ≡ numbers_size a + numbers_size b + numbers_size x
+pub three_sizes : (a b x : List ℕ) → widths (a ++ (b ++ x)) ≡ widths a + widths b + widths x
 three_sizes a b x = let e = size_append a (b ++ x) in let f = size_append b x in omega (arith, e, f)
 
 take_front : (w x v : List ℕ) → take (length w) (take (length (w ++ x)) v) ≡ take (length w) v
@@ -59,7 +54,7 @@ one_range w w1 total low r rest all is so_far e =
     rw e (append_assoc w (written ns) (written (range_numbers r.0 rest)) ∙ ap (λ (v : List ℕ). w ++ v) (sym (written_append ns (range_numbers r.0 rest))) ∙ (rw is at so_far))
 
 pub range_sizes : (low : ℕ) (r : ℕ × ℕ) (rest all : List (ℕ × ℕ)) → all ≡ r ∷ rest
-    → numbers_size (range_numbers low all) ≡ numbers_size ((low - (r.1 + 2)) ∷ (r.1 - r.0) ∷ []) + numbers_size (range_numbers r.0 rest)
+    → widths (range_numbers low all) ≡ widths ((low - (r.1 + 2)) ∷ (r.1 - r.0) ∷ []) + widths (range_numbers r.0 rest)
 range_sizes low r rest all is = rw is (size_append ((low - (r.1 + 2)) ∷ (r.1 - r.0) ∷ []) (range_numbers r.0 rest))
 
 unwhole_all : (all rest : List (ℕ × ℕ)) → map whole all ≡ map whole rest → all ≡ rest
@@ -94,16 +89,16 @@ pub last_err : {T E : Type 0} (r : Result T E) (w w1 w2 w3 a b : List ℕ) → w
 last_err (Ok y) w w1 w2 w3 a b e1 e2 h = tt
 last_err (Err e) w w1 w2 w3 a b e1 e2 h = begins_behind w w1 a w3 e1 (begins_behind w1 w2 b w3 e2 h)
 
-pub last_spare : {T E : Type 0} (r : Result T E) (s s1 s2 s3 : ℕ) (all a b x : List ℕ) → all ≡ a ++ (b ++ x) → s ≤ s1 + numbers_size a → s1 ≤ s2 + numbers_size b → SpendsSpare r s2 s3 (numbers_size x) → SpendsSpare r s s3 (numbers_size all)
-last_spare (Ok y) s s1 s2 s3 all a b x is h k l = let e = ap numbers_size is ∙ three_sizes a b x in omega (arith, e)
-last_spare (Err y) s s1 s2 s3 all a b x is h k l = let e = ap numbers_size is ∙ three_sizes a b x in omega (arith, e)
+pub last_spare : {T E : Type 0} (r : Result T E) (s s1 s2 s3 : ℕ) (all a b x : List ℕ) → all ≡ a ++ (b ++ x) → s ≤ s1 + widths a → s1 ≤ s2 + widths b → SpendsSpare r s2 s3 (widths x) → SpendsSpare r s s3 (widths all)
+last_spare (Ok y) s s1 s2 s3 all a b x is h k l = let e = ap widths is ∙ three_sizes a b x in omega (arith, e)
+last_spare (Err y) s s1 s2 s3 all a b x is h k l = let e = ap widths is ∙ three_sizes a b x in omega (arith, e)
 
 -- where the first or the second of them fails
-pub first_spare : (s : ℕ) (all a b x : List ℕ) → all ≡ a ++ (b ++ x) → s < numbers_size a → s < numbers_size all
-first_spare s all a b x is h = let e = ap numbers_size is ∙ three_sizes a b x in omega (arith, e)
+pub first_spare : (s : ℕ) (all a b x : List ℕ) → all ≡ a ++ (b ++ x) → s < widths a → s < widths all
+first_spare s all a b x is h = let e = ap widths is ∙ three_sizes a b x in omega (arith, e)
 
-pub second_spare : (s s1 : ℕ) (all a b x : List ℕ) → all ≡ a ++ (b ++ x) → s ≤ s1 + numbers_size a → s1 < numbers_size b → s < numbers_size all
-second_spare s s1 all a b x is h k = let e = ap numbers_size is ∙ three_sizes a b x in omega (arith, e)
+pub second_spare : (s s1 : ℕ) (all a b x : List ℕ) → all ≡ a ++ (b ++ x) → s ≤ s1 + widths a → s1 < widths b → s < widths all
+second_spare s s1 all a b x is h k = let e = ap widths is ∙ three_sizes a b x in omega (arith, e)
 
 -- the numbers of an ACK frame, by its first range and the others
 pub ack_numbers_are : (a : AckValue) (rest : List (ℕ × ℕ)) (low high type largest delay count : ℕ) (ecn : Option (ℕ × ℕ × ℕ)) → a.ranges ≡ (low, high) ∷ rest → GoDown a.largest a.ranges
@@ -133,8 +128,8 @@ type_short None = refl
 type_short (Some x) = refl
 
 -- the size of an ACK frame is that of its parts
-pub front_size : (type : ℕ) (ns b x all : List ℕ) (ecn : Option (ℕ × ℕ × ℕ)) → all ≡ (type ∷ ns) ++ (b ++ x) → type ≡ type_of (is_ack (has_ecn ecn)) → numbers_size all ≡ 1 + numbers_size ns + numbers_size b + numbers_size x
+pub front_size : (type : ℕ) (ns b x all : List ℕ) (ecn : Option (ℕ × ℕ × ℕ)) → all ≡ (type ∷ ns) ++ (b ++ x) → type ≡ type_of (is_ack (has_ecn ecn)) → widths all ≡ 1 + widths ns + widths b + widths x
 front_size type ns b x all ecn is named =
-    let e : numbers_size all ≡ numbers_size (type ∷ ns) + numbers_size b + numbers_size x = ap numbers_size is ∙ three_sizes (type ∷ ns) b x in
+    let e : widths all ≡ widths (type ∷ ns) + widths b + widths x = ap widths is ∙ three_sizes (type ∷ ns) b x in
     let one : length (shortest type) ≡ 1 = ap (λ (n : ℕ). length (shortest n)) named ∙ type_short ecn in
     omega (arith, e, one)

@@ -55,7 +55,7 @@ Numbers-append (n ∷ ns) ms a b h k = (h.0, h.1 ++ b, h.2, Numbers-append ns ms
 pub IsBytes-drop : (n : ℕ) (bytes : List ℕ) → IsBytes bytes → IsBytes (drop n bytes)
 IsBytes-drop n bytes h i = rw get_or-drop (h (n + i))
 
-IsBytes-behind : (front rest bytes : List ℕ) → bytes ≡ front ++ rest → IsBytes bytes → IsBytes rest
+pub IsBytes-behind : (front rest bytes : List ℕ) → bytes ≡ front ++ rest → IsBytes bytes → IsBytes rest
 IsBytes-behind front rest bytes e h = rw (ap (drop (length front)) e ∙ drop_at front rest (length front) refl) at (IsBytes-drop (length front) bytes h)
 
 field_some : {T : Type 0} (o : Option (T × List ℕ)) (x : T × List ℕ) → field o ≡ Ok x → o ≡ Some x

@@ -1,10 +1,12 @@
 -- Type numbers and the kinds that they name.
-use Rattle.std.proofs.Common.{◌≡◌, ℕ, ◌≤◌, ◌<◌, Bool, true, false, not, ◌&&◌, ◌||◌, List, [], ◌∷◌, Ok, Err, refl, sym, ap, subst, arith, inl, inr}
+use Rattle.std.proofs.Common.{◌≡◌, ℕ, ◌≤◌, ◌<◌, Bool, true, false, not, ◌&&◌, ◌||◌, List, [], ◌∷◌, Result, Ok, Err, refl, sym, ap, subst, arith, inl, inr}
 use Rattle.std.specs.Prelude.{if◌then◌else◌, ◌==◌, nat_lt}
 use Rattle.std.specs.List.{list_all}
-use Rattle.std.proofs.lemmas.Bool.{cases_eq, eqb-true, eq-eqb, ne_eqb, le-ltb, lt-ltb}
+use Rattle.std.proofs.lemmas.Bool.{cases_eq, cases_lt, eqb-true, eq-eqb, ne_eqb, le-ltb, lt-ltb}
+use Rattle.quic_wire.specs.declared.frame.FrameError.{FrameError}
 use Rattle.quic_wire.specs.declared.frame.FrameError.TheVariants.{InvalidId}
-use Rattle.quic_wire.specs.Value.{padding, ping}
+use Rattle.quic_wire.specs.Value.{FrameValue}
+use Rattle.quic_wire.specs.Taking.{Reads}
 use Rattle.quic_wire.specs.FrameTypes.{Kind, is_padding, is_ping, is_ack, is_reset_stream, is_stop_sending, is_crypto, is_new_token, is_stream, is_max_data, is_max_stream_data, is_max_streams, is_data_blocked, is_stream_data_blocked, is_streams_blocked, is_new_connection_id, is_retire_connection_id, is_path_challenge, is_path_response, is_connection_close, is_application_close, is_handshake_done, is_immediate_ack, is_datagram, is_ack_frequency, is_unknown, IsKnown, frame_types, named, kind_of, type_of, has_bit}
 use Rattle.quic_wire.specs.Reading.{of_kind_at, body_at}
 
@@ -97,52 +99,59 @@ stream_kind type least most =
 
 -- ---- which kinds are read
 
-is_read : Kind → Bool
-is_read is_padding = true
-is_read is_ping = true
-is_read (is_stream written sized fin) = true
-is_read kind = false
-
+-- the types of frames that are read
 reads_type : ℕ → Bool
-reads_type type = (type == 0) || ((type == 1) || (not (nat_lt type 8) && nat_lt type 16))
+reads_type type = (type == 0) || ((type == 1) || ((not (nat_lt type 2) && nat_lt type 32) || ((type == 48) || ((type == 49) || (type == 175)))))
+
+is_read : Kind → Bool
+is_read (is_unknown type) = false
+is_read kind = true
 
 only_read : ℕ → Kind → Bool
 only_read type kind = not (is_read kind) || reads_type type
 
-not_read : (kind : Kind) (bytes : List ℕ) → is_read kind ≡ false → of_kind_at kind bytes ≡ Err InvalidId
-unfolding is_read
-not_read is_padding bytes e = absurd cc
-not_read is_ping bytes e = absurd cc
-not_read (is_stream written sized fin) bytes e = absurd cc
-not_read kind bytes e = refl
-
 or_false : (a b : Bool) → (not a || b) ≡ true → b ≡ false → a ≡ false
 or_false true b e f = absurd cc
 or_false false b e f = refl
+
+not_read : (kind : Kind) (bytes : List ℕ) → is_read kind ≡ false → of_kind_at kind bytes ≡ Err InvalidId
+unfolding is_read
+not_read (is_unknown type) bytes e = refl
+not_read kind bytes e = absurd cc
 
 -- a type of no kind that is read
 unread : (type : ℕ) (bytes : List ℕ) → reads_type type ≡ false → body_at type bytes ≡ Err InvalidId
 unfolding kind_of body_at only_read is_read reads_type
 unread type bytes e = not_read (kind_of type) bytes (or_false (is_read (kind_of type)) (reads_type type) (all_named only_read type frame_types refl refl) e)
 
-pub body_below : (type : ℕ) (bytes : List ℕ) → ¬ (type ≡ 0) → ¬ (type ≡ 1) → type < 8 → body_at type bytes ≡ Err InvalidId
-unfolding reads_type
-body_below type bytes n0 n1 lt = unread type bytes (rw (ne_eqb type 0 n0, ne_eqb type 1 n1, lt-ltb type 8 lt) refl)
+between : (type a b : ℕ) → (a ≤ type → type < b → ⊥) → (not (nat_lt type a) && nat_lt type b) ≡ false
+between type a b out = elim (cases_lt type a) [
+  | inl lt ↦ rw (lt-ltb type a lt) refl
+  | inr ge ↦ elim (cases_lt type b) [
+    | inl lt ↦ absurd (out (omega arith) lt)
+    | inr ge' ↦ rw (le-ltb type a (omega arith), le-ltb type b (omega arith)) refl
+  ]
+]
 
-pub body_above : (type : ℕ) (bytes : List ℕ) → 16 ≤ type → body_at type bytes ≡ Err InvalidId
+pub body_other : (type : ℕ) (bytes : List ℕ) → ¬ (type ≡ 0) → ¬ (type ≡ 1) → (2 ≤ type → type < 32 → ⊥) → ¬ (type ≡ 48) → ¬ (type ≡ 49) → ¬ (type ≡ 175) → body_at type bytes ≡ Err InvalidId
 unfolding reads_type
-body_above type bytes le = unread type bytes (rw (ne_eqb type 0 (λ e. omega arith), ne_eqb type 1 (λ e. omega arith), le-ltb type 8 (omega arith), le-ltb type 16 le) refl)
+body_other type bytes n0 n1 out n48 n49 n175 =
+    unread type bytes (rw (ne_eqb type 0 n0, ne_eqb type 1 n1, between type 2 32 out, ne_eqb type 48 n48, ne_eqb type 49 n49, ne_eqb type 175 n175) refl)
 
 -- ---- the frame behind a type
 
-pub body_padding : (bytes : List ℕ) → body_at 0 bytes ≡ Ok (padding, bytes)
-unfolding body_at kind_of
-body_padding bytes = refl
-
-pub body_ping : (bytes : List ℕ) → body_at 1 bytes ≡ Ok (ping, bytes)
-unfolding body_at kind_of
-body_ping bytes = refl
-
-pub body_stream : (type : ℕ) (bytes : List ℕ) → 8 ≤ type → type < 16 → body_at type bytes ≡ of_kind_at (is_stream (has_bit type 4) (has_bit type 2) (has_bit type 1)) bytes
+-- the frame of a type is that of the kind that it names
+pub of_type : {X : Type 0} (view : X → FrameValue) (kind : Kind) (type : ℕ) (bytes rest : List ℕ) (r : Result X FrameError) → IsKnown kind → type ≡ type_of kind → Reads view r rest (of_kind_at kind bytes) → Reads view r rest (body_at type bytes)
 unfolding body_at
-body_stream type bytes least most = ap (λ (k : Kind). of_kind_at k bytes) (stream_kind type least most)
+of_type view kind type bytes rest r known e h = rw (e, kind_of_type kind known) h
+
+-- a type whose frame has no fields
+pub body_is : (kind : Kind) (type : ℕ) (bytes : List ℕ) → IsKnown kind → type ≡ type_of kind → body_at type bytes ≡ of_kind_at kind bytes
+unfolding body_at
+body_is kind type bytes known e = rw (e, kind_of_type kind known) refl
+
+-- the bits of a type of STREAM tell which fields are read
+pub of_stream_type : {X : Type 0} (view : X → FrameValue) (type : ℕ) (bytes rest : List ℕ) (r : Result X FrameError) → 8 ≤ type → type < 16
+    → Reads view r rest (of_kind_at (is_stream (has_bit type 4) (has_bit type 2) (has_bit type 1)) bytes) → Reads view r rest (body_at type bytes)
+unfolding body_at
+of_stream_type view type bytes rest r least most h = rw (stream_kind type least most) h

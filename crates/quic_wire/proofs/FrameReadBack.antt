@@ -2,13 +2,13 @@
 use Rattle.std.proofs.Common.{◌≡◌, ℕ, zero, suc, false, List, [], ◌∷◌, ◌++◌, map, replicate, Result, Ok, Err, refl, sym, ap, ◌∙◌, append_assoc}
 use Rattle.std.proofs.lemmas.List.{map-append, append-nil}
 use Rattle.quic_wire.specs.declared.frame.InvalidFrame.{InvalidFrame}
-use Rattle.quic_wire.specs.Value.{FrameValue, StreamValue, padding, stream}
+use Rattle.quic_wire.specs.Value.{FrameValue, StreamValue, padding, stream, datagram}
 use Rattle.quic_wire.specs.Grammar.{IsForm, Payload}
 use Rattle.quic_wire.specs.Items.{items}
-use Rattle.quic_wire.specs.Writing.{spelling, stream_spelling, spelled_all, AllFit, StreamFits}
+use Rattle.quic_wire.specs.Writing.{spelling, stream_spelling, datagram_to_end, spelled_all, AllFit, StreamFits}
 use Rattle.quic_wire.proofs.FrameItems.{items_nil}
 use Rattle.quic_wire.proofs.FrameWhole.{form_items, payload_items}
-use Rattle.quic_wire.proofs.FrameWritten.{stream_form, spelling_form}
+use Rattle.quic_wire.proofs.FrameWritten.{stream_form, spelling_form, datagram_end_form}
 
 -- the items of frames that are written, and of what follows them
 all_read : (fs : List FrameValue) (rest : List ℕ) → AllFit fs → items (spelled_all fs ++ rest) ≡ map Ok fs ++ items rest
@@ -37,6 +37,16 @@ pub last_read : (fs : List FrameValue) (s : StreamValue) → AllFit fs → Strea
 last_read fs s h k =
     all_read fs (stream_spelling false s) h ∙ ap (λ (xs : List (Result FrameValue InvalidFrame)). map Ok fs ++ xs) (one_read s k)
     ∙ sym (map-append (λ (f : FrameValue). Ok f) fs (stream s ∷ []))
+
+one_datagram : (d : List ℕ) → items (datagram_to_end d) ≡ Ok (datagram d) ∷ []
+one_datagram d =
+    ap items (sym (append-nil (datagram_to_end d))) ∙ form_items (datagram d) (datagram_to_end d) [] (datagram_end_form d)
+    ∙ ap (λ (xs : List (Result FrameValue InvalidFrame)). Ok (datagram d) ∷ xs) items_nil
+
+pub last_datagram_read : (fs : List FrameValue) (d : List ℕ) → AllFit fs → items (spelled_all fs ++ datagram_to_end d) ≡ map Ok (fs ++ datagram d ∷ [])
+last_datagram_read fs d h =
+    all_read fs (datagram_to_end d) h ∙ ap (λ (xs : List (Result FrameValue InvalidFrame)). map Ok fs ++ xs) (one_datagram d)
+    ∙ sym (map-append (λ (f : FrameValue). Ok f) fs (datagram d ∷ []))
 
 not_both : (f : FrameValue) (e : InvalidFrame) (xs ys : List (Result FrameValue InvalidFrame)) → Ok f ∷ xs ≡ Err e ∷ ys → ⊥
 not_both f e xs ys h = cc

@@ -5,10 +5,12 @@ use Rattle.std.proofs.lemmas.Bool.{eqb-true}
 use Rattle.std.proofs.lemmas.List.{length-append, append-nil, take_at, take_all}
 use Rattle.quic_wire_core.specs.Varint.{shortest}
 use Rattle.quic_wire_core.specs.Law.{shortest_spells}
-use Rattle.quic_wire.specs.Value.{FrameValue, StreamValue, padding, ping, stream}
-use Rattle.quic_wire.specs.FrameTypes.{is_stream, type_of}
-use Rattle.quic_wire.specs.Grammar.{Numbers, offset_numbers, OffsetFits, length_numbers, number_if, Ends, stream_numbers, IsForm}
-use Rattle.quic_wire.specs.Writing.{written, has_offset, header_of, with_more, stream_header, stream_spelling, spelling, StreamFits, Fits, width_of, length_width, some_if, stream_header_size, stream_size, frame_size}
+use Rattle.quic_wire.specs.Value.{FrameValue, StreamValue, ack, padding, ping, handshake_done, immediate_ack, reset_stream, stop_sending, crypto, new_token, stream, max_data, max_stream_data, max_streams, data_blocked, stream_data_blocked, streams_blocked, new_connection_id, retire_connection_id, path_challenge, path_response, connection_close, application_close, datagram, ack_frequency}
+use Rattle.quic_wire.specs.FrameTypes.{Kind, is_stream, is_max_streams, is_streams_blocked, is_datagram, type_of}
+use Rattle.quic_wire.specs.Grammar.{Numbers, Then, IsIssued, offset_numbers, OffsetFits, length_numbers, number_if, Ends, stream_numbers, IsForm}
+use Rattle.quic_wire.specs.Writing.{written, has_offset, header_of, with_more, stream_header, stream_spelling, kind_as, fields_of, text_of, numbers_of, spelling, datagram_to_end, AreNumbers, StreamFits, Fits, widths, most_of, width_of, length_width, some_if, stream_header_size, stream_size, frame_size}
+use Rattle.quic_wire.specs.AckGrammar.{ack_numbers}
+use Rattle.quic_wire.proofs.AckNumbers.{AreNumbers-append, ack_are_numbers}
 
 pub written_append : (ns ms : List ℕ) → written (ns ++ ms) ≡ written ns ++ written ms
 written_append [] ms = refl
@@ -49,6 +51,13 @@ pub parts_written : (s : StreamValue) (sized : Bool) (n : ℕ) (more w w1 w2 w3 
 parts_written s sized n more w w1 w2 w3 count e1 e2 e3 =
     stream_written (with_more s more) sized w w1 w3 (rw (← count) e1) (rw (e3, e2) (append_assoc w1 s.bytes more))
 
+-- the parts of a NEW_CONNECTION_ID frame in turn
+pub id_written : (w a id token : List ℕ) (n : ℕ) → (((w ++ a) ++ (n ∷ [])) ++ id) ++ token ≡ w ++ (a ++ (n ∷ (id ++ token)))
+id_written w a id token n = simp append_assoc
+
+pub id_length : (id token : List ℕ) → length (id ++ token) ≡ length id + length token
+id_length id token = length-append id token
+
 -- ---- how long it is
 
 offset_size_if : (offset : ℕ) (b : Bool) → length (written (offset_numbers (not b) offset)) ≡ (if b then 0 else width_of offset)
@@ -75,22 +84,42 @@ pub stream_length : (sized : Bool) (s : StreamValue) → length (stream_spelling
 unfolding stream_spelling
 stream_length sized s = length-append (header_of sized s (length s.bytes)) s.bytes ∙ ap (λ n. n + length s.bytes) (header_length s sized (length s.bytes))
 
+-- numbers take so many bytes
+written_length : (ns : List ℕ) → length (written ns) ≡ widths ns
+written_length [] = refl
+written_length (n ∷ ns) = length-append (shortest n) (written ns) ∙ ap (λ m. width_of n + m) (written_length ns)
+
+parts_length : (ns text : List ℕ) → length (written ns ++ text) ≡ widths ns + length text
+parts_length ns text = length-append (written ns) text ∙ ap (λ m. m + length text) (written_length ns)
+
 -- a frame takes so many bytes
 pub spelling_length : (f : FrameValue) → Fits f → length (spelling f) ≡ frame_size f
 spelling_length padding h = refl
 spelling_length ping h = refl
 spelling_length (stream s) h = stream_length true s
-spelling_length f h = absurd h
+spelling_length (ack a) h = written_length (ack_numbers a a.ranges)
+spelling_length (reset_stream r) h = parts_length (numbers_of (reset_stream r)) (text_of (reset_stream r))
+spelling_length (stop_sending r) h = parts_length (numbers_of (stop_sending r)) (text_of (stop_sending r))
+spelling_length (crypto r) h = parts_length (numbers_of (crypto r)) (text_of (crypto r))
+spelling_length (new_token r) h = parts_length (numbers_of (new_token r)) (text_of (new_token r))
+spelling_length (max_data r) h = parts_length (numbers_of (max_data r)) (text_of (max_data r))
+spelling_length (max_stream_data r) h = parts_length (numbers_of (max_stream_data r)) (text_of (max_stream_data r))
+spelling_length (max_streams r) h = parts_length (numbers_of (max_streams r)) (text_of (max_streams r))
+spelling_length (data_blocked r) h = parts_length (numbers_of (data_blocked r)) (text_of (data_blocked r))
+spelling_length (stream_data_blocked r) h = parts_length (numbers_of (stream_data_blocked r)) (text_of (stream_data_blocked r))
+spelling_length (streams_blocked r) h = parts_length (numbers_of (streams_blocked r)) (text_of (streams_blocked r))
+spelling_length (new_connection_id r) h = parts_length (numbers_of (new_connection_id r)) (text_of (new_connection_id r))
+spelling_length (retire_connection_id r) h = parts_length (numbers_of (retire_connection_id r)) (text_of (retire_connection_id r))
+spelling_length (path_challenge r) h = parts_length (numbers_of (path_challenge r)) (text_of (path_challenge r))
+spelling_length (path_response r) h = parts_length (numbers_of (path_response r)) (text_of (path_response r))
+spelling_length (connection_close r) h = parts_length (numbers_of (connection_close r)) (text_of (connection_close r))
+spelling_length (application_close r) h = parts_length (numbers_of (application_close r)) (text_of (application_close r))
+spelling_length handshake_done h = parts_length (numbers_of handshake_done) (text_of handshake_done)
+spelling_length immediate_ack h = parts_length (numbers_of immediate_ack) (text_of immediate_ack)
+spelling_length (datagram r) h = parts_length (numbers_of (datagram r)) (text_of (datagram r))
+spelling_length (ack_frequency r) h = parts_length (numbers_of (ack_frequency r)) (text_of (ack_frequency r))
 
 -- ---- what is written is a form
-
-abbrev AreNumbers : List ℕ → Type 0
-AreNumbers [] = Unit {0}
-AreNumbers (n ∷ ns) = (n < 2 ^ 62) × AreNumbers ns
-
-AreNumbers-append : (ns ms : List ℕ) → AreNumbers ns → AreNumbers ms → AreNumbers (ns ++ ms)
-AreNumbers-append [] ms h k = k
-AreNumbers-append (n ∷ ns) ms h k = (h.0, AreNumbers-append ns ms h.1 k)
 
 written_numbers : (ns : List ℕ) → AreNumbers ns → Numbers ns (written ns)
 written_numbers [] h = refl
@@ -134,9 +163,46 @@ stream_form sized s rest h ends = record {
   );
 }
 
+alone : (ns : List ℕ) → AreNumbers ns → Numbers ns (written ns ++ [])
+alone ns h = rw (append-nil (written ns)) (written_numbers ns h)
+
+numbers_then : (ns text : List ℕ) → AreNumbers ns → Then ns text (written ns ++ text)
+numbers_then ns text h = (written ns, written_numbers ns h, refl)
+
+direction_small : (one_way : Bool) → (type_of (is_max_streams one_way) < 2 ^ 62) × (type_of (is_streams_blocked one_way) < 2 ^ 62)
+direction_small true = (omega arith, omega arith)
+direction_small false = (omega arith, omega arith)
+
 -- a frame that is written is a form, whatever follows it
 pub spelling_form : (f : FrameValue) (rest : List ℕ) → Fits f → IsForm f (spelling f) rest
 spelling_form padding rest h = written_numbers (0 ∷ []) (omega arith, tt)
 spelling_form ping rest h = written_numbers (1 ∷ []) (omega arith, tt)
 spelling_form (stream s) rest h = stream_form true s rest h tt
-spelling_form f rest h = absurd h
+spelling_form (ack a) rest h = (h.3, written_numbers (ack_numbers a a.ranges) (ack_are_numbers a h))
+spelling_form (reset_stream r) rest h = alone (numbers_of (reset_stream r)) (omega arith, h)
+spelling_form (stop_sending r) rest h = alone (numbers_of (stop_sending r)) (omega arith, h)
+spelling_form (max_data r) rest h = alone (numbers_of (max_data r)) (omega arith, h)
+spelling_form (max_stream_data r) rest h = alone (numbers_of (max_stream_data r)) (omega arith, h)
+spelling_form (data_blocked r) rest h = alone (numbers_of (data_blocked r)) (omega arith, h)
+spelling_form (stream_data_blocked r) rest h = alone (numbers_of (stream_data_blocked r)) (omega arith, h)
+spelling_form (retire_connection_id r) rest h = alone (numbers_of (retire_connection_id r)) (omega arith, h)
+spelling_form handshake_done rest h = alone (numbers_of handshake_done) (omega arith, tt)
+spelling_form immediate_ack rest h = alone (numbers_of immediate_ack) (omega arith, tt)
+spelling_form (ack_frequency r) rest h = alone (numbers_of (ack_frequency r)) (omega arith, h)
+spelling_form (crypto r) rest h = numbers_then (numbers_of (crypto r)) (text_of (crypto r)) (omega arith, h)
+spelling_form (new_token r) rest h = numbers_then (numbers_of (new_token r)) (text_of (new_token r)) (omega arith, h)
+spelling_form (connection_close r) rest h = numbers_then (numbers_of (connection_close r)) (text_of (connection_close r)) (omega arith, h)
+spelling_form (application_close r) rest h = numbers_then (numbers_of (application_close r)) (text_of (application_close r)) (omega arith, h)
+spelling_form (max_streams m) rest h = alone (numbers_of (max_streams m)) ((direction_small m.one_way).0, h)
+spelling_form (streams_blocked m) rest h = alone (numbers_of (streams_blocked m)) ((direction_small m.one_way).1, h)
+spelling_form (new_connection_id n) rest h = (h.1, numbers_then (numbers_of (new_connection_id n)) (text_of (new_connection_id n)) (omega arith, h.0))
+spelling_form (path_challenge d) rest h = (h, numbers_then (numbers_of (path_challenge d)) d (omega arith, tt))
+spelling_form (path_response d) rest h = (h, numbers_then (numbers_of (path_response d)) d (omega arith, tt))
+spelling_form (datagram d) rest h = record { sized = true; ends = tt; text = numbers_then (numbers_of (datagram d)) d (omega arith, h) }
+
+-- a DATAGRAM frame without its length is a form where nothing follows it
+pub datagram_end_form : (d : List ℕ) → IsForm (datagram d) (datagram_to_end d) []
+datagram_end_form d = record { sized = false; ends = refl; text = numbers_then (type_of (is_datagram false) ∷ []) d (omega arith, tt) }
+
+pub datagram_end_length : (d : List ℕ) → length (datagram_to_end d) ≡ 1 + length d
+datagram_end_length d = omega arith

@@ -4,6 +4,8 @@ pub mod Opening
 pub mod Destinations
 pub mod FrameKinds
 pub mod AckSteps
+pub mod AckSet
+pub mod AckNumbers
 pub mod FieldShrinks
 pub mod FieldAgain
 pub mod FieldFound
@@ -17,8 +19,8 @@ pub mod FrameFound
 pub mod FrameWhole
 pub mod FrameWritten
 pub mod FrameReadBack
-pub mod AckSet
 pub mod AckWritten
 pub mod AckRead
+pub mod FrameRange
 pub mod Room
 pub mod WorkedForms

@@ -37,10 +37,14 @@ abbrev pub ecn_numbers : Option (ℕ × ℕ × ℕ) → List ℕ
 ecn_numbers None = []
 ecn_numbers (Some e) = e.0 ∷ e.1 ∷ e.2 ∷ []
 
--- The numbers of an ACK frame with these ranges: type, greatest number, delay, count of further ranges, length of the first range, further ranges, counts.
+-- The numbers of an ACK frame with these ranges, behind its type: greatest number, delay, count of further ranges, length of the first range, further ranges, counts.
+abbrev pub ack_fields : AckValue → List (ℕ × ℕ) → List ℕ
+ack_fields a [] = []
+ack_fields a (r ∷ rs) = a.largest ∷ a.delay ∷ length rs ∷ (r.1 - r.0) ∷ (range_numbers r.0 rs ++ ecn_numbers a.ecn)
+
+-- The numbers of an ACK frame with these ranges.
 abbrev pub ack_numbers : AckValue → List (ℕ × ℕ) → List ℕ
-ack_numbers a [] = []
-ack_numbers a (r ∷ rs) = type_of (is_ack (has_ecn a.ecn)) ∷ a.largest ∷ a.delay ∷ length rs ∷ (r.1 - r.0) ∷ (range_numbers r.0 rs ++ ecn_numbers a.ecn)
+ack_numbers a ranges = type_of (is_ack (has_ecn a.ecn)) ∷ ack_fields a ranges
 
 -- A range of the ACK holds the number.
 abbrev pub InRanges : List (ℕ × ℕ) → ℕ → Type 0

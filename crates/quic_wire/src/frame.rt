@@ -1,16 +1,23 @@
 //! Frames (RFC 9000, section 19): their values, the reader of a payload and the writers.
 ghost use Rattle.std.specs.Prelude.{◌<◌, ◌^◌};
 
-use quic_wire_core::{Code, FrameType, Reason, StreamId, TransportError, VarInt};
+use quic_wire_core::{Code, Dir, FrameType, Reason, StreamId, TransportError, VarInt};
 use thiserror::Error;
 
 pub(crate) mod ack;
 mod iter;
+mod kinds;
 pub(crate) mod reading;
+#[cfg(test)]
+mod table;
 mod writing;
 
 pub use ack::{Ack, AckIter, EcnCounts};
 pub use iter::Iter;
+pub use kinds::{
+    AckFrequency, ApplicationCloseFrame, ConnectionCloseFrame, Crypto, Datagram, NewConnectionId,
+    NewToken, ResetStream, StopSending,
+};
 pub use writing::{
     put_frame, put_stream, put_stream_parts, size_of_frame, size_of_stream_header, write_frame,
 };
@@ -22,8 +29,76 @@ pub enum Frame<'a> {
     Padding,
     /// Asks for an acknowledgement (section 19.2).
     Ping,
+    /// Which packets came (section 19.3).
+    Ack(Ack<'a>),
+    /// Ends the sending part of a stream abruptly (section 19.4).
+    ResetStream(ResetStream),
+    /// Asks the peer to cease sending on a stream (section 19.5).
+    StopSending(StopSending),
+    /// Bytes of the handshake (section 19.6).
+    Crypto(Crypto<'a>),
+    /// A token for a later connection (section 19.7).
+    NewToken(NewToken<'a>),
     /// Bytes of a stream (section 19.8).
     Stream(Stream<'a>),
+    /// How many bytes may be sent on all streams together (section 19.9).
+    MaxData(VarInt),
+    /// How many bytes may be sent on a stream (section 19.10).
+    MaxStreamData {
+        /// The stream's id.
+        id: StreamId,
+        /// The limit, in bytes: below 2^62.
+        offset: u64,
+    },
+    /// How many streams may be opened (section 19.11).
+    MaxStreams {
+        /// Which streams.
+        dir: Dir,
+        /// How many of them since the connection began: below 2^62, and no reader takes it above 2^60.
+        count: u64,
+    },
+    /// The limit of the connection holds data back (section 19.12).
+    DataBlocked {
+        /// That limit, in bytes: below 2^62.
+        offset: u64,
+    },
+    /// The limit of a stream holds data back (section 19.13).
+    StreamDataBlocked {
+        /// The stream's id.
+        id: StreamId,
+        /// That limit, in bytes: below 2^62.
+        offset: u64,
+    },
+    /// The number of streams holds back a stream (section 19.14).
+    StreamsBlocked {
+        /// Which streams.
+        dir: Dir,
+        /// How many may be opened: below 2^62, and no reader takes it above 2^60.
+        limit: u64,
+    },
+    /// Gives an id of the connection (section 19.15).
+    NewConnectionId(NewConnectionId),
+    /// Ends the use of an id of the connection (section 19.16).
+    RetireConnectionId {
+        /// The number of the id: below 2^62.
+        sequence: u64,
+    },
+    /// Asks for these eight bytes back, the most significant first (section 19.17).
+    PathChallenge(u64),
+    /// Gives these eight bytes back, the most significant first (section 19.18).
+    PathResponse(u64),
+    /// Closes the connection by an error of QUIC (section 19.19, type 1c).
+    ConnectionClose(ConnectionCloseFrame<'a>),
+    /// Closes the connection by an error of the application (section 19.19, type 1d).
+    ApplicationClose(ApplicationCloseFrame<'a>),
+    /// Confirms the handshake (section 19.20).
+    HandshakeDone,
+    /// Asks for an acknowledgement at once (the ACK frequency extension, section 5).
+    ImmediateAck,
+    /// A message of the application (RFC 9221, section 4).
+    Datagram(Datagram<'a>),
+    /// Asks the peer to acknowledge more or less often (the ACK frequency extension, section 4).
+    AckFrequency(AckFrequency),
 }
 
 impl<'a> Frame<'a> {
@@ -32,15 +107,38 @@ impl<'a> Frame<'a> {
     ghost use Rattle.quic_wire.specs.FrameView.{frame_view};
     ghost use Rattle.quic_wire.specs.Writing.{type_number};
 
-    /// The frame's type; of a STREAM frame the type that it has where its length isn't written (quinn-proto's
-    /// `Frame::ty`).
+    /// The frame's type; of a STREAM or DATAGRAM frame the type that it has where its length isn't written
+    /// (quinn-proto's `Frame::ty`).
     pub fn ty(&self) -> FrameType
         ensures { result ≡ type_number (frame_view self.now) }
     {
         match self {
             Frame::Padding => FrameType::PADDING,
             Frame::Ping => FrameType::PING,
+            Frame::Ack(ack) => ack.ty(),
+            Frame::ResetStream(_) => FrameType::RESET_STREAM,
+            Frame::StopSending(_) => FrameType::STOP_SENDING,
+            Frame::Crypto(_) => FrameType::CRYPTO,
+            Frame::NewToken(_) => FrameType::NEW_TOKEN,
             Frame::Stream(stream) => VarInt::from_u32(stream.ty(false)).into(),
+            Frame::MaxData(_) => FrameType::MAX_DATA,
+            Frame::MaxStreamData { .. } => FrameType::MAX_STREAM_DATA,
+            Frame::MaxStreams { dir: Dir::Bi, .. } => FrameType::MAX_STREAMS_BIDI,
+            Frame::MaxStreams { dir: Dir::Uni, .. } => FrameType::MAX_STREAMS_UNI,
+            Frame::DataBlocked { .. } => FrameType::DATA_BLOCKED,
+            Frame::StreamDataBlocked { .. } => FrameType::STREAM_DATA_BLOCKED,
+            Frame::StreamsBlocked { dir: Dir::Bi, .. } => FrameType::STREAMS_BLOCKED_BIDI,
+            Frame::StreamsBlocked { dir: Dir::Uni, .. } => FrameType::STREAMS_BLOCKED_UNI,
+            Frame::NewConnectionId(_) => FrameType::NEW_CONNECTION_ID,
+            Frame::RetireConnectionId { .. } => FrameType::RETIRE_CONNECTION_ID,
+            Frame::PathChallenge(_) => FrameType::PATH_CHALLENGE,
+            Frame::PathResponse(_) => FrameType::PATH_RESPONSE,
+            Frame::ConnectionClose(_) => FrameType::CONNECTION_CLOSE,
+            Frame::ApplicationClose(_) => FrameType::APPLICATION_CLOSE,
+            Frame::HandshakeDone => FrameType::HANDSHAKE_DONE,
+            Frame::ImmediateAck => FrameType::IMMEDIATE_ACK,
+            Frame::Datagram(_) => FrameType::DATAGRAM,
+            Frame::AckFrequency(_) => FrameType::ACK_FREQUENCY,
         }
     }
 
@@ -49,7 +147,10 @@ impl<'a> Frame<'a> {
     pub fn is_ack_eliciting(&self) -> bool
         ensures { result ≡ asks (frame_view self.now) }
     {
-        !matches!(self, Frame::Padding)
+        !matches!(
+            self,
+            Frame::Padding | Frame::Ack(_) | Frame::ConnectionClose(_) | Frame::ApplicationClose(_)
+        )
     }
 }
 
@@ -148,6 +249,16 @@ mod tests {
         assert!(rt; frame.is_ack_eliciting());
         assert!(rt; Frame::Ping.is_ack_eliciting());
         assert!(rt; !Frame::Padding.is_ack_eliciting());
+        assert_eq!(rt;
+            Frame::Datagram(Datagram { data: &[] }).ty(),
+            FrameType::DATAGRAM
+        );
+        let close = Frame::ApplicationClose(ApplicationCloseFrame {
+            error_code: VarInt::from_u32(0),
+            reason: &[],
+        });
+        assert_eq!(rt; close.ty(), FrameType::APPLICATION_CLOSE);
+        assert!(rt; !close.is_ack_eliciting());
         Ok(())
     }
 

@@ -8,6 +8,7 @@ mod range_set;
 mod reason;
 mod shared;
 mod stream_id;
+mod token;
 mod transport_error;
 mod varint;
 
@@ -17,5 +18,6 @@ pub use range_set::{ArrayRangeSet, RangeSet};
 pub use reason::Reason;
 pub use shared::{ConnectionId, EcnCodepoint, MAX_CID_SIZE};
 pub use stream_id::{Dir, Side, StreamId};
+pub use token::{RESET_TOKEN_SIZE, ResetToken};
 pub use transport_error::{Code, TransportError};
 pub use varint::{VarInt, VarIntBoundsExceeded};

@@ -19,6 +19,8 @@ pub enum Reason {
     NoFrame,
     /// Reserved bits of the header are set.
     ReservedBits,
+    /// A client sent a frame that only servers send.
+    OfServers,
     /// Bytes came past a limit.
     TooManyBytes,
     /// A stream came past the limit on streams.
@@ -44,6 +46,7 @@ impl Reason {
             Reason::IllegalValue => "illegal value",
             Reason::NoFrame => "no frame",
             Reason::ReservedBits => "reserved bits set",
+            Reason::OfServers => "a frame that only servers send",
             Reason::TooManyBytes => "past a limit on bytes",
             Reason::TooManyStreams => "past the limit on streams",
             Reason::NotSendable => "no stream to send on",

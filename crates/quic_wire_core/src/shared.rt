@@ -174,17 +174,23 @@ impl fmt::Display for ConnectionId {
     ghost output = { λ id. Some (hex_text id) };
 
     fn fmt<W: fmt::Write>(&self, f: &mut fmt::Formatter<W>) -> fmt::Result {
-        let bytes = self.as_slice();
-        for byte in bytes {
-            write_hex(f, *byte)?;
-        }
-        Ok(())
+        write_hex(f, self.as_slice())
     }
+}
+
+/// Writes the two hexadecimal digits of each byte.
+pub(crate) fn write_hex<W: fmt::Write>(f: &mut fmt::Formatter<W>, bytes: &[u8]) -> fmt::Result
+    ensures { DisplaysOnOk W.write_str_gives f.old result (Some (hex_text bytes.now)) f.new }
+{
+    for byte in bytes {
+        write_hex_byte(f, *byte)?;
+    }
+    Ok(())
 }
 
 /// Writes the two hexadecimal digits of a byte.
 #[tactic(auto, using(std::proofs::lemmas::Fmt::hex_byte))]
-fn write_hex<W: fmt::Write>(f: &mut fmt::Formatter<W>, byte: u8) -> fmt::Result
+fn write_hex_byte<W: fmt::Write>(f: &mut fmt::Formatter<W>, byte: u8) -> fmt::Result
     ensures { DisplaysOnOk W.write_str_gives f.old result (Some (hex_byte_text byte)) f.new }
 {
     write!(f, "{byte:02x}")

@@ -2,8 +2,9 @@
 ghost use Rattle.std.specs.Prelude.{◌≡◌, ◌<◌, ◌^◌};
 ghost use Rattle.quic_wire.specs.AckCounts.{one_more};
 
+use crate::frame::writing::write_numbers;
 use bytes::BufMut;
-use quic_wire_core::{ArrayRangeSet, EcnCodepoint};
+use quic_wire_core::{ArrayRangeSet, EcnCodepoint, FrameType};
 use std::alloc::AllocError;
 use std::marker::Model;
 use std::ops::{AddAssign, RangeInclusive};
@@ -14,7 +15,7 @@ pub(crate) mod writing;
 
 use reading::range_of;
 use size::size_of_set;
-use writing::{write_numbers, write_set};
+use writing::write_set;
 
 /// The greatest count that has a form as a variable-length integer (section 16).
 const MAX_COUNT: u64 = (1 << 62) - 1;
@@ -36,7 +37,7 @@ impl EcnCounts {
     ghost use Rattle.std.specs.Prelude.{◌++◌, Some, OnOk, OnErr};
     ghost use Rattle.quic_wire.specs.AckGrammar.{ecn_numbers};
     ghost use Rattle.quic_wire.specs.AckView.{counts_view};
-    ghost use Rattle.quic_wire.specs.NumbersWritten.{numbers_size};
+    ghost use Rattle.quic_wire.specs.NumbersWritten.{widths};
     ghost use Rattle.quic_wire.specs.Writing.{written, BeginWith, SpendsSpare};
 
     /// No packet with any mark.
@@ -52,7 +53,7 @@ impl EcnCounts {
     pub fn encode<B: BufMut>(&self, buf: &mut B) -> Result<(), AllocError>
         ensures ok { OnOk result (B.written buf.new ≡ B.written buf.old ++ written (ecn_numbers (Some (counts_view self.now)))) }
         ensures err { OnErr result (BeginWith (B.written buf.old) (B.written buf.new)) }
-        ensures spare { SpendsSpare result (B.spare buf.old) (B.spare buf.new) (numbers_size (ecn_numbers (Some (counts_view self.now)))) }
+        ensures spare { SpendsSpare result (B.spare buf.old) (B.spare buf.new) (widths (ecn_numbers (Some (counts_view self.now)))) }
     {
         write_numbers(buf, &[self.ect0, self.ect1, self.ce])
     }
@@ -111,9 +112,10 @@ impl<'a> Model for Ack<'a> {
 
 impl<'a> Ack<'a> {
     ghost use Rattle.std.specs.Prelude.{ℕ, List, ◌+◌, ◌-◌, ◌*◌, ◌≤◌, ◌++◌, ◌∷◌, [], length, OnOk, OnErr};
-    ghost use Rattle.quic_wire.specs.AckGrammar.{AckFits, range_numbers};
-    ghost use Rattle.quic_wire.specs.NumbersWritten.{numbers_size};
+    ghost use Rattle.quic_wire.specs.AckGrammar.{AckFits, has_ecn, range_numbers};
+    ghost use Rattle.quic_wire.specs.NumbersWritten.{widths};
     ghost use Rattle.quic_wire.specs.AckSet.{ack_of_set, IsSmall};
+    ghost use Rattle.quic_wire.specs.FrameTypes.{is_ack, type_of};
     ghost use Rattle.quic_wire.specs.AckView.{ecn_view, shown_ecn};
     ghost use Rattle.quic_wire.specs.AckWriting.{ack_spelling, ack_size};
     ghost use Rattle.quic_wire.specs.Writing.{BeginWith, SpendsSpare};
@@ -162,7 +164,7 @@ impl<'a> Ack<'a> {
     /// How many ranges stand below the first.
     pub(crate) fn count(&self) -> u64
         ensures value { length self.now.ranges ≡ result + 1 }
-        ensures room { (r : ℕ × ℕ) (rs : List (ℕ × ℕ)) → self.now.ranges ≡ r ∷ rs → numbers_size (range_numbers r.0 rs) < 2 ^ 63 }
+        ensures room { (r : ℕ × ℕ) (rs : List (ℕ × ℕ)) → self.now.ranges ≡ r ∷ rs → widths (range_numbers r.0 rs) < 2 ^ 63 }
     {
         self.count
     }
@@ -180,6 +182,16 @@ impl<'a> Ack<'a> {
         ensures { ecn_view result ≡ self.now.ecn }
     {
         self.ecn
+    }
+
+    /// The type: one with counts, or one without.
+    pub(crate) fn ty(&self) -> FrameType
+        ensures { result ≡ type_of (is_ack (has_ecn self.now.ecn)) }
+    {
+        match self.ecn {
+            None => FrameType::ACK,
+            Some(_) => FrameType::ACK_ECN,
+        }
     }
 
     /// The ranges, from the highest down (quinn-proto's `Ack::iter`).

@@ -135,7 +135,7 @@ mod tests {
 
     #[test]
     fn names_the_first_field_that_fails(rt: HostRuntime) -> Result<(), Fail> {
-        let cases: [(&[u8], u32, FrameError); 6] = [
+        let cases: [(&[u8], u32, FrameError); 5] = [
             (
                 &[0x0a, 0x00, 0x05, 0x68, 0x69],
                 0x0a,
@@ -144,8 +144,7 @@ mod tests {
             (&[0x08], 0x08, FrameError::UnexpectedEnd),
             (&[0x0c, 0x00, 0x40], 0x0c, FrameError::UnexpectedEnd),
             (&[0x2f, 0x00], 0x2f, FrameError::InvalidId),
-            (&[0x06, 0x00, 0x00], 0x06, FrameError::InvalidId),
-            (&[0x40, 0x10], 0x10, FrameError::InvalidId),
+            (&[0x40, 0x20], 0x20, FrameError::InvalidId),
         ];
         for (payload, ty, reason) in cases {
             let mut frames = Iter::new(payload);

@@ -1,19 +1,26 @@
 //! Frames to bytes: each number in its shortest form (RFC 9000, section 16).
-ghost use Rattle.std.specs.Prelude.{◌≡◌, ◌+◌, ◌<◌, ◌≤◌, ◌^◌, ◌++◌, length, OnOk, OnErr, vec_len, vec_capacity, IfSome, true};
+ghost use Rattle.std.specs.Prelude.{◌≡◌, ◌+◌, ◌<◌, ◌≤◌, ◌^◌, ◌++◌, [], ◌∷◌, length, OnOk, OnErr, vec_len, vec_capacity, IfSome, true};
 ghost use Rattle.bytes.specs.Filled.{UsesSpare};
 ghost use Rattle.quic_wire_core.specs.Varint.{shortest};
-ghost use Rattle.quic_wire.specs.FrameView.{stream_view, frame_view};
+ghost use Rattle.quic_wire.specs.FrameView.{is_one_way, reset_stream_view, stop_sending_view, crypto_view, stream_view, new_connection_id_view, connection_close_view, application_close_view, ack_frequency_view, frame_view};
+ghost use Rattle.quic_wire.specs.FrameTypes.{bit_if};
+ghost use Rattle.quic_wire.specs.Value.{reset_stream, stop_sending, crypto, new_connection_id, connection_close, application_close, ack_frequency};
 ghost use Rattle.quic_wire.specs.Grammar.{offset_numbers, number_if};
-ghost use Rattle.quic_wire.specs.Writing.{written, has_offset, stream_header, stream_spelling, spelling, StreamFits, Fits, width_of, offset_width, length_width, some_if, header_of, with_more, stream_header_size, stream_size, frame_size, BeginWith, SpendsSpare};
+ghost use Rattle.quic_wire.specs.Writing.{written, widths, AreNumbers, has_offset, stream_header, stream_spelling, spelling, StreamFits, Fits, width_of, offset_width, length_width, some_if, header_of, with_more, stream_header_size, stream_size, frame_size, BeginWith, SpendsSpare};
 
-use crate::frame::{Frame, Stream};
+use crate::frame::ack::size::size_of_ack;
+use crate::frame::ack::writing::write_ack;
+use crate::frame::{
+    AckFrequency, ApplicationCloseFrame, ConnectionCloseFrame, Crypto, Frame, NewConnectionId,
+    ResetStream, StopSending, Stream,
+};
 use crate::reserved::append;
 use bytes::BufMut;
-use quic_wire_core::{Codec, StreamId, VarInt};
+use quic_wire_core::{Codec, Dir, RESET_TOKEN_SIZE, StreamId, VarInt};
 use std::alloc::AllocError;
 
 /// Writes a number.
-pub(crate) fn write_number<B: BufMut>(buf: &mut B, n: u64) -> Result<(), AllocError>
+fn write_number<B: BufMut>(buf: &mut B, n: u64) -> Result<(), AllocError>
     requires { n < 2 ^ 62 }
     ensures ok { OnOk result (B.written buf.new ≡ B.written buf.old ++ shortest n) }
     ensures err { OnErr result (B.written buf.new ≡ B.written buf.old) }
@@ -83,7 +90,174 @@ fn write_stream<B: BufMut>(buf: &mut B, stream: &Stream<'_>) -> Result<(), Alloc
     buf.put_slice(stream.data)
 }
 
-/// Writes a frame, each number in its shortest form, a STREAM frame with its length. An error comes for want of memory
+/// Writes numbers, one after another.
+pub(crate) fn write_numbers<B: BufMut>(buf: &mut B, numbers: &[u64]) -> Result<(), AllocError>
+    requires { AreNumbers numbers.now }
+    ensures ok { OnOk result (B.written buf.new ≡ B.written buf.old ++ written numbers.now) }
+    ensures err { OnErr result (BeginWith (B.written buf.old) (B.written buf.new)) }
+    ensures spare { SpendsSpare result (B.spare buf.old) (B.spare buf.new) (widths numbers.now) }
+{
+    for n in numbers {
+        write_number(buf, *n)?;
+    }
+    Ok(())
+}
+
+/// Writes numbers, and a text behind them.
+#[tactic(auto, using(crate::proofs::FrameWritten::stands_0, crate::proofs::FrameWritten::stands_1))]
+fn write_parts<B: BufMut>(buf: &mut B, numbers: &[u64], text: &[u8]) -> Result<(), AllocError>
+    requires { AreNumbers numbers.now }
+    ensures ok { OnOk result (B.written buf.new ≡ B.written buf.old ++ (written numbers.now ++ text.now)) }
+    ensures err { OnErr result (BeginWith (B.written buf.old) (B.written buf.new)) }
+    ensures spare { SpendsSpare result (B.spare buf.old) (B.spare buf.new) (widths numbers.now + length text.now) }
+{
+    write_numbers(buf, numbers)?;
+    buf.put_slice(text)
+}
+
+/// Writes a type and a number.
+fn write_one<B: BufMut>(buf: &mut B, ty: u64, n: u64) -> Result<(), AllocError>
+    requires { AreNumbers (ty ∷ n ∷ []) }
+    ensures ok { OnOk result (B.written buf.new ≡ B.written buf.old ++ (written (ty ∷ n ∷ []) ++ [])) }
+    ensures err { OnErr result (BeginWith (B.written buf.old) (B.written buf.new)) }
+    ensures spare { SpendsSpare result (B.spare buf.old) (B.spare buf.new) (widths (ty ∷ n ∷ []) + 0) }
+{
+    write_parts(buf, &[ty, n], &[])
+}
+
+/// Writes a type, one greater for one-way streams, and how many of them there are.
+fn write_count<B: BufMut>(buf: &mut B, ty: u64, dir: Dir, count: u64) -> Result<(), AllocError>
+    requires ty { ty < 64 }
+    requires count { count < 2 ^ 62 }
+    ensures ok { OnOk result (B.written buf.new ≡ B.written buf.old ++ (written ((ty + bit_if (is_one_way dir) 1) ∷ count ∷ []) ++ [])) }
+    ensures err { OnErr result (BeginWith (B.written buf.old) (B.written buf.new)) }
+    ensures spare { SpendsSpare result (B.spare buf.old) (B.spare buf.new) (widths ((ty + bit_if (is_one_way dir) 1) ∷ count ∷ []) + 0) }
+{
+    match dir {
+        Dir::Bi => write_one(buf, ty, count),
+        Dir::Uni => write_one(buf, ty + 1, count),
+    }
+}
+
+/// Writes a type, a stream's id and a number.
+fn write_limit<B: BufMut>(buf: &mut B, ty: u64, id: StreamId, limit: u64) -> Result<(), AllocError>
+    requires { AreNumbers (ty ∷ id ∷ limit ∷ []) }
+    ensures ok { OnOk result (B.written buf.new ≡ B.written buf.old ++ (written (ty ∷ id ∷ limit ∷ []) ++ [])) }
+    ensures err { OnErr result (BeginWith (B.written buf.old) (B.written buf.new)) }
+    ensures spare { SpendsSpare result (B.spare buf.old) (B.spare buf.new) (widths (ty ∷ id ∷ limit ∷ []) + 0) }
+{
+    write_parts(buf, &[ty, id.into(), limit], &[])
+}
+
+/// Writes a type and a text with its length.
+fn write_sized<B: BufMut>(buf: &mut B, ty: u64, text: &[u8]) -> Result<(), AllocError>
+    requires { AreNumbers (ty ∷ length text.now ∷ []) }
+    ensures ok { OnOk result (B.written buf.new ≡ B.written buf.old ++ (written (ty ∷ length text.now ∷ []) ++ text.now)) }
+    ensures err { OnErr result (BeginWith (B.written buf.old) (B.written buf.new)) }
+    ensures spare { SpendsSpare result (B.spare buf.old) (B.spare buf.new) (widths (ty ∷ length text.now ∷ []) + length text.now) }
+{
+    write_parts(buf, &[ty, text.len() as u64], text)
+}
+
+/// Writes a RESET_STREAM frame.
+fn write_reset_stream<B: BufMut>(buf: &mut B, frame: &ResetStream) -> Result<(), AllocError>
+    requires { Fits (reset_stream (reset_stream_view frame.now)) }
+    ensures ok { OnOk result (B.written buf.new ≡ B.written buf.old ++ spelling (reset_stream (reset_stream_view frame.now))) }
+    ensures err { OnErr result (BeginWith (B.written buf.old) (B.written buf.new)) }
+    ensures spare { SpendsSpare result (B.spare buf.old) (B.spare buf.new) (frame_size (reset_stream (reset_stream_view frame.now))) }
+{
+    let code = frame.error_code.into_inner();
+    let size = frame.final_offset.into_inner();
+    write_parts(buf, &[0x04, frame.id.into(), code, size], &[])
+}
+
+/// Writes a STOP_SENDING frame.
+fn write_stop_sending<B: BufMut>(buf: &mut B, frame: &StopSending) -> Result<(), AllocError>
+    requires { Fits (stop_sending (stop_sending_view frame.now)) }
+    ensures ok { OnOk result (B.written buf.new ≡ B.written buf.old ++ spelling (stop_sending (stop_sending_view frame.now))) }
+    ensures err { OnErr result (BeginWith (B.written buf.old) (B.written buf.new)) }
+    ensures spare { SpendsSpare result (B.spare buf.old) (B.spare buf.new) (frame_size (stop_sending (stop_sending_view frame.now))) }
+{
+    write_limit(buf, 0x05, frame.id, frame.error_code.into_inner())
+}
+
+/// Writes a CRYPTO frame.
+fn write_crypto<B: BufMut>(buf: &mut B, frame: &Crypto<'_>) -> Result<(), AllocError>
+    requires { Fits (crypto (crypto_view frame.now)) }
+    ensures ok { OnOk result (B.written buf.new ≡ B.written buf.old ++ spelling (crypto (crypto_view frame.now))) }
+    ensures err { OnErr result (BeginWith (B.written buf.old) (B.written buf.new)) }
+    ensures spare { SpendsSpare result (B.spare buf.old) (B.spare buf.new) (frame_size (crypto (crypto_view frame.now))) }
+{
+    let len = frame.data.len() as u64;
+    write_parts(buf, &[0x06, frame.offset, len], frame.data)
+}
+
+/// Writes a NEW_CONNECTION_ID frame.
+#[tactic(auto, using(crate::proofs::FrameWritten::stands_0, crate::proofs::FrameWritten::stands_1, crate::proofs::FrameWritten::stands_2, crate::proofs::FrameWritten::stands_3, crate::proofs::FrameWritten::id_written, crate::proofs::FrameWritten::id_length))]
+fn write_new_connection_id<B: BufMut>(
+    buf: &mut B,
+    frame: &NewConnectionId,
+) -> Result<(), AllocError>
+    requires { Fits (new_connection_id (new_connection_id_view frame.now)) }
+    ensures ok { OnOk result (B.written buf.new ≡ B.written buf.old ++ spelling (new_connection_id (new_connection_id_view frame.now))) }
+    ensures err { OnErr result (BeginWith (B.written buf.old) (B.written buf.new)) }
+    ensures spare { SpendsSpare result (B.spare buf.old) (B.spare buf.new) (frame_size (new_connection_id (new_connection_id_view frame.now))) }
+{
+    write_numbers(buf, &[0x18, frame.sequence, frame.retire_prior_to])?;
+    buf.put_u8(frame.id.len() as u8)?;
+    buf.put_slice(frame.id.as_slice())?;
+    buf.put_slice(frame.reset_token.as_slice())
+}
+
+/// Writes a CONNECTION_CLOSE frame of type 1c.
+fn write_connection_close<B: BufMut>(
+    buf: &mut B,
+    frame: &ConnectionCloseFrame<'_>,
+) -> Result<(), AllocError>
+    requires { Fits (connection_close (connection_close_view frame.now)) }
+    ensures ok { OnOk result (B.written buf.new ≡ B.written buf.old ++ spelling (connection_close (connection_close_view frame.now))) }
+    ensures err { OnErr result (BeginWith (B.written buf.old) (B.written buf.new)) }
+    ensures spare { SpendsSpare result (B.spare buf.old) (B.spare buf.new) (frame_size (connection_close (connection_close_view frame.now))) }
+{
+    let code = frame.error_code.into();
+    let len = frame.reason.len() as u64;
+    write_parts(
+        buf,
+        &[0x1c, code, frame.frame_type.into(), len],
+        frame.reason,
+    )
+}
+
+/// Writes a CONNECTION_CLOSE frame of type 1d.
+fn write_application_close<B: BufMut>(
+    buf: &mut B,
+    frame: &ApplicationCloseFrame<'_>,
+) -> Result<(), AllocError>
+    requires { Fits (application_close (application_close_view frame.now)) }
+    ensures ok { OnOk result (B.written buf.new ≡ B.written buf.old ++ spelling (application_close (application_close_view frame.now))) }
+    ensures err { OnErr result (BeginWith (B.written buf.old) (B.written buf.new)) }
+    ensures spare { SpendsSpare result (B.spare buf.old) (B.spare buf.new) (frame_size (application_close (application_close_view frame.now))) }
+{
+    let code = frame.error_code.into_inner();
+    let len = frame.reason.len() as u64;
+    write_parts(buf, &[0x1d, code, len], frame.reason)
+}
+
+/// Writes an ACK_FREQUENCY frame.
+fn write_ack_frequency<B: BufMut>(buf: &mut B, frame: &AckFrequency) -> Result<(), AllocError>
+    requires { Fits (ack_frequency (ack_frequency_view frame.now)) }
+    ensures ok { OnOk result (B.written buf.new ≡ B.written buf.old ++ spelling (ack_frequency (ack_frequency_view frame.now))) }
+    ensures err { OnErr result (BeginWith (B.written buf.old) (B.written buf.new)) }
+    ensures spare { SpendsSpare result (B.spare buf.old) (B.spare buf.new) (frame_size (ack_frequency (ack_frequency_view frame.now))) }
+{
+    let sequence = frame.sequence.into_inner();
+    let threshold = frame.ack_eliciting_threshold.into_inner();
+    let delay = frame.request_max_ack_delay.into_inner();
+    let reordering = frame.reordering_threshold.into_inner();
+    write_parts(buf, &[0xaf, sequence, threshold, delay, reordering], &[])
+}
+
+/// Writes a frame, each number in its shortest form, STREAM and DATAGRAM frames with their length. An error comes for want of memory
 /// or of room, never where the room is spare; a part of the frame may then be written behind what was there.
 #[tactic(auto, using(crate::proofs::FrameWritten::stands_0))]
 pub fn write_frame<B: BufMut>(frame: &Frame<'_>, buf: &mut B) -> Result<(), AllocError>
@@ -95,7 +269,28 @@ pub fn write_frame<B: BufMut>(frame: &Frame<'_>, buf: &mut B) -> Result<(), Allo
     match frame {
         Frame::Padding => write_number(buf, 0x00),
         Frame::Ping => write_number(buf, 0x01),
+        Frame::Ack(ack) => write_ack(buf, ack),
+        Frame::ResetStream(frame) => write_reset_stream(buf, frame),
+        Frame::StopSending(frame) => write_stop_sending(buf, frame),
+        Frame::Crypto(frame) => write_crypto(buf, frame),
+        Frame::NewToken(frame) => write_sized(buf, 0x07, frame.token),
         Frame::Stream(stream) => write_stream(buf, stream),
+        Frame::MaxData(limit) => write_one(buf, 0x10, limit.into_inner()),
+        Frame::MaxStreamData { id, offset } => write_limit(buf, 0x11, *id, *offset),
+        Frame::MaxStreams { dir, count } => write_count(buf, 0x12, *dir, *count),
+        Frame::DataBlocked { offset } => write_one(buf, 0x14, *offset),
+        Frame::StreamDataBlocked { id, offset } => write_limit(buf, 0x15, *id, *offset),
+        Frame::StreamsBlocked { dir, limit } => write_count(buf, 0x16, *dir, *limit),
+        Frame::NewConnectionId(frame) => write_new_connection_id(buf, frame),
+        Frame::RetireConnectionId { sequence } => write_one(buf, 0x19, *sequence),
+        Frame::PathChallenge(token) => write_parts(buf, &[0x1a], &token.to_be_bytes()),
+        Frame::PathResponse(token) => write_parts(buf, &[0x1b], &token.to_be_bytes()),
+        Frame::ConnectionClose(frame) => write_connection_close(buf, frame),
+        Frame::ApplicationClose(frame) => write_application_close(buf, frame),
+        Frame::HandshakeDone => write_parts(buf, &[0x1e], &[]),
+        Frame::ImmediateAck => write_parts(buf, &[0x1f], &[]),
+        Frame::Datagram(frame) => write_sized(buf, 0x31, frame.data),
+        Frame::AckFrequency(frame) => write_ack_frequency(buf, frame),
     }
 }
 
@@ -144,17 +339,97 @@ pub fn size_of_stream_header(id: StreamId, offset: u64, length: Option<u64>) -> 
     1 + size_of_number(id.into()) + size_of_offset(offset) + size_of_length(length)
 }
 
+/// How many bytes two numbers take.
+fn size_of_pair(a: u64, b: u64) -> usize
+    requires first { a < 2 ^ 62 }
+    requires second { b < 2 ^ 62 }
+    ensures size { result ≡ width_of a + width_of b }
+    ensures bound { result ≤ 16 }
+{
+    size_of_number(a) + size_of_number(b)
+}
+
+/// How many bytes a text takes with its length.
+fn size_of_text(text: &[u8]) -> usize
+    requires { length text.now < 2 ^ 62 }
+    ensures size { result ≡ width_of (length text.now) + length text.now }
+    ensures bound { result ≤ 8 + length text.now }
+{
+    size_of_number(text.len() as u64) + text.len()
+}
+
+/// How many bytes a RESET_STREAM frame takes.
+fn size_of_reset_stream(frame: &ResetStream) -> usize
+    requires { Fits (reset_stream (reset_stream_view frame.now)) }
+    ensures { result ≡ frame_size (reset_stream (reset_stream_view frame.now)) }
+{
+    let code = frame.error_code.into_inner();
+    let size = frame.final_offset.into_inner();
+    1 + size_of_number(frame.id.into()) + size_of_pair(code, size)
+}
+
+/// How many bytes a NEW_CONNECTION_ID frame takes.
+#[tactic(auto, using(crate::proofs::FrameWritten::id_length))]
+fn size_of_new_connection_id(frame: &NewConnectionId) -> usize
+    requires { Fits (new_connection_id (new_connection_id_view frame.now)) }
+    ensures { result ≡ frame_size (new_connection_id (new_connection_id_view frame.now)) }
+{
+    let numbers = size_of_pair(frame.sequence, frame.retire_prior_to);
+    1 + numbers + 1 + frame.id.len() + RESET_TOKEN_SIZE
+}
+
+/// How many bytes a CONNECTION_CLOSE frame of type 1c takes.
+fn size_of_connection_close(frame: &ConnectionCloseFrame<'_>) -> usize
+    requires { Fits (connection_close (connection_close_view frame.now)) }
+    ensures { result ≡ frame_size (connection_close (connection_close_view frame.now)) }
+{
+    let numbers = size_of_pair(frame.error_code.into(), frame.frame_type.into());
+    1 + numbers + size_of_text(frame.reason)
+}
+
+/// How many bytes an ACK_FREQUENCY frame takes.
+fn size_of_ack_frequency(frame: &AckFrequency) -> usize
+    requires { Fits (ack_frequency (ack_frequency_view frame.now)) }
+    ensures { result ≡ frame_size (ack_frequency (ack_frequency_view frame.now)) }
+{
+    let threshold = frame.ack_eliciting_threshold.into_inner();
+    let delay = frame.request_max_ack_delay.into_inner();
+    let reordering = frame.reordering_threshold.into_inner();
+    2 + size_of_pair(frame.sequence.into_inner(), threshold) + size_of_pair(delay, reordering)
+}
+
 /// How many bytes a frame takes.
 pub fn size_of_frame(frame: &Frame<'_>) -> usize
     requires { Fits (frame_view frame.now) }
     ensures { result ≡ frame_size (frame_view frame.now) }
 {
     match frame {
-        Frame::Padding | Frame::Ping => 1,
+        Frame::Padding | Frame::Ping | Frame::HandshakeDone | Frame::ImmediateAck => 1,
+        Frame::Ack(ack) => size_of_ack(ack),
+        Frame::ResetStream(frame) => size_of_reset_stream(frame),
+        Frame::StopSending(frame) => 1
+            + size_of_pair(frame.id.into(), frame.error_code.into_inner()),
+        Frame::Crypto(frame) => 1 + size_of_number(frame.offset) + size_of_text(frame.data),
+        Frame::NewToken(frame) => 1 + size_of_text(frame.token),
         Frame::Stream(stream) => {
             let length = stream.data.len();
             size_of_stream_header(stream.id, stream.offset, Some(length as u64)) + length
         }
+        Frame::MaxData(limit) => 1 + size_of_number(limit.into_inner()),
+        Frame::MaxStreamData { id, offset } => 1 + size_of_pair(u64::from(*id), *offset),
+        Frame::StreamDataBlocked { id, offset } => 1 + size_of_pair(u64::from(*id), *offset),
+        Frame::MaxStreams { count, .. } => 1 + size_of_number(*count),
+        Frame::StreamsBlocked { limit, .. } => 1 + size_of_number(*limit),
+        Frame::DataBlocked { offset } => 1 + size_of_number(*offset),
+        Frame::NewConnectionId(frame) => size_of_new_connection_id(frame),
+        Frame::RetireConnectionId { sequence } => 1 + size_of_number(*sequence),
+        Frame::PathChallenge(_) | Frame::PathResponse(_) => 1 + 8,
+        Frame::ConnectionClose(frame) => size_of_connection_close(frame),
+        Frame::ApplicationClose(frame) => {
+            1 + size_of_number(frame.error_code.into_inner()) + size_of_text(frame.reason)
+        }
+        Frame::Datagram(frame) => 1 + size_of_text(frame.data),
+        Frame::AckFrequency(frame) => size_of_ack_frequency(frame),
     }
 }
 

@@ -5,7 +5,7 @@ ghost use Rattle.quic_wire.specs.AckGrammar.{Below, AckFits, range_numbers, ecn_
 ghost use Rattle.quic_wire.specs.AckSet.{ranges_of_set, ack_of_set, IsSmall};
 ghost use Rattle.quic_wire.specs.AckView.{ecn_view};
 ghost use Rattle.quic_wire.specs.AckWriting.{ack_size};
-ghost use Rattle.quic_wire.specs.NumbersWritten.{AreNumbers, numbers_size};
+ghost use Rattle.quic_wire.specs.NumbersWritten.{AreNumbers, widths};
 
 use crate::frame::ack::{Ack, AckIter, EcnCounts};
 use crate::frame::writing::size_of_number;
@@ -15,7 +15,7 @@ use std::ops::Range;
 fn size_of_numbers(numbers: &[u64]) -> usize
     requires form { AreNumbers numbers.now }
     requires few { length numbers.now ≤ 5 }
-    ensures size { result ≡ numbers_size numbers.now }
+    ensures size { result ≡ widths numbers.now }
     ensures bound { result ≤ 8 * length numbers.now }
 {
     let mut size = 0;
@@ -27,7 +27,7 @@ fn size_of_numbers(numbers: &[u64]) -> usize
 
 /// How many bytes the counts of congestion marks take, where there are some.
 fn size_of_ecn(ecn: Option<EcnCounts>) -> usize
-    ensures size { result ≡ numbers_size (ecn_numbers (ecn_view ecn)) }
+    ensures size { result ≡ widths (ecn_numbers (ecn_view ecn)) }
     ensures bound { result ≤ 24 }
 {
     match ecn {
@@ -41,7 +41,7 @@ fn size_of_runs(below: u64, runs: &[Range<u64>]) -> usize
     requires runs { AreRuns runs.now }
     requires down { Below below (ranges_of_set runs.now) }
     requires small { below < 2 ^ 62 }
-    ensures size { result ≡ numbers_size (range_numbers below (ranges_of_set runs.now)) }
+    ensures size { result ≡ widths (range_numbers below (ranges_of_set runs.now)) }
     ensures bound { result ≤ 16 * length runs.now }
 {
     let mut size = 0;
@@ -77,8 +77,8 @@ pub(crate) fn size_of_set(delay: u64, runs: &[Range<u64>], ecn: Option<EcnCounts
 fn size_of_ranges(below: u64, ranges: AckIter<'_>) -> usize
     requires down { Below below ranges }
     requires small { below < 2 ^ 62 }
-    requires room { numbers_size (range_numbers below ranges) < 2 ^ 63 }
-    ensures { result ≡ numbers_size (range_numbers below ranges.entry) }
+    requires room { widths (range_numbers below ranges) < 2 ^ 63 }
+    ensures { result ≡ widths (range_numbers below ranges.entry) }
 {
     let mut size = 0;
     let mut low = below;

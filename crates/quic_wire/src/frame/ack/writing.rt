@@ -5,34 +5,21 @@ ghost use Rattle.quic_wire.specs.AckGrammar.{Below, AckFits, has_ecn, range_numb
 ghost use Rattle.quic_wire.specs.AckSet.{ranges_of_set, ack_of_set, IsSmall};
 ghost use Rattle.quic_wire.specs.AckView.{ecn_view};
 ghost use Rattle.quic_wire.specs.FrameTypes.{is_ack, type_of};
-ghost use Rattle.quic_wire.specs.NumbersWritten.{AreNumbers, numbers_size};
+ghost use Rattle.quic_wire.specs.NumbersWritten.{widths};
 ghost use Rattle.quic_wire.specs.AckWriting.{ack_spelling, ack_size};
 ghost use Rattle.quic_wire.specs.Writing.{written, BeginWith, SpendsSpare};
 
 use crate::frame::ack::{Ack, AckIter, EcnCounts};
-use crate::frame::writing::write_number;
+use crate::frame::writing::write_numbers;
 use bytes::BufMut;
 use std::alloc::AllocError;
 use std::ops::Range;
-
-/// Writes numbers, one after another.
-pub(crate) fn write_numbers<B: BufMut>(buf: &mut B, numbers: &[u64]) -> Result<(), AllocError>
-    requires { AreNumbers numbers.now }
-    ensures ok { OnOk result (B.written buf.new ≡ B.written buf.old ++ written numbers.now) }
-    ensures err { OnErr result (BeginWith (B.written buf.old) (B.written buf.new)) }
-    ensures spare { SpendsSpare result (B.spare buf.old) (B.spare buf.new) (numbers_size numbers.now) }
-{
-    for number in numbers {
-        write_number(buf, *number)?;
-    }
-    Ok(())
-}
 
 /// Writes the counts of congestion marks, where there are some.
 fn write_ecn<B: BufMut>(buf: &mut B, ecn: Option<EcnCounts>) -> Result<(), AllocError>
     ensures ok { OnOk result (B.written buf.new ≡ B.written buf.old ++ written (ecn_numbers (ecn_view ecn))) }
     ensures err { OnErr result (BeginWith (B.written buf.old) (B.written buf.new)) }
-    ensures spare { SpendsSpare result (B.spare buf.old) (B.spare buf.new) (numbers_size (ecn_numbers (ecn_view ecn))) }
+    ensures spare { SpendsSpare result (B.spare buf.old) (B.spare buf.new) (widths (ecn_numbers (ecn_view ecn))) }
 {
     match ecn {
         Some(counts) => counts.encode(buf),
@@ -47,7 +34,7 @@ fn write_runs<B: BufMut>(buf: &mut B, below: u64, runs: &[Range<u64>]) -> Result
     requires small { below < 2 ^ 62 }
     ensures ok { OnOk result (B.written buf.new ≡ B.written buf.old ++ written (range_numbers below (ranges_of_set runs.now))) }
     ensures err { OnErr result (BeginWith (B.written buf.old) (B.written buf.new)) }
-    ensures spare { SpendsSpare result (B.spare buf.old) (B.spare buf.new) (numbers_size (range_numbers below (ranges_of_set runs.now))) }
+    ensures spare { SpendsSpare result (B.spare buf.old) (B.spare buf.new) (widths (range_numbers below (ranges_of_set runs.now))) }
 {
     let mut low = below;
     let mut left = runs;
@@ -66,7 +53,7 @@ fn write_ranges<B: BufMut>(buf: &mut B, below: u64, ranges: AckIter<'_>) -> Resu
     requires small { below < 2 ^ 62 }
     ensures ok { OnOk result (B.written buf.new ≡ B.written buf.old ++ written (range_numbers below ranges.entry)) }
     ensures err { OnErr result (BeginWith (B.written buf.old) (B.written buf.new)) }
-    ensures spare { SpendsSpare result (B.spare buf.old) (B.spare buf.new) (numbers_size (range_numbers below ranges.entry)) }
+    ensures spare { SpendsSpare result (B.spare buf.old) (B.spare buf.new) (widths (range_numbers below ranges.entry)) }
 {
     let mut low = below;
     for range in ranges {

@@ -2,7 +2,7 @@ use Rattle.std.proofs.Common.{◌≡◌, ◌<◌, ◌≤◌, ◌^◌, ◌+◌, �
 use Rattle.quic_wire_core.specs.Runs.{AreRuns}
 use Rattle.quic_wire.specs.AckGrammar.{Below, range_numbers}
 use Rattle.quic_wire.specs.AckSet.{ranges_of_set}
-use Rattle.quic_wire.specs.NumbersWritten.{numbers_size}
+use Rattle.quic_wire.specs.NumbersWritten.{widths}
 use Rattle.quic_wire.proofs.frame.ack.size.size_of_runs.Given as goal
 
 abbrev pub invariant-loop-run : goal.invariant-loop-run
@@ -10,7 +10,7 @@ invariant-loop-run l = record {
   runs : AreRuns l.left;
   down : Below l.low (ranges_of_set l.left);
   small : l.low < 2 ^ 62;
-  so_far : l.size + numbers_size (range_numbers l.low (ranges_of_set l.left)) ≡ numbers_size (range_numbers l.below (ranges_of_set l.runs));
+  so_far : l.size + widths (range_numbers l.low (ranges_of_set l.left)) ≡ widths (range_numbers l.below (ranges_of_set l.runs));
   most : l.size + 16 * length l.left ≤ 16 * length l.runs;
 }
 

@@ -1,6 +1,6 @@
 use Rattle.std.proofs.Common.{◌≡◌, ◌<◌, ◌≤◌, ◌^◌, ◌+◌, ◌++◌, length}
 use Rattle.quic_wire.specs.AckGrammar.{Below, range_numbers}
-use Rattle.quic_wire.specs.NumbersWritten.{numbers_size}
+use Rattle.quic_wire.specs.NumbersWritten.{widths}
 use Rattle.quic_wire.specs.Writing.{written, BeginWith}
 use Rattle.quic_wire.proofs.frame.ack.writing.write_ranges.Given as goal
 
@@ -10,5 +10,5 @@ invariant-loop-range g l = record {
   small : l.low < 2 ^ 62;
   begins : BeginWith (g.B.BufMut.written l.fn.buf) (g.B.BufMut.written l.buf);
   so_far : g.B.BufMut.written l.buf ++ written (range_numbers l.low l.range-iterator) ≡ g.B.BufMut.written l.fn.buf ++ written (range_numbers l.fn.below l.fn.ranges);
-  spare : g.B.BufMut.spare l.fn.buf + numbers_size (range_numbers l.low l.range-iterator) ≤ g.B.BufMut.spare l.buf + numbers_size (range_numbers l.fn.below l.fn.ranges);
+  spare : g.B.BufMut.spare l.fn.buf + widths (range_numbers l.low l.range-iterator) ≤ g.B.BufMut.spare l.buf + widths (range_numbers l.fn.below l.fn.ranges);
 }

@@ -4,7 +4,7 @@ use Rattle.quic_wire.specs.AckGrammar.{has_ecn, range_numbers, ecn_numbers, ack_
 use Rattle.quic_wire.specs.AckSet.{ranges_of_set, ack_of_set}
 use Rattle.quic_wire.specs.AckView.{ecn_view}
 use Rattle.quic_wire.specs.FrameTypes.{is_ack, type_of}
-use Rattle.quic_wire.specs.NumbersWritten.{numbers_size}
+use Rattle.quic_wire.specs.NumbersWritten.{widths}
 use Rattle.quic_wire.specs.Writing.{written}
 use Rattle.quic_wire.proofs.AckSet.{highest, head_of, set_numbers_are}
 use Rattle.quic_wire.proofs.AckWritten.{begins_behind, last_ok, last_err, last_spare, first_spare, second_spare, type_small}
