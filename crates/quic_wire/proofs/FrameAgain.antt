@@ -3,33 +3,17 @@ use Rattle.std.proofs.Common.{◌≡◌, ℕ, ◌≤◌, Bool, true, false, ltb,
 use Rattle.std.proofs.lemmas.Bool.{le-ltb, ne_eqb}
 use Rattle.std.proofs.lemmas.List.{take_at, drop_at, length-append, append-nil}
 use Rattle.quic_wire_core.specs.Law.{spells_again}
-use Rattle.quic_wire.specs.Value.{FrameValue, ResetStreamValue, StopSendingValue, CryptoValue, StreamValue, StreamLimitValue, NewConnectionIdValue, ConnectionCloseValue, ApplicationCloseValue, AckFrequencyValue, padding, ping, handshake_done, immediate_ack, reset_stream, stop_sending, crypto, new_token, stream, max_data, max_stream_data, max_streams, data_blocked, stream_data_blocked, streams_blocked, new_connection_id, retire_connection_id, path_challenge, path_response, connection_close, application_close, datagram, ack_frequency}
-use Rattle.quic_wire.specs.FrameTypes.{Kind, is_padding, is_ping, is_reset_stream, is_stop_sending, is_crypto, is_new_token, is_stream, is_max_data, is_max_stream_data, is_max_streams, is_data_blocked, is_stream_data_blocked, is_streams_blocked, is_new_connection_id, is_retire_connection_id, is_path_challenge, is_path_response, is_connection_close, is_application_close, is_handshake_done, is_immediate_ack, is_datagram, is_ack_frequency, IsKnown, kind_of, type_of}
+use Rattle.quic_wire.specs.Value.{FrameValue, AckValue, ack, ResetStreamValue, StopSendingValue, CryptoValue, StreamValue, StreamLimitValue, NewConnectionIdValue, ConnectionCloseValue, ApplicationCloseValue, AckFrequencyValue, padding, ping, handshake_done, immediate_ack, reset_stream, stop_sending, crypto, new_token, stream, max_data, max_stream_data, max_streams, data_blocked, stream_data_blocked, streams_blocked, new_connection_id, retire_connection_id, path_challenge, path_response, connection_close, application_close, datagram, ack_frequency}
+use Rattle.quic_wire.specs.FrameTypes.{Kind, is_padding, is_ping, is_ack, is_reset_stream, is_stop_sending, is_crypto, is_new_token, is_stream, is_max_data, is_max_stream_data, is_max_streams, is_data_blocked, is_stream_data_blocked, is_streams_blocked, is_new_connection_id, is_retire_connection_id, is_path_challenge, is_path_response, is_connection_close, is_application_close, is_handshake_done, is_immediate_ack, is_datagram, is_ack_frequency, IsKnown, kind_of, type_of}
 use Rattle.quic_wire.specs.Reading.{field, var_at, block_at, sized_at, reset_stream_at, stop_sending_at, crypto_at, offset_at, data_at, stream_at, stream_limit_at, byte_at, id_at, connection_id_at, id_and_token_at, issued_at, new_connection_id_at, connection_close_at, application_close_at, ack_frequency_at, counted, as_frame, of_kind_at, body_at}
+use Rattle.quic_wire.specs.AckGrammar.{GoDown, has_ecn, ack_numbers}
+use Rattle.quic_wire.proofs.AckAgain.{numbers_behind, ack_again}
 use Rattle.quic_wire.specs.Items.{frame_at}
 use Rattle.quic_wire.specs.Grammar.{Numbers, Then, offset_numbers, length_numbers, Ends, OffsetFits, id_and_token, IsIssued, IsForm}
 use Rattle.quic_wire.proofs.FrameKinds.{kind_of_type}
-
--- the first number is read, and the others are left
-record Next (n : ℕ) (ns bytes : List ℕ) : Type 0 where
-  pub after : List ℕ
-  pub others : Numbers ns after
-  pub reads : (rest : List ℕ) → var_at (bytes ++ rest) ≡ Ok (n, after ++ rest)
-
-next : (n : ℕ) (ns bytes : List ℕ) → Numbers (n ∷ ns) bytes → Next n ns bytes
-next n ns bytes h = record {
-  after = h.1;
-  others = h.3;
-  reads = λ rest. ap (λ (b : List ℕ). var_at (b ++ rest)) h.4 ∙ ap var_at (append_assoc h.0 h.1 rest) ∙ ap field (spells_again n h.0 (h.1 ++ rest) h.2);
-}
-
-none_left : (bytes rest : List ℕ) → Numbers [] bytes → bytes ++ rest ≡ rest
-none_left bytes rest h = rw h refl
+use Rattle.quic_wire.proofs.FieldAgain.{next, none_left, number_again}
 
 -- ---- fields
-
-number_again : (n : ℕ) (bytes rest : List ℕ) → Numbers (n ∷ []) bytes → var_at (bytes ++ rest) ≡ Ok (n, rest)
-number_again n bytes rest h = let a = next n [] bytes h in a.reads rest ∙ rw (none_left a.after rest a.others) refl
 
 block_again : (text rest : List ℕ) → block_at (length text) (text ++ rest) ≡ Ok (text, rest)
 unfolding block_at
@@ -177,9 +161,15 @@ eight_bytes : (kind : Kind) (d bytes rest : List ℕ) (f : List ℕ → FrameVal
 eight_bytes kind d bytes rest f known len h is =
     by_kind_then kind [] d bytes rest (f d) known h (λ after ns. ap (of_kind_at kind) (none_left after (d ++ rest) ns) ∙ is (d ++ rest) ∙ ap (as_frame f) (long_again 8 d rest len))
 
+ack_form : (a : AckValue) (ranges : List (ℕ × ℕ)) (bytes rest : List ℕ) → a.ranges ≡ ranges → GoDown a.largest ranges → Numbers (ack_numbers a ranges) bytes → frame_at (bytes ++ rest) ≡ Ok (ack a, rest)
+ack_form a [] bytes rest is down h = absurd down
+ack_form a (r ∷ rs) bytes rest is down h =
+    by_kind (is_ack (has_ecn a.ecn)) (numbers_behind a r rs) bytes rest (ack a) tt h (λ after ns. ap (as_frame ack) (ack_again a r rs after rest is down.0 down.1 down.2 ns))
+
 pub form_again : (f : FrameValue) (bytes rest : List ℕ) → IsForm f bytes rest → frame_at (bytes ++ rest) ≡ Ok (f, rest)
 form_again padding bytes rest h = by_kind is_padding [] bytes rest padding tt h (λ after ns. rw (none_left after rest ns) refl)
 form_again ping bytes rest h = by_kind is_ping [] bytes rest ping tt h (λ after ns. rw (none_left after rest ns) refl)
+form_again (ack a) bytes rest h = ack_form a a.ranges bytes rest refl h.0 h.1
 form_again (reset_stream r) bytes rest h =
     by_kind is_reset_stream (r.id ∷ r.code ∷ r.final_size ∷ []) bytes rest (reset_stream r) tt h (λ after ns. ap (as_frame reset_stream) (reset_stream_again r after rest ns))
 form_again (stop_sending s) bytes rest h =
@@ -215,4 +205,3 @@ form_again (datagram d) bytes rest h =
     by_kind_then (is_datagram h.sized) (length_numbers h.sized d) d bytes rest (datagram d) tt h.text (λ after ns. ap (as_frame datagram) (data_again h.sized d after rest ns h.ends))
 form_again (ack_frequency a) bytes rest h =
     by_kind is_ack_frequency (a.sequence ∷ a.threshold ∷ a.delay ∷ a.reordering ∷ []) bytes rest (ack_frequency a) tt h (λ after ns. ap (as_frame ack_frequency) (ack_frequency_again a after rest ns))
-form_again f bytes rest h = absurd h

@@ -8,76 +8,16 @@ use Rattle.quic_wire_core.specs.Varint.{varint_at}
 use Rattle.quic_wire_core.specs.Law.{varint_found}
 use Rattle.quic_wire.specs.declared.frame.FrameError.{FrameError}
 use Rattle.quic_wire.specs.declared.frame.FrameError.TheVariants.{UnexpectedEnd, Malformed}
-use Rattle.quic_wire.specs.Value.{FrameValue, ResetStreamValue, StopSendingValue, CryptoValue, StreamLimitValue, NewConnectionIdValue, ConnectionCloseValue, ApplicationCloseValue, AckFrequencyValue, reset_stream, stop_sending, crypto, new_token, stream, max_data, max_stream_data, max_streams, data_blocked, stream_data_blocked, streams_blocked, new_connection_id, retire_connection_id, path_challenge, path_response, connection_close, application_close, datagram, ack_frequency}
-use Rattle.quic_wire.specs.FrameTypes.{Kind, is_padding, is_ping, is_reset_stream, is_stop_sending, is_crypto, is_new_token, is_stream, is_max_data, is_max_stream_data, is_max_streams, is_data_blocked, is_stream_data_blocked, is_streams_blocked, is_new_connection_id, is_retire_connection_id, is_path_challenge, is_path_response, is_connection_close, is_application_close, is_handshake_done, is_immediate_ack, is_datagram, is_ack_frequency, kind_of, type_of}
+use Rattle.quic_wire.specs.Value.{FrameValue, ack, ResetStreamValue, StopSendingValue, CryptoValue, StreamLimitValue, NewConnectionIdValue, ConnectionCloseValue, ApplicationCloseValue, AckFrequencyValue, reset_stream, stop_sending, crypto, new_token, stream, max_data, max_stream_data, max_streams, data_blocked, stream_data_blocked, streams_blocked, new_connection_id, retire_connection_id, path_challenge, path_response, connection_close, application_close, datagram, ack_frequency}
+use Rattle.quic_wire.specs.FrameTypes.{Kind, is_padding, is_ping, is_ack, is_reset_stream, is_stop_sending, is_crypto, is_new_token, is_stream, is_max_data, is_max_stream_data, is_max_streams, is_data_blocked, is_stream_data_blocked, is_streams_blocked, is_new_connection_id, is_retire_connection_id, is_path_challenge, is_path_response, is_connection_close, is_application_close, is_handshake_done, is_immediate_ack, is_datagram, is_ack_frequency, kind_of, type_of}
 use Rattle.quic_wire.specs.Taking.{◌>>=◌}
 use Rattle.quic_wire.specs.Reading.{field, var_at, block_at, sized_at, reset_stream_at, stop_sending_at, crypto_at, offset_at, data_at, stream_at, stream_limit_at, byte_at, id_at, connection_id_at, id_and_token_at, issued_at, new_connection_id_at, connection_close_at, application_close_at, ack_frequency_at, counted, as_frame, of_kind_at, body_at}
+use Rattle.quic_wire.specs.AckReading.{ack_at}
+use Rattle.quic_wire.proofs.AckFound.{ack_found}
 use Rattle.quic_wire.specs.Items.{frame_at, behind_type, refused}
 use Rattle.quic_wire.specs.Grammar.{Numbers, Then, offset_numbers, length_numbers, Ends, OffsetFits, id_and_token, IsIssued, IsForm}
 use Rattle.quic_wire.proofs.FrameKinds.{type_of_kind}
-
--- ---- what holds of what was read
-
-abbrev HoldsOf : {A : Type 0} → (A × List ℕ → Type 0) → Result (A × List ℕ) FrameError → Type 0
-HoldsOf P (Ok x) = P x
-HoldsOf P (Err e) = Unit {0}
-
-record Holds {A : Type 0} (P : A × List ℕ → Type 0) (r : Result (A × List ℕ) FrameError) : Type 0 where
-  pub is : HoldsOf P r
-
-bind : {A B : Type 0} (P : B × List ℕ → Type 0) (r : Result (A × List ℕ) FrameError) (f : A × List ℕ → Result (B × List ℕ) FrameError) → ((x : A × List ℕ) → r ≡ Ok x → Holds P (f x)) → Holds P (r >>= f)
-bind P (Ok x) f g = g x refl
-bind P (Err e) f g = record { is = tt }
-
--- the same where what holds of the first part is known
-after : {A B : Type 0} (Q : A × List ℕ → Type 0) (P : B × List ℕ → Type 0) (r : Result (A × List ℕ) FrameError) (f : A × List ℕ → Result (B × List ℕ) FrameError) → Holds Q r → ((x : A × List ℕ) → Q x → Holds P (f x)) → Holds P (r >>= f)
-after Q P (Ok x) f h g = g x h.is
-after Q P (Err e) f h g = record { is = tt }
-
-guard : {A : Type 0} (P : A × List ℕ → Type 0) (b : Bool) (e : FrameError) (r : Result (A × List ℕ) FrameError) → (b ≡ false → Holds P r) → Holds P (if b then Err e else r)
-guard P true e r h = record { is = tt }
-guard P false e r h = h refl
-
-weaken : {A : Type 0} (P Q : A × List ℕ → Type 0) (r : Result (A × List ℕ) FrameError) → Holds P r → ((x : A × List ℕ) → P x → Q x) → Holds Q r
-weaken P Q (Ok x) h g = record { is = g x h.is }
-weaken P Q (Err e) h g = record { is = tt }
-
-of_ok : {A : Type 0} (P : A × List ℕ → Type 0) (r : Result (A × List ℕ) FrameError) → ((x : A × List ℕ) → r ≡ Ok x → P x) → Holds P r
-of_ok P (Ok x) g = record { is = g x refl }
-of_ok P (Err e) g = record { is = tt }
-
--- ---- the numbers so far
-
-record Sofar (all ns rest : List ℕ) : Type 0 where
-  pub front : List ℕ
-  pub numbers : Numbers ns front
-  pub parts : all ≡ front ++ rest
-  pub fits : IsBytes rest
-
-Numbers-append : (ns ms a b : List ℕ) → Numbers ns a → Numbers ms b → Numbers (ns ++ ms) (a ++ b)
-Numbers-append [] ms a b h k = rw h k
-Numbers-append (n ∷ ns) ms a b h k = (h.0, h.1 ++ b, h.2, Numbers-append ns ms h.1 b h.3 k, rw h.4 (append_assoc h.0 h.1 b))
-
-IsBytes-drop : (n : ℕ) (bytes : List ℕ) → IsBytes bytes → IsBytes (drop n bytes)
-IsBytes-drop n bytes h i = rw get_or-drop (h (n + i))
-
-IsBytes-behind : (front rest bytes : List ℕ) → bytes ≡ front ++ rest → IsBytes bytes → IsBytes rest
-IsBytes-behind front rest bytes e h = rw (ap (drop (length front)) e ∙ drop_at front rest (length front) refl) at (IsBytes-drop (length front) bytes h)
-
-field_some : {T : Type 0} (o : Option (T × List ℕ)) (x : T × List ℕ) → field o ≡ Ok x → o ≡ Some x
-field_some (Some y) x e = cc
-field_some None x e = absurd cc
-
--- one number more
-more : (all ns rest : List ℕ) (x : ℕ × List ℕ) → Sofar all ns rest → var_at rest ≡ Ok x → Sofar all (ns ++ x.0 ∷ []) x.1
-more all ns rest x s e =
-    let b = varint_found rest x.0 x.1 s.fits (field_some (varint_at rest) x e) in
-    record {
-      front = s.front ++ b.front;
-      numbers = Numbers-append ns (x.0 ∷ []) s.front b.front s.numbers (b.front, [], b.spells, refl, sym (append-nil b.front));
-      parts = s.parts ∙ ap (λ (t : List ℕ). s.front ++ t) b.parts ∙ sym (append_assoc s.front b.front x.1);
-      fits = IsBytes-behind b.front x.1 rest b.parts s.fits;
-    }
+use Rattle.quic_wire.proofs.FieldFound.{Holds, bind, after, guard, weaken, of_ok, Sofar, IsBytes-drop, IsBytes-behind, more}
 
 -- the numbers and then a text
 record SofarThen (all ns text rest : List ℕ) : Type 0 where
@@ -311,6 +251,8 @@ framed f all r h = after _ _ r _ h (λ x k. record { is = k })
 kind_found : (kind : Kind) (all bytes : List ℕ) → Sofar all (type_of kind ∷ []) bytes → Holds (λ x. Found x.0 all x.1) (of_kind_at kind bytes)
 kind_found is_padding all bytes s = record { is = record { form = s.front; is = s.numbers; parts = s.parts; fits = s.fits } }
 kind_found is_ping all bytes s = record { is = record { form = s.front; is = s.numbers; parts = s.parts; fits = s.fits } }
+kind_found (is_ack ecn) all bytes s =
+    framed ack all (ack_at ecn bytes) (weaken _ _ (ack_at ecn bytes) (ack_found ecn all bytes s) (λ x h. record { form = h.form; is = (h.down, h.numbers); parts = h.parts; fits = h.fits }))
 kind_found is_reset_stream all bytes s = framed reset_stream all (reset_stream_at bytes) (reset_stream_found all bytes s)
 kind_found is_stop_sending all bytes s = framed stop_sending all (stop_sending_at bytes) (stop_sending_found all bytes s)
 kind_found is_crypto all bytes s = framed crypto all (crypto_at bytes) (crypto_found all bytes s)

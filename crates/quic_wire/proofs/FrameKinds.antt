@@ -101,10 +101,9 @@ stream_kind type least most =
 
 -- the types of frames that are read
 reads_type : ℕ → Bool
-reads_type type = (type == 0) || ((type == 1) || ((not (nat_lt type 4) && nat_lt type 32) || ((type == 48) || ((type == 49) || (type == 175)))))
+reads_type type = (type == 0) || ((type == 1) || ((not (nat_lt type 2) && nat_lt type 32) || ((type == 48) || ((type == 49) || (type == 175)))))
 
 is_read : Kind → Bool
-is_read (is_ack ecn) = false
 is_read (is_unknown type) = false
 is_read kind = true
 
@@ -117,7 +116,6 @@ or_false false b e f = refl
 
 not_read : (kind : Kind) (bytes : List ℕ) → is_read kind ≡ false → of_kind_at kind bytes ≡ Err InvalidId
 unfolding is_read
-not_read (is_ack ecn) bytes e = refl
 not_read (is_unknown type) bytes e = refl
 not_read kind bytes e = absurd cc
 
@@ -135,10 +133,10 @@ between type a b out = elim (cases_lt type a) [
   ]
 ]
 
-pub body_other : (type : ℕ) (bytes : List ℕ) → ¬ (type ≡ 0) → ¬ (type ≡ 1) → (4 ≤ type → type < 32 → ⊥) → ¬ (type ≡ 48) → ¬ (type ≡ 49) → ¬ (type ≡ 175) → body_at type bytes ≡ Err InvalidId
+pub body_other : (type : ℕ) (bytes : List ℕ) → ¬ (type ≡ 0) → ¬ (type ≡ 1) → (2 ≤ type → type < 32 → ⊥) → ¬ (type ≡ 48) → ¬ (type ≡ 49) → ¬ (type ≡ 175) → body_at type bytes ≡ Err InvalidId
 unfolding reads_type
 body_other type bytes n0 n1 out n48 n49 n175 =
-    unread type bytes (rw (ne_eqb type 0 n0, ne_eqb type 1 n1, between type 4 32 out, ne_eqb type 48 n48, ne_eqb type 49 n49, ne_eqb type 175 n175) refl)
+    unread type bytes (rw (ne_eqb type 0 n0, ne_eqb type 1 n1, between type 2 32 out, ne_eqb type 48 n48, ne_eqb type 49 n49, ne_eqb type 175 n175) refl)
 
 -- ---- the frame behind a type
 

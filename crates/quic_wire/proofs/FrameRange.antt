@@ -4,10 +4,12 @@ use Rattle.std.specs.Prelude.{if◌then◌else◌, nat_lt}
 use Rattle.std.specs.Int.{w16, w32, w64, to_be_bytes}
 use Rattle.std.proofs.lemmas.List.{length-append}
 use Rattle.quic_wire_core.specs.Varint.{Spells, shortest}
-use Rattle.quic_wire.specs.Value.{FrameValue, StreamValue, padding, ping, reset_stream, stop_sending, crypto, new_token, stream, max_data, max_stream_data, max_streams, data_blocked, stream_data_blocked, streams_blocked, new_connection_id, retire_connection_id, path_challenge, path_response, connection_close, application_close, handshake_done, immediate_ack, datagram, ack_frequency}
+use Rattle.quic_wire.specs.Value.{FrameValue, StreamValue, ack, padding, ping, reset_stream, stop_sending, crypto, new_token, stream, max_data, max_stream_data, max_streams, data_blocked, stream_data_blocked, streams_blocked, new_connection_id, retire_connection_id, path_challenge, path_response, connection_close, application_close, handshake_done, immediate_ack, datagram, ack_frequency}
 use Rattle.quic_wire.specs.FrameTypes.{is_datagram, is_max_streams, is_streams_blocked, type_of}
 use Rattle.quic_wire.specs.Grammar.{Numbers, Then, stream_numbers, offset_numbers, length_numbers, OffsetFits, IsStreamForm, IsDatagramForm, IsForm}
 use Rattle.quic_wire.specs.Writing.{AreNumbers, fields_of, StreamFits, Fits, widths, width_of, offset_width, frame_size, most_of}
+use Rattle.quic_wire.specs.AckGrammar.{ack_numbers}
+use Rattle.quic_wire.proofs.AckNumbers.{numbers_fit, ack_size_most}
 
 -- ---- what has a form
 
@@ -54,6 +56,7 @@ datagram_fits d bytes rest h lt = let le : length d ≤ length bytes = no_longer
 pub form_fits : (f : FrameValue) (bytes rest : List ℕ) → IsForm f bytes rest → length bytes < 2 ^ 62 → Fits f
 form_fits padding bytes rest h lt = tt
 form_fits ping bytes rest h lt = tt
+form_fits (ack a) bytes rest h lt = numbers_fit a h.0 (are_numbers (ack_numbers a a.ranges) bytes h.1)
 form_fits (reset_stream r) bytes rest h lt = fields _ (fields_of (reset_stream r)) bytes h
 form_fits (stop_sending s) bytes rest h lt = fields _ (fields_of (stop_sending s)) bytes h
 form_fits (crypto c) bytes rest h lt = fields_then _ (fields_of (crypto c)) c.bytes bytes h
@@ -75,7 +78,6 @@ form_fits handshake_done bytes rest h lt = tt
 form_fits immediate_ack bytes rest h lt = tt
 form_fits (datagram d) bytes rest h lt = datagram_fits d bytes rest h lt
 form_fits (ack_frequency a) bytes rest h lt = fields _ (fields_of (ack_frequency a)) bytes h
-form_fits f bytes rest h lt = absurd h
 
 -- ---- how long it is at most
 
@@ -103,6 +105,7 @@ type_width false = (refl, refl)
 pub size_most : (f : FrameValue) → Fits f → frame_size f ≤ most_of f
 size_most padding h = omega arith
 size_most ping h = omega arith
+size_most (ack a) h = ack_size_most a h
 size_most (reset_stream r) h = let a = width_most r.id in let b = width_most r.code in let c = width_most r.final_size in omega arith
 size_most (stop_sending s) h = let a = width_most s.id in let b = width_most s.code in omega arith
 size_most (crypto c) h = let a = width_most c.offset in let b = width_most (length c.bytes) in omega arith
@@ -138,4 +141,3 @@ size_most (ack_frequency a) h =
     let y = width_most a.delay in
     let z = width_most a.reordering in
     omega arith
-size_most f h = absurd h

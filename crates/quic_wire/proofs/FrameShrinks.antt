@@ -8,61 +8,14 @@ use Rattle.quic_wire_core.specs.Varint.{varint_at, wide_at}
 use Rattle.quic_wire.specs.declared.frame.FrameError.{FrameError}
 use Rattle.quic_wire.specs.declared.frame.FrameError.TheVariants.{UnexpectedEnd, Malformed}
 use Rattle.quic_wire.specs.declared.frame.InvalidFrame.{InvalidFrame}
-use Rattle.quic_wire.specs.Value.{FrameValue, reset_stream, stop_sending, crypto, new_token, stream, max_data, max_stream_data, max_streams, data_blocked, stream_data_blocked, streams_blocked, new_connection_id, retire_connection_id, path_challenge, path_response, connection_close, application_close, datagram, ack_frequency}
-use Rattle.quic_wire.specs.FrameTypes.{Kind, is_padding, is_ping, is_reset_stream, is_stop_sending, is_crypto, is_new_token, is_stream, is_max_data, is_max_stream_data, is_max_streams, is_data_blocked, is_stream_data_blocked, is_streams_blocked, is_new_connection_id, is_retire_connection_id, is_path_challenge, is_path_response, is_connection_close, is_application_close, is_handshake_done, is_immediate_ack, is_datagram, is_ack_frequency, kind_of}
+use Rattle.quic_wire.specs.Value.{FrameValue, ack, reset_stream, stop_sending, crypto, new_token, stream, max_data, max_stream_data, max_streams, data_blocked, stream_data_blocked, streams_blocked, new_connection_id, retire_connection_id, path_challenge, path_response, connection_close, application_close, datagram, ack_frequency}
+use Rattle.quic_wire.specs.FrameTypes.{Kind, is_padding, is_ping, is_ack, is_reset_stream, is_stop_sending, is_crypto, is_new_token, is_stream, is_max_data, is_max_stream_data, is_max_streams, is_data_blocked, is_stream_data_blocked, is_streams_blocked, is_new_connection_id, is_retire_connection_id, is_path_challenge, is_path_response, is_connection_close, is_application_close, is_handshake_done, is_immediate_ack, is_datagram, is_ack_frequency, kind_of}
 use Rattle.quic_wire.specs.Taking.{◌>>=◌}
 use Rattle.quic_wire.specs.Reading.{field, var_at, block_at, sized_at, reset_stream_at, stop_sending_at, crypto_at, offset_at, data_at, stream_at, stream_limit_at, byte_at, id_at, connection_id_at, id_and_token_at, issued_at, new_connection_id_at, connection_close_at, application_close_at, ack_frequency_at, counted, as_frame, of_kind_at, body_at}
+use Rattle.quic_wire.specs.AckReading.{ack_at}
+use Rattle.quic_wire.proofs.AckShrinks.{ack_leaves}
 use Rattle.quic_wire.specs.Items.{frame_at, behind_type, refused}
-
--- at most n bytes are left
-abbrev LeavesAtMost : {A E : Type 0} → ℕ → Result (A × List ℕ) E → Type 0
-LeavesAtMost n (Ok x) = length x.1 ≤ n
-LeavesAtMost n (Err e) = Unit {0}
-
-record Leaves {A E : Type 0} (n : ℕ) (r : Result (A × List ℕ) E) : Type 0 where
-  pub most : LeavesAtMost n r
-
-bind : {A B : Type 0} (n : ℕ) (r : Result (A × List ℕ) FrameError) (f : A × List ℕ → Result (B × List ℕ) FrameError) → Leaves n r → ((x : A × List ℕ) → length x.1 ≤ n → Leaves n (f x)) → Leaves n (r >>= f)
-bind n (Ok x) f h g = g x h.most
-bind n (Err e) f h g = record { most = tt }
-
-guard : {A : Type 0} (n : ℕ) (b : Bool) (e : FrameError) (r : Result (A × List ℕ) FrameError) → Leaves n r → Leaves n (if b then Err e else r)
-guard n true e r h = record { most = tt }
-guard n false e r h = h
-
--- ---- numbers
-
--- fewer than n bytes are left
-abbrev LeavesFewer : {A : Type 0} → ℕ → Option (A × List ℕ) → Type 0
-LeavesFewer n (Some x) = length x.1 < n
-LeavesFewer n None = Unit {0}
-
-choose_fewer : {A : Type 0} (n : ℕ) (b : Bool) (r s : Option (A × List ℕ)) → LeavesFewer n r → LeavesFewer n s → LeavesFewer n (cond b r s)
-choose_fewer n true r s h k = h
-choose_fewer n false r s h k = k
-
-wide_fewer_if : (w : Width) (bytes : List ℕ) (x : ℕ) (b : Bool) → 0 < byte_len w → (b ≡ false → byte_len w ≤ length bytes) → LeavesFewer (length bytes) (cond b None (Some (x, drop (byte_len w) bytes)))
-wide_fewer_if w bytes x true pos h = tt
-wide_fewer_if w bytes x false pos h = let k = h refl in omega (arith, length-drop (byte_len w) bytes)
-
-wide_fewer : (w : Width) (bytes : List ℕ) → 0 < byte_len w → LeavesFewer (length bytes) (wide_at w bytes)
-wide_fewer w bytes pos = wide_fewer_if w bytes _ (ltb (length bytes) (byte_len w)) pos (ltb-false _ _)
-
-varint_fewer : (bytes : List ℕ) → LeavesFewer (length bytes) (varint_at bytes)
-varint_fewer bytes =
-    let n = length bytes in let t = slice_index bytes 0 / 2 ^ 6 in
-    choose_fewer n (eqb t 0) (wide_at w8 bytes) _ (wide_fewer w8 bytes (omega arith))
-    (choose_fewer n (eqb t 1) (wide_at w16 bytes) _ (wide_fewer w16 bytes (omega arith))
-    (choose_fewer n (eqb t 2) (wide_at w32 bytes) (wide_at w64 bytes) (wide_fewer w32 bytes (omega arith)) (wide_fewer w64 bytes (omega arith))))
-
-field_leaves : {A : Type 0} (n m : ℕ) (o : Option (A × List ℕ)) → m ≤ n → LeavesFewer m o → Leaves n (field o)
-field_leaves n m (Some x) le h = record { most = omega arith }
-field_leaves n m None le h = record { most = tt }
-
--- ---- fields, one line for each
-
-var : (n : ℕ) (bytes : List ℕ) → length bytes ≤ n → Leaves n (var_at bytes)
-var n bytes le = field_leaves n (length bytes) (varint_at bytes) le (varint_fewer bytes)
+use Rattle.quic_wire.proofs.FieldShrinks.{Leaves, bind, guard, LeavesFewer, varint_fewer, var}
 
 block : (n k : ℕ) (bytes : List ℕ) → length bytes ≤ n → Leaves n (block_at k bytes)
 unfolding block_at
@@ -147,6 +100,7 @@ framed f n r h = bind n r _ h (λ x k. record { most = k })
 of_kind : (kind : Kind) (n : ℕ) (bytes : List ℕ) → length bytes ≤ n → Leaves n (of_kind_at kind bytes)
 of_kind is_padding n bytes le = record { most = le }
 of_kind is_ping n bytes le = record { most = le }
+of_kind (is_ack ecn) n bytes le = framed ack n (ack_at ecn bytes) (ack_leaves ecn n bytes le)
 of_kind is_reset_stream n bytes le = framed reset_stream n (reset_stream_at bytes) (reset_stream_leaves n bytes le)
 of_kind is_stop_sending n bytes le = framed stop_sending n (stop_sending_at bytes) (stop_sending_leaves n bytes le)
 of_kind is_crypto n bytes le = framed crypto n (crypto_at bytes) (crypto_leaves n bytes le)

@@ -5,10 +5,12 @@ use Rattle.std.proofs.lemmas.Bool.{eqb-true}
 use Rattle.std.proofs.lemmas.List.{length-append, append-nil, take_at, take_all}
 use Rattle.quic_wire_core.specs.Varint.{shortest}
 use Rattle.quic_wire_core.specs.Law.{shortest_spells}
-use Rattle.quic_wire.specs.Value.{FrameValue, StreamValue, padding, ping, handshake_done, immediate_ack, reset_stream, stop_sending, crypto, new_token, stream, max_data, max_stream_data, max_streams, data_blocked, stream_data_blocked, streams_blocked, new_connection_id, retire_connection_id, path_challenge, path_response, connection_close, application_close, datagram, ack_frequency}
+use Rattle.quic_wire.specs.Value.{FrameValue, StreamValue, ack, padding, ping, handshake_done, immediate_ack, reset_stream, stop_sending, crypto, new_token, stream, max_data, max_stream_data, max_streams, data_blocked, stream_data_blocked, streams_blocked, new_connection_id, retire_connection_id, path_challenge, path_response, connection_close, application_close, datagram, ack_frequency}
 use Rattle.quic_wire.specs.FrameTypes.{Kind, is_stream, is_max_streams, is_streams_blocked, is_datagram, type_of}
 use Rattle.quic_wire.specs.Grammar.{Numbers, Then, IsIssued, offset_numbers, OffsetFits, length_numbers, number_if, Ends, stream_numbers, IsForm}
 use Rattle.quic_wire.specs.Writing.{written, has_offset, header_of, with_more, stream_header, stream_spelling, kind_as, fields_of, text_of, numbers_of, spelling, datagram_to_end, AreNumbers, StreamFits, Fits, widths, most_of, width_of, length_width, some_if, stream_header_size, stream_size, frame_size}
+use Rattle.quic_wire.specs.AckGrammar.{ack_numbers}
+use Rattle.quic_wire.proofs.AckNumbers.{AreNumbers-append, ack_are_numbers}
 
 pub written_append : (ns ms : List ℕ) → written (ns ++ ms) ≡ written ns ++ written ms
 written_append [] ms = refl
@@ -95,6 +97,7 @@ pub spelling_length : (f : FrameValue) → Fits f → length (spelling f) ≡ fr
 spelling_length padding h = refl
 spelling_length ping h = refl
 spelling_length (stream s) h = stream_length true s
+spelling_length (ack a) h = written_length (ack_numbers a a.ranges)
 spelling_length (reset_stream r) h = parts_length (numbers_of (reset_stream r)) (text_of (reset_stream r))
 spelling_length (stop_sending r) h = parts_length (numbers_of (stop_sending r)) (text_of (stop_sending r))
 spelling_length (crypto r) h = parts_length (numbers_of (crypto r)) (text_of (crypto r))
@@ -115,13 +118,8 @@ spelling_length handshake_done h = parts_length (numbers_of handshake_done) (tex
 spelling_length immediate_ack h = parts_length (numbers_of immediate_ack) (text_of immediate_ack)
 spelling_length (datagram r) h = parts_length (numbers_of (datagram r)) (text_of (datagram r))
 spelling_length (ack_frequency r) h = parts_length (numbers_of (ack_frequency r)) (text_of (ack_frequency r))
-spelling_length f h = absurd h
 
 -- ---- what is written is a form
-
-AreNumbers-append : (ns ms : List ℕ) → AreNumbers ns → AreNumbers ms → AreNumbers (ns ++ ms)
-AreNumbers-append [] ms h k = k
-AreNumbers-append (n ∷ ns) ms h k = (h.0, AreNumbers-append ns ms h.1 k)
 
 written_numbers : (ns : List ℕ) → AreNumbers ns → Numbers ns (written ns)
 written_numbers [] h = refl
@@ -180,6 +178,7 @@ pub spelling_form : (f : FrameValue) (rest : List ℕ) → Fits f → IsForm f (
 spelling_form padding rest h = written_numbers (0 ∷ []) (omega arith, tt)
 spelling_form ping rest h = written_numbers (1 ∷ []) (omega arith, tt)
 spelling_form (stream s) rest h = stream_form true s rest h tt
+spelling_form (ack a) rest h = (h.3, written_numbers (ack_numbers a a.ranges) (ack_are_numbers a h))
 spelling_form (reset_stream r) rest h = alone (numbers_of (reset_stream r)) (omega arith, h)
 spelling_form (stop_sending r) rest h = alone (numbers_of (stop_sending r)) (omega arith, h)
 spelling_form (max_data r) rest h = alone (numbers_of (max_data r)) (omega arith, h)
@@ -200,7 +199,6 @@ spelling_form (new_connection_id n) rest h = (h.1, numbers_then (numbers_of (new
 spelling_form (path_challenge d) rest h = (h, numbers_then (numbers_of (path_challenge d)) d (omega arith, tt))
 spelling_form (path_response d) rest h = (h, numbers_then (numbers_of (path_response d)) d (omega arith, tt))
 spelling_form (datagram d) rest h = record { sized = true; ends = tt; text = numbers_then (numbers_of (datagram d)) d (omega arith, h) }
-spelling_form f rest h = absurd h
 
 -- a DATAGRAM frame without its length is a form where nothing follows it
 pub datagram_end_form : (d : List ℕ) → IsForm (datagram d) (datagram_to_end d) []

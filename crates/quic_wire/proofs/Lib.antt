@@ -3,6 +3,15 @@ pub mod Places
 pub mod Opening
 pub mod Destinations
 pub mod FrameKinds
+pub mod AckSteps
+pub mod AckSet
+pub mod AckNumbers
+pub mod FieldShrinks
+pub mod FieldAgain
+pub mod FieldFound
+pub mod AckShrinks
+pub mod AckAgain
+pub mod AckFound
 pub mod FrameShrinks
 pub mod FrameItems
 pub mod FrameAgain
@@ -10,6 +19,8 @@ pub mod FrameFound
 pub mod FrameWhole
 pub mod FrameWritten
 pub mod FrameReadBack
+pub mod AckWritten
+pub mod AckRead
 pub mod FrameRange
 pub mod Room
 pub mod WorkedForms

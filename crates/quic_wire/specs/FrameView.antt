@@ -14,7 +14,7 @@ use Rattle.quic_wire.specs.declared.frame.kinds.ConnectionCloseFrame.{Connection
 use Rattle.quic_wire.specs.declared.frame.kinds.ApplicationCloseFrame.{ApplicationCloseFrame}
 use Rattle.quic_wire.specs.declared.frame.kinds.AckFrequency.{AckFrequency}
 use Rattle.quic_wire.specs.declared.frame.InvalidFrame.{InvalidFrame}
-use Rattle.quic_wire.specs.Value.{ResetStreamValue, StopSendingValue, CryptoValue, StreamValue, NewConnectionIdValue, ConnectionCloseValue, ApplicationCloseValue, AckFrequencyValue, FrameValue, padding, ping, reset_stream, stop_sending, crypto, new_token, stream, max_data, max_stream_data, max_streams, data_blocked, stream_data_blocked, streams_blocked, new_connection_id, retire_connection_id, path_challenge, path_response, connection_close, application_close, handshake_done, immediate_ack, datagram, ack_frequency}
+use Rattle.quic_wire.specs.Value.{ResetStreamValue, StopSendingValue, CryptoValue, StreamValue, NewConnectionIdValue, ConnectionCloseValue, ApplicationCloseValue, AckFrequencyValue, FrameValue, padding, ping, ack, reset_stream, stop_sending, crypto, new_token, stream, max_data, max_stream_data, max_streams, data_blocked, stream_data_blocked, streams_blocked, new_connection_id, retire_connection_id, path_challenge, path_response, connection_close, application_close, handshake_done, immediate_ack, datagram, ack_frequency}
 
 -- What a RESET_STREAM frame says.
 abbrev pub reset_stream_view : ResetStream → ResetStreamValue
@@ -57,6 +57,7 @@ ack_frequency_view a = record { sequence = a.sequence; threshold = a.ack_eliciti
 abbrev pub frame_view : Frame → FrameValue
 frame_view frames.Padding = padding
 frame_view frames.Ping = ping
+frame_view (frames.Ack a) = ack a
 frame_view (frames.ResetStream r) = reset_stream (reset_stream_view r)
 frame_view (frames.StopSending s) = stop_sending (stop_sending_view s)
 frame_view (frames.Crypto c) = crypto (crypto_view c)

@@ -1,8 +1,9 @@
 -- The bytes of frames: a frame is a list of numbers, the first of them its type, and behind them bytes (RFC 9000, section 19).
 use Rattle.std.specs.Prelude.{◌≡◌, ◌≤◌, ℕ, Bool, true, false, List, [], ◌∷◌, ◌++◌, length}
 use Rattle.quic_wire_core.specs.Varint.{Spells}
-use Rattle.quic_wire.specs.Value.{StreamValue, NewConnectionIdValue, FrameValue, padding, ping, reset_stream, stop_sending, crypto, new_token, stream, max_data, max_stream_data, max_streams, data_blocked, stream_data_blocked, streams_blocked, new_connection_id, retire_connection_id, path_challenge, path_response, connection_close, application_close, handshake_done, immediate_ack, datagram, ack_frequency}
+use Rattle.quic_wire.specs.Value.{StreamValue, NewConnectionIdValue, FrameValue, padding, ping, ack, reset_stream, stop_sending, crypto, new_token, stream, max_data, max_stream_data, max_streams, data_blocked, stream_data_blocked, streams_blocked, new_connection_id, retire_connection_id, path_challenge, path_response, connection_close, application_close, handshake_done, immediate_ack, datagram, ack_frequency}
 use Rattle.quic_wire.specs.FrameTypes.{is_padding, is_ping, is_reset_stream, is_stop_sending, is_crypto, is_new_token, is_stream, is_max_data, is_max_stream_data, is_max_streams, is_data_blocked, is_stream_data_blocked, is_streams_blocked, is_new_connection_id, is_retire_connection_id, is_path_challenge, is_path_response, is_connection_close, is_application_close, is_handshake_done, is_immediate_ack, is_datagram, is_ack_frequency, type_of}
+use Rattle.quic_wire.specs.AckGrammar.{GoDown, ack_numbers}
 
 -- The bytes are these numbers, one after another, each in any of its widths (section 16).
 abbrev pub Numbers : List ℕ → List ℕ → Type 0
@@ -72,6 +73,7 @@ pub record IsDatagramForm (d bytes rest : List ℕ) : Type 0 where
 abbrev pub IsForm : FrameValue → List ℕ → List ℕ → Type 0
 IsForm padding bytes rest = Numbers (type_of is_padding ∷ []) bytes
 IsForm ping bytes rest = Numbers (type_of is_ping ∷ []) bytes
+IsForm (ack a) bytes rest = GoDown a.largest a.ranges × Numbers (ack_numbers a a.ranges) bytes
 IsForm (reset_stream r) bytes rest = Numbers (type_of is_reset_stream ∷ r.id ∷ r.code ∷ r.final_size ∷ []) bytes
 IsForm (stop_sending s) bytes rest = Numbers (type_of is_stop_sending ∷ s.id ∷ s.code ∷ []) bytes
 IsForm (crypto c) bytes rest = Then (type_of is_crypto ∷ c.offset ∷ length c.bytes ∷ []) c.bytes bytes
@@ -93,7 +95,6 @@ IsForm handshake_done bytes rest = Numbers (type_of is_handshake_done ∷ []) by
 IsForm immediate_ack bytes rest = Numbers (type_of is_immediate_ack ∷ []) bytes
 IsForm (datagram d) bytes rest = IsDatagramForm d bytes rest
 IsForm (ack_frequency a) bytes rest = Numbers (type_of is_ack_frequency ∷ a.sequence ∷ a.threshold ∷ a.delay ∷ a.reordering ∷ []) bytes
-IsForm f bytes rest = ⊥
 
 -- The bytes are these frames, one after another.
 abbrev pub Payload : List FrameValue → List ℕ → Type 0

@@ -5,7 +5,15 @@ pub mod Datagram
 pub mod Destination
 pub mod Value
 pub mod FrameTypes
+pub mod Fields
 pub mod Reading
+pub mod AckReading
+pub mod AckGrammar
+pub mod AckCounts
+pub mod AckView
+pub mod AckSet
+pub mod NumbersWritten
+pub mod AckWriting
 pub mod Items
 pub mod FrameView
 pub mod Grammar

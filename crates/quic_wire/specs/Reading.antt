@@ -1,20 +1,12 @@
 -- Reading frames from left to right: the first field that can't be read names the refusal.
 use Rattle.std.specs.Prelude.{ℕ, Bool, true, false, List, [], ◌∷◌, length, take, drop, Option, Some, None, Result, Ok, Err, nat_lt, ◌||◌, ◌==◌, if◌then◌else◌}
-use Rattle.quic_wire_core.specs.Varint.{varint_at}
 use Rattle.quic_wire.specs.declared.frame.FrameError.{FrameError}
 use Rattle.quic_wire.specs.declared.frame.FrameError.TheVariants.{UnexpectedEnd, Malformed, InvalidId}
 use Rattle.quic_wire.specs.Taking.{◌>>=◌}
-use Rattle.quic_wire.specs.Value.{ResetStreamValue, StopSendingValue, CryptoValue, StreamValue, StreamLimitValue, StreamCountValue, NewConnectionIdValue, ConnectionCloseValue, ApplicationCloseValue, AckFrequencyValue, FrameValue, padding, ping, reset_stream, stop_sending, crypto, new_token, stream, max_data, max_stream_data, max_streams, data_blocked, stream_data_blocked, streams_blocked, new_connection_id, retire_connection_id, path_challenge, path_response, connection_close, application_close, handshake_done, immediate_ack, datagram, ack_frequency}
-use Rattle.quic_wire.specs.FrameTypes.{Kind, is_padding, is_ping, is_reset_stream, is_stop_sending, is_crypto, is_new_token, is_stream, is_max_data, is_max_stream_data, is_max_streams, is_data_blocked, is_stream_data_blocked, is_streams_blocked, is_new_connection_id, is_retire_connection_id, is_path_challenge, is_path_response, is_connection_close, is_application_close, is_handshake_done, is_immediate_ack, is_datagram, is_ack_frequency, kind_of}
-
--- A field, and the bytes after it.
-abbrev pub field : {T : Type 0} → Option (T × List ℕ) → Result (T × List ℕ) FrameError
-field None = Err UnexpectedEnd
-field (Some x) = Ok x
-
--- A variable-length integer of any width (section 16).
-abbrev pub var_at : List ℕ → Result (ℕ × List ℕ) FrameError
-var_at bytes = field (varint_at bytes)
+pub use Rattle.quic_wire.specs.Fields.{field, var_at}
+use Rattle.quic_wire.specs.AckReading.{ack_at}
+use Rattle.quic_wire.specs.Value.{ResetStreamValue, StopSendingValue, CryptoValue, StreamValue, StreamLimitValue, StreamCountValue, NewConnectionIdValue, ConnectionCloseValue, ApplicationCloseValue, AckFrequencyValue, FrameValue, padding, ping, ack, reset_stream, stop_sending, crypto, new_token, stream, max_data, max_stream_data, max_streams, data_blocked, stream_data_blocked, streams_blocked, new_connection_id, retire_connection_id, path_challenge, path_response, connection_close, application_close, handshake_done, immediate_ack, datagram, ack_frequency}
+use Rattle.quic_wire.specs.FrameTypes.{Kind, is_padding, is_ping, is_ack, is_reset_stream, is_stop_sending, is_crypto, is_new_token, is_stream, is_max_data, is_max_stream_data, is_max_streams, is_data_blocked, is_stream_data_blocked, is_streams_blocked, is_new_connection_id, is_retire_connection_id, is_path_challenge, is_path_response, is_connection_close, is_application_close, is_handshake_done, is_immediate_ack, is_datagram, is_ack_frequency, kind_of}
 
 -- So many bytes.
 unfoldable pub block_at : ℕ → List ℕ → Result (List ℕ × List ℕ) FrameError
@@ -142,6 +134,7 @@ counted one_way count = record { one_way = one_way; count = count }
 abbrev pub of_kind_at : Kind → List ℕ → Result (FrameValue × List ℕ) FrameError
 of_kind_at is_padding bytes = Ok (padding, bytes)
 of_kind_at is_ping bytes = Ok (ping, bytes)
+of_kind_at (is_ack ecn) bytes = as_frame ack (ack_at ecn bytes)
 of_kind_at is_reset_stream bytes = as_frame reset_stream (reset_stream_at bytes)
 of_kind_at is_stop_sending bytes = as_frame stop_sending (stop_sending_at bytes)
 of_kind_at is_crypto bytes = as_frame crypto (crypto_at bytes)

@@ -1,6 +1,7 @@
 -- Values whose bytes are worked out by hand: a STREAM frame, a short header, and the limits that an end tells (RFC 9000, sections 17.3.1, 18.2 and 19.8).
 use Rattle.std.specs.Prelude.{ℕ, true, List, [], ◌∷◌, ◌++◌, Some, None}
-use Rattle.quic_wire.specs.Value.{StreamValue}
+use Rattle.quic_wire_core.specs.Runs.{Run}
+use Rattle.quic_wire.specs.Value.{AckValue, StreamValue}
 use Rattle.quic_wire.specs.Parameters.{ParameterValues}
 
 -- stream 0 from its front: the five bytes of `hello`, and the end
@@ -72,3 +73,15 @@ no_limits = record {
   max_datagram_frame_size = 0;
   min_ack_delay = None;
 }
+
+-- the runs of 1, 2, 3, 5, 10, 11 and 14
+abbrev pub seven_numbers : List Run
+seven_numbers = record { start = 1; end = 4 } ∷ record { start = 5; end = 6 } ∷ record { start = 10; end = 12 } ∷ record { start = 14; end = 15 } ∷ []
+
+-- their ACK frame, with delay 42 and counts of 42, 24 and 12
+abbrev pub seven_acked : AckValue
+seven_acked = record { largest = 14; delay = 42; ranges = (14, 14) ∷ (10, 11) ∷ (5, 5) ∷ (1, 3) ∷ []; ecn = Some (42, 24, 12) }
+
+-- its form
+abbrev pub seven_spelled : List ℕ
+seven_spelled = 0x03 ∷ 0x0e ∷ 0x2a ∷ 0x03 ∷ 0x00 ∷ 0x01 ∷ 0x01 ∷ 0x03 ∷ 0x00 ∷ 0x00 ∷ 0x02 ∷ 0x2a ∷ 0x18 ∷ 0x0c ∷ []

@@ -1,14 +1,11 @@
 -- The form in which each frame is written: each number in its shortest width (RFC 9000, sections 16 and 19).
 use Rattle.std.specs.Prelude.{◌≡◌, ℕ, ◌+◌, ◌<◌, ◌≤◌, ◌^◌, Bool, true, false, not, List, [], ◌∷◌, ◌++◌, length, take, Option, Some, None, Result, MatchResult, ◌==◌, if◌then◌else◌}
-use Rattle.quic_wire_core.specs.Varint.{shortest}
+pub use Rattle.quic_wire.specs.NumbersWritten.{written, AreNumbers, width_of, widths}
+use Rattle.quic_wire.specs.AckGrammar.{has_ecn, ack_fields, AckFits}
+use Rattle.quic_wire.specs.AckWriting.{ack_spelling, ack_size, ack_most}
 use Rattle.quic_wire.specs.Value.{StreamValue, NewConnectionIdValue, FrameValue, ack, padding, ping, reset_stream, stop_sending, crypto, new_token, stream, max_data, max_stream_data, max_streams, data_blocked, stream_data_blocked, streams_blocked, new_connection_id, retire_connection_id, path_challenge, path_response, connection_close, application_close, handshake_done, immediate_ack, datagram, ack_frequency}
 use Rattle.quic_wire.specs.FrameTypes.{Kind, is_ack, is_padding, is_ping, is_reset_stream, is_stop_sending, is_crypto, is_new_token, is_stream, is_max_data, is_max_stream_data, is_max_streams, is_data_blocked, is_stream_data_blocked, is_streams_blocked, is_new_connection_id, is_retire_connection_id, is_path_challenge, is_path_response, is_connection_close, is_application_close, is_handshake_done, is_immediate_ack, is_datagram, is_ack_frequency, type_of}
 use Rattle.quic_wire.specs.Grammar.{stream_numbers, offset_numbers, length_numbers, number_if, id_and_token, IsIssued}
-
--- Numbers, one after another, each in its shortest form.
-abbrev pub written : List ℕ → List ℕ
-written [] = []
-written (n ∷ ns) = shortest n ++ written ns
 
 -- An offset is written where it isn't 0.
 abbrev pub has_offset : ℕ → Bool
@@ -30,16 +27,11 @@ stream_header with_length s = written (stream_numbers (has_offset s.offset) with
 unfoldable pub stream_spelling : Bool → StreamValue → List ℕ
 stream_spelling with_length s = stream_header with_length s ++ s.bytes
 
--- Whether counts of marks are told.
-abbrev pub is_counted : Option (ℕ × ℕ × ℕ) → Bool
-is_counted None = false
-is_counted (Some counts) = true
-
 -- The kind that a frame is written as: STREAM and DATAGRAM frames with their length.
 abbrev pub kind_as : FrameValue → Kind
 kind_as padding = is_padding
 kind_as ping = is_ping
-kind_as (ack a) = is_ack (is_counted a.ecn)
+kind_as (ack a) = is_ack (has_ecn a.ecn)
 kind_as (reset_stream r) = is_reset_stream
 kind_as (stop_sending s) = is_stop_sending
 kind_as (crypto c) = is_crypto
@@ -64,6 +56,7 @@ kind_as (ack_frequency a) = is_ack_frequency
 
 -- The numbers of a frame behind its type.
 abbrev pub fields_of : FrameValue → List ℕ
+fields_of (ack a) = ack_fields a a.ranges
 fields_of (reset_stream r) = r.id ∷ r.code ∷ r.final_size ∷ []
 fields_of (stop_sending s) = s.id ∷ s.code ∷ []
 fields_of (crypto c) = c.offset ∷ length c.bytes ∷ []
@@ -104,7 +97,7 @@ numbers_of f = type_of (kind_as f) ∷ fields_of f
 abbrev pub spelling : FrameValue → List ℕ
 spelling padding = written (type_of is_padding ∷ [])
 spelling ping = written (type_of is_ping ∷ [])
-spelling (ack a) = []
+spelling (ack a) = ack_spelling a
 spelling (stream s) = stream_spelling true s
 spelling f = written (numbers_of f) ++ text_of f
 
@@ -121,16 +114,11 @@ spelled_all (f ∷ fs) = spelling f ++ spelled_all fs
 abbrev pub StreamFits : StreamValue → Type 0
 StreamFits s = (s.id < 2 ^ 62) × (s.offset < 2 ^ 62) × (length s.bytes < 2 ^ 62)
 
--- Each of these numbers has a form as a variable-length integer (RFC 9000, section 16).
-abbrev pub AreNumbers : List ℕ → Type 0
-AreNumbers [] = Unit {0}
-AreNumbers (n ∷ ns) = (n < 2 ^ 62) × AreNumbers ns
-
 -- The frame has a form.
 abbrev pub Fits : FrameValue → Type 0
 Fits padding = Unit {0}
 Fits ping = Unit {0}
-Fits (ack a) = ⊥
+Fits (ack a) = AckFits a
 Fits (stream s) = StreamFits s
 Fits (new_connection_id n) = AreNumbers (fields_of (new_connection_id n)) × IsIssued n
 Fits (path_challenge d) = length d ≡ 8
@@ -141,10 +129,6 @@ Fits f = AreNumbers (fields_of f)
 abbrev pub AllFit : List FrameValue → Type 0
 AllFit [] = Unit {0}
 AllFit (f ∷ fs) = Fits f × AllFit fs
-
--- How many bytes a number takes.
-abbrev pub width_of : ℕ → ℕ
-width_of n = length (shortest n)
 
 -- How many bytes the offset of a STREAM frame takes.
 abbrev pub offset_width : ℕ → ℕ
@@ -172,21 +156,17 @@ length_if with_length text = some_if with_length (length text)
 abbrev pub stream_size : Bool → StreamValue → ℕ
 stream_size with_length s = stream_header_size s.id s.offset (length_if with_length s.bytes) + length s.bytes
 
--- How many bytes numbers take.
-abbrev pub widths : List ℕ → ℕ
-widths [] = 0
-widths (n ∷ ns) = width_of n + widths ns
-
 -- How many bytes a frame takes.
 abbrev pub frame_size : FrameValue → ℕ
 frame_size padding = 1
 frame_size ping = 1
-frame_size (ack a) = 0
+frame_size (ack a) = ack_size a
 frame_size (stream s) = stream_size true s
 frame_size f = widths (numbers_of f) + length (text_of f)
 
 -- The most bytes that a frame takes: 2 for the type of ACK_FREQUENCY, 1 for each other, 8 for each number, and its text.
 abbrev pub most_of : FrameValue → ℕ
+most_of (ack a) = ack_most a
 most_of (reset_stream r) = 1 + 8 + 8 + 8
 most_of (stop_sending s) = 1 + 8 + 8
 most_of (crypto c) = 1 + 8 + 8 + length c.bytes

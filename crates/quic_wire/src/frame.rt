@@ -4,14 +4,16 @@ ghost use Rattle.std.specs.Prelude.{◌<◌, ◌^◌};
 use quic_wire_core::{Code, Dir, FrameType, Reason, StreamId, TransportError, VarInt};
 use thiserror::Error;
 
+pub(crate) mod ack;
 mod close;
 mod iter;
 mod kinds;
-mod reading;
+pub(crate) mod reading;
 #[cfg(test)]
 mod table;
 mod writing;
 
+pub use ack::{Ack, AckIter, EcnCounts};
 pub use close::{ApplicationClose, Close, ConnectionClose};
 pub use iter::Iter;
 pub use kinds::{
@@ -23,12 +25,14 @@ pub use writing::{
 };
 
 /// A frame of a payload (quinn-proto's `frame::Frame`).
-#[derive(Debug, PartialEq, Eq, Drop)]
+#[derive(Debug, Drop)]
 pub enum Frame<'a> {
     /// Nothing (section 19.1).
     Padding,
     /// Asks for an acknowledgement (section 19.2).
     Ping,
+    /// Which packets came (section 19.3).
+    Ack(Ack<'a>),
     /// Ends the sending part of a stream abruptly (section 19.4).
     ResetStream(ResetStream),
     /// Asks the peer to cease sending on a stream (section 19.5).
@@ -113,6 +117,7 @@ impl<'a> Frame<'a> {
         match self {
             Frame::Padding => FrameType::PADDING,
             Frame::Ping => FrameType::PING,
+            Frame::Ack(ack) => ack.ty(),
             Frame::ResetStream(_) => FrameType::RESET_STREAM,
             Frame::StopSending(_) => FrameType::STOP_SENDING,
             Frame::Crypto(_) => FrameType::CRYPTO,
@@ -146,7 +151,7 @@ impl<'a> Frame<'a> {
     {
         !matches!(
             self,
-            Frame::Padding | Frame::ConnectionClose(_) | Frame::ApplicationClose(_)
+            Frame::Padding | Frame::Ack(_) | Frame::ConnectionClose(_) | Frame::ApplicationClose(_)
         )
     }
 }

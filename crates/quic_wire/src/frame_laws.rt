@@ -1,10 +1,14 @@
 //! What the definitions of frames say together. Each function does nothing: its contract is the law.
-ghost use Rattle.std.specs.Prelude.{◌≡◌, ℕ, ◌+◌, ◌≤◌, Bool, false, List, [], ◌∷◌, ◌++◌, ◌<◌, ◌^◌, length, map, replicate, Ok, Err, Result};
+ghost use Rattle.std.specs.Prelude.{◌≡◌, ℕ, ◌+◌, ◌≤◌, Bool, false, List, [], ◌∷◌, ◌++◌, ◌<◌, ◌^◌, length, map, replicate, Ok, Err, Result, Option, ◌↔◌};
 ghost use Rattle.quic_wire.specs.declared.frame.InvalidFrame.{InvalidFrame};
-ghost use Rattle.quic_wire.specs.Value.{FrameValue, StreamValue, padding, stream, datagram};
+ghost use Rattle.quic_wire.specs.Value.{FrameValue, StreamValue, ack, padding, stream, datagram};
 ghost use Rattle.quic_wire.specs.FrameTypes.{Kind, IsKnown, kind_of, type_of};
 ghost use Rattle.quic_wire.specs.Grammar.{Ends, IsForm, Payload};
 ghost use Rattle.quic_wire.specs.Items.{items, EndsAtRefusal};
+ghost use Rattle.quic_wire_core.specs.Runs.{Run, Has, AreRuns};
+ghost use Rattle.quic_wire.specs.AckGrammar.{EcnFits, InRanges};
+ghost use Rattle.quic_wire.specs.AckSet.{ack_of_set, IsSmall};
+ghost use Rattle.quic_wire.specs.AckWriting.{ack_spelling};
 ghost use Rattle.quic_wire.specs.Writing.{spelling, stream_spelling, datagram_to_end, spelled_all, Fits, AllFit, StreamFits, frame_size, stream_size, most_of};
 
 /// A type number names one kind of frame, and each kind is named by its number (RFC 9000, section 12.4).
@@ -66,4 +70,13 @@ pub fn written_is_read()
     ensures padded { (fs : List FrameValue) (count : ℕ) → AllFit fs → items (spelled_all fs ++ replicate count 0) ≡ map Ok (fs ++ replicate count padding) }
     ensures last { (fs : List FrameValue) (s : StreamValue) → AllFit fs → StreamFits s → items (spelled_all fs ++ stream_spelling false s) ≡ map Ok (fs ++ stream s ∷ []) }
     ensures last_datagram { (fs : List FrameValue) (d : List ℕ) → AllFit fs → items (spelled_all fs ++ datagram_to_end d) ≡ map Ok (fs ++ datagram d ∷ []) }
+{}
+
+/// An ACK frame is its set of numbers (RFC 9000, section 19.3.1): what is written for a set that isn't empty has a form and is
+/// read as that frame, whatever follows it, and a number is in the set exactly where one of the frame's ranges holds it.
+pub fn ack_is_its_set()
+    ensures fits { (delay : ℕ) (runs : List Run) (ecn : Option (ℕ × ℕ × ℕ)) → AreRuns runs → (runs ≡ [] → ⊥) → IsSmall runs → delay < 2 ^ 62 → EcnFits ecn → Fits (ack (ack_of_set delay runs ecn)) }
+    ensures read { (delay : ℕ) (runs : List Run) (ecn : Option (ℕ × ℕ × ℕ)) (rest : List ℕ) → AreRuns runs → (runs ≡ [] → ⊥) → IsSmall runs → delay < 2 ^ 62 → EcnFits ecn
+        → items (ack_spelling (ack_of_set delay runs ecn) ++ rest) ≡ Ok (ack (ack_of_set delay runs ecn)) ∷ items rest }
+    ensures numbers { (delay : ℕ) (runs : List Run) (ecn : Option (ℕ × ℕ × ℕ)) (n : ℕ) → AreRuns runs → Has runs n ↔ InRanges (ack_of_set delay runs ecn).ranges n }
 {}

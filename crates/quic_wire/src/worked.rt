@@ -3,21 +3,23 @@
 ghost use Rattle.std.specs.Prelude.{◌≡◌, ◌-◌, true, false, [], ◌∷◌, ◌++◌, drop, replicate, Some, None, Ok, Err};
 ghost use Rattle.quic_wire_core.specs.Varint.{Spells, varint_at, shortest};
 ghost use Rattle.quic_wire.specs.declared.frame.FrameError.TheVariants.{UnexpectedEnd, InvalidId};
+ghost use Rattle.quic_wire.specs.declared.frame.FrameError.TheVariants as frame_errors;
 ghost use Rattle.quic_wire.specs.declared.packet.HeaderError.TheVariants.{TooShort, NotShort, FixedBit, UnknownId};
 ghost use Rattle.quic_wire.specs.declared.transport_parameters.error.TransportParametersError.TheVariants.{Malformed, IllegalValue};
 ghost use Rattle.quic_wire.specs.Number.{truncated, number_bytes, residue_of, expanded, IsFewest, IsExpansion};
 ghost use Rattle.quic_wire.specs.Header.{header_bytes, key_phase, reserved_bits};
 ghost use Rattle.quic_wire.specs.Keys.{width_in};
 ghost use Rattle.quic_wire.specs.Destination.{decoded, fixed_length_id};
-ghost use Rattle.quic_wire.specs.Value.{padding, ping, stream, asks};
+ghost use Rattle.quic_wire.specs.Value.{ack, padding, ping, stream, asks};
 ghost use Rattle.quic_wire.specs.FrameTypes.{is_stream, kind_of, type_of};
 ghost use Rattle.quic_wire.specs.Grammar.{IsForm, Payload};
 ghost use Rattle.quic_wire.specs.Items.{items};
-ghost use Rattle.quic_wire.specs.Writing.{spelling, stream_spelling, stream_size};
+ghost use Rattle.quic_wire.specs.AckSet.{ack_of_set};
+ghost use Rattle.quic_wire.specs.Writing.{spelling, stream_spelling, stream_size, frame_size};
 ghost use Rattle.quic_wire.specs.Parameters.{ParametersSpell};
 ghost use Rattle.quic_wire.specs.ParametersRead.{parameters_at};
 ghost use Rattle.quic_wire.specs.ParametersWritten.{IsWriteOrder, places, written_parameters};
-ghost use Rattle.quic_wire.specs.Worked.{hello_stream, hello_sized, hello_unsized, eight_bytes, short_header, limits, limits_spelled, no_limits};
+ghost use Rattle.quic_wire.specs.Worked.{seven_numbers, seven_acked, seven_spelled, hello_stream, hello_sized, hello_unsized, eight_bytes, short_header, limits, limits_spelled, no_limits};
 
 /// The samples of RFC 9000, A.1: each form is a form of its number, is read as it, and all but the last are the shortest.
 pub fn integers_of_the_standard()
@@ -137,4 +139,19 @@ pub fn parameters_are_read()
     ensures delay_first { parameters_at (0x80 ∷ 0x00 ∷ 0x00 ∷ 0x0b ∷ 0x01 ∷ 0x01 ∷ 0xc0 ∷ 0x00 ∷ 0x00 ∷ 0x00 ∷ 0xff ∷ 0x04 ∷ 0xde ∷ 0x1b ∷ 0x02 ∷ 0x43 ∷ 0xe8 ∷ []) ≡ Ok (record no_limits { max_ack_delay = 1; min_ack_delay = Some 1000 }) }
     ensures delay_behind { parameters_at (0xc0 ∷ 0x00 ∷ 0x00 ∷ 0x00 ∷ 0xff ∷ 0x04 ∷ 0xde ∷ 0x1b ∷ 0x02 ∷ 0x43 ∷ 0xe9 ∷ 0x0b ∷ 0x01 ∷ 0x01 ∷ []) ≡ Err IllegalValue }
     ensures delay_malformed { parameters_at (0xc0 ∷ 0x00 ∷ 0x00 ∷ 0x00 ∷ 0xff ∷ 0x04 ∷ 0xde ∷ 0x1b ∷ 0x02 ∷ 0x43 ∷ 0xe9 ∷ 0x0b ∷ 0x01 ∷ 0x01 ∷ 0x04 ∷ []) ≡ Err Malformed }
+{}
+
+/// A set of numbers is written as an ACK frame, and read again; fields are judged in their order (RFC 9000, section 19.3): a
+/// first range longer than its greatest number, a gap that is too large with nothing behind it, a length that is too large.
+#[tactic(auto, unfolding(crate::specs::Items::items, crate::specs::Items::items_within, crate::specs::Items::frame_at, crate::specs::Reading::body_at, crate::specs::FrameTypes::kind_of, crate::specs::AckReading::ack_at, crate::specs::AckReading::ranges_at, crate::specs::AckReading::range_at, crate::specs::AckReading::ecn_at, crate::specs::AckReading::some_ecn_at))]
+pub fn acks_are_sets()
+    ensures set { ack_of_set 42 seven_numbers (Some (42, 24, 12)) ≡ seven_acked }
+    ensures spelled { spelling (ack seven_acked) ≡ seven_spelled }
+    ensures size { frame_size (ack seven_acked) ≡ 14 }
+    ensures read { items seven_spelled ≡ Ok (ack seven_acked) ∷ [] }
+    ensures first { items (0x02 ∷ 0x04 ∷ 0x00 ∷ 0x00 ∷ 0x05 ∷ []) ≡ Err (record { ty = Some 0x02; reason = frame_errors.Malformed }) ∷ [] }
+    ensures gap { items (0x02 ∷ 0x04 ∷ 0x00 ∷ 0x01 ∷ 0x00 ∷ 0x03 ∷ []) ≡ Err (record { ty = Some 0x02; reason = frame_errors.Malformed }) ∷ [] }
+    ensures no_length { items (0x02 ∷ 0x04 ∷ 0x00 ∷ 0x01 ∷ 0x00 ∷ 0x02 ∷ []) ≡ Err (record { ty = Some 0x02; reason = UnexpectedEnd }) ∷ [] }
+    ensures length { items (0x02 ∷ 0x04 ∷ 0x00 ∷ 0x01 ∷ 0x00 ∷ 0x02 ∷ 0x01 ∷ []) ≡ Err (record { ty = Some 0x02; reason = frame_errors.Malformed }) ∷ [] }
+    ensures asks { asks (ack seven_acked) ≡ false }
 {}

@@ -4,10 +4,11 @@ ghost use Rattle.std.specs.Prelude.{◌≡◌, ◌<◌, ◌^◌, length, IfOk};
 ghost use Rattle.std.specs.Int.{w64, to_be_bytes};
 ghost use Rattle.quic_wire.specs.Taking.{Reads};
 ghost use Rattle.quic_wire.specs.Reading.{var_at, block_at, sized_at, offset_at, data_at, byte_at, connection_id_at, of_kind_at, body_at};
-ghost use Rattle.quic_wire.specs.FrameTypes.{is_reset_stream, is_stop_sending, is_crypto, is_new_token, is_stream, is_max_data, is_max_stream_data, is_max_streams, is_data_blocked, is_stream_data_blocked, is_streams_blocked, is_new_connection_id, is_retire_connection_id, is_path_challenge, is_path_response, is_connection_close, is_application_close, is_datagram, is_ack_frequency, has_bit};
+ghost use Rattle.quic_wire.specs.FrameTypes.{is_ack, is_reset_stream, is_stop_sending, is_crypto, is_new_token, is_stream, is_max_data, is_max_stream_data, is_max_streams, is_data_blocked, is_stream_data_blocked, is_streams_blocked, is_new_connection_id, is_retire_connection_id, is_path_challenge, is_path_response, is_connection_close, is_application_close, is_datagram, is_ack_frequency, has_bit};
 ghost use Rattle.quic_wire.specs.Items.{frame_at};
 ghost use Rattle.quic_wire.specs.FrameView.{is_one_way, frame_view};
 
+use crate::frame::ack::reading::ack_of;
 use crate::frame::{
     AckFrequency, ApplicationCloseFrame, ConnectionCloseFrame, Crypto, Datagram, Frame, FrameError,
     InvalidFrame, NewConnectionId, NewToken, ResetStream, StopSending, Stream,
@@ -25,7 +26,7 @@ fn var_of(bytes: &mut &[u8]) -> Result<VarInt, FrameError>
 }
 
 /// The number of a variable-length integer.
-fn number_of(bytes: &mut &[u8]) -> Result<u64, FrameError>
+pub(crate) fn number_of(bytes: &mut &[u8]) -> Result<u64, FrameError>
     ensures value { Reads (λ x. x) result bytes.new.now (var_at bytes.old.now) }
     ensures bound { IfOk result (λ x. x < 2 ^ 62) }
 {
@@ -76,6 +77,16 @@ fn data_of<'a>(sized: bool, bytes: &mut &'a [u8]) -> Result<&'a [u8], FrameError
         let all = *bytes;
         *bytes = &[];
         Ok(all)
+    }
+}
+
+/// An ACK frame behind its type.
+fn ack_frame_of<'a>(ecn: bool, bytes: &mut &'a [u8]) -> Result<Frame<'a>, FrameError>
+    ensures { Reads frame_view result bytes.new.now (of_kind_at (is_ack ecn) bytes.old.now) }
+{
+    match ack_of(ecn, bytes) {
+        Ok(ack) => Ok(Frame::Ack(ack)),
+        Err(reason) => Err(reason),
     }
 }
 
@@ -341,6 +352,8 @@ fn body_of<'a>(ty: u64, bytes: &mut &'a [u8]) -> Result<Frame<'a>, FrameError>
     match ty {
         0x00 => Ok(Frame::Padding),
         0x01 => Ok(Frame::Ping),
+        0x02 => ack_frame_of(false, bytes),
+        0x03 => ack_frame_of(true, bytes),
         0x04 => reset_stream_of(bytes),
         0x05 => stop_sending_of(bytes),
         0x06 => crypto_of(bytes),
@@ -477,7 +490,7 @@ mod tests {
         let wanted = Datagram {
             data: &[0x68, 0x69, 0x00, 0x00],
         };
-        assert!(rt; frame_of(&mut bytes) == Ok(Frame::Datagram(wanted)));
+        assert!(rt; matches!(frame_of(&mut bytes), Ok(Frame::Datagram(read)) if read == wanted));
         assert!(rt; bytes.is_empty());
         Ok(())
     }

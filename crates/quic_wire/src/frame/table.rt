@@ -20,7 +20,11 @@ fn is_spelled(rt: &HostRuntime, frame: &Frame<'_>, bytes: &[u8]) -> Result<bool,
     write_frame(frame, &mut out)?;
     let mut frames = Iter::new(bytes);
     let read = match frames.next() {
-        Some(Ok(back)) => back == *frame,
+        Some(Ok(back)) => {
+            let shown = format!(in rt.alloc(); "{back:?}")?;
+            let wanted = format!(in rt.alloc(); "{frame:?}")?;
+            shown.as_str() == wanted.as_str()
+        }
         _ => false,
     };
     let whole = frames.next().is_none() && size_of_frame(frame) == bytes.len();

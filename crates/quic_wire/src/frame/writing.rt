@@ -8,6 +8,8 @@ ghost use Rattle.quic_wire.specs.Value.{reset_stream, stop_sending, crypto, new_
 ghost use Rattle.quic_wire.specs.Grammar.{offset_numbers, number_if};
 ghost use Rattle.quic_wire.specs.Writing.{written, widths, AreNumbers, has_offset, stream_header, stream_spelling, spelling, StreamFits, Fits, width_of, offset_width, length_width, some_if, header_of, with_more, stream_header_size, stream_size, frame_size, BeginWith, SpendsSpare};
 
+use crate::frame::ack::size::size_of_ack;
+use crate::frame::ack::writing::write_ack;
 use crate::frame::{
     AckFrequency, ApplicationCloseFrame, ConnectionCloseFrame, Crypto, Frame, NewConnectionId,
     ResetStream, StopSending, Stream,
@@ -89,7 +91,7 @@ fn write_stream<B: BufMut>(buf: &mut B, stream: &Stream<'_>) -> Result<(), Alloc
 }
 
 /// Writes numbers, one after another.
-fn write_numbers<B: BufMut>(buf: &mut B, numbers: &[u64]) -> Result<(), AllocError>
+pub(crate) fn write_numbers<B: BufMut>(buf: &mut B, numbers: &[u64]) -> Result<(), AllocError>
     requires { AreNumbers numbers.now }
     ensures ok { OnOk result (B.written buf.new ≡ B.written buf.old ++ written numbers.now) }
     ensures err { OnErr result (BeginWith (B.written buf.old) (B.written buf.new)) }
@@ -267,6 +269,7 @@ pub fn write_frame<B: BufMut>(frame: &Frame<'_>, buf: &mut B) -> Result<(), Allo
     match frame {
         Frame::Padding => write_number(buf, 0x00),
         Frame::Ping => write_number(buf, 0x01),
+        Frame::Ack(ack) => write_ack(buf, ack),
         Frame::ResetStream(frame) => write_reset_stream(buf, frame),
         Frame::StopSending(frame) => write_stop_sending(buf, frame),
         Frame::Crypto(frame) => write_crypto(buf, frame),
@@ -292,7 +295,7 @@ pub fn write_frame<B: BufMut>(frame: &Frame<'_>, buf: &mut B) -> Result<(), Allo
 }
 
 /// How many bytes a number takes.
-fn size_of_number(n: u64) -> usize
+pub(crate) fn size_of_number(n: u64) -> usize
     requires { n < 2 ^ 62 }
     ensures size { result ≡ width_of n }
     ensures bound { result ≤ 8 }
@@ -402,6 +405,7 @@ pub fn size_of_frame(frame: &Frame<'_>) -> usize
 {
     match frame {
         Frame::Padding | Frame::Ping | Frame::HandshakeDone | Frame::ImmediateAck => 1,
+        Frame::Ack(ack) => size_of_ack(ack),
         Frame::ResetStream(frame) => size_of_reset_stream(frame),
         Frame::StopSending(frame) => 1
             + size_of_pair(frame.id.into(), frame.error_code.into_inner()),

@@ -1,8 +1,7 @@
 use Rattle.std.proofs.Common.{true, false, arith}
-use Rattle.quic_wire.specs.FrameTypes.{is_padding, is_ping, is_reset_stream, is_stop_sending, is_crypto, is_new_token, is_max_data, is_max_stream_data, is_max_streams, is_data_blocked, is_stream_data_blocked, is_streams_blocked, is_new_connection_id, is_retire_connection_id, is_path_challenge, is_path_response, is_connection_close, is_application_close, is_handshake_done, is_immediate_ack, is_datagram, is_ack_frequency}
+use Rattle.quic_wire.specs.FrameTypes.{is_padding, is_ping, is_ack, is_reset_stream, is_stop_sending, is_crypto, is_new_token, is_max_data, is_max_stream_data, is_max_streams, is_data_blocked, is_stream_data_blocked, is_streams_blocked, is_new_connection_id, is_retire_connection_id, is_path_challenge, is_path_response, is_connection_close, is_application_close, is_handshake_done, is_immediate_ack, is_datagram, is_ack_frequency}
 use Rattle.quic_wire.specs.FrameView.{frame_view}
 use Rattle.quic_wire.proofs.FrameKinds.{of_type, of_stream_type, body_is, body_other}
-use Rattle.quic_wire.proofs.frame.reading.body_of.Goals.{in_default-via-then-ty-lt4, in_default-via-else-ty-lt4+else-ty-lt16}
 use Rattle.quic_wire.proofs.frame.reading.body_of.Goals as goal
 
 pub returns-in-0 : goal.returns-in-0
@@ -10,6 +9,12 @@ returns-in-0 c = body_is is_padding c.args.ty c.args.bytes.now.now tt c.in-0.is
 
 pub returns-in-1 : goal.returns-in-1
 returns-in-1 c = body_is is_ping c.args.ty c.args.bytes.now.now tt c.in-1.is
+
+pub returns-in-2 : goal.returns-in-2
+returns-in-2 c = of_type frame_view (is_ack false) c.args.ty c.args.bytes.now.now c.ack_frame_of.new.bytes.now c.ack_frame_of.result tt c.in-2.is c.ack_frame_of.ensures
+
+pub returns-in-3 : goal.returns-in-3
+returns-in-3 c = of_type frame_view (is_ack true) c.args.ty c.args.bytes.now.now c.ack_frame_of-in-3.new.bytes.now c.ack_frame_of-in-3.result tt c.in-3.is c.ack_frame_of-in-3.ensures
 
 pub returns-in-4 : goal.returns-in-4
 returns-in-4 c = of_type frame_view is_reset_stream c.args.ty c.args.bytes.now.now c.reset_stream_of.new.bytes.now c.reset_stream_of.result tt c.in-4.is c.reset_stream_of.ensures
@@ -84,7 +89,4 @@ pub returns-in-8-to-15 : goal.returns-in-8-to-15
 returns-in-8-to-15 c = of_stream_type frame_view c.args.ty c.args.bytes.now.now c.stream_of.new.bytes.now c.stream_of.result (omega arith) (omega arith) c.stream_of.ensures
 
 pub returns-in_default : goal.returns-in_default
-returns-in_default c = elim c.in_default.branch [
-  | in_default-via-then-ty-lt4 w ↦ body_other c.args.ty c.args.bytes.now.now (λ e. omega arith) (λ e. omega arith) (λ h k. omega arith) (λ e. omega arith) (λ e. omega arith) (λ e. omega arith)
-  | in_default-via-else-ty-lt4+else-ty-lt16 w ↦ body_other c.args.ty c.args.bytes.now.now (λ e. omega arith) (λ e. omega arith) (λ h k. omega arith) (λ e. omega arith) (λ e. omega arith) (λ e. omega arith)
-]
+returns-in_default c = body_other c.args.ty c.args.bytes.now.now (λ e. omega arith) (λ e. omega arith) (λ h k. omega arith) (λ e. omega arith) (λ e. omega arith) (λ e. omega arith)
