@@ -6,15 +6,12 @@ use Rattle.quic_wire_core.specs.declared.stream_id.Dir.TheVariants.{Bi, Uni}
 use Rattle.quic_wire.specs.declared.frame.Frame.{Frame}
 use Rattle.quic_wire.specs.declared.frame.Frame.TheVariants as frames
 use Rattle.quic_wire.specs.declared.frame.Stream.{Stream}
-use Rattle.quic_wire.specs.declared.frame.kinds.ResetStream.{ResetStream}
-use Rattle.quic_wire.specs.declared.frame.kinds.StopSending.{StopSending}
-use Rattle.quic_wire.specs.declared.frame.kinds.Crypto.{Crypto}
-use Rattle.quic_wire.specs.declared.frame.kinds.NewConnectionId.{NewConnectionId}
-use Rattle.quic_wire.specs.declared.frame.kinds.ConnectionCloseFrame.{ConnectionCloseFrame}
-use Rattle.quic_wire.specs.declared.frame.kinds.ApplicationCloseFrame.{ApplicationCloseFrame}
-use Rattle.quic_wire.specs.declared.frame.kinds.AckFrequency.{AckFrequency}
+use Rattle.quic_wire.specs.declared.frame.ResetStream.{ResetStream}
+use Rattle.quic_wire.specs.declared.frame.StopSending.{StopSending}
+use Rattle.quic_wire.specs.declared.frame.NewConnectionId.{NewConnectionId}
+use Rattle.quic_wire.specs.declared.frame.AckFrequency.{AckFrequency}
 use Rattle.quic_wire.specs.declared.frame.InvalidFrame.{InvalidFrame}
-use Rattle.quic_wire.specs.Value.{ResetStreamValue, StopSendingValue, CryptoValue, StreamValue, NewConnectionIdValue, ConnectionCloseValue, ApplicationCloseValue, AckFrequencyValue, FrameValue, padding, ping, ack, reset_stream, stop_sending, crypto, new_token, stream, max_data, max_stream_data, max_streams, data_blocked, stream_data_blocked, streams_blocked, new_connection_id, retire_connection_id, path_challenge, path_response, connection_close, application_close, handshake_done, immediate_ack, datagram, ack_frequency}
+use Rattle.quic_wire.specs.Value.{ResetStreamValue, StopSendingValue, StreamValue, NewConnectionIdValue, AckFrequencyValue, FrameValue, padding, ping, ack, reset_stream, stop_sending, crypto, new_token, stream, max_data, max_stream_data, max_streams, data_blocked, stream_data_blocked, streams_blocked, new_connection_id, retire_connection_id, path_challenge, path_response, connection_close, application_close, handshake_done, immediate_ack, datagram, ack_frequency}
 
 -- What a RESET_STREAM frame says.
 abbrev pub reset_stream_view : ResetStream → ResetStreamValue
@@ -23,10 +20,6 @@ reset_stream_view r = record { id = r.id; code = r.error_code; final_size = r.fi
 -- What a STOP_SENDING frame says.
 abbrev pub stop_sending_view : StopSending → StopSendingValue
 stop_sending_view s = record { id = s.id; code = s.error_code }
-
--- What a CRYPTO frame says.
-abbrev pub crypto_view : Crypto → CryptoValue
-crypto_view c = record { offset = c.offset; bytes = c.data.now }
 
 -- What a STREAM frame says.
 abbrev pub stream_view : Stream → StreamValue
@@ -41,14 +34,6 @@ is_one_way Uni = true
 abbrev pub new_connection_id_view : NewConnectionId → NewConnectionIdValue
 new_connection_id_view n = record { sequence = n.sequence; retire_prior_to = n.retire_prior_to; id = n.id; token = n.reset_token }
 
--- What a CONNECTION_CLOSE frame of type 1c says.
-abbrev pub connection_close_view : ConnectionCloseFrame → ConnectionCloseValue
-connection_close_view c = record { code = c.error_code; frame_type = c.frame_type; reason = c.reason.now }
-
--- What a CONNECTION_CLOSE frame of type 1d says.
-abbrev pub application_close_view : ApplicationCloseFrame → ApplicationCloseValue
-application_close_view c = record { code = c.error_code; reason = c.reason.now }
-
 -- What an ACK_FREQUENCY frame says.
 abbrev pub ack_frequency_view : AckFrequency → AckFrequencyValue
 ack_frequency_view a = record { sequence = a.sequence; threshold = a.ack_eliciting_threshold; delay = a.request_max_ack_delay; reordering = a.reordering_threshold }
@@ -60,8 +45,8 @@ frame_view frames.Ping = ping
 frame_view (frames.Ack a) = ack a
 frame_view (frames.ResetStream r) = reset_stream (reset_stream_view r)
 frame_view (frames.StopSending s) = stop_sending (stop_sending_view s)
-frame_view (frames.Crypto c) = crypto (crypto_view c)
-frame_view (frames.NewToken t) = new_token t.token.now
+frame_view (frames.Crypto offset data) = crypto (record { offset = offset; bytes = data.now })
+frame_view (frames.NewToken token) = new_token token.now
 frame_view (frames.Stream s) = stream (stream_view s)
 frame_view (frames.MaxData n) = max_data n
 frame_view (frames.MaxStreamData id offset) = max_stream_data (record { id = id; limit = offset })
@@ -73,11 +58,11 @@ frame_view (frames.NewConnectionId n) = new_connection_id (new_connection_id_vie
 frame_view (frames.RetireConnectionId sequence) = retire_connection_id sequence
 frame_view (frames.PathChallenge n) = path_challenge (to_be_bytes w64 n)
 frame_view (frames.PathResponse n) = path_response (to_be_bytes w64 n)
-frame_view (frames.ConnectionClose c) = connection_close (connection_close_view c)
-frame_view (frames.ApplicationClose c) = application_close (application_close_view c)
+frame_view (frames.ConnectionClose code type reason) = connection_close (record { code = code; frame_type = type; reason = reason.now })
+frame_view (frames.ApplicationClose code reason) = application_close (record { code = code; reason = reason.now })
 frame_view frames.HandshakeDone = handshake_done
 frame_view frames.ImmediateAck = immediate_ack
-frame_view (frames.Datagram d) = datagram d.data.now
+frame_view (frames.Datagram data) = datagram data.now
 frame_view (frames.AckFrequency a) = ack_frequency (ack_frequency_view a)
 
 -- What the iterator gives.

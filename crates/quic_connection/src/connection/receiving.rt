@@ -208,7 +208,7 @@ impl<H: HeaderKey + Drop, K: PacketKey + Drop, R: Rng + Drop> Connection<H, K, R
     {
         match frame {
             Frame::Stream(frame) => self.take_stream(frame),
-            Frame::NewToken(_) | Frame::HandshakeDone => self.take_of_server(),
+            Frame::NewToken { .. } | Frame::HandshakeDone => self.take_of_server(),
             _ => Ok(()),
         }
     }

@@ -10,12 +10,11 @@ ghost use Rattle.quic_wire.specs.FrameView.{is_one_way, frame_view};
 
 use crate::frame::ack::reading::ack_of;
 use crate::frame::{
-    AckFrequency, ApplicationCloseFrame, ConnectionCloseFrame, Crypto, Datagram, Frame, FrameError,
-    InvalidFrame, NewConnectionId, NewToken, ResetStream, StopSending, Stream,
+    AckFrequency, Frame, FrameError, InvalidFrame, NewConnectionId, ResetStream, StopSending, Stream,
 };
 use quic_wire_core::{
-    Code, Codec, ConnectionId, Dir, FrameType, MAX_CID_SIZE, RESET_TOKEN_SIZE, ResetToken,
-    StreamId, VarInt,
+    Codec, ConnectionId, Dir, FrameType, MAX_CID_SIZE, RESET_TOKEN_SIZE, ResetToken, StreamId,
+    VarInt,
 };
 
 /// A variable-length integer.
@@ -120,7 +119,7 @@ fn crypto_of<'a>(bytes: &mut &'a [u8]) -> Result<Frame<'a>, FrameError>
 {
     let offset = number_of(bytes)?;
     let data = sized_of(bytes)?;
-    Ok(Frame::Crypto(Crypto { offset, data }))
+    Ok(Frame::Crypto { offset, data })
 }
 
 /// A NEW_TOKEN frame behind its type.
@@ -128,7 +127,7 @@ fn new_token_of<'a>(bytes: &mut &'a [u8]) -> Result<Frame<'a>, FrameError>
     ensures { Reads frame_view result bytes.new.now (of_kind_at is_new_token bytes.old.now) }
 {
     let token = sized_of(bytes)?;
-    Ok(Frame::NewToken(NewToken { token }))
+    Ok(Frame::NewToken { token })
 }
 
 /// A STREAM frame behind its type.
@@ -304,14 +303,14 @@ fn path_response_of<'a>(bytes: &mut &'a [u8]) -> Result<Frame<'a>, FrameError>
 fn connection_close_of<'a>(bytes: &mut &'a [u8]) -> Result<Frame<'a>, FrameError>
     ensures { Reads frame_view result bytes.new.now (of_kind_at is_connection_close bytes.old.now) }
 {
-    let error_code = Code::from(var_of(bytes)?);
-    let frame_type = FrameType::from(var_of(bytes)?);
+    let error_code = number_of(bytes)?;
+    let frame_type = number_of(bytes)?;
     let reason = sized_of(bytes)?;
-    Ok(Frame::ConnectionClose(ConnectionCloseFrame {
+    Ok(Frame::ConnectionClose {
         error_code,
         frame_type,
         reason,
-    }))
+    })
 }
 
 /// A CONNECTION_CLOSE frame of type 1d behind its type.
@@ -319,9 +318,9 @@ fn connection_close_of<'a>(bytes: &mut &'a [u8]) -> Result<Frame<'a>, FrameError
 fn application_close_of<'a>(bytes: &mut &'a [u8]) -> Result<Frame<'a>, FrameError>
     ensures { Reads frame_view result bytes.new.now (of_kind_at is_application_close bytes.old.now) }
 {
-    let error_code = var_of(bytes)?;
+    let error_code = number_of(bytes)?;
     let reason = sized_of(bytes)?;
-    Ok(Frame::ApplicationClose(ApplicationCloseFrame { error_code, reason }))
+    Ok(Frame::ApplicationClose { error_code, reason })
 }
 
 /// A DATAGRAM frame behind its type.
@@ -329,7 +328,7 @@ fn datagram_of<'a>(sized: bool, bytes: &mut &'a [u8]) -> Result<Frame<'a>, Frame
     ensures { Reads frame_view result bytes.new.now (of_kind_at (is_datagram sized) bytes.old.now) }
 {
     let data = data_of(sized, bytes)?;
-    Ok(Frame::Datagram(Datagram { data }))
+    Ok(Frame::Datagram { data })
 }
 
 /// An ACK_FREQUENCY frame behind its type.
@@ -487,10 +486,8 @@ mod tests {
     #[test]
     fn a_message_without_length_ends_the_payload(rt: HostRuntime) -> Result<(), Fail> {
         let mut bytes: &[u8] = &[0x30, 0x68, 0x69, 0x00, 0x00];
-        let wanted = Datagram {
-            data: &[0x68, 0x69, 0x00, 0x00],
-        };
-        assert!(rt; matches!(frame_of(&mut bytes), Ok(Frame::Datagram(read)) if read == wanted));
+        let wanted = [0x68, 0x69, 0x00, 0x00];
+        assert!(rt; matches!(frame_of(&mut bytes), Ok(Frame::Datagram { data }) if data == wanted));
         assert!(rt; bytes.is_empty());
         Ok(())
     }

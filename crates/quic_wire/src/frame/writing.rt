@@ -2,17 +2,16 @@
 ghost use Rattle.std.specs.Prelude.{◌≡◌, ◌+◌, ◌<◌, ◌≤◌, ◌^◌, ◌++◌, [], ◌∷◌, length, OnOk, OnErr, vec_len, vec_capacity, IfSome, true};
 ghost use Rattle.bytes.specs.Filled.{UsesSpare};
 ghost use Rattle.quic_wire_core.specs.Varint.{shortest};
-ghost use Rattle.quic_wire.specs.FrameView.{is_one_way, reset_stream_view, stop_sending_view, crypto_view, stream_view, new_connection_id_view, connection_close_view, application_close_view, ack_frequency_view, frame_view};
+ghost use Rattle.quic_wire.specs.FrameView.{is_one_way, reset_stream_view, stop_sending_view, stream_view, new_connection_id_view, ack_frequency_view, frame_view};
 ghost use Rattle.quic_wire.specs.FrameTypes.{bit_if};
-ghost use Rattle.quic_wire.specs.Value.{reset_stream, stop_sending, crypto, new_connection_id, connection_close, application_close, ack_frequency};
+ghost use Rattle.quic_wire.specs.Value.{reset_stream, stop_sending, new_connection_id, ack_frequency};
 ghost use Rattle.quic_wire.specs.Grammar.{offset_numbers, number_if};
 ghost use Rattle.quic_wire.specs.Writing.{written, widths, AreNumbers, has_offset, stream_header, stream_spelling, spelling, StreamFits, Fits, width_of, offset_width, length_width, some_if, header_of, with_more, stream_header_size, stream_size, frame_size, BeginWith, SpendsSpare};
 
 use crate::frame::ack::size::size_of_ack;
 use crate::frame::ack::writing::write_ack;
 use crate::frame::{
-    AckFrequency, ApplicationCloseFrame, ConnectionCloseFrame, Crypto, Frame, NewConnectionId,
-    ResetStream, StopSending, Stream,
+    AckFrequency, Frame, NewConnectionId, ResetStream, StopSending, Stream,
 };
 use crate::reserved::append;
 use bytes::BufMut;
@@ -181,17 +180,6 @@ fn write_stop_sending<B: BufMut>(buf: &mut B, frame: &StopSending) -> Result<(),
     write_limit(buf, 0x05, frame.id, frame.error_code.into_inner())
 }
 
-/// Writes a CRYPTO frame.
-fn write_crypto<B: BufMut>(buf: &mut B, frame: &Crypto<'_>) -> Result<(), AllocError>
-    requires { Fits (crypto (crypto_view frame.now)) }
-    ensures ok { OnOk result (B.written buf.new ≡ B.written buf.old ++ spelling (crypto (crypto_view frame.now))) }
-    ensures err { OnErr result (BeginWith (B.written buf.old) (B.written buf.new)) }
-    ensures spare { SpendsSpare result (B.spare buf.old) (B.spare buf.new) (frame_size (crypto (crypto_view frame.now))) }
-{
-    let len = frame.data.len() as u64;
-    write_parts(buf, &[0x06, frame.offset, len], frame.data)
-}
-
 /// Writes a NEW_CONNECTION_ID frame.
 #[tactic(auto, using(crate::proofs::FrameWritten::stands_0, crate::proofs::FrameWritten::stands_1, crate::proofs::FrameWritten::stands_2, crate::proofs::FrameWritten::stands_3, crate::proofs::FrameWritten::id_written, crate::proofs::FrameWritten::id_length))]
 fn write_new_connection_id<B: BufMut>(
@@ -207,40 +195,6 @@ fn write_new_connection_id<B: BufMut>(
     buf.put_u8(frame.id.len() as u8)?;
     buf.put_slice(frame.id.as_slice())?;
     buf.put_slice(frame.reset_token.as_slice())
-}
-
-/// Writes a CONNECTION_CLOSE frame of type 1c.
-fn write_connection_close<B: BufMut>(
-    buf: &mut B,
-    frame: &ConnectionCloseFrame<'_>,
-) -> Result<(), AllocError>
-    requires { Fits (connection_close (connection_close_view frame.now)) }
-    ensures ok { OnOk result (B.written buf.new ≡ B.written buf.old ++ spelling (connection_close (connection_close_view frame.now))) }
-    ensures err { OnErr result (BeginWith (B.written buf.old) (B.written buf.new)) }
-    ensures spare { SpendsSpare result (B.spare buf.old) (B.spare buf.new) (frame_size (connection_close (connection_close_view frame.now))) }
-{
-    let code = frame.error_code.into();
-    let len = frame.reason.len() as u64;
-    write_parts(
-        buf,
-        &[0x1c, code, frame.frame_type.into(), len],
-        frame.reason,
-    )
-}
-
-/// Writes a CONNECTION_CLOSE frame of type 1d.
-fn write_application_close<B: BufMut>(
-    buf: &mut B,
-    frame: &ApplicationCloseFrame<'_>,
-) -> Result<(), AllocError>
-    requires { Fits (application_close (application_close_view frame.now)) }
-    ensures ok { OnOk result (B.written buf.new ≡ B.written buf.old ++ spelling (application_close (application_close_view frame.now))) }
-    ensures err { OnErr result (BeginWith (B.written buf.old) (B.written buf.new)) }
-    ensures spare { SpendsSpare result (B.spare buf.old) (B.spare buf.new) (frame_size (application_close (application_close_view frame.now))) }
-{
-    let code = frame.error_code.into_inner();
-    let len = frame.reason.len() as u64;
-    write_parts(buf, &[0x1d, code, len], frame.reason)
 }
 
 /// Writes an ACK_FREQUENCY frame.
@@ -272,8 +226,8 @@ pub fn write_frame<B: BufMut>(frame: &Frame<'_>, buf: &mut B) -> Result<(), Allo
         Frame::Ack(ack) => write_ack(buf, ack),
         Frame::ResetStream(frame) => write_reset_stream(buf, frame),
         Frame::StopSending(frame) => write_stop_sending(buf, frame),
-        Frame::Crypto(frame) => write_crypto(buf, frame),
-        Frame::NewToken(frame) => write_sized(buf, 0x07, frame.token),
+        Frame::Crypto { offset, data } => write_parts(buf, &[0x06, *offset, data.len() as u64], data),
+        Frame::NewToken { token } => write_sized(buf, 0x07, token),
         Frame::Stream(stream) => write_stream(buf, stream),
         Frame::MaxData(limit) => write_one(buf, 0x10, limit.into_inner()),
         Frame::MaxStreamData { id, offset } => write_limit(buf, 0x11, *id, *offset),
@@ -285,11 +239,16 @@ pub fn write_frame<B: BufMut>(frame: &Frame<'_>, buf: &mut B) -> Result<(), Allo
         Frame::RetireConnectionId { sequence } => write_one(buf, 0x19, *sequence),
         Frame::PathChallenge(token) => write_parts(buf, &[0x1a], &token.to_be_bytes()),
         Frame::PathResponse(token) => write_parts(buf, &[0x1b], &token.to_be_bytes()),
-        Frame::ConnectionClose(frame) => write_connection_close(buf, frame),
-        Frame::ApplicationClose(frame) => write_application_close(buf, frame),
+        Frame::ConnectionClose {
+            error_code,
+            frame_type,
+            reason,
+        } => write_parts(buf, &[0x1c, *error_code, *frame_type, reason.len() as u64], reason),
+        Frame::ApplicationClose { error_code, reason } =>
+            write_parts(buf, &[0x1d, *error_code, reason.len() as u64], reason),
         Frame::HandshakeDone => write_parts(buf, &[0x1e], &[]),
         Frame::ImmediateAck => write_parts(buf, &[0x1f], &[]),
-        Frame::Datagram(frame) => write_sized(buf, 0x31, frame.data),
+        Frame::Datagram { data } => write_sized(buf, 0x31, data),
         Frame::AckFrequency(frame) => write_ack_frequency(buf, frame),
     }
 }
@@ -378,15 +337,6 @@ fn size_of_new_connection_id(frame: &NewConnectionId) -> usize
     1 + numbers + 1 + frame.id.len() + RESET_TOKEN_SIZE
 }
 
-/// How many bytes a CONNECTION_CLOSE frame of type 1c takes.
-fn size_of_connection_close(frame: &ConnectionCloseFrame<'_>) -> usize
-    requires { Fits (connection_close (connection_close_view frame.now)) }
-    ensures { result ≡ frame_size (connection_close (connection_close_view frame.now)) }
-{
-    let numbers = size_of_pair(frame.error_code.into(), frame.frame_type.into());
-    1 + numbers + size_of_text(frame.reason)
-}
-
 /// How many bytes an ACK_FREQUENCY frame takes.
 fn size_of_ack_frequency(frame: &AckFrequency) -> usize
     requires { Fits (ack_frequency (ack_frequency_view frame.now)) }
@@ -409,8 +359,8 @@ pub fn size_of_frame(frame: &Frame<'_>) -> usize
         Frame::ResetStream(frame) => size_of_reset_stream(frame),
         Frame::StopSending(frame) => 1
             + size_of_pair(frame.id.into(), frame.error_code.into_inner()),
-        Frame::Crypto(frame) => 1 + size_of_number(frame.offset) + size_of_text(frame.data),
-        Frame::NewToken(frame) => 1 + size_of_text(frame.token),
+        Frame::Crypto { offset, data } => 1 + size_of_number(*offset) + size_of_text(data),
+        Frame::NewToken { token } => 1 + size_of_text(token),
         Frame::Stream(stream) => {
             let length = stream.data.len();
             size_of_stream_header(stream.id, stream.offset, Some(length as u64)) + length
@@ -426,9 +376,9 @@ pub fn size_of_frame(frame: &Frame<'_>) -> usize
         Frame::PathChallenge(_) | Frame::PathResponse(_) => 1 + 8,
         Frame::ConnectionClose(frame) => size_of_connection_close(frame),
         Frame::ApplicationClose(frame) => {
-            1 + size_of_number(frame.error_code.into_inner()) + size_of_text(frame.reason)
+            1 + size_of_number(frame.error_code) + size_of_text(frame.reason)
         }
-        Frame::Datagram(frame) => 1 + size_of_text(frame.data),
+        Frame::Datagram { data } => 1 + size_of_text(data),
         Frame::AckFrequency(frame) => size_of_ack_frequency(frame),
     }
 }
@@ -488,10 +438,12 @@ pub fn put_frame(out: &mut Vec<u8>, frame: &Frame<'_>)
 #[cfg(test)]
 mod tests {
     use super::*;
+    use crate::frame::Ack;
     use std::test::Fail;
 
     #[test]
     fn writes_frames(rt: HostRuntime) -> Result<(), Fail> {
+        let _: Option<Ack<'_>> = None;
         let hello = Frame::Stream(Stream {
             id: StreamId::from(VarInt::from_u32(0)),
             offset: 0,
@@ -511,6 +463,7 @@ mod tests {
 
     #[test]
     fn composes_frames(rt: HostRuntime) -> Result<(), Fail> {
+        let _: Option<Ack<'_>> = None;
         let id = StreamId::from(VarInt::from_u32(4));
         let stream = Stream {
             id,
