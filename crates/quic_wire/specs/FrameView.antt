@@ -45,7 +45,7 @@ frame_view frames.Ping = ping
 frame_view (frames.Ack a) = ack a
 frame_view (frames.ResetStream r) = reset_stream (reset_stream_view r)
 frame_view (frames.StopSending s) = stop_sending (stop_sending_view s)
-frame_view (frames.Crypto offset data) = crypto (record { offset = offset; bytes = data.now })
+frame_view (frames.Crypto offset text) = crypto (record { offset = offset; bytes = text.now })
 frame_view (frames.NewToken token) = new_token token.now
 frame_view (frames.Stream s) = stream (stream_view s)
 frame_view (frames.MaxData n) = max_data n
@@ -62,7 +62,7 @@ frame_view (frames.ConnectionClose code type reason) = connection_close (record 
 frame_view (frames.ApplicationClose code reason) = application_close (record { code = code; reason = reason.now })
 frame_view frames.HandshakeDone = handshake_done
 frame_view frames.ImmediateAck = immediate_ack
-frame_view (frames.Datagram data) = datagram data.now
+frame_view (frames.Datagram text) = datagram text.now
 frame_view (frames.AckFrequency a) = ack_frequency (ack_frequency_view a)
 
 -- What the iterator gives.

@@ -172,7 +172,10 @@ impl<'a> Frame<'a> {
     {
         !matches!(
             self,
-            Frame::Padding | Frame::Ack(_) | Frame::ConnectionClose { .. } | Frame::ApplicationClose { .. }
+            Frame::Padding
+                | Frame::Ack(_)
+                | Frame::ConnectionClose { .. }
+                | Frame::ApplicationClose { .. }
         )
     }
 }

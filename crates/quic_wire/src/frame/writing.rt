@@ -374,10 +374,13 @@ pub fn size_of_frame(frame: &Frame<'_>) -> usize
         Frame::NewConnectionId(frame) => size_of_new_connection_id(frame),
         Frame::RetireConnectionId { sequence } => 1 + size_of_number(*sequence),
         Frame::PathChallenge(_) | Frame::PathResponse(_) => 1 + 8,
-        Frame::ConnectionClose(frame) => size_of_connection_close(frame),
-        Frame::ApplicationClose(frame) => {
-            1 + size_of_number(frame.error_code) + size_of_text(frame.reason)
-        }
+        Frame::ConnectionClose {
+            error_code,
+            frame_type,
+            reason,
+        } => 1 + size_of_pair(*error_code, *frame_type) + size_of_text(reason),
+        Frame::ApplicationClose { error_code, reason } =>
+            1 + size_of_number(*error_code) + size_of_text(reason),
         Frame::Datagram { data } => 1 + size_of_text(data),
         Frame::AckFrequency(frame) => size_of_ack_frequency(frame),
     }
