@@ -6,13 +6,13 @@ use Rattle.quic_wire_core.specs.declared.stream_id.Dir.TheVariants.{Bi, Uni}
 use Rattle.quic_wire.specs.declared.frame.Frame.{Frame}
 use Rattle.quic_wire.specs.declared.frame.Frame.TheVariants as frames
 use Rattle.quic_wire.specs.declared.frame.Stream.{Stream}
-use Rattle.quic_wire.specs.declared.frame.kinds.ResetStream.{ResetStream}
-use Rattle.quic_wire.specs.declared.frame.kinds.StopSending.{StopSending}
-use Rattle.quic_wire.specs.declared.frame.kinds.Crypto.{Crypto}
-use Rattle.quic_wire.specs.declared.frame.kinds.NewConnectionId.{NewConnectionId}
-use Rattle.quic_wire.specs.declared.frame.kinds.ConnectionCloseFrame.{ConnectionCloseFrame}
-use Rattle.quic_wire.specs.declared.frame.kinds.ApplicationCloseFrame.{ApplicationCloseFrame}
-use Rattle.quic_wire.specs.declared.frame.kinds.AckFrequency.{AckFrequency}
+use Rattle.quic_wire.specs.declared.frame.ResetStream.{ResetStream}
+use Rattle.quic_wire.specs.declared.frame.StopSending.{StopSending}
+use Rattle.quic_wire.specs.declared.frame.Crypto.{Crypto}
+use Rattle.quic_wire.specs.declared.frame.NewConnectionId.{NewConnectionId}
+use Rattle.quic_wire.specs.declared.frame.ConnectionCloseFrame.{ConnectionCloseFrame}
+use Rattle.quic_wire.specs.declared.frame.ApplicationCloseFrame.{ApplicationCloseFrame}
+use Rattle.quic_wire.specs.declared.frame.AckFrequency.{AckFrequency}
 use Rattle.quic_wire.specs.declared.frame.InvalidFrame.{InvalidFrame}
 use Rattle.quic_wire.specs.Value.{ResetStreamValue, StopSendingValue, CryptoValue, StreamValue, NewConnectionIdValue, ConnectionCloseValue, ApplicationCloseValue, AckFrequencyValue, FrameValue, padding, ping, ack, reset_stream, stop_sending, crypto, new_token, stream, max_data, max_stream_data, max_streams, data_blocked, stream_data_blocked, streams_blocked, new_connection_id, retire_connection_id, path_challenge, path_response, connection_close, application_close, handshake_done, immediate_ack, datagram, ack_frequency}
 

@@ -14,8 +14,8 @@ use crate::frame::{
     InvalidFrame, NewConnectionId, NewToken, ResetStream, StopSending, Stream,
 };
 use quic_wire_core::{
-    Code, Codec, ConnectionId, Dir, FrameType, MAX_CID_SIZE, RESET_TOKEN_SIZE, ResetToken,
-    StreamId, VarInt,
+    Codec, ConnectionId, Dir, FrameType, MAX_CID_SIZE, RESET_TOKEN_SIZE, ResetToken, StreamId,
+    VarInt,
 };
 
 /// A variable-length integer.
@@ -304,8 +304,8 @@ fn path_response_of<'a>(bytes: &mut &'a [u8]) -> Result<Frame<'a>, FrameError>
 fn connection_close_of<'a>(bytes: &mut &'a [u8]) -> Result<Frame<'a>, FrameError>
     ensures { Reads frame_view result bytes.new.now (of_kind_at is_connection_close bytes.old.now) }
 {
-    let error_code = Code::from(var_of(bytes)?);
-    let frame_type = FrameType::from(var_of(bytes)?);
+    let error_code = number_of(bytes)?;
+    let frame_type = number_of(bytes)?;
     let reason = sized_of(bytes)?;
     Ok(Frame::ConnectionClose(ConnectionCloseFrame {
         error_code,
@@ -319,7 +319,7 @@ fn connection_close_of<'a>(bytes: &mut &'a [u8]) -> Result<Frame<'a>, FrameError
 fn application_close_of<'a>(bytes: &mut &'a [u8]) -> Result<Frame<'a>, FrameError>
     ensures { Reads frame_view result bytes.new.now (of_kind_at is_application_close bytes.old.now) }
 {
-    let error_code = var_of(bytes)?;
+    let error_code = number_of(bytes)?;
     let reason = sized_of(bytes)?;
     Ok(Frame::ApplicationClose(ApplicationCloseFrame { error_code, reason }))
 }

@@ -238,9 +238,8 @@ fn write_application_close<B: BufMut>(
     ensures err { OnErr result (BeginWith (B.written buf.old) (B.written buf.new)) }
     ensures spare { SpendsSpare result (B.spare buf.old) (B.spare buf.new) (frame_size (application_close (application_close_view frame.now))) }
 {
-    let code = frame.error_code.into_inner();
     let len = frame.reason.len() as u64;
-    write_parts(buf, &[0x1d, code, len], frame.reason)
+    write_parts(buf, &[0x1d, frame.error_code, len], frame.reason)
 }
 
 /// Writes an ACK_FREQUENCY frame.
@@ -383,7 +382,7 @@ fn size_of_connection_close(frame: &ConnectionCloseFrame<'_>) -> usize
     requires { Fits (connection_close (connection_close_view frame.now)) }
     ensures { result ≡ frame_size (connection_close (connection_close_view frame.now)) }
 {
-    let numbers = size_of_pair(frame.error_code.into(), frame.frame_type.into());
+    let numbers = size_of_pair(frame.error_code, frame.frame_type);
     1 + numbers + size_of_text(frame.reason)
 }
 
@@ -426,7 +425,7 @@ pub fn size_of_frame(frame: &Frame<'_>) -> usize
         Frame::PathChallenge(_) | Frame::PathResponse(_) => 1 + 8,
         Frame::ConnectionClose(frame) => size_of_connection_close(frame),
         Frame::ApplicationClose(frame) => {
-            1 + size_of_number(frame.error_code.into_inner()) + size_of_text(frame.reason)
+            1 + size_of_number(frame.error_code) + size_of_text(frame.reason)
         }
         Frame::Datagram(frame) => 1 + size_of_text(frame.data),
         Frame::AckFrequency(frame) => size_of_ack_frequency(frame),
