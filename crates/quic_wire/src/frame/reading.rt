@@ -487,7 +487,7 @@ mod tests {
     fn a_message_without_length_ends_the_payload(rt: HostRuntime) -> Result<(), Fail> {
         let mut bytes: &[u8] = &[0x30, 0x68, 0x69, 0x00, 0x00];
         let wanted = [0x68, 0x69, 0x00, 0x00];
-        assert!(rt; matches!(frame_of(&mut bytes), Ok(Frame::Datagram { data }) if data == wanted));
+        assert!(rt; matches!(frame_of(&mut bytes), Ok(Frame::Datagram { data }) if data == wanted.as_slice()));
         assert!(rt; bytes.is_empty());
         Ok(())
     }
