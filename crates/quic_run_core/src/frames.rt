@@ -5,6 +5,7 @@ use quic_connection::{Config, Connection, Instant, Received, TransportConfig};
 use quic_wire::seal_packet;
 use quic_wire_core::{Code, ConnectionId, Side};
 use std::alloc::{AllocError, Global};
+use std::process::Abort;
 use std::test::Fail;
 
 /// The first byte of both ids, eight times.
@@ -28,7 +29,11 @@ fn sealed_for(alloc: Global, side: Side, payload: &[u8]) -> Result<Vec<u8>, Allo
 }
 
 /// What a new end answers to this payload: none where it is taken, else the code that it closes with.
-fn answered(rt: &HostRuntime, side: Side, payload: &[u8]) -> Result<Option<Code>, Fail> {
+fn answered<R: Abort + AllocGlobal>(
+    rt: &R,
+    side: Side,
+    payload: &[u8],
+) -> Result<Option<Code>, Fail> {
     let config = Config::new(TransportConfig::default());
     let now = Instant::from_nanos(0);
     let mut end = Connection::new(

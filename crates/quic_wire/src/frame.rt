@@ -339,10 +339,7 @@ mod tests {
         assert!(rt; frame.is_ack_eliciting());
         assert!(rt; Frame::Ping.is_ack_eliciting());
         assert!(rt; !Frame::Padding.is_ack_eliciting());
-        assert_eq!(rt;
-            Frame::Datagram { data: &[] }.ty(),
-            FrameType::DATAGRAM
-        );
+        assert_eq!(rt; Frame::Datagram { data: &[] }.ty(), FrameType::DATAGRAM);
         let close = Frame::ApplicationClose {
             error_code: 0,
             reason: &[],

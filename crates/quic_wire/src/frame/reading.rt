@@ -10,7 +10,8 @@ ghost use Rattle.quic_wire.specs.FrameView.{is_one_way, frame_view};
 
 use crate::frame::ack::reading::ack_of;
 use crate::frame::{
-    AckFrequency, Frame, FrameError, InvalidFrame, NewConnectionId, ResetStream, StopSending, Stream,
+    AckFrequency, Frame, FrameError, InvalidFrame, NewConnectionId, ResetStream, StopSending,
+    Stream,
 };
 use quic_wire_core::{
     Codec, ConnectionId, Dir, FrameType, MAX_CID_SIZE, RESET_TOKEN_SIZE, ResetToken, StreamId,
@@ -487,7 +488,9 @@ mod tests {
     fn a_message_without_length_ends_the_payload(rt: HostRuntime) -> Result<(), Fail> {
         let mut bytes: &[u8] = &[0x30, 0x68, 0x69, 0x00, 0x00];
         let wanted = [0x68, 0x69, 0x00, 0x00];
-        assert!(rt; matches!(frame_of(&mut bytes), Ok(Frame::Datagram { data }) if data == wanted.as_slice()));
+        assert!(rt;
+            matches!(frame_of(&mut bytes), Ok(Frame::Datagram { data }) if data == wanted.as_slice())
+        );
         assert!(rt; bytes.is_empty());
         Ok(())
     }

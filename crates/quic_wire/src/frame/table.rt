@@ -6,8 +6,8 @@ ghost use Rattle.quic_wire.specs.FrameView.{frame_view};
 ghost use Rattle.quic_wire.specs.Writing.{Fits};
 
 use crate::frame::{
-    Ack, AckFrequency, Frame, Iter, NewConnectionId, ResetStream, StopSending, Stream, size_of_frame,
-    write_frame,
+    Ack, AckFrequency, Frame, Iter, NewConnectionId, ResetStream, StopSending, Stream,
+    size_of_frame, write_frame,
 };
 use quic_wire_core::{ConnectionId, Dir, ResetToken, StreamId, VarInt};
 use std::alloc::AllocError;

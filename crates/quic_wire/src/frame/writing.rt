@@ -10,9 +10,7 @@ ghost use Rattle.quic_wire.specs.Writing.{written, widths, AreNumbers, has_offse
 
 use crate::frame::ack::size::size_of_ack;
 use crate::frame::ack::writing::write_ack;
-use crate::frame::{
-    AckFrequency, Frame, NewConnectionId, ResetStream, StopSending, Stream,
-};
+use crate::frame::{AckFrequency, Frame, NewConnectionId, ResetStream, StopSending, Stream};
 use crate::reserved::append;
 use bytes::BufMut;
 use quic_wire_core::{Codec, Dir, RESET_TOKEN_SIZE, StreamId, VarInt};
@@ -226,7 +224,11 @@ pub fn write_frame<B: BufMut>(frame: &Frame<'_>, buf: &mut B) -> Result<(), Allo
         Frame::Ack(ack) => write_ack(buf, ack),
         Frame::ResetStream(frame) => write_reset_stream(buf, frame),
         Frame::StopSending(frame) => write_stop_sending(buf, frame),
-        Frame::Crypto { offset, data } => write_parts(buf, &[0x06, *offset, data.len() as u64], data),
+        Frame::Crypto { offset, data } => write_parts(
+            buf,
+            &[0x06, *offset, data.len() as u64],
+            data,
+        ),
         Frame::NewToken { token } => write_sized(buf, 0x07, token),
         Frame::Stream(stream) => write_stream(buf, stream),
         Frame::MaxData(limit) => write_one(buf, 0x10, limit.into_inner()),
@@ -243,9 +245,16 @@ pub fn write_frame<B: BufMut>(frame: &Frame<'_>, buf: &mut B) -> Result<(), Allo
             error_code,
             frame_type,
             reason,
-        } => write_parts(buf, &[0x1c, *error_code, *frame_type, reason.len() as u64], reason),
-        Frame::ApplicationClose { error_code, reason } =>
-            write_parts(buf, &[0x1d, *error_code, reason.len() as u64], reason),
+        } => write_parts(
+            buf,
+            &[0x1c, *error_code, *frame_type, reason.len() as u64],
+            reason,
+        ),
+        Frame::ApplicationClose { error_code, reason } => write_parts(
+            buf,
+            &[0x1d, *error_code, reason.len() as u64],
+            reason,
+        ),
         Frame::HandshakeDone => write_parts(buf, &[0x1e], &[]),
         Frame::ImmediateAck => write_parts(buf, &[0x1f], &[]),
         Frame::Datagram { data } => write_sized(buf, 0x31, data),
@@ -379,8 +388,9 @@ pub fn size_of_frame(frame: &Frame<'_>) -> usize
             frame_type,
             reason,
         } => 1 + size_of_pair(*error_code, *frame_type) + size_of_text(reason),
-        Frame::ApplicationClose { error_code, reason } =>
-            1 + size_of_number(*error_code) + size_of_text(reason),
+        Frame::ApplicationClose { error_code, reason } => 1
+            + size_of_number(*error_code)
+            + size_of_text(reason),
         Frame::Datagram { data } => 1 + size_of_text(data),
         Frame::AckFrequency(frame) => size_of_ack_frequency(frame),
     }
