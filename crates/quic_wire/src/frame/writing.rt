@@ -195,6 +195,22 @@ fn write_new_connection_id<B: BufMut>(
     buf.put_slice(frame.reset_token.as_slice())
 }
 
+/// Writes a CONNECTION_CLOSE frame of type 1c.
+fn write_close<B: BufMut>(
+    buf: &mut B,
+    error_code: u64,
+    frame_type: u64,
+    reason: &[u8],
+) -> Result<(), AllocError>
+    requires { AreNumbers (0x1c ∷ error_code ∷ frame_type ∷ length reason.now ∷ []) }
+    ensures ok { OnOk result (B.written buf.new ≡ B.written buf.old ++ (written (0x1c ∷ error_code ∷ frame_type ∷ length reason.now ∷ []) ++ reason.now)) }
+    ensures err { OnErr result (BeginWith (B.written buf.old) (B.written buf.new)) }
+    ensures spare { SpendsSpare result (B.spare buf.old) (B.spare buf.new) (widths (0x1c ∷ error_code ∷ frame_type ∷ length reason.now ∷ []) + length reason.now) }
+{
+    let len = reason.len() as u64;
+    write_parts(buf, &[0x1c, error_code, frame_type, len], reason)
+}
+
 /// Writes an ACK_FREQUENCY frame.
 fn write_ack_frequency<B: BufMut>(buf: &mut B, frame: &AckFrequency) -> Result<(), AllocError>
     requires { Fits (ack_frequency (ack_frequency_view frame.now)) }
@@ -245,16 +261,10 @@ pub fn write_frame<B: BufMut>(frame: &Frame<'_>, buf: &mut B) -> Result<(), Allo
             error_code,
             frame_type,
             reason,
-        } => write_parts(
-            buf,
-            &[0x1c, *error_code, *frame_type, reason.len() as u64],
-            reason,
-        ),
-        Frame::ApplicationClose { error_code, reason } => write_parts(
-            buf,
-            &[0x1d, *error_code, reason.len() as u64],
-            reason,
-        ),
+        } => write_close(buf, *error_code, *frame_type, reason),
+        Frame::ApplicationClose { error_code, reason } => {
+            write_parts(buf, &[0x1d, *error_code, reason.len() as u64], reason)
+        }
         Frame::HandshakeDone => write_parts(buf, &[0x1e], &[]),
         Frame::ImmediateAck => write_parts(buf, &[0x1f], &[]),
         Frame::Datagram { data } => write_sized(buf, 0x31, data),
