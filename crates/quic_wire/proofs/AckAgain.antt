@@ -2,9 +2,8 @@
 use Rattle.std.proofs.Common.{◌≡◌, ℕ, ◌-◌, ◌+◌, ◌≤◌, ltb, false, List, [], ◌∷◌, ◌++◌, length, Option, Some, None, Ok, refl, sym, ap, ◌∙◌, arith}
 use Rattle.std.proofs.lemmas.Bool.{le-ltb}
 use Rattle.quic_wire.specs.Value.{AckValue}
-use Rattle.quic_wire.specs.FrameTypes.{is_ack, type_of}
 use Rattle.quic_wire.specs.AckReading.{range_at, ranges_at, ecn_at, some_ecn_at, ack_at}
-use Rattle.quic_wire.specs.AckGrammar.{Below, GoDown, has_ecn, range_numbers, ecn_numbers, ack_numbers}
+use Rattle.quic_wire.specs.AckGrammar.{Below, has_ecn, range_numbers, ecn_numbers}
 use Rattle.quic_wire.specs.Grammar.{Numbers}
 use Rattle.quic_wire.proofs.FieldAgain.{next, none_left}
 

@@ -2,11 +2,10 @@
 use Rattle.std.proofs.Common.{◌≡◌, ℕ, ◌+◌, ◌-◌, ◌*◌, ◌≤◌, ◌<◌, ◌^◌, List, [], ◌∷◌, ◌++◌, length, Option, Some, None, refl, arith}
 use Rattle.std.proofs.lemmas.List.{length-append}
 use Rattle.quic_wire_core.specs.Law.{length-shortest, varint_size_le}
-use Rattle.quic_wire_core.specs.Varint.{shortest}
 use Rattle.quic_wire.specs.Value.{AckValue}
 use Rattle.quic_wire.specs.FrameTypes.{is_ack, type_of}
 use Rattle.quic_wire.specs.NumbersWritten.{AreNumbers, width_of, widths}
-use Rattle.quic_wire.specs.AckGrammar.{Below, GoDown, EcnFits, AckFits, has_ecn, range_numbers, ecn_numbers, ack_fields, ack_numbers}
+use Rattle.quic_wire.specs.AckGrammar.{Below, GoDown, EcnFits, AckFits, has_ecn, range_numbers, ecn_numbers, ack_numbers}
 use Rattle.quic_wire.specs.AckWriting.{ack_size, ack_most}
 use Rattle.quic_wire.proofs.AckSet.{below_few}
 

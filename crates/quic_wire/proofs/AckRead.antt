@@ -1,7 +1,7 @@
 -- What is known of the ranges of an ACK frame that was read: they go down, are as many as were counted, and are written in no more bytes.
-use Rattle.std.proofs.Common.{◌≡◌, ℕ, zero, suc, ◌+◌, ◌-◌, ◌≤◌, ◌<◌, Bool, true, false, cond, ltb, eqb, List, [], ◌∷◌, length, drop, Option, Some, None, Result, Ok, Err, refl, ap, ◌∙◌, arith, inl, inr}
+use Rattle.std.proofs.Common.{◌≡◌, ℕ, zero, suc, ◌+◌, ◌-◌, ◌≤◌, ◌<◌, Bool, true, false, cond, ltb, eqb, List, ◌∷◌, length, drop, Option, Some, None, Result, Ok, Err, refl, ap, arith, inl, inr}
 use Rattle.std.specs.Int.{Width, w8, w16, w32, w64, byte_len, from_be_bytes}
-use Rattle.std.specs.Prelude.{if◌then◌else◌, slice_index, ◌/◌, ◌%◌, ◌^◌, take, IsOk}
+use Rattle.std.specs.Prelude.{slice_index, ◌/◌, ◌%◌, ◌^◌, take, IsOk}
 use Rattle.std.proofs.lemmas.Bool.{cases_lt, le-ltb, lt-ltb, ltb-false}
 use Rattle.std.proofs.lemmas.List.{length-drop}
 use Rattle.quic_wire_core.specs.Law.{length-shortest, varint_size_le}
@@ -15,7 +15,7 @@ use Rattle.quic_wire.specs.AckView.{ranges_of, ecn_view, ack_view, IsAck}
 use Rattle.quic_wire.specs.declared.frame.ack.EcnCounts.{EcnCounts}
 use Rattle.quic_wire.specs.declared.frame.ack.Ack.TheInside.{Inside}
 use Rattle.quic_wire.specs.NumbersWritten.{widths}
-use Rattle.quic_wire.proofs.FieldFound.{HoldsOf, Holds, after, guard}
+use Rattle.quic_wire.proofs.FieldFound.{Holds, after, guard}
 
 -- ---- a number that was read takes no more bytes when it is written
 

@@ -1,8 +1,8 @@
 -- Writing the numbers of ACK frames.
 use Rattle.std.proofs.Common.{◌≡◌, ℕ, ◌+◌, ◌-◌, ◌≤◌, ◌<◌, ◌^◌, List, [], ◌∷◌, ◌++◌, length, take, drop, map, Bool, Option, Some, None, Result, Ok, Err, OnOk, OnErr, refl, sym, ap, ◌∙◌, append_assoc, arith}
-use Rattle.std.proofs.lemmas.List.{take_at, length-append, take-append-drop}
+use Rattle.std.proofs.lemmas.List.{take_at, take-append-drop}
 use Rattle.quic_wire_core.specs.Varint.{shortest}
-use Rattle.quic_wire.specs.NumbersWritten.{AreNumbers, widths}
+use Rattle.quic_wire.specs.NumbersWritten.{widths}
 use Rattle.quic_wire.specs.Writing.{written, BeginWith, SpendsSpare}
 use Rattle.quic_wire.specs.AckGrammar.{GoDown, has_ecn, range_numbers, ecn_numbers, ack_numbers}
 use Rattle.quic_wire.specs.FrameTypes.{is_ack, type_of}

@@ -3,11 +3,11 @@ use Rattle.std.proofs.Common.{◌≡◌, ℕ, ◌+◌, ◌<◌, ◌≤◌, ◌*�
 use Rattle.std.specs.Prelude.{if◌then◌else◌, nat_lt}
 use Rattle.std.specs.Int.{w16, w32, w64, to_be_bytes}
 use Rattle.std.proofs.lemmas.List.{length-append}
-use Rattle.quic_wire_core.specs.Varint.{Spells, shortest}
+use Rattle.quic_wire_core.specs.Varint.{Spells}
 use Rattle.quic_wire.specs.Value.{FrameValue, StreamValue, ack, padding, ping, reset_stream, stop_sending, crypto, new_token, stream, max_data, max_stream_data, max_streams, data_blocked, stream_data_blocked, streams_blocked, new_connection_id, retire_connection_id, path_challenge, path_response, connection_close, application_close, handshake_done, immediate_ack, datagram, ack_frequency}
 use Rattle.quic_wire.specs.FrameTypes.{is_datagram, is_max_streams, is_streams_blocked, type_of}
 use Rattle.quic_wire.specs.Grammar.{Numbers, Then, stream_numbers, offset_numbers, length_numbers, OffsetFits, IsStreamForm, IsDatagramForm, IsForm}
-use Rattle.quic_wire.specs.Writing.{AreNumbers, fields_of, StreamFits, Fits, widths, width_of, offset_width, frame_size, most_of}
+use Rattle.quic_wire.specs.Writing.{AreNumbers, fields_of, StreamFits, Fits, width_of, offset_width, frame_size, most_of}
 use Rattle.quic_wire.specs.AckGrammar.{ack_numbers}
 use Rattle.quic_wire.proofs.AckNumbers.{numbers_fit, ack_size_most}
 

@@ -6,9 +6,9 @@ use Rattle.std.proofs.lemmas.List.{length-append, append-nil, take_at, take_all}
 use Rattle.quic_wire_core.specs.Varint.{shortest}
 use Rattle.quic_wire_core.specs.Law.{shortest_spells}
 use Rattle.quic_wire.specs.Value.{FrameValue, StreamValue, ack, padding, ping, handshake_done, immediate_ack, reset_stream, stop_sending, crypto, new_token, stream, max_data, max_stream_data, max_streams, data_blocked, stream_data_blocked, streams_blocked, new_connection_id, retire_connection_id, path_challenge, path_response, connection_close, application_close, datagram, ack_frequency}
-use Rattle.quic_wire.specs.FrameTypes.{Kind, is_stream, is_max_streams, is_streams_blocked, is_datagram, type_of}
-use Rattle.quic_wire.specs.Grammar.{Numbers, Then, IsIssued, offset_numbers, OffsetFits, length_numbers, number_if, Ends, stream_numbers, IsForm}
-use Rattle.quic_wire.specs.Writing.{written, has_offset, header_of, with_more, stream_header, stream_spelling, kind_as, fields_of, text_of, numbers_of, spelling, datagram_to_end, AreNumbers, StreamFits, Fits, widths, most_of, width_of, length_width, some_if, stream_header_size, stream_size, frame_size}
+use Rattle.quic_wire.specs.FrameTypes.{is_stream, is_max_streams, is_streams_blocked, is_datagram, type_of}
+use Rattle.quic_wire.specs.Grammar.{Numbers, Then, offset_numbers, OffsetFits, length_numbers, number_if, Ends, stream_numbers, IsForm}
+use Rattle.quic_wire.specs.Writing.{written, has_offset, header_of, with_more, stream_header, stream_spelling, text_of, numbers_of, spelling, datagram_to_end, AreNumbers, StreamFits, Fits, widths, width_of, length_width, some_if, stream_header_size, stream_size, frame_size}
 use Rattle.quic_wire.specs.AckGrammar.{ack_numbers}
 use Rattle.quic_wire.proofs.AckNumbers.{AreNumbers-append, ack_are_numbers}
 

@@ -12,7 +12,7 @@ use Rattle.quic_wire.specs.Parameters.{ParameterValues, id_of, place_of, default
 use Rattle.quic_wire.specs.ParametersRead.{or_malformed, number_at, entry_at, whole_at, parameter_at, met_at, is_out, met_after, met_with, none_met, met_in, met_or, values_met, is_longer, judged, parameters_at}
 use Rattle.quic_wire.specs.ParametersWritten.{places, IsWriteOrder, parameter_of_place, shortest_entry, is_default, written_value, written_place, written_parameters}
 use Rattle.quic_wire.specs.ParametersSteps.{met_in_step, met_in_nil}
-use Rattle.quic_wire.specs.ParametersTable.{ok, some, parameter_again, place_again, place_below, most_below, id_below, counted_same, none_met_at, parameter_is, place_is, same_place, same_id, standing_same, standing_other, met_at_same, met_at_other, value_met, values_same}
+use Rattle.quic_wire.specs.ParametersTable.{some, parameter_again, place_again, place_below, most_below, id_below, counted_same, none_met_at, parameter_is, place_is, same_place, same_id, standing_same, standing_other, met_at_same, met_at_other, value_met, values_same}
 
 -- ---- an entry that is spelled is read
 

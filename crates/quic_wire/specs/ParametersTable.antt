@@ -1,12 +1,11 @@
 -- What the tables of transport parameters say together.
 use Rattle.std.proofs.Common.{◌≡◌, ℕ, ◌^◌, ◌≤◌, ◌<◌, Bool, true, false, cond, eqb, List, ◌∷◌, length, set, Option, Some, None, Result, Ok, refl, sym, ap, ◌∙◌, arith}
-use Rattle.std.specs.Prelude.{min}
 use Rattle.std.proofs.lemmas.Bool.{ne_eqb, eq-eqb, eqb-true}
 use Rattle.std.proofs.lemmas.List.{get_or-set_same, get_or-set_other}
 use Rattle.quic_wire.specs.declared.transport_parameters.id.TransportParameterId.{TransportParameterId}
 use Rattle.quic_wire.specs.declared.transport_parameters.id.TransportParameterId.TheVariants.{MaxIdleTimeout, MaxUdpPayloadSize, InitialMaxData, InitialMaxStreamDataBidiLocal, InitialMaxStreamDataBidiRemote, InitialMaxStreamDataUni, InitialMaxStreamsBidi, InitialMaxStreamsUni, AckDelayExponent, MaxAckDelay, ActiveConnectionIdLimit, MaxDatagramFrameSize, MinAckDelay}
 use Rattle.quic_wire.specs.declared.transport_parameters.error.TransportParametersError.{TransportParametersError}
-use Rattle.quic_wire.specs.Parameters.{ParameterValues, id_of, place_of, default_of, least_of, most_of, counted, value_of, number, values_by, IsInRange, standing}
+use Rattle.quic_wire.specs.Parameters.{ParameterValues, id_of, place_of, default_of, most_of, counted, value_of, number, values_by, IsInRange, standing}
 use Rattle.quic_wire.specs.ParametersRead.{parameter_at, met_at, none_met, met_or, values_met}
 use Rattle.quic_wire.specs.ParametersWritten.{parameter_of_place}
 

@@ -3,7 +3,7 @@ use Rattle.std.specs.Prelude.{◌≡◌, ℕ, ◌+◌, ◌<◌, ◌≤◌, ◌^�
 pub use Rattle.quic_wire.specs.NumbersWritten.{written, AreNumbers, width_of, widths}
 use Rattle.quic_wire.specs.AckGrammar.{has_ecn, ack_fields, AckFits}
 use Rattle.quic_wire.specs.AckWriting.{ack_spelling, ack_size, ack_most}
-use Rattle.quic_wire.specs.Value.{StreamValue, NewConnectionIdValue, FrameValue, ack, padding, ping, reset_stream, stop_sending, crypto, new_token, stream, max_data, max_stream_data, max_streams, data_blocked, stream_data_blocked, streams_blocked, new_connection_id, retire_connection_id, path_challenge, path_response, connection_close, application_close, handshake_done, immediate_ack, datagram, ack_frequency}
+use Rattle.quic_wire.specs.Value.{StreamValue, FrameValue, ack, padding, ping, reset_stream, stop_sending, crypto, new_token, stream, max_data, max_stream_data, max_streams, data_blocked, stream_data_blocked, streams_blocked, new_connection_id, retire_connection_id, path_challenge, path_response, connection_close, application_close, handshake_done, immediate_ack, datagram, ack_frequency}
 use Rattle.quic_wire.specs.FrameTypes.{Kind, is_ack, is_padding, is_ping, is_reset_stream, is_stop_sending, is_crypto, is_new_token, is_stream, is_max_data, is_max_stream_data, is_max_streams, is_data_blocked, is_stream_data_blocked, is_streams_blocked, is_new_connection_id, is_retire_connection_id, is_path_challenge, is_path_response, is_connection_close, is_application_close, is_handshake_done, is_immediate_ack, is_datagram, is_ack_frequency, type_of}
 use Rattle.quic_wire.specs.Grammar.{stream_numbers, offset_numbers, length_numbers, number_if, id_and_token, IsIssued}
 

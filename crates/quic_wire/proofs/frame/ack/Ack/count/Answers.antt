@@ -1,7 +1,5 @@
-use Rattle.std.proofs.Common.{◌≡◌, ◌<◌, ◌^◌, ap, sym, subst, ◌∙◌, ◌∷◌, length, ℕ, List, arith}
+use Rattle.std.proofs.Common.{ap, sym, ◌∙◌, length, arith}
 use Rattle.quic_wire.specs.Value.{AckValue}
-use Rattle.quic_wire.specs.AckGrammar.{range_numbers}
-use Rattle.quic_wire.specs.NumbersWritten.{widths}
 use Rattle.quic_wire.proofs.AckRead.{read_count, read_room}
 use Rattle.quic_wire.proofs.frame.ack.Ack.count.Goals as goal
 

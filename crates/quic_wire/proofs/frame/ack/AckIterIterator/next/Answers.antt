@@ -1,4 +1,4 @@
-use Rattle.std.proofs.Common.{rules, ◌≡◌, ◌<◌, ◌-◌, ◌∷◌, ◌++◌, [], ℕ, List, Bool, length, map, ap, sym, refl, ◌∙◌, arith}
+use Rattle.std.proofs.Common.{rules, ◌≡◌, ◌-◌, ◌∷◌, ◌++◌, [], ℕ, Bool, length, map, ap, sym, refl, ◌∙◌, arith}
 use Rattle.quic_wire.specs.AckReading.{ranges_at}
 use Rattle.quic_wire.specs.AckView.{ranges_of, front, iter_view, whole, bounds_of}
 use Rattle.quic_wire.proofs.AckSteps.{ranges_none, ranges_first, ranges_some}

@@ -1,9 +1,8 @@
-use Rattle.std.proofs.Common.{◌≡◌, ◌+◌, ◌-◌, ◌<◌, ◌≤◌, ◌++◌, ◌∷◌, [], ℕ, List, length, ap, ◌∙◌, sym, refl, arith}
+use Rattle.std.proofs.Common.{◌-◌, ◌<◌, ◌∷◌, [], length, ap, ◌∙◌, sym, refl, arith}
 use Rattle.std.specs.Range.{range_inclusive_end}
 use Rattle.quic_wire.specs.AckGrammar.{has_ecn, range_numbers, ecn_numbers, ack_numbers}
 use Rattle.quic_wire.specs.AckView.{ecn_view}
 use Rattle.quic_wire.specs.FrameTypes.{is_ack, type_of}
-use Rattle.quic_wire.specs.NumbersWritten.{widths}
 use Rattle.quic_wire.proofs.AckSet.{below_few}
 use Rattle.quic_wire.proofs.AckWritten.{first_left, ack_numbers_are, front_size}
 use Rattle.quic_wire.proofs.frame.ack.size.size_of_ack.Goals as goal

@@ -1,6 +1,4 @@
-use Rattle.std.proofs.Common.{◌≡◌, ◌+◌, ◌-◌, ◌<◌, ◌≤◌, ◌∷◌, [], ℕ, List, ap, ◌∙◌, arith}
-use Rattle.quic_wire.specs.AckGrammar.{range_numbers}
-use Rattle.quic_wire.specs.NumbersWritten.{widths}
+use Rattle.std.proofs.Common.{arith}
 use Rattle.quic_wire.proofs.AckWritten.{range_sizes, first_left, none_left}
 use Rattle.quic_wire.proofs.frame.ack.size.size_of_ranges.Goals as goal
 

@@ -1,5 +1,4 @@
-use Rattle.std.proofs.Common.{◌≡◌, ◌+◌, ◌*◌, ◌-◌, ◌<◌, ◌≤◌, ◌++◌, ◌∷◌, [], ℕ, List, length, ap, ◌∙◌, arith}
-use Rattle.std.proofs.lemmas.List.{length-append}
+use Rattle.std.proofs.Common.{ap, ◌∙◌, arith}
 use Rattle.quic_wire.specs.AckSet.{range_of_run, ranges_of_set}
 use Rattle.quic_wire.proofs.AckSet.{set_snoc, runs_snoc}
 use Rattle.quic_wire.proofs.AckWritten.{range_sizes}

@@ -1,4 +1,4 @@
-use Rattle.std.proofs.Common.{◌≡◌, ◌+◌, ◌-◌, ◌<◌, ◌≤◌, ◌++◌, ◌∷◌, [], ℕ, List, length, refl, arith}
+use Rattle.std.proofs.Common.{◌-◌, ◌∷◌, [], length, refl, arith}
 use Rattle.quic_wire.specs.AckGrammar.{has_ecn, range_numbers, ecn_numbers, ack_numbers}
 use Rattle.quic_wire.specs.AckSet.{ranges_of_set, ack_of_set}
 use Rattle.quic_wire.specs.AckView.{ecn_view}

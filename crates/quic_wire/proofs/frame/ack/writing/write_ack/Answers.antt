@@ -1,9 +1,8 @@
-use Rattle.std.proofs.Common.{◌≡◌, ◌+◌, ◌-◌, ◌<◌, ◌≤◌, ◌++◌, ◌∷◌, [], ℕ, List, length, ap, ◌∙◌, sym, refl, arith}
+use Rattle.std.proofs.Common.{◌-◌, ◌∷◌, [], length, ap, ◌∙◌, sym, refl, arith}
 use Rattle.std.proofs.lemmas.Result.{err_from_is_err_and}
 use Rattle.std.specs.Range.{range_inclusive_end}
-use Rattle.quic_wire.specs.AckGrammar.{has_ecn, range_numbers, ecn_numbers, ack_numbers}
+use Rattle.quic_wire.specs.AckGrammar.{range_numbers, ecn_numbers, ack_numbers}
 use Rattle.quic_wire.specs.AckView.{ecn_view}
-use Rattle.quic_wire.specs.NumbersWritten.{widths}
 use Rattle.quic_wire.specs.Writing.{written}
 use Rattle.quic_wire.proofs.AckSet.{below_few}
 use Rattle.quic_wire.proofs.AckWritten.{begins_behind, last_ok, last_err, last_spare, first_spare, second_spare, type_small, first_left, ack_numbers_are}

@@ -1,8 +1,7 @@
-use Rattle.std.proofs.Common.{◌≡◌, ◌+◌, ◌-◌, ◌<◌, ◌≤◌, ◌++◌, ◌∷◌, [], ℕ, List, ap, ◌∙◌, sym, arith}
+use Rattle.std.proofs.Common.{◌+◌, ◌-◌, ◌++◌, ◌∷◌, [], ◌∙◌, sym, arith}
 use Rattle.std.proofs.lemmas.List.{append-nil}
 use Rattle.std.proofs.lemmas.Result.{err_from_is_err_and}
-use Rattle.quic_wire.specs.AckGrammar.{Below, range_numbers}
-use Rattle.quic_wire.specs.NumbersWritten.{widths}
+use Rattle.quic_wire.specs.AckGrammar.{range_numbers}
 use Rattle.quic_wire.specs.Writing.{written}
 use Rattle.quic_wire.proofs.AckWritten.{begins_trans, begins_still, one_range, range_sizes, first_left, none_left}
 use Rattle.quic_wire.proofs.frame.ack.writing.write_ranges.Goals as goal

@@ -1,9 +1,8 @@
-use Rattle.std.proofs.Common.{◌≡◌, ◌+◌, ◌-◌, ◌<◌, ◌≤◌, ◌++◌, ◌∷◌, [], ℕ, List, ap, ◌∙◌, arith}
+use Rattle.std.proofs.Common.{◌≡◌, ◌+◌, ◌-◌, ◌<◌, ◌++◌, ◌∷◌, [], List, ap, ◌∙◌, arith}
 use Rattle.std.proofs.lemmas.Result.{err_from_is_err_and}
 use Rattle.quic_wire_core.specs.Runs.{Run, AreRuns}
-use Rattle.quic_wire.specs.AckGrammar.{Below, range_numbers}
+use Rattle.quic_wire.specs.AckGrammar.{range_numbers}
 use Rattle.quic_wire.specs.AckSet.{range_of_run, ranges_of_set}
-use Rattle.quic_wire.specs.NumbersWritten.{widths}
 use Rattle.quic_wire.specs.Writing.{written}
 use Rattle.quic_wire.proofs.AckSet.{set_snoc, runs_snoc}
 use Rattle.quic_wire.proofs.AckWritten.{begins_trans, begins_still, one_range, range_sizes}

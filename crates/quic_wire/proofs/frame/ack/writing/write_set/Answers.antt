@@ -1,10 +1,8 @@
-use Rattle.std.proofs.Common.{◌≡◌, ◌+◌, ◌-◌, ◌<◌, ◌≤◌, ◌++◌, ◌∷◌, [], ℕ, List, length, ap, ◌∙◌, sym, arith}
+use Rattle.std.proofs.Common.{arith}
 use Rattle.std.proofs.lemmas.Result.{err_from_is_err_and}
-use Rattle.quic_wire.specs.AckGrammar.{has_ecn, range_numbers, ecn_numbers, ack_numbers}
+use Rattle.quic_wire.specs.AckGrammar.{range_numbers, ecn_numbers, ack_numbers}
 use Rattle.quic_wire.specs.AckSet.{ranges_of_set, ack_of_set}
 use Rattle.quic_wire.specs.AckView.{ecn_view}
-use Rattle.quic_wire.specs.FrameTypes.{is_ack, type_of}
-use Rattle.quic_wire.specs.NumbersWritten.{widths}
 use Rattle.quic_wire.specs.Writing.{written}
 use Rattle.quic_wire.proofs.AckSet.{highest, head_of, set_numbers_are}
 use Rattle.quic_wire.proofs.AckWritten.{begins_behind, last_ok, last_err, last_spare, first_spare, second_spare, type_small}
