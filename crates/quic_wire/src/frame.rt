@@ -9,6 +9,7 @@ use thiserror::Error;
 
 pub(crate) mod ack;
 mod close;
+mod datagram;
 mod iter;
 pub(crate) mod reading;
 #[cfg(test)]
@@ -17,6 +18,7 @@ mod writing;
 
 pub use ack::{Ack, AckIter, EcnCounts};
 pub use close::{ApplicationClose, Close, ConnectionClose};
+pub use datagram::Datagram;
 pub use iter::Iter;
 pub use writing::{
     put_frame, put_stream, put_stream_parts, size_of_frame, size_of_stream_header, write_frame,

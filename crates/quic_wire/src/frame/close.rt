@@ -53,6 +53,9 @@ impl Close {
 }
 
 impl ConnectionClose {
+    /// The most bytes that stand before the reason in a frame: type, code, type of a frame and length.
+    pub const SIZE_BOUND: usize = 1 + 8 + 8 + 8;
+
     /// A close with this code, this frame at fault and a copy of this reason. An error comes only for want of memory for
     /// the reason.
     pub fn new(
@@ -74,6 +77,9 @@ impl ConnectionClose {
 }
 
 impl ApplicationClose {
+    /// The most bytes that stand before the reason in a frame: type, code and length.
+    pub const SIZE_BOUND: usize = 1 + 8 + 8;
+
     /// A close with this code and a copy of this reason. An error comes only for want of memory for the reason.
     pub fn new(alloc: Global, error_code: VarInt, reason: &[u8]) -> Result<Self, AllocError>
         ensures ok { IfOk result (λ close. owned_application_close_view close ≡ application_close_with error_code reason.now) }
