@@ -31,6 +31,7 @@ ranges_of (Err e) = []
 abbrev pub others_of : Inside → List (ℕ × ℕ)
 others_of a = ranges_of (ranges_at a.count (a.largest - a.first) a.blocks.now)
 
+-- What the frame says.
 abbrev pub ack_view : Inside → AckValue
 ack_view a = record { largest = a.largest; delay = a.delay; ranges = (a.largest - a.first, a.largest) ∷ others_of a; ecn = ecn_view a.ecn }
 
@@ -46,9 +47,11 @@ abbrev pub front : Option (ℕ × ℕ) → List (ℕ × ℕ)
 front None = []
 front (Some r) = r ∷ []
 
+-- The ranges that are left.
 abbrev pub iter_view : iter.Inside → List (ℕ × ℕ)
 iter_view a = front a.first ++ ranges_of (ranges_at a.count a.low a.blocks.now)
 
+-- The ranges that stand in the bytes can be read.
 abbrev pub IsAckIter : iter.Inside → Type 0
 IsAckIter a = IsOk (ranges_at a.count a.low a.blocks.now)
 
