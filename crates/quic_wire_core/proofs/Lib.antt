@@ -3,7 +3,8 @@ mod RunExamples
 pub mod RunLists
 pub mod RunEdits
 mod ElementSteps
-mod Joining
+pub mod Joining
 mod JoinSteps
-mod PieceSteps
+pub mod PieceSteps
 mod PieceExamples
+mod GapSteps

@@ -15,3 +15,4 @@ pub mod RunEdits
 pub mod Elements
 pub mod Pieces
 pub mod Replacing
+pub mod Lacking

@@ -7,6 +7,7 @@ ghost use Rattle.quic_wire_core.specs.RunEdits.{edited, HasPlaces, Grows};
 mod array_range_set;
 mod elt_iter;
 mod iter;
+mod moving;
 mod replace;
 mod runs;
 #[cfg(test)]
