@@ -1,11 +1,11 @@
 -- The bytes of parts, one by one.
-use Rattle.std.proofs.Common.{◌≡◌, ℕ, ◌+◌, ◌-◌, ◌<◌, ◌≤◌, ltb, length, List, [], ◌∷◌, take, drop, Bool, true, false, cond, Some, None, Option, refl, sym, ap, ◌∙◌, subst, arith, max, length-take, length-drop, get_or, ◌==◌, ◌⊎◌, inl, inr}
+use Rattle.std.proofs.Common.{◌≡◌, ℕ, ◌+◌, ◌-◌, ◌<◌, ◌≤◌, ltb, length, List, [], ◌∷◌, take, drop, Bool, true, false, cond, Some, None, Option, refl, sym, ap, ◌∙◌, arith, max, length-take, length-drop, get_or, ◌==◌, ◌⊎◌, inl, inr}
 use Rattle.std.specs.List.{slice_get}
-use Rattle.std.specs.Option.{option_or, IfSome, is_some}
+use Rattle.std.specs.Option.{option_or, is_some}
 use Rattle.std.proofs.lemmas.Bool.{ltb-true, ltb-false, lt-ltb, le-ltb, eqb-true, eqb-false, cases_order}
 use Rattle.std.proofs.lemmas.List.{get_or-take, get_or-drop}
 use Rattle.std.proofs.lemmas.Option.{slice_get_past, slice_get-get_or}
-use Rattle.quic_streams_core.specs.Arrived.{Part, start, AreApart, byte_from, byte_at, with_part, with_gaps, Keeps, is_next}
+use Rattle.quic_streams_core.specs.Arrived.{Part, start, AreApart, byte_from, byte_at, with_part, with_gaps, is_next}
 
 -- ---- the elements of a list's parts
 pub get-take : (n i : ℕ) (bs : List ℕ) → i < n → slice_get (take n bs) i ≡ slice_get bs i
@@ -48,14 +48,14 @@ pub from_within : (at : ℕ) (bs : List ℕ) (o : ℕ) → at ≤ o → o < at +
 from_within at bs o l m = from_above at bs o l ∙ slice_get-get_or bs (o - at) 0 (omega arith)
 
 -- what stands before n is as it was, and nothing behind
-from_front : (at n : ℕ) (bs : List ℕ) (o : ℕ) → o < n → byte_from at (take (n - at) bs) o ≡ byte_from at bs o
+pub from_front : (at n : ℕ) (bs : List ℕ) (o : ℕ) → o < n → byte_from at (take (n - at) bs) o ≡ byte_from at bs o
 from_front at n bs o l = go (ltb o at) refl
   where
     go : (b : Bool) → ltb o at ≡ b → byte_from at (take (n - at) bs) o ≡ byte_from at bs o
     go true q = let k = ltb-true o at q in from_below at (take (n - at) bs) o k ∙ sym (from_below at bs o k)
     go false q = let k = ltb-false o at q in from_above at (take (n - at) bs) o k ∙ get-take (n - at) (o - at) bs (omega arith) ∙ sym (from_above at bs o k)
 
-from_front_behind : (at n : ℕ) (bs : List ℕ) (o : ℕ) → n ≤ o → byte_from at (take (n - at) bs) o ≡ None
+pub from_front_behind : (at n : ℕ) (bs : List ℕ) (o : ℕ) → n ≤ o → byte_from at (take (n - at) bs) o ≡ None
 from_front_behind at n bs o l = go (ltb o at) refl
   where
     go : (b : Bool) → ltb o at ≡ b → byte_from at (take (n - at) bs) o ≡ None
@@ -91,7 +91,7 @@ at_part at [] ps o = sym (rw (none_of (ltb o at)) refl)
     none_of false = slice_get_past [] (o - at) (omega arith)
 at_part at (b ∷ bs) ps o = let s : at + length (b ∷ bs) - length (b ∷ bs) ≡ at = omega arith in rw s refl
 
-or_none : (o : Option ℕ) → option_or o None ≡ o
+pub or_none : (o : Option ℕ) → option_or o None ≡ o
 or_none None = refl
 or_none (Some x) = refl
 
@@ -125,28 +125,6 @@ at_gaps low (p ∷ ps) at bs o h = at_part at (take (start p - at) bs) (p ∷ wi
         let e3 = from_back at p.0 bs o m in
         rw (e1, e2, ih, e3) refl
 
-kept_by : (x y : Option ℕ) → IfSome x (λ b. option_or x y ≡ Some b)
-kept_by None y = tt
-kept_by (Some b) y = refl
-
--- what waits still waits after an insert
-pub gaps_keep : (low : ℕ) (ps : List Part) (at : ℕ) (bs : List ℕ) → AreApart low ps → Keeps ps (with_gaps ps at bs)
-gaps_keep low ps at bs h o = rw (at_gaps low ps at bs o h) (kept_by (byte_at ps o) (byte_from at bs o))
-
-pub keeps_same : (ps : List Part) → Keeps ps ps
-keeps_same ps o = go (byte_at ps o)
-  where
-    go : (x : Option ℕ) → IfSome x (λ b. x ≡ Some b)
-    go None = tt
-    go (Some b) = refl
-
-pub keeps_more : (ps qs rs : List Part) → Keeps ps qs → Keeps qs rs → Keeps ps rs
-keeps_more ps qs rs f g o = go (byte_at ps o) (f o) (g o)
-  where
-    go : (x : Option ℕ) → IfSome x (λ b. byte_at qs o ≡ Some b) → IfSome (byte_at qs o) (λ b. byte_at rs o ≡ Some b) → IfSome x (λ b. byte_at rs o ≡ Some b)
-    go None f g = tt
-    go (Some b) f g = let P : Option ℕ → Type 0 = λ y. IfSome y (λ b. byte_at rs o ≡ Some b) in subst P f g
-
 -- ---- where the stream is read next
 pub next_waits : (read : ℕ) (ps : List Part) → AreApart read ps → is_next ps read ≡ is_some (byte_at ps read)
 next_waits read [] h = refl
@@ -172,10 +150,3 @@ next_waits read (p ∷ ps) h = go (start p == read) refl
         below_of (inl e) = absurd (eqb-false (start p) read q (sym e))
         below_of (inr (inl l)) = l
         below_of (inr (inr l)) = absurd (omega (arith, h.0))
-
-pub next_first : (read : ℕ) (ps : List Part) (x : Part) → slice_get ps 0 ≡ Some x → is_next ps read ≡ (start x == read)
-next_first read [] x e = cc
-next_first read (p ∷ ps) x e = let same : p ≡ x = cc in ap (λ z. start z == read) same
-
-pub after_keeps : (low at : ℕ) (ps ns : List Part) (bs : List ℕ) → AreApart low ps → with_gaps ps at bs ≡ ns → Keeps ps ns
-after_keeps low at ps ns bs h e = subst (λ qs. Keeps ps qs) e (gaps_keep low ps at bs h)

@@ -1,13 +1,13 @@
 -- The laws of what arrived: an offset waits once, the first bytes stand, and a read gives what waits.
 use Rattle.std.proofs.Common.{◌≡◌, ℕ, ◌+◌, ◌-◌, ◌^◌, ◌<◌, ◌≤◌, ◌==◌, ltb, length, List, [], ◌∷◌, take, drop, Bool, true, false, cond, Some, None, Option, refl, sym, ap, ◌∙◌, arith, max, length-take, length-drop, count_by, lit≤}
 use Rattle.std.specs.List.{slice_get}
-use Rattle.std.specs.Option.{option_or, IfSome, IsSome, is_some}
+use Rattle.std.specs.Option.{IfSome, IsSome, is_some}
 use Rattle.std.proofs.lemmas.Bool.{ltb-true, ltb-false, eqb-true}
 use Rattle.std.proofs.lemmas.Option.{slice_get-get_or}
 use Rattle.std.proofs.lemmas.List.Sums.{sum_by-cons}
 use Rattle.quic_streams_core.specs.declared.connection.assembler.Chunk.{Chunk}
-use Rattle.quic_streams_core.specs.Arrived.{Arrived, Part, start, AreApart, IsLawful, byte_from, byte_at, holds, with_part, with_gaps, is_next, given, behind, left_by, shortened, after_insert, after_read}
-use Rattle.quic_streams_core.proofs.Bytes.{get-take, from_below, from_behind, from_within, from_back, at_below, at_gaps, next_waits}
+use Rattle.quic_streams_core.specs.Arrived.{Part, start, AreApart, byte_from, byte_at, holds, with_part, with_gaps, is_next, given, behind, left_by, shortened}
+use Rattle.quic_streams_core.proofs.Bytes.{get-take, from_below, from_behind, from_within, from_back, at_below}
 
 -- ---- an offset waits once, and above what is read
 one_more : (o : ℕ) (p : Part) (ps : List Part) → count_by (holds o) (p ∷ ps) ≡ cond (holds o p) 1 0 + count_by (holds o) ps
@@ -51,18 +51,6 @@ waits_above low o ps h w = go (ltb o low) refl
     go false q = ltb-false o low q
 
 -- ---- an insert
-pub insert_bytes : (a : Arrived) (offset : ℕ) (bytes : List ℕ) (o : ℕ) → IsLawful a → byte_at (after_insert a offset bytes).parts o ≡ cond (ltb o a.read) None (option_or (byte_at a.parts o) (byte_from offset bytes o))
-insert_bytes a offset bytes o h = at_gaps a.read a.parts (max a.read offset) (drop (a.read - offset) bytes) o h ∙ go (ltb o a.read) refl
-  where
-    go : (b : Bool) → ltb o a.read ≡ b → option_or (byte_at a.parts o) (byte_from (max a.read offset) (drop (a.read - offset) bytes) o) ≡ cond b None (option_or (byte_at a.parts o) (byte_from offset bytes o))
-    go true q =
-        let k = ltb-true o a.read q in
-        rw (at_below a.read a.parts o h k) (from_below (max a.read offset) (drop (a.read - offset) bytes) o (omega arith))
-    go false q =
-        let k = ltb-false o a.read q in
-        let m : max a.read offset ≡ max offset a.read = omega arith in
-        rw (m, from_back offset a.read bytes o k) refl
-
 part_apart : (low at : ℕ) (front : List ℕ) (p : Part) (ps : List Part) → low + length p.1 ≤ p.0 → low ≤ at → 0 < length p.1 → (0 < length front → at + length front ≤ start p) → AreApart p.0 ps → AreApart low (with_part at front (p ∷ ps))
 part_apart low at [] p ps b m f l h = (b, f, h)
 part_apart low at (x ∷ xs) p ps b m f l h = let k = l (omega arith) in (omega arith, omega arith, (omega arith, f, h))
@@ -77,13 +65,8 @@ gaps_apart low at (p ∷ ps) bs h m s =
     let d = length-drop (p.0 - at) bs in
     part_apart low at (take (start p - at) bs) p _ h.0 m h.1 (λ l. omega arith) (gaps_apart p.0 (max at p.0) ps (drop (p.0 - at) bs) h.2 (omega arith) (λ l. let k = s (omega arith) in omega arith))
 
-pub insert_lawful : (a : Arrived) (offset : ℕ) (bytes : List ℕ) → IsLawful a → offset + length bytes < 2 ^ 62 → IsLawful (after_insert a offset bytes)
-insert_lawful a offset bytes h l =
-    let d = length-drop (a.read - offset) bytes in
-    gaps_apart a.read (max a.read offset) a.parts (drop (a.read - offset) bytes) h (omega arith) (λ k. omega arith)
-
 -- ---- a read
-given_next : (ps : List Part) (read most : ℕ) → is_some (given ps read most) ≡ is_next ps read
+pub given_next : (ps : List Part) (read most : ℕ) → is_some (given ps read most) ≡ is_next ps read
 given_next [] read most = refl
 given_next (p ∷ ps) read most = go (start p == read)
   where
@@ -91,14 +74,11 @@ given_next (p ∷ ps) read most = go (start p == read)
     go true = refl
     go false = refl
 
-pub read_gives : (a : Arrived) (most : ℕ) → IsLawful a → is_some (given a.parts a.read most) ≡ is_some (byte_at a.parts a.read)
-read_gives a most h = given_next a.parts a.read most ∙ next_waits a.read a.parts h
-
-pub read_bytes : (read most i : ℕ) (ps : List Part) → AreApart read ps → IfSome (given ps read most) (λ chunk. i < length chunk.bytes → slice_get chunk.bytes i ≡ byte_at ps (read + i))
+pub read_bytes : (read most i : ℕ) (ps : List Part) → AreApart read ps → IfSome (given ps read most) (λ chunk. i < length chunk.bytes → slice_get chunk.bytes i ≡ byte_at ps (chunk.offset + i))
 read_bytes read most i [] h = tt
 read_bytes read most i (p ∷ ps) h = go (start p == read) refl
   where
-    go : (b : Bool) → (start p == read) ≡ b → IfSome {T = Chunk} (cond b (Some (record { offset = read; bytes = take most p.1 })) None) (λ chunk. i < length chunk.bytes → slice_get chunk.bytes i ≡ byte_at (p ∷ ps) (read + i))
+    go : (b : Bool) → (start p == read) ≡ b → IfSome {T = Chunk} (cond b (Some (record { offset = read; bytes = take most p.1 })) None) (λ chunk. i < length chunk.bytes → slice_get chunk.bytes i ≡ byte_at (p ∷ ps) (chunk.offset + i))
     go true q = λ l.
         let big = h.0 in
         let full = h.1 in
@@ -143,7 +123,7 @@ left_cut false most o p ps big l h q =
     let k = ltb-false o (start p + most) q in
     rw (cut_byte p most o big l k) refl
 
-leaves_first : (read most o : ℕ) (p : Part) (ps : List Part) → AreApart read (p ∷ ps) → start p ≡ read → byte_at (shortened most p ps) o ≡ cond (ltb o (read + length (take most p.1))) None (byte_at (p ∷ ps) o)
+pub leaves_first : (read most o : ℕ) (p : Part) (ps : List Part) → AreApart read (p ∷ ps) → start p ≡ read → byte_at (shortened most p ps) o ≡ cond (ltb o (read + length (take most p.1))) None (byte_at (p ∷ ps) o)
 leaves_first read most o p ps h same = go (ltb most (length p.1)) refl
   where
     go : (b : Bool) → ltb most (length p.1) ≡ b → byte_at (cond b ((p.0, drop most p.1) ∷ ps) ps) o ≡ cond (ltb o (read + length (take most p.1))) None (byte_at (p ∷ ps) o)
@@ -160,13 +140,10 @@ leaves_first read most o p ps h same = go (ltb most (length p.1)) refl
         let e : read + length (take most p.1) ≡ p.0 = omega arith in
         rw e (left_whole (ltb o p.0) o p ps (omega arith) h.2 refl)
 
-leaves : (read most o : ℕ) (ps : List Part) → AreApart read ps → byte_at (left_by ps read most) o ≡ cond (ltb o (behind (given ps read most) read)) None (byte_at ps o)
+pub leaves : (read most o : ℕ) (ps : List Part) → AreApart read ps → byte_at (left_by ps read most) o ≡ cond (ltb o (behind (given ps read most) read)) None (byte_at ps o)
 leaves read most o [] h = none_both (ltb o read)
 leaves read most o (p ∷ ps) h = go (start p == read) refl
   where
     go : (b : Bool) → (start p == read) ≡ b → byte_at (cond b (shortened most p ps) (p ∷ ps)) o ≡ cond (ltb o (behind (cond b (Some (record { offset = read; bytes = take most p.1 })) None) read)) None (byte_at (p ∷ ps) o)
     go true q = leaves_first read most o p ps h (eqb-true (start p) read q)
     go false q = same_below (ltb o read) read o (p ∷ ps) h refl
-
-pub read_leaves : (a : Arrived) (most o : ℕ) → IsLawful a → byte_at (after_read a most).parts o ≡ cond (ltb o (after_read a most).read) None (byte_at a.parts o)
-read_leaves a most o h = leaves a.read most o a.parts h

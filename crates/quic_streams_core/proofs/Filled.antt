@@ -7,7 +7,7 @@ use Rattle.std.specs.Map.{lookup}
 use Rattle.std.specs.declared.cmp.Ordering.TheVariants.{Less, Greater}
 use Rattle.std.specs.BTreeMap.{insert_entry, is_at}
 use Rattle.std.proofs.lemmas.Bool.{ltb-true, ltb-false, ne_eqb, eqb-true}
-use Rattle.quic_streams_core.specs.Arrived.{Arrived, Part, start, AreApart, runs_behind, runs_of}
+use Rattle.quic_streams_core.specs.Arrived.{Part, start, AreApart, runs_behind, runs_of}
 use Rattle.quic_streams_core.specs.PartSteps.{after, Fits, begins_at, touching}
 
 pub filled_apart : (low at : ℕ) (ps : List Part) (bs : List ℕ) → AreApart low ps → low ≤ at → 0 < length bs → at + length bs < 2 ^ 62 → Fits (at + length bs) (after at ps) → AreApart low (insert_entry nat_cmp ps (at + length bs) bs)
@@ -51,10 +51,10 @@ one_of : (b : Bool) → cond b 0 1 + cond b 1 0 ≡ 1
 one_of true = refl
 one_of false = refl
 
-not_at : (a b : ℕ) → (a ≡ b → ⊥) → is_at (nat_cmp a) b ≡ false
+pub not_at : (a b : ℕ) → (a ≡ b → ⊥) → is_at (nat_cmp a) b ≡ false
 not_at a b n = unsigned_tied a b ∙ ne_eqb a b n
 
-none_below : (at low : ℕ) (ps : List Part) → AreApart low ps → at ≤ low → lookup (is_at (nat_cmp at)) ps ≡ None
+pub none_below : (at low : ℕ) (ps : List Part) → AreApart low ps → at ≤ low → lookup (is_at (nat_cmp at)) ps ≡ None
 none_below at low [] h l = refl
 none_below at low (p ∷ ps) h l =
     let big = h.0 in
@@ -133,19 +133,17 @@ filled_runs low at (p ∷ ps) bs h m l f = go (ltb at p.0) refl f
         let i = filled_behind p.0 at ps bs h.2 below l f in
         rw c (omega arith)
 
--- ---- as the call says it; `a` is what is seen of the fields
-pub put_apart : (a : Arrived) (low at : ℕ) (ps ns : List Part) (bs part : List ℕ) → record { read = low; parts = ps } ≡ a → AreApart low ps → a.read ≤ at → 0 < length bs → at + length bs < 2 ^ 62 → Fits (at + length bs) (after at a.parts) → part ≡ bs → ns ≡ insert_entry nat_cmp ps (at + length bs) part → AreApart low ns
-put_apart a low at ps ns bs part v h m l s f e is =
-    let above : low ≤ at = subst (λ (x : Arrived). x.read ≤ at) (sym v) m in
-    let fits = subst (λ (x : Arrived). Fits (at + length bs) (after at x.parts)) (sym v) f in
-    rw (is, e) (filled_apart low at ps bs h above l s fits)
+-- ---- as the call says it; `a` is what is seen of the map
+pub put_apart : (low at : ℕ) (a ps ns : List Part) (bs part : List ℕ) → ps ≡ a → AreApart low ps → low ≤ at → 0 < length bs → at + length bs < 2 ^ 62 → Fits (at + length bs) (after at a) → part ≡ bs → ns ≡ insert_entry nat_cmp ps (at + length bs) part → AreApart low ns
+put_apart low at a ps ns bs part v h m l s f e is =
+    let fits = subst (λ (x : List Part). Fits (at + length bs) (after at x)) (sym v) f in
+    rw (is, e) (filled_apart low at ps bs h m l s fits)
 
-pub put_runs : (a : Arrived) (low at runs touches : ℕ) (joins : Bool) (ps ns : List Part) (bs part : List ℕ) → record { read = low; parts = ps } ≡ a → AreApart low ps → a.read ≤ at → 0 < length bs → Fits (at + length bs) (after at a.parts) → joins ≡ begins_at (at + length bs) (after at a.parts) → runs ≡ runs_of ps → touches ≡ cond (is_some (lookup (is_at (nat_cmp at)) ps)) 1 0 + cond joins 1 0 → part ≡ bs → ns ≡ insert_entry nat_cmp ps (at + length bs) part → runs + 1 - touches ≡ runs_of ns
-put_runs a low at runs touches joins ps ns bs part v h m l f j r t e is =
-    let above : low ≤ at = subst (λ (x : Arrived). x.read ≤ at) (sym v) m in
-    let fits = subst (λ (x : Arrived). Fits (at + length bs) (after at x.parts)) (sym v) f in
-    let behind : joins ≡ begins_at (at + length bs) (after at ps) = subst (λ (x : Arrived). joins ≡ begins_at (at + length bs) (after at x.parts)) (sym v) j in
-    let sum = filled_runs low at ps bs h above l fits in
+pub put_runs : (low at runs touches : ℕ) (joins : Bool) (a ps ns : List Part) (bs part : List ℕ) → ps ≡ a → AreApart low ps → low ≤ at → 0 < length bs → Fits (at + length bs) (after at a) → joins ≡ begins_at (at + length bs) (after at a) → runs ≡ runs_of ps → touches ≡ cond (is_some (lookup (is_at (nat_cmp at)) ps)) 1 0 + cond joins 1 0 → part ≡ bs → ns ≡ insert_entry nat_cmp ps (at + length bs) part → runs + 1 - touches ≡ runs_of ns
+put_runs low at runs touches joins a ps ns bs part v h m l f j r t e is =
+    let fits = subst (λ (x : List Part). Fits (at + length bs) (after at x)) (sym v) f in
+    let behind : joins ≡ begins_at (at + length bs) (after at ps) = subst (λ (x : List Part). joins ≡ begins_at (at + length bs) (after at x)) (sym v) j in
+    let sum = filled_runs low at ps bs h m l fits in
     let whole : touches ≡ touching ps at (at + length bs) = t ∙ ap (λ b. cond (is_some (lookup (is_at (nat_cmp at)) ps)) 1 0 + cond b 1 0) behind in
     rw (is, e, r) (omega arith)
 

@@ -6,7 +6,7 @@ use Rattle.std.specs.declared.cmp.Ordering.TheVariants.{Less, Greater}
 use Rattle.std.specs.BTreeMap.{insert_entry}
 use Rattle.std.proofs.lemmas.List.{drop_all}
 use Rattle.std.proofs.lemmas.Bool.{ltb-true, ltb-false}
-use Rattle.quic_streams_core.specs.Arrived.{Arrived, Part, start, AreApart, with_gaps, with_part}
+use Rattle.quic_streams_core.specs.Arrived.{Part, start, AreApart, with_gaps, with_part}
 use Rattle.quic_streams_core.specs.PartSteps.{after, gap_at, is_held, held_at, Fits}
 
 take_none : (n : ℕ) → take {A = ℕ} n [] ≡ []
@@ -56,7 +56,7 @@ skips at k (p ∷ ps) bs x e s l = go (ltb at p.0) refl e (skips at k ps bs x)
         let below = ltb-false at p.0 q in
         behind_first at p ps bs below ∙ ap (λ t. p ∷ t) (ih e s l) ∙ sym (behind_first (at + k) p ps (drop k bs) (omega arith))
 
-take_within : (n : ℕ) (bs : List ℕ) (m : ℕ) → m ≡ min n (length bs) → take n bs ≡ take m bs
+pub take_within : (n : ℕ) (bs : List ℕ) (m : ℕ) → m ≡ min n (length bs) → take n bs ≡ take m bs
 take_within n bs m e = go (ltb n (length bs)) refl
   where
     go : (b : Bool) → ltb n (length bs) ≡ b → take n bs ≡ take m bs
@@ -169,19 +169,9 @@ filled_is low at ps bs h l f =
     ∙ none_left (insert_entry nat_cmp ps (at + length bs) (take (length bs) bs)) (at + length bs)
     ∙ ap (λ r. insert_entry nat_cmp ps (at + length bs) r) all
 
--- a part put into what is seen of the fields is put into their parts
-pub put_seen : (a b : Arrived) (low end : ℕ) (ps : List Part) (part : List ℕ) → record { read = low; parts = ps } ≡ a → b ≡ record a { parts = insert_entry nat_cmp a.parts end part } → b.parts ≡ insert_entry nat_cmp ps end part
-put_seen a b low end ps part v e = ap (λ (s : Arrived). s.parts) e ∙ ap (λ (s : Arrived). insert_entry nat_cmp s.parts end part) (sym v)
-
 -- a gap that is filled with the first n bytes, as the call says it
-pub put_gaps : (low at len n : ℕ) (ps ns : List Part) (bs : List ℕ) (held : Bool) → AreApart low ps → 0 < length bs → held ≡ is_held at (after at ps) → held ≡ false → n ≡ cond held (held_at at len (after at ps)) (gap_at at len (after at ps)) → len ≡ length bs → ns ≡ insert_entry nat_cmp ps (at + length (take n bs)) (take n bs) → with_gaps ps at bs ≡ with_gaps ns (at + n) (drop n bs)
-put_gaps low at len n ps ns bs held h l b t e v is =
+pub put_gaps : (low at len n : ℕ) (a ps ns : List Part) (bs : List ℕ) (held : Bool) → ps ≡ a → AreApart low ps → 0 < length bs → held ≡ is_held at (after at ps) → held ≡ false → n ≡ cond held (held_at at len (after at ps)) (gap_at at len (after at ps)) → len ≡ length bs → ns ≡ insert_entry nat_cmp a (at + length (take n bs)) (take n bs) → with_gaps ps at bs ≡ with_gaps ns (at + n) (drop n bs)
+put_gaps low at len n a ps ns bs held seen h l b t e v is =
     let some = some_taken at len n ps bs held l b e v in
     let lt : length (take n bs) ≡ n = length-take n bs ∙ omega arith in
-    free_gaps low at len n ps ns bs held h l b t e v (is ∙ ap (λ k. insert_entry nat_cmp ps (at + k) (take n bs)) lt)
-
-pub put_is : (low at len n : ℕ) (ps ns : List Part) (bs : List ℕ) (held : Bool) → AreApart low ps → 0 < length bs → held ≡ is_held at (after at ps) → held ≡ false → n ≡ cond held (held_at at len (after at ps)) (gap_at at len (after at ps)) → len ≡ length bs → ns ≡ insert_entry nat_cmp ps (at + length (take n bs)) (take n bs) → with_gaps ps at (take n bs) ≡ ns
-put_is low at len n ps ns bs held h l b t e v is =
-    let some = some_taken at len n ps bs held l b e v in
-    let lt : length (take n bs) ≡ n = length-take n bs ∙ omega arith in
-    filled_is low at ps (take n bs) h (omega arith) (subst (λ k. Fits (at + k) (after at ps)) (sym lt) (free_fits at len n (after at ps) held b t e)) ∙ sym is
+    free_gaps low at len n ps ns bs held h l b t e v (is ∙ ap (λ k. insert_entry nat_cmp a (at + k) (take n bs)) lt ∙ ap (λ (qs : List Part). insert_entry nat_cmp qs (at + n) (take n bs)) (sym seen))

@@ -1,4 +1,7 @@
+pub mod Spans
 pub mod Arrived
+pub mod Offsets
 pub mod Buffered
 pub mod PartSteps
 pub mod Inside
+pub mod Source

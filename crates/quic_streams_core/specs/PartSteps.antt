@@ -1,11 +1,10 @@
 -- Words of the steps by which the assembler puts in and takes out parts.
-use Rattle.std.specs.Prelude.{ℕ, ◌+◌, ◌-◌, ◌≤◌, ◌==◌, Bool, false, cond, ltb, min, not, List, [], ◌∷◌, Option, Some, None}
+use Rattle.std.specs.Prelude.{ℕ, ◌+◌, ◌-◌, ◌≤◌, ◌==◌, Bool, false, cond, ltb, min, not, List, [], ◌∷◌, length, take, Option, Some, None}
 use Rattle.std.specs.Option.{is_some}
 use Rattle.std.specs.Ordering.{nat_cmp}
 use Rattle.std.specs.BTreeMap.{is_at}
-use Rattle.std.specs.Map.{lookup}
-use Rattle.quic_streams_core.specs.Arrived.{Part, Arrived, start}
-use Rattle.quic_streams_core.specs.declared.connection.assembler.Chunk.{Chunk}
+use Rattle.std.specs.Map.{lookup, remove_entry}
+use Rattle.quic_streams_core.specs.Arrived.{Part, start}
 
 -- the first part that ends behind an offset
 abbrev pub after : ℕ → List Part → Option Part
@@ -45,16 +44,37 @@ Fits end (Some p) = end ≤ start p
 abbrev pub touching : List Part → ℕ → ℕ → ℕ
 touching ps at end = cond (is_some (lookup (is_at (nat_cmp at)) ps)) 1 0 + cond (begins_at end (after at ps)) 1 0
 
--- the first part as a chunk
-abbrev pub whole_first : List Part → ℕ → Option Chunk
-whole_first [] read = None
-whole_first (p ∷ ps) read = Some (record { offset = read; bytes = p.1 })
+-- the bytes of the first part
+abbrev pub first_bytes : List Part → Option (List ℕ)
+first_bytes [] = None
+first_bytes (p ∷ ps) = Some p.1
 
--- after the first part is taken out whole
-abbrev pub first_taken : List Part → Arrived → Arrived
-first_taken [] a = a
-first_taken (p ∷ ps) a = record a { read = p.0; parts = ps }
+-- the parts behind the first
+abbrev pub rest_of : List Part → List Part
+rest_of [] = []
+rest_of (p ∷ ps) = ps
 
--- the same, of all
-abbrev pub after_first : Arrived → Arrived
-after_first a = first_taken a.parts a
+-- at most `most` bytes of the first part
+abbrev pub front_of : List Part → ℕ → Option (List ℕ)
+front_of [] most = None
+front_of (p ∷ ps) most = Some (take most p.1)
+
+-- whether that cuts the first part
+abbrev pub cuts_front : List Part → ℕ → Bool
+cuts_front [] most = false
+cuts_front (p ∷ ps) most = ltb most (length p.1)
+
+-- the parts without those that end at some offsets
+abbrev pub undone : List ℕ → List Part → List Part
+undone [] ps = ps
+undone (k ∷ ks) ps = remove_entry (is_at (nat_cmp k)) (undone ks ps)
+
+-- the part that begins at an offset, among the parts behind it
+abbrev pub touching_at : ℕ → Option Part → Option Part
+touching_at at None = None
+touching_at at (Some p) = cond (start p == at) (Some p) None
+
+-- the parts that end behind an offset
+abbrev pub from_after : ℕ → List Part → List Part
+from_after at [] = []
+from_after at (p ∷ ps) = cond (ltb at p.0) (p ∷ ps) (from_after at ps)

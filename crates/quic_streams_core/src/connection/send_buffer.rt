@@ -1,7 +1,9 @@
 // What was written to a stream and may have to be sent.
-ghost use Rattle.std.specs.Prelude.{◌≡◌, ◌+◌, ◌-◌, ◌≤◌, ◌<◌, ◌^◌, ◌++◌, [], ltb, length, slice_range, OnOk, OnErr};
-ghost use Rattle.quic_streams_core.specs.Buffered.{Buffered, IsBuffered, written, offset_width, writes_length, sent_end};
+ghost use Rattle.std.specs.Prelude.{◌≡◌, ◌+◌, ◌-◌, ◌≤◌, ◌<◌, ◌^◌, ◌++◌, [], length, drop, min, max, slice_range, OnOk, OnErr};
+ghost use Rattle.quic_streams_core.specs.Offsets.{first_lacking, without_offsets};
+ghost use Rattle.quic_streams_core.specs.Buffered.{Buffered, IsBuffered, nothing_written, written, is_fully_acked, has_unsent, piece_of, after_write, after_ack, after_loss, after_poll, offset_width, next_range, next_start, writes_length, sent_end, passed, pieces_behind, first_passed};
 
+use quic_wire_core::RangeSet;
 use std::alloc::{AllocError, Global};
 use std::collections::VecDeque;
 use std::marker::Model;
@@ -10,15 +12,21 @@ use std::ops::Range;
 // The bytes of a frame that are kept for a length, if it is written: its greatest width.
 const LENGTH_ROOM: usize = 8;
 
-/// What was written to a stream and may have to be sent (RFC 9000, 2.2), as quinn-proto's
-/// `SendBuffer`. Each byte goes out once.
+/// What was written to a stream and may have to be sent (RFC 9000, 2.2 and 13.3), as quinn-proto's `SendBuffer`.
+///
+/// Each offset that was written is in one place: never sent, in flight, lost, or acknowledged. Bytes are kept in the
+/// pieces that they were written in, until a whole piece lies below the first offset that isn't acknowledged.
 #[derive(Drop)]
 pub struct SendBuffer {
     // The bytes from `base` on.
     kept: VecDeque<u8>,
+    // The lengths of the pieces that they were written in.
+    pieces: VecDeque<usize>,
     base: u64,
     // The first offset that was never sent.
     unsent: u64,
+    acked: RangeSet,
+    lost: RangeSet,
 }
 
 impl Model for SendBuffer {
@@ -26,9 +34,9 @@ impl Model for SendBuffer {
 
     ghost Value = { Buffered };
 
-    ghost view = { λ s. record { base = s.base; kept = s.kept.items; unsent = s.unsent } };
+    ghost view = { λ s. record { base = s.base; kept = s.kept.items; pieces = s.pieces.items; unsent = s.unsent; acked = s.acked; lost = s.lost } };
 
-    ghost invariant = { λ s. IsBuffered (record { base = s.base; kept = s.kept.items; unsent = s.unsent }) };
+    ghost invariant = { λ s. IsBuffered (record { base = s.base; kept = s.kept.items; pieces = s.pieces.items; unsent = s.unsent; acked = s.acked; lost = s.lost }) };
 }
 
 // Puts bytes at the back.
@@ -41,6 +49,66 @@ fn append(kept: &mut VecDeque<u8>, bytes: &[u8]) -> Result<(), AllocError>
         kept.push_back_reserved(*byte);
     }
     Ok(())
+}
+
+// Puts bytes and their length at the back, if there are any. The memory is taken first.
+fn append_piece(
+    kept: &mut VecDeque<u8>,
+    pieces: &mut VecDeque<usize>,
+    bytes: &[u8],
+) -> Result<(), AllocError>
+    ensures kept { OnOk result (kept.new.items ≡ kept.old.items ++ bytes.now) }
+    ensures pieces { OnOk result (pieces.new.items ≡ pieces.old.items ++ piece_of (length bytes.now)) }
+    ensures same_kept { OnErr result (kept.new.items ≡ kept.old.items) }
+    ensures same_pieces { OnErr result (pieces.new.items ≡ pieces.old.items) }
+    ensures lacking { OnErr result (0 < length bytes.now) }
+{
+    if bytes.is_empty() {
+        return Ok(());
+    }
+    pieces.reserve(1)?;
+    append(kept, bytes)?;
+    pieces.push_back_reserved(bytes.len());
+    Ok(())
+}
+
+// The first offset that isn't in the set.
+fn first_lacking_of(set: &RangeSet) -> u64
+    ensures { result ≡ first_lacking set.now }
+{
+    match set.peek_min() {
+        Some(run) if run.start == 0 => run.end,
+        _ => 0,
+    }
+}
+
+// The length of the first piece, if it has no more than `room` bytes.
+fn passed_first(pieces: &VecDeque<usize>, room: u64) -> Option<u64>
+    ensures { result ≡ first_passed pieces.now.items room }
+{
+    let len = *pieces.front()? as u64;
+    if len <= room { Some(len) } else { None }
+}
+
+// Takes off the first pieces that end within `room` bytes, and says how many bytes these have.
+fn drop_pieces(pieces: &mut VecDeque<usize>, room: u64) -> u64
+    ensures count { result ≡ passed pieces.old.items room }
+    ensures pieces { pieces.new.items ≡ pieces_behind pieces.old.items room }
+{
+    let mut left = room;
+    while let Some(len) = passed_first(pieces, left) {
+        left -= len;
+        let _ = pieces.pop_front();
+    }
+    room - left
+}
+
+// Takes off the first bytes.
+fn drop_bytes(kept: &mut VecDeque<u8>, count: usize)
+    requires { count ≤ length kept.old.items }
+    ensures { kept.new.items ≡ drop count kept.old.items }
+{
+    kept.drain(..count);
 }
 
 // The width of an offset in a STREAM frame, which isn't written where it is 0.
@@ -63,23 +131,31 @@ fn offset_size(offset: u64) -> usize
 impl SendBuffer {
     /// Nothing is written.
     pub fn new(alloc: Global) -> Self
-        ensures { result ≡ record { base = 0; kept = []; unsent = 0 } }
+        ensures { result ≡ nothing_written }
     {
         SendBuffer {
             kept: VecDeque::new(alloc),
+            pieces: VecDeque::new(alloc),
             base: 0,
             unsent: 0,
+            acked: RangeSet::new(alloc),
+            lost: RangeSet::new(alloc),
         }
     }
 
-    /// Takes over bytes that are written; all together they end at 2^62 - 1 at most (RFC 9000,
-    /// 19.8). An `Err` (want of memory) takes none.
+    /// Takes over bytes that are written, as one piece; all together they end at 2^62 - 1 at most (RFC 9000, 19.8). An
+    /// empty write changes nothing.
+    ///
+    /// # Errors
+    ///
+    /// [`AllocError`] where memory lacks; nothing has changed.
     pub fn write(&mut self, bytes: &[u8]) -> Result<(), AllocError>
         requires { written self.old + length bytes.now < 2 ^ 62 }
-        ensures ok { OnOk result (self.new ≡ record self.old { kept = self.old.kept ++ bytes.now }) }
+        ensures ok { OnOk result (self.new ≡ after_write self.old bytes.now) }
         ensures err { OnErr result (self.new ≡ self.old) }
+        ensures lacking { OnErr result (0 < length bytes.now) }
     {
-        append(&mut self.kept, bytes)
+        append_piece(&mut self.kept, &mut self.pieces, bytes)
     }
 
     /// How many bytes were written in all: the offset of the next.
@@ -97,35 +173,109 @@ impl SendBuffer {
         self.unsent
     }
 
-    /// Whether there are bytes that were never sent.
-    pub fn has_unsent_data(&self) -> bool
-        ensures { result ≡ ltb self.now.unsent (written self.now) }
+    /// How many bytes are kept: those of each piece until its last offset lies below the first that isn't acknowledged.
+    pub fn buffered(&self) -> usize
+        ensures { result ≡ length self.now.kept }
     {
-        self.unsent < self.offset()
+        self.kept.len()
     }
 
-    /// Takes the next bytes to send, of a STREAM frame (RFC 9000, 19.8) with `max_len` bytes of
-    /// room behind its type and id: their offsets, and whether the frame's length is to be written.
+    /// Whether each byte that was written is acknowledged.
+    pub fn is_fully_acked(&self) -> bool
+        ensures { result ≡ is_fully_acked self.now }
+    {
+        first_lacking_of(&self.acked) == self.offset()
+    }
+
+    /// Whether there are bytes to send: lost ones, or some that were never sent.
+    pub fn has_unsent_data(&self) -> bool
+        ensures { result ≡ has_unsent self.now }
+    {
+        !self.lost.is_empty() || self.unsent < self.offset()
+    }
+
+    /// Offsets are acknowledged, those of the range that were sent (RFC 9000, 13.3): they never go again. Pieces that lie
+    /// wholly below the first offset that isn't acknowledged are dropped.
     ///
-    /// The offset takes its width of the room, unless it is 0. Where what was never sent fills the
-    /// room, the frame ends with it and has no length. Else it has one, and 8 bytes are kept for it.
+    /// # Errors
+    ///
+    /// [`AllocError`] where memory lacks for the sets of offsets; nothing has changed.
+    pub fn ack(&mut self, range: Range<u64>) -> Result<(), AllocError>
+        ensures ok { OnOk result (self.new ≡ after_ack self.old range.start range.end) }
+        ensures err { OnErr result (self.new ≡ self.old) }
+        ensures lacking { OnErr result (range.start < min range.end self.old.unsent) }
+    {
+        let sent = range.start..range.end.min(self.unsent);
+        self.acked.insert_from(sent, &mut self.lost)?;
+        let room = first_lacking_of(&self.acked).saturating_sub(self.base);
+        let count = drop_pieces(&mut self.pieces, room);
+        drop_bytes(&mut self.kept, count as usize);
+        self.base += count;
+        Ok(())
+    }
+
+    /// Offsets are lost, those of the range that were sent and aren't acknowledged: they go again before new ones
+    /// (RFC 9000, 13.3).
+    ///
+    /// # Errors
+    ///
+    /// [`AllocError`] where memory lacks for the set of lost offsets; nothing has changed.
+    pub fn retransmit(&mut self, range: Range<u64>) -> Result<(), AllocError>
+        ensures ok { OnOk result (self.new ≡ after_loss self.old range.start range.end) }
+        ensures err { OnErr result (self.new ≡ self.old) }
+        ensures lacking { OnErr result (range.start < min range.end self.old.unsent) }
+    {
+        let sent = range.start..range.end.min(self.unsent);
+        self.lost.insert_lacking(sent, &self.acked)
+    }
+
+    // What goes next: the least lost run, or else all that was never sent.
+    fn next_range(&self) -> Range<u64>
+        ensures value { result ≡ next_range self.now }
+        ensures lawful { IsBuffered self.now }
+    {
+        let unsent = self.unsent..self.offset();
+        self.lost.peek_min().unwrap_or(unsent)
+    }
+
+    // What goes was sent, and is lost no longer. The front of a lost run is cut off, which needs no memory.
+    fn mark_sent(&mut self, range: Range<u64>)
+        requires start { range.start ≡ next_start self.old }
+        requires bounded { range.end ≤ written self.old }
+        ensures { self.new ≡ record self.old { unsent = max self.old.unsent range.end; lost = without_offsets range.start range.end self.old.lost } }
+    {
+        self.unsent = self.unsent.max(range.end);
+        self.lost.remove(range).unwrap();
+    }
+
+    /// Takes the next bytes to send, of a STREAM frame (RFC 9000, 19.8) with `max_len` bytes of room behind its type and
+    /// id: their offsets, and whether the frame's length is to be written. They are in flight then.
+    ///
+    /// The least lost run goes first, cut to the room; bytes that were never sent go where nothing is lost. The offset
+    /// takes its width of the room, unless it is 0. Where what is left to go fills the room, the frame ends with it and has
+    /// no length. Else it has one, and 8 bytes are kept for it.
     pub fn poll_transmit(&mut self, max_len: usize) -> (Range<u64>, bool)
-        ensures start { result.0.start ≡ self.old.unsent }
+        ensures start { result.0.start ≡ next_start self.old }
         ensures end { result.0.end ≡ sent_end self.old max_len }
         ensures length { result.1 ≡ writes_length self.old max_len }
-        ensures new { self.new ≡ record self.old { unsent = sent_end self.old max_len } }
+        ensures new { self.new ≡ after_poll self.old max_len }
+        ensures kept { self.old.base ≤ result.0.start }
+        ensures ordered { result.0.start ≤ result.0.end }
+        ensures bounded { result.0.end ≤ written self.old }
+        ensures first_time { self.old.lost ≡ [] → self.new ≡ record self.old { unsent = sent_end self.old max_len } }
     {
-        let start = self.unsent;
-        let left = self.offset() - start;
-        let room = max_len.saturating_sub(offset_size(start));
+        let next = self.next_range();
+        let left = next.end - next.start;
+        let room = max_len.saturating_sub(offset_size(next.start));
         let has_length = left < room as u64;
         let room = if has_length {
             room.saturating_sub(LENGTH_ROOM)
         } else {
             room
         };
-        self.unsent = start + left.min(room as u64);
-        (start..self.unsent, has_length)
+        let end = next.start + left.min(room as u64);
+        self.mark_sent(next.start..end);
+        (next.start..end, has_length)
     }
 
     /// Bytes at these offsets from the first on, at least one where there is one: where the bytes lie in a ring, they may
@@ -172,54 +322,100 @@ mod tests {
     use std::process::Abort;
     use std::test::Fail;
 
+    // What a buffer shows of itself.
+    fn seen(buffer: &SendBuffer) -> (u64, u64, usize, bool, bool) {
+        (
+            buffer.offset(),
+            buffer.unsent(),
+            buffer.buffered(),
+            buffer.is_fully_acked(),
+            buffer.has_unsent_data(),
+        )
+    }
+
     // Writes bytes. Where memory lacks, nothing has changed, and they are written again.
     fn put(rt: &impl Abort, buffer: &mut SendBuffer, bytes: &[u8]) -> Result<(), Fail>
         requires { written buffer.old + length bytes.now < 2 ^ 62 }
-        ensures { OnOk result (buffer.new ≡ record buffer.old { kept = buffer.old.kept ++ bytes.now }) }
+        ensures { OnOk result (buffer.new ≡ after_write buffer.old bytes.now) }
     {
-        let before = (buffer.offset(), buffer.unsent(), buffer.has_unsent_data());
+        let before = seen(buffer);
         if buffer.write(bytes).is_err() {
-            let after = (buffer.offset(), buffer.unsent(), buffer.has_unsent_data());
-            assert_eq!(rt; after, before);
+            assert_eq!(rt; seen(buffer), before);
             buffer.write(bytes)?;
         }
         Ok(())
     }
 
+    // Acknowledges offsets. Where memory lacks, nothing has changed, and it is done again.
+    fn ack(rt: &impl Abort, buffer: &mut SendBuffer, start: u64, end: u64) -> Result<(), Fail> {
+        let before = seen(buffer);
+        if buffer.ack(start..end).is_err() {
+            assert_eq!(rt; seen(buffer), before);
+            buffer.ack(start..end)?;
+        }
+        Ok(())
+    }
+
+    // Loses offsets. Where memory lacks, nothing has changed, and it is done again.
+    fn lose(rt: &impl Abort, buffer: &mut SendBuffer, start: u64, end: u64) -> Result<(), Fail> {
+        let before = seen(buffer);
+        if buffer.retransmit(start..end).is_err() {
+            assert_eq!(rt; seen(buffer), before);
+            buffer.retransmit(start..end)?;
+        }
+        Ok(())
+    }
+
+    // The next frame with 16 bytes of room has these offsets, and a length or none.
+    fn sends(rt: &impl Abort, buffer: &mut SendBuffer, start: u64, end: u64, has_length: bool) {
+        let (range, with_length) = buffer.poll_transmit(16);
+        assert_eq!(rt;
+            (range.start, range.end, with_length),
+            (start, end, has_length)
+        );
+    }
+
     #[test]
-    fn frames_are_cut(rt: HostRuntime) -> Result<(), Fail> {
+    fn lost_bytes_go_again(rt: HostRuntime) -> Result<(), Fail> {
         let mut buffer = SendBuffer::new(rt.alloc());
         put(&rt, &mut buffer, b"Hello, world with extra data!")?;
         assert_eq!(rt; buffer.offset(), 29);
-        let (first, has_length) = buffer.poll_transmit(16);
-        assert_eq!(rt; (first.start, first.end), (0, 16));
-        assert!(rt; !has_length);
-        let (second, has_length) = buffer.poll_transmit(16);
-        assert_eq!(rt; (second.start, second.end), (16, 23));
-        assert!(rt; has_length);
-        assert_eq!(rt; buffer.unsent(), 23);
-        assert!(rt; buffer.has_unsent_data());
-        let (third, has_length) = buffer.poll_transmit(16);
-        assert_eq!(rt; (third.start, third.end), (23, 29));
-        assert!(rt; has_length);
+        sends(&rt, &mut buffer, 0, 16, false);
+        sends(&rt, &mut buffer, 16, 23, true);
+        lose(&rt, &mut buffer, 0, 16)?;
+        sends(&rt, &mut buffer, 0, 16, false);
+        sends(&rt, &mut buffer, 23, 29, true);
+        lose(&rt, &mut buffer, 16, 23)?;
+        sends(&rt, &mut buffer, 16, 23, true);
         assert!(rt; !buffer.has_unsent_data());
         Ok(())
     }
 
+    // Pieces of 7, 5 and 3 bytes: the first goes when its last byte is acknowledged, and not before.
     #[test]
-    fn bytes_are_kept(rt: HostRuntime) -> Result<(), Fail> {
+    fn whole_pieces_are_dropped(rt: HostRuntime) -> Result<(), Fail> {
         let mut buffer = SendBuffer::new(rt.alloc());
         put(&rt, &mut buffer, b"Hello, ")?;
-        let _ = buffer.poll_transmit(3);
+        put(&rt, &mut buffer, b"")?;
         if buffer.write(b"world").is_err() {
             assert_eq!(rt; buffer.get(0..7), b"Hello, ".as_slice());
             put(&rt, &mut buffer, b"world")?;
         }
-        assert_eq!(rt; buffer.offset(), 12);
-        let (rest, has_length) = buffer.poll_transmit(32);
-        assert_eq!(rt; (rest.start, rest.end), (3, 12));
-        assert!(rt; has_length);
-        assert_eq!(rt; buffer.get(5..12), b", world".as_slice());
+        put(&rt, &mut buffer, b"...")?;
+        let _ = buffer.poll_transmit(64);
+        ack(&rt, &mut buffer, 8, 12)?;
+        assert_eq!(rt; buffer.buffered(), 15);
+        ack(&rt, &mut buffer, 0, 7)?;
+        assert_eq!(rt; buffer.buffered(), 8);
+        ack(&rt, &mut buffer, 7, 14)?;
+        assert_eq!(rt; buffer.buffered(), 3);
+        lose(&rt, &mut buffer, 0, 64)?;
+        assert!(rt; !buffer.is_fully_acked());
+        let (range, with_length) = buffer.poll_transmit(64);
+        assert_eq!(rt; (range.start, range.end, with_length), (14, 15, true));
+        ack(&rt, &mut buffer, 14, 64)?;
+        assert!(rt; buffer.is_fully_acked());
+        assert_eq!(rt; buffer.buffered(), 0);
         Ok(())
     }
 }

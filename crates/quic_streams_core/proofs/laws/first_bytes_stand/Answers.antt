@@ -1,4 +1,4 @@
-use Rattle.quic_streams_core.proofs.Claims.{insert_bytes, insert_lawful}
+use Rattle.quic_streams_core.proofs.Lawful.{insert_bytes, insert_lawful}
 use Rattle.quic_streams_core.proofs.laws.first_bytes_stand.Goals as goal
 
 pub returns-clause-bytes : goal.returns-clause-bytes

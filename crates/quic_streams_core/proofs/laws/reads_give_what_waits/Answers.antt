@@ -1,11 +1,14 @@
-use Rattle.quic_streams_core.proofs.Claims.{read_gives, read_bytes, read_leaves}
+use Rattle.std.proofs.Common.{◌∙◌}
+use Rattle.quic_streams_core.proofs.Bytes.{next_waits}
+use Rattle.quic_streams_core.proofs.Claims.{given_next}
+use Rattle.quic_streams_core.proofs.Lawful.{first_least, given_bytes}
 use Rattle.quic_streams_core.proofs.laws.reads_give_what_waits.Goals as goal
 
-pub returns-clause-gives : goal.returns-clause-gives
-returns-clause-gives c = read_gives
+pub returns-clause-ordered : goal.returns-clause-ordered
+returns-clause-ordered c = λ a most h. given_next a.parts a.read most ∙ next_waits a.read a.parts h.apart
+
+pub returns-clause-least : goal.returns-clause-least
+returns-clause-least c = λ a most o h. first_least a.read most o a.parts h.apart
 
 pub returns-clause-bytes : goal.returns-clause-bytes
-returns-clause-bytes c = λ a most i h. read_bytes a.read most i a.parts h
-
-pub returns-clause-leaves : goal.returns-clause-leaves
-returns-clause-leaves c = read_leaves
+returns-clause-bytes c = given_bytes

@@ -1,5 +1,10 @@
-use Rattle.quic_streams_core.proofs.Filled.{low_small}
+use Rattle.std.proofs.Common.{arith}
+use Rattle.quic_streams_core.proofs.Kept.{total_small}
 use Rattle.quic_streams_core.proofs.connection.assembler.Assembler.bytes_read.Goals as goal
 
 pub returns-clause-small : goal.returns-clause-small
-returns-clause-small c = low_small c.self.inside.read c.self.inside.parts.entries c.self.invariant.apart
+returns-clause-small c =
+    let i = c.self.inside in
+    let k = total_small i.read i.unordered i.picked.entries i.parts c.self.invariant.lawful in
+    let t = c.self.invariant.total in
+    omega arith

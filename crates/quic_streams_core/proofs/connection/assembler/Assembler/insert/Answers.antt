@@ -1,22 +1,28 @@
-use Rattle.std.proofs.Common.{refl, sym, ap, ◌∙◌, ◌+◌}
-use Rattle.std.proofs.lemmas.List.{drop_all}
-use Rattle.quic_streams_core.specs.Arrived.{with_gaps}
-use Rattle.quic_streams_core.proofs.Steps.{none_left}
-use Rattle.quic_streams_core.proofs.Bytes.{after_keeps}
+use Rattle.std.proofs.Common.{◌∙◌, ℕ, List, length, min, ap, arith}
+use Rattle.quic_streams_core.specs.Arrived.{Arrived, Part, settled}
+use Rattle.quic_streams_core.proofs.Inserting.{on_ok, known_free}
+use Rattle.quic_streams_core.proofs.Kept.{seen, insert_kept}
+use Rattle.quic_streams_core.proofs.Spans.{lower}
 use Rattle.quic_streams_core.proofs.connection.assembler.Assembler.insert.Goals as goal
 
-pub returns-in_err-taken-clause-within : goal.returns-in_err-taken-clause-within
-returns-in_err-taken-clause-within c =
-    let same = c.loop-taken.invariant.same in
-    rw (c.in_err-taken.ensures.err) (after_keeps c.loop-taken.self.read _ c.loop-taken.self.parts _ _ c.loop-taken.invariant.lawful (sym same))
+pub insert-requires-clause-spans : goal.insert-requires-clause-spans
+insert-requires-clause-spans c = lower c.self.inside.read 0 c.self.inside.picked.entries c.self.invariant.lawful.spans (omega arith)
 
-pub returns-clause-within : goal.returns-clause-within
-returns-clause-within c =
-    after_keeps c.loop-taken.self.read _ c.loop-taken.self.parts _ _ c.loop-taken.invariant.lawful (sym c.loop-taken.invariant.same)
+pub invariant_of-self : goal.invariant_of-self
+invariant_of-self c =
+    let i = c.self.inside in
+    let a = c.args in
+    let known = c.min-known.ensures ∙ ap (λ (n : ℕ). min n (length a.bytes.now)) c.saturating_sub.ensures in
+    record {
+      lawful = insert_kept c.insert.result i.read a.offset c.min-known.result i.unordered i.picked.entries i.parts _ a.bytes.now known c.self.invariant.lawful c.requires c.insert.ensures.ok c.insert.ensures.err;
+      total = c.self.invariant.total;
+    }
 
 pub returns-clause-ok : goal.returns-clause-ok
 returns-clause-ok c =
-    let s = c.loop-taken in
-    let none = drop_all s.taken c.args.bytes.now c.loop-taken-test.false in
-    let left = s.invariant.same ∙ ap (λ bs. with_gaps s.self.parts (c.args.offset + s.taken) bs) none ∙ none_left s.self.parts (c.args.offset + s.taken) in
-    rw (left, ← s.invariant.read) refl
+    let i = c.self.inside in
+    let a = c.args in
+    let known = c.min-known.ensures ∙ ap (λ (n : ℕ). min n (length a.bytes.now)) c.saturating_sub.ensures in
+    let same = known_free i.read a.offset c.min-known.result i.picked.entries i.parts a.bytes.now known in
+    let all : List Part → Arrived = λ ps. seen i.read i.unordered i.picked.entries ps in
+    on_ok c.insert.result c.insert.ensures.ok (λ e. rw (← c.self.view_is) (ap all (e ∙ ap settled same)))

@@ -1,0 +1,233 @@
+//! Work for the two buffers of a stream, to be timed from outside. Each line of standard input names some, and for each a
+//! line of output says what came out: how many bytes, in how many parts, and a checksum.
+//!
+//! - `pieces ROUNDS [COUNT]`: so many rounds, in each of which `COUNT` pieces (10,000 unless given) of ten bytes arrive in
+//!   a shuffled order, and are read.
+//! - `in_order MIB`: so many MiB arrive in frames of 1200 bytes, and each frame is read when it has come.
+//! - `send MIB`: so many MiB are written in pieces of 1200 bytes; each frame is acknowledged when it has gone.
+//! - `buffered MIB`: so many MiB are written, then all sent, and then all acknowledged.
+#![tactic(auto)]
+
+ghost use Rattle.std.specs.Prelude.{◌<◌, ◌^◌};
+
+use anyhow::{Context, Result, bail};
+use quic_streams_core::{Assembler, SendBuffer};
+use std::alloc::{AllocError, Global};
+use std::fmt;
+use std::ops::Range;
+
+// How many bytes came out, in how many parts, and a checksum of both.
+#[derive(Debug, Drop)]
+struct Tally {
+    bytes: u64,
+    parts: u64,
+    checksum: u64,
+}
+
+impl Tally {
+    // Nothing was done.
+    fn new() -> Self {
+        Tally {
+            bytes: 0,
+            parts: 0,
+            checksum: 0,
+        }
+    }
+
+    // A part came out: its first offset, and its bytes, which may lie in two places. Only the last is looked at.
+    fn add(&mut self, offset: u64, front: &[u8], back: &[u8]) {
+        let last = back.last().or(front.last()).copied().unwrap_or(0);
+        let len = (front.len() as u64).wrapping_add(back.len() as u64);
+        self.bytes = self.bytes.wrapping_add(len);
+        self.parts = self.parts.wrapping_add(1);
+        let mixed = self.checksum.wrapping_mul(31).wrapping_add(offset);
+        self.checksum = mixed.wrapping_add(last as u64);
+    }
+}
+
+impl fmt::Display for Tally {
+    fn fmt<W: fmt::Write>(&self, f: &mut fmt::Formatter<W>) -> fmt::Result {
+        write!(
+            f,
+            "{} bytes in {} parts, checksum {}",
+            self.bytes, self.parts, self.checksum
+        )
+    }
+}
+
+// How many bytes a frame has.
+const FRAME_SIZE: usize = 1200;
+
+// The bytes of a frame.
+const FRAME: [u8; FRAME_SIZE] = [120; FRAME_SIZE];
+
+// How many frames so many MiB fill.
+fn frames_in(mebibytes: u32) -> u64
+    ensures { result < 2 ^ 44 }
+{
+    mebibytes as u64 * 1048576 / 1200
+}
+
+// How many pieces come in a round, unless it is said.
+const PIECES: u32 = 10000;
+
+// How many bytes a piece has.
+const PIECE_SIZE: u64 = 10;
+
+// How far apart pieces are that come one after another: a prime, so that each piece comes once, unless it divides their
+// number.
+const STRIDE: u64 = 7919;
+
+// Which piece comes at a step.
+fn place(step: u32, count: u32) -> u64
+    requires { 0 < count }
+    ensures { result < 2 ^ 32 }
+{
+    step as u64 * STRIDE % count as u64
+}
+
+// Pieces come in a shuffled order.
+fn insert_shuffled(assembler: &mut Assembler, count: u32) -> Result<(), AllocError> {
+    let piece = [120u8; 10];
+    for step in 0..count {
+        assembler.insert(place(step, count) * PIECE_SIZE, &piece)?;
+    }
+    Ok(())
+}
+
+// Reads so many parts at most.
+fn read_parts(assembler: &mut Assembler, parts: u32, tally: &mut Tally) -> Result<(), AllocError> {
+    for _ in 0..parts {
+        if let Some(chunk) = assembler.read(FRAME_SIZE)? {
+            tally.add(chunk.offset, chunk.bytes.as_slice(), &[]);
+        }
+    }
+    Ok(())
+}
+
+// Rounds in each of which so many pieces arrive in a shuffled order, and are then read in order.
+fn pieces(alloc: Global, rounds: u32, count: u32, tally: &mut Tally) -> Result<(), AllocError> {
+    for _ in 0..rounds {
+        let mut assembler = Assembler::new(alloc);
+        insert_shuffled(&mut assembler, count)?;
+        read_parts(&mut assembler, count, tally)?;
+    }
+    Ok(())
+}
+
+// Frames arrive in order, and each is read when it has come.
+fn in_order(alloc: Global, mebibytes: u32, tally: &mut Tally) -> Result<(), AllocError> {
+    let mut assembler = Assembler::new(alloc);
+    for number in 0..frames_in(mebibytes) {
+        assembler.insert(number * FRAME_SIZE as u64, &FRAME)?;
+        read_parts(&mut assembler, 1, tally)?;
+    }
+    Ok(())
+}
+
+// The least offset that nothing is written at.
+const LIMIT: u64 = 1 << 61;
+
+// Writes the bytes of a frame, if the stream has room for them.
+fn write_frame(buffer: &mut SendBuffer) -> Result<(), AllocError> {
+    if buffer.offset() < LIMIT {
+        buffer.write(&FRAME)?;
+    }
+    Ok(())
+}
+
+// Sends the next frame: its offsets.
+fn send_frame(buffer: &mut SendBuffer, tally: &mut Tally) -> Range<u64> {
+    let (range, _) = buffer.poll_transmit(FRAME_SIZE);
+    let (front, back) = buffer.get_parts(range.start..range.end);
+    tally.add(range.start, front, back);
+    range
+}
+
+// Sends a frame that is acknowledged, if there are so many bytes to send.
+fn deliver_frame(buffer: &mut SendBuffer, least: u64, tally: &mut Tally) -> Result<(), AllocError> {
+    if buffer.offset().saturating_sub(buffer.unsent()) < least {
+        return Ok(());
+    }
+    let range = send_frame(buffer, tally);
+    buffer.ack(range)
+}
+
+// Bytes are written in pieces of a frame's size, and each frame is acknowledged when it has gone. A frame has a few bytes
+// less than a piece, as its offset goes with it; so now and then two go behind a piece.
+fn send(alloc: Global, mebibytes: u32, tally: &mut Tally) -> Result<(), AllocError> {
+    let mut buffer = SendBuffer::new(alloc);
+    for _ in 0..frames_in(mebibytes) {
+        write_frame(&mut buffer)?;
+        deliver_frame(&mut buffer, FRAME_SIZE as u64, tally)?;
+        deliver_frame(&mut buffer, FRAME_SIZE as u64, tally)?;
+    }
+    deliver_frame(&mut buffer, 1, tally)?;
+    deliver_frame(&mut buffer, 1, tally)
+}
+
+// Sends all that is to be sent: where each frame ends.
+fn send_all(
+    alloc: Global,
+    buffer: &mut SendBuffer,
+    tally: &mut Tally,
+) -> Result<Vec<u64>, AllocError> {
+    let mut ends = Vec::new(alloc);
+    for _ in 0..u64::MAX {
+        if !buffer.has_unsent_data() {
+            break;
+        }
+        ends.push(send_frame(buffer, tally).end)?;
+    }
+    Ok(ends)
+}
+
+// All bytes are written, in pieces of a frame's size; then all are sent; and then they are acknowledged, frame by frame.
+fn buffered(alloc: Global, mebibytes: u32, tally: &mut Tally) -> Result<(), AllocError> {
+    let mut buffer = SendBuffer::new(alloc);
+    for _ in 0..frames_in(mebibytes) {
+        write_frame(&mut buffer)?;
+    }
+    let ends = send_all(alloc, &mut buffer, tally)?;
+    let mut start = 0;
+    for end in ends {
+        buffer.ack(start..end)?;
+        start = end;
+    }
+    Ok(())
+}
+
+// The number that a word spells.
+fn number(word: Option<&str>) -> Result<u32> {
+    word.context("a number is missing")?
+        .parse::<u32>()
+        .context("not a number")
+}
+
+// Does the work that a line names.
+fn work(alloc: Global, line: &str) -> Result<Tally> {
+    let mut words = line.split_whitespace();
+    let name = words.next().context("an empty line")?;
+    let size = number(words.next())?;
+    let count = match words.next() {
+        Some(word) => number(Some(word))?,
+        None => PIECES,
+    };
+    let mut tally = Tally::new();
+    match name {
+        "pieces" => pieces(alloc, size, count, &mut tally)?,
+        "in_order" => in_order(alloc, size, &mut tally)?,
+        "send" => send(alloc, size, &mut tally)?,
+        "buffered" => buffered(alloc, size, &mut tally)?,
+        _ => bail!("no such work"),
+    }
+    Ok(tally)
+}
+
+fn main(rt: HostRuntime) -> Result<()> {
+    for line in rt.lines(rt.alloc()) {
+        let tally = work(rt.alloc(), line?.as_str())?;
+        println!(rt; "{tally}")?;
+    }
+    Ok(())
+}

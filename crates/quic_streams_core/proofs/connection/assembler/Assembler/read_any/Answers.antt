@@ -1,0 +1,32 @@
+use Rattle.std.proofs.Common.{sym, ap, ◌∙◌, ℕ, arith}
+use Rattle.quic_streams_core.specs.Arrived.{Arrived}
+use Rattle.quic_streams_core.specs.Spans.{with_run}
+use Rattle.quic_streams_core.proofs.Kept.{chunk_small, pick_kept, pick_counted, total_small}
+use Rattle.quic_streams_core.proofs.connection.assembler.Assembler.read_any.Goals as goal
+
+pub add-requires : goal.add-requires
+add-requires c =
+    let k = chunk_small c.self.inside.read c.args.max c.self.inside.parts c.in-Some.chunk c.self.invariant.lawful.apart (sym c.in-Some.is ∙ c.in_ok-chunk.ensures) in
+    let l = c.len-len.ensures.value in
+    omega arith
+
+pub overflow_add-self : goal.overflow_add-self
+overflow_add-self c =
+    let i = c.self.inside in
+    let k = total_small i.read i.unordered i.picked.entries i.parts c.self.invariant.lawful in
+    let t = c.self.invariant.total in
+    let l = c.len-len.ensures.bound in
+    omega arith
+
+pub invariant_of-self-in-Some : goal.invariant_of-self-in-Some
+invariant_of-self-in-Some c =
+    let i = c.self.inside in
+    let chunk = c.in-Some.chunk in
+    let u = ap (λ (a : Arrived). a.unordered) c.self.view_is ∙ c.requires in
+    let e = sym c.in-Some.is ∙ c.in_ok-chunk.ensures in
+    let l = c.len-len.ensures.value in
+    let added = c.in_ok-add-in-Some.ensures.ok ∙ ap (λ (n : ℕ). with_run chunk.offset n i.picked.entries) l in
+    record {
+      lawful = pick_kept i.read c.args.max i.unordered i.picked.entries _ i.parts _ chunk c.self.invariant.lawful u e added c.skip_front.ensures;
+      total = rw l (pick_counted i.read c.args.max i.total i.unordered i.picked.entries _ i.parts chunk c.self.invariant.lawful e added c.self.invariant.total);
+    }

@@ -1,0 +1,32 @@
+use Rattle.std.proofs.Common.{sym, ap, ◌∙◌, arith}
+use Rattle.quic_streams_core.specs.Arrived.{Arrived}
+use Rattle.quic_streams_core.proofs.Reading.{read_small}
+use Rattle.quic_streams_core.proofs.Kept.{next_kept, total_small}
+use Rattle.quic_streams_core.proofs.connection.assembler.Assembler.read_next.Goals as goal
+
+pub overflow_add-self : goal.overflow_add-self
+overflow_add-self c =
+    let next = sym c.starts_at.ensures ∙ c.if-not-starts_at.false in
+    let k = read_small c.self.inside.read c.args.max c.self.inside.parts c.in-Some.bytes c.self.invariant.lawful.apart next (sym c.in-Some.is ∙ c.in_ok-bytes.ensures.ok) in
+    let l = c.len-len.ensures.value in
+    omega arith
+
+pub overflow_add-self-in-Some : goal.overflow_add-self-in-Some
+overflow_add-self-in-Some c =
+    let i = c.self.inside in
+    let k = total_small i.read i.unordered i.picked.entries i.parts c.self.invariant.lawful in
+    let t = c.self.invariant.total in
+    let l = c.len-len.ensures.bound in
+    omega arith
+
+pub invariant_of-self-in-Some : goal.invariant_of-self-in-Some
+invariant_of-self-in-Some c =
+    let i = c.self.inside in
+    let next = sym c.starts_at.ensures ∙ c.if-not-starts_at.false in
+    let u = ap (λ (a : Arrived). a.unordered) c.self.view_is ∙ c.requires in
+    let t = c.self.invariant.total in
+    let l = c.len-len.ensures.value in
+    record {
+      lawful = rw l (next_kept i.read c.args.max i.unordered i.picked.entries i.parts _ c.in-Some.bytes c.self.invariant.lawful u next (sym c.in-Some.is ∙ c.in_ok-bytes.ensures.ok) c.in_ok-bytes.ensures.new);
+      total = omega arith;
+    }

@@ -1,0 +1,11 @@
+use Rattle.std.proofs.Common.{ap, sym, ◌∙◌, ◌+◌}
+use Rattle.std.proofs.lemmas.List.{drop_all}
+use Rattle.quic_streams_core.specs.Arrived.{with_gaps}
+use Rattle.quic_streams_core.proofs.Steps.{none_left}
+use Rattle.quic_streams_core.proofs.connection.assembler.parts.Parts.fill.Goals as goal
+
+pub returns-clause-ok : goal.returns-clause-ok
+returns-clause-ok c =
+    let s = c.loop-taken in
+    let none = drop_all s.taken c.args.bytes.now c.loop-taken-test.false in
+    sym (s.invariant.same ∙ ap (λ bs. with_gaps s.self (c.args.at + s.taken) bs) none ∙ none_left s.self (c.args.at + s.taken))

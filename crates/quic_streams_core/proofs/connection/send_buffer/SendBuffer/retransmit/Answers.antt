@@ -1,0 +1,8 @@
+use Rattle.std.proofs.lemmas.Result.{on_ok_weaker}
+use Rattle.quic_streams_core.specs.contracts.connection.send_buffer.SendBuffer.{the_view}
+use Rattle.quic_streams_core.proofs.Buffered.{loss_made}
+use Rattle.quic_streams_core.proofs.connection.send_buffer.SendBuffer.retransmit.Goals as goal
+
+pub returns-clause-ok : goal.returns-clause-ok
+returns-clause-ok c =
+    on_ok_weaker c.insert_lacking.result (loss_made (the_view c.self.inside) c.args.self.now c.self.view_is c.self.invariant c.insert_lacking.new.self c.args.range.start c.args.range.end c.min.result c.min.ensures c.insert_lacking.ensures.runs) c.insert_lacking.ensures.ok

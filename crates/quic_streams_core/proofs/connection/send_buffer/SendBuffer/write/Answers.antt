@@ -1,0 +1,11 @@
+use Rattle.std.proofs.Common.{◌+◌, ◌<◌, ◌^◌, sym, subst, length}
+use Rattle.quic_streams_core.specs.Buffered.{Buffered, written}
+use Rattle.quic_streams_core.specs.contracts.connection.send_buffer.SendBuffer.{the_view}
+use Rattle.quic_streams_core.proofs.Buffered.{write_either}
+use Rattle.quic_streams_core.proofs.connection.send_buffer.SendBuffer.write.Goals as goal
+
+pub invariant_of-self : goal.invariant_of-self
+invariant_of-self c =
+    let small = subst (λ (b : Buffered). written b + length c.args.bytes.now < 2 ^ 62) (sym c.self.view_is) c.requires in
+    let e = c.append_piece.ensures in
+    write_either c.append_piece.result (the_view c.self.inside) c.args.bytes.now c.append_piece.new.kept.items c.append_piece.new.pieces.items c.self.invariant small e.kept e.pieces e.same_kept e.same_pieces

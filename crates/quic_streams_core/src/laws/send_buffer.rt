@@ -1,0 +1,97 @@
+//! Where the offsets of a stream are that were written, and what each call of [`SendBuffer`] moves.
+//!
+//! [`SendBuffer`]: crate::SendBuffer
+ghost use Rattle.std.specs.Prelude.{◌≡◌, ℕ, ◌+◌, ◌-◌, ◌<◌, ◌≤◌, ◌^◌, List, [], Bool, true, false, cond, ltb, not, ◌&&◌, ◌||◌, length, IsSome};
+ghost use Rattle.quic_streams_core.specs.Buffered.{Buffered, IsBuffered, written, nothing_written, kept_byte, is_fully_acked, has_unsent, places, AreSamePlaces, is_acknowledged, is_lost, is_unsent, is_in_flight, after_write, after_ack, after_loss, after_poll, offset_width, next_start, writes_length, sent_end};
+ghost use Rattle.quic_streams_core.specs.Arrived.{byte_from};
+ghost use Rattle.quic_streams_core.specs.Offsets.{is_within};
+
+/// Each offset that was written is in one place: acknowledged, lost, never sent or in flight. Others are in none.
+pub fn offsets_are_in_one_place()
+    ensures { (b : Buffered) (o : ℕ) → IsBuffered b → places b o ≡ cond (ltb o (written b)) 1 0 }
+{}
+
+/// What is acknowledged stays so, whatever comes.
+pub fn acknowledged_stays()
+    ensures write { (b : Buffered) (bytes : List ℕ) (o : ℕ) → is_acknowledged (after_write b bytes) o ≡ is_acknowledged b o }
+    ensures ack { (b : Buffered) (a z o : ℕ) → IsBuffered b → is_acknowledged b o ≡ true → is_acknowledged (after_ack b a z) o ≡ true }
+    ensures loss { (b : Buffered) (a z o : ℕ) → is_acknowledged (after_loss b a z) o ≡ is_acknowledged b o }
+    ensures poll { (b : Buffered) (most o : ℕ) → is_acknowledged (after_poll b most) o ≡ is_acknowledged b o }
+{}
+
+/// A write puts its bytes behind those that were written, never sent yet, and moves nothing.
+pub fn writes_wait()
+    ensures waits { (b : Buffered) (bytes : List ℕ) (o : ℕ) → IsBuffered b → is_unsent (after_write b bytes) o ≡ is_unsent b o || is_within (written b) (written b + length bytes) o }
+    ensures written { (b : Buffered) (bytes : List ℕ) → written (after_write b bytes) ≡ written b + length bytes }
+    ensures lost { (b : Buffered) (bytes : List ℕ) (o : ℕ) → is_lost (after_write b bytes) o ≡ is_lost b o }
+    ensures in_flight { (b : Buffered) (bytes : List ℕ) (o : ℕ) → is_in_flight (after_write b bytes) o ≡ is_in_flight b o }
+    ensures empty { (b : Buffered) → after_write b [] ≡ b }
+    ensures lawful { (b : Buffered) (bytes : List ℕ) → IsBuffered b → written b + length bytes < 2 ^ 62 → IsBuffered (after_write b bytes) }
+{}
+
+/// What was sent of a range is acknowledged after `ack`, and not lost; all else stays where it was.
+pub fn acks_acknowledge()
+    ensures acknowledged { (b : Buffered) (a z o : ℕ) → IsBuffered b → is_acknowledged (after_ack b a z) o ≡ is_acknowledged b o || (is_within a z o && ltb o b.unsent) }
+    ensures lost { (b : Buffered) (a z o : ℕ) → IsBuffered b → is_lost (after_ack b a z) o ≡ is_lost b o && not (is_within a z o) }
+    ensures unsent { (b : Buffered) (a z o : ℕ) → IsBuffered b → is_unsent (after_ack b a z) o ≡ is_unsent b o }
+    ensures in_flight { (b : Buffered) (a z o : ℕ) → IsBuffered b → is_in_flight (after_ack b a z) o ≡ is_in_flight b o && not (is_within a z o) }
+    ensures written { (b : Buffered) (a z : ℕ) → IsBuffered b → written (after_ack b a z) ≡ written b }
+    ensures lawful { (b : Buffered) (a z : ℕ) → IsBuffered b → IsBuffered (after_ack b a z) }
+{}
+
+/// What of a range is in flight is lost after `retransmit`; all else stays where it was.
+pub fn losses_lose()
+    ensures lost { (b : Buffered) (a z o : ℕ) → IsBuffered b → is_lost (after_loss b a z) o ≡ is_lost b o || (is_within a z o && is_in_flight b o) }
+    ensures in_flight { (b : Buffered) (a z o : ℕ) → IsBuffered b → is_in_flight (after_loss b a z) o ≡ is_in_flight b o && not (is_within a z o) }
+    ensures unsent { (b : Buffered) (a z o : ℕ) → is_unsent (after_loss b a z) o ≡ is_unsent b o }
+    ensures lawful { (b : Buffered) (a z : ℕ) → IsBuffered b → IsBuffered (after_loss b a z) }
+{}
+
+/// What a poll gives was written, was lost or never sent, isn't acknowledged, and is in flight then; all else stays where
+/// it was. Where something is lost only that goes, the least first.
+pub fn polls_send_what_waits()
+    ensures waits { (b : Buffered) (most o : ℕ) → IsBuffered b → is_within (next_start b) (sent_end b most) o ≡ true → (is_lost b o || is_unsent b o) ≡ true }
+    ensures written { (b : Buffered) (most o : ℕ) → IsBuffered b → is_within (next_start b) (sent_end b most) o ≡ true → o < written b }
+    ensures not_acknowledged { (b : Buffered) (most o : ℕ) → IsBuffered b → is_within (next_start b) (sent_end b most) o ≡ true → is_acknowledged b o ≡ false }
+    ensures flies { (b : Buffered) (most o : ℕ) → IsBuffered b → is_within (next_start b) (sent_end b most) o ≡ true → is_in_flight (after_poll b most) o ≡ true }
+    ensures stays { (b : Buffered) (most o : ℕ) → IsBuffered b → is_within (next_start b) (sent_end b most) o ≡ false → AreSamePlaces (after_poll b most) b o }
+    ensures lost_first { (b : Buffered) (most o k : ℕ) → IsBuffered b → is_lost b k ≡ true → is_within (next_start b) (sent_end b most) o ≡ true → is_lost b o ≡ true }
+    ensures least_first { (b : Buffered) (k : ℕ) → IsBuffered b → is_lost b k ≡ true → next_start b ≤ k }
+    ensures lawful { (b : Buffered) (most : ℕ) → IsBuffered b → IsBuffered (after_poll b most) }
+{}
+
+/// The byte at an offset that was written and isn't acknowledged is kept, and stays the same.
+pub fn unacknowledged_bytes_are_kept()
+    ensures kept { (b : Buffered) (o : ℕ) → IsBuffered b → o < written b → is_acknowledged b o ≡ false → IsSome (kept_byte b o) }
+    ensures write { (b : Buffered) (bytes : List ℕ) (o : ℕ) → o < written b → kept_byte (after_write b bytes) o ≡ kept_byte b o }
+    ensures written { (b : Buffered) (bytes : List ℕ) (o : ℕ) → written b ≤ o → kept_byte (after_write b bytes) o ≡ byte_from (written b) bytes o }
+    ensures ack { (b : Buffered) (a z o : ℕ) → IsBuffered b → is_acknowledged (after_ack b a z) o ≡ false → kept_byte (after_ack b a z) o ≡ kept_byte b o }
+    ensures loss { (b : Buffered) (a z o : ℕ) → kept_byte (after_loss b a z) o ≡ kept_byte b o }
+    ensures poll { (b : Buffered) (most o : ℕ) → kept_byte (after_poll b most) o ≡ kept_byte b o }
+{}
+
+/// All is acknowledged where each byte that was written is, and no byte is kept then.
+pub fn fully_acked_is_each_acknowledged()
+    ensures each { (b : Buffered) (o : ℕ) → IsBuffered b → is_fully_acked b ≡ true → o < written b → is_acknowledged b o ≡ true }
+    ensures all { (b : Buffered) → IsBuffered b → ((o : ℕ) → o < written b → is_acknowledged b o ≡ true) → is_fully_acked b ≡ true }
+    ensures none_kept { (b : Buffered) → IsBuffered b → is_fully_acked b ≡ true → b.kept ≡ [] }
+{}
+
+/// There is something to send where an offset is lost or was never sent: the one that goes next is.
+pub fn what_waits_is_told()
+    ensures some { (b : Buffered) → IsBuffered b → has_unsent b ≡ true → (is_lost b (next_start b) || is_unsent b (next_start b)) ≡ true }
+    ensures none_waits { (b : Buffered) (o : ℕ) → has_unsent b ≡ false → (is_lost b o || is_unsent b o) ≡ false }
+{}
+
+/// The offset, the length with its 8 bytes, if it is written, and the bytes of a frame fit the room behind its type and
+/// id. A frame without length fills that room. In 17 bytes of room at least one byte goes, where there is one to go.
+pub fn frames_fit_their_room()
+    ensures with_length { (b : Buffered) (max : ℕ) → IsBuffered b → 16 ≤ max → writes_length b max ≡ true → offset_width (next_start b) + 8 + (sent_end b max - next_start b) ≤ max }
+    ensures without { (b : Buffered) (max : ℕ) → IsBuffered b → 8 ≤ max → writes_length b max ≡ false → offset_width (next_start b) + (sent_end b max - next_start b) ≡ max }
+    ensures some { (b : Buffered) (max : ℕ) → IsBuffered b → 17 ≤ max → has_unsent b ≡ true → next_start b < sent_end b max }
+{}
+
+/// Nothing is written at first.
+pub fn nothing_is_written()
+    ensures { IsBuffered nothing_written }
+{}
