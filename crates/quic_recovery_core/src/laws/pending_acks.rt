@@ -1,0 +1,55 @@
+//! Numbers to acknowledge that come and go (RFC 9000, section 13.2).
+ghost use Rattle.std.specs.Prelude.{◌≡◌, ℕ, ◌+◌, ◌-◌, ◌^◌, ◌<◌, ◌≤◌, ◌⊎◌, ◌↔◌, List, [], ◌∷◌, true, unwrap_or, length, min, is_some, IsTrue, MatchOption};
+ghost use Rattle.quic_wire_core.specs.Runs.{Has, AreRuns};
+ghost use Rattle.quic_recovery_core.specs.Duplicates.{Seen};
+ghost use Rattle.quic_recovery_core.specs.DuplicateRuns.{seen_after, Lacks};
+ghost use Rattle.quic_recovery_core.specs.PendingAcks.{Pending, can_send, after_insert, after_packet, with_one, IsKept};
+ghost use Rattle.quic_recovery_core.specs.AckRuns.{Change, runs_after, Waits, newest_after, IsNewest};
+ghost use Rattle.quic_recovery_core.specs.AckSteps.{Step, packet, pending_after, asking_since, silent_since, greatest_asking, greatest_acked};
+
+use crate::spaces::pending_acks::MAX_ACK_RUNS;
+
+/// The set has the numbers that were put in and neither taken out since nor dropped with the run of the least number, as at
+/// most 64 maximal runs.
+pub fn numbers_wait_until_they_go()
+    ensures numbers { (changes : List Change) (k : ℕ) → Has (runs_after changes) k ↔ Waits changes k }
+    ensures added { (changes : List Change) (n k : ℕ) → Has (with_one (runs_after changes) n) k ↔ (Has (runs_after changes) k ⊎ (k ≡ n)) }
+    ensures runs { (changes : List Change) → AreRuns (runs_after changes) }
+    ensures few { (changes : List Change) → length (runs_after changes) ≤ MAX_ACK_RUNS }
+{}
+
+/// A set that is kept is kept with one number more: it has no other number than those before and that one.
+pub fn kept_sets_stay_kept()
+    ensures kept { (p : Pending) (n now : ℕ) → IsKept p.runs → n + 1 < 2 ^ 64 → IsKept (after_insert p n now).runs }
+    ensures numbers { (p : Pending) (n now k : ℕ) → IsKept p.runs → Has (after_insert p n now).runs k → Has p.runs k ⊎ (k ≡ n) }
+{}
+
+/// The delay of an acknowledgement is that of the greatest number that ever came, at its first coming.
+pub fn delay_is_of_greatest()
+    ensures { (arrivals : List (ℕ × ℕ)) → MatchOption (newest_after arrivals) (arrivals ≡ []) (IsNewest arrivals) }
+{}
+
+/// After a packet that asks an acknowledgement goes at once, or the timer for it runs.
+pub fn asking_packets_are_answered()
+    ensures { (p : Pending) (now n : ℕ) (s : Seen) → IsTrue (can_send (after_packet p now n true s)) ⊎ IsTrue (is_some (after_packet p now n true s).since) }
+{}
+
+/// Packets are counted since the last acknowledgement went; the greatest number that asked is kept, and what it was then.
+pub fn counts_are_since_last_acknowledgement()
+    ensures asking { (steps : List Step) → (pending_after steps).asking ≡ min (asking_since steps) (2 ^ 64 - 1) }
+    ensures silent { (steps : List Step) → (pending_after steps).silent ≡ min (silent_since steps) (2 ^ 64 - 1) }
+    ensures greatest { (steps : List Step) → (pending_after steps).greatest ≡ greatest_asking steps }
+    ensures acked { (steps : List Step) → (pending_after steps).acked ≡ greatest_acked steps }
+{}
+
+/// While the thresholds are those of the beginning, an acknowledgement is due from the second packet on that asks.
+pub fn second_asking_packet_is_due()
+    ensures { (steps : List Step) → 1 < asking_since steps → IsTrue (pending_after steps).due }
+{}
+
+/// While the thresholds are those of the beginning, an acknowledgement is due where a packet that asks comes below one that
+/// asked, or where a number lacks between them (RFC 9000, section 13.2.1).
+pub fn packet_out_of_order_is_due()
+    ensures below { (steps : List Step) (now n : ℕ) (s : Seen) → n < unwrap_or (greatest_asking steps) 0 → IsTrue (pending_after (packet now n true s ∷ steps)).due }
+    ensures gap { (steps : List Step) (now n k : ℕ) (ns : List ℕ) → unwrap_or (greatest_asking steps) 0 < k → k < n → Lacks ns k → IsTrue (pending_after (packet now n true (seen_after ns) ∷ steps)).due }
+{}

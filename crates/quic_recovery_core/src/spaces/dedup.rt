@@ -1,0 +1,215 @@
+//! Which packet numbers came before (RFC 9000, section 12.3).
+ghost use Rattle.std.specs.Prelude.{◌≡◌, false, ◌≢◌, [], ℕ, ◌+◌, ◌-◌, ◌<◌, ◌≤◌, ◌==◌, is_some, not};
+ghost use Rattle.std.specs.List.{find, range_with_len};
+ghost use Rattle.std.specs.Int.{bit_at};
+ghost use Rattle.quic_recovery_core.specs.Duplicates.{is_in, is_duplicate, with_number, after_insert, smallest_missing};
+
+use std::marker::Model;
+
+/// A number that lies this far below the greatest, or farther, counts as one that came.
+pub const DUPLICATE_SPAN: u64 = 129;
+
+/// The packet numbers that came, as far as they are told apart: a window below the greatest (quinn-proto's `Dedup`).
+/// Contracts see the list of those numbers, the greatest first.
+#[derive(Drop)]
+pub struct Dedup {
+    // Whether the numbers below the greatest came, the nearest in the lowest bit.
+    window: u128,
+    // One above the greatest, 0 where no number came.
+    next: u64,
+}
+
+impl Model for Dedup {
+    ghost use Rattle.quic_recovery_core.specs.Duplicates.{Seen};
+
+    ghost Value = { Seen };
+
+    ghost use Rattle.quic_recovery_core.specs.DuplicateBits.{seen};
+
+    ghost view = { λ d. seen d.next d.window };
+}
+
+// Whether a bit is set.
+fn is_set(window: u128, place: u64) -> bool
+    requires { place < 128 }
+    ensures { result ≡ (bit_at window place == 1) }
+{
+    window >> place & 1 == 1
+}
+
+// The window with a bit set.
+fn with_bit(window: u128, place: u64) -> u128
+    requires { place < 128 }
+    ensures same { bit_at result place ≡ 1 }
+    ensures other { (i : ℕ) → i ≢ place → bit_at result i ≡ bit_at window i }
+{
+    window | 1 << place
+}
+
+// The window as a number sees it that lies one place above the greatest and these steps farther.
+fn moved(window: u128, steps: u64) -> u128
+    ensures near { (i : ℕ) → i < 128 → i < steps → bit_at result i ≡ 0 }
+    ensures greatest { steps < 128 → bit_at result steps ≡ 1 }
+    ensures far { (i : ℕ) → i < 128 → steps < i → bit_at result i ≡ bit_at window (i - (steps + 1)) }
+{
+    if steps >= 128 {
+        return 0;
+    }
+    with_bit(window << 1 << steps, steps)
+}
+
+impl Dedup {
+    /// No number came.
+    pub fn new() -> Self
+        ensures { result ≡ [] }
+    {
+        Dedup { window: 0, next: 0 }
+    }
+
+    // Whether a number is among those that are told apart.
+    fn has(&self, number: u64) -> bool
+        ensures { result ≡ is_in self.now number }
+    {
+        if number >= self.next {
+            return false;
+        }
+        let below = self.next - 1 - number;
+        below == 0 || (below < DUPLICATE_SPAN && is_set(self.window, below - 1))
+    }
+
+    // Whether a number may have come before.
+    fn is_duplicate(&self, number: u64) -> bool
+        ensures { result ≡ is_duplicate self.now number }
+    {
+        self.has(number) || number < self.next.saturating_sub(DUPLICATE_SPAN)
+    }
+
+    // Keeps a number that did not come.
+    fn keep(&mut self, number: u64)
+        requires small { number < u64.MAX }
+        requires new { is_duplicate self.old number ≡ false }
+        ensures { self.new ≡ with_number self.old number }
+    {
+        if number >= self.next {
+            self.window = moved(self.window, number - self.next);
+            self.next = number + 1;
+        } else {
+            self.window = with_bit(self.window, self.next - 2 - number);
+        }
+    }
+
+    /// Takes a number in, and answers whether it may have come before: it did, or it lies [`DUPLICATE_SPAN`] or more below
+    /// the greatest. Such a number changes nothing.
+    pub fn insert(&mut self, number: u64) -> bool
+        requires { number < u64.MAX }
+        ensures answer { result ≡ is_duplicate self.old number }
+        ensures next { self.new ≡ after_insert self.old number }
+    {
+        if self.is_duplicate(number) {
+            return true;
+        }
+        self.keep(number);
+        false
+    }
+
+    /// The least number above `low` and below `high` that did not come. Only the numbers below the greatest that lie nearer
+    /// to it than [`DUPLICATE_SPAN`] count; so this looks at 128 numbers at most.
+    pub fn smallest_missing_in_interval(&self, low: u64, high: u64) -> Option<u64>
+        ensures { result ≡ smallest_missing self.now low high }
+    {
+        let first = low
+            .saturating_add(1)
+            .max(self.next.saturating_sub(DUPLICATE_SPAN));
+        let end = high.min(self.next);
+        self.first_lacking(first, end)
+    }
+
+    // The first number of a range that is not among those told apart.
+    fn first_lacking(&self, first: u64, end: u64) -> Option<u64>
+        ensures { result ≡ find (λ k. not (is_in self.now k)) (range_with_len first (end - first)) }
+    {
+        (first..end).find(|number| !self.has(*number))
+    }
+
+    /// Whether a number above `low` and below `high` did not come, as
+    /// [`smallest_missing_in_interval`](Self::smallest_missing_in_interval) has it.
+    pub fn missing_in_interval(&self, low: u64, high: u64) -> bool
+        ensures { result ≡ is_some (smallest_missing self.now low high) }
+    {
+        self.smallest_missing_in_interval(low, high).is_some()
+    }
+}
+
+#[cfg(test)]
+mod tests {
+    use super::*;
+    use std::process::Abort;
+    use std::test::Fail;
+
+    // Puts these numbers in, none of which came before.
+    fn put(rt: &impl Abort, dedup: &mut Dedup, numbers: &[u64]) {
+        for number in numbers {
+            if *number < u64::MAX {
+                assert!(rt; !dedup.insert(*number));
+            }
+        }
+    }
+
+    #[test]
+    fn duplicates_are_told(rt: HostRuntime) -> Result<(), Fail> {
+        let mut dedup = Dedup::new();
+        put(&rt, &mut dedup, &[0]);
+        assert!(rt; dedup.insert(0));
+        put(&rt, &mut dedup, &[1, 2, 4, 7]);
+        assert!(rt; dedup.insert(4));
+        put(&rt, &mut dedup, &[3]);
+        Ok(())
+    }
+
+    #[test]
+    fn the_window_has_129_numbers(rt: HostRuntime) -> Result<(), Fail> {
+        let mut dedup = Dedup::new();
+        for number in 1..=129u64 {
+            assert!(rt; !dedup.insert(number));
+        }
+        assert!(rt; dedup.insert(1));
+        assert!(rt; dedup.insert(0));
+
+        let mut dedup = Dedup::new();
+        put(&rt, &mut dedup, &[129, 1]);
+        assert!(rt; dedup.insert(0));
+        Ok(())
+    }
+
+    #[test]
+    fn a_gap_is_told(rt: HostRuntime) -> Result<(), Fail> {
+        let mut dedup = Dedup::new();
+        put(&rt, &mut dedup, &[0, 1]);
+        assert!(rt; !dedup.missing_in_interval(0, 1));
+        put(&rt, &mut dedup, &[3]);
+        assert!(rt; dedup.missing_in_interval(1, 3));
+        put(&rt, &mut dedup, &[4]);
+        assert!(rt; !dedup.missing_in_interval(3, 4));
+        assert!(rt; dedup.missing_in_interval(0, 4));
+        put(&rt, &mut dedup, &[2]);
+        assert!(rt; !dedup.missing_in_interval(0, 4));
+        Ok(())
+    }
+
+    #[test]
+    fn the_least_gap_is_found(rt: HostRuntime) -> Result<(), Fail> {
+        let mut dedup = Dedup::new();
+        put(&rt, &mut dedup, &[0, 1, 5, 7]);
+        assert_eq!(rt; dedup.smallest_missing_in_interval(0, 7), Some(2));
+        assert_eq!(rt; dedup.smallest_missing_in_interval(5, 7), Some(6));
+        put(&rt, &mut dedup, &[2]);
+        assert_eq!(rt; dedup.smallest_missing_in_interval(1, 7), Some(3));
+        put(&rt, &mut dedup, &[170, 172, 300]);
+        assert_eq!(rt; dedup.smallest_missing_in_interval(170, 172), None);
+        put(&rt, &mut dedup, &[500]);
+        assert_eq!(rt; dedup.smallest_missing_in_interval(0, 500), Some(372));
+        assert_eq!(rt; dedup.smallest_missing_in_interval(0, 373), Some(372));
+        assert_eq!(rt; dedup.smallest_missing_in_interval(0, 372), None);
+        Ok(())
+    }
+}
