@@ -1,11 +1,14 @@
 -- An event keeps what holds between two ends.
-use Rattle.std.proofs.Common.{◌≡◌, ℕ, zero, suc, ◌+◌, List, [], ◌∷◌, ◌++◌, length, Bool, true, false, Option, Some, None, refl, sym, ap, ◌∙◌, subst, inl, inr, arith}
-use Rattle.std.specs.Prelude.{slice_get, Ok, Err}
+use Rattle.std.proofs.Common.{◌≡◌, ℕ, ◌+◌, List, [], ◌∷◌, ◌++◌, length, map, Bool, true, false, Option, Some, None, refl, sym, ap, ◌∙◌, subst, inl, inr, arith}
+use Rattle.std.specs.Prelude.{slice_get, Ok}
 use Rattle.std.proofs.lemmas.List.{append-nil, length-append}
 use Rattle.quic_wire_core.specs.declared.stream_id.Dir.{Dir}
 use Rattle.quic_wire_core.specs.declared.stream_id.Side.{Side}
 use Rattle.quic_wire_core.specs.declared.stream_id.Side.TheVariants.{Client, Server}
 use Rattle.quic_connection_core.specs.declared.answers.State.{State}
+use Rattle.quic_connection_core.specs.Numbers.{number_given}
+use Rattle.quic_connection_core.specs.Poll.{Polled, composed, polled}
+use Rattle.quic_connection_core.specs.Timeouts.{timed_out}
 use Rattle.quic_connection_core.specs.declared.run.RunEvent.{RunEvent}
 use Rattle.quic_connection_core.specs.declared.run.Call.{Call}
 use Rattle.quic_connection_core.specs.declared.run.Call.TheVariants as calls
@@ -14,48 +17,103 @@ use Rattle.quic_connection_core.specs.declared.run.Answer.{Answer}
 use Rattle.quic_connection_core.specs.declared.run.Answer.TheVariants as answers
 use Rattle.quic_connection_core.specs.Policy.{Policy, CanOpen}
 use Rattle.quic_connection_core.specs.Ids.{known}
-use Rattle.quic_connection_core.specs.Numbers.{Numbers}
-use Rattle.quic_connection_core.specs.Receive.{Outcome, received, own_id_length}
+use Rattle.quic_connection_core.specs.Opens.{own_id_length}
+use Rattle.quic_connection_core.specs.Receive.{Outcome, received}
 use Rattle.quic_connection_core.specs.End.{End}
 use Rattle.quic_connection_core.specs.Machine.{World, Policies, IsAnswer, IsDelivered, IsLeft, IsStep, after_call, after_delivered, gives, fails}
-use Rattle.quic_connection_core.specs.Calls.{can_open, after_open_if, end_after_next, after_nexts}
-use Rattle.quic_wire.specs.Value.{StreamValue}
-use Rattle.quic_connection_core.specs.Runs.{Told, Next, Packet, Intake, In, written, ended, acknowledged_in, told_by, count_given, handed, and_handed, and_told, nothing_came, intake}
+use Rattle.quic_connection_core.specs.Calls.{can_open, after_open_if, end_after_event, end_after_next, after_nexts}
+use Rattle.quic_wire.specs.Value.{FrameValue, AckValue, ack}
+use Rattle.quic_connection_core.specs.Runs.{Told, Next, Packet, Intake, In, told_by, acknowledged, count_given, handed, and_handed, nothing_came}
 use Rattle.quic_connection_core.specs.Headline.{IsLawful, AreKeys}
-use Rattle.quic_connection_core.proofs.Invariant.{Streams, Gives, Content, Kept, Accepted, KnowsIn, IsWritten, IsGiven}
+use Rattle.quic_connection_core.proofs.Invariant.{Streams, Content, Kept, Accepted, KnowsIn, WereSent, AreTaken, AllSay, IsGiven, IsSent, Arrives, AreTracked}
 use Rattle.quic_connection_core.proofs.Growth.{each_at, get_front}
 use Rattle.quic_connection_core.proofs.Reading.{content_grows}
-use Rattle.quic_connection_core.proofs.Writer.{streams_step, grows_step, gives_step, ids_step, side_step}
+use Rattle.quic_connection_core.proofs.Writer.{streams_step, grows_step, sents_by, gives_step, ids_step, side_step}
 use Rattle.quic_connection_core.proofs.Reader.{is_delivery, told_of, content_step, kept_step, accepted_step, content_delivered, accepted_delivered}
-use Rattle.quic_connection_core.proofs.Taking.{content_frame, kept_frames, kept_frame_only, accepted_frame}
-use Rattle.quic_connection_core.proofs.Delivered.{Arrivals, by_arrival}
-use Rattle.quic_connection_core.proofs.Knowing.{knows_arrivals}
-use Rattle.quic_connection_core.proofs.Way.{Way, Both, NoReference, came}
-use Rattle.quic_connection_core.proofs.Stays.{Stays, stays_received}
+use Rattle.quic_connection_core.proofs.Passing.{Rests, frames_pass, frames_taken}
+use Rattle.quic_connection_core.proofs.Delivered.{Arrivals, begun, arrived, by_arrival}
+use Rattle.quic_connection_core.proofs.Knowing.{knows_given, knows_arrivals}
+use Rattle.quic_connection_core.proofs.Way.{Way, Both, came}
+use Rattle.quic_connection_core.proofs.Arriving.{NamesTaken, Stands, Arriving, arrivals_arriving, sents_say, sents_length}
+use Rattle.quic_connection_core.proofs.AckedSteps.{adds_step, arrives_grows, arrives_adds, arrives_on}
+use Rattle.quic_connection_core.proofs.TrackedSteps.{tracked_more, tracked_step}
+use Rattle.quic_connection_core.proofs.Stays.{Stays, stays_items, stays_received}
 use Rattle.quic_connection_core.proofs.Steps.{gives_count}
-use Rattle.quic_connection_core.proofs.Intakes.{count_more, intake_more, nothing_handed, unreferred_more}
-use Rattle.quic_connection_core.proofs.Polls.{knows_poll}
+use Rattle.quic_connection_core.proofs.Intakes.{count_more, intake_more, took_more, nothing_handed}
+use Rattle.quic_connection_core.proofs.Injected.{injected_leaves}
+use Rattle.quic_connection_core.proofs.Acking.{acks_delivered, taken_arrivals, acks_step, taken_step}
+use Rattle.quic_connection_core.proofs.Naming.{were_sent_more, sent_arrivals, name_taken_on, name_taken_step}
+use Rattle.quic_connection_core.proofs.Leaves.{by_timeout, by_event}
+use Rattle.quic_connection_core.proofs.Polls.{at_moment, by_poll, composes}
 
 -- ---- the end that writes makes a call
 
-pub way_writer : (p q : Policy) (id : List ℕ) (x y : End) (given final theirs : List (List ℕ)) (wrote read : List Told) (call : Call) (a : Answer) (state : State) → length id ≡ 8 → IsAnswer p x theirs call a → fails a ≡ false
-    → Way p q id x y given final wrote read → Way p q id (after_call p x theirs call a) y (given ++ gives p x call a) final (wrote ++ told_of call a state ∷ []) read
-way_writer p q id x y given final theirs wrote read call a state eight is served w =
+-- a datagram that the reader gave comes to the end that writes: what it acknowledges, the reader took
+writer_takes : (p q : Policy) (own id : List ℕ) (x y : End) (given final back theirs : List (List ℕ)) (wrote read : List Told) (delivery : Delivery) (d : List ℕ) → CanOpen q p → IsLawful q → length own ≡ own_id_length
+    → slice_get theirs delivery.index ≡ Some d → Way q p id own y x theirs back final read wrote → (w : Way p q own id x y given final back wrote read)
+    → Arriving (came q id final read).took w.sents wrote x.side (received p x delivery.now d).end
+writer_takes p q own id x y given final back theirs wrote read delivery d mates lawful eight at_given other w =
+    let i : Intake = came p own back wrote in
+    let took : List Packet = (came q id final read).took in
+    let found = each_at (IsSent q own read) 0 other.sents theirs delivery.index d other.gives.each at_given in
+    let reference : ℕ = found.0.0 in
+    let frames : List FrameValue = found.0.1 in
+    let g : IsGiven q own read (0 + delivery.index) reference frames d = found.2 in
+    let stands : Stands took w.sents wrote = record { taken = w.taken; say = λ n s is. sents_say p id wrote 0 w.sents given n s w.gives.each is } in
+    let before : Arriving took w.sents wrote x.side x = record { streams = w.streams; arrives = w.arrives; tracked = w.tracked } in
+    let named : (a : AckValue) → In (ack a) frames → NamesTaken took a = λ a is k names. other.named delivery.index found.0 a k found.1 is names in
+    by_arrival q p own read (0 + delivery.index) reference frames d g x delivery.now i (λ o j. Arriving took w.sents wrote x.side o.end) mates lawful eight other.known other.knows
+    (arrivals_arriving took w.sents wrote x.side stands x delivery.now (0 + delivery.index) frames i named before)
+
+-- a delivery to the end that writes
+writer_delivered : (p q : Policy) (own id : List ℕ) (x y : End) (given final back theirs : List (List ℕ)) (wrote read : List Told) (delivery : Delivery) (o : Option (List ℕ)) → CanOpen q p → IsLawful q → length own ≡ own_id_length
+    → slice_get theirs delivery.index ≡ o → Way q p id own y x theirs back final read wrote → (w : Way p q own id x y given final back wrote read)
+    → Arriving (came q id final read).took w.sents wrote x.side (after_delivered p x delivery.now o)
+writer_delivered p q own id x y given final back theirs wrote read delivery None mates lawful eight at_given other w = record { streams = w.streams; arrives = w.arrives; tracked = w.tracked }
+writer_delivered p q own id x y given final back theirs wrote read delivery (Some d) mates lawful eight at_given other w = writer_takes p q own id x y given final back theirs wrote read delivery d mates lawful eight at_given other w
+
+-- after a call, what is known to be acknowledged arrived, and what is waited for was sent
+writer_arrives : (p q : Policy) (own id : List ℕ) (x y : End) (given final back theirs : List (List ℕ)) (wrote read : List Told) (call : Call) (a : Answer) (reference : ℕ) → CanOpen q p → IsLawful q → length own ≡ own_id_length
+    → IsAnswer p x theirs call a → fails a ≡ false → Way q p id own y x theirs back final read wrote → (w : Way p q own id x y given final back wrote read)
+    → Arrives (came q id final read).took wrote (after_call p x theirs call a).sending (after_call p x theirs call a).events × AreTracked (w.sents ++ sents_by x call a reference) (after_call p x theirs call a).tracking.packets
+writer_arrives p q own id x y given final back theirs wrote read (calls.Deliver delivery) a reference mates lawful eight is served other w =
+    let after = writer_delivered p q own id x y given final back theirs wrote read delivery (slice_get theirs delivery.index) mates lawful eight refl other w in
+    (after.arrives, tracked_more w.sents [] (after_call p x theirs (calls.Deliver delivery) a).tracking.packets after.tracked)
+writer_arrives p q own id x y given final back theirs wrote read call a reference mates lawful eight is served other w = (
+  arrives_adds (came q id final read).took wrote x (after_call p x theirs call a) (adds_step p x theirs call a refl) w.arrives,
+  tracked_step p x theirs call a w.sents reference refl is served (w.gives.next ∙ sents_length p id wrote 0 w.sents given w.gives.each) w.tracked,
+)
+
+pub way_writer : (p q : Policy) (own id : List ℕ) (x y : End) (given final back theirs : List (List ℕ)) (wrote read : List Told) (call : Call) (a : Answer) (state : State) → length id ≡ 8 → CanOpen q p → IsLawful q → length own ≡ own_id_length
+    → IsAnswer p x theirs call a → fails a ≡ false
+    → Way q p id own y x theirs back final read wrote → Way p q own id x y given final back wrote read
+    → Way p q own id (after_call p x theirs call a) y (given ++ gives p x call a) final back (wrote ++ told_of call a state ∷ []) read
+way_writer p q own id x y given final back theirs wrote read call a state eight mates lawful own_eight is served other w =
     let all = length-append given (gives p x call a) in
     let one = gives_count p x theirs call a is in
     let told = count_more wrote (told_of call a state) in
     let before = w.count in
     let counted : length (given ++ gives p x call a) ≡ count_given (wrote ++ told_of call a state ∷ []) = omega arith in
+    let after = writer_arrives p q own id x y given final back theirs wrote read call a (acknowledged (came p own back wrote).took) mates lawful own_eight is served other w in
     record {
       streams = subst (λ side. Streams side (after_call p x theirs call a).sending (wrote ++ told_of call a state ∷ [])) (sym (side_step p x theirs call a)) (streams_step p x theirs call a wrote state is served w.streams);
-      gives = gives_step p x theirs call a wrote state id given is served w.active eight w.streams w.gives;
+      sents = w.sents ++ sents_by x call a (acknowledged (came p own back wrote).took);
+      gives = gives_step p x theirs a wrote state own id back given w.sents call is served w.active eight other.knows other.acks w.streams w.gives;
       active = ap (λ ids. ids.active.id) (ids_step p x theirs call a) ∙ w.active;
       count = counted;
       content = content_grows y.side y.sending y.receiving wrote (wrote ++ told_of call a state ∷ []) read (grows_step p x theirs call a wrote state is served w.streams) w.content;
       kept = w.kept;
       accepted = w.accepted;
       knows = w.knows;
+      acks = w.acks;
       known = w.known;
+      taken = were_sent_more w.sents (sents_by x call a (acknowledged (came p own back wrote).took)) (came q id final read).took w.taken;
+      named = name_taken_on (w.sents ++ sents_by x call a (acknowledged (came p own back wrote).took)) (came p own back wrote).took (came p own back (wrote ++ told_of call a state ∷ [])).took
+          (took_more p (own ∷ []) back wrote (told_of call a state) nothing_came)
+          (name_taken_step x call a (acknowledged (came p own back wrote).took) w.sents (came p own back wrote).took other.acks other.acking w.named);
+      acking = w.acking;
+      arrives = arrives_grows (came q id final read).took wrote (wrote ++ told_of call a state ∷ []) (after_call p x theirs call a).sending (after_call p x theirs call a).events (grows_step p x theirs call a wrote state is served w.streams) after.0;
+      tracked = after.1;
     }
 
 -- ---- the end that reads makes a call
@@ -70,6 +128,24 @@ opened_knows : (b : Bool) (dir : Dir) (e : End) (i : Intake) → KnowsIn e.closi
 opened_knows true dir e i k = k
 opened_knows false dir e i k = k
 
+-- a poll changes neither the state nor what is known, but where the end closes
+knows_poll : (p : Policy) (e : End) (now : ℕ) (i : Intake) → KnowsIn e.closing.state e.numbers i → KnowsIn (polled p e now).end.closing.state (polled p e now).end.numbers i
+knows_poll p e now i k =
+    by_poll p e now (λ (q : Polled). KnowsIn q.end.closing.state q.end.numbers i) (record { silent = k; failed = k; idle = λ pings. k; used_up = λ pings. tt; gives = λ pings tracking timers is may some ready. gives pings })
+  where
+    gives : (pings : Bool) → KnowsIn (composed (at_moment e now pings)).end.closing.state (number_given (composed (at_moment e now pings)).end.numbers) i
+    gives pings =
+        let c = composes (at_moment e now pings) in
+        rw (c.closing, c.numbers) (knows_given e.closing.state e.numbers i k)
+
+-- a timeout changes neither the state nor the numbers
+knows_timeout : (e : End) (now : ℕ) (i : Intake) → KnowsIn e.closing.state e.numbers i → KnowsIn (timed_out e now).end.closing.state (timed_out e now).end.numbers i
+knows_timeout e now i k = by_timeout e now (λ (f : End). KnowsIn f.closing.state f.numbers i) k (λ acks tracking timers. k)
+
+-- nor does telling an event
+knows_event : (e : End) (i : Intake) → KnowsIn e.closing.state e.numbers i → KnowsIn (end_after_event e).closing.state (end_after_event e).numbers i
+knows_event e i k = by_event e (λ (f : End). KnowsIn f.closing.state f.numbers i) (λ told events. k)
+
 -- what came is known, after a call that is no delivery
 knows_step : (q : Policy) (e : End) (theirs : List (List ℕ)) (call : Call) (a : Answer) (i : Intake) → is_delivery call ≡ false → KnowsIn e.closing.state e.numbers i → KnowsIn (after_call q e theirs call a).closing.state (after_call q e theirs call a).numbers i
 knows_step q e theirs (calls.Open dir) (answers.Open (Ok id)) i other k = opened_knows (can_open e.closing.state dir e) dir e i k
@@ -82,8 +158,14 @@ knows_step q e theirs (calls.Read read) (answers.Read (Ok said)) i other k =
     let same = nexts_know e read.id read.nexts.items said in
     subst (λ c. KnowsIn c.state (after_nexts e read.id read.nexts.items said).numbers i) (sym same.0) (subst (λ n. KnowsIn e.closing.state n i) (sym same.1) k)
 knows_step q e theirs (calls.Read read) a i other k = k
+knows_step q e theirs calls.Ping a i other k = k
 knows_step q e theirs (calls.Poll now) a i other k = knows_poll q e now i k
+knows_step q e theirs (calls.Timeout now) a i other k = knows_timeout e now i k
 knows_step q e theirs (calls.Deliver delivery) a i other k = cc
+knows_step q e theirs (calls.Inject injection) a i other k = subst (λ after. KnowsIn after.closing.state after.numbers i) (sym (injected_leaves q e injection.now injection.bytes)) k
+knows_step q e theirs calls.Event a i other k = knows_event e i k
+knows_step q e theirs (calls.Timer timer) a i other k = k
+knows_step q e theirs calls.NextTimeout a i other k = k
 
 -- a call that is no delivery hands nothing in
 none_handed : (given : List (List ℕ)) (call : Call) (a : Answer) → is_delivery call ≡ false → handed given call a ≡ None
@@ -92,8 +174,14 @@ none_handed given (calls.Accept dir) a other = refl
 none_handed given (calls.Write id bytes) a other = refl
 none_handed given (calls.Finish id) a other = refl
 none_handed given (calls.Read read) a other = refl
+none_handed given calls.Ping a other = refl
 none_handed given (calls.Poll now) a other = refl
+none_handed given (calls.Timeout now) a other = refl
 none_handed given (calls.Deliver delivery) a other = cc
+none_handed given (calls.Inject injection) a other = refl
+none_handed given calls.Event a other = refl
+none_handed given (calls.Timer timer) a other = refl
+none_handed given calls.NextTimeout a other = refl
 
 -- what came, where a call hands nothing in
 came_same : (q : Policy) (id : List ℕ) (final : List (List ℕ)) (read : List Told) (t : Told) → handed final t.call t.answer ≡ None → came q id final (read ++ t ∷ []) ≡ came q id final read
@@ -103,15 +191,16 @@ came_same q id final read t none =
     ∙ nothing_handed t.state q (id ∷ []) t.answer (came q id final read)
 
 -- the reader makes a call that is no delivery
-way_reads : (p q : Policy) (id : List ℕ) (x y : End) (given final : List (List ℕ)) (wrote read : List Told) (call : Call) (a : Answer) (state : State) → is_delivery call ≡ false → IsAnswer q y given call a → fails a ≡ false
-    → Way p q id x y given final wrote read → Way p q id x (after_call q y given call a) given final wrote (read ++ told_of call a state ∷ [])
-way_reads p q id x y given final wrote read call a state other is served w =
+way_reads : (p q : Policy) (own id : List ℕ) (x y : End) (given final back : List (List ℕ)) (wrote read : List Told) (call : Call) (a : Answer) (state : State) → is_delivery call ≡ false → IsAnswer q y given call a → fails a ≡ false
+    → Way p q own id x y given final back wrote read → Way p q own id x (after_call q y given call a) given final back wrote (read ++ told_of call a state ∷ [])
+way_reads p q own id x y given final back wrote read call a state other is served w =
     let end = after_call q y given call a in
     let t = told_of call a state in
     let side : end.side ≡ y.side = side_step q y given call a in
     let same : came q id final (read ++ t ∷ []) ≡ came q id final read = came_same q id final read t (none_handed final call a other) in
     record {
       streams = w.streams;
+      sents = w.sents;
       gives = w.gives;
       active = w.active;
       count = w.count;
@@ -120,7 +209,13 @@ way_reads p q id x y given final wrote read call a state other is served w =
           (subst (λ i. Kept y.side end.receiving i.took) (sym same) (kept_step q y given call a wrote read (came q id final read).took is served other w.content w.kept));
       accepted = subst (λ s. Accepted s end.receiving (read ++ t ∷ [])) (sym side) (accepted_step q y given call a wrote read state is served other w.content w.accepted);
       knows = subst (λ i. KnowsIn end.closing.state end.numbers i) (sym same) (knows_step q y given call a (came q id final read) other w.knows);
+      acks = acks_step q y given call a other w.acks;
       known = ap (λ ids. known ids) (ids_step q y given call a) ∙ w.known;
+      taken = subst (λ i. WereSent w.sents i.took) (sym same) w.taken;
+      named = w.named;
+      acking = subst (λ i. AreTaken end.acknowledging.runs i.took) (sym same) (taken_step q y given call a (came q id final read).took other w.acking);
+      arrives = arrives_on (came q id final read).took (came q id final (read ++ t ∷ [])).took wrote x.sending x.events (took_more q (id ∷ []) final read t nothing_came) w.arrives;
+      tracked = w.tracked;
     }
 
 -- ---- the reader is handed a datagram
@@ -132,42 +227,59 @@ record Reads (side : Side) (ids : List (List ℕ)) (wrote read : List Told) (o :
   pub accepted : Accepted side o.end.receiving read
 
 -- each case of a delivery keeps what holds of the reader
-delivered_reads : (y : End) (now n count : ℕ) (frame : StreamValue) (ids : List (List ℕ)) (wrote read : List Told) (i : Intake) → IsWritten (written frame.id wrote) (ended frame.id wrote) frame
-    → Content y.side y.sending y.receiving wrote read → Kept y.side y.receiving i.took → Accepted y.side y.receiving read → Arrivals y now n frame count i (Reads y.side ids wrote read)
-delivered_reads y now n count frame ids wrote read i says content kept accepted = record {
+delivered_reads : (y : End) (now n : ℕ) (frames : List FrameValue) (ids : List (List ℕ)) (wrote read : List Told) (i : Intake) → AllSay wrote frames
+    → Content y.side y.sending y.receiving wrote read → Kept y.side y.receiving i.took → Accepted y.side y.receiving read → Arrivals y now n frames i (Reads y.side ids wrote read)
+delivered_reads y now n frames ids wrote read i says content kept accepted = record {
   ignored = λ reason. record { content = content; kept = kept; accepted = accepted };
   noted = λ state reason. record { content = content; kept = kept; accepted = accepted };
-  takes = λ state new none. record {
-    content = content_frame y.side y.sending y.receiving frame wrote read says content;
-    kept = kept_frames y.side y.sending y.receiving frame wrote read i.took n count none says content kept;
-    accepted = accepted_frame y.side y.receiving frame read accepted;
-  };
-  refuses = λ state new b is. record {
-    content = content_frame y.side y.sending y.receiving frame wrote read says content;
-    kept = kept_frame_only y.side y.sending y.receiving frame wrote read i.took says content kept;
-    accepted = accepted_frame y.side y.receiving frame read accepted;
-  };
+  takes = λ state new none.
+      let r = frames_taken wrote read i.took n frames (begun y now n) says none before in
+      let side = same_side in
+      record {
+        content = subst (λ s. Content s (arrived y now n frames).end.sending (arrived y now n frames).end.receiving wrote read) side r.content;
+        kept = subst (λ s. Kept s (arrived y now n frames).end.receiving (record { number = n; frames = frames } ∷ i.took)) side r.kept;
+        accepted = subst (λ s. Accepted s (arrived y now n frames).end.receiving read) side r.accepted;
+      };
+  refuses = λ state new f is.
+      let r = frames_pass wrote read i.took frames (begun y now n) says before in
+      let side = same_side in
+      record {
+        content = subst (λ s. Content s (arrived y now n frames).end.sending (arrived y now n frames).end.receiving wrote read) side r.content;
+        kept = subst (λ s. Kept s (arrived y now n frames).end.receiving i.took) side r.kept;
+        accepted = subst (λ s. Accepted s (arrived y now n frames).end.receiving read) side r.accepted;
+      };
 }
+  where
+    before : Rests wrote read i.took (begun y now n)
+    before = record { content = content; kept = kept; accepted = accepted }
+
+    same_side : (arrived y now n frames).end.side ≡ y.side
+    same_side = (stays_items (map Ok frames) (begun y now n)).side
 
 -- the reader is handed a datagram that the writer gave
-way_takes : (p q : Policy) (id : List ℕ) (x y : End) (given final : List (List ℕ)) (wrote read : List Told) (delivery : Delivery) (a : Answer) (d : List ℕ) → CanOpen p q → IsLawful p → length id ≡ own_id_length
+way_takes : (p q : Policy) (own id : List ℕ) (x y : End) (given final back : List (List ℕ)) (wrote read : List Told) (delivery : Delivery) (a : Answer) (d : List ℕ) → CanOpen p q → IsLawful p → length id ≡ own_id_length
     → slice_get given delivery.index ≡ Some d → slice_get final delivery.index ≡ Some d → a ≡ answers.Deliver (received q y delivery.now d).answer
-    → Way p q id x y given final wrote read → Way p q id x (received q y delivery.now d).end given final wrote (read ++ told_of (calls.Deliver delivery) a y.closing.state ∷ [])
-way_takes p q id x y given final wrote read delivery a d mates lawful eight at_given at_final is w =
+    → Way p q own id x y given final back wrote read → Way p q own id x (received q y delivery.now d).end given final back wrote (read ++ told_of (calls.Deliver delivery) a y.closing.state ∷ [])
+way_takes p q own id x y given final back wrote read delivery a d mates lawful eight at_given at_final is w =
     let now = delivery.now in
     let i : Intake = came q id final read in
     let t : Told = told_of (calls.Deliver delivery) a y.closing.state in
-    let g : IsGiven p id wrote (0 + delivery.index) d = each_at (IsGiven p id wrote) 0 given delivery.index d w.gives.each at_given in
+    let found = each_at (IsSent p id wrote) 0 w.sents given delivery.index d w.gives.each at_given in
+    let reference : ℕ = found.0.0 in
+    let frames : List FrameValue = found.0.1 in
+    let g : IsGiven p id wrote (0 + delivery.index) reference frames d = found.2 in
+    let place : delivery.index ≡ 0 + delivery.index = omega arith in
+    let at_number : slice_get w.sents (0 + delivery.index) ≡ Some found.0 = subst (λ k. slice_get w.sents k ≡ Some found.0) place found.1 in
     let o : Outcome = received q y now d in
     let stays : Stays y o.end = stays_received q y now d in
     let side : o.end.side ≡ y.side = stays.side in
     let next : Intake = and_handed y.closing.state (Some d) q (known y.ids) (answers.Deliver o.answer) i in
     let reads : Reads y.side (id ∷ []) wrote read o next =
-    by_arrival p q id wrote (0 + delivery.index) d g y now i (Reads y.side (id ∷ []) wrote read) mates lawful eight w.known w.knows
-    (delivered_reads y now (0 + delivery.index) g.count g.frame (id ∷ []) wrote read i g.says w.content w.kept w.accepted) in
+    by_arrival p q id wrote (0 + delivery.index) reference frames d g y now i (Reads y.side (id ∷ []) wrote read) mates lawful eight w.known w.knows
+    (delivered_reads y now (0 + delivery.index) frames (id ∷ []) wrote read i g.says w.content w.kept w.accepted) in
     let knows : KnowsIn o.end.closing.state o.end.numbers next =
-    by_arrival p q id wrote (0 + delivery.index) d g y now i (λ o j. KnowsIn o.end.closing.state o.end.numbers j) mates lawful eight w.known w.knows
-    (knows_arrivals y now (0 + delivery.index) g.frame g.count i w.knows) in
+    by_arrival p q id wrote (0 + delivery.index) reference frames d g y now i (λ o j. KnowsIn o.end.closing.state o.end.numbers j) mates lawful eight w.known w.knows
+    (knows_arrivals y now (0 + delivery.index) frames i w.knows) in
     let handed_is : handed final (calls.Deliver delivery) a ≡ Some d = ap (λ b. handed final (calls.Deliver delivery) b) is ∙ at_final in
     let came_is : came q id final (read ++ t ∷ []) ≡ next =
     intake_more q (id ∷ []) final read t nothing_came
@@ -176,6 +288,7 @@ way_takes p q id x y given final wrote read delivery a d mates lawful eight at_g
     ∙ ap (λ ids. and_handed y.closing.state (Some d) q ids (answers.Deliver o.answer) i) (sym w.known) in
     record {
       streams = w.streams;
+      sents = w.sents;
       gives = w.gives;
       active = w.active;
       count = w.count;
@@ -183,19 +296,28 @@ way_takes p q id x y given final wrote read delivery a d mates lawful eight at_g
       kept = subst (λ s. Kept s o.end.receiving (came q id final (read ++ t ∷ [])).took) (sym side) (subst (λ j. Kept y.side o.end.receiving j.took) (sym came_is) reads.kept);
       accepted = subst (λ s. Accepted s o.end.receiving (read ++ t ∷ [])) (sym side) (accepted_delivered y.side o.end.receiving read delivery a y.closing.state reads.accepted);
       knows = subst (λ j. KnowsIn o.end.closing.state o.end.numbers j) (sym came_is) knows;
+      acks = acks_delivered p q id wrote (0 + delivery.index) reference frames d g y now i mates lawful eight w.known w.knows w.acks;
       known = ap (λ ids. known ids) stays.ids ∙ w.known;
+      taken = subst (λ j. WereSent w.sents j.took) (sym came_is)
+          (by_arrival p q id wrote (0 + delivery.index) reference frames d g y now i (λ o j. WereSent w.sents j.took) mates lawful eight w.known w.knows (sent_arrivals y now (0 + delivery.index) frames i w.sents found.0 at_number refl w.taken));
+      named = w.named;
+      acking = subst (λ j. AreTaken o.end.acknowledging.runs j.took) (sym came_is)
+          (by_arrival p q id wrote (0 + delivery.index) reference frames d g y now i (λ o j. AreTaken o.end.acknowledging.runs j.took) mates lawful eight w.known w.knows (taken_arrivals y now (0 + delivery.index) frames i w.acks w.acking));
+      arrives = arrives_on (came q id final read).took (came q id final (read ++ t ∷ [])).took wrote x.sending x.events (took_more q (id ∷ []) final read t nothing_came) w.arrives;
+      tracked = w.tracked;
     }
 
 -- a delivery to the reader
-way_delivered : (p q : Policy) (id : List ℕ) (x y : End) (given final : List (List ℕ)) (wrote read : List Told) (delivery : Delivery) (a : Answer) → CanOpen p q → IsLawful p → length id ≡ own_id_length
+way_delivered : (p q : Policy) (own id : List ℕ) (x y : End) (given final back : List (List ℕ)) (wrote read : List Told) (delivery : Delivery) (a : Answer) → CanOpen p q → IsLawful p → length id ≡ own_id_length
     → (rest : List (List ℕ)) × (given ++ rest ≡ final) → fails a ≡ false → (o : Option (List ℕ)) → slice_get given delivery.index ≡ o → IsDelivered q y delivery.now o a
-    → Way p q id x y given final wrote read → Way p q id x (after_delivered q y delivery.now o) given final wrote (read ++ told_of (calls.Deliver delivery) a y.closing.state ∷ [])
-way_delivered p q id x y given final wrote read delivery a mates lawful eight more served None at is w =
+    → Way p q own id x y given final back wrote read → Way p q own id x (after_delivered q y delivery.now o) given final back wrote (read ++ told_of (calls.Deliver delivery) a y.closing.state ∷ [])
+way_delivered p q own id x y given final back wrote read delivery a mates lawful eight more served None at is w =
     let t : Told = told_of (calls.Deliver delivery) a y.closing.state in
     let none : handed final (calls.Deliver delivery) a ≡ None = ap (λ b. handed final (calls.Deliver delivery) b) is in
     let same : came q id final (read ++ t ∷ []) ≡ came q id final read = came_same q id final read t none in
     record {
       streams = w.streams;
+      sents = w.sents;
       gives = w.gives;
       active = w.active;
       count = w.count;
@@ -203,26 +325,38 @@ way_delivered p q id x y given final wrote read delivery a mates lawful eight mo
       kept = subst (λ j. Kept y.side y.receiving j.took) (sym same) w.kept;
       accepted = accepted_delivered y.side y.receiving read delivery a y.closing.state w.accepted;
       knows = subst (λ j. KnowsIn y.closing.state y.numbers j) (sym same) w.knows;
+      acks = w.acks;
       known = w.known;
+      taken = subst (λ j. WereSent w.sents j.took) (sym same) w.taken;
+      named = w.named;
+      acking = subst (λ j. AreTaken y.acknowledging.runs j.took) (sym same) w.acking;
+      arrives = arrives_on (came q id final read).took (came q id final (read ++ t ∷ [])).took wrote x.sending x.events (took_more q (id ∷ []) final read t nothing_came) w.arrives;
+      tracked = w.tracked;
     }
-way_delivered p q id x y given final wrote read delivery a mates lawful eight more served (Some d) at (inl is) w =
-    way_takes p q id x y given final wrote read delivery a d mates lawful eight at
+way_delivered p q own id x y given final back wrote read delivery a mates lawful eight more served (Some d) at (inl is) w =
+    way_takes p q own id x y given final back wrote read delivery a d mates lawful eight at
     (subst (λ ds. slice_get ds delivery.index ≡ Some d) more.1 (get_front given more.0 delivery.index d at)) is
     w
-way_delivered p q id x y given final wrote read delivery a mates lawful eight more served (Some d) at (inr is) w = cc
+way_delivered p q own id x y given final back wrote read delivery a mates lawful eight more served (Some d) at (inr is) w = cc
 
 -- the reader makes a call
-pub way_reader : (p q : Policy) (id : List ℕ) (x y : End) (given final : List (List ℕ)) (wrote read : List Told) (call : Call) (a : Answer) → CanOpen p q → IsLawful p → length id ≡ own_id_length
+pub way_reader : (p q : Policy) (own id : List ℕ) (x y : End) (given final back : List (List ℕ)) (wrote read : List Told) (call : Call) (a : Answer) → CanOpen p q → IsLawful p → length id ≡ own_id_length
     → (rest : List (List ℕ)) × (given ++ rest ≡ final) → IsAnswer q y given call a → fails a ≡ false
-    → Way p q id x y given final wrote read → Way p q id x (after_call q y given call a) given final wrote (read ++ told_of call a y.closing.state ∷ [])
-way_reader p q id x y given final wrote read (calls.Open dir) a mates lawful eight more is served w = way_reads p q id x y given final wrote read (calls.Open dir) a y.closing.state refl is served w
-way_reader p q id x y given final wrote read (calls.Accept dir) a mates lawful eight more is served w = way_reads p q id x y given final wrote read (calls.Accept dir) a y.closing.state refl is served w
-way_reader p q id x y given final wrote read (calls.Write n bytes) a mates lawful eight more is served w = way_reads p q id x y given final wrote read (calls.Write n bytes) a y.closing.state refl is served w
-way_reader p q id x y given final wrote read (calls.Finish n) a mates lawful eight more is served w = way_reads p q id x y given final wrote read (calls.Finish n) a y.closing.state refl is served w
-way_reader p q id x y given final wrote read (calls.Read call) a mates lawful eight more is served w = way_reads p q id x y given final wrote read (calls.Read call) a y.closing.state refl is served w
-way_reader p q id x y given final wrote read (calls.Poll now) a mates lawful eight more is served w = way_reads p q id x y given final wrote read (calls.Poll now) a y.closing.state refl is served w
-way_reader p q id x y given final wrote read (calls.Deliver delivery) a mates lawful eight more is served w =
-    way_delivered p q id x y given final wrote read delivery a mates lawful eight more served (slice_get given delivery.index) refl is w
+    → Way p q own id x y given final back wrote read → Way p q own id x (after_call q y given call a) given final back wrote (read ++ told_of call a y.closing.state ∷ [])
+way_reader p q own id x y given final back wrote read (calls.Open dir) a mates lawful eight more is served w = way_reads p q own id x y given final back wrote read (calls.Open dir) a y.closing.state refl is served w
+way_reader p q own id x y given final back wrote read (calls.Accept dir) a mates lawful eight more is served w = way_reads p q own id x y given final back wrote read (calls.Accept dir) a y.closing.state refl is served w
+way_reader p q own id x y given final back wrote read (calls.Write n bytes) a mates lawful eight more is served w = way_reads p q own id x y given final back wrote read (calls.Write n bytes) a y.closing.state refl is served w
+way_reader p q own id x y given final back wrote read (calls.Finish n) a mates lawful eight more is served w = way_reads p q own id x y given final back wrote read (calls.Finish n) a y.closing.state refl is served w
+way_reader p q own id x y given final back wrote read (calls.Read call) a mates lawful eight more is served w = way_reads p q own id x y given final back wrote read (calls.Read call) a y.closing.state refl is served w
+way_reader p q own id x y given final back wrote read calls.Ping a mates lawful eight more is served w = way_reads p q own id x y given final back wrote read calls.Ping a y.closing.state refl is served w
+way_reader p q own id x y given final back wrote read (calls.Poll now) a mates lawful eight more is served w = way_reads p q own id x y given final back wrote read (calls.Poll now) a y.closing.state refl is served w
+way_reader p q own id x y given final back wrote read (calls.Deliver delivery) a mates lawful eight more is served w =
+    way_delivered p q own id x y given final back wrote read delivery a mates lawful eight more served (slice_get given delivery.index) refl is w
+way_reader p q own id x y given final back wrote read (calls.Timeout now) a mates lawful eight more is served w = way_reads p q own id x y given final back wrote read (calls.Timeout now) a y.closing.state refl is served w
+way_reader p q own id x y given final back wrote read (calls.Inject injection) a mates lawful eight more is served w = way_reads p q own id x y given final back wrote read (calls.Inject injection) a y.closing.state refl is served w
+way_reader p q own id x y given final back wrote read calls.Event a mates lawful eight more is served w = way_reads p q own id x y given final back wrote read calls.Event a y.closing.state refl is served w
+way_reader p q own id x y given final back wrote read (calls.Timer timer) a mates lawful eight more is served w = way_reads p q own id x y given final back wrote read (calls.Timer timer) a y.closing.state refl is served w
+way_reader p q own id x y given final back wrote read calls.NextTimeout a mates lawful eight more is served w = way_reads p q own id x y given final back wrote read calls.NextTimeout a y.closing.state refl is served w
 
 -- ---- both ends
 
@@ -236,12 +370,10 @@ client_acts : (k : Policies) → AreKeys k → (client_id server_id : List ℕ) 
     → (rest : List (List ℕ)) × (w.from_server ++ rest ≡ from_server)
     → Both k client_id server_id (record w { client = after_call k.client w.client w.from_server call a; from_client = w.from_client ++ gives k.client w.client call a }) from_client from_server (client ++ told_of call a w.client.closing.state ∷ []) server
 client_acts k keys client_id server_id eight_client eight_server from_client from_server w call a client server b is served more = record {
-  to_server = way_writer k.client k.server server_id w.client w.server w.from_client from_client w.from_server client server call a w.client.closing.state eight_server is served b.to_server;
-  to_client = way_reader k.server k.client client_id w.server w.client w.from_server from_server server client call a keys.to_client keys.server eight_client more is served b.to_client;
+  to_server = way_writer k.client k.server client_id server_id w.client w.server w.from_client from_client from_server w.from_server client server call a w.client.closing.state eight_server keys.to_client keys.server eight_client is served b.to_client b.to_server;
+  to_client = way_reader k.server k.client server_id client_id w.server w.client w.from_server from_server from_client server client call a keys.to_client keys.server eight_client more is served b.to_client;
   client_side = side_step k.client w.client w.from_server call a ∙ b.client_side;
   server_side = b.server_side;
-  client_unreferred = unreferred_more k.client client_id from_server client (told_of call a w.client.closing.state) b.to_client.kept.plain b.client_unreferred;
-  server_unreferred = b.server_unreferred;
 }
 
 -- the server makes a call
@@ -250,12 +382,10 @@ server_acts : (k : Policies) → AreKeys k → (client_id server_id : List ℕ) 
     → (rest : List (List ℕ)) × (w.from_client ++ rest ≡ from_client)
     → Both k client_id server_id (record w { server = after_call k.server w.server w.from_client call a; from_server = w.from_server ++ gives k.server w.server call a }) from_client from_server client (server ++ told_of call a w.server.closing.state ∷ [])
 server_acts k keys client_id server_id eight_client eight_server from_client from_server w call a client server b is served more = record {
-  to_server = way_reader k.client k.server server_id w.client w.server w.from_client from_client client server call a keys.to_server keys.client eight_server more is served b.to_server;
-  to_client = way_writer k.server k.client client_id w.server w.client w.from_server from_server w.from_client server client call a w.server.closing.state eight_client is served b.to_client;
+  to_server = way_reader k.client k.server client_id server_id w.client w.server w.from_client from_client from_server client server call a keys.to_server keys.client eight_server more is served b.to_server;
+  to_client = way_writer k.server k.client server_id client_id w.server w.client w.from_server from_server from_client w.from_client server client call a w.server.closing.state eight_client keys.to_server keys.client eight_server is served b.to_server b.to_client;
   client_side = b.client_side;
   server_side = side_step k.server w.server w.from_client call a ∙ b.server_side;
-  client_unreferred = b.client_unreferred;
-  server_unreferred = unreferred_more k.server server_id from_client server (told_of call a w.server.closing.state) b.to_server.kept.plain b.server_unreferred;
 }
 
 -- an event keeps what holds between both ends

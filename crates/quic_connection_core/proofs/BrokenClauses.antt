@@ -15,9 +15,9 @@ use Rattle.quic_connection_core.specs.declared.answers.Received.{Received}
 use Rattle.quic_connection_core.specs.declared.answers.Received.TheVariants as receives
 use Rattle.quic_connection_core.specs.declared.run.ReadCall.{ReadCall}
 use Rattle.quic_connection_core.specs.Runs.{Packet, Next, In, until, nexts, chunks_of, reads, bytes_of, offsets_of, took, WasTaken, HasArrived}
-use Rattle.quic_connection_core.specs.Headline.{OrderedPrefix, Slices, Once, EndAfterAll, BlockedOnlyWithoutBytes, AcceptsAll, NumbersRise, IsNumbered}
+use Rattle.quic_connection_core.specs.Headline.{OrderedPrefix, Slices, Once, EndAfterAll, BlockedOnlyWithoutBytes, AcceptsAll, FinishedMeansArrived, NumbersRise, IsNumbered}
 use Rattle.quic_connection_core.specs.Worked.{worked_policies, server_id, hello, hello_frame, run_with}
-use Rattle.quic_connection_core.specs.Broken.{NextAnswers, answers_with, duplicate, hellp, gives_chunk, all_nexts, changed_nexts, repeated_nexts, early_nexts, changed_byte, repeated_bytes, unwritten_byte, early_end, unwritten_end, taken_twice, blocked_read, never_accepted, empty_datagram, repeated_number}
+use Rattle.quic_connection_core.specs.Broken.{NextAnswers, answers_with, duplicate, hellp, gives_chunk, all_nexts, changed_nexts, repeated_nexts, early_nexts, changed_byte, repeated_bytes, unwritten_byte, early_end, unwritten_end, taken_twice, blocked_read, never_accepted, early_finish, empty_datagram, repeated_number}
 use Rattle.quic_connection_core.proofs.WorkedNumber.{only_number}
 use Rattle.quic_connection_core.proofs.WorkedRun.{hello_packet, frame_taken}
 
@@ -105,6 +105,10 @@ pub never_accepts : (read : ReadCall) → AcceptsAll (run_with read never_accept
 never_accepts read h =
     let taken : WasTaken (took (run_with read never_accepted) Server 6) hello_frame = subst (λ (ps : List Packet). WasTaken ps hello_frame) (sym (took_unaccepted read)) frame_taken in
     h Server 6 Bi hello_frame 0 0 refl (record { event = refl; answer = refl }) taken refl (omega arith)
+
+-- the one event of the run tells that the stream ended, of which nothing came
+pub finishes_early : FinishedMeansArrived early_finish → ⊥
+finishes_early h = (h Client 0 0 refl (record { event = refl; answer = refl })).end.taken.was_taken
 
 -- ---- numbers
 

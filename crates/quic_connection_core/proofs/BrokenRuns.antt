@@ -23,7 +23,7 @@ use Rattle.quic_connection_core.specs.declared.run.Answer.TheVariants as answers
 use Rattle.quic_connection_core.specs.declared.run.View.{View}
 use Rattle.quic_connection_core.specs.Machine.{IsAnswer, IsRead, IsStep, Follows, World, policy_at, end_at, given_by, fails}
 use Rattle.quic_connection_core.specs.Worked.{client_made, server_made, server_took, server_accepted, hello, hello_datagram, delivery, delivers, before_sending, after_sending, worked_policies, worked_events}
-use Rattle.quic_connection_core.specs.Broken.{NextAnswers, hellp, gives_chunk, changed_nexts, repeated_nexts, early_nexts, blocked_nexts, changed_byte, repeated_bytes, unwritten_byte, early_end, unwritten_end, taken_twice, never_taken, blocked_read, never_accepted}
+use Rattle.quic_connection_core.specs.Broken.{NextAnswers, hellp, gives_chunk, changed_nexts, repeated_nexts, early_nexts, blocked_nexts, changed_byte, repeated_bytes, unwritten_byte, early_end, unwritten_end, taken_twice, never_taken, blocked_read, never_accepted, early_finish}
 use Rattle.quic_connection_core.proofs.OneRun.{one_world}
 use Rattle.quic_connection_core.proofs.WorkedRun.{opens, writes, finishes, gives, takes, drops_duplicate, accepts}
 
@@ -168,3 +168,8 @@ pub no_never_accepted : (read : ReadCall) (views : List View) (end : World) → 
 no_never_accepted read views end r =
     let run : Runs (before_sending client_made) (worked_events read) never_accepted = record { views = views; end = end; follows = r } in
     stops (goes_on refl drops_duplicate (goes_on refl takes (sent run))) accept_no
+
+-- the client tells nothing before an acknowledgement comes
+pub never_finishes : (views : List View) (end : World) → Follows worked_policies early_finish.start early_finish.events early_finish.answers views end → ⊥
+never_finishes [] end f = absurd f
+never_finishes (v ∷ views) end f = let is = f.1.answer in cc

@@ -1,6 +1,7 @@
 -- The headline's clauses, each from what its place shows.
 use Rattle.std.proofs.Common.{◌≡◌, ℕ, zero, suc, ◌+◌, ◌*◌, ◌<◌, ◌≤◌, ◌==◌, List, [], ◌∷◌, ◌++◌, length, Bool, true, false, cond, Option, Some, None, refl, sym, ap, ◌∙◌, subst, inl, inr, arith}
 use Rattle.std.specs.Prelude.{nat_lt, Result, Ok, Err}
+use Rattle.std.specs.Option.{option_map}
 use Rattle.std.proofs.lemmas.Bool.{ltb-true, ltb-false, eqb-true}
 use Rattle.quic_wire_core.specs.declared.stream_id.Side.{Side}
 use Rattle.quic_wire_core.specs.declared.stream_id.Side.TheVariants.{Client, Server}
@@ -12,9 +13,14 @@ use Rattle.quic_connection_core.specs.declared.run.Call.TheVariants as calls
 use Rattle.quic_connection_core.specs.declared.run.Answer.{Answer}
 use Rattle.quic_connection_core.specs.declared.run.Answer.TheVariants as answers
 use Rattle.quic_connection_core.specs.declared.answers.ReadError.TheVariants as read_errors
+use Rattle.quic_connection_core.specs.declared.answers.LostReason.{LostReason}
+use Rattle.quic_connection_core.specs.declared.answers.StreamEvent.{StreamEvent}
+use Rattle.quic_connection_core.specs.declared.answers.StreamEvent.TheVariants.{Finished}
+use Rattle.quic_connection_core.specs.declared.answers.Event.TheVariants as events
+use Rattle.quic_connection_core.specs.Closing.{loss_to_tell}
 use Rattle.quic_connection_core.specs.Table.{at}
 use Rattle.quic_connection_core.specs.End.{End}
-use Rattle.quic_connection_core.specs.Calls.{after_nexts}
+use Rattle.quic_connection_core.specs.Calls.{tells_of, end_tells, after_nexts}
 use Rattle.quic_connection_core.specs.Machine.{IsRead}
 use Rattle.quic_connection_core.specs.Receiving.{Receiving, RecvHalf, readable, accepted_of, opened_of, accept_answer, may_receive}
 use Rattle.quic_connection_core.specs.Runs.{Told, Next, Packet, In, written, ended, nexts, chunks_of, reads, bytes_of, accepts, WasTaken, HasArrived, EndHasArrived}
@@ -44,6 +50,18 @@ accepted_is Client dir r told id index below acc none came may is l = cc
 accepted_is Server dir r told id index below acc none came may is l =
     let nothing : accept_answer Server dir r ≡ None = cc in
     accepted_at dir r told id index below acc nothing came (eqb-true id 0 may) is l
+
+-- a stream is told to be finished only where that waits to be told
+pub finished_told : (e : End) (id : ℕ) → answers.Event (Some (events.Stream (Finished id))) ≡ answers.Event (end_tells e) → In (Finished id) e.events
+finished_told e id said = go e.events refl
+  where
+    lost : (o : Option LostReason) → answers.Event (Some (events.Stream (Finished id))) ≡ answers.Event (option_map events.Lost o) → ⊥
+    lost None told = cc
+    lost (Some reason) told = cc
+
+    go : (waiting : List StreamEvent) → e.events ≡ waiting → In (Finished id) waiting
+    go [] is = lost (loss_to_tell e.closing) (rw is at said)
+    go (event ∷ more) is = let told : answers.Event (Some (events.Stream (Finished id))) ≡ answers.Event (tells_of (event ∷ more) e.closing) = rw is at said in inl cc
 
 -- a stream that may be read has a half
 readable_half : (o : Option RecvHalf) → readable o ≡ Ok tt → (h : RecvHalf) × (o ≡ Some h)

@@ -1,5 +1,5 @@
 -- What holds between two ends of a run at each place: one writes, the other reads. A record for each concern, over the plain values that it reads.
-use Rattle.std.specs.Prelude.{ℕ, ◌+◌, ◌-◌, ◌<◌, ◌≤◌, ◌^◌, ◌%◌, ◌≡◌, ◌⊎◌, Bool, true, false, List, [], ◌∷◌, ◌++◌, length, take, replicate, slice_get, slice_index, Option, Some, None, Ok, Err}
+use Rattle.std.specs.Prelude.{ℕ, ◌+◌, ◌-◌, ◌<◌, ◌≤◌, ◌^◌, ◌%◌, ◌≡◌, ◌⊎◌, Bool, true, false, List, [], ◌∷◌, ◌++◌, length, map, take, drop, slice_get, slice_index, Option, Some, None, Ok, Err}
 use Rattle.std.specs.Option.{is_some}
 use Rattle.std.specs.Ordering.{nat_cmp}
 use Rattle.std.specs.Map.{keys_of}
@@ -8,20 +8,31 @@ use Rattle.quic_wire_core.specs.declared.stream_id.Side.{Side}
 use Rattle.quic_wire_core.specs.declared.stream_id.Dir.{Dir}
 use Rattle.quic_wire_core.specs.declared.stream_id.Dir.TheVariants.{Bi}
 use Rattle.quic_wire_core.specs.StreamId.{stream_id, index_of, other_side}
-use Rattle.quic_wire.specs.Value.{FrameValue, StreamValue, stream, padding}
+use Rattle.quic_wire_core.specs.Runs.{Run, Has}
+use Rattle.quic_wire.specs.Value.{FrameValue, StreamValue, AckValue, ack, stream, padding, ping}
+use Rattle.quic_wire.specs.AckSet.{IsSmall}
 use Rattle.quic_wire.specs.Number.{truncated}
 use Rattle.quic_wire.specs.Grammar.{Payload}
 use Rattle.quic_wire.specs.Datagram.{sent}
 use Rattle.quic_streams_core.specs.Arrived.{IsLawful, byte_from, byte_at}
+use Rattle.quic_streams_core.specs.Buffered.{IsBuffered}
 use Rattle.quic_connection_core.specs.declared.answers.State.{State}
 use Rattle.quic_connection_core.specs.declared.answers.State.TheVariants as states
 use Rattle.quic_connection_core.specs.Policy.{Policy}
 use Rattle.quic_connection_core.specs.Table.{Table, at}
-use Rattle.quic_connection_core.specs.Numbers.{Opened, Numbers, duplicate_span, expected}
+use Rattle.quic_connection_core.specs.Numbers.{Numbers, expected, cut_against}
+use Rattle.quic_recovery_core.specs.DuplicateRuns.{seen_after}
+use Rattle.quic_recovery_core.specs.PendingAcks as pending
+use Rattle.quic_connection_core.specs.Tracking.{names}
 use Rattle.quic_connection_core.specs.Sending.{Sending, SendHalf, opens, next_id}
 use Rattle.quic_connection_core.specs.Receiving.{Receiving, RecvHalf, may_receive}
 use Rattle.quic_connection_core.specs.End.{End}
-use Rattle.quic_connection_core.specs.Runs.{Told, Next, Packet, Intake, In, written, ended, nexts, chunks_of, bytes_of, tells_end, accepts, WasTaken, expected_behind, acknowledged_in}
+use Rattle.quic_wire_core.specs.Runs.{Has}
+use Rattle.quic_connection_core.specs.declared.answers.StreamEvent.{StreamEvent}
+use Rattle.quic_connection_core.specs.declared.answers.StreamEvent.TheVariants.{Finished}
+use Rattle.quic_connection_core.specs.Tracking.{TrackedPacket, carried_in}
+use Rattle.quic_connection_core.specs.Headline.{AllArrived}
+use Rattle.quic_connection_core.specs.Runs.{Told, Next, Packet, Intake, In, written, ended, nexts, chunks_of, bytes_of, tells_end, accepts, WasTaken, HasArrived, EndHasArrived, expected_behind, acknowledged}
 
 -- ---- what was written only grows, and once ended stays
 
@@ -32,10 +43,12 @@ pub record Grows (wr : List ℕ) (fin : Bool) (more : List ℕ) (fin' : Bool) : 
 
 -- ---- numbered datagrams
 
--- P of each place and what stands there, counted from one number on
-abbrev pub AllFrom : {X : Type 0} → (ℕ → X → Type 0) → ℕ → List X → Type 0
-AllFrom P n [] = Unit {0}
-AllFrom P n (x ∷ xs) = P n x × AllFrom P (n + 1) xs
+-- P of each place and what stands there in both lists, counted from one number on
+abbrev pub AllFrom : {Y X : Type 0} → (ℕ → Y → X → Type 0) → ℕ → List Y → List X → Type 0
+AllFrom P n [] [] = Unit {0}
+AllFrom P n (y ∷ ys) (x ∷ xs) = P n y x × AllFrom P (n + 1) ys xs
+AllFrom P n [] (x ∷ xs) = ⊥
+AllFrom P n (y ∷ ys) [] = ⊥
 
 -- the bytes of a frame stand in what was written, at their offset; where it has the end, all was written and the stream ended
 pub record IsWritten (wr : List ℕ) (fin : Bool) (f : StreamValue) : Type 0 where
@@ -43,28 +56,37 @@ pub record IsWritten (wr : List ℕ) (fin : Bool) (f : StreamValue) : Type 0 whe
   pub within : f.offset + length f.bytes ≤ length wr
   pub last : f.fin ≡ true → (fin ≡ true) × (f.offset + length f.bytes ≡ length wr)
 
--- the frames of a datagram: one of a stream, and so many of PADDING behind it
-abbrev pub frames_with : StreamValue → ℕ → List FrameValue
-frames_with f count = stream f ∷ replicate count padding
+-- what a frame says that an end gives: of a stream, what was written on it; else ACK, PING or PADDING
+abbrev pub Says : List Told → FrameValue → Type 0
+Says told padding = Unit {0}
+Says told ping = Unit {0}
+Says told (ack a) = Unit {0}
+Says told (stream f) = IsWritten (written f.id told) (ended f.id told) f
+Says told f = ⊥
 
--- the datagram of a number, as an end gives it to the peer with this id
-pub record IsGiven (p : Policy) (id : List ℕ) (told : List Told) (n : ℕ) (d : List ℕ) : Type 0 where
-  pub frame : StreamValue
-  pub count : ℕ
+-- each of the frames says so
+abbrev pub AllSay : List Told → List FrameValue → Type 0
+AllSay told [] = Unit {0}
+AllSay told (f ∷ fs) = Says told f × AllSay told fs
+
+-- the datagram of a number, cut against a reference, with these frames, as an end gives it to the peer with this id
+pub record IsGiven (p : Policy) (id : List ℕ) (told : List Told) (n reference : ℕ) (frames : List FrameValue) (d : List ℕ) : Type 0 where
   pub payload : List ℕ
-  pub spells : Payload (frames_with frame count) payload
-  pub four : 4 ≤ (truncated n 0).width + length payload
-  pub small : n < 2 ^ 31
-  pub is : d ≡ sent p.mask p.hide p.seal n 0 id payload
-  pub says : IsWritten (written frame.id told) (ended frame.id told) frame
+  pub spells : Payload frames payload
+  pub some : 0 < length frames
+  pub four : 4 ≤ (truncated n reference).width + length payload
+  pub near : n - reference < 2 ^ 31
+  pub small : n < 2 ^ 62
+  pub is : d ≡ sent p.mask p.hide p.seal n reference id payload
+  pub says : AllSay told frames
 
 -- ---- the end that writes
 
--- a half holds all that was written
+-- a half holds what was written from where it keeps bytes on
 pub record IsHalf (wr : List ℕ) (fin : Bool) (h : SendHalf) : Type 0 where
-  pub base : h.buffer.base ≡ 0
-  pub kept : h.buffer.kept ≡ wr
-  pub unsent : h.buffer.unsent ≤ length wr
+  pub lawful : IsBuffered h.buffer
+  pub base : h.buffer.base ≤ length wr
+  pub kept : h.buffer.kept ≡ drop h.buffer.base wr
   pub finished : h.finished ≡ fin
   pub within : length wr ≤ h.limit
   pub limit : h.limit < 2 ^ 62
@@ -83,17 +105,51 @@ pub record Streams (side : Side) (s : Sending) (told : List Told) : Type 0 where
   pub first_bi : s.first_limit_bi < 2 ^ 62
   pub first_uni : s.first_limit_uni < 2 ^ 62
 
--- each datagram has its place as its number
-pub record Gives (p : Policy) (id : List ℕ) (numbers : Numbers) (told : List Told) (given : List (List ℕ)) : Type 0 where
-  pub acknowledged : numbers.acknowledged ≡ None
+-- what a datagram was cut against, and its frames
+abbrev pub Sent : Type 0
+Sent = ℕ × List FrameValue
+
+-- what was acknowledged of a half arrived: its offsets, and its end
+pub record HalfArrived (took : List Packet) (id : ℕ) (wr : List ℕ) (fin : Bool) (h : SendHalf) : Type 0 where
+  pub bytes : (o : ℕ) → Has h.buffer.acked o → HasArrived took id o
+  pub end : h.end_acked ≡ true → (fin ≡ true) × EndHasArrived took id (length wr)
+
+-- what was acknowledged arrived, and so did all of each stream that is to be told finished
+pub record Arrives (took : List Packet) (told : List Told) (s : Sending) (events : List StreamEvent) : Type 0 where
+  pub halves : (id : ℕ) (h : SendHalf) → at s.halves id ≡ Some h → HalfArrived took id (written id told) (ended id told) h
+  pub finished : (id : ℕ) → In (Finished id) events → AllArrived took id told
+
+-- each tracked packet was given, and carries what its frames say
+abbrev pub AreTracked : List Sent → Table TrackedPacket → Type 0
+AreTracked sents packets = (n : ℕ) (t : TrackedPacket) → In (n, t) packets → (s : Sent) × (slice_get sents n ≡ Some s) × (t.carried ≡ carried_in s.1)
+
+-- the datagram of a number that was sent so
+abbrev pub IsSent : Policy → List ℕ → List Told → ℕ → Sent → List ℕ → Type 0
+IsSent p id told n s d = IsGiven p id told n s.0 s.1 d
+
+-- each datagram has its place as its number, and was cut against its reference; `sents` are what each was sent as
+pub record Gives (p : Policy) (id : List ℕ) (numbers : Numbers) (told : List Told) (references : List ℕ) (sents : List Sent) (given : List (List ℕ)) : Type 0 where
   pub next : numbers.next ≡ length given
-  pub each : AllFrom (IsGiven p id told) 0 given
+  pub each : AllFrom (IsSent p id told) 0 sents given
+  pub against : map (λ s. s.0) sents ≡ references
+
+-- a number is that of a packet that was taken
+pub record IsTaken (packets : List Packet) (number : ℕ) : Type 0 where
+  pub packet : Packet
+  pub was_taken : In packet packets
+  pub is : packet.number ≡ number
+
+-- ACK frames name numbers of these packets only
+abbrev pub NameTaken : List Sent → List Packet → Type 0
+NameTaken sents packets = (n : ℕ) (s : Sent) (a : AckValue) (k : ℕ) → slice_get sents n ≡ Some s → In (ack a) s.1 → names a k ≡ true → IsTaken packets k
 
 -- ---- the end that reads
 
 -- a half of which this was read: what waits was written, and all before it was read
 pub record IsReading (wr : List ℕ) (fin : Bool) (said : List Next) (h : RecvHalf) : Type 0 where
   pub lawful : IsLawful h.arrived
+  -- reads are in order
+  pub ordered : h.arrived.unordered ≡ false
   pub agrees : (o b : ℕ) → byte_at h.arrived.parts o ≡ Some b → slice_get wr o ≡ Some b
   pub read : bytes_of (chunks_of said) ≡ take h.arrived.read wr
   pub within : h.arrived.read ≤ length wr
@@ -130,24 +186,36 @@ pub record Kept (side : Side) (r : Receiving) (took : List Packet) : Type 0 wher
   pub kept : (f : StreamValue) (h : RecvHalf) → WasTaken took f → at r.halves f.id ≡ Some h → IsKept f h
   pub may : (f : StreamValue) → WasTaken took f → may_receive side f.id ≡ true
   pub opened : (f : StreamValue) → WasTaken took f → index_of f.id < r.opened_bi
-  pub plain : (packet : Packet) → In packet took → acknowledged_in packet.frames ≡ 0
 
 -- each stream below the count was accepted
 pub record Accepted (side : Side) (r : Receiving) (read : List Told) : Type 0 where
   pub each : (index : ℕ) → index < r.accepted_bi → In (stream_id (other_side side) Bi index) (accepts read)
 
--- the numbers that the window of opened ones stands for
-pub record Window (numbers : List ℕ) (o : Opened) : Type 0 where
-  pub places : length o.places ≡ duplicate_span
-  pub below : (n : ℕ) → In n numbers → n < o.next
-  pub greatest : (o.next ≡ 0) ⊎ ((n : ℕ) × In n numbers × (o.next ≡ n + 1))
-  pub come : (k n : ℕ) → k < duplicate_span → slice_index o.places k ≡ n + 1 → In n numbers × (n % duplicate_span ≡ k)
-  pub newest : (n : ℕ) → In n numbers → n < slice_index o.places (n % duplicate_span)
-
 -- what an end knows of what came: it holds as long as it is open
 pub record Knows (numbers : Numbers) (i : Intake) : Type 0 where
-  pub window : Window i.opened numbers.opened
+  pub seen : numbers.opened ≡ seen_after i.opened
   pub expected : expected numbers ≡ expected_behind i.took
+  -- the greatest number that it was told is the greatest that packets acknowledged
+  pub named : cut_against numbers ≡ acknowledged i.took
+
+-- a packet is a datagram as it was sent
+pub record WasSent (sents : List Sent) (packet : Packet) : Type 0 where
+  pub sent : Sent
+  pub is : slice_get sents packet.number ≡ Some sent
+  pub frames : sent.1 ≡ packet.frames
+
+-- each of the packets is
+abbrev pub WereSent : List Sent → List Packet → Type 0
+WereSent sents packets = (packet : Packet) → In packet packets → WasSent sents packet
+
+-- the numbers to acknowledge are those of packets that were taken
+abbrev pub AreTaken : List Run → List Packet → Type 0
+AreTaken runs packets = (k : ℕ) → Has runs k → IsTaken packets k
+
+-- the numbers that an end has to acknowledge: few maximal runs, below the greatest packet number
+pub record Acks (p : pending.Pending) : Type 0 where
+  pub runs : pending.IsKept p.runs
+  pub small : IsSmall p.runs
 
 abbrev pub KnowsIn : State → Numbers → Intake → Type 0
 KnowsIn states.Open numbers i = Knows numbers i

@@ -8,23 +8,31 @@ mod Seen
 mod Clauses
 mod Acts
 pub mod Whole
+mod Injected
 mod Steps
 mod Polls
+mod Leaves
 mod Window
+mod Naming
 mod Delivered
 mod Knowing
+mod Acking
 pub mod Next
 pub mod NextRuns
 pub mod Quiet
 pub mod Opened
+pub mod Passing
 pub mod ReadStep
 pub mod Taking
 pub mod Reader
 pub mod Reading
-pub mod SettingsRange
 pub mod Tables
 mod Told
 mod Growth
+mod Losing
+mod Arriving
+mod AckedSteps
+mod TrackedSteps
 mod Stays
 mod Frames
 mod Writes

@@ -7,8 +7,10 @@ use Rattle.std.proofs.lemmas.List.Prefix.{at_from_reads}
 use Rattle.std.proofs.lemmas.Option.{slice_get_within, slice_get-get_or, get_or_from_slice_get}
 use Rattle.quic_wire.specs.Value.{StreamValue}
 use Rattle.quic_streams_core.specs.declared.connection.assembler.Chunk.{Chunk}
-use Rattle.quic_streams_core.specs.Arrived.{Arrived, Part, start, AreApart, IsLawful, byte_at, given, behind, left_by, shortened, after_read}
-use Rattle.quic_streams_core.proofs.Claims.{read_gives, read_bytes, read_leaves}
+use Rattle.quic_streams_core.specs.Arrived.{Arrived, Part, start, IsLawful, byte_at, given, behind, left_by, after_read_in}
+use Rattle.quic_streams_core.proofs.Bytes.{next_waits}
+use Rattle.quic_streams_core.proofs.Claims.{given_next, read_bytes, leaves}
+use Rattle.quic_streams_core.proofs.Lawful.{next_lawful}
 use Rattle.quic_connection_core.specs.declared.answers.ReadError.{ReadError}
 use Rattle.quic_connection_core.specs.declared.answers.ReadError.TheVariants as read_errors
 use Rattle.quic_connection_core.specs.Receiving.{RecvHalf, is_read, at_end, next_chunk, next_answer}
@@ -60,31 +62,6 @@ stands wr read bytes w f =
 
 -- ---- what a read takes away
 
-read_apart : (read most : ℕ) (ps : List Part) → AreApart read ps → AreApart (behind (given ps read most) read) (left_by ps read most)
-read_apart read most [] h = h
-read_apart read most (p ∷ ps) h = go (start p == read) refl
-  where
-    cut : start p ≡ read → (b : Bool) → ltb most (length p.1) ≡ b → AreApart (read + length (take most p.1)) (cond b ((p.0, drop most p.1) ∷ ps) ps)
-    cut same true q =
-        let big = h.0 in
-        let l = ltb-true most (length p.1) q in
-        let t = length-take most p.1 in
-        let d = length-drop most p.1 in
-        (omega arith, omega arith, h.2)
-    cut same false q =
-        let big = h.0 in
-        let l = ltb-false most (length p.1) q in
-        let t = length-take most p.1 in
-        let e : read + length (take most p.1) ≡ p.0 = omega arith in
-        rw e h.2
-
-    go : (b : Bool) → (start p == read) ≡ b → AreApart (behind (cond b (Some (record { offset = read; bytes = take most p.1 })) None) read) (cond b (shortened most p ps) (p ∷ ps))
-    go true q = cut (eqb-true (start p) read q) (ltb most (length p.1)) refl
-    go false q = h
-
-read_lawful : (a : Arrived) (most : ℕ) → IsLawful a → IsLawful (after_read a most)
-read_lawful a most h = read_apart a.read most a.parts h
-
 read_on : (read most : ℕ) (ps : List Part) → read ≤ behind (given ps read most) read
 read_on read most [] = omega arith
 read_on read most (p ∷ ps) = go (start p == read)
@@ -112,16 +89,19 @@ chunk_stands wr fin said h most chunk i e =
     stands wr h.arrived.read chunk.bytes i.within (λ k l. from_agrees wr chunk.bytes h.arrived.parts h.arrived.read k i.agrees l (bytes k l))
   where
     bytes : (k : ℕ) → k < length chunk.bytes → slice_get chunk.bytes k ≡ byte_at h.arrived.parts (h.arrived.read + k)
-    bytes k = subst (λ o. IfSome o (λ c. k < length c.bytes → slice_get c.bytes k ≡ byte_at h.arrived.parts (h.arrived.read + k))) e (read_bytes h.arrived.read most k h.arrived.parts i.lawful)
+    bytes k l =
+        subst (λ o. IfSome o (λ c. k < length c.bytes → slice_get c.bytes k ≡ byte_at h.arrived.parts (c.offset + k))) e (read_bytes h.arrived.read most k h.arrived.parts i.lawful.apart) l
+        ∙ ap (λ (n : ℕ). byte_at h.arrived.parts (n + k)) (chunk_place h.arrived.read most h.arrived.parts chunk e)
 
 -- what is left by a read that gives a chunk is read on
-reading_chunk : (wr : List ℕ) (fin : Bool) (said : List Next) (h : RecvHalf) (most : ℕ) (chunk : Chunk) → IsReading wr fin said h → given h.arrived.parts h.arrived.read most ≡ Some chunk → IsReading wr fin (said ++ Ok (Some chunk) ∷ []) (record h { arrived = after_read h.arrived most })
+reading_chunk : (wr : List ℕ) (fin : Bool) (said : List Next) (h : RecvHalf) (most : ℕ) (chunk : Chunk) → IsReading wr fin said h → given h.arrived.parts h.arrived.read most ≡ Some chunk → IsReading wr fin (said ++ Ok (Some chunk) ∷ []) (record h { arrived = after_read_in false h.arrived most })
 reading_chunk wr fin said h most chunk i e =
     let s = chunk_stands wr fin said h most chunk i e in
-    let on : (after_read h.arrived most).read ≡ h.arrived.read + length chunk.bytes = ap (λ o. behind o h.arrived.read) e ∙ ap (λ (n : ℕ). n + length chunk.bytes) (chunk_place h.arrived.read most h.arrived.parts chunk e) in
+    let on : (after_read_in false h.arrived most).read ≡ h.arrived.read + length chunk.bytes = ap (λ o. behind o h.arrived.read) e ∙ ap (λ (n : ℕ). n + length chunk.bytes) (chunk_place h.arrived.read most h.arrived.parts chunk e) in
     record {
-      lawful = read_lawful h.arrived most i.lawful;
-      agrees = λ o b w. left o b (ltb o (after_read h.arrived most).read) (sym (read_leaves h.arrived most o i.lawful) ∙ w);
+      lawful = next_lawful h.arrived most i.ordered i.lawful;
+      ordered = i.ordered;
+      agrees = λ o b w. left o b (ltb o (after_read_in false h.arrived most).read) (sym (leaves h.arrived.read most o h.arrived.parts i.lawful.apart) ∙ w);
       read = said_bytes said (Ok (Some chunk) ∷ []) ∙ ap (λ (z : List ℕ). bytes_of (chunks_of said) ++ z) (append-nil chunk.bytes) ∙ ap (λ (z : List ℕ). z ++ chunk.bytes) i.read ∙ sym s.taken ∙ ap (λ (n : ℕ). take n wr) (sym on);
       within = let w = s.within in omega arith;
       final = i.final;
@@ -132,16 +112,16 @@ reading_chunk wr fin said h most chunk i e =
     left o b false w = i.agrees o b w
 
 -- what a frame said stays kept by a read
-pub kept_over_read : (h : RecvHalf) (f : StreamValue) (most : ℕ) → IsLawful h.arrived → IsKept f h → IsKept f (record h { arrived = after_read h.arrived most })
+pub kept_over_read : (h : RecvHalf) (f : StreamValue) (most : ℕ) → IsLawful h.arrived → IsKept f h → IsKept f (record h { arrived = after_read_in false h.arrived most })
 kept_over_read h f most lawful k = record {
-  bytes = λ o from below. waits o (ltb o (after_read h.arrived most).read) refl (k.bytes o from below);
+  bytes = λ o from below. waits o (ltb o (after_read_in false h.arrived most).read) refl (k.bytes o from below);
   fin = k.fin;
 }
   where
-    waits : (o : ℕ) (b : Bool) → ltb o (after_read h.arrived most).read ≡ b → (o < h.arrived.read) ⊎ (is_some (byte_at h.arrived.parts o) ≡ true) → (o < (after_read h.arrived most).read) ⊎ (is_some (byte_at (after_read h.arrived most).parts o) ≡ true)
+    waits : (o : ℕ) (b : Bool) → ltb o (after_read_in false h.arrived most).read ≡ b → (o < h.arrived.read) ⊎ (is_some (byte_at h.arrived.parts o) ≡ true) → (o < (after_read_in false h.arrived most).read) ⊎ (is_some (byte_at (after_read_in false h.arrived most).parts o) ≡ true)
     waits o b q (inl l) = let on = read_on h.arrived.read most h.arrived.parts in inl (omega arith)
-    waits o true q (inr e) = inl (ltb-true o (after_read h.arrived most).read q)
-    waits o false q (inr e) = inr (rw (read_leaves h.arrived most o lawful, q) e)
+    waits o true q (inr e) = inl (ltb-true o (after_read_in false h.arrived most).read q)
+    waits o false q (inr e) = inr (rw (leaves h.arrived.read most o h.arrived.parts lawful.apart, q) e)
 
 -- ---- one `next`
 
@@ -152,7 +132,7 @@ Reads wr fin said (Some h) = IsReading wr fin said h
 
 -- the half that a `next` leaves, by its answer
 abbrev pub half_after : Next → Option RecvHalf → ℕ → Option RecvHalf
-half_after (Ok (Some chunk)) (Some h) most = Some (record h { arrived = after_read h.arrived most })
+half_after (Ok (Some chunk)) (Some h) most = Some (record h { arrived = after_read_in false h.arrived most })
 half_after (Ok None) (Some h) most = None
 half_after (Err e) (Some h) most = Some h
 half_after (Ok (Some chunk)) None most = None
@@ -173,7 +153,7 @@ error_reads : (wr : List ℕ) (fin : Bool) (said : List Next) (o : Option RecvHa
 error_reads wr fin said None most e r = record { order = tt; reads = (same_bytes said (Err e) refl ∙ r.0, r.1) }
 error_reads wr fin said (Some h) most e i = record {
   order = tt;
-  reads = record { lawful = i.lawful; agrees = i.agrees; read = same_bytes said (Err e) refl ∙ i.read; within = i.within; final = i.final };
+  reads = record { lawful = i.lawful; ordered = i.ordered; agrees = i.agrees; read = same_bytes said (Err e) refl ∙ i.read; within = i.within; final = i.final };
 }
 
 -- the end is told where all was read
@@ -230,7 +210,7 @@ blocked_lacks wr fin said h most f i e k = by_chunk (given h.arrived.parts h.arr
         let len = length-take h.arrived.read wr in
         let within = i.within in
         let front : length (bytes_of (chunks_of said)) ≡ h.arrived.read = ap (λ (z : List ℕ). length z) i.read ∙ omega arith in
-        let none : is_some (byte_at h.arrived.parts h.arrived.read) ≡ false = sym (read_gives h.arrived most i.lawful) ∙ ap is_some q in
+        let none : is_some (byte_at h.arrived.parts h.arrived.read) ≡ false = sym (given_next h.arrived.parts h.arrived.read most ∙ next_waits h.arrived.read h.arrived.parts i.lawful.apart) ∙ ap is_some q in
         rw front (record {
           byte = λ from below. lacks none (k.bytes h.arrived.read from below);
           end = λ fin last. blocked_at h.final h.arrived.read (is_read h.final h.arrived.read) refl (sym e) (k.fin fin ∙ ap (λ (n : ℕ). Some n) last);

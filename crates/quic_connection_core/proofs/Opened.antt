@@ -56,7 +56,6 @@ kept_opened Client Bi s r took o k = record {
   kept = λ f h w e. absurd (none f w (k.may f w));
   may = k.may;
   opened = k.opened;
-  plain = k.plain;
 }
   where
     none : (f : StreamValue) → WasTaken took f → may_receive Client f.id ≡ true → ⊥
@@ -98,7 +97,6 @@ kept_accept side dir r took k = record {
   kept = λ f h w e. k.kept f h w (sym (ap (λ hs. at hs f.id) (accept_halves dir r)) ∙ e);
   may = k.may;
   opened = λ f w. rw (accept_opened dir r) (k.opened f w);
-  plain = k.plain;
 }
 
 -- a stream that is accepted is among those that were

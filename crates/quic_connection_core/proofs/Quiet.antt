@@ -1,22 +1,27 @@
--- Calls that leave the receiving halves of their end as they are: a write, a finish and a poll.
+-- Calls that leave the receiving halves of their end as they are: a write, a finish, a ping, a poll, a timeout, an injection, and questions.
 use Rattle.std.proofs.Common.{◌≡◌, ℕ, Bool, true, false, List, [], ◌∷◌, ◌++◌, Option, Some, None, Result, Ok, Err, refl, sym, ap, ◌∙◌, subst, append-nil}
 use Rattle.quic_wire_core.specs.declared.stream_id.Side.{Side}
 use Rattle.quic_wire_core.specs.declared.stream_id.Dir.{Dir}
 use Rattle.quic_wire_core.specs.declared.stream_id.Dir.TheVariants.{Bi, Uni}
-use Rattle.quic_connection_core.specs.declared.answers.State.{State}
-use Rattle.quic_connection_core.specs.declared.answers.State.TheVariants as states
 use Rattle.quic_connection_core.specs.declared.answers.WriteError.{WriteError}
 use Rattle.quic_connection_core.specs.Table.{at}
-use Rattle.quic_connection_core.specs.Closing.{ticked}
-use Rattle.quic_connection_core.specs.Numbers.{can_number}
 use Rattle.quic_connection_core.specs.Policy.{Policy}
+use Rattle.quic_recovery_core.specs.PendingAcks.{can_send}
+use Rattle.quic_recovery_core.specs.Timers.{Timers}
 use Rattle.quic_connection_core.specs.Sending.{Sending, SendHalf, opens, next_id, after_written, after_finish}
 use Rattle.quic_connection_core.specs.Receiving.{Receiving}
-use Rattle.quic_connection_core.specs.End.{End, with_closing}
-use Rattle.quic_connection_core.specs.Calls.{end_after_write, end_after_finish}
-use Rattle.quic_connection_core.specs.Poll.{first_pending, sends_half, sends, polled_for, polled_in, polled}
+use Rattle.quic_connection_core.specs.Tracking.{Tracking}
+use Rattle.quic_connection_core.specs.End.{End}
+use Rattle.quic_connection_core.specs.Calls.{end_after_write, end_after_finish, end_after_ping, end_after_event}
+use Rattle.quic_connection_core.specs.Poll.{first_pending, Draft, no_frames, ping_if, with_ping_frame, stream_if, stream_of, with_ack, ack_fits, ack_if, with_asking, composed_if, composed, Polled, polled}
+use Rattle.quic_connection_core.specs.Timeouts.{timed_out}
+use Rattle.quic_connection_core.specs.Opens.{would_open}
+use Rattle.quic_connection_core.specs.Machine.{after_injected_if}
 use Rattle.quic_connection_core.specs.Runs.{Told, Packet, nexts_by, nexts, accepts, written, ended}
 use Rattle.quic_connection_core.proofs.Invariant.{Content, IsReading, IsFresh, InOrder, Kept, Accepted}
+use Rattle.quic_connection_core.proofs.Injected.{injected_leaves}
+use Rattle.quic_connection_core.proofs.Leaves.{by_timeout, by_event}
+use Rattle.quic_connection_core.proofs.Polls.{at_moment, after_draft, by_poll}
 use Rattle.quic_connection_core.proofs.Told.{nexts_more, accepts_append, in_left}
 
 -- ---- what the facts of the end that reads look at
@@ -88,6 +93,11 @@ finished_next s id side Uni = refl
 pub quiet_finish : (e : End) (id : ℕ) → IsQuiet e (end_after_finish e id)
 quiet_finish e id = record { receiving = refl; opens_same = finished_opens e.sending id e.side; next_same = finished_next e.sending id e.side }
 
+-- ---- a ping
+
+pub quiet_ping : (e : End) → IsQuiet e (end_after_ping e)
+quiet_ping e = record { receiving = refl; opens_same = λ dir. refl; next_same = λ dir. refl }
+
 -- ---- a poll
 
 halves_opens : (s : Sending) (halves : List (ℕ × SendHalf)) (side : Side) (dir : Dir) → opens side dir (record s { halves = halves }) ≡ opens side dir s
@@ -98,26 +108,66 @@ halves_next : (s : Sending) (halves : List (ℕ × SendHalf)) (side : Side) (dir
 halves_next s halves side Bi = refl
 halves_next s halves side Uni = refl
 
-quiet_half : (o : Option SendHalf) (p : Policy) (e : End) (id : ℕ) → IsQuiet e (sends_half o p e id).end
-quiet_half None p e id = quiet_same e
-quiet_half (Some h) p e id = record { receiving = refl; opens_same = halves_opens e.sending (sends_half (Some h) p e id).end.sending.halves e.side; next_same = halves_next e.sending (sends_half (Some h) p e id).end.sending.halves e.side }
+quiet_on : (e f g : End) → f.side ≡ e.side → IsQuiet e f → IsQuiet f g → IsQuiet e g
+quiet_on e f g side a b = record {
+  receiving = b.receiving ∙ a.receiving;
+  opens_same = λ dir. ap (λ (s : Side). opens s dir g.sending) (sym side) ∙ b.opens_same dir ∙ ap (λ (s : Side). opens s dir f.sending) side ∙ a.opens_same dir;
+  next_same = λ dir. ap (λ (s : Side). next_id s dir g.sending) (sym side) ∙ b.next_same dir ∙ ap (λ (s : Side). next_id s dir f.sending) side ∙ a.next_same dir;
+}
 
-quiet_sends : (b : Bool) (p : Policy) (e : End) (id : ℕ) → IsQuiet e (sends b p e id).end
-quiet_sends true p e id = quiet_half (at e.sending.halves id) p e id
-quiet_sends false p e id = record { receiving = refl; opens_same = λ dir. refl; next_same = λ dir. refl }
+quiet_half : (o : Option SendHalf) (d : Draft) (id : ℕ) → IsQuiet d.end (stream_if o d id).end
+quiet_half None d id = quiet_same d.end
+quiet_half (Some h) d id = record { receiving = refl; opens_same = halves_opens d.end.sending (stream_if (Some h) d id).end.sending.halves d.end.side; next_same = halves_next d.end.sending (stream_if (Some h) d id).end.sending.halves d.end.side }
 
-quiet_for : (o : Option ℕ) (p : Policy) (e : End) → IsQuiet e (polled_for o p e).end
-quiet_for None p e = quiet_same e
-quiet_for (Some id) p e = quiet_sends (can_number e.numbers) p e id
+quiet_stream : (o : Option ℕ) (d : Draft) → IsQuiet d.end (stream_of o d).end
+quiet_stream None d = quiet_same d.end
+quiet_stream (Some id) d = quiet_half (at d.end.sending.halves id) d id
 
-quiet_ticked : (e after : End) (now : ℕ) → IsQuiet (with_closing e (ticked e.closing now)) after → IsQuiet e after
-quiet_ticked e after now q = record { receiving = q.receiving; opens_same = q.opens_same; next_same = q.next_same }
+quiet_pinged : (b : Bool) (d : Draft) → ((ping_if b d).end.side ≡ d.end.side) × IsQuiet d.end (ping_if b d).end
+quiet_pinged true d = (refl, record { receiving = refl; opens_same = λ dir. refl; next_same = λ dir. refl })
+quiet_pinged false d = (refl, quiet_same d.end)
 
-quiet_in : (state : State) (p : Policy) (e : End) (now : ℕ) → IsQuiet e (polled_in state p e now).end
-quiet_in states.Open p e now = quiet_ticked e _ now (quiet_for (first_pending e.sending.halves) p (with_closing e (ticked e.closing now)))
-quiet_in states.Closing p e now = quiet_same e
-quiet_in states.Drained p e now = quiet_same e
-quiet_in states.Failed p e now = quiet_same e
+quiet_asking : (d : Draft) → IsQuiet d.end (with_asking d).end
+quiet_asking d =
+    let pinged = with_ping_frame d in
+    let first = quiet_pinged d.end.waiting.ping d in
+    quiet_on d.end pinged.end (with_asking d).end first.0 first.1 (quiet_stream (first_pending pinged.end.sending.halves) pinged)
+
+quiet_acked : (b : Bool) (e : End) (d : Draft) → IsQuiet e d.end → IsQuiet e (ack_if b d).end
+quiet_acked true e d q = record { receiving = q.receiving; opens_same = q.opens_same; next_same = q.next_same }
+quiet_acked false e d q = q
+
+quiet_composed_if : (b : Bool) (e : End) → IsQuiet e (composed_if b e).end
+quiet_composed_if true e = let q = quiet_asking (with_ack (no_frames e)) in record { receiving = q.receiving; opens_same = q.opens_same; next_same = q.next_same }
+quiet_composed_if false e = let asking = with_asking (no_frames e) in quiet_acked (ack_fits asking) e asking (quiet_asking (no_frames e))
+
+quiet_composed : (e : End) → IsQuiet e (composed e).end
+quiet_composed e = quiet_composed_if (can_send e.acknowledging) e
+
+-- what is composed at a moment, where PING waits or doesn't
+quiet_given : (e : End) (now : ℕ) (pings : Bool) (tracking : Tracking) (timers : Timers) → IsQuiet e (after_draft (composed (at_moment e now pings)) tracking timers)
+quiet_given e now pings tracking timers = let q = quiet_composed (at_moment e now pings) in record { receiving = q.receiving; opens_same = q.opens_same; next_same = q.next_same }
 
 pub quiet_poll : (p : Policy) (e : End) (now : ℕ) → IsQuiet e (polled p e now).end
-quiet_poll p e now = quiet_in e.closing.state p e now
+quiet_poll p e now = by_poll p e now (λ (q : Polled). IsQuiet e q.end) (record {
+  silent = quiet_same e;
+  failed = quiet_same e;
+  idle = λ pings. record { receiving = refl; opens_same = λ dir. refl; next_same = λ dir. refl };
+  used_up = λ pings. record { receiving = refl; opens_same = λ dir. refl; next_same = λ dir. refl };
+  gives = λ pings tracking timers is may some ready. quiet_given e now pings tracking timers;
+})
+
+-- ---- a timeout
+
+pub quiet_timeout : (e : End) (now : ℕ) → IsQuiet e (timed_out e now).end
+quiet_timeout e now = by_timeout e now (λ (f : End). IsQuiet e f) (quiet_same e) (λ acks tracking timers. record { receiving = refl; opens_same = λ dir. refl; next_same = λ dir. refl })
+
+-- ---- an event
+
+pub quiet_event : (e : End) → IsQuiet e (end_after_event e)
+quiet_event e = by_event e (λ (f : End). IsQuiet e f) (λ told events. record { receiving = refl; opens_same = λ dir. refl; next_same = λ dir. refl })
+
+-- ---- an injection
+
+pub quiet_injected : (p : Policy) (e : End) (now : ℕ) (d : List ℕ) → IsQuiet e (after_injected_if (would_open p e d) p e now d)
+quiet_injected p e now d = subst (λ (after : End). IsQuiet e after) (sym (injected_leaves p e now d)) (quiet_same e)

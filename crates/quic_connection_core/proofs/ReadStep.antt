@@ -18,7 +18,7 @@ use Rattle.quic_connection_core.specs.Calls.{AreNexts, after_nexts}
 use Rattle.quic_connection_core.specs.Runs.{Told, Next, Packet, WasTaken, nexts_by, nexts, written, ended}
 use Rattle.quic_connection_core.proofs.Invariant.{Content, IsReading, IsFresh, InOrder, Kept, IsKept}
 use Rattle.quic_connection_core.proofs.Told.{nexts_more}
-use Rattle.quic_connection_core.proofs.Stays.{stays_nexts}
+use Rattle.quic_connection_core.proofs.Stays.{nexts_sending}
 use Rattle.quic_connection_core.proofs.Quiet.{nexts_quiet}
 use Rattle.quic_connection_core.proofs.Next.{Reads, ReadsOn, order_append}
 use Rattle.quic_connection_core.proofs.NextRuns.{IsNextsRun, nexts_run, run_reads, run_keeps, KeptBy}
@@ -94,7 +94,7 @@ content_run side s r after id mosts said wrote told more run reader here elsewhe
 pub content_read : (e : End) (read : ReadCall) (said : List Next) (wrote told : List Told) (state : State) → read_answer e.receiving read.id ≡ Ok tt → AreNexts e read.id read.nexts.items said → Content e.side e.sending e.receiving wrote told
     → Content e.side (after_nexts e read.id read.nexts.items said).sending (after_nexts e read.id read.nexts.items said).receiving wrote (told ++ read_told read said state ∷ [])
 content_read e read said wrote told state is answered c =
-    rw (stays_nexts e read.id read.nexts.items said).sending (content_run e.side e.sending e.receiving (after_nexts e read.id read.nexts.items said).receiving read.id read.nexts.items said wrote told (told ++ read_told read said state ∷ [])
+    rw (nexts_sending e read.id read.nexts.items said) (content_run e.side e.sending e.receiving (after_nexts e read.id read.nexts.items said).receiving read.id read.nexts.items said wrote told (told ++ read_told read said state ∷ [])
     (nexts_run e read.id read.nexts.items said c.sorted answered)
     (is_reader e read.id wrote told is c)
     (nexts_more read.id told (read_told read said state) ∙ ap (λ xs. nexts read.id told ++ xs) (told_there read said state))
@@ -116,7 +116,6 @@ kept_run side r after id mosts said wrote told took run reader k = record {
   kept = λ f h w e. kept f h w e (cases_eq f.id id);
   may = k.may;
   opened = λ f w. rw run.opened (k.opened f w);
-  plain = k.plain;
 }
   where
     kept : (f : StreamValue) (h : RecvHalf) → WasTaken took f → at after.halves f.id ≡ Some h → (f.id ≡ id) ⊎ (f.id ≡ id → ⊥) → IsKept f h

@@ -11,7 +11,7 @@ use Rattle.quic_connection_core.specs.declared.run.Answer.{Answer}
 use Rattle.quic_connection_core.specs.declared.run.Answer.TheVariants as answers
 use Rattle.quic_connection_core.specs.declared.run.ReadCall.{ReadCall}
 use Rattle.quic_connection_core.specs.declared.run.Delivery.{Delivery}
-use Rattle.quic_connection_core.specs.Settings.{Settings}
+use Rattle.quic_recovery_core.specs.Transport.{Settings}
 use Rattle.quic_connection_core.specs.Policy.{Policy}
 use Rattle.quic_connection_core.specs.Sending.{Sending}
 use Rattle.quic_connection_core.specs.Receiving.{Receiving}
@@ -20,7 +20,7 @@ use Rattle.quic_connection_core.specs.Calls.{can_open, after_open_if, end_writes
 use Rattle.quic_connection_core.specs.Machine.{IsRead, IsAnswer, after_call, fails}
 use Rattle.quic_connection_core.specs.Runs.{Told, Packet, nexts}
 use Rattle.quic_connection_core.proofs.Invariant.{Content, Kept, Accepted}
-use Rattle.quic_connection_core.proofs.Quiet.{content_same, accepted_same, nexts_quiet, quiet_content, quiet_kept, quiet_accepted, quiet_same, quiet_write, quiet_finish, quiet_poll}
+use Rattle.quic_connection_core.proofs.Quiet.{content_same, accepted_same, nexts_quiet, quiet_content, quiet_kept, quiet_accepted, quiet_same, quiet_write, quiet_finish, quiet_ping, quiet_poll, quiet_timeout, quiet_event, quiet_injected}
 use Rattle.quic_connection_core.proofs.Opened.{content_opened, kept_opened, opened_accepted, can_open_opens, accept_halves, accept_opened, kept_accept, accepted_accept}
 use Rattle.quic_connection_core.proofs.ReadStep.{content_read, kept_read, accepted_read}
 
@@ -41,7 +41,6 @@ kept_start side settings = record {
   kept = λ f h w e. absurd w.was_taken;
   may = λ f w. absurd w.was_taken;
   opened = λ f w. absurd w.was_taken;
-  plain = λ packet i. absurd i;
 }
 
 pub accepted_start : (side : Side) (settings : Settings) → Accepted side (first_receiving settings) []
@@ -82,8 +81,14 @@ content_step p e theirs (calls.Write id bytes) a wrote read state (inl is) serve
 content_step p e theirs (calls.Write id bytes) a wrote read state (inr is) served other c = rw is (quiet_content e _ wrote read _ (quiet_write (Err write_errors.Memory) e id bytes) (λ id. refl) c)
 content_step p e theirs (calls.Finish id) a wrote read state is served other c = quiet_content e _ wrote read (told_of (calls.Finish id) a state) (quiet_finish e id) (λ id. refl) c
 content_step p e theirs (calls.Read call) a wrote read state is served other c = content_reads p e theirs call a wrote read state is c
+content_step p e theirs calls.Ping a wrote read state is served other c = quiet_content e _ wrote read (told_of calls.Ping a state) (quiet_ping e) (λ id. refl) c
 content_step p e theirs (calls.Poll now) a wrote read state is served other c = quiet_content e _ wrote read (told_of (calls.Poll now) a state) (quiet_poll p e now) (λ id. refl) c
+content_step p e theirs (calls.Timeout now) a wrote read state is served other c = quiet_content e _ wrote read (told_of (calls.Timeout now) a state) (quiet_timeout e now) (λ id. refl) c
 content_step p e theirs (calls.Deliver delivery) a wrote read state is served other c = cc
+content_step p e theirs (calls.Inject injection) a wrote read state is served other c = quiet_content e _ wrote read (told_of (calls.Inject injection) a state) (quiet_injected p e injection.now injection.bytes) (λ id. refl) c
+content_step p e theirs calls.Event a wrote read state is served other c = quiet_content e _ wrote read (told_of calls.Event a state) (quiet_event e) (λ id. refl) c
+content_step p e theirs (calls.Timer timer) a wrote read state is served other c = quiet_content e e wrote read (told_of (calls.Timer timer) a state) (quiet_same e) (λ id. refl) c
+content_step p e theirs calls.NextTimeout a wrote read state is served other c = quiet_content e e wrote read (told_of calls.NextTimeout a state) (quiet_same e) (λ id. refl) c
 
 -- ---- what frames said
 
@@ -104,8 +109,14 @@ kept_step p e theirs (calls.Write id bytes) a wrote read took (inl is) served ot
 kept_step p e theirs (calls.Write id bytes) a wrote read took (inr is) served other c k = rw is k
 kept_step p e theirs (calls.Finish id) a wrote read took is served other c k = k
 kept_step p e theirs (calls.Read call) a wrote read took is served other c k = kept_reads p e theirs call a wrote read took is c k
+kept_step p e theirs calls.Ping a wrote read took is served other c k = k
 kept_step p e theirs (calls.Poll now) a wrote read took is served other c k = quiet_kept e _ took (quiet_poll p e now) k
+kept_step p e theirs (calls.Timeout now) a wrote read took is served other c k = quiet_kept e _ took (quiet_timeout e now) k
 kept_step p e theirs (calls.Deliver delivery) a wrote read took is served other c k = cc
+kept_step p e theirs (calls.Inject injection) a wrote read took is served other c k = quiet_kept e _ took (quiet_injected p e injection.now injection.bytes) k
+kept_step p e theirs calls.Event a wrote read took is served other c k = quiet_kept e _ took (quiet_event e) k
+kept_step p e theirs (calls.Timer timer) a wrote read took is served other c k = k
+kept_step p e theirs calls.NextTimeout a wrote read took is served other c k = k
 
 -- ---- accepted streams
 
@@ -126,8 +137,14 @@ accepted_step p e theirs (calls.Write id bytes) a wrote read state (inl is) serv
 accepted_step p e theirs (calls.Write id bytes) a wrote read state (inr is) served other c k = rw is (quiet_accepted e _ read _ (quiet_write (Err write_errors.Memory) e id bytes) k)
 accepted_step p e theirs (calls.Finish id) a wrote read state is served other c k = quiet_accepted e _ read (told_of (calls.Finish id) a state) (quiet_finish e id) k
 accepted_step p e theirs (calls.Read call) a wrote read state is served other c k = accepted_reads p e theirs call a wrote read state is c k
+accepted_step p e theirs calls.Ping a wrote read state is served other c k = quiet_accepted e _ read (told_of calls.Ping a state) (quiet_ping e) k
 accepted_step p e theirs (calls.Poll now) a wrote read state is served other c k = quiet_accepted e _ read (told_of (calls.Poll now) a state) (quiet_poll p e now) k
+accepted_step p e theirs (calls.Timeout now) a wrote read state is served other c k = quiet_accepted e _ read (told_of (calls.Timeout now) a state) (quiet_timeout e now) k
 accepted_step p e theirs (calls.Deliver delivery) a wrote read state is served other c k = cc
+accepted_step p e theirs (calls.Inject injection) a wrote read state is served other c k = quiet_accepted e _ read (told_of (calls.Inject injection) a state) (quiet_injected p e injection.now injection.bytes) k
+accepted_step p e theirs calls.Event a wrote read state is served other c k = quiet_accepted e _ read (told_of calls.Event a state) (quiet_event e) k
+accepted_step p e theirs (calls.Timer timer) a wrote read state is served other c k = quiet_accepted e e read (told_of (calls.Timer timer) a state) (quiet_same e) k
+accepted_step p e theirs calls.NextTimeout a wrote read state is served other c k = quiet_accepted e e read (told_of calls.NextTimeout a state) (quiet_same e) k
 
 -- ---- a delivery tells nothing of what was read or accepted
 

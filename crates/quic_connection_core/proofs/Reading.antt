@@ -1,14 +1,16 @@
 -- One half of the end that reads: what was written grows, a frame comes, a read takes what waits.
 use Rattle.std.proofs.Common.{◌≡◌, ℕ, ◌+◌, ◌-◌, ◌^◌, ◌<◌, ◌≤◌, ◌⊎◌, inl, inr, ltb, length, List, [], ◌∷◌, ◌++◌, take, Bool, true, false, cond, Option, Some, None, Ok, Err, refl, sym, ap, ◌∙◌, subst, arith, slice_get, get_or, length-append, append_assoc}
+use Rattle.std.specs.Prelude.{◌||◌}
 use Rattle.std.specs.Option.{is_some, option_or}
 use Rattle.std.proofs.lemmas.Bool.{ltb-true}
 use Rattle.std.proofs.lemmas.List.{take-append-le, take_at}
 use Rattle.std.proofs.lemmas.Option.{slice_get_within}
 use Rattle.quic_wire_core.specs.declared.stream_id.Side.{Side}
 use Rattle.quic_wire.specs.Value.{StreamValue}
-use Rattle.quic_streams_core.specs.Arrived.{byte_from, byte_at, after_insert}
+use Rattle.quic_streams_core.specs.Arrived.{Arrived, IsLawful, byte_from, byte_at, is_given, after_insert}
 use Rattle.quic_streams_core.proofs.Bytes.{get-take, from_within}
-use Rattle.quic_streams_core.proofs.Claims.{insert_bytes, insert_lawful}
+use Rattle.quic_streams_core.proofs.Lawful.{insert_bytes, insert_lawful}
+use Rattle.quic_streams_core.specs.Spans.{Span, in_spans}
 use Rattle.quic_connection_core.specs.Receiving.{RecvHalf, Receiving, untouched, end_of, with_frame}
 use Rattle.quic_connection_core.specs.Sending.{Sending}
 use Rattle.quic_connection_core.specs.Runs.{Told, Next, nexts, written, ended, bytes_of}
@@ -29,6 +31,7 @@ reading_grows wr fin more fin' said h g i =
     let within = i.within in
     record {
       lawful = i.lawful;
+      ordered = i.ordered;
       agrees = λ o b e. subst (λ z. slice_get z o ≡ Some b) g.is (get_more wr g.rest o b (i.agrees o b e));
       read = i.read ∙ sym (take-append-le h.arrived.read wr g.rest i.within) ∙ ap (λ (z : List ℕ). take h.arrived.read z) g.is;
       within = omega arith;
@@ -61,11 +64,24 @@ byte_agrees wr o b x y true was came e = cc
 byte_agrees wr o b None y false was came e = came b e
 byte_agrees wr o b (Some a) y false was came e = was b e
 
+or_false : (b : Bool) → (b || false) ≡ b
+or_false true = refl
+or_false false = refl
+
+-- of what only ordered reads gave, all lies below the place where they go on
+plain_given : (a : Arrived) (o : ℕ) → IsLawful a → a.unordered ≡ false → is_given a o ≡ ltb o a.read
+plain_given a o h u = ap (λ (gs : List Span). ltb o a.read || in_spans gs o) (h.order u) ∙ or_false (ltb o a.read)
+
+insert_plain : (a : Arrived) (offset : ℕ) (bytes : List ℕ) (o : ℕ) → IsLawful a → a.unordered ≡ false → offset + length bytes < 2 ^ 62
+    → byte_at (after_insert a offset bytes).parts o ≡ cond (ltb o a.read) None (option_or (byte_at a.parts o) (byte_from offset bytes o))
+insert_plain a offset bytes o h u s = insert_bytes a offset bytes o h s ∙ ap (λ (b : Bool). cond b None (option_or (byte_at a.parts o) (byte_from offset bytes o))) (plain_given a o h u)
+
 -- a frame that was written keeps what is read
 pub reading_frame : (wr : List ℕ) (fin : Bool) (said : List Next) (h : RecvHalf) (f : StreamValue) → IsReading wr fin said h → IsWritten wr fin f → end_of f < 2 ^ 62 → IsReading wr fin said (with_frame h f)
 reading_frame wr fin said h f i w small = record {
   lawful = insert_lawful h.arrived f.offset f.bytes i.lawful small;
-  agrees = λ o b e. byte_agrees wr o b (byte_at h.arrived.parts o) (byte_from f.offset f.bytes o) (ltb o h.arrived.read) (i.agrees o) (w.bytes o) (sym (insert_bytes h.arrived f.offset f.bytes o i.lawful) ∙ e);
+  ordered = i.ordered;
+  agrees = λ o b e. byte_agrees wr o b (byte_at h.arrived.parts o) (byte_from f.offset f.bytes o) (ltb o h.arrived.read) (i.agrees o) (w.bytes o) (sym (insert_plain h.arrived f.offset f.bytes o i.lawful i.ordered small) ∙ e);
   read = i.read;
   within = i.within;
   final = λ size. final_is size f.fin w.last;
@@ -78,7 +94,8 @@ reading_frame wr fin said h f i w small = record {
 -- of a half that nothing touched nothing was read
 pub reading_untouched : (wr : List ℕ) (fin : Bool) (said : List Next) → IsFresh said → IsReading wr fin said untouched
 reading_untouched wr fin said fresh = record {
-  lawful = omega arith;
+  lawful = record { apart = omega arith; spans = omega arith; others = λ o e. cc; order = λ e. refl };
+  ordered = refl;
   agrees = λ o b e. cc;
   read = ap bytes_of fresh.chunks;
   within = omega arith;
@@ -96,19 +113,19 @@ some_before None y e = cc
 some_before (Some a) y e = refl
 
 -- a byte of a frame that was taken waits, unless it was read
-pub kept_frame : (wr : List ℕ) (fin : Bool) (said : List Next) (h : RecvHalf) (f : StreamValue) → IsReading wr fin said h → IsKept f (with_frame h f)
-kept_frame wr fin said h f i = record {
+pub kept_frame : (wr : List ℕ) (fin : Bool) (said : List Next) (h : RecvHalf) (f : StreamValue) → IsReading wr fin said h → end_of f < 2 ^ 62 → IsKept f (with_frame h f)
+kept_frame wr fin said h f i small = record {
   bytes = λ o from below. waits o from below (ltb o h.arrived.read) refl;
   fin = λ e. rw e refl;
 }
   where
     waits : (o : ℕ) → f.offset ≤ o → o < f.offset + length f.bytes → (b : Bool) → ltb o h.arrived.read ≡ b → (o < h.arrived.read) ⊎ (is_some (byte_at (after_insert h.arrived f.offset f.bytes).parts o) ≡ true)
     waits o from below true q = inl (ltb-true o h.arrived.read q)
-    waits o from below false q = inr (rw (insert_bytes h.arrived f.offset f.bytes o i.lawful, q, from_within f.offset f.bytes o from below) (some_or (byte_at h.arrived.parts o) (get_or f.bytes (o - f.offset) 0)))
+    waits o from below false q = inr (rw (insert_plain h.arrived f.offset f.bytes o i.lawful i.ordered small, q, from_within f.offset f.bytes o from below) (some_or (byte_at h.arrived.parts o) (get_or f.bytes (o - f.offset) 0)))
 
 -- what an earlier frame said stays
-pub kept_over_frame : (wr : List ℕ) (fin : Bool) (said : List Next) (h : RecvHalf) (f g : StreamValue) → IsReading wr fin said h → IsWritten wr fin f → IsKept g h → IsKept g (with_frame h f)
-kept_over_frame wr fin said h f g i w k = record {
+pub kept_over_frame : (wr : List ℕ) (fin : Bool) (said : List Next) (h : RecvHalf) (f g : StreamValue) → IsReading wr fin said h → IsWritten wr fin f → end_of f < 2 ^ 62 → IsKept g h → IsKept g (with_frame h f)
+kept_over_frame wr fin said h f g i w small k = record {
   bytes = λ o from below. waits o (ltb o h.arrived.read) refl (k.bytes o from below);
   fin = λ e. same f.fin w.last (k.fin e);
 }
@@ -116,7 +133,7 @@ kept_over_frame wr fin said h f g i w k = record {
     waits : (o : ℕ) (b : Bool) → ltb o h.arrived.read ≡ b → (o < h.arrived.read) ⊎ (is_some (byte_at h.arrived.parts o) ≡ true) → (o < h.arrived.read) ⊎ (is_some (byte_at (after_insert h.arrived f.offset f.bytes).parts o) ≡ true)
     waits o b q (inl l) = inl l
     waits o true q (inr e) = inl (ltb-true o h.arrived.read q)
-    waits o false q (inr e) = inr (rw (insert_bytes h.arrived f.offset f.bytes o i.lawful, q) (some_before (byte_at h.arrived.parts o) (byte_from f.offset f.bytes o) e))
+    waits o false q (inr e) = inr (rw (insert_plain h.arrived f.offset f.bytes o i.lawful i.ordered small, q) (some_before (byte_at h.arrived.parts o) (byte_from f.offset f.bytes o) e))
 
     same : (b : Bool) → (b ≡ true → (fin ≡ true) × (end_of f ≡ length wr)) → h.final ≡ Some (end_of g) → cond b (Some (end_of f)) h.final ≡ Some (end_of g)
     same true l e = let last = l refl in let size = i.final (end_of g) e in ap (λ (n : ℕ). Some n) (last.1 ∙ sym size.1)

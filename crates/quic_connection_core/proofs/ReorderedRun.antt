@@ -7,6 +7,8 @@ use Rattle.quic_wire.specs.FrameTypes.{kind_of}
 use Rattle.quic_wire.specs.Reading.{block_at, sized_at, offset_at, data_at, stream_at, body_at}
 use Rattle.quic_wire.specs.Items.{frame_at, items_within, items}
 use Rattle.quic_wire.specs.Writing.{stream_spelling}
+use Rattle.quic_streams_core.specs.Offsets.{without_offsets, parts_from}
+use Rattle.quic_wire_core.specs.Pieces.{pieces}
 use Rattle.quic_connection_core.specs.declared.answers.ReadError.TheVariants as read_errors
 use Rattle.quic_connection_core.specs.declared.answers.Received.TheVariants as receives
 use Rattle.quic_connection_core.specs.declared.run.ReadCall.{ReadCall}
@@ -15,28 +17,28 @@ use Rattle.quic_connection_core.specs.declared.run.Answer.TheVariants as answers
 use Rattle.quic_connection_core.specs.End.{End}
 use Rattle.quic_connection_core.specs.Calls.{after_nexts}
 use Rattle.quic_connection_core.specs.Machine.{World, IsRead, IsStep, Follows}
-use Rattle.quic_connection_core.specs.Worked.{worked_policies, client_made, server_made}
+use Rattle.quic_connection_core.specs.Worked.{worked_policies, waiting_for, client_made, server_made}
 use Rattle.quic_connection_core.specs.Runs.{took}
 use Rattle.quic_connection_core.specs.Broken.{NextAnswers}
-use Rattle.quic_connection_core.specs.Reordered.{abc, def, abc_datagram, def_datagram, client_after, server_after, half_late, half_whole, half_read, two_ends, delivers_at, reordered_events, reordered_answers, reordered_views, reordered_packets, reordered_run}
+use Rattle.quic_connection_core.specs.Reordered.{abc, def, abc_datagram, def_datagram, client_after, first_sent, both_sent, pending_after, server_after, half_late, half_whole, half_read, two_ends, delivers_at, reordered_events, reordered_answers, reordered_views, reordered_packets, reordered_run}
 
 -- ---- what each event leaves
 
 abbrev opened : World
-opened = two_ends (client_after [] 0 0 0) server_made []
+opened = two_ends (client_after [] [] 0 0 0) server_made []
 
 abbrev wrote_abc : World
-wrote_abc = two_ends (client_after abc 3 0 0) server_made []
+wrote_abc = two_ends (client_after abc (3 ∷ []) 3 0 0) server_made []
 
 abbrev gave_abc : World
-gave_abc = two_ends (client_after abc 3 3 1) server_made (abc_datagram ∷ [])
+gave_abc = two_ends (waiting_for first_sent (client_after abc (3 ∷ []) 3 3 1)) server_made (abc_datagram ∷ [])
 
 abbrev wrote_def : World
-wrote_def = two_ends (client_after (abc ++ def) 6 3 1) server_made (abc_datagram ∷ [])
+wrote_def = two_ends (waiting_for first_sent (client_after (abc ++ def) (3 ∷ 3 ∷ []) 6 3 1)) server_made (abc_datagram ∷ [])
 
 -- the client has given all, and the server is so
 abbrev gave_all : End → World
-gave_all server = two_ends (client_after (abc ++ def) 6 6 2) server (abc_datagram ∷ def_datagram ∷ [])
+gave_all server = two_ends (waiting_for both_sent (client_after (abc ++ def) (3 ∷ 3 ∷ []) 6 6 2)) server (abc_datagram ∷ def_datagram ∷ [])
 
 -- ---- the events
 
@@ -47,24 +49,24 @@ writes_abc : IsStep worked_policies opened (record { side = Client; call = calls
 writes_abc = record { answer = inl refl; end = refl; others = refl }
 
 gives_abc : IsStep worked_policies wrote_abc (record { side = Client; call = calls.Poll 0 }) (answers.Poll (Ok (Some (record { size = 32; ecn = Some Ect0 })))) gave_abc
-unfolding stream_spelling
+unfolding stream_spelling without_offsets parts_from pieces
 gives_abc = record { answer = inl refl; end = refl; others = refl }
 
 writes_def : IsStep worked_policies gave_abc (record { side = Client; call = calls.Write 0 def }) (answers.Write (Ok 3)) wrote_def
 writes_def = record { answer = inl refl; end = refl; others = refl }
 
 gives_def : IsStep worked_policies wrote_def (record { side = Client; call = calls.Poll 0 }) (answers.Poll (Ok (Some (record { size = 33; ecn = Some Ect0 })))) (gave_all server_made)
-unfolding stream_spelling
+unfolding stream_spelling without_offsets parts_from pieces
 gives_def = record { answer = inl refl; end = refl; others = refl }
 
-takes_def : IsStep worked_policies (gave_all server_made) (delivers_at 1) (answers.Deliver receives.Taken) (gave_all (server_after (0 ∷ 2 ∷ []) half_late 0))
+takes_def : IsStep worked_policies (gave_all server_made) (delivers_at 1) (answers.Deliver receives.Taken) (gave_all (server_after (1 ∷ []) (pending_after 1 1) half_late 0))
 unfolding items items_within frame_at body_at kind_of stream_at offset_at data_at sized_at block_at
 takes_def = record { answer = inl refl; end = refl; others = refl }
 
-accepts : IsStep worked_policies (gave_all (server_after (0 ∷ 2 ∷ []) half_late 0)) (record { side = Server; call = calls.Accept Bi }) (answers.Accept (Some 0)) (gave_all (server_after (0 ∷ 2 ∷ []) half_late 1))
+accepts : IsStep worked_policies (gave_all (server_after (1 ∷ []) (pending_after 1 1) half_late 0)) (record { side = Server; call = calls.Accept Bi }) (answers.Accept (Some 0)) (gave_all (server_after (1 ∷ []) (pending_after 1 1) half_late 1))
 accepts = record { answer = refl; end = refl; others = refl }
 
-takes_abc : IsStep worked_policies (gave_all (server_after (0 ∷ 2 ∷ []) half_late 1)) (delivers_at 0) (answers.Deliver receives.Taken) (gave_all (server_after (1 ∷ 2 ∷ []) half_whole 1))
+takes_abc : IsStep worked_policies (gave_all (server_after (1 ∷ []) (pending_after 1 1) half_late 1)) (delivers_at 0) (answers.Deliver receives.Taken) (gave_all (server_after (1 ∷ 0 ∷ []) (pending_after 2 0) half_whole 1))
 unfolding items items_within frame_at body_at kind_of stream_at offset_at data_at sized_at block_at
 takes_abc = record { answer = inl refl; end = refl; others = refl }
 
@@ -83,15 +85,15 @@ step_of e read mosts nexts next is_id are_mosts so =
     record { answer = all.answer; end = all.end; others = refl }
 
 -- nothing is given before the first bytes come
-blocked : ReadsSo (server_after (0 ∷ 2 ∷ []) half_late 1) 0 (32 ∷ []) (Err read_errors.Blocked ∷ []) (server_after (0 ∷ 2 ∷ []) half_late 1)
+blocked : ReadsSo (server_after (1 ∷ []) (pending_after 1 1) half_late 1) 0 (32 ∷ []) (Err read_errors.Blocked ∷ []) (server_after (1 ∷ []) (pending_after 1 1) half_late 1)
 blocked = record { answer = (refl, (inl refl, tt)); end = refl }
 
 -- then all is given in order
-gives_all : ReadsSo (server_after (1 ∷ 2 ∷ []) half_whole 1) 0 (32 ∷ 32 ∷ 32 ∷ []) (Ok (Some (record { offset = 0; bytes = abc })) ∷ Ok (Some (record { offset = 3; bytes = def })) ∷ Err read_errors.Blocked ∷ []) (server_after (1 ∷ 2 ∷ []) half_read 1)
+gives_all : ReadsSo (server_after (1 ∷ 0 ∷ []) (pending_after 2 0) half_whole 1) 0 (32 ∷ 32 ∷ 32 ∷ []) (Ok (Some (record { offset = 0; bytes = abc })) ∷ Ok (Some (record { offset = 3; bytes = def })) ∷ Err read_errors.Blocked ∷ []) (server_after (1 ∷ 0 ∷ []) (pending_after 2 0) half_read 1)
 gives_all = record { answer = (refl, (inl refl, (inl refl, (inl refl, tt)))); end = refl }
 
 pub follows : (first second : ReadCall) → first.id ≡ 0 → first.nexts.items ≡ 32 ∷ [] → second.id ≡ 0 → second.nexts.items ≡ 32 ∷ 32 ∷ 32 ∷ []
-    → Follows worked_policies (two_ends client_made server_made []) (reordered_events first second) reordered_answers reordered_views (gave_all (server_after (1 ∷ 2 ∷ []) half_read 1))
+    → Follows worked_policies (two_ends client_made server_made []) (reordered_events first second) reordered_answers reordered_views (gave_all (server_after (1 ∷ 0 ∷ []) (pending_after 2 0) half_read 1))
 follows first second a b c d = (
   opened,
   opens,
@@ -113,22 +115,22 @@ follows first second a b c d = (
           gives_def,
           refl,
           (
-            gave_all (server_after (0 ∷ 2 ∷ []) half_late 0),
+            gave_all (server_after (1 ∷ []) (pending_after 1 1) half_late 0),
             takes_def,
             refl,
             (
-              gave_all (server_after (0 ∷ 2 ∷ []) half_late 1),
+              gave_all (server_after (1 ∷ []) (pending_after 1 1) half_late 1),
               accepts,
               refl,
               (
-                gave_all (server_after (0 ∷ 2 ∷ []) half_late 1),
+                gave_all (server_after (1 ∷ []) (pending_after 1 1) half_late 1),
                 step_of _ first _ _ _ a b blocked,
                 refl,
                 (
-                  gave_all (server_after (1 ∷ 2 ∷ []) half_whole 1),
+                  gave_all (server_after (1 ∷ 0 ∷ []) (pending_after 2 0) half_whole 1),
                   takes_abc,
                   refl,
-                  (gave_all (server_after (1 ∷ 2 ∷ []) half_read 1), step_of _ second _ _ _ c d gives_all, refl, refl),
+                  (gave_all (server_after (1 ∷ 0 ∷ []) (pending_after 2 0) half_read 1), step_of _ second _ _ _ c d gives_all, refl, refl),
                 ),
               ),
             ),

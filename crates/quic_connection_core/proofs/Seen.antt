@@ -1,22 +1,21 @@
 -- What a place of an honest run shows of the end at one side.
-use Rattle.std.proofs.Common.{◌≡◌, ℕ, zero, suc, List, [], ◌∷◌, ◌++◌, take, drop, length, replicate, Option, Some, None, refl, sym, ap, ◌∙◌, subst}
+use Rattle.std.proofs.Common.{◌≡◌, ℕ, zero, suc, List, [], ◌∷◌, ◌++◌, take, drop, length, Some, refl, sym, ap, ◌∙◌, subst}
 use Rattle.std.specs.Prelude.{slice_get}
-use Rattle.std.proofs.lemmas.List.{append-nil}
 use Rattle.quic_wire_core.specs.declared.stream_id.Side.{Side}
 use Rattle.quic_wire_core.specs.declared.stream_id.Side.TheVariants.{Client, Server}
 use Rattle.quic_wire_core.specs.StreamId.{other_side}
+use Rattle.quic_connection_core.specs.declared.answers.StreamEvent.TheVariants.{Finished}
 use Rattle.quic_connection_core.specs.declared.run.RunEvent.{RunEvent}
 use Rattle.quic_connection_core.specs.declared.run.Call.{Call}
 use Rattle.quic_connection_core.specs.declared.run.Answer.{Answer}
 use Rattle.quic_connection_core.specs.declared.run.View.{View}
-use Rattle.quic_connection_core.specs.Policy.{Policy}
 use Rattle.quic_connection_core.specs.Ids.{known}
 use Rattle.quic_connection_core.specs.End.{End}
-use Rattle.quic_connection_core.specs.Machine.{World, Policies, IsAnswer, IsStep, policy_at, end_at, given_by, Follows}
-use Rattle.quic_connection_core.specs.Runs.{Run, Told, until, took, given_of, intake, nothing_came, references, references_until, given_until, count_given, first_id_of_peer}
-use Rattle.quic_connection_core.specs.Headline.{Rise, IsAt}
+use Rattle.quic_connection_core.specs.Machine.{World, Policies, IsAnswer, policy_at, end_at, given_by, Follows}
+use Rattle.quic_connection_core.specs.Runs.{Run, In, until, took, given_of, intake, nothing_came, references, references_until, given_until, count_given, first_id_of_peer}
+use Rattle.quic_connection_core.specs.Headline.{AllArrived, Rise, IsAt}
 use Rattle.quic_connection_core.proofs.Invariant.{Content, Kept, Accepted}
-use Rattle.quic_connection_core.proofs.Way.{Way, Both, came, NoReference}
+use Rattle.quic_connection_core.proofs.Way.{Way, came, cut}
 use Rattle.quic_connection_core.proofs.Rising.{rise}
 
 -- the end at a side, at a place, where the other side writes and this one reads; and what it answers there
@@ -27,8 +26,22 @@ pub record Seen (r : Run) (side : Side) (i : ℕ) : Type 0 where
   pub content : Content side end.sending end.receiving (until r (other_side side) i) (until r side i)
   pub kept : Kept side end.receiving (took r side i)
   pub accepted : Accepted side end.receiving (until r side i)
+  -- a stream that is to be told finished arrived wholly at the other side
+  pub finished : (id : ℕ) → In (Finished id) end.events → AllArrived (took r (other_side side) i) id (until r side i)
   pub rises : Rise (policy_at side r.keys) (first_id_of_peer r side) 0 (references_until r side i) (given_until r side i)
   pub answers : (call : Call) (a : Answer) → IsAt r i side call a → IsAnswer (policy_at side r.keys) end theirs call a
+
+-- the other side of the other side
+other_twice : (side : Side) → other_side (other_side side) ≡ side
+other_twice Client = refl
+other_twice Server = refl
+
+-- what the other side took is what came to it that is known by one id
+pub took_there : (r : Run) (side : Side) (i : ℕ) (id : List ℕ) → known (end_at (other_side side) r.start).ids ≡ id ∷ []
+    → took r (other_side side) i ≡ (came (policy_at (other_side side) r.keys) id (given_of r side) (until r (other_side side) i)).took
+took_there r side i id same =
+    ap (λ ids. (intake (policy_at (other_side side) r.keys) ids (given_of r (other_side (other_side side))) (until r (other_side side) i) nothing_came).took) same
+    ∙ ap (λ s. (came (policy_at (other_side side) r.keys) id (given_of r s) (until r (other_side side) i)).took) (other_twice side)
 
 -- what stands at a place is the first of what is left from there on
 first_left : {X : Type 0} (xs : List X) (i : ℕ) (x : X) → slice_get xs i ≡ Some x → drop i xs ≡ x ∷ drop (suc i) xs
@@ -56,18 +69,18 @@ take_given (d ∷ given) rest n q = rw (← q) (ap (λ t. d ∷ t) (take_given g
 module _ (r : Run) (side : Side) (i : ℕ) where
   -- y is the end at this side, and knows the other by `theirs_id`
   pub seen_from : (x y : End) (theirs given : List (List ℕ)) (id theirs_id : List ℕ) → y.side ≡ side
-      → Way (policy_at (other_side side) r.keys) (policy_at side r.keys) id x y theirs (given_of r (other_side side)) (until r (other_side side) i) (until r side i)
-      → Way (policy_at side r.keys) (policy_at (other_side side) r.keys) theirs_id y x given (given_of r side) (until r side i) (until r (other_side side) i)
-      → NoReference (policy_at side r.keys) id (given_of r (other_side side)) (until r side i)
-      → known (end_at side r.start).ids ≡ id ∷ [] → first_id_of_peer r side ≡ theirs_id
+      → Way (policy_at (other_side side) r.keys) (policy_at side r.keys) theirs_id id x y theirs (given_of r (other_side side)) (given_of r side) (until r (other_side side) i) (until r side i)
+      → Way (policy_at side r.keys) (policy_at (other_side side) r.keys) id theirs_id y x given (given_of r side) (given_of r (other_side side)) (until r side i) (until r (other_side side) i)
+      → known (end_at side r.start).ids ≡ id ∷ [] → known (end_at (other_side side) r.start).ids ≡ theirs_id ∷ [] → first_id_of_peer r side ≡ theirs_id
       → (rest : List (List ℕ)) × (given ++ rest ≡ given_of r side)
       → ((call : Call) (a : Answer) → IsAt r i side call a → IsAnswer (policy_at side r.keys) y theirs call a)
       → Seen r side i
-  seen_from x y theirs given id theirs_id is reads gives unreferred same first whole answers =
+  seen_from x y theirs given id theirs_id is reads gives same theirs_same first whole answers =
       let took_is : took r side i ≡ (came (policy_at side r.keys) id (given_of r (other_side side)) (until r side i)).took = ap (λ ids. (intake (policy_at side r.keys) ids (given_of r (other_side side)) (until r side i) nothing_came).took) same in
-      let references_are : references_until r side i ≡ replicate (length given) 0 = ap (λ ids. references (policy_at side r.keys) ids (given_of r (other_side side)) (until r side i) nothing_came) same ∙ unreferred ∙ ap (λ n. replicate n 0) (sym gives.count) in
+      let references_are : references_until r side i ≡ cut (policy_at side r.keys) id (given_of r (other_side side)) (until r side i) = ap (λ ids. references (policy_at side r.keys) ids (given_of r (other_side side)) (until r side i) nothing_came) same in
       let given_is : given_until r side i ≡ given = ap (λ ds. take (count_given (until r side i)) ds) (sym whole.1) ∙ take_given given whole.0 (count_given (until r side i)) gives.count in
-      let rises : Rise (policy_at side r.keys) theirs_id 0 (replicate (length given) 0) given = rise (policy_at side r.keys) theirs_id (until r side i) 0 given gives.gives.each in
+      let rises : Rise (policy_at side r.keys) theirs_id 0 (cut (policy_at side r.keys) id (given_of r (other_side side)) (until r side i)) given =
+      subst (λ references. Rise (policy_at side r.keys) theirs_id 0 references given) gives.gives.against (rise (policy_at side r.keys) theirs_id (until r side i) 0 gives.sents given gives.gives.each) in
       record {
         end = y;
         theirs = theirs;
@@ -75,8 +88,9 @@ module _ (r : Run) (side : Side) (i : ℕ) where
         content = rw is at reads.content;
         kept = subst (λ packets. Kept side y.receiving packets) (sym took_is) (rw is at reads.kept);
         accepted = rw is at reads.accepted;
+        finished = λ stream waits. subst (λ packets. AllArrived packets stream (until r side i)) (sym (took_there r side i theirs_id theirs_same)) (gives.arrives.finished stream waits);
         rises = subst (λ t. Rise (policy_at side r.keys) t 0 (references_until r side i) (given_until r side i)) (sym first)
             (subst (λ t. Rise (policy_at side r.keys) theirs_id 0 t (given_until r side i)) (sym references_are)
-            (subst (λ t. Rise (policy_at side r.keys) theirs_id 0 (replicate (length given) 0) t) (sym given_is) rises));
+            (subst (λ t. Rise (policy_at side r.keys) theirs_id 0 (cut (policy_at side r.keys) id (given_of r (other_side side)) (until r side i)) t) (sym given_is) rises));
         answers = answers;
       }

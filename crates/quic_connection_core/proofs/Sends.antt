@@ -1,30 +1,42 @@
 -- What a poll sends: the halves that it leaves hold what was written, and its datagram has its number.
-use Rattle.std.proofs.Common.{◌≡◌, ℕ, ◌+◌, ◌-◌, ◌<◌, ◌≤◌, ◌^◌, Bool, true, false, nat_lt, List, [], ◌∷◌, ◌++◌, length, Option, Some, None, refl, ap, ◌∙◌, subst, arith}
-use Rattle.std.specs.Prelude.{if◌then◌else◌, ◌*◌}
-use Rattle.std.specs.Option.{unwrap_or}
-use Rattle.std.proofs.lemmas.Bool.{ltb-true, and_parts}
-use Rattle.std.proofs.lemmas.List.{append-nil, length-append}
+use Rattle.std.proofs.Common.{◌≡◌, ℕ, ◌+◌, ◌-◌, ◌<◌, ◌≤◌, ◌^◌, zero, suc, Bool, true, false, nat_lt, ◌||◌, List, [], ◌∷◌, ◌++◌, length, replicate, Option, Some, None, refl, sym, ap, ◌∙◌, subst, ◌⊎◌, inl, inr, arith}
+use Rattle.std.specs.Prelude.{if◌then◌else◌, nat_le, ◌*◌, ◌/◌}
+use Rattle.std.specs.Option.{is_some}
+use Rattle.std.specs.Ordering.{nat_cmp}
+use Rattle.std.specs.BTreeMap.{is_at}
+use Rattle.std.proofs.lemmas.Bool.{ltb-true, leb-true, and_parts}
+use Rattle.std.proofs.lemmas.List.{append-nil, append_assoc, length-append, map-append}
 use Rattle.quic_wire_core.specs.declared.stream_id.Side.{Side}
 use Rattle.quic_wire.specs.Number.{truncated, width_for}
-use Rattle.quic_wire.specs.Value.{StreamValue}
-use Rattle.quic_wire.specs.Writing.{stream_spelling}
+use Rattle.quic_wire.specs.Value.{FrameValue, StreamValue, ack, padding, ping, stream}
+use Rattle.quic_wire.specs.Grammar.{Payload}
+use Rattle.quic_wire.specs.AckGrammar.{AckFits}
+use Rattle.quic_wire.specs.Writing.{spelling, stream_spelling, StreamFits, frame_size, width_of}
 use Rattle.quic_wire.specs.Datagram.{sent}
+use Rattle.quic_wire.proofs.AckNumbers.{ack_size_most}
+use Rattle.quic_wire.proofs.AckSet.{set_length, set_fits}
+use Rattle.quic_wire.proofs.FrameWritten.{spelling_length}
 use Rattle.quic_streams_core.specs.Buffered.{writes_length}
+use Rattle.quic_recovery_core.specs.PendingAcks.{can_send, is_filled, delay_of}
 use Rattle.quic_connection_core.specs.declared.answers.State.{State}
 use Rattle.quic_connection_core.specs.declared.answers.State.TheVariants as states
 use Rattle.quic_connection_core.specs.declared.run.Call.TheVariants as calls
 use Rattle.quic_connection_core.specs.declared.run.Answer.{Answer}
+use Rattle.quic_connection_core.specs.declared.run.Answer.TheVariants as answers
+use Rattle.quic_connection_core.specs.Acknowledging.{written_delay, delay_at}
+use Rattle.quic_connection_core.specs.Ids.{Ids}
 use Rattle.quic_connection_core.specs.Numbers.{Numbers, cut_against, kept_numbers, can_number, number_given}
 use Rattle.quic_connection_core.specs.Policy.{Policy}
-use Rattle.quic_connection_core.specs.Table.{at}
-use Rattle.quic_connection_core.specs.Sending.{SendHalf}
+use Rattle.quic_connection_core.specs.Table.{Table, at}
+use Rattle.quic_connection_core.specs.Sending.{Sending, SendHalf, has_pending}
 use Rattle.quic_connection_core.specs.End.{End}
-use Rattle.quic_connection_core.specs.Poll.{Polled, frame_of, half_after, stream_room, payload_of, datagram_with, after_sent, polled}
-use Rattle.quic_connection_core.specs.Runs.{Told, written, ended}
-use Rattle.quic_connection_core.proofs.Invariant.{IsHalf, IsGiven, Streams, Gives}
-use Rattle.quic_connection_core.proofs.Polls.{at_moment, given_as, by_poll}
+use Rattle.quic_connection_core.specs.Poll.{Polled, Draft, frame_of, half_after, first_pending, frame_room, no_frames, with_frame, ping_if, with_ping_frame, stream_room, end_after_frame, stream_if, stream_of, ack_of, with_ack, ack_fits, ack_if, with_asking, with_late_ack, composed_if, composed, payload_of, datagram_of, waits, polled}
+use Rattle.quic_connection_core.specs.Runs.{Told, written, ended, gave}
+use Rattle.quic_connection_core.proofs.Invariant.{IsHalf, Says, AllSay, IsGiven, Sent, IsSent, Streams, Gives, Acks}
+use Rattle.quic_connection_core.proofs.Polls.{at_moment, ready_at, frames_padded, frames_at, given_as, by_poll, composes}
 use Rattle.quic_connection_core.proofs.Growth.{AllGrow, all_grow, each_push}
-use Rattle.quic_connection_core.proofs.Frames.{unsized_fills, bytes_count, frame_written, frame_fits, half_left, frame_spelled, id_narrow, padded_four, bytes_spelled}
+use Rattle.quic_connection_core.proofs.Frames.{unsized_fills, frame_written, frame_fits, half_left, zeros_padding, sized_spelled, unsized_spelled, ack_spelled, ping_spelled, id_narrow, padded_four}
+use Rattle.quic_connection_core.proofs.Tables.{at-first}
 use Rattle.quic_connection_core.proofs.Writes.{IsQuiet, quiet_written, quiet_ended, quiet_streams, half_at, half_moved, put_streams}
 
 -- ---- the sending halves
@@ -33,24 +45,63 @@ use Rattle.quic_connection_core.proofs.Writes.{IsQuiet, quiet_written, quiet_end
 poll_quiet : (now : ℕ) (a : Answer) (state : State) (id : ℕ) → IsQuiet id (record { call = calls.Poll now; answer = a; state = state })
 poll_quiet now a state id = record { wrote = refl; ended = refl }
 
+-- a draft's halves hold what was written
+stream_streams : (side : Side) (told : List Told) (t : Told) (id : ℕ) (o : Option SendHalf) (d : Draft) → at d.end.sending.halves id ≡ o → ((q : ℕ) → IsQuiet q t) → Streams side d.end.sending told → Streams side (stream_if o d id).end.sending (told ++ t ∷ [])
+stream_streams side told t id None d found quiet i = quiet_streams side d.end.sending told t quiet i
+stream_streams side told t id (Some h) d found quiet i =
+    let room : ℕ = stream_room d id in
+    let left = half_left (written id told) (ended id told) id h room (half_at side d.end.sending told id h i found) in
+    put_streams side d.end.sending told t id d.end.sending.accepted h (half_after h room) i found (λ q ne. quiet q)
+    (half_moved (written id told) (written id (told ++ t ∷ [])) (ended id told) (ended id (told ++ t ∷ [])) (Some (half_after h room)) (quiet_written id told t (quiet id)) (quiet_ended id told t (quiet id)) left)
+
+-- PING and ACK leave them
+pinged_sending : (b : Bool) (d : Draft) → (ping_if b d).end.sending ≡ d.end.sending
+pinged_sending true d = refl
+pinged_sending false d = refl
+
+acked_sending : (b : Bool) (d : Draft) → (ack_if b d).end.sending ≡ d.end.sending
+acked_sending true d = refl
+acked_sending false d = refl
+
+-- after what asks went, the halves hold what was written
+asking_streams : (side : Side) (d : Draft) (told : List Told) (t : Told) → ((q : ℕ) → IsQuiet q t) → Streams side d.end.sending told → Streams side (with_asking d).end.sending (told ++ t ∷ [])
+asking_streams side d told t quiet i = go (first_pending pinged.end.sending.halves)
+  where
+    pinged : Draft
+    pinged = with_ping_frame d
+
+    same : Streams side pinged.end.sending told
+    same = subst (λ (s : Sending). Streams side s told) (sym (pinged_sending d.end.waiting.ping d)) i
+
+    go : (o : Option ℕ) → Streams side (stream_of o pinged).end.sending (told ++ t ∷ [])
+    go None = quiet_streams side pinged.end.sending told t quiet same
+    go (Some id) = stream_streams side told t id (at pinged.end.sending.halves id) pinged refl quiet same
+
+-- whether or not an ACK is due
+streams_if : (b : Bool) (side : Side) (e : End) (told : List Told) (t : Told) → ((q : ℕ) → IsQuiet q t) → Streams side e.sending told → Streams side (composed_if b e).end.sending (told ++ t ∷ [])
+streams_if true side e told t quiet i = asking_streams side (with_ack (no_frames e)) told t quiet i
+streams_if false side e told t quiet i =
+    let asking = with_asking (no_frames e) in
+    subst (λ (s : Sending). Streams side s (told ++ t ∷ [])) (sym (acked_sending (ack_fits asking) asking)) (asking_streams side (no_frames e) told t quiet i)
+
+-- what is composed leaves halves that hold what was written
+composed_streams : (side : Side) (e : End) (told : List Told) (t : Told) → ((q : ℕ) → IsQuiet q t) → Streams side e.sending told → Streams side (composed e).end.sending (told ++ t ∷ [])
+composed_streams side e told t quiet i = streams_if (can_send e.acknowledging) side e told t quiet i
+
 -- the halves hold what was written
 pub polled_streams : (side : Side) (p : Policy) (e : End) (now : ℕ) (a : Answer) (told : List Told) (state : State) → Streams side e.sending told
     → Streams side (polled p e now).end.sending (told ++ record { call = calls.Poll now; answer = a; state = state } ∷ [])
 polled_streams side p e now a told state i =
-    by_poll p e now (λ (q : Polled). Streams side q.end.sending (told ++ record { call = calls.Poll now; answer = a; state = state } ∷ [])) (record { silent = same; failed = same; idle = same; used_up = same; gives = one })
+    by_poll p e now (λ (q : Polled). Streams side q.end.sending (told ++ record { call = calls.Poll now; answer = a; state = state } ∷ [])) (record {
+      silent = same;
+      failed = same;
+      idle = λ pings. same;
+      used_up = λ pings. same;
+      gives = λ pings tracking timers is may some ready. composed_streams side (at_moment e now pings) told (record { call = calls.Poll now; answer = a; state = state }) (poll_quiet now a state) i;
+    })
   where
     same : Streams side e.sending (told ++ record { call = calls.Poll now; answer = a; state = state } ∷ [])
     same = quiet_streams side e.sending told (record { call = calls.Poll now; answer = a; state = state }) (poll_quiet now a state) i
-
-    one : e.closing.state ≡ states.Open → can_number e.numbers ≡ true → (id : ℕ) (h : SendHalf) → at e.sending.halves id ≡ Some h
-        → Streams side (after_sent (at_moment e now) id h).sending (told ++ record { call = calls.Poll now; answer = a; state = state } ∷ [])
-    one is may id h found =
-        let t : Told = record { call = calls.Poll now; answer = a; state = state } in
-        let quiet = poll_quiet now a state in
-        let room : ℕ = stream_room (at_moment e now) id in
-        let left = half_left (written id told) (ended id told) id h room (half_at side e.sending told id h i found) in
-        put_streams side e.sending told t id e.sending.accepted h (half_after h room) i found (λ q ne. quiet q)
-        (half_moved (written id told) (written id (told ++ t ∷ [])) (ended id told) (ended id (told ++ t ∷ [])) (Some (half_after h room)) (quiet_written id told t (quiet id)) (quiet_ended id told t (quiet id)) left)
 
 -- ---- the datagram
 
@@ -64,76 +115,383 @@ width_few n = go (nat_lt (2 * n) 256) (nat_lt (2 * n) 65536) (nat_lt (2 * n) 167
     go false false true = omega arith
     go false false false = omega arith
 
--- room for a frame is left behind its type and id
-room_some : (e : End) (id : ℕ) → length e.ids.active.id ≡ 8 → 17 ≤ stream_room e id
-room_some e id eight =
+-- the most bytes that stand before a STREAM frame: the longest ACK frame, and PING
+abbrev most_before : ℕ
+most_before = 1066
+
+-- how many bytes a datagram has for frames at least
+room_most : (e : End) → length e.ids.active.id ≡ 8 → 1171 ≤ frame_room e
+room_most e eight =
     let width = width_few (e.numbers.next - cut_against e.numbers) in
-    let few = id_narrow id in
     omega arith
 
--- a number that may be given is small, where none is acknowledged
-number_small : (numbers : Numbers) → numbers.acknowledged ≡ None → can_number numbers ≡ true → numbers.next < 2 ^ 31
-number_small numbers none may =
-    let cut : cut_against numbers ≡ 0 = ap (λ (o : Option ℕ). unwrap_or o 0) none in
-    let near = ltb-true (numbers.next - cut_against numbers + kept_numbers) (2 ^ 31) (and_parts (nat_lt (numbers.next + kept_numbers) (2 ^ 62)) (nat_lt (numbers.next - cut_against numbers + kept_numbers) (2 ^ 31)) may).1 in
+-- room for a frame is left behind its type and id
+room_some : (d : Draft) (id : ℕ) → length d.end.ids.active.id ≡ 8 → length d.bytes ≤ most_before → 17 ≤ stream_room d id
+room_some d id eight few =
+    let room = room_most d.end eight in
+    let narrow = id_narrow id in
     omega arith
 
--- the datagram of a half is one of its number
-pub datagram_given : (p : Policy) (e : End) (told : List Told) (id : ℕ) (h : SendHalf) → e.numbers.acknowledged ≡ None → length e.ids.active.id ≡ 8 → id < 2 ^ 62 → can_number e.numbers ≡ true
-    → IsHalf (written id told) (ended id told) h → IsGiven p e.ids.active.id told e.numbers.next (datagram_with p e id h)
-datagram_given p e told id h none eight small may half =
-    let cut : cut_against e.numbers ≡ 0 = ap (λ (o : Option ℕ). unwrap_or o 0) none in
-    let room : ℕ = stream_room e id in
-    let frame : StreamValue = frame_of id h (stream_room e id) in
-    let sized : Bool = writes_length h.buffer (stream_room e id) in
-    let width : ℕ = (truncated e.numbers.next (cut_against e.numbers)).width in
-    let spelled : List ℕ = stream_spelling (writes_length h.buffer (stream_room e id)) (frame_of id h (stream_room e id)) in
-    record {
-      frame = frame_of id h (stream_room e id);
-      count = 4 - ((truncated e.numbers.next (cut_against e.numbers)).width + length spelled);
-      payload = payload_of e id h;
-      spells = frame_spelled sized frame (4 - (width + length spelled)) (frame_fits (written id told) (ended id told) id h room half small) none_behind;
-      four = subst (λ (k : ℕ). 4 ≤ (truncated e.numbers.next k).width + length (payload_of e id h)) cut (padded_four width spelled);
-      small = number_small e.numbers none may;
-      is = ap (λ (k : ℕ). sent p.mask p.hide p.seal e.numbers.next k e.ids.active.id (payload_of e id h)) cut;
-      says = frame_written (written id told) (ended id told) id h room half;
-    }
+-- ---- the ACK frame
+
+-- a delay that is written is small
+delay_small : (nanos : ℕ) → written_delay nanos < 2 ^ 62
+delay_small nanos =
+    let eighths : ℕ = nanos / 1000 / 8 in
+    omega arith
+
+-- what there is to acknowledge has an ACK frame
+ack_form : (e : End) → Acks e.acknowledging → is_filled e.acknowledging.runs ≡ true → AckFits (ack_of e)
+ack_form e acks filled = set_fits (delay_at e.acknowledging e.closing.clock) e.acknowledging.runs None acks.runs.runs some acks.small (delay_small (delay_of e.acknowledging.newest e.closing.clock)) tt
   where
-    none_behind : writes_length h.buffer (stream_room e id) ≡ false
-        → 4 - ((truncated e.numbers.next (cut_against e.numbers)).width + length (stream_spelling (writes_length h.buffer (stream_room e id)) (frame_of id h (stream_room e id)))) ≡ 0
-    none_behind off =
-        let full = unsized_fills h.buffer (stream_room e id) off in
-        let count = bytes_count (written id told) (ended id told) id h (stream_room e id) half in
-        let long = bytes_spelled (writes_length h.buffer (stream_room e id)) (frame_of id h (stream_room e id)) in
-        let some = room_some e id eight in
-        omega arith
+    some : e.acknowledging.runs ≡ [] → ⊥
+    some none = let off = ap is_filled none in cc
+
+-- it is short: there are few runs
+ack_short : (e : End) → Acks e.acknowledging → is_filled e.acknowledging.runs ≡ true → length (spelling (ack (ack_of e))) < most_before
+ack_short e acks filled =
+    let fits = ack_form e acks filled in
+    let size = spelling_length (ack (ack_of e)) fits in
+    let most = ack_size_most (ack_of e) fits in
+    let ranges = set_length e.acknowledging.runs in
+    let few = acks.runs.few in
+    omega arith
+
+-- it has a byte at least
+ack_some : (e : End) → 1 ≤ frame_size (ack (ack_of e))
+ack_some e =
+    let type : width_of 2 ≡ 1 = refl in
+    omega arith
+
+-- ---- drafts
+
+-- a number that may be given is small, and near the greatest acknowledged
+number_small : (numbers : Numbers) → can_number numbers ≡ true → (numbers.next < 2 ^ 62) × (numbers.next - cut_against numbers < 2 ^ 31)
+number_small numbers may =
+    let parts = and_parts (nat_lt (numbers.next + kept_numbers) (2 ^ 62)) (nat_lt (numbers.next - cut_against numbers + kept_numbers) (2 ^ 31)) may in
+    let small = ltb-true (numbers.next + kept_numbers) (2 ^ 62) parts.0 in
+    let near = ltb-true (numbers.next - cut_against numbers + kept_numbers) (2 ^ 31) parts.1 in
+    (omega arith, omega arith)
+
+-- frames that stand in a payload: each says what is so, and what is spelled behind them may follow
+record Opens (told : List Told) (d : Draft) : Type 0 where
+  says : AllSay told d.frames
+  spells : (fs : List FrameValue) (rest : List ℕ) → Payload fs rest → Payload (d.frames ++ fs) (d.bytes ++ rest)
+
+-- frames that take the whole room of a datagram
+record Full (told : List Told) (d : Draft) : Type 0 where
+  says : AllSay told d.frames
+  spells : Payload d.frames d.bytes
+  full : frame_room d.end ≤ length d.bytes
+
+-- frames that fill a payload, but for bytes 0 behind them
+record Fills (told : List Told) (d : Draft) : Type 0 where
+  says : AllSay told d.frames
+  spells : Payload (d.frames ++ replicate (4 - ((truncated d.end.numbers.next (cut_against d.end.numbers)).width + length d.bytes)) padding) (payload_of d)
+
+-- bytes 0 may follow frames that don't take the whole room
+opens_fills : (told : List Told) (d : Draft) → Opens told d → Fills told d
+opens_fills told d o =
+    let count : ℕ = 4 - ((truncated d.end.numbers.next (cut_against d.end.numbers)).width + length d.bytes) in
+    record { says = o.says; spells = o.spells (replicate count padding) (replicate count 0) (zeros_padding count) }
+
+-- behind frames that do there are none
+full_fills : (told : List Told) (d : Draft) → length d.end.ids.active.id ≡ 8 → Full told d → Fills told d
+full_fills told d eight f =
+    let room = room_most d.end eight in
+    let full = f.full in
+    let none : 4 - ((truncated d.end.numbers.next (cut_against d.end.numbers)).width + length d.bytes) ≡ 0 = omega arith in
+    record { says = f.says; spells = rw (none, append-nil d.frames, append-nil d.bytes) f.spells }
+
+-- frames that stand in a payload, whether or not they leave room
+abbrev Stands : List Told → Draft → Type 0
+Stands told d = Opens told d ⊎ Full told d
+
+stands_fills : (told : List Told) (d : Draft) → length d.end.ids.active.id ≡ 8 → Stands told d → Fills told d
+stands_fills told d eight (inl o) = opens_fills told d o
+stands_fills told d eight (inr f) = full_fills told d eight f
+
+say_more : (told : List Told) (fs : List FrameValue) (f : FrameValue) → AllSay told fs → Says told f → AllSay told (fs ++ f ∷ [])
+say_more told [] f all s = (s, tt)
+say_more told (g ∷ fs) f all s = (all.0, say_more told fs f all.1 s)
+
+say_zeros : (told : List Told) (fs : List FrameValue) (count : ℕ) → AllSay told fs → AllSay told (fs ++ replicate count padding)
+say_zeros told [] zero all = tt
+say_zeros told [] (suc count) all = (tt, say_zeros told [] count tt)
+say_zeros told (f ∷ fs) count all = (all.0, say_zeros told fs count all.1)
+
+-- one frame more, where what is spelled behind it may follow
+opens_more : (told : List Told) (d : Draft) (f : FrameValue) (bytes : List ℕ) (e : End) → Opens told d → Says told f
+    → ((fs : List FrameValue) (rest : List ℕ) → Payload fs rest → Payload (f ∷ fs) (bytes ++ rest)) → Opens told (with_frame d f bytes e)
+opens_more told d f bytes e o s spells = record {
+  says = say_more told d.frames f o.says s;
+  spells = λ fs rest behind. rw (append_assoc d.frames (f ∷ []) fs, append_assoc d.bytes bytes rest) (o.spells (f ∷ fs) (bytes ++ rest) (spells fs rest behind));
+}
+
+-- no frame yet
+none_opens : (told : List Told) (e : End) → Opens told (no_frames e)
+none_opens told e = record { says = tt; spells = λ fs rest spells. spells }
+
+-- PING goes where it waits
+pinged_opens : (told : List Told) (b : Bool) (d : Draft) → Opens told d → Opens told (ping_if b d)
+pinged_opens told true d o = opens_more told d ping (spelling ping) (ping_if true d).end o tt ping_spelled
+pinged_opens told false d o = o
+
+-- ACK goes, where there are numbers
+acked_opens : (told : List Told) (d : Draft) → Acks d.end.acknowledging → is_filled d.end.acknowledging.runs ≡ true → Opens told d → Opens told (with_ack d)
+acked_opens told d acks filled o = opens_more told d (ack (ack_of d.end)) (spelling (ack (ack_of d.end))) (with_ack d).end o tt (λ fs rest spells. ack_spelled (ack_of d.end) fs rest (ack_form d.end acks filled) spells)
+
+-- PING takes a byte
+pinged_few : (b : Bool) (d : Draft) → length d.bytes < most_before → length (ping_if b d).bytes ≤ most_before
+pinged_few true d few = let one = length-append d.bytes (spelling ping) in omega arith
+pinged_few false d few = omega arith
+
+-- the frame of a half goes behind others, and takes the whole room where its length isn't written
+half_stands : (told : List Told) (id : ℕ) (h : SendHalf) (d : Draft) → length d.end.ids.active.id ≡ 8 → length d.bytes ≤ most_before → id < 2 ^ 62 → IsHalf (written id told) (ended id told) h → Opens told d
+    → Stands told (stream_if (Some h) d id)
+half_stands told id h d eight few small half o = go (writes_length h.buffer (stream_room d id)) refl
+  where
+    frame : StreamValue
+    frame = frame_of id h (stream_room d id)
+
+    fits : StreamFits frame
+    fits = frame_fits (written id told) (ended id told) id h (stream_room d id) half small
+
+    says : Says told (stream frame)
+    says = frame_written (written id told) (ended id told) id h (stream_room d id) half
+
+    after : Bool → Draft
+    after sized = with_frame d (stream frame) (stream_spelling sized frame) (end_after_frame d id h)
+
+    go : (sized : Bool) → writes_length h.buffer (stream_room d id) ≡ sized → Stands told (after sized)
+    go true is = inl (opens_more told d (stream frame) (stream_spelling true frame) (end_after_frame d id h) o says (λ fs rest spells. sized_spelled frame fs rest fits spells))
+    go false is =
+        let some = room_some d id eight few in
+        let long = unsized_fills (written id told) (ended id told) id h (stream_room d id) half (omega arith) is in
+        let all = length-append d.bytes (stream_spelling false frame) in
+        inr (record {
+          says = say_more told d.frames (stream frame) o.says says;
+          spells = o.spells (stream frame ∷ []) (stream_spelling false frame) (unsized_spelled frame fits);
+          full = omega arith;
+        })
+
+-- what asks goes behind others
+asking_stands : (side : Side) (told : List Told) (d : Draft) → length d.end.ids.active.id ≡ 8 → length d.bytes < most_before → Streams side d.end.sending told → Opens told d → Stands told (with_asking d)
+asking_stands side told d eight few i o = go (first_pending pinged.end.sending.halves)
+  where
+    pinged : Draft
+    pinged = with_ping_frame d
+
+    same : Streams side pinged.end.sending told
+    same = subst (λ (s : Sending). Streams side s told) (sym (pinged_sending d.end.waiting.ping d)) i
+
+    opens : Opens told pinged
+    opens = pinged_opens told d.end.waiting.ping d o
+
+    id_eight : (b : Bool) → length (ping_if b d).end.ids.active.id ≡ 8
+    id_eight true = eight
+    id_eight false = eight
+
+    half_case : (id : ℕ) (o : Option SendHalf) → at pinged.end.sending.halves id ≡ o → Stands told (stream_if o pinged id)
+    half_case id None found = inl opens
+    half_case id (Some h) found = half_stands told id h pinged (id_eight d.end.waiting.ping) (pinged_few d.end.waiting.ping d few) (same.ids id h found) (half_at side pinged.end.sending told id h same found) opens
+
+    go : (o : Option ℕ) → Stands told (stream_of o pinged)
+    go None = inl opens
+    go (Some id) = half_case id (at pinged.end.sending.halves id) refl
+
+-- an ACK frame that fits has numbers, and the frames before it don't take the whole room
+ack_room : (d : Draft) → ack_fits d ≡ true → (is_filled d.end.acknowledging.runs ≡ true) × (length d.bytes < frame_room d.end)
+ack_room d fits =
+    let parts = and_parts (is_filled d.end.acknowledging.runs) (nat_le (length d.bytes + frame_size (ack (ack_of d.end))) (frame_room d.end)) fits in
+    let within = leb-true (length d.bytes + frame_size (ack (ack_of d.end))) (frame_room d.end) parts.1 in
+    let some = ack_some d.end in
+    (parts.0, omega arith)
+
+-- an ACK frame goes behind them where it fits
+late_stands : (told : List Told) (d : Draft) → Acks d.end.acknowledging → Stands told d → Stands told (with_late_ack d)
+late_stands told d acks before = go (ack_fits d) refl before
+  where
+    go : (b : Bool) → ack_fits d ≡ b → Stands told d → Stands told (ack_if b d)
+    go true is (inl o) = inl (acked_opens told d acks (ack_room d is).0 o)
+    go true is (inr f) = let room = (ack_room d is).1 in let full = f.full in absurd (omega arith)
+    go false is before = before
+
+-- what asks leaves what is to be acknowledged
+asking_acks : (d : Draft) → (with_asking d).end.acknowledging ≡ d.end.acknowledging
+asking_acks d = stream (first_pending pinged.end.sending.halves) ∙ ping d.end.waiting.ping
+  where
+    pinged : Draft
+    pinged = with_ping_frame d
+
+    ping : (b : Bool) → (ping_if b d).end.acknowledging ≡ d.end.acknowledging
+    ping true = refl
+    ping false = refl
+
+    half : (o : Option SendHalf) (id : ℕ) → (stream_if o pinged id).end.acknowledging ≡ pinged.end.acknowledging
+    half None id = refl
+    half (Some h) id = refl
+
+    stream : (o : Option ℕ) → (stream_of o pinged).end.acknowledging ≡ pinged.end.acknowledging
+    stream None = refl
+    stream (Some id) = half (at pinged.end.sending.halves id) id
+
+-- so what is composed stands in a payload, whether or not an ACK is due
+stands_if : (b : Bool) (side : Side) (told : List Told) (e : End) → can_send e.acknowledging ≡ b → length e.ids.active.id ≡ 8 → Acks e.acknowledging → Streams side e.sending told → Stands told (composed_if b e)
+stands_if true side told e due eight acks i =
+    let filled = (and_parts e.acknowledging.due (is_filled e.acknowledging.runs) due).1 in
+    asking_stands side told (with_ack (no_frames e)) eight (ack_short e acks filled) i (acked_opens told (no_frames e) acks filled (none_opens told e))
+stands_if false side told e due eight acks i =
+    let asking = with_asking (no_frames e) in
+    late_stands told asking (subst Acks (sym (asking_acks (no_frames e))) acks) (asking_stands side told (no_frames e) eight (omega arith) i (none_opens told e))
+
+-- what waits fills the payload of the next datagram
+composed_fills : (side : Side) (told : List Told) (e : End) → length e.ids.active.id ≡ 8 → Acks e.acknowledging → Streams side e.sending told → Fills told (composed e)
+composed_fills side told e eight acks i =
+    stands_fills told (composed e) (ap (λ (x : Ids). length x.active.id) (composes e).ids ∙ eight) (stands_if (can_send e.acknowledging) side told e refl eight acks i)
+
+-- ---- a datagram has a frame
+
+-- the first stream with something to send is there
+pending_is : (t : Table SendHalf) (id : ℕ) → first_pending t ≡ Some id → is_some (at t id) ≡ true
+pending_is [] id e = cc
+pending_is (x ∷ xs) id e = go (has_pending x.1) refl e (pending_is xs id)
+  where
+    rest : (b : Bool) → is_some (at xs id) ≡ true → is_some (if b then Some x.1 else at xs id) ≡ true
+    rest true q = refl
+    rest false q = q
+
+    go : (b : Bool) → has_pending x.1 ≡ b → (if b then Some x.0 else first_pending xs) ≡ Some id → (first_pending xs ≡ Some id → is_some (at xs id) ≡ true) → is_some (at (x ∷ xs) id) ≡ true
+    go true is q ih =
+        let here : x.0 ≡ id = cc in
+        subst (λ (k : ℕ). is_some (at (x ∷ xs) k) ≡ true) here (ap is_some (at-first xs x.0 x.1))
+    go false is q ih = rest (is_at (nat_cmp id) x.0) (ih q)
+
+some_more : (fs : List FrameValue) (f : FrameValue) → 0 < length (fs ++ f ∷ [])
+some_more [] f = omega arith
+some_more (g ∷ fs) f = omega arith
+
+-- the frame of a stream only adds
+stream_keeps : (o : Option ℕ) (d : Draft) → 0 < length d.frames → 0 < length (stream_of o d).frames
+stream_keeps None d some = some
+stream_keeps (Some id) d some = half (at d.end.sending.halves id)
+  where
+    half : (o : Option SendHalf) → 0 < length (stream_if o d id).frames
+    half None = some
+    half (Some h) = some_more d.frames (stream (frame_of id h (stream_room d id)))
+
+-- so does what asks
+asking_keeps : (d : Draft) → 0 < length d.frames → 0 < length (with_asking d).frames
+asking_keeps d some = stream_keeps (first_pending (with_ping_frame d).end.sending.halves) (with_ping_frame d) (pinged d.end.waiting.ping)
+  where
+    pinged : (b : Bool) → 0 < length (ping_if b d).frames
+    pinged true = some_more d.frames ping
+    pinged false = some
+
+-- what asks is a frame at least
+asking_some : (d : Draft) → (d.end.waiting.ping || is_some (first_pending d.end.sending.halves)) ≡ true → 0 < length (with_asking d).frames
+asking_some d w = by_ping d.end.waiting.ping refl
+  where
+    pinged : Draft
+    pinged = with_ping_frame d
+
+    by_stream : (o : Option ℕ) → first_pending pinged.end.sending.halves ≡ o → is_some o ≡ true → 0 < length (stream_of o pinged).frames
+    by_stream None is there = cc
+    by_stream (Some id) is there = half (at pinged.end.sending.halves id) (pending_is pinged.end.sending.halves id is)
+      where
+        half : (o : Option SendHalf) → is_some o ≡ true → 0 < length (stream_if o pinged id).frames
+        half None there = cc
+        half (Some h) there = some_more pinged.frames (stream (frame_of id h (stream_room pinged id)))
+
+    by_ping : (b : Bool) → d.end.waiting.ping ≡ b → 0 < length (with_asking d).frames
+    by_ping true is = stream_keeps (first_pending pinged.end.sending.halves) pinged (subst (λ (x : Bool). 0 < length (ping_if x d).frames) (sym is) (some_more d.frames ping))
+    by_ping false is =
+        let same : pinged.end.sending ≡ d.end.sending = pinged_sending d.end.waiting.ping d in
+        let there : is_some (first_pending d.end.sending.halves) ≡ true = subst (λ (x : Bool). (x || is_some (first_pending d.end.sending.halves)) ≡ true) is w in
+        by_stream (first_pending pinged.end.sending.halves) refl (subst (λ (s : Sending). is_some (first_pending s.halves) ≡ true) (sym same) there)
+
+-- what waits is a frame at least
+composed_some : (e : End) → waits e ≡ true → 0 < length (composed e).frames
+composed_some e w = go (can_send e.acknowledging) w
+  where
+    late : (b : Bool) (d : Draft) → 0 < length d.frames → 0 < length (ack_if b d).frames
+    late true d some = some_more d.frames (ack (ack_of d.end))
+    late false d some = some
+
+    go : (b : Bool) → (b || (e.waiting.ping || is_some (first_pending e.sending.halves))) ≡ true → 0 < length (composed_if b e).frames
+    go true w = asking_keeps (with_ack (no_frames e)) (omega arith)
+    go false w = let asking = with_asking (no_frames e) in late (ack_fits asking) asking (asking_some (no_frames e) w)
+
+-- what waits goes in a datagram of its number
+pub datagram_given : (side : Side) (p : Policy) (e : End) (told : List Told) → length e.ids.active.id ≡ 8 → can_number e.numbers ≡ true → waits e ≡ true → Acks e.acknowledging
+    → Streams side e.sending told → IsGiven p e.ids.active.id told e.numbers.next (cut_against e.numbers) (frames_padded (composed e)) (datagram_of p (composed e))
+datagram_given side p e told eight may waiting acks streams =
+    let c = composes e in
+    let d : Draft = composed e in
+    let fills = composed_fills side told e eight acks streams in
+    let some = composed_some e waiting in
+    let count : ℕ = 4 - ((truncated d.end.numbers.next (cut_against d.end.numbers)).width + length d.bytes) in
+    let long = length-append d.frames (replicate count padding) in
+    let four = padded_four (truncated d.end.numbers.next (cut_against d.end.numbers)).width d.bytes in
+    let small = number_small e.numbers may in
+    record {
+      payload = payload_of d;
+      spells = fills.spells;
+      some = omega arith;
+      four = subst (λ (x : Numbers). 4 ≤ (truncated x.next (cut_against x)).width + length (payload_of d)) c.numbers four;
+      near = small.1;
+      small = small.0;
+      is = ap (λ (x : Numbers). sent p.mask p.hide p.seal x.next (cut_against x) d.end.ids.active.id (payload_of d)) c.numbers
+          ∙ ap (λ (x : Ids). sent p.mask p.hide p.seal e.numbers.next (cut_against e.numbers) x.active.id (payload_of d)) c.ids;
+      says = say_zeros told d.frames count fills.says;
+    }
 
 -- ---- what is given
 
 -- nothing more is given
-pub gives_quiet : (p : Policy) (id : List ℕ) (before after : Numbers) (told more : List Told) (given : List (List ℕ)) → AllGrow told more → after.acknowledged ≡ before.acknowledged → after.next ≡ before.next
-    → Gives p id before told given → Gives p id after more (given ++ [])
-gives_quiet p id before after told more given grow same next g =
-    rw (append-nil given) (record { acknowledged = same ∙ g.acknowledged; next = next ∙ g.next; each = all_grow p id told more 0 given grow g.each })
+pub gives_quiet : (p : Policy) (id : List ℕ) (before after : Numbers) (told more : List Told) (references : List ℕ) (sents : List Sent) (given : List (List ℕ)) → AllGrow told more → after.next ≡ before.next
+    → Gives p id before told references sents given → Gives p id after more (references ++ []) (sents ++ []) (given ++ [])
+gives_quiet p id before after told more references sents given grow next g =
+    rw (append-nil references, append-nil sents, append-nil given) (record { next = next ∙ g.next; each = all_grow p id told more 0 sents given grow g.each; against = g.against })
 
--- each datagram has its place as its number
-pub polled_gives : (side : Side) (p : Policy) (e : End) (now : ℕ) (told more : List Told) (id : List ℕ) (given : List (List ℕ)) → AllGrow told more → e.ids.active.id ≡ id → length id ≡ 8
-    → Streams side e.sending told → Gives p id e.numbers told given → Gives p id (polled p e now).end.numbers more (given ++ given_as (polled p e now).answer (polled p e now).datagram)
-polled_gives side p e now told more id given grow active eight streams g =
-    by_poll p e now (λ (q : Polled). Gives p id q.end.numbers more (given ++ given_as q.answer q.datagram)) (record { silent = nothing; failed = nothing; idle = nothing; used_up = nothing; gives = one })
+-- what one more datagram was cut against, where one was given
+abbrev pub reference_if : Bool → ℕ → List ℕ
+reference_if given reference = if given then reference ∷ [] else []
+
+-- one more datagram as it was sent, where one was given
+abbrev pub sent_if : Bool → ℕ → List FrameValue → List Sent
+sent_if given reference frames = if given then (reference, frames) ∷ [] else []
+
+-- each datagram has its place as its number, and was cut against its reference
+pub polled_gives : (side : Side) (p : Policy) (e : End) (now : ℕ) (told more : List Told) (id : List ℕ) (references : List ℕ) (sents : List Sent) (given : List (List ℕ)) (reference : ℕ) → AllGrow told more → e.ids.active.id ≡ id → length id ≡ 8
+    → (e.closing.state ≡ states.Open → cut_against e.numbers ≡ reference) → Acks e.acknowledging → Streams side e.sending told → Gives p id e.numbers told references sents given
+    → Gives p id (polled p e now).end.numbers more (references ++ reference_if (gave (answers.Poll (polled p e now).answer)) reference) (sents ++ sent_if (gave (answers.Poll (polled p e now).answer)) reference (frames_at e now)) (given ++ given_as (polled p e now).answer (polled p e now).datagram)
+polled_gives side p e now told more id references sents given reference grow active eight named acks streams g =
+    by_poll p e now (λ (q : Polled). Gives p id q.end.numbers more (references ++ reference_if (gave (answers.Poll q.answer)) reference) (sents ++ sent_if (gave (answers.Poll q.answer)) reference (frames_at e now)) (given ++ given_as q.answer q.datagram))
+    (record { silent = nothing; failed = nothing; idle = λ pings. nothing; used_up = λ pings. nothing; gives = λ pings tracking timers. one pings })
   where
-    nothing : Gives p id e.numbers more (given ++ [])
-    nothing = gives_quiet p id e.numbers e.numbers told more given grow refl refl g
+    nothing : Gives p id e.numbers more (references ++ []) (sents ++ []) (given ++ [])
+    nothing = gives_quiet p id e.numbers e.numbers told more references sents given grow refl g
 
-    one : e.closing.state ≡ states.Open → can_number e.numbers ≡ true → (stream : ℕ) (h : SendHalf) → at e.sending.halves stream ≡ Some h
-        → Gives p id (number_given e.numbers) more (given ++ datagram_with p (at_moment e now) stream h ∷ [])
-    one is may stream h found =
-        let d : List ℕ = datagram_with p (at_moment e now) stream h in
-        let half = half_at side e.sending told stream h streams found in
-        let given_now : IsGiven p e.ids.active.id told e.numbers.next d = datagram_given p (at_moment e now) told stream h g.acknowledged (ap length active ∙ eight) (streams.ids stream h found) may half in
+    one : (pings : Bool) → e.closing.state ≡ states.Open → can_number e.numbers ≡ true → waits (at_moment e now pings) ≡ true → ready_at e now ≡ at_moment e now pings
+        → Gives p id (number_given (composed (at_moment e now pings)).end.numbers) more (references ++ reference ∷ []) (sents ++ (reference, frames_at e now) ∷ []) (given ++ datagram_of p (composed (at_moment e now pings)) ∷ [])
+    one pings is may some ready =
+        let d : List ℕ = datagram_of p (composed (at_moment e now pings)) in
+        let frames : List FrameValue = frames_padded (composed (at_moment e now pings)) in
+        let frames_are : frames_at e now ≡ frames = ap (λ (x : End). frames_padded (composed x)) ready in
+        let given_now : IsGiven p e.ids.active.id told e.numbers.next (cut_against e.numbers) frames d = datagram_given side p (at_moment e now pings) told (ap length active ∙ eight) may some acks streams in
         let count = g.next in
         let place : e.numbers.next ≡ 0 + length given = omega arith in
-        let here : IsGiven p id told (0 + length given) d = subst (λ (n : ℕ). IsGiven p id told n d) place (subst (λ (i : List ℕ). IsGiven p i told e.numbers.next d) active given_now) in
-        let all = each_push (IsGiven p id told) 0 given d g.each here in
+        let here : IsGiven p id told (0 + length given) reference (frames_at e now) d =
+        subst (λ (fs : List FrameValue). IsGiven p id told (0 + length given) reference fs d) (sym frames_are)
+        (subst (λ (n : ℕ). IsGiven p id told n reference frames d) place (subst (λ (r : ℕ). IsGiven p id told e.numbers.next r frames d) (named is) (subst (λ (i : List ℕ). IsGiven p i told e.numbers.next (cut_against e.numbers) frames d) active given_now))) in
+        let sent : Sent = (reference, frames_at e now) in
+        let all = each_push (IsSent p id told) 0 sents given sent d g.each here in
         let long = length-append given (d ∷ []) in
-        record { acknowledged = g.acknowledged; next = omega arith; each = all_grow p id told more 0 (given ++ d ∷ []) grow all }
+        let counted : e.numbers.next + 1 ≡ length (given ++ d ∷ []) = omega arith in
+        let after : Gives p id (number_given e.numbers) more (references ++ reference ∷ []) (sents ++ sent ∷ []) (given ++ d ∷ []) = record {
+          next = counted;
+          each = all_grow p id told more 0 (sents ++ sent ∷ []) (given ++ d ∷ []) grow all;
+          against = map-append (λ (s : Sent). s.0) sents (sent ∷ []) ∙ ap (λ (rs : List ℕ). rs ++ reference ∷ []) g.against;
+        } in
+        subst (λ (x : Numbers). Gives p id (number_given x) more (references ++ reference ∷ []) (sents ++ sent ∷ []) (given ++ d ∷ [])) (sym (composes (at_moment e now pings)).numbers) after

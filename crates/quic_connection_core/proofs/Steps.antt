@@ -1,28 +1,17 @@
--- One call of an end keeps what holds between it and its peer, at the end that writes and at the end that reads.
-use Rattle.std.proofs.Common.{◌≡◌, ℕ, zero, suc, ◌+◌, List, [], ◌∷◌, ◌++◌, length, replicate, Bool, true, false, Option, Some, None, refl, sym, ap, ◌∙◌, subst, inl, inr, arith}
+-- How many datagrams a call gives.
+use Rattle.std.proofs.Common.{◌≡◌, ℕ, List, [], ◌∷◌, length, false, Option, Some, None, refl, sym, ap, ◌∙◌, subst, inl, inr}
 use Rattle.std.specs.Prelude.{slice_get, if◌then◌else◌, Ok, Err}
-use Rattle.std.specs.Option.{option_to_list}
-use Rattle.std.proofs.lemmas.List.{length-append, append-nil}
-use Rattle.quic_wire_core.specs.declared.stream_id.Side.{Side}
-use Rattle.quic_connection_core.specs.declared.answers.State.{State}
-use Rattle.quic_connection_core.specs.declared.answers.State.TheVariants as states
-use Rattle.quic_connection_core.specs.declared.answers.Received.TheVariants as receives
 use Rattle.quic_connection_core.specs.declared.run.Call.{Call}
 use Rattle.quic_connection_core.specs.declared.run.Call.TheVariants as calls
 use Rattle.quic_connection_core.specs.declared.run.Answer.{Answer}
 use Rattle.quic_connection_core.specs.declared.run.Answer.TheVariants as answers
-use Rattle.quic_connection_core.specs.Policy.{Policy, CanOpen}
-use Rattle.quic_connection_core.specs.Ids.{known}
-use Rattle.quic_connection_core.specs.Receive.{Outcome, received, own_id_length}
-use Rattle.quic_connection_core.specs.Poll.{polled}
+use Rattle.quic_connection_core.specs.Policy.{Policy}
+use Rattle.quic_connection_core.specs.Opens.{would_open}
 use Rattle.quic_connection_core.specs.End.{End}
-use Rattle.quic_connection_core.specs.Machine.{IsAnswer, IsRead, IsDelivered, after_call, gives, fails}
-use Rattle.quic_connection_core.specs.Runs.{Told, Packet, Intake, written, ended, nothing_came, handed, and_handed, and_told, intake, gave, count_given}
-use Rattle.quic_connection_core.specs.Headline.{IsLawful}
-use Rattle.quic_connection_core.proofs.Invariant.{Streams, Gives, Content, Kept, Accepted, KnowsIn, AllFrom, IsGiven}
-use Rattle.quic_connection_core.proofs.Way.{Way, came}
-use Rattle.quic_connection_core.proofs.Polls.{poll_count, knows_poll}
-use Rattle.quic_connection_core.proofs.Intakes.{intake_more, nothing_handed, count_more}
+use Rattle.quic_connection_core.specs.Machine.{IsAnswer, IsRead, IsDelivered, gives}
+use Rattle.quic_connection_core.specs.Runs.{gave}
+use Rattle.quic_connection_core.proofs.Polls.{poll_count}
+use Rattle.quic_connection_core.proofs.Injected.{injected_gives}
 
 -- no other call gives a datagram, and a poll that answers one gives one
 read_gives : (e : End) (id : ℕ) (mosts : List ℕ) (a : Answer) → IsRead e id mosts a → gave a ≡ false
@@ -32,9 +21,16 @@ read_gives e id mosts (answers.Open x) is = absurd is
 read_gives e id mosts (answers.Accept x) is = absurd is
 read_gives e id mosts (answers.Write x) is = absurd is
 read_gives e id mosts (answers.Finish x) is = absurd is
+read_gives e id mosts answers.Ping is = absurd is
 read_gives e id mosts (answers.Poll x) is = absurd is
 read_gives e id mosts (answers.Deliver x) is = absurd is
 read_gives e id mosts answers.NoDatagram is = absurd is
+read_gives e id mosts (answers.Timeout x) is = absurd is
+read_gives e id mosts (answers.Inject x) is = absurd is
+read_gives e id mosts answers.Opens is = absurd is
+read_gives e id mosts (answers.Event x) is = absurd is
+read_gives e id mosts (answers.Timer x) is = absurd is
+read_gives e id mosts (answers.NextTimeout x) is = absurd is
 
 delivery_gives : (p : Policy) (e : End) (now : ℕ) (d : Option (List ℕ)) (a : Answer) → IsDelivered p e now d a → gave a ≡ false
 delivery_gives p e now None a is = ap gave is
@@ -52,6 +48,12 @@ gives_count p e theirs (calls.Write id bytes) a (inl is) = none_given a (ap gave
 gives_count p e theirs (calls.Write id bytes) a (inr is) = none_given a (ap gave is)
 gives_count p e theirs (calls.Finish id) a is = none_given a (ap gave is)
 gives_count p e theirs (calls.Read read) a is = none_given a (read_gives e read.id read.nexts.items a is)
+gives_count p e theirs calls.Ping a is = none_given a (ap gave is)
 gives_count p e theirs (calls.Poll now) a (inl is) = subst (λ x. length (gives p e (calls.Poll now) x) ≡ (if gave x then 1 else 0)) (sym is) (poll_count p e now)
 gives_count p e theirs (calls.Poll now) a (inr is) = subst (λ x. length (gives p e (calls.Poll now) x) ≡ (if gave x then 1 else 0)) (sym is) refl
 gives_count p e theirs (calls.Deliver delivery) a is = none_given a (delivery_gives p e delivery.now (slice_get theirs delivery.index) a is)
+gives_count p e theirs (calls.Timeout now) a is = none_given a (ap gave is)
+gives_count p e theirs (calls.Inject injection) a is = none_given a (ap gave is ∙ injected_gives (would_open p e injection.bytes) p e injection.now injection.bytes)
+gives_count p e theirs calls.Event a is = none_given a (ap gave is)
+gives_count p e theirs (calls.Timer timer) a is = none_given a (ap gave is)
+gives_count p e theirs calls.NextTimeout a is = none_given a (ap gave is)

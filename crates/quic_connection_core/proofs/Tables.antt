@@ -52,6 +52,10 @@ module _ {A : Type 0} where
       go Equal is ih = rw is refl
       go Greater is ih = rw is (ap (λ t. x ∷ t) ih)
 
+  -- what stands first is there
+  pub at-first : (es : Table A) (id : ℕ) (v : A) → at ((id, v) ∷ es) id ≡ Some v
+  at-first es id v = rw (nat_cmp-same id) refl
+
   -- what was added is there
   pub at-added : (es : Table A) (id : ℕ) (v : A) → at (added es id v) id ≡ Some v
   at-added [] id v = rw (nat_cmp-same id) refl

@@ -1,18 +1,18 @@
 -- The end that reads takes a STREAM frame of what the other end wrote.
-use Rattle.std.proofs.Common.{◌≡◌, ℕ, ◌+◌, ◌^◌, ◌<◌, ◌≤◌, ◌⊎◌, inl, inr, max, Bool, true, false, not, nat_lt, nat_le, if◌then◌else◌, zero, suc, List, ◌∷◌, replicate, Option, Some, None, refl, sym, ap, ◌∙◌, subst, arith}
+use Rattle.std.proofs.Common.{◌≡◌, ℕ, ◌+◌, ◌^◌, ◌<◌, ◌≤◌, ◌⊎◌, inl, inr, max, Bool, true, false, not, nat_lt, nat_le, if◌then◌else◌, List, [], ◌∷◌, Option, Some, None, refl, sym, ap, ◌∙◌, subst, arith}
 use Rattle.std.proofs.lemmas.Bool.{ltb-true, ltb-false, leb-false, cases_eq}
 use Rattle.quic_wire_core.specs.declared.stream_id.Side.{Side}
 use Rattle.quic_wire_core.specs.declared.stream_id.Side.TheVariants.{Client, Server}
 use Rattle.quic_wire_core.specs.declared.stream_id.Dir.{Dir}
 use Rattle.quic_wire_core.specs.StreamId.{index_of}
-use Rattle.quic_wire.specs.Value.{StreamValue, stream, padding}
+use Rattle.quic_wire.specs.Value.{StreamValue, stream}
 use Rattle.quic_connection_core.specs.declared.answers.Breach.{Breach}
 use Rattle.quic_connection_core.specs.declared.answers.Breach.TheVariants.{FlowControl, StreamLimit, StreamState, FinalSize}
 use Rattle.quic_connection_core.specs.Table.{at}
 use Rattle.quic_connection_core.specs.Sending.{Sending, opens}
 use Rattle.quic_connection_core.specs.Receiving.{Receiving, RecvHalf, untouched, end_of, may_receive, half_for, with_frame, breaks_final, breaks_limit, breach_on, breach_at, refusal, kept_at, breach_kept, stream_breach, after_refusal, after_stream}
-use Rattle.quic_connection_core.specs.Runs.{Told, Packet, In, WasTaken, nexts, written, ended, acknowledged_in}
-use Rattle.quic_connection_core.proofs.Invariant.{IsWritten, frames_with, IsReading, IsKept, Content, Kept, Accepted}
+use Rattle.quic_connection_core.specs.Runs.{Told, Packet, In, WasTaken, nexts, written, ended}
+use Rattle.quic_connection_core.proofs.Invariant.{IsWritten, IsReading, IsKept, Content, Kept, Accepted}
 use Rattle.quic_connection_core.proofs.Tables.{at-added, at-apart, sorted-added}
 use Rattle.quic_connection_core.proofs.Reading.{reading_frame, reading_untouched, kept_frame, kept_over_frame}
 use Rattle.quic_connection_core.proofs.Opened.{reading_added}
@@ -102,29 +102,20 @@ content_frame side s r f wrote read w c = go (refusal side r f) refl
 
 -- ---- what frames said
 
--- the frames of a packet with one frame of a stream
-only_frame : (f g : StreamValue) (count : ℕ) → In (stream g) (frames_with f count) → g ≡ f
-only_frame f g count (inl e) = cc
-only_frame f g count (inr i) = absurd (none count i)
-  where
-    none : (count : ℕ) → In (stream g) (replicate count padding) → ⊥
-    none zero i = i
-    none (suc n) (inl e) = cc
-    none (suc n) (inr i) = none n i
-
-no_acknowledgements : (count : ℕ) → acknowledged_in (replicate count padding) ≡ 0
-no_acknowledgements zero = refl
-no_acknowledgements (suc n) = no_acknowledgements n
-
 -- a packet that is taken with one frame of a stream
-abbrev pub packet_with : ℕ → StreamValue → ℕ → Packet
-packet_with number f count = record { number = number; frames = frames_with f count }
+abbrev pub packet_with : ℕ → StreamValue → Packet
+packet_with number f = record { number = number; frames = stream f ∷ [] }
 
-taken_cases : (number count : ℕ) (f g : StreamValue) (took : List Packet) → WasTaken (packet_with number f count ∷ took) g → (g ≡ f) ⊎ WasTaken took g
-taken_cases number count f g took w = go w.was_taken
+-- its frame is that one
+only_frame : (f g : StreamValue) → In (stream g) (stream f ∷ []) → g ≡ f
+only_frame f g (inl e) = cc
+only_frame f g (inr i) = absurd i
+
+taken_cases : (number : ℕ) (f g : StreamValue) (took : List Packet) → WasTaken (packet_with number f ∷ took) g → (g ≡ f) ⊎ WasTaken took g
+taken_cases number f g took w = go w.was_taken
   where
-    go : (w.packet ≡ packet_with number f count) ⊎ In w.packet took → (g ≡ f) ⊎ WasTaken took g
-    go (inl is) = inl (only_frame f g count (subst (λ p. In (stream g) p.frames) is w.carried))
+    go : (w.packet ≡ packet_with number f) ⊎ In w.packet took → (g ≡ f) ⊎ WasTaken took g
+    go (inl is) = inl (only_frame f g (subst (λ p. In (stream g) p.frames) is w.carried))
     go (inr i) = inr (record { packet = w.packet; was_taken = i; carried = w.carried })
 
 -- the counts are those of the frame
@@ -137,25 +128,25 @@ opened_more None r f = omega arith
 opened_more (Some h) r f = omega arith
 
 -- what stands at a stream once a frame was kept
-kept_here : (side : Side) (s : Sending) (r : Receiving) (f : StreamValue) (wrote read : List Told) (o : Option RecvHalf) (h : RecvHalf) → may_receive side f.id ≡ true → half_for (at r.halves f.id) r f.id ≡ o → Content side s r wrote read → at (kept_at o r f).halves f.id ≡ Some h → IsKept f h
-kept_here side s r f wrote read None h may e c found =
+kept_here : (side : Side) (s : Sending) (r : Receiving) (f : StreamValue) (wrote read : List Told) (o : Option RecvHalf) (h : RecvHalf) → may_receive side f.id ≡ true → half_for (at r.halves f.id) r f.id ≡ o → breach_at o r f ≡ None → Content side s r wrote read → at (kept_at o r f).halves f.id ≡ Some h → IsKept f h
+kept_here side s r f wrote read None h may e b c found =
     let none = (half_done (at r.halves f.id) r f.id e).0 in
     cc
-kept_here side s r f wrote read (Some g) h may e c found =
+kept_here side s r f wrote read (Some g) h may e b c found =
     let is : Some (with_frame g f) ≡ Some h = sym (at-added r.halves f.id (with_frame g f)) ∙ found in
     let value : with_frame g f ≡ h = cc in
-    subst (λ x. IsKept f x) value (kept_frame (written f.id wrote) (ended f.id wrote) (nexts f.id read) g f (reading_for side s r f.id wrote read g c may e))
+    subst (λ x. IsKept f x) value (kept_frame (written f.id wrote) (ended f.id wrote) (nexts f.id read) g f (reading_for side s r f.id wrote read g c may e) (frame_is_small r g f b))
 
 -- an earlier frame of the same stream stays kept
-kept_there : (side : Side) (s : Sending) (r : Receiving) (f g : StreamValue) (wrote read : List Told) (took : List Packet) (o : Option RecvHalf) (h : RecvHalf) → may_receive side f.id ≡ true → half_for (at r.halves f.id) r f.id ≡ o → IsWritten (written f.id wrote) (ended f.id wrote) f → Content side s r wrote read → Kept side r took → WasTaken took g → g.id ≡ f.id → at (kept_at o r f).halves f.id ≡ Some h → IsKept g h
-kept_there side s r f g wrote read took None h may e w c k t same found =
+kept_there : (side : Side) (s : Sending) (r : Receiving) (f g : StreamValue) (wrote read : List Told) (took : List Packet) (o : Option RecvHalf) (h : RecvHalf) → may_receive side f.id ≡ true → half_for (at r.halves f.id) r f.id ≡ o → breach_at o r f ≡ None → IsWritten (written f.id wrote) (ended f.id wrote) f → Content side s r wrote read → Kept side r took → WasTaken took g → g.id ≡ f.id → at (kept_at o r f).halves f.id ≡ Some h → IsKept g h
+kept_there side s r f g wrote read took None h may e b w c k t same found =
     let none = (half_done (at r.halves f.id) r f.id e).0 in
     cc
-kept_there side s r f g wrote read took (Some u) h may e w c k t same found =
+kept_there side s r f g wrote read took (Some u) h may e b w c k t same found =
     let is : Some (with_frame u f) ≡ Some h = sym (at-added r.halves f.id (with_frame u f)) ∙ found in
     let value : with_frame u f ≡ h = cc in
     let before : IsKept g u = was (half_here (at r.halves f.id) r f.id u e) in
-    subst (λ x. IsKept g x) value (kept_over_frame (written f.id wrote) (ended f.id wrote) (nexts f.id read) u f g (reading_for side s r f.id wrote read u c may e) w before)
+    subst (λ x. IsKept g x) value (kept_over_frame (written f.id wrote) (ended f.id wrote) (nexts f.id read) u f g (reading_for side s r f.id wrote read u c may e) w (frame_is_small r u f b) before)
   where
     was : (at r.halves f.id ≡ Some u) ⊎ ((r.opened_bi ≤ index_of f.id) × (u ≡ untouched)) → IsKept g u
     was (inl at_id) = k.kept g u t (ap (λ (q : ℕ). at r.halves q) same ∙ at_id)
@@ -169,20 +160,19 @@ kept_elsewhere : (o : Option RecvHalf) (r : Receiving) (f : StreamValue) (q : �
 kept_elsewhere None r f q apart = refl
 kept_elsewhere (Some h) r f q apart = at-apart r.halves f.id (with_frame h f) q apart
 
-kept_packet : (side : Side) (s : Sending) (r : Receiving) (f : StreamValue) (wrote read : List Told) (took : List Packet) (number count : ℕ) (o : Option RecvHalf) → may_receive side f.id ≡ true → half_for (at r.halves f.id) r f.id ≡ o → IsWritten (written f.id wrote) (ended f.id wrote) f → Content side s r wrote read → Kept side r took → Kept side (kept_at o r f) (packet_with number f count ∷ took)
-kept_packet side s r f wrote read took number count o may e w c k = record {
-  kept = λ g h t found. kept g h (taken_cases number count f g took t) found;
-  may = λ g t. may_be g (taken_cases number count f g took t);
-  opened = λ g t. opened g (taken_cases number count f g took t);
-  plain = plain;
+kept_packet : (side : Side) (s : Sending) (r : Receiving) (f : StreamValue) (wrote read : List Told) (took : List Packet) (number : ℕ) (o : Option RecvHalf) → may_receive side f.id ≡ true → half_for (at r.halves f.id) r f.id ≡ o → breach_at o r f ≡ None → IsWritten (written f.id wrote) (ended f.id wrote) f → Content side s r wrote read → Kept side r took → Kept side (kept_at o r f) (packet_with number f ∷ took)
+kept_packet side s r f wrote read took number o may e b w c k = record {
+  kept = λ g h t found. kept g h (taken_cases number f g took t) found;
+  may = λ g t. may_be g (taken_cases number f g took t);
+  opened = λ g t. opened g (taken_cases number f g took t);
 }
   where
     old : (g : StreamValue) (h : RecvHalf) → WasTaken took g → (g.id ≡ f.id) ⊎ (g.id ≡ f.id → ⊥) → at (kept_at o r f).halves g.id ≡ Some h → IsKept g h
-    old g h t (inl same) found = kept_there side s r f g wrote read took o h may e w c k t same (subst (λ q. at (kept_at o r f).halves q ≡ Some h) same found)
+    old g h t (inl same) found = kept_there side s r f g wrote read took o h may e b w c k t same (subst (λ q. at (kept_at o r f).halves q ≡ Some h) same found)
     old g h t (inr apart) found = k.kept g h t (sym (kept_elsewhere o r f g.id apart) ∙ found)
 
     kept : (g : StreamValue) (h : RecvHalf) → (g ≡ f) ⊎ WasTaken took g → at (kept_at o r f).halves g.id ≡ Some h → IsKept g h
-    kept g h (inl same) found = rw same (kept_here side s r f wrote read o h may e c (subst (λ x. at (kept_at o r f).halves x.id ≡ Some h) same found))
+    kept g h (inl same) found = rw same (kept_here side s r f wrote read o h may e b c (subst (λ x. at (kept_at o r f).halves x.id ≡ Some h) same found))
     kept g h (inr t) found = old g h t (cases_eq g.id f.id) found
 
     may_be : (g : StreamValue) → (g ≡ f) ⊎ WasTaken took g → may_receive side g.id ≡ true
@@ -193,19 +183,15 @@ kept_packet side s r f wrote read took number count o may e w c k = record {
     opened g (inl same) = rw same (opened_for o r f e)
     opened g (inr t) = let below = k.opened g t in let more = opened_more o r f in omega arith
 
-    plain : (packet : Packet) → In packet (packet_with number f count ∷ took) → acknowledged_in packet.frames ≡ 0
-    plain packet (inl is) = rw is (no_acknowledgements count)
-    plain packet (inr i) = k.plain packet i
-
 -- a packet with a frame that was written and breaks no rule is kept
-pub kept_frames : (side : Side) (s : Sending) (r : Receiving) (f : StreamValue) (wrote read : List Told) (took : List Packet) (number count : ℕ) → stream_breach side r f ≡ None → IsWritten (written f.id wrote) (ended f.id wrote) f → Content side s r wrote read → Kept side r took → Kept side (after_stream side r f) (packet_with number f count ∷ took)
-kept_frames side s r f wrote read took number count b w c k = go (refusal side r f) refl b
+pub kept_frames : (side : Side) (s : Sending) (r : Receiving) (f : StreamValue) (wrote read : List Told) (took : List Packet) (number : ℕ) → stream_breach side r f ≡ None → IsWritten (written f.id wrote) (ended f.id wrote) f → Content side s r wrote read → Kept side r took → Kept side (after_stream side r f) (packet_with number f ∷ took)
+kept_frames side s r f wrote read took number b w c k = go (refusal side r f) refl b
   where
-    go : (o : Option Breach) → refusal side r f ≡ o → breach_kept o side r f ≡ None → Kept side (after_refusal o r f) (packet_with number f count ∷ took)
+    go : (o : Option Breach) → refusal side r f ≡ o → breach_kept o side r f ≡ None → Kept side (after_refusal o r f) (packet_with number f ∷ took)
     go (Some x) e b = cc
     go None e b =
         let p = passes side r f e in
-        kept_packet side s r f wrote read took number count (half_for (at r.halves f.id) r f.id) p.may refl w c k
+        kept_packet side s r f wrote read took number (half_for (at r.halves f.id) r f.id) p.may refl p.breach w c k
 
 -- fewer packets leave less to keep
 kept_fewer : (side : Side) (r : Receiving) (packet : Packet) (took : List Packet) → Kept side r (packet ∷ took) → Kept side r took
@@ -213,7 +199,6 @@ kept_fewer side r packet took k = record {
   kept = λ f h w e. k.kept f h (more f w) e;
   may = λ f w. k.may f (more f w);
   opened = λ f w. k.opened f (more f w);
-  plain = λ p i. k.plain p (inr i);
 }
   where
     more : (f : StreamValue) → WasTaken took f → WasTaken (packet ∷ took) f
@@ -227,7 +212,7 @@ kept_frame_only side s r f wrote read took w c k = go (refusal side r f) refl
     go (Some b) e = k
     go None e =
         let p = passes side r f e in
-        kept_fewer side (kept_at (half_for (at r.halves f.id) r f.id) r f) (packet_with 0 f 0) took (kept_packet side s r f wrote read took 0 0 (half_for (at r.halves f.id) r f.id) p.may refl w c k)
+        kept_fewer side (kept_at (half_for (at r.halves f.id) r f.id) r f) (packet_with 0 f) took (kept_packet side s r f wrote read took 0 (half_for (at r.halves f.id) r f.id) p.may refl p.breach w c k)
 
 -- ---- accepted streams
 

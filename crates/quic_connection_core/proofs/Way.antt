@@ -1,38 +1,49 @@
 -- Two ends of a run at a place: what one writes and the other reads, both ways.
-use Rattle.std.specs.Prelude.{ℕ, ◌≡◌, List, [], ◌∷◌, ◌++◌, length, replicate}
+use Rattle.std.specs.Prelude.{ℕ, ◌≡◌, List, [], ◌∷◌, length}
 use Rattle.quic_wire_core.specs.declared.stream_id.Side.TheVariants.{Client, Server}
 use Rattle.quic_connection_core.specs.Policy.{Policy}
 use Rattle.quic_connection_core.specs.Ids.{known}
 use Rattle.quic_connection_core.specs.End.{End}
 use Rattle.quic_connection_core.specs.Machine.{World, Policies}
 use Rattle.quic_connection_core.specs.Runs.{Told, Intake, nothing_came, intake, count_given, references}
-use Rattle.quic_connection_core.proofs.Invariant.{Streams, Gives, Content, Kept, Accepted, KnowsIn}
+use Rattle.quic_connection_core.proofs.Invariant.{Streams, Sent, Gives, Content, Kept, Accepted, KnowsIn, NameTaken, WereSent, AreTaken, Arrives, AreTracked, Acks}
 
 -- what came to an end that is known by one id
 abbrev pub came : Policy → List ℕ → List (List ℕ) → List Told → Intake
 came q id final read = intake q (id ∷ []) final read nothing_came
 
--- x writes and has given these datagrams, of all that it will give; y, which it knows by this id, reads
-pub record Way (p q : Policy) (id : List ℕ) (x y : End) (given final : List (List ℕ)) (wrote read : List Told) : Type 0 where
+-- what the datagrams of an end were cut against that is known by this id; `final` is all that the other end gives
+abbrev pub cut : Policy → List ℕ → List (List ℕ) → List Told → List ℕ
+cut p id final told = references p (id ∷ []) final told nothing_came
+
+-- x writes and has given these datagrams, of all that it will give; y, which it knows by this id, reads; x is known by its own id, and y gives `back` in all
+pub record Way (p q : Policy) (own id : List ℕ) (x y : End) (given final back : List (List ℕ)) (wrote read : List Told) : Type 0 where
   pub streams : Streams x.side x.sending wrote
-  pub gives : Gives p id x.numbers wrote given
+  -- what each datagram that was given was cut against, and its frames
+  pub sents : List Sent
+  pub gives : Gives p id x.numbers wrote (cut p own back wrote) sents given
   pub active : x.ids.active.id ≡ id
   pub count : length given ≡ count_given wrote
   pub content : Content y.side y.sending y.receiving wrote read
   pub kept : Kept y.side y.receiving (came q id final read).took
   pub accepted : Accepted y.side y.receiving read
   pub knows : KnowsIn y.closing.state y.numbers (came q id final read)
+  pub acks : Acks y.acknowledging
   pub known : known y.ids ≡ id ∷ []
+  -- each packet that y took was sent so
+  pub taken : WereSent sents (came q id final read).took
+  -- what the ACK frames of x name, x took
+  pub named : NameTaken sents (came p own back wrote).took
+  -- what y has to acknowledge, it took
+  pub acking : AreTaken y.acknowledging.runs (came q id final read).took
+  -- what x knows to be acknowledged, y took
+  pub arrives : Arrives (came q id final read).took wrote x.sending x.events
+  -- what x waits for was sent
+  pub tracked : AreTracked sents x.tracking.packets
 
--- no datagram that an end gave has an acknowledgement to be cut against; `id` is its own, `final` what the other gives
-abbrev pub NoReference : Policy → List ℕ → List (List ℕ) → List Told → Type 0
-NoReference p id final told = references p (id ∷ []) final told nothing_came ≡ replicate (count_given told) 0
-
--- both ways, and the ids of both ends
+-- both ways, and the sides of both ends
 pub record Both (k : Policies) (client_id server_id : List ℕ) (w : World) (from_client from_server : List (List ℕ)) (client server : List Told) : Type 0 where
-  pub to_server : Way k.client k.server server_id w.client w.server w.from_client from_client client server
-  pub to_client : Way k.server k.client client_id w.server w.client w.from_server from_server server client
+  pub to_server : Way k.client k.server client_id server_id w.client w.server w.from_client from_client from_server client server
+  pub to_client : Way k.server k.client server_id client_id w.server w.client w.from_server from_server from_client server client
   pub client_side : w.client.side ≡ Client
   pub server_side : w.server.side ≡ Server
-  pub client_unreferred : NoReference k.client client_id from_server client
-  pub server_unreferred : NoReference k.server server_id from_client server

@@ -1,37 +1,36 @@
 -- The headline of every honest run: what holds at each place, and the clauses from it.
-use Rattle.std.proofs.Common.{◌≡◌, ℕ, List, [], ◌∷◌, ◌++◌, length, drop, Bool, true, false, Option, Some, None, refl, sym, ap, ◌∙◌, subst}
-use Rattle.std.specs.List.{list_any}
-use Rattle.std.specs.Prelude.{Result, Ok, Err, eqb}
+use Rattle.std.proofs.Common.{◌≡◌, ℕ, List, [], ◌∷◌, ◌++◌, drop, Bool, false, Some, None, refl, sym, ap, ◌∙◌, subst}
+use Rattle.std.specs.Prelude.{Result, Ok, Err}
 use Rattle.quic_wire_core.specs.declared.stream_id.Side.{Side}
 use Rattle.quic_wire_core.specs.declared.stream_id.Side.TheVariants.{Client, Server}
 use Rattle.quic_wire_core.specs.StreamId.{other_side}
-use Rattle.quic_wire.specs.Value.{StreamValue}
-use Rattle.quic_streams_core.specs.declared.connection.assembler.Chunk.{Chunk}
 use Rattle.quic_connection_core.specs.declared.run.RunEvent.{RunEvent}
-use Rattle.quic_connection_core.specs.declared.run.Call.{Call}
 use Rattle.quic_connection_core.specs.declared.run.Call.TheVariants as calls
 use Rattle.quic_connection_core.specs.declared.run.Answer.{Answer}
 use Rattle.quic_connection_core.specs.declared.run.Answer.TheVariants as answers
 use Rattle.quic_connection_core.specs.declared.answers.ReadError.TheVariants as read_errors
+use Rattle.quic_connection_core.specs.declared.answers.Event.TheVariants as events
+use Rattle.quic_connection_core.specs.declared.answers.StreamEvent.TheVariants.{Finished}
 use Rattle.quic_connection_core.specs.Ids.{known, own_id}
 use Rattle.quic_connection_core.specs.Calls.{end_accepts}
-use Rattle.quic_connection_core.specs.Machine.{World, Policies, IsStep, fails, Follows}
-use Rattle.quic_connection_core.specs.Runs.{Run, Told, Next, In, told_by, until, AreServed, written, ended, nexts, chunks_of, reads, bytes_of, given_of, took, first_id_of_peer}
-use Rattle.quic_connection_core.specs.Headline.{IsInRange, IsHonest, AreKeys, AreStarted, IsRun, IsPrefixOf, OrderedPrefix, Slices, Once, EndAfterAll, BlockedOnlyWithoutBytes, AcceptsAll, NumbersRise, IsAt}
+use Rattle.quic_connection_core.specs.Machine.{World, Policies, IsStep, fails}
+use Rattle.quic_connection_core.specs.Runs.{Run, Told, told_by, until, AreServed, written, ended, nexts, took}
+use Rattle.quic_connection_core.specs.Headline.{IsInRange, IsHonest, AreStarted, IsRun, OrderedPrefix, Slices, Once, EndAfterAll, BlockedOnlyWithoutBytes, AcceptsAll, FinishedMeansArrived, NumbersRise}
 use Rattle.quic_wire.specs.Parameters.{ParameterValues}
 use Rattle.quic_wire.specs.ParametersRead.{parameters_at}
-use Rattle.quic_connection_core.specs.Settings.{Settings, parameters_of}
+use Rattle.quic_recovery_core.specs.Transport.{Settings, parameters_of}
 use Rattle.quic_connection_core.specs.Policy.{Policy}
 use Rattle.quic_connection_core.specs.End.{End, IsMade, new_end}
 use Rattle.quic_connection_core.proofs.Writer.{streams_first, gives_first}
 use Rattle.quic_connection_core.proofs.Reader.{content_start, kept_start, accepted_start}
 use Rattle.quic_connection_core.proofs.Knowing.{knows_first}
+use Rattle.quic_connection_core.proofs.Acking.{acks_first}
 use Rattle.quic_connection_core.proofs.Acts.{both_step}
 use Rattle.quic_connection_core.proofs.Order.{order_prefix, order_slices, order_once, order_ended}
 use Rattle.quic_connection_core.proofs.Moments.{Grown, grown, Moment, moment}
 use Rattle.quic_connection_core.proofs.Way.{Way, Both}
 use Rattle.quic_connection_core.proofs.Seen.{Seen, seen_from, answered}
-use Rattle.quic_connection_core.proofs.Clauses.{accepted_is, blocked_is}
+use Rattle.quic_connection_core.proofs.Clauses.{accepted_is, finished_told, blocked_is}
 
 -- the first ids of both ends
 pub record FirstIds (w : World) (client_id server_id : List ℕ) : Type 0 where
@@ -59,10 +58,11 @@ first_ids w s = record {
 }
 
 -- an end writes nothing, and the other reads nothing, before the first event
-way_first : (p q : Policy) (x_side y_side : Side) (x_settings y_settings : Settings) (x_id y_id : List ℕ) (x_now y_now : ℕ) (x_validated y_validated : Bool) (final : List (List ℕ)) → IsInRange y_settings
-    → Way p q y_id (new_end x_side x_settings (parameters_of y_settings) x_id y_id x_now x_validated) (new_end y_side y_settings (parameters_of x_settings) y_id x_id y_now y_validated) [] final [] []
-way_first p q x_side y_side x_settings y_settings x_id y_id x_now y_now x_validated y_validated final range = record {
+way_first : (p q : Policy) (x_side y_side : Side) (x_settings y_settings : Settings) (x_id y_id : List ℕ) (x_now y_now : ℕ) (x_validated y_validated : Bool) (final back : List (List ℕ)) → IsInRange y_settings
+    → Way p q x_id y_id (new_end x_side x_settings (parameters_of y_settings) x_id y_id x_now x_validated) (new_end y_side y_settings (parameters_of x_settings) y_id x_id y_now y_validated) [] final back [] []
+way_first p q x_side y_side x_settings y_settings x_id y_id x_now y_now x_validated y_validated final back range = record {
   streams = streams_first x_side x_settings (parameters_of y_settings) x_id y_id x_now x_validated range.stream_receive_window range.stream_receive_window;
+  sents = [];
   gives = gives_first p y_id x_side x_settings (parameters_of y_settings) x_id y_id x_now x_validated;
   active = refl;
   count = refl;
@@ -70,7 +70,13 @@ way_first p q x_side y_side x_settings y_settings x_id y_id x_now y_now x_valida
   kept = kept_start y_side y_settings;
   accepted = accepted_start y_side y_settings;
   knows = knows_first;
+  acks = acks_first;
   known = refl;
+  taken = λ packet i. absurd i;
+  named = λ n s a k is i named. cc;
+  acking = λ k h. absurd h;
+  arrives = record { halves = λ id h found. cc; finished = λ id is. absurd is };
+  tracked = λ n t is. absurd is;
 }
 
 both_first : (k : Policies) (w : World) (from_client from_server : List (List ℕ)) (s : AreStarted w) → Both k s.client_making.id s.server_making.id w from_client from_server [] []
@@ -81,12 +87,10 @@ both_first k w from_client from_server s =
     let server = new_end Server v.settings (parameters_of c.settings) v.id c.id v.moment v.validated in
     let is : w ≡ record { client = client; server = server; from_client = []; from_server = [] } = world_is w client server (client_is w s) (server_is w s) s.client_gave s.server_gave in
     subst (λ u. Both k c.id v.id u from_client from_server [] []) (sym is) (record {
-      to_server = way_first k.client k.server Client Server c.settings v.settings c.id v.id c.moment v.moment c.validated v.validated from_client s.server_is.range;
-      to_client = way_first k.server k.client Server Client v.settings c.settings v.id c.id v.moment c.moment v.validated c.validated from_server s.client_is.range;
+      to_server = way_first k.client k.server Client Server c.settings v.settings c.id v.id c.moment v.moment c.validated v.validated from_client from_server s.server_is.range;
+      to_client = way_first k.server k.client Server Client v.settings c.settings v.id c.id v.moment c.moment v.validated c.validated from_server from_client s.client_is.range;
       client_side = refl;
       server_side = refl;
-      client_unreferred = refl;
-      server_unreferred = refl;
     })
   where
     world_is : (w : World) (client server : End) → w.client ≡ client → w.server ≡ server → w.from_client ≡ [] → w.from_server ≡ [] → w ≡ record { client = client; server = server; from_client = []; from_server = [] }
@@ -122,11 +126,11 @@ seen r end honest run side i served = at side
 
     at : (side : Side) → Seen r side i
     at Client =
-        seen_from r Client i m.world.server m.world.client m.world.from_server m.world.from_client client_id server_id m.holds.client_side m.holds.to_client m.holds.to_server m.holds.client_unreferred
-        ids.client ids.server_first (g.client.0, g.client.1 ∙ sym run.from_client) (λ call a is. answered r m.world end i Client call a m.goes_on is)
+        seen_from r Client i m.world.server m.world.client m.world.from_server m.world.from_client client_id server_id m.holds.client_side m.holds.to_client m.holds.to_server
+        ids.client ids.server ids.server_first (g.client.0, g.client.1 ∙ sym run.from_client) (λ call a is. answered r m.world end i Client call a m.goes_on is)
     at Server =
-        seen_from r Server i m.world.client m.world.server m.world.from_client m.world.from_server server_id client_id m.holds.server_side m.holds.to_server m.holds.to_client m.holds.server_unreferred
-        ids.server ids.client_first (g.server.0, g.server.1 ∙ sym run.from_server) (λ call a is. answered r m.world end i Server call a m.goes_on is)
+        seen_from r Server i m.world.client m.world.server m.world.from_client m.world.from_server server_id client_id m.holds.server_side m.holds.to_server m.holds.to_client
+        ids.server ids.client ids.client_first (g.server.0, g.server.1 ∙ sym run.from_server) (λ call a is. answered r m.world end i Server call a m.goes_on is)
 
 pub ordered_prefix : (r : Run) (end : World) → IsHonest r → IsRun r end → OrderedPrefix r
 ordered_prefix r end honest run side id i served =
@@ -154,6 +158,11 @@ pub blocked_only_without_bytes : (r : Run) (end : World) → IsHonest r → IsRu
 blocked_only_without_bytes r end honest run side i read front behind served at =
     let s = seen r end honest run side i served in
     blocked_is side s.end (until r (other_side side) i) (until r side i) (took r side i) read.id read.nexts.items front behind s.content s.kept (s.answers (calls.Read read) (answers.Read (Ok (front ++ Err read_errors.Blocked ∷ behind))) at)
+
+pub finished_means_arrived : (r : Run) (end : World) → IsHonest r → IsRun r end → FinishedMeansArrived r
+finished_means_arrived r end honest run side id i served at =
+    let s = seen r end honest run side i served in
+    s.finished id (finished_told s.end id (s.answers calls.Event (answers.Event (Some (events.Stream (Finished id)))) at))
 
 pub numbers_rise : (r : Run) (end : World) → IsHonest r → IsRun r end → NumbersRise r
 numbers_rise r end honest run side i served = (seen r end honest run side i served).rises

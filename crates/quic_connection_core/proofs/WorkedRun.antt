@@ -10,13 +10,15 @@ use Rattle.quic_wire.specs.Reading.{block_at, sized_at, offset_at, data_at, stre
 use Rattle.quic_wire.specs.Items.{frame_at, items_within, items}
 use Rattle.quic_wire.specs.Writing.{stream_spelling}
 use Rattle.quic_wire.specs.ParametersRead.{entry_at, whole_at, met_after, met_within, met_in, values_met, judged, parameters_at}
+use Rattle.quic_streams_core.specs.Offsets.{without_offsets, parts_from}
+use Rattle.quic_wire_core.specs.Pieces.{pieces}
 use Rattle.quic_connection_core.specs.declared.answers.Received.TheVariants as receives
 use Rattle.quic_connection_core.specs.declared.answers.DropReason.TheVariants as drops
 use Rattle.quic_connection_core.specs.declared.run.ReadCall.{ReadCall}
 use Rattle.quic_connection_core.specs.declared.run.Call.TheVariants as calls
 use Rattle.quic_connection_core.specs.declared.run.Answer.{Answer}
 use Rattle.quic_connection_core.specs.declared.run.Answer.TheVariants as answers
-use Rattle.quic_connection_core.specs.Settings.{default_settings}
+use Rattle.quic_recovery_core.specs.Transport.{default_settings}
 use Rattle.quic_connection_core.specs.End.{MadeFrom}
 use Rattle.quic_connection_core.specs.Machine.{IsRead, IsStep, Follows}
 use Rattle.quic_connection_core.specs.Calls.{after_nexts}
@@ -42,7 +44,7 @@ pub finishes : IsStep worked_policies (before_sending client_wrote) (record { si
 finishes = record { answer = refl; end = refl; others = refl }
 
 pub gives : IsStep worked_policies (before_sending client_ended) (record { side = Client; call = calls.Poll 0 }) (answers.Poll (Ok (Some (record { size = 34; ecn = Some Ect0 })))) (after_sending server_made)
-unfolding stream_spelling
+unfolding stream_spelling without_offsets parts_from pieces
 gives = record { answer = inl refl; end = refl; others = refl }
 
 pub takes : IsStep worked_policies (after_sending server_made) delivers (answers.Deliver receives.Taken) (after_sending server_took)

@@ -14,20 +14,28 @@ use Rattle.quic_connection_core.specs.declared.run.Call.{Call}
 use Rattle.quic_connection_core.specs.declared.run.Call.TheVariants as calls
 use Rattle.quic_connection_core.specs.declared.run.Answer.{Answer}
 use Rattle.quic_connection_core.specs.declared.run.Answer.TheVariants as answers
-use Rattle.quic_connection_core.specs.Settings.{Settings}
+use Rattle.quic_recovery_core.specs.Transport.{Settings}
 use Rattle.quic_connection_core.specs.Policy.{Policy}
 use Rattle.quic_connection_core.specs.Sending.{opens}
 use Rattle.quic_connection_core.specs.End.{End, new_end}
-use Rattle.quic_connection_core.specs.Calls.{can_open, after_open_if, is_open, end_writes, after_nexts}
+use Rattle.quic_connection_core.specs.Calls.{can_open, after_open_if, is_open, end_writes, end_after_event, after_nexts}
+use Rattle.quic_connection_core.specs.Numbers.{Numbers, cut_against}
+use Rattle.quic_connection_core.specs.Opens.{would_open}
+use Rattle.quic_connection_core.specs.Timeouts.{timed_out}
 use Rattle.quic_connection_core.specs.Poll.{Polled, polled}
-use Rattle.quic_connection_core.specs.Machine.{IsAnswer, after_delivered, after_call, gives, fails}
-use Rattle.quic_connection_core.specs.Runs.{Told, written_by, written, ended}
+use Rattle.quic_connection_core.specs.Machine.{IsAnswer, after_delivered, after_injected_if, after_call, gives, fails}
+use Rattle.quic_connection_core.specs.Runs.{Told, Intake, nothing_came, written_by, written, ended, gave, acknowledged}
 use Rattle.quic_connection_core.proofs.Told.{written_more, ended_more}
-use Rattle.quic_connection_core.proofs.Stays.{Stays, stays_delivered, stays_nexts}
+use Rattle.quic_connection_core.proofs.Stays.{Stays, stays_delivered, stays_nexts, nexts_sending}
+use Rattle.quic_connection_core.proofs.Leaves.{by_timeout, by_event}
+use Rattle.quic_connection_core.proofs.Injected.{injected_leaves}
+use Rattle.quic_connection_core.proofs.Intakes.{references_more}
+use Rattle.quic_connection_core.proofs.Steps.{gives_count}
+use Rattle.quic_connection_core.proofs.Way.{came, cut}
 use Rattle.quic_connection_core.proofs.Writes.{IsQuiet, quiet_streams, half_at, opened_streams, write_taken, written_streams, finished_streams}
-use Rattle.quic_connection_core.proofs.Polls.{by_poll, given_as, gives_as}
-use Rattle.quic_connection_core.proofs.Sends.{polled_streams, gives_quiet, polled_gives}
-use Rattle.quic_connection_core.proofs.Invariant.{Grows, Streams, Gives}
+use Rattle.quic_connection_core.proofs.Polls.{at_moment, frames_at, by_poll, composes, given_as, gives_as}
+use Rattle.quic_connection_core.proofs.Sends.{polled_streams, gives_quiet, reference_if, sent_if, polled_gives}
+use Rattle.quic_connection_core.proofs.Invariant.{Grows, Streams, Sent, Gives, KnowsIn, Acks}
 
 -- ---- at the start
 
@@ -46,29 +54,40 @@ streams_first side settings theirs own_id peer_id now validated bi uni = record 
 
 -- nothing was given
 pub gives_first : (p : Policy) (id : List ℕ) (side : Side) (settings : Settings) (theirs : ParameterValues) (own_id peer_id : List ℕ) (now : ℕ) (validated : Bool)
-    → Gives p id (new_end side settings theirs own_id peer_id now validated).numbers [] []
-gives_first p id side settings theirs own_id peer_id now validated = record { acknowledged = refl; next = refl; each = tt }
+    → Gives p id (new_end side settings theirs own_id peer_id now validated).numbers [] [] [] []
+gives_first p id side settings theirs own_id peer_id now validated = record { next = refl; each = tt; against = refl }
 
 -- ---- what a call leaves as it was
 
--- side and ids are as they were, and so is what an end numbers by
+-- side and ids are as they were, and so is the next number to give
 record Keeps (e f : End) : Type 0 where
   side : f.side ≡ e.side
   ids : f.ids ≡ e.ids
   next : f.numbers.next ≡ e.numbers.next
-  acknowledged : f.numbers.acknowledged ≡ e.numbers.acknowledged
 
 keeps_same : (e : End) → Keeps e e
-keeps_same e = record { side = refl; ids = refl; next = refl; acknowledged = refl }
+keeps_same e = record { side = refl; ids = refl; next = refl }
 
 keeps_stays : (e f : End) → Stays e f → Keeps e f
-keeps_stays e f s = record { side = s.side; ids = s.ids; next = s.next; acknowledged = s.acknowledged }
+keeps_stays e f s = record { side = s.side; ids = s.ids; next = s.next }
 
 keeps_open : (b : Bool) (dir : Dir) (e : End) → Keeps e (after_open_if b dir e)
-keeps_open true dir e = record { side = refl; ids = refl; next = refl; acknowledged = refl }
+keeps_open true dir e = record { side = refl; ids = refl; next = refl }
 keeps_open false dir e = keeps_same e
 
-abbrev IsNoPoll : Call → Type 0
+-- a timeout leaves the sending halves
+timeout_sending : (e : End) (now : ℕ) → (timed_out e now).end.sending ≡ e.sending
+timeout_sending e now = by_timeout e now (λ (f : End). f.sending ≡ e.sending) refl (λ acks tracking timers. refl)
+
+-- so does an injection
+injected_sending : (p : Policy) (e : End) (now : ℕ) (d : List ℕ) → (after_injected_if (would_open p e d) p e now d).sending ≡ e.sending
+injected_sending p e now d = ap (λ (after : End). after.sending) (injected_leaves p e now d)
+
+-- and what the application is told
+event_sending : (e : End) → (end_after_event e).sending ≡ e.sending
+event_sending e = by_event e (λ (f : End). f.sending ≡ e.sending) (λ told events. refl)
+
+abbrev pub IsNoPoll : Call → Type 0
 IsNoPoll (calls.Poll now) = ⊥
 IsNoPoll call = Unit {0}
 
@@ -76,23 +95,29 @@ IsNoPoll call = Unit {0}
 keeps_call : (p : Policy) (e : End) (theirs : List (List ℕ)) (call : Call) (a : Answer) → IsNoPoll call → Keeps e (after_call p e theirs call a)
 keeps_call p e theirs (calls.Open dir) (answers.Open (Ok id)) other = keeps_open (can_open e.closing.state dir e) dir e
 keeps_call p e theirs (calls.Open dir) a other = keeps_same e
-keeps_call p e theirs (calls.Accept dir) a other = record { side = refl; ids = refl; next = refl; acknowledged = refl }
-keeps_call p e theirs (calls.Write id bytes) (answers.Write r) other = record { side = refl; ids = refl; next = refl; acknowledged = refl }
+keeps_call p e theirs (calls.Accept dir) a other = record { side = refl; ids = refl; next = refl }
+keeps_call p e theirs (calls.Write id bytes) (answers.Write r) other = record { side = refl; ids = refl; next = refl }
 keeps_call p e theirs (calls.Write id bytes) a other = keeps_same e
-keeps_call p e theirs (calls.Finish id) a other = record { side = refl; ids = refl; next = refl; acknowledged = refl }
+keeps_call p e theirs (calls.Finish id) a other = record { side = refl; ids = refl; next = refl }
 keeps_call p e theirs (calls.Read read) (answers.Read (Ok said)) other = keeps_stays e (after_nexts e read.id read.nexts.items said) (stays_nexts e read.id read.nexts.items said)
 keeps_call p e theirs (calls.Read read) a other = keeps_same e
+keeps_call p e theirs calls.Ping a other = record { side = refl; ids = refl; next = refl }
 keeps_call p e theirs (calls.Poll now) a other = absurd other
+keeps_call p e theirs (calls.Timeout now) a other = by_timeout e now (λ (f : End). Keeps e f) (keeps_same e) (λ acks tracking timers. record { side = refl; ids = refl; next = refl })
 keeps_call p e theirs (calls.Deliver delivery) a other = keeps_stays e (after_delivered p e delivery.now (slice_get theirs delivery.index)) (stays_delivered p e delivery.now (slice_get theirs delivery.index))
+keeps_call p e theirs (calls.Inject injection) a other = subst (λ (after : End). Keeps e after) (sym (injected_leaves p e injection.now injection.bytes)) (keeps_same e)
+keeps_call p e theirs calls.Event a other = by_event e (λ (f : End). Keeps e f) (λ told events. record { side = refl; ids = refl; next = refl })
+keeps_call p e theirs (calls.Timer timer) a other = keeps_same e
+keeps_call p e theirs calls.NextTimeout a other = keeps_same e
 
 -- no call changes the ids
 pub ids_step : (p : Policy) (e : End) (theirs : List (List ℕ)) (call : Call) (a : Answer) → (after_call p e theirs call a).ids ≡ e.ids
-ids_step p e theirs (calls.Poll now) a = by_poll p e now (λ (q : Polled). q.end.ids ≡ e.ids) (record { silent = refl; failed = refl; idle = refl; used_up = refl; gives = λ is may id h found. refl })
+ids_step p e theirs (calls.Poll now) a = by_poll p e now (λ (q : Polled). q.end.ids ≡ e.ids) (record { silent = refl; failed = refl; idle = λ pings. refl; used_up = λ pings. refl; gives = λ pings tracking timers is may some ready. (composes (at_moment e now pings)).ids })
 ids_step p e theirs call a = (keeps_call p e theirs call a tt).ids
 
 -- no call changes the side
 pub side_step : (p : Policy) (e : End) (theirs : List (List ℕ)) (call : Call) (a : Answer) → (after_call p e theirs call a).side ≡ e.side
-side_step p e theirs (calls.Poll now) a = by_poll p e now (λ (q : Polled). q.end.side ≡ e.side) (record { silent = refl; failed = refl; idle = refl; used_up = refl; gives = λ is may id h found. refl })
+side_step p e theirs (calls.Poll now) a = by_poll p e now (λ (q : Polled). q.end.side ≡ e.side) (record { silent = refl; failed = refl; idle = λ pings. refl; used_up = λ pings. refl; gives = λ pings tracking timers is may some ready. (composes (at_moment e now pings)).side })
 side_step p e theirs call a = (keeps_call p e theirs call a tt).side
 
 -- ---- what was written
@@ -128,11 +153,21 @@ streams_step p e theirs (calls.Write id bytes) a told state is ok i = quiet_stre
 streams_step p e theirs (calls.Finish id) a told state is ok i =
     subst (λ (x : Answer). Streams e.side (after_call p e theirs (calls.Finish id) x).sending (with_call told (calls.Finish id) x state)) (sym is) (finished_streams e.side e.sending told state id i)
 streams_step p e theirs (calls.Read read) (answers.Read (Ok said)) told state is ok i =
-    rw ((stays_nexts e read.id read.nexts.items said).sending) (quiet_streams e.side e.sending told (record { call = calls.Read read; answer = answers.Read (Ok said); state = state }) (λ q. record { wrote = refl; ended = refl }) i)
+    rw (nexts_sending e read.id read.nexts.items said) (quiet_streams e.side e.sending told (record { call = calls.Read read; answer = answers.Read (Ok said); state = state }) (λ q. record { wrote = refl; ended = refl }) i)
 streams_step p e theirs (calls.Read read) a told state is ok i = quiet_streams e.side e.sending told (record { call = calls.Read read; answer = a; state = state }) (λ q. record { wrote = refl; ended = refl }) i
+streams_step p e theirs calls.Ping a told state is ok i = quiet_streams e.side e.sending told (record { call = calls.Ping; answer = a; state = state }) (λ q. record { wrote = refl; ended = refl }) i
 streams_step p e theirs (calls.Poll now) a told state is ok i = polled_streams e.side p e now a told state i
 streams_step p e theirs (calls.Deliver delivery) a told state is ok i =
-    rw ((stays_delivered p e delivery.now (slice_get theirs delivery.index)).sending) (quiet_streams e.side e.sending told (record { call = calls.Deliver delivery; answer = a; state = state }) (λ q. record { wrote = refl; ended = refl }) i)
+    let t : Told = record { call = calls.Deliver delivery; answer = a; state = state } in
+    (stays_delivered p e delivery.now (slice_get theirs delivery.index)).sending.streams e.side (told ++ t ∷ []) (quiet_streams e.side e.sending told t (λ q. record { wrote = refl; ended = refl }) i)
+streams_step p e theirs (calls.Timeout now) a told state is ok i =
+    rw (timeout_sending e now) (quiet_streams e.side e.sending told (record { call = calls.Timeout now; answer = a; state = state }) (λ q. record { wrote = refl; ended = refl }) i)
+streams_step p e theirs (calls.Inject injection) a told state is ok i =
+    rw (injected_sending p e injection.now injection.bytes) (quiet_streams e.side e.sending told (record { call = calls.Inject injection; answer = a; state = state }) (λ q. record { wrote = refl; ended = refl }) i)
+streams_step p e theirs calls.Event a told state is ok i =
+    rw (event_sending e) (quiet_streams e.side e.sending told (record { call = calls.Event; answer = a; state = state }) (λ q. record { wrote = refl; ended = refl }) i)
+streams_step p e theirs (calls.Timer timer) a told state is ok i = quiet_streams e.side e.sending told (record { call = calls.Timer timer; answer = a; state = state }) (λ q. record { wrote = refl; ended = refl }) i
+streams_step p e theirs calls.NextTimeout a told state is ok i = quiet_streams e.side e.sending told (record { call = calls.NextTimeout; answer = a; state = state }) (λ q. record { wrote = refl; ended = refl }) i
 
 -- nothing is written behind the end of a stream
 none_behind : (p : Policy) (e : End) (theirs : List (List ℕ)) (call : Call) (a : Answer) (told : List Told) → IsAnswer p e theirs call a → Streams e.side e.sending told → (id : ℕ) → ended id told ≡ true → written_by id call a ≡ []
@@ -169,18 +204,66 @@ grows_step p e theirs call a told state is ok i id = record {
 -- ---- what was given
 
 -- a poll that isn't answered by want of memory is answered as the machine says
-poll_answer : (p : Policy) (e : End) (now : ℕ) (a : Answer) → (a ≡ answers.Poll (polled p e now).answer) ⊎ (a ≡ answers.Poll (Err (record {}))) → fails a ≡ false → a ≡ answers.Poll (polled p e now).answer
+pub poll_answer : (p : Policy) (e : End) (now : ℕ) (a : Answer) → (a ≡ answers.Poll (polled p e now).answer) ⊎ (a ≡ answers.Poll (Err (record {}))) → fails a ≡ false → a ≡ answers.Poll (polled p e now).answer
 poll_answer p e now a (inl is) ok = is
 poll_answer p e now a (inr is) ok = let lacks = ap fails is in cc
 
--- each datagram that was given has its place as its number, after a call
-pub gives_step : (p : Policy) (e : End) (theirs : List (List ℕ)) (call : Call) (a : Answer) (told : List Told) (state : State) (id : List ℕ) (given : List (List ℕ)) → IsAnswer p e theirs call a → fails a ≡ false
-    → e.ids.active.id ≡ id → length id ≡ 8 → Streams e.side e.sending told → Gives p id e.numbers told given
-    → Gives p id (after_call p e theirs call a).numbers (told ++ record { call = call; answer = a; state = state } ∷ []) (given ++ gives p e call a)
-gives_step p e theirs (calls.Poll now) a told state id given is ok active eight s g =
-    let said = poll_answer p e now a is ok in
-    let all : gives p e (calls.Poll now) a ≡ given_as (polled p e now).answer (polled p e now).datagram = ap (λ (x : Answer). gives p e (calls.Poll now) x) said ∙ gives_as p e now (polled p e now).answer in
-    rw all (polled_gives e.side p e now told (with_call told (calls.Poll now) a state) id given (grows_step p e theirs (calls.Poll now) a told state is ok s) active eight s g)
-gives_step p e theirs call a told state id given is ok active eight s g =
-    let keeps = keeps_call p e theirs call a tt in
-    gives_quiet p id e.numbers (after_call p e theirs call a).numbers told (with_call told call a state) given (grows_step p e theirs call a told state is ok s) keeps.acknowledged keeps.next g
+-- what the datagram that a call gives is sent as, cut against this reference
+abbrev pub sents_by : End → Call → Answer → ℕ → List Sent
+sents_by e (calls.Poll now) a reference = sent_if (gave a) reference (frames_at e now)
+sents_by e call a reference = []
+
+-- only a poll gives datagrams
+other_gives_none : (p : Policy) (e : End) (theirs : List (List ℕ)) (call : Call) (a : Answer) (reference : ℕ) → IsNoPoll call → IsAnswer p e theirs call a → (gave a ≡ false) × (gives p e call a ≡ []) × (sents_by e call a reference ≡ [])
+other_gives_none p e theirs (calls.Poll now) a reference other is = absurd other
+other_gives_none p e theirs call a reference other is = (go (gave a) refl, refl, refl)
+  where
+    go : (b : Bool) → gave a ≡ b → gave a ≡ false
+    go true on =
+        let count = gives_count p e theirs call a is in
+        let one : length (gives p e call a) ≡ 1 = rw on at count in
+        cc
+    go false off = off
+
+-- what an open end cuts its numbers against is what came to it says
+open_named : (state : State) (numbers : Numbers) (i : Intake) → state ≡ states.Open → KnowsIn state numbers i → cut_against numbers ≡ acknowledged i.took
+open_named states.Open numbers i is k = k.named
+open_named states.Closing numbers i is k = cc
+open_named states.Drained numbers i is k = cc
+open_named states.Failed numbers i is k = cc
+
+module _ (p : Policy) (e : End) (theirs : List (List ℕ)) (a : Answer) (told : List Told) (state : State) (own id : List ℕ) (back given : List (List ℕ)) (sents : List Sent) where
+  -- what the next datagram is cut against
+  abbrev reference : ℕ
+  reference = acknowledged (came p own back told).took
+
+  -- a poll gives a datagram that is cut against the greatest number that was acknowledged
+  poll_gives : (now : ℕ) → IsAnswer p e theirs (calls.Poll now) a → fails a ≡ false → e.ids.active.id ≡ id → length id ≡ 8
+      → KnowsIn e.closing.state e.numbers (came p own back told) → Acks e.acknowledging → Streams e.side e.sending told → Gives p id e.numbers told (cut p own back told) sents given
+      → Gives p id (polled p e now).end.numbers (with_call told (calls.Poll now) a state) (cut p own back told ++ reference_if (gave a) reference) (sents ++ sents_by e (calls.Poll now) a reference) (given ++ gives p e (calls.Poll now) a)
+  poll_gives now is ok active eight knows acks s g =
+      let said = poll_answer p e now a is ok in
+      let all : gives p e (calls.Poll now) a ≡ given_as (polled p e now).answer (polled p e now).datagram = ap (λ (x : Answer). gives p e (calls.Poll now) x) said ∙ gives_as p e now (polled p e now).answer in
+      rw (all, ap gave said)
+      (polled_gives e.side p e now told (with_call told (calls.Poll now) a state) id (cut p own back told) sents given reference (grows_step p e theirs (calls.Poll now) a told state is ok s) active eight
+      (λ opened. open_named e.closing.state e.numbers (came p own back told) opened knows) acks s g)
+
+  -- another call gives none
+  other_gives : (call : Call) → IsNoPoll call → IsAnswer p e theirs call a → fails a ≡ false → Streams e.side e.sending told → Gives p id e.numbers told (cut p own back told) sents given
+      → Gives p id (after_call p e theirs call a).numbers (with_call told call a state) (cut p own back told ++ reference_if (gave a) reference) (sents ++ sents_by e call a reference) (given ++ gives p e call a)
+  other_gives call other is ok s g =
+      let none = other_gives_none p e theirs call a reference other is in
+      rw (none.0, none.1, none.2) (gives_quiet p id e.numbers (after_call p e theirs call a).numbers told (with_call told call a state) (cut p own back told) sents given (grows_step p e theirs call a told state is ok s) (keeps_call p e theirs call a other).next g)
+
+  -- so it is after each call
+  gives_by : (call : Call) → IsAnswer p e theirs call a → fails a ≡ false → e.ids.active.id ≡ id → length id ≡ 8
+      → KnowsIn e.closing.state e.numbers (came p own back told) → Acks e.acknowledging → Streams e.side e.sending told → Gives p id e.numbers told (cut p own back told) sents given
+      → Gives p id (after_call p e theirs call a).numbers (with_call told call a state) (cut p own back told ++ reference_if (gave a) reference) (sents ++ sents_by e call a reference) (given ++ gives p e call a)
+  gives_by (calls.Poll now) is ok active eight knows acks s g = poll_gives now is ok active eight knows acks s g
+  gives_by call is ok active eight knows acks s g = other_gives call tt is ok s g
+
+  -- each datagram that was given has its place as its number, and was cut against its reference, after a call
+  pub gives_step : (call : Call) → IsAnswer p e theirs call a → fails a ≡ false → e.ids.active.id ≡ id → length id ≡ 8
+      → KnowsIn e.closing.state e.numbers (came p own back told) → Acks e.acknowledging → Streams e.side e.sending told → Gives p id e.numbers told (cut p own back told) sents given
+      → Gives p id (after_call p e theirs call a).numbers (told ++ record { call = call; answer = a; state = state } ∷ []) (cut p own back (told ++ record { call = call; answer = a; state = state } ∷ [])) (sents ++ sents_by e call a (acknowledged (came p own back told).took)) (given ++ gives p e call a)
+  gives_step call is ok active eight knows acks s g = rw (references_more p (own ∷ []) back told (record { call = call; answer = a; state = state }) nothing_came) (gives_by call is ok active eight knows acks s g)

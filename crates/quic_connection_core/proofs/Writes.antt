@@ -2,7 +2,7 @@
 use Rattle.std.proofs.Common.{◌≡◌, ℕ, ◌+◌, ◌-◌, ◌<◌, ◌≤◌, ◌^◌, min, Bool, true, false, ◌==◌, ◌||◌, List, [], ◌∷◌, ◌++◌, length, take, Option, Some, None, Result, Ok, Err, refl, sym, ap, ◌∙◌, subst, inl, inr, ◌⊎◌, arith}
 use Rattle.std.specs.Prelude.{if◌then◌else◌}
 use Rattle.std.proofs.lemmas.Bool.{eqb-true, eq-eqb, ne_eqb, and_parts, cases_eq}
-use Rattle.std.proofs.lemmas.List.{append-nil, length-append, length-take}
+use Rattle.std.proofs.lemmas.List.{append-nil, length-append, length-take, length-drop, drop-append-le}
 use Rattle.quic_wire_core.specs.declared.stream_id.Side.{Side}
 use Rattle.quic_wire_core.specs.declared.stream_id.Side.TheVariants.{Client, Server}
 use Rattle.quic_wire_core.specs.declared.stream_id.Dir.{Dir}
@@ -19,6 +19,8 @@ use Rattle.quic_connection_core.specs.Sending.{Sending, SendHalf, written_on, op
 use Rattle.quic_connection_core.specs.Runs.{Told, written_by, written, ended_by, ended}
 use Rattle.quic_connection_core.proofs.Tables.{at-added, at-apart, at-put, at-put-apart, unknown-put, sorted-put, sorted-added}
 use Rattle.quic_connection_core.proofs.Told.{written_more, ended_more}
+use Rattle.quic_streams_core.proofs.Buffered.{write_lawful}
+use Rattle.quic_streams_core.specs.Buffered.{IsBuffered, nothing_written}
 use Rattle.quic_connection_core.proofs.Invariant.{IsHalf, HalfIs, Streams}
 
 or_false : (b : Bool) → (b || false) ≡ b
@@ -95,12 +97,29 @@ put_streams side s told t id accepted h w i found quiet now = record {
 
 -- ---- open
 
+-- nothing was written
+nothing_lawful : IsBuffered nothing_written
+nothing_lawful = record {
+  acked = tt;
+  lost = tt;
+  apart = λ o a l. a;
+  acked_sent = λ o a. absurd a;
+  lost_sent = λ o l. absurd l;
+  filled = tt;
+  whole = refl;
+  begun = omega arith;
+  needed = tt;
+  sent = omega arith;
+  bounded = omega arith;
+  small = omega arith;
+}
+
 -- a half on which nothing was written
 new_is : (wr : List ℕ) (fin : Bool) (limit : ℕ) → wr ≡ [] → fin ≡ false → limit < 2 ^ 62 → IsHalf wr fin (new_half limit)
 new_is wr fin limit none off small = record {
-  base = refl;
+  lawful = nothing_lawful;
+  base = omega arith;
   kept = sym none;
-  unsent = omega arith;
   finished = sym off;
   within = rw none (omega arith);
   limit = small;
@@ -201,11 +220,13 @@ grown_is wr front fin h i few =
     let base = i.base in
     let kept = ap length i.kept in
     let within = i.within in
-    let unsent = i.unsent in
+    let limit = i.limit in
+    let rest = length-drop h.buffer.base wr in
+    let written_is : written_on h ≡ length wr = omega arith in
     record {
-      base = i.base;
-      kept = ap (λ (bs : List ℕ). bs ++ front) i.kept;
-      unsent = omega arith;
+      lawful = write_lawful h.buffer front i.lawful (omega arith);
+      base = omega arith;
+      kept = ap (λ (bs : List ℕ). bs ++ front) i.kept ∙ sym (drop-append-le h.buffer.base wr front i.base);
       finished = i.finished;
       within = omega arith;
       limit = i.limit;
@@ -251,7 +272,7 @@ ended_streams side s told state id (Some h) found i = go h.finished refl
         let over : ended id (told ++ t ∷ []) ≡ true = ended_more id told t ∙ here in
         let now : IsHalf (written id (told ++ t ∷ [])) (ended id (told ++ t ∷ [])) (sending.ended h) =
         half_moved (written id told) (written id (told ++ t ∷ [])) true (ended id (told ++ t ∷ [])) (Some (sending.ended h)) wrote over
-        (record { base = half.base; kept = half.kept; unsent = half.unsent; finished = refl; within = half.within; limit = half.limit }) in
+        (record { lawful = half.lawful; base = half.base; kept = half.kept; finished = refl; within = half.within; limit = half.limit }) in
         put_streams side s told t id s.accepted h (sending.ended h) i found (finish_quiet id state) now
 
 -- a finish leaves what it says

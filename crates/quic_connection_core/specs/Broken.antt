@@ -8,6 +8,8 @@ use Rattle.quic_connection_core.specs.declared.answers.FinishError.{FinishError}
 use Rattle.quic_connection_core.specs.declared.answers.FinishError.TheVariants as finish_errors
 use Rattle.quic_connection_core.specs.declared.answers.ReadError.{ReadError}
 use Rattle.quic_connection_core.specs.declared.answers.ReadError.TheVariants as read_errors
+use Rattle.quic_connection_core.specs.declared.answers.Event.TheVariants as events
+use Rattle.quic_connection_core.specs.declared.answers.StreamEvent.TheVariants.{Finished}
 use Rattle.quic_connection_core.specs.declared.answers.Received.{Received}
 use Rattle.quic_connection_core.specs.declared.answers.Received.TheVariants as receives
 use Rattle.quic_connection_core.specs.declared.answers.DropReason.TheVariants as drops
@@ -17,7 +19,7 @@ use Rattle.quic_connection_core.specs.declared.run.Call.TheVariants as calls
 use Rattle.quic_connection_core.specs.declared.run.Answer.{Answer}
 use Rattle.quic_connection_core.specs.declared.run.Answer.TheVariants as answers
 use Rattle.quic_connection_core.specs.Runs.{Run}
-use Rattle.quic_connection_core.specs.Worked.{worked_policies, client_ended, hello, hello_datagram, before_sending, worked_views, worked_run}
+use Rattle.quic_connection_core.specs.Worked.{worked_policies, client_ended, client_sent, hello, hello_datagram, before_sending, worked_views, worked_run}
 
 -- ---- the worked run with other answers
 
@@ -124,5 +126,19 @@ repeated_number =
       answers = gave ∷ gave ∷ [];
       views = take 2 worked_views;
       from_client = hello_datagram ∷ hello_datagram ∷ [];
+      from_server = [];
+    }
+
+-- the application is told that the stream is finished, although its datagram never came
+abbrev pub early_finish : Run
+early_finish =
+    let asks : RunEvent = record { side = Client; call = calls.Event } in
+    record {
+      keys = worked_policies;
+      start = before_sending client_sent;
+      events = asks ∷ [];
+      answers = answers.Event (Some (events.Stream (Finished 0))) ∷ [];
+      views = take 1 worked_views;
+      from_client = [];
       from_server = [];
     }

@@ -3,6 +3,10 @@ use Rattle.std.specs.Prelude.{ℕ, ◌≡◌, ◌⊎◌, Bool, true, false, List
 use Rattle.quic_wire_core.specs.declared.stream_id.Dir.{Dir}
 use Rattle.quic_wire_core.specs.declared.stream_id.Dir.TheVariants.{Bi, Uni}
 use Rattle.quic_streams_core.specs.declared.connection.assembler.Chunk.{Chunk}
+use Rattle.std.specs.Prelude.{option_map}
+use Rattle.quic_connection_core.specs.declared.answers.Event.{Event}
+use Rattle.quic_connection_core.specs.declared.answers.Event.TheVariants as events
+use Rattle.quic_connection_core.specs.declared.answers.StreamEvent.{StreamEvent}
 use Rattle.quic_connection_core.specs.declared.answers.State.{State}
 use Rattle.quic_connection_core.specs.declared.answers.State.TheVariants as states
 use Rattle.quic_connection_core.specs.declared.answers.WriteError.{WriteError}
@@ -12,7 +16,8 @@ use Rattle.quic_connection_core.specs.Table.{at}
 use Rattle.quic_connection_core.specs.Sending.{opens, next_id, write_answer, after_written}
 use Rattle.quic_connection_core.specs.Sending as sending
 use Rattle.quic_connection_core.specs.Receiving.{Receiving, after_own_open, accept_answer, after_accept, next_answer, after_next}
-use Rattle.quic_connection_core.specs.End.{End, with_sending, with_receiving}
+use Rattle.quic_connection_core.specs.Closing.{Closing, loss_to_tell, after_told}
+use Rattle.quic_connection_core.specs.End.{End, with_closing, with_sending, with_receiving, with_ping}
 
 -- whether an end sends and receives
 abbrev pub is_open : State → Bool
@@ -73,6 +78,32 @@ end_after_write answer e id bytes = with_sending e (after_written answer e.sendi
 -- the end after a call that finishes a stream
 abbrev pub end_after_finish : End → ℕ → End
 end_after_finish e id = with_sending e (sending.after_finish e.sending id)
+
+-- ---- ping
+
+-- the end after a call that asks for a PING: two before it goes are one
+abbrev pub end_after_ping : End → End
+end_after_ping e = with_ping e true
+
+-- ---- events
+
+-- what the application is told: what happened to streams, and then that the end is lost, once, and why
+abbrev pub tells_of : List StreamEvent → Closing → Option Event
+tells_of [] c = option_map events.Lost (loss_to_tell c)
+tells_of (event ∷ more) c = Some (events.Stream event)
+
+-- what the application is told next
+abbrev pub end_tells : End → Option Event
+end_tells e = tells_of e.events e.closing
+
+-- the end after one of these events was told, or that it is lost
+abbrev pub after_telling : List StreamEvent → End → End
+after_telling [] e = with_closing e (after_told (loss_to_tell e.closing) e.closing)
+after_telling (event ∷ more) e = record e { events = more }
+
+-- the end after the application was told
+abbrev pub end_after_event : End → End
+end_after_event e = after_telling e.events e
 
 -- ---- read
 

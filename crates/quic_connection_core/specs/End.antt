@@ -1,5 +1,5 @@
 -- One end: a record of parts, one for each concern, and beside it the keys and the random source.
-use Rattle.std.specs.Prelude.{◌≡◌, ℕ, Bool, ◌==◌, ◌||◌, not, if◌then◌else◌, List, [], length, Option, Some, None, Result, Ok, Err}
+use Rattle.std.specs.Prelude.{◌≡◌, ℕ, Bool, ◌==◌, ◌||◌, not, if◌then◌else◌, List, [], length, false, Option, Some, None, Result, Ok, Err}
 use Rattle.quic_wire_core.specs.declared.stream_id.Side.{Side}
 use Rattle.quic_wire.specs.Keys.{OfFirst, OfNumber, Seal, Open}
 use Rattle.quic_wire.specs.declared.crypto.Keys.{Keys}
@@ -8,11 +8,17 @@ use Rattle.quic_wire.specs.ParametersRead.{parameters_at}
 use Rattle.quic_connection_core.specs.declared.answers.State.TheVariants as states
 use Rattle.quic_connection_core.specs.declared.answers.ConfigError.{ConfigError}
 use Rattle.quic_connection_core.specs.declared.answers.ConfigError.TheVariants as config_errors
-use Rattle.quic_connection_core.specs.Settings.{Settings}
-use Rattle.quic_connection_core.specs.Closing.{Closing}
+use Rattle.quic_recovery_core.specs.Transport.{Settings}
+use Rattle.quic_recovery_core.specs.PendingAcks.{Pending}
+use Rattle.quic_recovery_core.specs.Timers.{Timers, no_timers}
+use Rattle.quic_connection_core.specs.declared.answers.LostReason.{LostReason}
+use Rattle.quic_connection_core.specs.Closing.{Closing, closed_for}
+use Rattle.quic_connection_core.specs.Acknowledging.{nothing_to_acknowledge, with_ack_timer}
 use Rattle.quic_connection_core.specs.Ids.{Ids, first_ids}
 use Rattle.quic_connection_core.specs.Numbers.{Numbers, no_numbers}
-use Rattle.quic_connection_core.specs.Parts.{Acknowledging, nothing_to_acknowledge, Tracking, nothing_tracked, Path, first_path, Messages, no_messages, Waiting, nothing_waits}
+use Rattle.quic_connection_core.specs.Tracking.{Tracking, nothing_tracked, loss_moment}
+use Rattle.quic_connection_core.specs.declared.answers.StreamEvent.{StreamEvent}
+use Rattle.quic_connection_core.specs.Parts.{Path, first_path, Messages, no_messages, Waiting, nothing_waits}
 use Rattle.quic_connection_core.specs.Sending.{Sending}
 use Rattle.quic_connection_core.specs.Receiving.{Receiving}
 use Rattle.quic_connection_core.specs.Policy.{Policy}
@@ -23,13 +29,16 @@ pub record End : Type 0 where
   pub closing : Closing
   pub ids : Ids
   pub numbers : Numbers
-  pub acknowledging : Acknowledging
+  pub acknowledging : Pending
+  pub timers : Timers
   pub tracking : Tracking
   pub path : Path
   pub sending : Sending
   pub receiving : Receiving
   pub messages : Messages
   pub waiting : Waiting
+  -- what the application is to be told of streams, in its order
+  pub events : List StreamEvent
 
 -- an end with its keys and its random source
 pub record Whole (H K R : Type 0) : Type 0 where
@@ -86,25 +95,43 @@ first_receiving settings = record {
 abbrev pub new_end : Side → Settings → ParameterValues → List ℕ → List ℕ → ℕ → Bool → End
 new_end side settings theirs own_id peer_id now validated = record {
   side = side;
-  closing = record { clock = now; state = states.Open; reason = None };
+  closing = record { clock = now; state = states.Open; reason = None; told = false };
   ids = first_ids own_id peer_id;
   numbers = no_numbers;
   acknowledging = nothing_to_acknowledge;
+  timers = no_timers;
   tracking = nothing_tracked;
   path = first_path validated;
   sending = first_sending settings theirs;
   receiving = first_receiving settings;
   messages = no_messages;
   waiting = nothing_waits;
+  events = [];
 }
 
 -- the end with another clock, state and reason
 abbrev pub with_closing : End → Closing → End
 with_closing e c = record e { closing = c }
 
+-- the end closes for a reason: none of its timers is set any more
+abbrev pub closed_by : LostReason → End → End
+closed_by reason e = record e { closing = closed_for reason e.closing; timers = no_timers }
+
 -- the end with other packet numbers
 abbrev pub with_numbers : End → Numbers → End
 with_numbers e n = record e { numbers = n }
+
+-- the end with other packets to acknowledge
+abbrev pub with_acknowledging : End → Pending → End
+with_acknowledging e p = record e { acknowledging = p }
+
+-- the end with the timer of acknowledgements set or stopped
+abbrev pub with_ack_timer_at : End → Option ℕ → End
+with_ack_timer_at e moment = record e { timers = with_ack_timer e.timers moment }
+
+-- the end with other tracked packets: the loss timer follows them
+abbrev pub with_tracking : End → Tracking → End
+with_tracking e t = record e { tracking = t; timers = record e.timers { loss_detection = loss_moment t } }
 
 -- the end with other sending halves
 abbrev pub with_sending : End → Sending → End
@@ -113,6 +140,10 @@ with_sending e s = record e { sending = s }
 -- the end with other receiving halves
 abbrev pub with_receiving : End → Receiving → End
 with_receiving e r = record e { receiving = r }
+
+-- the end with PING waiting or not
+abbrev pub with_ping : End → Bool → End
+with_ping e waits = record e { waiting = record e.waiting { ping = waits } }
 
 -- an end that met want of memory where it can't say so: it is failed for good, and nothing else is said of it
 pub record HasFailed {H K R : Type 0} (old new : Whole H K R) : Type 0 where

@@ -9,19 +9,21 @@ use Rattle.quic_wire.specs.Value.{FrameValue, StreamValue}
 use Rattle.quic_wire.specs.ParametersRead.{parameters_at}
 use Rattle.quic_streams_core.specs.declared.connection.assembler.Chunk.{Chunk}
 use Rattle.quic_connection_core.specs.declared.answers.ReadError.TheVariants as read_errors
+use Rattle.quic_connection_core.specs.declared.answers.Event.TheVariants as events
+use Rattle.quic_connection_core.specs.declared.answers.StreamEvent.TheVariants.{Finished}
 use Rattle.quic_connection_core.specs.declared.run.RunEvent.{RunEvent}
 use Rattle.quic_connection_core.specs.declared.run.ReadCall.{ReadCall}
 use Rattle.quic_connection_core.specs.declared.run.Call.{Call}
 use Rattle.quic_connection_core.specs.declared.run.Call.TheVariants as calls
 use Rattle.quic_connection_core.specs.declared.run.Answer.{Answer}
 use Rattle.quic_connection_core.specs.declared.run.Answer.TheVariants as answers
-use Rattle.quic_connection_core.specs.Settings.{Settings, parameters_of}
+use Rattle.quic_recovery_core.specs.Transport.{Settings, parameters_of}
 use Rattle.quic_connection_core.specs.Policy.{Policy, CanOpen}
 use Rattle.quic_connection_core.specs.End.{End, MadeFrom}
-use Rattle.quic_connection_core.specs.Receive.{own_id_length}
+use Rattle.quic_connection_core.specs.Opens.{own_id_length}
 use Rattle.quic_connection_core.specs.Poll.{IsDatagram}
 use Rattle.quic_connection_core.specs.Machine.{World, Policies, policy_at, Follows}
-use Rattle.quic_connection_core.specs.Runs.{Run, Told, Next, In, until, AreServed, written, ended, nexts, chunks_of, reads, bytes_of, offsets_of, ids_of, accepts, took, WasTaken, HasArrived, EndHasArrived, given_until, references_until, first_id_of_peer}
+use Rattle.quic_connection_core.specs.Runs.{Run, Told, Next, Packet, In, until, AreServed, written, ended, nexts, chunks_of, reads, bytes_of, offsets_of, ids_of, accepts, took, WasTaken, HasArrived, EndHasArrived, given_until, references_until, first_id_of_peer}
 
 -- ---- the premises
 
@@ -125,6 +127,18 @@ BlockedOnlyWithoutBytes r = (side : Side) (i : ℕ) (read : ReadCall) (front beh
 abbrev pub AcceptsAll : Run → Type 0
 AcceptsAll r = (side : Side) (i : ℕ) (dir : Dir) (frame : StreamValue) (index below : ℕ) → AreServed r i → IsAt r i side (calls.Accept dir) (answers.Accept None)
     → WasTaken (took r side i) frame → frame.id ≡ stream_id (other_side side) dir index → below ≤ index → In (stream_id (other_side side) dir below) (accepts (until r side i))
+
+-- ---- streams that are finished
+
+-- all that an end wrote on a stream, and its end, arrived in these packets
+pub record AllArrived (packets : List Packet) (id : ℕ) (told : List Told) : Type 0 where
+  pub ended : ended id told ≡ true
+  pub bytes : (offset : ℕ) → offset < length (written id told) → HasArrived packets id offset
+  pub end : EndHasArrived packets id (length (written id told))
+
+-- a stream is told to be finished only where it was ended, and all that was written and its end are in what the other end took
+abbrev pub FinishedMeansArrived : Run → Type 0
+FinishedMeansArrived r = (side : Side) (id i : ℕ) → AreServed r i → IsAt r i side calls.Event (answers.Event (Some (events.Stream (Finished id)))) → AllArrived (took r (other_side side) i) id (until r side i)
 
 -- ---- numbers
 

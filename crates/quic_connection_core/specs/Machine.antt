@@ -1,5 +1,5 @@
 -- The machine of two ends over a network: what each event is answered, and what it leaves.
-use Rattle.std.specs.Prelude.{ℕ, ◌≡◌, ◌⊎◌, Bool, true, false, List, [], ◌∷◌, ◌++◌, length, replicate, slice_get, Option, Some, None, Ok, Err, alloc_error}
+use Rattle.std.specs.Prelude.{ℕ, ◌≡◌, ◌⊎◌, Bool, true, false, List, [], ◌∷◌, ◌++◌, length, slice_get, Option, Some, None, Ok, Err, alloc_error}
 use Rattle.std.specs.Option.{option_to_list}
 use Rattle.quic_wire_core.specs.declared.stream_id.Side.{Side}
 use Rattle.quic_wire_core.specs.declared.stream_id.Side.TheVariants.{Client, Server}
@@ -19,7 +19,10 @@ use Rattle.quic_connection_core.specs.Policy.{Policy}
 use Rattle.quic_connection_core.specs.End.{End}
 use Rattle.quic_connection_core.specs.Sending.{finish_answer}
 use Rattle.quic_connection_core.specs.Receiving.{read_answer}
-use Rattle.quic_connection_core.specs.Calls.{open_answer, after_open, end_accepts, end_after_accept, end_writes, end_after_write, end_after_finish, AreNexts, after_nexts}
+use Rattle.quic_recovery_core.specs.Timers.{timer_at, each_timer, next_timer}
+use Rattle.quic_connection_core.specs.Opens.{would_open}
+use Rattle.quic_connection_core.specs.Timeouts.{timed_out}
+use Rattle.quic_connection_core.specs.Calls.{end_tells, end_after_event, open_answer, after_open, end_accepts, end_after_accept, end_writes, end_after_write, end_after_finish, end_after_ping, AreNexts, after_nexts}
 use Rattle.quic_connection_core.specs.Receive.{received}
 use Rattle.quic_connection_core.specs.Poll.{polled}
 
@@ -29,6 +32,11 @@ use Rattle.quic_connection_core.specs.Poll.{polled}
 abbrev pub IsDelivered : Policy → End → ℕ → Option (List ℕ) → Answer → Type 0
 IsDelivered p e now None a = a ≡ answers.NoDatagram
 IsDelivered p e now (Some d) a = (a ≡ answers.Deliver (received p e now d).answer) ⊎ (a ≡ answers.Deliver receives.Failed)
+
+-- what an injection is answered: no call is made where it opens
+abbrev pub injected_if : Bool → Policy → End → ℕ → List ℕ → Answer
+injected_if true p e now d = answers.Opens
+injected_if false p e now d = answers.Inject (received p e now d).answer
 
 -- what a read is answered: the stream can't be read, or each `next` answers in turn
 abbrev pub IsRead : End → ℕ → List ℕ → Answer → Type 0
@@ -43,13 +51,24 @@ IsAnswer p e theirs (calls.Accept dir) a = a ≡ answers.Accept (end_accepts dir
 IsAnswer p e theirs (calls.Write id bytes) a = (a ≡ answers.Write (end_writes e id (length bytes))) ⊎ (a ≡ answers.Write (Err write_errors.Memory))
 IsAnswer p e theirs (calls.Finish id) a = a ≡ answers.Finish (finish_answer e.sending id)
 IsAnswer p e theirs (calls.Read read) a = IsRead e read.id read.nexts.items a
+IsAnswer p e theirs calls.Ping a = a ≡ answers.Ping
 IsAnswer p e theirs (calls.Poll now) a = (a ≡ answers.Poll (polled p e now).answer) ⊎ (a ≡ answers.Poll (Err (record {})))
+IsAnswer p e theirs (calls.Timeout now) a = a ≡ answers.Timeout (timed_out e now).answer
 IsAnswer p e theirs (calls.Deliver delivery) a = IsDelivered p e delivery.now (slice_get theirs delivery.index) a
+IsAnswer p e theirs (calls.Inject injection) a = a ≡ injected_if (would_open p e injection.bytes) p e injection.now injection.bytes
+IsAnswer p e theirs calls.Event a = a ≡ answers.Event (end_tells e)
+IsAnswer p e theirs (calls.Timer timer) a = a ≡ answers.Timer (timer_at timer e.timers)
+IsAnswer p e theirs calls.NextTimeout a = a ≡ answers.NextTimeout (next_timer e.timers)
 
 -- the end after a delivery
 abbrev pub after_delivered : Policy → End → ℕ → Option (List ℕ) → End
 after_delivered p e now None = e
 after_delivered p e now (Some d) = (received p e now d).end
+
+-- the end after an injection
+abbrev pub after_injected_if : Bool → Policy → End → ℕ → List ℕ → End
+after_injected_if true p e now d = e
+after_injected_if false p e now d = (received p e now d).end
 
 -- what a call leaves, by its answer, where memory served
 abbrev pub after_call : Policy → End → List (List ℕ) → Call → Answer → End
@@ -58,8 +77,12 @@ after_call p e theirs (calls.Accept dir) a = end_after_accept dir e
 after_call p e theirs (calls.Write id bytes) (answers.Write answer) = end_after_write answer e id bytes
 after_call p e theirs (calls.Finish id) a = end_after_finish e id
 after_call p e theirs (calls.Read read) (answers.Read (Ok nexts)) = after_nexts e read.id read.nexts.items nexts
+after_call p e theirs calls.Ping a = end_after_ping e
 after_call p e theirs (calls.Poll now) a = (polled p e now).end
+after_call p e theirs (calls.Timeout now) a = (timed_out e now).end
 after_call p e theirs (calls.Deliver delivery) a = after_delivered p e delivery.now (slice_get theirs delivery.index)
+after_call p e theirs (calls.Inject injection) a = after_injected_if (would_open p e injection.bytes) p e injection.now injection.bytes
+after_call p e theirs calls.Event a = end_after_event e
 after_call p e theirs call a = e
 
 -- the datagrams that a call gives
@@ -67,9 +90,10 @@ abbrev pub gives : Policy → End → Call → Answer → List (List ℕ)
 gives p e (calls.Poll now) (answers.Poll (Ok (Some transmit))) = option_to_list (polled p e now).datagram
 gives p e call a = []
 
--- a poll or a delivery lacked memory: the end fails
+-- a poll, a timeout or a delivery lacked memory: the end fails
 abbrev pub fails : Answer → Bool
 fails (answers.Poll (Err failed)) = true
+fails (answers.Timeout (Err failed)) = true
 fails (answers.Deliver receives.Failed) = true
 fails a = false
 
@@ -124,7 +148,7 @@ end_view e = record {
   state = e.closing.state;
   reason = e.closing.reason;
   validated = e.path.validated;
-  timers = replicate 9 None;
+  timers = each_timer e.timers;
   window = None;
   current_mtu = None;
 }

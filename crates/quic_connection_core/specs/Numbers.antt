@@ -1,39 +1,22 @@
 -- Packet numbers of an end: those it gives and those it opened (RFC 9000, section 12.3).
-use Rattle.std.specs.Prelude.{ℕ, ◌+◌, ◌-◌, ◌%◌, ◌^◌, max, Bool, nat_lt, ◌==◌, ◌||◌, ◌&&◌, List, replicate, slice_index, slice_set, Option, Some, None, unwrap_or}
+use Rattle.std.specs.Prelude.{ℕ, ◌+◌, ◌-◌, ◌^◌, max, Bool, nat_lt, ◌&&◌, [], Option, Some, None, unwrap_or}
+use Rattle.quic_recovery_core.specs.declared.spaces.dedup.TheConstants.{DUPLICATE_SPAN}
+use Rattle.quic_recovery_core.specs.Duplicates.{Seen, after_insert}
 
--- how far below the greatest opened number one still counts as new if it didn't come (one more than that: a duplicate)
+-- how far below the greatest opened number one counts as having come before
 abbrev pub duplicate_span : ℕ
-duplicate_span = 129
-
--- The numbers opened that can still come again. Two numbers of one residue modulo the span lie a span apart, so the
--- greatest one of each residue says all: it stands at its residue, one added, and 0 where there is none.
-pub record Opened : Type 0 where
-  -- one above the greatest, 0 at first
-  pub next : ℕ
-  pub places : List ℕ
-
--- no packet was opened
-abbrev pub none_opened : Opened
-none_opened = record { next = 0; places = replicate duplicate_span 0 }
-
--- whether a number counts as having come before
-abbrev pub is_duplicate : Opened → ℕ → Bool
-is_duplicate o n = nat_lt (n + duplicate_span) o.next || (slice_index o.places (n % duplicate_span) == n + 1)
-
--- a number that is no duplicate was opened
-abbrev pub with_opened : Opened → ℕ → Opened
-with_opened o n = record { next = max o.next (n + 1); places = slice_set o.places (n % duplicate_span) (n + 1) }
+duplicate_span = DUPLICATE_SPAN
 
 -- the next number to give, the greatest own number that the peer named, the numbers opened, and the greatest whose whole payload was taken
 pub record Numbers : Type 0 where
   pub next : ℕ
   pub acknowledged : Option ℕ
-  pub opened : Opened
+  pub opened : Seen
   pub taken : Option ℕ
 
 -- no number was given, opened or taken
 abbrev pub no_numbers : Numbers
-no_numbers = record { next = 0; acknowledged = None; opened = none_opened; taken = None }
+no_numbers = record { next = 0; acknowledged = None; opened = []; taken = None }
 
 -- the number that a packet is expected to have: one above the greatest taken (RFC 9000, A.3)
 abbrev pub after_greatest : Option ℕ → ℕ
@@ -62,7 +45,7 @@ number_given numbers = record numbers { next = numbers.next + 1 }
 
 -- a packet of this number was opened
 abbrev pub number_opened : Numbers → ℕ → Numbers
-number_opened numbers n = record numbers { opened = with_opened numbers.opened n }
+number_opened numbers n = record numbers { opened = after_insert numbers.opened n }
 
 -- the greater of a number and one that may be there
 abbrev pub greatest_of : Option ℕ → ℕ → ℕ
@@ -72,3 +55,7 @@ greatest_of (Some m) n = max m n
 -- the whole payload of a packet of this number was taken
 abbrev pub number_taken : Numbers → ℕ → Numbers
 number_taken numbers n = record numbers { taken = Some (greatest_of numbers.taken n) }
+
+-- a frame named own numbers up to this one
+abbrev pub number_named : Numbers → ℕ → Numbers
+number_named numbers n = record numbers { acknowledged = Some (greatest_of numbers.acknowledged n) }

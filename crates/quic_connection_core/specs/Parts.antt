@@ -2,30 +2,6 @@
 use Rattle.std.specs.Prelude.{ℕ, Bool, false, List, []}
 use Rattle.quic_wire.specs.Value.{FrameValue}
 
--- numbers of packets that came and are to be acknowledged (RFC 9000, section 13.2)
-pub record Acknowledging : Type 0 where
-  pub due : Bool
-  pub numbers : List ℕ
-
--- no packet waits for an acknowledgement
-abbrev pub nothing_to_acknowledge : Acknowledging
-nothing_to_acknowledge = record { due = false; numbers = [] }
-
--- a datagram that was given and is neither acknowledged nor lost: its number, the path generation, when it went, and its frames
-pub record TrackedPacket : Type 0 where
-  pub number : ℕ
-  pub generation : ℕ
-  pub given_at : ℕ
-  pub frames : List FrameValue
-
--- datagrams in flight (RFC 9002, section 2)
-pub record Tracking : Type 0 where
-  pub packets : List TrackedPacket
-
--- no packet is tracked
-abbrev pub nothing_tracked : Tracking
-nothing_tracked = record { packets = [] }
-
 -- the path to the peer (RFC 9000, section 8)
 pub record Path : Type 0 where
   pub validated : Bool
@@ -44,10 +20,11 @@ pub record Messages : Type 0 where
 abbrev pub no_messages : Messages
 no_messages = record { outgoing = []; incoming = [] }
 
--- control frames that wait to be sent (RFC 9000, section 13.3)
+-- whether PING waits to be sent (RFC 9000, section 19.2), and the control frames that do (section 13.3)
 pub record Waiting : Type 0 where
+  pub ping : Bool
   pub frames : List FrameValue
 
 -- no duty waits
 abbrev pub nothing_waits : Waiting
-nothing_waits = record { frames = [] }
+nothing_waits = record { ping = false; frames = [] }

@@ -1,23 +1,29 @@
 -- What an end gives when it is polled (RFC 9000, sections 12.2, 13.3 and 14.1).
-use Rattle.std.specs.Prelude.{ℕ, ◌+◌, ◌-◌, ◌≡◌, Bool, true, false, ◌==◌, ◌&&◌, not, if◌then◌else◌, List, [], ◌∷◌, ◌++◌, length, replicate, slice_range, Option, Some, None, Result, Ok, Err}
+use Rattle.std.specs.Prelude.{ℕ, ◌+◌, ◌-◌, ◌≡◌, Bool, true, false, ◌==◌, ◌&&◌, ◌||◌, not, nat_le, nat_lt, if◌then◌else◌, List, [], ◌∷◌, ◌++◌, length, replicate, slice_range, Option, Some, None, Result, Ok, Err}
+use Rattle.std.specs.List.{list_any}
+use Rattle.std.specs.Option.{is_some}
 use Rattle.quic_wire_core.specs.declared.shared.EcnCodepoint.TheVariants.{Ect0}
 use Rattle.quic_wire.specs.Number.{truncated}
-use Rattle.quic_wire.specs.Value.{FrameValue, StreamValue}
-use Rattle.quic_wire.specs.Writing.{stream_spelling, width_of}
+use Rattle.quic_wire.specs.Value.{FrameValue, StreamValue, AckValue, ack, ping, stream, asks}
+use Rattle.quic_wire.specs.AckSet.{ack_of_set}
+use Rattle.quic_wire.specs.Writing.{spelling, stream_spelling, frame_size, width_of}
 use Rattle.quic_wire.specs.Grammar.{Payload}
 use Rattle.quic_wire.specs.Datagram.{sent}
-use Rattle.quic_streams_core.specs.Buffered.{sent_end, writes_length}
+use Rattle.quic_streams_core.specs.Buffered.{next_start, sent_end, writes_length, after_poll}
 use Rattle.quic_connection_core.specs.declared.answers.State.{State}
 use Rattle.quic_connection_core.specs.declared.answers.Failed.{Failed}
 use Rattle.quic_connection_core.specs.declared.answers.Transmit.{Transmit}
 use Rattle.quic_connection_core.specs.declared.answers.State.TheVariants as states
 use Rattle.quic_connection_core.specs.declared.answers.LostReason.TheVariants as reasons
+use Rattle.quic_recovery_core.specs.PendingAcks.{can_send, is_filled, after_acks_sent}
+use Rattle.quic_connection_core.specs.Acknowledging.{delay_at}
+use Rattle.quic_connection_core.specs.Tracking.{carried_in, after_sent}
 use Rattle.quic_connection_core.specs.Table.{Table, at, put}
-use Rattle.quic_connection_core.specs.Closing.{ticked, closed_for}
+use Rattle.quic_connection_core.specs.Closing.{ticked}
 use Rattle.quic_connection_core.specs.Numbers.{can_number, cut_against, number_given}
 use Rattle.quic_connection_core.specs.Sending.{SendHalf, has_pending, written_on}
 use Rattle.quic_connection_core.specs.Policy.{Policy}
-use Rattle.quic_connection_core.specs.End.{End, with_closing, with_numbers, with_sending}
+use Rattle.quic_connection_core.specs.End.{End, with_closing, closed_by, with_numbers, with_acknowledging, with_ack_timer_at, with_tracking, with_sending, with_ping}
 
 -- the most bytes of a datagram (RFC 9000, section 14.1)
 abbrev pub current_mtu : ℕ
@@ -44,11 +50,11 @@ reaches_end h end = h.finished && (end == written_on h)
 abbrev pub frame_of : ℕ → SendHalf → ℕ → StreamValue
 frame_of id h room =
     let end = sent_end h.buffer room in
-    record { id = id; offset = h.buffer.unsent; fin = reaches_end h end; bytes = slice_range h.buffer.kept (h.buffer.unsent - h.buffer.base) (end - h.buffer.base) }
+    record { id = id; offset = next_start h.buffer; fin = reaches_end h end; bytes = slice_range h.buffer.kept (next_start h.buffer - h.buffer.base) (end - h.buffer.base) }
 
 -- the half after that frame went
 abbrev pub half_after : SendHalf → ℕ → SendHalf
-half_after h room = record h { buffer = record h.buffer { unsent = sent_end h.buffer room }; end_waits = h.end_waits && not (reaches_end h (sent_end h.buffer room)) }
+half_after h room = record h { buffer = after_poll h.buffer room; end_waits = h.end_waits && not (reaches_end h (sent_end h.buffer room)) }
 
 -- number and payload have four bytes at least, so that the sample stands in the datagram (RFC 9001, section 5.4.2)
 abbrev pub padded : ℕ → List ℕ → List ℕ
@@ -73,41 +79,137 @@ gives_datagram d e = record { answer = Ok (Some (record { size = length d; ecn =
 abbrev pub frame_room : End → ℕ
 frame_room e = current_mtu - (1 + length e.ids.active.id + (truncated e.numbers.next (cut_against e.numbers)).width + 16)
 
--- how many bytes are left behind the type and the id of a stream frame
-abbrev pub stream_room : End → ℕ → ℕ
-stream_room e id = frame_room e - (1 + width_of id)
+-- ---- what goes into a datagram, one frame behind another
 
--- the payload with one stream frame
-abbrev pub payload_of : End → ℕ → SendHalf → List ℕ
-payload_of e id h =
-    padded (truncated e.numbers.next (cut_against e.numbers)).width (stream_spelling (writes_length h.buffer (stream_room e id)) (frame_of id h (stream_room e id)))
+-- the frames so far, how they are written, and the end once they went
+pub record Draft : Type 0 where
+  pub frames : List FrameValue
+  pub bytes : List ℕ
+  pub end : End
 
--- the datagram with one stream frame
-abbrev pub datagram_with : Policy → End → ℕ → SendHalf → List ℕ
-datagram_with p e id h = sent p.mask p.hide p.seal e.numbers.next (cut_against e.numbers) e.ids.active.id (payload_of e id h)
+-- no frame yet
+abbrev pub no_frames : End → Draft
+no_frames e = record { frames = []; bytes = []; end = e }
+
+-- a frame that is written so goes behind the others, and leaves this end
+abbrev pub with_frame : Draft → FrameValue → List ℕ → End → Draft
+with_frame d f bytes e = record { frames = d.frames ++ f ∷ []; bytes = d.bytes ++ bytes; end = e }
+
+-- PING goes if it waits
+abbrev pub ping_if : Bool → Draft → Draft
+ping_if true d = with_frame d ping (spelling ping) (with_ping d.end false)
+ping_if false d = d
+
+-- PING goes where it waits
+abbrev pub with_ping_frame : Draft → Draft
+with_ping_frame d = ping_if d.end.waiting.ping d
+
+-- how many bytes are left behind the type and the id of a stream frame, where so many bytes are used
+abbrev pub room_for : End → ℕ → ℕ → ℕ
+room_for e used id = frame_room e - used - (1 + width_of id)
+
+-- the same, behind the frames of a draft
+abbrev pub stream_room : Draft → ℕ → ℕ
+stream_room d id = room_for d.end (length d.bytes) id
+
+-- the end after the frame of a half went
+abbrev pub end_after_frame : Draft → ℕ → SendHalf → End
+end_after_frame d id h = with_sending d.end (record d.end.sending { halves = put d.end.sending.halves id (half_after h (stream_room d id)) })
+
+-- the frame of a half goes, where there is the half
+abbrev pub stream_if : Option SendHalf → Draft → ℕ → Draft
+stream_if None d id = d
+stream_if (Some h) d id = with_frame d (stream (frame_of id h (stream_room d id))) (stream_spelling (writes_length h.buffer (stream_room d id)) (frame_of id h (stream_room d id))) (end_after_frame d id h)
+
+-- the frame of a stream goes, if one has something to send
+abbrev pub stream_of : Option ℕ → Draft → Draft
+stream_of None d = d
+stream_of (Some id) d = stream_if (at d.end.sending.halves id) d id
+
+-- the frame of the first stream with something to send goes
+abbrev pub with_stream_frame : Draft → Draft
+with_stream_frame d = stream_of (first_pending d.end.sending.halves) d
+
+-- what an ACK frame says at the moment of the end (RFC 9000, section 19.3)
+abbrev pub ack_of : End → AckValue
+ack_of e = ack_of_set (delay_at e.acknowledging e.closing.clock) e.acknowledging.runs None
+
+-- the end after an acknowledgement went
+abbrev pub after_ack : End → End
+after_ack e = with_acknowledging (with_ack_timer_at e None) (after_acks_sent e.acknowledging)
+
+-- ACK goes
+abbrev pub with_ack : Draft → Draft
+with_ack d = with_frame d (ack (ack_of d.end)) (spelling (ack (ack_of d.end))) (after_ack d.end)
+
+-- whether there is a number to acknowledge, and its frame fits behind a draft's
+abbrev pub ack_fits : Draft → Bool
+ack_fits d = is_filled d.end.acknowledging.runs && nat_le (length d.bytes + frame_size (ack (ack_of d.end))) (frame_room d.end)
+
+-- ACK goes along
+abbrev pub ack_if : Bool → Draft → Draft
+ack_if true d = with_ack d
+ack_if false d = d
+
+-- what asks for an acknowledgement goes
+abbrev pub with_asking : Draft → Draft
+with_asking d = with_stream_frame (with_ping_frame d)
+
+-- an ACK that isn't due goes behind what asks, where it fits
+abbrev pub with_late_ack : Draft → Draft
+with_late_ack d = ack_if (ack_fits d) d
+
+-- a due ACK goes before what asks
+abbrev pub composed_if : Bool → End → Draft
+composed_if true e = with_asking (with_ack (no_frames e))
+composed_if false e = with_late_ack (with_asking (no_frames e))
+
+-- what goes into the next datagram, in this order
+abbrev pub composed : End → Draft
+composed e = composed_if (can_send e.acknowledging) e
+
+-- its payload
+abbrev pub payload_of : Draft → List ℕ
+payload_of d = padded (truncated d.end.numbers.next (cut_against d.end.numbers)).width d.bytes
+
+-- the datagram with these frames
+abbrev pub datagram_of : Policy → Draft → List ℕ
+datagram_of p d = sent p.mask p.hide p.seal d.end.numbers.next (cut_against d.end.numbers) d.end.ids.active.id (payload_of d)
+
+-- whether a datagram with these frames asks for an acknowledgement (RFC 9000, section 13.2)
+abbrev pub asking : List FrameValue → Bool
+asking frames = list_any asks frames
+
+-- the end after its frames went: where they ask for an acknowledgement, it is waited for
+abbrev pub tracked_if : Bool → Draft → End
+tracked_if true d = with_tracking d.end (after_sent d.end.tracking d.end.numbers.next d.end.path.generation d.end.closing.clock (carried_in d.frames))
+tracked_if false d = d.end
 
 -- the end after it went
-abbrev pub after_sent : End → ℕ → SendHalf → End
-after_sent e id h = with_numbers (with_sending e (record e.sending { halves = put e.sending.halves id (half_after h (stream_room e id)) })) (number_given e.numbers)
+abbrev pub after_given : Draft → End
+after_given d = with_numbers (tracked_if (asking d.frames) d) (number_given d.end.numbers)
 
--- the datagram of a half goes
-abbrev pub sends_half : Option SendHalf → Policy → End → ℕ → Polled
-sends_half None p e id = gives_nothing e
-sends_half (Some h) p e id = gives_datagram (datagram_with p e id h) (after_sent e id h)
+-- where a probe waits, a PING does
+abbrev pub probed : End → End
+probed e = if nat_lt 0 e.tracking.probes then with_ping e true else e
 
--- a stream has something to send: where the numbers are used up, the end closes and gives nothing
-abbrev pub sends : Bool → Policy → End → ℕ → Polled
-sends true p e id = sends_half (at e.sending.halves id) p e id
-sends false p e id = gives_nothing (with_closing e (closed_for reasons.NumberLimit e.closing))
+-- whether anything waits to be sent: a due acknowledgement, PING, or a stream
+abbrev pub waits : End → Bool
+waits e = can_send e.acknowledging || (e.waiting.ping || is_some (first_pending e.sending.halves))
 
--- a stream with something to send sends, where there is one
-abbrev pub polled_for : Option ℕ → Policy → End → Polled
-polled_for None p e = gives_nothing e
-polled_for (Some id) p e = sends (can_number e.numbers) p e id
+-- something waits: where the numbers are used up, the end closes and gives nothing
+abbrev pub sends : Bool → Policy → End → Polled
+sends true p e = gives_datagram (datagram_of p (composed e)) (after_given (composed e))
+sends false p e = gives_nothing (closed_by reasons.NumberLimit e)
 
--- what an open end gives
+-- what waits goes, if anything does
+abbrev pub polled_if : Bool → Policy → End → Polled
+polled_if true p e = sends (can_number e.numbers) p e
+polled_if false p e = gives_nothing e
+
+-- what an open end gives: a probe that waits is a PING beside whatever waits (RFC 9002, section 6.2.4)
 abbrev pub polled_open : Policy → End → Polled
-polled_open p e = polled_for (first_pending e.sending.halves) p e
+polled_open p e = polled_if (waits (probed e)) p (probed e)
 
 -- what an end gives by its state
 abbrev pub polled_in : State → Policy → End → ℕ → Polled

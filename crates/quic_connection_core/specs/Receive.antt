@@ -1,9 +1,10 @@
 -- What an end makes of a datagram that comes (RFC 9000, sections 5.2, 12 and 13.1).
-use Rattle.std.specs.Prelude.{ℕ, ◌+◌, Bool, true, false, ◌==◌, ◌||◌, not, if◌then◌else◌, List, [], ◌∷◌, Option, Some, None, Result, Ok, Err}
+use Rattle.std.specs.Prelude.{ℕ, ◌+◌, Bool, true, false, ◌==◌, ◌||◌, not, nat_le, if◌then◌else◌, List, [], ◌∷◌, Option, Some, None, Result, Ok, Err}
+use Rattle.std.specs.List.{list_any}
 use Rattle.quic_wire_core.specs.TransportError.{ErrorValue}
 use Rattle.quic_wire_core.specs.declared.stream_id.Side.{Side}
 use Rattle.quic_wire_core.specs.declared.stream_id.Side.TheVariants.{Client, Server}
-use Rattle.quic_wire.specs.Value.{FrameValue, stream, new_token, handshake_done}
+use Rattle.quic_wire.specs.Value.{FrameValue, AckValue, ack, stream, new_token, handshake_done, asks}
 use Rattle.quic_wire.specs.Items.{items}
 use Rattle.quic_wire.specs.Header.{key_phase, reserved_bits}
 use Rattle.quic_wire.specs.Destination.{decoded, fixed_length_id}
@@ -21,16 +22,18 @@ use Rattle.quic_connection_core.specs.declared.answers.DropReason.{DropReason}
 use Rattle.quic_connection_core.specs.declared.answers.DropReason.TheVariants as drops
 use Rattle.quic_connection_core.specs.declared.answers.Received.{Received}
 use Rattle.quic_connection_core.specs.declared.answers.Received.TheVariants.{Taken, Dropped, Closed}
-use Rattle.quic_connection_core.specs.Closing.{ticked, closed_for}
+use Rattle.quic_connection_core.specs.Closing.{ticked}
 use Rattle.quic_connection_core.specs.Ids.{known}
-use Rattle.quic_connection_core.specs.Numbers.{expected, is_duplicate, number_opened, number_taken}
+use Rattle.quic_connection_core.specs.Numbers.{expected, number_opened, number_taken, number_named}
+use Rattle.quic_recovery_core.specs.Duplicates.{Seen, is_duplicate}
+use Rattle.quic_recovery_core.specs.PendingAcks.{Pending, after_insert, after_packet, packet_starts_wait}
+use Rattle.quic_recovery_core.specs.Timers.{Timers}
+use Rattle.quic_connection_core.specs.Acknowledging.{ack_due, with_ack_timer}
 use Rattle.quic_connection_core.specs.Receiving.{stream_breach, after_stream}
 use Rattle.quic_connection_core.specs.Policy.{Policy}
-use Rattle.quic_connection_core.specs.End.{End, with_closing, with_numbers, with_receiving}
-
--- how many bytes an own id has
-abbrev pub own_id_length : ℕ
-own_id_length = 8
+use Rattle.quic_connection_core.specs.End.{End, with_closing, closed_by, with_numbers, with_receiving}
+use Rattle.quic_connection_core.specs.Opens.{own_id_length}
+use Rattle.quic_connection_core.specs.Acked.{after_acked}
 
 -- ---- what is wrong with a packet that opened
 
@@ -90,8 +93,14 @@ abbrev pub fault_at : Side → Option Fault
 fault_at Client = None
 fault_at Server = Some violation
 
--- what a frame makes of the end; frames that are neither of streams nor of servers alone are read, and do nothing yet
+-- An ACK frame: the greatest number that it names counts, whatever else it names; then the tracked packets that it names are acknowledged, and others
+-- lost. Its counts of marks are ignored. A number that was never given is a broken rule (RFC 9000, section 13.1).
+abbrev pub take_ack : AckValue → End → Progress
+take_ack a e = if nat_le e.numbers.next a.largest then record { end = e; fault = Some violation } else goes_on (after_acked a (with_numbers e (number_named e.numbers a.largest)))
+
+-- what a frame makes of the end; those of other kinds are read, and do nothing yet
 abbrev pub take_frame : FrameValue → End → Progress
+take_frame (ack a) e = take_ack a e
 take_frame (stream f) e = record { end = with_receiving e (after_stream e.side e.receiving f); fault = fault_of (stream_breach e.side e.receiving f) }
 take_frame (new_token t) e = record { end = e; fault = fault_at e.side }
 take_frame handshake_done e = record { end = e; fault = fault_at e.side }
@@ -136,18 +145,42 @@ pub record Outcome : Type 0 where
 abbrev pub dropped : DropReason → End → Outcome
 dropped reason e = record { answer = Dropped reason; end = e }
 
--- all frames were taken, or one was at fault: those before it keep their effect
-abbrev pub ends_as : Option Fault → ℕ → End → Outcome
-ends_as None n e = record { answer = Taken; end = with_numbers e (number_taken e.numbers n) }
-ends_as (Some fault) n e = record { answer = Closed (error_of fault); end = with_closing e (closed_for (reason_of fault) e.closing) }
+-- the timers after a packet of a number was taken, which asks for an acknowledgement or doesn't
+abbrev pub timers_after : Timers → Pending → ℕ → ℕ → Bool → Seen → Timers
+timers_after t p now n asking seen = if packet_starts_wait p n asking seen then with_ack_timer t (Some (ack_due now)) else t
 
--- what a payload with so many frames comes to, where it was taken up to its end
-abbrev pub judged : Progress → ℕ → Outcome
-judged p n = ends_as p.fault n p.end
+-- the whole payload of a packet of this number was taken, which asks for an acknowledgement or doesn't: the number is to be acknowledged
+abbrev pub after_taken : ℕ → Bool → End → End
+after_taken n asking e =
+    let now = e.closing.clock in
+    let p = after_insert e.acknowledging n now in
+    record e {
+      numbers = number_taken e.numbers n;
+      acknowledging = after_packet p now n asking e.numbers.opened;
+      timers = timers_after e.timers p now n asking e.numbers.opened;
+    }
+
+-- all frames were taken, or one was at fault: those before it keep their effect
+abbrev pub ends_as : Option Fault → Bool → ℕ → End → Outcome
+ends_as None asking n e = record { answer = Taken; end = after_taken n asking e }
+ends_as (Some fault) asking n e = record { answer = Closed (error_of fault); end = closed_by (reason_of fault) e }
+
+-- what a payload comes to that asks for an acknowledgement or doesn't, where it was taken so far
+abbrev pub judged : Progress → Bool → ℕ → Outcome
+judged p asking n = ends_as p.fault asking n p.end
+
+-- whether an item of a payload asks for an acknowledgement
+abbrev pub item_asks : Result FrameValue InvalidFrame → Bool
+item_asks (Ok f) = asks f
+item_asks (Err x) = false
+
+-- whether a payload asks for an acknowledgement: one of its frames does (RFC 9000, section 13.2)
+abbrev pub asks_in : List (Result FrameValue InvalidFrame) → Bool
+asks_in is = list_any item_asks is
 
 -- a packet that opened at an open end, under a number that didn't come before
 abbrev pub processed : Opening → ℕ → End → Outcome
-processed o now e = judged (take_payload o.first (items o.payload) (with_closing e (ticked e.closing now))) o.number
+processed o now e = judged (take_payload o.first (items o.payload) (with_closing e (ticked e.closing now))) (asks_in (items o.payload)) o.number
 
 -- a closing end reads nothing of the packet
 abbrev pub by_state : State → Opening → ℕ → End → Outcome

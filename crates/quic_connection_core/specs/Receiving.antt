@@ -6,7 +6,7 @@ use Rattle.quic_wire_core.specs.declared.stream_id.Dir.{Dir}
 use Rattle.quic_wire_core.specs.declared.stream_id.Dir.TheVariants.{Bi, Uni}
 use Rattle.quic_wire_core.specs.StreamId.{stream_id, index_of, other_side}
 use Rattle.quic_wire.specs.Value.{StreamValue}
-use Rattle.quic_streams_core.specs.Arrived.{Arrived, after_insert, after_read, given, runs_of}
+use Rattle.quic_streams_core.specs.Arrived.{Arrived, after_insert, after_read_in, given, runs_of}
 use Rattle.quic_streams_core.specs.declared.connection.assembler.Chunk.{Chunk}
 use Rattle.quic_connection_core.specs.Table.{Table, at, put, without, added}
 use Rattle.quic_connection_core.specs.declared.answers.ReadError.{ReadError}
@@ -42,7 +42,7 @@ most_pieces = 2048
 
 -- a half on which nothing has come
 abbrev pub untouched : RecvHalf
-untouched = record { arrived = record { read = 0; parts = [] }; seen = 0; final = None }
+untouched = record { arrived = record { read = 0; unordered = false; picked = []; parts = [] }; seen = 0; final = None }
 
 -- an own two-way stream is opened
 abbrev pub after_own_open : Receiving → ℕ → Receiving
@@ -188,7 +188,7 @@ next_answer (Some h) most = next_chunk (given h.arrived.parts h.arrived.read mos
 
 -- what it leaves, by its answer: a half whose end was read is done
 abbrev pub after_next : Result (Option Chunk) ReadError → Option RecvHalf → Receiving → ℕ → ℕ → Receiving
-after_next (Ok (Some chunk)) (Some h) r id most = record r { halves = put r.halves id (record h { arrived = after_read h.arrived most }) }
+after_next (Ok (Some chunk)) (Some h) r id most = record r { halves = put r.halves id (record h { arrived = after_read_in false h.arrived most }) }
 after_next (Ok None) (Some h) r id most = record r { halves = without r.halves id }
 after_next (Err e) (Some h) r id most = r
 after_next answer None r id most = r

@@ -1,9 +1,10 @@
 -- A run in which the second of two datagrams comes first: the client writes `abc` and `def`, each in a datagram of its own.
-use Rattle.std.specs.Prelude.{ℕ, false, List, [], ◌∷◌, ◌++◌, replicate, Some, None, Ok, Err}
+use Rattle.std.specs.Prelude.{ℕ, nat_lt, false, List, [], ◌∷◌, ◌++◌, replicate, Some, None, Ok, Err}
 use Rattle.quic_wire_core.specs.declared.stream_id.Side.TheVariants.{Client, Server}
 use Rattle.quic_wire_core.specs.declared.stream_id.Dir.TheVariants.{Bi}
 use Rattle.quic_wire_core.specs.declared.shared.EcnCodepoint.TheVariants.{Ect0}
 use Rattle.quic_wire.specs.Value.{stream}
+use Rattle.quic_recovery_core.specs.PendingAcks.{Pending}
 use Rattle.quic_connection_core.specs.declared.answers.ReadError.TheVariants as read_errors
 use Rattle.quic_connection_core.specs.declared.answers.Received.TheVariants as receives
 use Rattle.quic_connection_core.specs.declared.run.RunEvent.{RunEvent}
@@ -13,10 +14,11 @@ use Rattle.quic_connection_core.specs.declared.run.Answer.{Answer}
 use Rattle.quic_connection_core.specs.declared.run.Answer.TheVariants as answers
 use Rattle.quic_connection_core.specs.declared.run.View.{View}
 use Rattle.quic_connection_core.specs.Receiving.{RecvHalf}
+use Rattle.quic_connection_core.specs.Tracking.{TrackedPacket}
 use Rattle.quic_connection_core.specs.End.{End}
 use Rattle.quic_connection_core.specs.Machine.{World}
 use Rattle.quic_connection_core.specs.Runs.{Packet, Run}
-use Rattle.quic_connection_core.specs.Worked.{worked_policies, client_made, server_made, half_with, client_with, open_view}
+use Rattle.quic_connection_core.specs.Worked.{worked_policies, client_made, server_made, half_with, client_with, pending_with, ack_timer, carrying, open_view, sent_view, waiting_view}
 
 -- the first three bytes of the stream
 abbrev pub abc : List ℕ
@@ -42,28 +44,42 @@ def_datagram =
 
 -- ---- the ends, after each of their events
 
--- the client that was given these bytes, of which so many are sent, in so many datagrams
-abbrev pub client_after : List ℕ → ℕ → ℕ → ℕ → End
-client_after kept accepted unsent given = record (client_with (half_with kept unsent false false) accepted) { numbers = record client_made.numbers { next = given } }
+-- the client that was given these bytes, in these pieces, of which so many are sent, in so many datagrams
+abbrev pub client_after : List ℕ → List ℕ → ℕ → ℕ → ℕ → End
+client_after kept pieces accepted unsent given = record (client_with (half_with kept pieces unsent false false) accepted) { numbers = record client_made.numbers { next = given } }
 
--- the server that opened the packets of these places, up to number 1, with this receiving half and so many streams accepted
-abbrev pub server_after : List ℕ → RecvHalf → ℕ → End
-server_after places half accepted = record server_made {
-  numbers = record server_made.numbers { opened = record { next = 2; places = places ++ replicate 127 0 }; taken = Some 1 };
+-- the datagram with the first three bytes in flight
+abbrev pub first_sent : List (ℕ × TrackedPacket)
+first_sent = (0, carrying 0 3 false) ∷ []
+
+-- both datagrams in flight
+abbrev pub both_sent : List (ℕ × TrackedPacket)
+both_sent = (0, carrying 0 3 false) ∷ (1, carrying 3 6 false) ∷ []
+
+-- so many packets that ask came at moment 0, the greatest number 1, and the least as it is told: with the second an acknowledgement is due
+abbrev pub pending_after : ℕ → ℕ → Pending
+pending_after count least = pending_with (nat_lt 1 count) count (Some 0) (record { start = least; end = 2 } ∷ []) (Some (1, 0)) (Some 1)
+
+-- the server that opened the packets of these numbers, which are to be acknowledged, the greatest 1, with this receiving half and so many streams accepted
+abbrev pub server_after : List ℕ → Pending → RecvHalf → ℕ → End
+server_after numbers pending half accepted = record server_made {
+  numbers = record server_made.numbers { opened = numbers; taken = Some 1 };
+  acknowledging = pending;
+  timers = ack_timer (Some 25000000);
   receiving = record server_made.receiving { halves = (0, half) ∷ []; opened_bi = 1; accepted_bi = accepted; seen = 6 };
 }
 
 -- the half with the later bytes alone
 abbrev pub half_late : RecvHalf
-half_late = record { arrived = record { read = 0; parts = (6, def) ∷ [] }; seen = 6; final = None }
+half_late = record { arrived = record { read = 0; unordered = false; picked = []; parts = (6, def) ∷ [] }; seen = 6; final = None }
 
 -- the half with all bytes
 abbrev pub half_whole : RecvHalf
-half_whole = record { arrived = record { read = 0; parts = (3, abc) ∷ (6, def) ∷ [] }; seen = 6; final = None }
+half_whole = record { arrived = record { read = 0; unordered = false; picked = []; parts = (3, abc) ∷ (6, def) ∷ [] }; seen = 6; final = None }
 
 -- the half, all read
 abbrev pub half_read : RecvHalf
-half_read = record { arrived = record { read = 6; parts = [] }; seen = 6; final = None }
+half_read = record { arrived = record { read = 6; unordered = false; picked = []; parts = [] }; seen = 6; final = None }
 
 -- both ends, and what the client gave
 abbrev pub two_ends : End → End → List (List ℕ) → World
@@ -107,7 +123,10 @@ reordered_answers =
 
 -- what is seen of both ends after each event
 abbrev pub reordered_views : List View
-reordered_views = replicate 10 (record { client = open_view; server = open_view })
+reordered_views =
+    replicate 2 (record { client = open_view; server = open_view })
+    ++ replicate 3 (record { client = sent_view; server = open_view })
+    ++ replicate 5 (record { client = sent_view; server = waiting_view })
 
 -- the run
 abbrev pub reordered_run : ReadCall → ReadCall → Run

@@ -5,12 +5,9 @@ use Rattle.quic_wire_core.specs.declared.stream_id.Side.{Side}
 use Rattle.quic_wire_core.specs.declared.stream_id.Side.TheVariants.{Client, Server}
 use Rattle.quic_wire_core.specs.StreamId.{other_side}
 use Rattle.quic_wire.specs.Value.{FrameValue, StreamValue, ack, stream}
-use Rattle.quic_wire.specs.Header.{key_phase}
 use Rattle.quic_wire.specs.Items.{items}
-use Rattle.quic_wire.specs.Datagram.{Opening, opened_packet}
-use Rattle.quic_wire.specs.Destination.{decoded, fixed_length_id}
+use Rattle.quic_wire.specs.Datagram.{Opening}
 use Rattle.quic_wire.specs.declared.frame.InvalidFrame.{InvalidFrame}
-use Rattle.quic_wire.specs.declared.packet.HeaderError.{HeaderError}
 use Rattle.quic_streams_core.specs.declared.connection.assembler.Chunk.{Chunk}
 use Rattle.quic_connection_core.specs.declared.answers.ReadError.{ReadError}
 use Rattle.quic_connection_core.specs.declared.answers.Received.TheVariants as receives
@@ -25,7 +22,7 @@ use Rattle.quic_connection_core.specs.declared.run.View.{View}
 use Rattle.quic_connection_core.specs.Ids.{known, own_id}
 use Rattle.quic_connection_core.specs.Numbers.{duplicate_span}
 use Rattle.quic_connection_core.specs.Policy.{Policy}
-use Rattle.quic_connection_core.specs.Receive.{own_id_length}
+use Rattle.quic_connection_core.specs.Opens.{own_id_length, in_phase, opens_behind, opens}
 use Rattle.quic_connection_core.specs.Machine.{World, Policies, policy_at, end_at, fails}
 
 -- ---- a run
@@ -206,21 +203,6 @@ expected_behind (p ∷ ps) = max (p.number + 1) (expected_behind ps)
 -- whether a number is a duplicate behind others: one of them, or a whole span or more below one (RFC 9000, section 12.3)
 abbrev pub is_again : ℕ → List ℕ → Bool
 is_again n numbers = list_any (λ m. (m == n) || nat_le (n + duplicate_span) m) numbers
-
--- a packet whose key phase is 0
-abbrev pub in_phase : Option Opening → Option Opening
-in_phase None = None
-in_phase (Some o) = if key_phase o.first then None else Some o
-
--- what a datagram opens to, by what its header says
-abbrev pub opens_behind : Result (List ℕ) HeaderError → Policy → ℕ → List ℕ → Option Opening
-opens_behind (Err e) p expected d = None
-opens_behind (Ok id) p expected d = in_phase (opened_packet p.unmask p.reveal p.unseal (own_id_length + 1) expected d)
-
--- What a datagram opens to at an end with these ids, where this number is expected: it has a short header with one of the ids, and its
--- packet opens under the number to which its number's bytes expand (RFC 9000, section 12.2).
-abbrev pub opens : Policy → List (List ℕ) → ℕ → List ℕ → Option Opening
-opens p ids expected d = opens_behind (decoded (fixed_length_id own_id_length) ids d) p expected d
 
 -- the frames among the items of a payload
 abbrev pub frames_of : List (Result FrameValue InvalidFrame) → List FrameValue

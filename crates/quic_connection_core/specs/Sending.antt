@@ -1,5 +1,5 @@
 -- The sending halves of the streams of an end (RFC 9000, sections 2, 3.1 and 4).
-use Rattle.std.specs.Prelude.{ℕ, ◌+◌, ◌-◌, min, Bool, true, false, nat_lt, ◌==◌, ◌&&◌, ◌||◌, if◌then◌else◌, List, [], ◌++◌, length, take, Option, Some, None, Result, Ok, Err}
+use Rattle.std.specs.Prelude.{ℕ, ◌+◌, ◌-◌, min, Bool, true, false, nat_lt, ◌==◌, ◌&&◌, ◌||◌, not, if◌then◌else◌, List, [], ◌++◌, length, take, Option, Some, None, Result, Ok, Err}
 use Rattle.std.specs.List.{sum_by}
 use Rattle.std.specs.Map.{values_of}
 use Rattle.quic_wire_core.specs.declared.stream_id.Side.{Side}
@@ -7,18 +7,21 @@ use Rattle.quic_wire_core.specs.declared.stream_id.Dir.{Dir}
 use Rattle.quic_wire_core.specs.declared.stream_id.Dir.TheVariants.{Bi, Uni}
 use Rattle.quic_wire_core.specs.declared.stream_id.Side.TheVariants.{Client, Server}
 use Rattle.quic_wire_core.specs.StreamId.{stream_id}
-use Rattle.quic_streams_core.specs.Buffered.{Buffered, written}
+use Rattle.quic_streams_core.specs.Buffered.{Buffered, nothing_written, written, has_unsent, is_fully_acked, after_write, after_ack, after_loss}
+use Rattle.quic_streams_core.specs.declared.stream_meta.StreamMeta.{StreamMeta}
 use Rattle.quic_connection_core.specs.Table.{Table, at, put, added}
 use Rattle.quic_connection_core.specs.declared.answers.WriteError.{WriteError}
 use Rattle.quic_connection_core.specs.declared.answers.WriteError.TheVariants as write_errors
 use Rattle.quic_connection_core.specs.declared.answers.FinishError.{FinishError}
 use Rattle.quic_connection_core.specs.declared.answers.FinishError.TheVariants as finish_errors
 
--- a sending half: what was written and may have to go, whether it is finished, whether its end waits to go, and how far the peer lets it come
+-- a sending half: what was written and may have to go, whether it is finished, whether its end waits to go, whether its end is acknowledged, and how far the
+-- peer lets it come
 pub record SendHalf : Type 0 where
   pub buffer : Buffered
   pub finished : Bool
   pub end_waits : Bool
+  pub end_acked : Bool
   pub limit : ℕ
 
 -- the sending halves by id; how many streams of each kind were opened, and how many may be; what was accepted on all
@@ -48,9 +51,9 @@ buffered s = sum_by (λ h. length h.buffer.kept) (values_of s.halves)
 abbrev pub room : Sending → ℕ
 room s = min (s.limit - s.accepted) (s.window - buffered s)
 
--- whether a half has something to send: bytes never sent, or its end
+-- whether a half has something to send: bytes that are lost or were never sent, or its end
 abbrev pub has_pending : SendHalf → Bool
-has_pending h = nat_lt h.buffer.unsent (written_on h) || h.end_waits
+has_pending h = has_unsent h.buffer || h.end_waits
 
 -- ---- opening (RFC 9000, section 4.6)
 
@@ -84,7 +87,7 @@ first_limit Uni s = s.first_limit_uni
 
 -- a half on which nothing was written
 abbrev pub new_half : ℕ → SendHalf
-new_half limit = record { buffer = record { base = 0; kept = []; unsent = 0 }; finished = false; end_waits = false; limit = limit }
+new_half limit = record { buffer = nothing_written; finished = false; end_waits = false; end_acked = false; limit = limit }
 
 -- one more stream of a kind is opened
 abbrev pub one_more : Dir → Sending → Sending
@@ -116,7 +119,7 @@ write_answer false s id len = Err write_errors.Blocked
 
 -- these bytes go behind those that were written on a half
 abbrev pub grown : SendHalf → List ℕ → SendHalf
-grown h bytes = record h { buffer = record h.buffer { kept = h.buffer.kept ++ bytes } }
+grown h bytes = record h { buffer = after_write h.buffer bytes }
 
 -- the halves after bytes were written on one
 abbrev pub grown_at : Option SendHalf → Table SendHalf → ℕ → List ℕ → Table SendHalf
@@ -150,3 +153,44 @@ ended_at (Some h) halves id = if h.finished then halves else put halves id (ende
 -- the sending halves after a finish
 abbrev pub after_finish : Sending → ℕ → Sending
 after_finish s id = record s { halves = ended_at (at s.halves id) s.halves id }
+
+-- ---- what was acknowledged or lost (RFC 9000, section 13.3)
+
+-- whether a half is wholly acknowledged, its end too
+abbrev pub is_acked : SendHalf → Bool
+is_acked h = h.end_acked && is_fully_acked h.buffer
+
+-- the half after a frame of it was acknowledged
+abbrev pub half_acked : SendHalf → StreamMeta → SendHalf
+half_acked h m = record h { buffer = after_ack h.buffer m.offsets.start m.offsets.end; end_waits = h.end_waits && not m.fin; end_acked = h.end_acked || m.fin }
+
+-- the half after a frame of it was lost: what isn't acknowledged goes again
+abbrev pub half_lost : SendHalf → StreamMeta → SendHalf
+half_lost h m = record h { buffer = after_loss h.buffer m.offsets.start m.offsets.end; end_waits = h.end_waits || (m.fin && not h.end_acked) }
+
+-- the halves after a frame of one was acknowledged
+abbrev pub acked_at : Option SendHalf → Table SendHalf → StreamMeta → Table SendHalf
+acked_at None halves m = halves
+acked_at (Some h) halves m = put halves m.id (half_acked h m)
+
+-- the halves after a frame of one was lost
+abbrev pub lost_at : Option SendHalf → Table SendHalf → StreamMeta → Table SendHalf
+lost_at None halves m = halves
+lost_at (Some h) halves m = put halves m.id (half_lost h m)
+
+-- the sending halves after a frame was acknowledged
+abbrev pub after_stream_acked : Sending → StreamMeta → Sending
+after_stream_acked s m = record s { halves = acked_at (at s.halves m.id) s.halves m }
+
+-- the sending halves after a frame was lost
+abbrev pub after_stream_lost : Sending → StreamMeta → Sending
+after_stream_lost s m = record s { halves = lost_at (at s.halves m.id) s.halves m }
+
+-- whether an acknowledged frame leaves its half wholly acknowledged that wasn't before
+abbrev pub finishes_half : Option SendHalf → StreamMeta → Bool
+finishes_half None m = false
+finishes_half (Some h) m = not (is_acked h) && is_acked (half_acked h m)
+
+-- whether an acknowledged frame finishes its stream
+abbrev pub finishes : Sending → StreamMeta → Bool
+finishes s m = finishes_half (at s.halves m.id) m

@@ -6,6 +6,9 @@ use Rattle.quic_wire_core.specs.declared.stream_id.Side.{Side}
 use Rattle.quic_wire_core.specs.declared.stream_id.Side.TheVariants.{Client, Server}
 use Rattle.quic_wire_core.specs.declared.stream_id.Dir.TheVariants.{Bi}
 use Rattle.quic_wire_core.specs.declared.shared.EcnCodepoint.TheVariants.{Ect0}
+use Rattle.quic_wire_core.specs.Runs as wire_runs
+use Rattle.quic_recovery_core.specs.PendingAcks.{Pending}
+use Rattle.quic_recovery_core.specs.Timers.{Timers}
 use Rattle.quic_wire.specs.Value.{StreamValue}
 use Rattle.quic_wire.specs.Number.{truncated, number_bytes}
 use Rattle.quic_wire.specs.Datagram.{datagram_of, sent}
@@ -24,6 +27,7 @@ use Rattle.quic_connection_core.specs.declared.run.View.{View}
 use Rattle.quic_connection_core.specs.Policy.{Policy}
 use Rattle.quic_connection_core.specs.Sending.{SendHalf}
 use Rattle.quic_connection_core.specs.Receiving.{RecvHalf}
+use Rattle.quic_connection_core.specs.Tracking.{TrackedPacket}
 use Rattle.quic_connection_core.specs.End.{End}
 use Rattle.quic_connection_core.specs.Receive.{received}
 use Rattle.quic_connection_core.specs.Machine.{World, Policies}
@@ -96,15 +100,50 @@ worked_parameters =
     ++ (0x20 ∷ 0x04 ∷ 0x80 ∷ 0x00 ∷ 0xff ∷ 0xff ∷ [])
     ++ (0xc0 ∷ 0x00 ∷ 0x00 ∷ 0x00 ∷ 0xff ∷ 0x04 ∷ 0xde ∷ 0x1b ∷ 0x02 ∷ 0x43 ∷ 0xe8 ∷ [])
 
+-- packets to acknowledge: whether an acknowledgement is due, how many asking ones came since the last and the moment of the first, the numbers, and the
+-- greatest, with the moment at which it came
+abbrev pub pending_with : Bool → ℕ → Option ℕ → List wire_runs.Run → Option (ℕ × ℕ) → Option ℕ → Pending
+pending_with due asking since runs newest greatest = record {
+  due = due;
+  asking = asking;
+  silent = 0;
+  threshold = 1;
+  reordering = 0;
+  since = since;
+  runs = runs;
+  newest = newest;
+  greatest = greatest;
+  acked = None;
+}
+
+-- the timers of losses and of acknowledgements, set or not
+abbrev pub timers_with : Option ℕ → Option ℕ → Timers
+timers_with loss moment = record {
+  loss_detection = loss;
+  idle = None;
+  close = None;
+  key_discard = None;
+  path_validation = None;
+  keep_alive = None;
+  pacing = None;
+  push_new_cid = None;
+  max_ack_delay = moment;
+}
+
+-- the timer of acknowledgements alone, set or not
+abbrev pub ack_timer : Option ℕ → Timers
+ack_timer moment = timers_with None moment
+
 -- an end with nothing sent or received, made at moment 0 on a validated path
 abbrev pub fresh : Side → List ℕ → List ℕ → End
 fresh side own theirs = record {
   side = side;
-  closing = record { clock = 0; state = states.Open; reason = None };
+  closing = record { clock = 0; state = states.Open; reason = None; told = false };
   ids = record { issued = 1; living = record { number = 0; id = own } ∷ []; active = record { number = 0; id = theirs }; later = [] };
-  numbers = record { next = 0; acknowledged = None; opened = record { next = 0; places = replicate 129 0 }; taken = None };
-  acknowledging = record { due = false; numbers = [] };
-  tracking = record { packets = [] };
+  numbers = record { next = 0; acknowledged = None; opened = []; taken = None };
+  acknowledging = pending_with false 0 None [] None None;
+  timers = ack_timer None;
+  tracking = record { packets = []; last_asking = 0; timeouts = 0; probes = 0 };
   path = record { validated = true; generation = 0 };
   sending = record {
     halves = [];
@@ -131,7 +170,8 @@ fresh side own theirs = record {
     stream_limit = 1250000;
   };
   messages = record { outgoing = []; incoming = [] };
-  waiting = record { frames = [] };
+  waiting = record { ping = false; frames = [] };
+  events = [];
 }
 
 -- the client before the first event
@@ -148,36 +188,48 @@ server_made = fresh Server server_id client_id
 abbrev pub hello : List ℕ
 hello = 104 ∷ 101 ∷ 108 ∷ 108 ∷ 111 ∷ []
 
--- the sending half of the stream
-abbrev pub half_with : List ℕ → ℕ → Bool → Bool → SendHalf
-half_with kept unsent finished end_waits = record { buffer = record { base = 0; kept = kept; unsent = unsent }; finished = finished; end_waits = end_waits; limit = 1250000 }
+-- the sending half of the stream: what was written, in these pieces, and how much of it was sent
+abbrev pub half_with : List ℕ → List ℕ → ℕ → Bool → Bool → SendHalf
+half_with kept pieces unsent finished end_waits = record { buffer = record { base = 0; kept = kept; pieces = pieces; unsent = unsent; acked = []; lost = [] }; finished = finished; end_waits = end_waits; end_acked = false; limit = 1250000 }
 
 -- the client with this sending half, and so many bytes accepted
 abbrev pub client_with : SendHalf → ℕ → End
 client_with half accepted = record client_made {
   sending = record client_made.sending { halves = (0, half) ∷ []; opened_bi = 1; accepted = accepted };
-  receiving = record client_made.receiving { halves = (0, record { arrived = record { read = 0; parts = [] }; seen = 0; final = None }) ∷ [] };
+  receiving = record client_made.receiving { halves = (0, record { arrived = record { read = 0; unordered = false; picked = []; parts = [] }; seen = 0; final = None }) ∷ [] };
 }
 
 -- the stream is open
 abbrev pub client_opened : End
-client_opened = client_with (half_with [] 0 false false) 0
+client_opened = client_with (half_with [] [] 0 false false) 0
 
 -- five bytes wait to be sent
 abbrev pub client_wrote : End
-client_wrote = client_with (half_with hello 0 false false) 5
+client_wrote = client_with (half_with hello (5 ∷ []) 0 false false) 5
 
 -- and the end behind them
 abbrev pub client_ended : End
-client_ended = client_with (half_with hello 0 true true) 5
+client_ended = client_with (half_with hello (5 ∷ []) 0 true true) 5
+
+-- a datagram that went at moment 0 with the bytes of stream 0 from one offset up to another, and with its end or not
+abbrev pub carrying : ℕ → ℕ → Bool → TrackedPacket
+carrying start end fin = record {
+  generation = 0;
+  given_at = 0;
+  carried = record { acked = None; streams = record { id = 0; offsets = record { start = start; end = end }; fin = fin } ∷ [] };
+}
+
+-- an end that waits for these datagrams to be acknowledged, the last of which went at moment 0: for 1024 ms
+abbrev pub waiting_for : List (ℕ × TrackedPacket) → End → End
+waiting_for packets e = record e { tracking = record e.tracking { packets = packets }; timers = timers_with (Some 1024000000) None }
 
 -- all is sent, under the first number
 abbrev pub client_sent : End
-client_sent = record (client_with (half_with hello 5 true false) 5) { numbers = record client_made.numbers { next = 1 } }
+client_sent = waiting_for ((0, carrying 0 5 true) ∷ []) (record (client_with (half_with hello (5 ∷ []) 5 true false) 5) { numbers = record client_made.numbers { next = 1 } })
 
 -- an end that lacked memory where it can't say so
 abbrev pub failed_end : End → End
-failed_end e = record e { closing = record { clock = 0; state = states.Failed; reason = None } }
+failed_end e = record e { closing = record { clock = 0; state = states.Failed; reason = None; told = false } }
 
 -- an end whose peer takes so many bytes on all streams
 abbrev pub within : ℕ → End → End
@@ -214,16 +266,22 @@ at_server server datagram = (received worked_policies.server server 0 datagram).
 
 -- ---- the server, after each of its events
 
+-- one packet that asks came at moment 0, under number 0
+abbrev pub hello_pending : Bool → Pending
+hello_pending due = pending_with due 1 (Some 0) (record { start = 0; end = 1 } ∷ []) (Some (0, 0)) (Some 0)
+
 -- the server with these receiving halves, so many streams accepted
 abbrev pub server_with : List (ℕ × RecvHalf) → ℕ → End
 server_with halves accepted = record server_made {
-  numbers = record server_made.numbers { opened = record { next = 1; places = 1 ∷ replicate 128 0 }; taken = Some 0 };
+  numbers = record server_made.numbers { opened = 0 ∷ []; taken = Some 0 };
+  acknowledging = hello_pending false;
+  timers = ack_timer (Some 25000000);
   receiving = record server_made.receiving { halves = halves; opened_bi = 1; accepted_bi = accepted; seen = 5 };
 }
 
 -- the receiving half, with all bytes
 abbrev pub half_arrived : RecvHalf
-half_arrived = record { arrived = record { read = 0; parts = (5, hello) ∷ [] }; seen = 5; final = Some 5 }
+half_arrived = record { arrived = record { read = 0; unordered = false; picked = []; parts = (5, hello) ∷ [] }; seen = 5; final = Some 5 }
 
 -- the datagram is taken
 abbrev pub server_took : End
@@ -281,13 +339,27 @@ worked_answers =
     ∷ answers.Read (Ok (Ok (Some (record { offset = 0; bytes = hello })) ∷ Ok None ∷ []))
     ∷ []
 
--- what is seen of an end throughout
-abbrev pub open_view : EndView
-open_view = record { state = states.Open; reason = None; validated = true; timers = replicate 9 None; window = None; current_mtu = None }
+-- what is seen of an end that is open, with the timers of losses and of acknowledgements set or not
+abbrev pub view_with : Option ℕ → Option ℕ → EndView
+view_with loss moment = record { state = states.Open; reason = None; validated = true; timers = loss ∷ replicate 7 None ++ moment ∷ []; window = None; current_mtu = None }
 
--- what is seen of both after each event
+-- what is seen of an open end that has no timer set
+abbrev pub open_view : EndView
+open_view = view_with None None
+
+-- of one that gave an asking datagram at moment 0
+abbrev pub sent_view : EndView
+sent_view = view_with (Some 1024000000) None
+
+-- and of one that took it at moment 0
+abbrev pub waiting_view : EndView
+waiting_view = view_with None (Some 25000000)
+
+-- what is seen of both after each event: the client waits for an acknowledgement once it gave the datagram, and the server's waits for 25 ms once it took it
 abbrev pub worked_views : List View
-worked_views = replicate 8 (record { client = open_view; server = open_view })
+worked_views =
+    replicate 3 (record { client = open_view; server = open_view })
+    ++ record { client = sent_view; server = open_view } ∷ replicate 4 (record { client = sent_view; server = waiting_view })
 
 -- the run with these answers
 abbrev pub run_with : ReadCall → List Answer → Run

@@ -1,7 +1,7 @@
 //! What the calls of an end answer.
 ghost use Rattle.std.specs.Prelude.{◌≡◌};
 
-use quic_wire_core::{EcnCodepoint, TransportError, VarInt};
+use quic_wire_core::{EcnCodepoint, StreamId, TransportError, VarInt};
 use thiserror::Error;
 
 /// Whether an end is open (RFC 9000, section 10).
@@ -48,6 +48,22 @@ impl LostReason {
             LostReason::Transport(error) => LostReason::Transport(error.copied()),
         }
     }
+}
+
+/// What happened to a stream (quinn-proto's `StreamEvent`).
+#[derive(Clone, Copy, Debug, PartialEq, Eq)]
+pub enum StreamEvent {
+    /// The stream was finished, and all its bytes and its end are acknowledged.
+    Finished(StreamId),
+}
+
+/// What the application is told (quinn-proto's `Event`).
+#[derive(Debug, Drop)]
+pub enum Event {
+    /// Something happened to a stream.
+    Stream(StreamEvent),
+    /// The end is lost. It is told once, and never of an end that has failed.
+    Lost(LostReason),
 }
 
 /// Why a datagram was dropped; nothing in the end has changed.

@@ -2,7 +2,7 @@
 //! reference machine whose ends, keys and applications meet the premises.
 ghost use Rattle.quic_connection_core.specs.Machine.{World};
 ghost use Rattle.quic_connection_core.specs.Runs.{Run};
-ghost use Rattle.quic_connection_core.specs.Headline.{IsHonest, IsRun, OrderedPrefix, Slices, Once, EndAfterAll, BlockedOnlyWithoutBytes, AcceptsAll, NumbersRise};
+ghost use Rattle.quic_connection_core.specs.Headline.{IsHonest, IsRun, OrderedPrefix, Slices, Once, EndAfterAll, BlockedOnlyWithoutBytes, AcceptsAll, FinishedMeansArrived, NumbersRise};
 
 /// The bytes read of a stream at one end are a prefix of those written on it at the other (RFC 9000, section 2.2).
 pub fn ordered_prefix()
@@ -32,6 +32,11 @@ pub fn blocked_only_without_bytes()
 /// Nothing is accepted only where every stream of that kind that arrived was accepted.
 pub fn accepts_all()
     ensures { (r : Run) (end : World) → IsHonest r → IsRun r end → AcceptsAll r }
+{}
+
+/// A stream is told to be finished only where it was ended, and all its bytes and its end are in what the other end took.
+pub fn finished_means_arrived()
+    ensures { (r : Run) (end : World) → IsHonest r → IsRun r end → FinishedMeansArrived r }
 {}
 
 /// Each datagram given is the datagram of a number, the peer's id and stated frames, and its number is above all before

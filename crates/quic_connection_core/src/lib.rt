@@ -2,20 +2,20 @@
 //! call of one end answers and leaves, and runs of two ends over a network.
 #![tactic(auto)]
 
+pub mod acknowledged;
 mod answers;
 pub mod broken;
-mod config;
 pub mod headline;
-mod instant;
 pub mod laws;
 pub mod reordered;
 mod run;
 pub mod worked;
 
 pub use answers::{
-    Breach, ConfigError, DropReason, Failed, FinishError, LostReason, ReadError, ReadableError,
-    Received, State, Transmit, WriteError,
+    Breach, ConfigError, DropReason, Event, Failed, FinishError, LostReason, ReadError,
+    ReadableError, Received, State, StreamEvent, Transmit, WriteError,
 };
-pub use config::{IdleTimeout, TransportConfig};
-pub use instant::Instant;
-pub use run::{Answer, Call, Datagram, Delivery, EndView, Nexts, ReadCall, RunEvent, View};
+pub use quic_recovery_core::{IdleTimeout, Instant, Timer, TransportConfig};
+pub use run::{
+    Answer, Call, Datagram, Delivery, EndView, Injection, Nexts, ReadCall, RunEvent, View,
+};

@@ -2,11 +2,11 @@
 ghost use Rattle.std.specs.Prelude.{◌≡◌};
 
 use crate::answers::{
-    Failed, FinishError, LostReason, ReadError, ReadableError, Received, State, Transmit,
+    Event, Failed, FinishError, LostReason, ReadError, ReadableError, Received, State, Transmit,
     WriteError,
 };
-use crate::instant::Instant;
 use bytes::Bytes;
+use quic_recovery_core::{Instant, Timer};
 use quic_streams_core::Chunk;
 use quic_wire_core::{Dir, EcnCodepoint, Side, StreamId};
 use std::alloc::AllocError;
@@ -32,10 +32,22 @@ pub enum Call {
     Finish(StreamId),
     /// Reads a stream in order: the bounds of each `next`, then `finalize` or a drop.
     Read(ReadCall),
+    /// Asks for a PING.
+    Ping,
     /// Asks for a datagram at this moment.
     Poll(Instant),
+    /// Lets timers expire that are set up to this moment.
+    Timeout(Instant),
     /// A datagram of the other end arrives.
     Deliver(Delivery),
+    /// Bytes arrive that the other end gave out or didn't.
+    Inject(Injection),
+    /// Asks what the application is to be told.
+    Event,
+    /// Asks when a timer expires.
+    Timer(Timer),
+    /// Asks when the next timer expires.
+    NextTimeout,
 }
 
 /// A read of a stream.
@@ -55,6 +67,14 @@ pub struct Delivery {
     pub ecn: Option<EcnCodepoint>,
     /// Which of the other end's datagrams it is, counted from 0.
     pub index: usize,
+}
+
+/// The arrival of any bytes as a datagram.
+#[derive(Debug, Drop)]
+pub struct Injection {
+    pub now: Instant,
+    pub ecn: Option<EcnCodepoint>,
+    pub bytes: Bytes,
 }
 
 /// What each `next` of a read answered. Contracts see the list.
@@ -97,10 +117,18 @@ pub enum Answer {
     Write(Result<usize, WriteError>),
     Finish(Result<(), FinishError>),
     Read(Result<Nexts, ReadableError>),
+    Ping,
     Poll(Result<Option<Transmit>, Failed>),
+    Timeout(Result<(), Failed>),
     Deliver(Received),
     /// The other end gave out no such datagram; no call was made.
     NoDatagram,
+    Inject(Received),
+    /// The injected bytes would open; no call was made.
+    Opens,
+    Event(Option<Event>),
+    Timer(Option<Instant>),
+    NextTimeout(Option<Instant>),
 }
 
 /// What is seen of one end after an event. What this stage has no call for is `None`.

@@ -26,15 +26,17 @@ ghost use Rattle.quic_connection_core.specs.declared.answers.Received.TheVariant
 ghost use Rattle.quic_connection_core.specs.declared.run.ReadCall.{ReadCall};
 ghost use Rattle.quic_connection_core.specs.declared.run.Call.TheVariants as calls;
 ghost use Rattle.quic_connection_core.specs.declared.run.Answer.TheVariants as answers;
-ghost use Rattle.quic_connection_core.specs.Settings.{default_settings};
-ghost use Rattle.quic_connection_core.specs.Numbers.{none_opened, with_opened, is_duplicate};
+ghost use Rattle.quic_recovery_core.specs.Transport.{default_settings};
+ghost use Rattle.quic_recovery_core.specs.Duplicates.{is_duplicate};
+ghost use Rattle.quic_recovery_core.specs.DuplicateRuns.{seen_after};
 ghost use Rattle.quic_connection_core.specs.Sending.{finish_answer};
 ghost use Rattle.quic_connection_core.specs.Receiving.{read_answer};
 ghost use Rattle.quic_connection_core.specs.End.{MadeFrom, refusal_of};
 ghost use Rattle.quic_connection_core.specs.Calls.{open_answer, end_accepts, end_writes, end_after_write, end_next};
 ghost use Rattle.quic_connection_core.specs.Poll.{IsDatagram, polled};
 ghost use Rattle.quic_connection_core.specs.Machine.{IsStep, Follows};
-ghost use Rattle.quic_connection_core.specs.Runs.{until, written, ended, reads, finished, ids_of, accepts, count_given, given_until, opens, took, is_again, HasArrived, EndHasArrived};
+ghost use Rattle.quic_connection_core.specs.Opens.{opens};
+ghost use Rattle.quic_connection_core.specs.Runs.{until, written, ended, reads, finished, ids_of, accepts, count_given, given_until, took, is_again, HasArrived, EndHasArrived};
 ghost use Rattle.quic_connection_core.specs.Headline.{AreStarted, AreKeys, IsHonest, IsRun};
 ghost use Rattle.quic_connection_core.specs.Worked.{worked_parameters, client_id, server_id, client_made, server_made, client_opened, client_ended, client_sent, hello, hello_frame, hello_payload, hello_datagram, delivers, failed_end, from_client, client_packet, at_server, within, server_took, server_read, before_sending, after_sending, worked_policies, worked_events, worked_answers, worked_views, worked_run};
 
@@ -111,10 +113,10 @@ pub fn duplicates_are_told()
     ensures old { is_again 0 (129 ∷ []) ≡ true }
     ensures new { is_again 1 (0 ∷ []) ≡ false }
     ensures late { is_again 0 (128 ∷ []) ≡ false }
-    ensures same_opened { is_duplicate (with_opened none_opened 0) 0 ≡ true }
-    ensures old_opened { is_duplicate (with_opened none_opened 129) 0 ≡ true }
-    ensures new_opened { is_duplicate (with_opened none_opened 0) 1 ≡ false }
-    ensures late_opened { is_duplicate (with_opened none_opened 128) 0 ≡ false }
+    ensures same_opened { is_duplicate (seen_after (0 ∷ [])) 0 ≡ true }
+    ensures old_opened { is_duplicate (seen_after (129 ∷ [])) 0 ≡ true }
+    ensures new_opened { is_duplicate (seen_after (0 ∷ [])) 1 ≡ false }
+    ensures late_opened { is_duplicate (seen_after (128 ∷ [])) 0 ≡ false }
 {}
 
 /// A datagram that isn't for the server, or doesn't open, is dropped (RFC 9000, sections 5.2 and 17.3.1; RFC 9001, section 5.4.2).
@@ -126,7 +128,7 @@ pub fn datagrams_are_dropped()
     ensures other_tag { at_server server_made ((0x40 ∷ server_id) ++ replicate 21 0) ≡ Dropped drops.NotOpened }
     ensures key_phase { at_server server_made (client_packet 0x44 0 hello_payload) ≡ Dropped drops.KeyPhase }
     ensures again { at_server server_took hello_datagram ≡ Dropped drops.Duplicate }
-    ensures drained { at_server (record server_made { closing = record { clock = 0; state = states.Drained; reason = None } }) hello_datagram ≡ Dropped drops.Drained }
+    ensures drained { at_server (record server_made { closing = record { clock = 0; state = states.Drained; reason = None; told = false } }) hello_datagram ≡ Dropped drops.Drained }
 {}
 
 /// A packet that breaks a rule closes the server with the error of that rule (RFC 9000, section 20.1).
@@ -154,7 +156,7 @@ pub fn calls_are_bounded()
     ensures ended { end_writes client_ended 0 5 ≡ Err write_errors.ClosedStream }
     ensures within { end_writes (within 8 client_opened) 0 20 ≡ Ok 8 }
     ensures full { end_writes (end_after_write (Ok 8) (within 8 client_opened) 0 (replicate 20 0x61)) 0 12 ≡ Err write_errors.Blocked }
-    ensures drained { end_writes (record client_opened { closing = record { clock = 0; state = states.Drained; reason = None } }) 0 5 ≡ Err write_errors.Blocked }
+    ensures drained { end_writes (record client_opened { closing = record { clock = 0; state = states.Drained; reason = None; told = false } }) 0 5 ≡ Err write_errors.Blocked }
     ensures second_end { finish_answer client_ended.sending 0 ≡ Err finish_errors.ClosedStream }
     ensures no_stream { finish_answer server_took.sending 0 ≡ Err finish_errors.ClosedStream }
     ensures none_to_accept { end_accepts Bi server_made ≡ None }
@@ -163,7 +165,7 @@ pub fn calls_are_bounded()
     ensures nothing_came { end_next client_opened 0 9 ≡ Err read_errors.Blocked }
     ensures a_part { end_next server_took 0 2 ≡ Ok (Some (record { offset = 0; bytes = 0x68 ∷ 0x65 ∷ [] })) }
     ensures nothing_to_give { (polled worked_policies.client client_sent 0).answer ≡ Ok None }
-    ensures numbers_used { (polled worked_policies.client (record client_ended { numbers = record client_made.numbers { next = 2 ^ 31 - 16 } }) 0).end.closing ≡ record { clock = 0; state = states.Drained; reason = Some NumberLimit } }
+    ensures numbers_used { (polled worked_policies.client (record client_ended { numbers = record client_made.numbers { next = 2 ^ 31 - 16 } }) 0).end.closing ≡ record { clock = 0; state = states.Drained; reason = Some NumberLimit; told = false } }
     ensures last_number { (polled worked_policies.client (record client_ended { numbers = record client_made.numbers { next = 2 ^ 31 - 17 } }) 0).answer ≡ Ok (Some (record { size = 37; ecn = Some Ect0 })) }
     ensures bad_parameters { refusal_of (parameters_at (0x04 ∷ 0x01 ∷ [])) client_id server_id ≡ Some Parameters }
     ensures short_id { refusal_of (parameters_at worked_parameters) (take 7 client_id) server_id ≡ Some IdLength }
