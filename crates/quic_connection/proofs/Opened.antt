@@ -1,5 +1,5 @@
 -- What changes of the sending halves keep true of them.
-use Rattle.std.proofs.Common.{◌≡◌, ℕ, ◌+◌, ◌-◌, ◌<◌, ◌≤◌, ◌^◌, List, [], length, true, Some, None, Option, IfSome, refl, sym, ap, ◌∙◌, subst, ⊎_elim, arith}
+use Rattle.std.proofs.Common.{◌≡◌, ℕ, ◌+◌, ◌-◌, ◌<◌, ◌≤◌, ◌^◌, List, [], length, true, Some, None, Option, IfSome, refl, sym, ap, ◌∙◌, subst, ⊎_elim, length-drop, arith}
 use Rattle.std.specs.Option.{unwrap_or, option_map}
 use Rattle.std.specs.List.{AllByRecursion, sum_by}
 use Rattle.std.specs.Ordering.{nat_cmp}
@@ -15,8 +15,10 @@ use Rattle.quic_wire_core.specs.declared.stream_id.Side.TheVariants.{Client, Ser
 use Rattle.quic_wire_core.specs.declared.stream_id.Dir.{Dir}
 use Rattle.quic_wire_core.specs.declared.stream_id.Dir.TheVariants.{Bi, Uni}
 use Rattle.quic_wire_core.specs.StreamId.{stream_id, side_bit}
+use Rattle.quic_streams_core.specs.declared.stream_meta.StreamMeta.{StreamMeta}
+use Rattle.quic_streams_core.specs.Buffered.{done, acknowledged}
 use Rattle.quic_connection_core.specs.Table.{Table, at, put, without, added}
-use Rattle.quic_connection_core.specs.Sending.{SendHalf, Sending, opened_of, count_of, may_open, opens, next_id, new_half, one_more, after_open}
+use Rattle.quic_connection_core.specs.Sending.{SendHalf, Sending, opened_of, count_of, may_open, opens, next_id, new_half, one_more, after_open, half_acked}
 use Rattle.quic_connection.specs.Bounds.{IsSending, IsLast}
 use Rattle.quic_connection_core.proofs.Tables.{at-added, at-apart, unknown-put, unknown-without, without-added, ids-added, ids-without}
 
@@ -136,6 +138,18 @@ put_keeps s b b2 a id h w ns i found is sum within accepted =
     below : (dir : Dir) (m : ℕ) → opened_of dir (record s { halves = ns; accepted = a }) ≤ m → opened_of dir s ≤ m
     below Bi m l = l
     below Uni m l = l
+
+-- what a half keeps is some of what is buffered
+pub held_within : (s : Sending) (b id : ℕ) (h : SendHalf) → IsSending s b → at s.halves id ≡ Some h → length h.buffer.kept ≤ b
+held_within s b id h i found =
+    let P : Option SendHalf → Type 0 = λ r. sum_by (λ h. length h.buffer.kept) (values_of (without s.halves id)) + unwrap_or (option_map (λ h. length h.buffer.kept) r) 0 ≡ sum_by (λ h. length h.buffer.kept) (values_of s.halves) in
+    let parts : P (Some h) = subst P found (sum_by-remove_entry (λ (h : SendHalf). length h.buffer.kept) (is_at (nat_cmp id)) s.halves) in
+    let all = i.buffered in
+    omega arith
+
+-- an acknowledged frame leaves no more bytes on its half
+pub acked_shrinks : (h : SendHalf) (m : StreamMeta) → length (half_acked h m).buffer.kept ≤ length h.buffer.kept
+acked_shrinks h m = let left = length-drop (done (acknowledged h.buffer m.offsets.start m.offsets.end)) h.buffer.kept in omega arith
 
 -- an empty stream less leaves what is buffered
 sum_without : (es : Table SendHalf) (id : ℕ) (o : Option SendHalf) → at es id ≡ o → IfSome o (λ h. h.buffer.kept ≡ []) → sum_by (λ h. length h.buffer.kept) (values_of (without es id)) ≡ sum_by (λ h. length h.buffer.kept) (values_of es)

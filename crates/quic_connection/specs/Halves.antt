@@ -1,6 +1,6 @@
 -- Words of the halves of streams, and of what a call on them answers where memory may lack.
-use Rattle.std.specs.Prelude.{ℕ, Bool, true, Option, Some, None, Result, Ok, Err}
-use Rattle.quic_streams_core.specs.Arrived.{after_read}
+use Rattle.std.specs.Prelude.{ℕ, Bool, true, false, Option, Some, None, Result, Ok, Err}
+use Rattle.quic_streams_core.specs.Arrived.{after_read_in}
 use Rattle.quic_streams_core.specs.declared.connection.assembler.Chunk.{Chunk}
 use Rattle.quic_connection_core.specs.declared.answers.ReadError.{ReadError}
 use Rattle.quic_connection_core.specs.Table.{put}
@@ -9,7 +9,7 @@ use Rattle.quic_connection_core.specs.Receiving.{RecvHalf, Receiving, after_own_
 
 -- what a `next` leaves of a receiving half, by its answer
 abbrev pub half_after_next : Result (Option Chunk) ReadError → RecvHalf → ℕ → RecvHalf
-half_after_next (Ok (Some chunk)) h most = record h { arrived = after_read h.arrived most }
+half_after_next (Ok (Some chunk)) h most = record h { arrived = after_read_in false h.arrived most }
 half_after_next (Ok None) h most = h
 half_after_next (Err e) h most = h
 

@@ -8,3 +8,4 @@ pub mod Given
 pub mod Lending
 pub mod Lacking
 pub mod Views
+pub mod Tracked

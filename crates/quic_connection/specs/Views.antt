@@ -1,6 +1,8 @@
 -- What clauses see of the streams of one end.
 use Rattle.quic_connection_core.specs.Sending as core_sending
 use Rattle.quic_connection_core.specs.Receiving as core_receiving
+use Rattle.quic_connection_core.specs.Tracking as core_tracking
+use Rattle.quic_connection.specs.declared.connection.tracking.Tracking.TheInside as inside_tracking
 use Rattle.quic_connection.specs.declared.streams.sending.Sending.TheInside as inside_sending
 use Rattle.quic_connection.specs.declared.streams.receiving.Receiving.TheInside as inside_receiving
 
@@ -33,3 +35,7 @@ receiving_of r = record {
   limit = r.limit;
   stream_limit = r.stream_limit;
 }
+
+-- the tracked packets, with the counts of timeouts and probes
+abbrev pub tracking_of : inside_tracking.Inside → core_tracking.Tracking
+tracking_of t = record { packets = t.packets.entries; last_asking = t.last_asking; timeouts = t.timeouts; probes = t.probes }

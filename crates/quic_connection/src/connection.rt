@@ -1,43 +1,54 @@
 //! One end of a connection (RFC 9000).
-ghost use Rattle.std.specs.Prelude.{◌≡◌, ◌≢◌, ◌+◌, ◌≤◌, ◌<◌, ◌^◌, ◌++◌, ◌↔◌, length, Ok, Err, Some, None, IfOk, IsOk, OnOk, OnErr, IfErr, IsTrue, option_copied, if◌then◌else◌, true, IfSome, IsSome, MatchResult};
+ghost use Rattle.std.specs.Prelude.{◌≡◌, ◌≢◌, ◌+◌, ◌≤◌, ◌<◌, ◌^◌, ◌++◌, ◌↔◌, length, Ok, Err, Some, None, IfOk, IsOk, OnOk, OnErr, IfErr, IsTrue, option_copied, if◌then◌else◌, true, false, IfSome, IsSome, MatchResult};
 ghost use Rattle.quic_wire.specs.ParametersRead.{parameters_at};
 ghost use Rattle.quic_connection_core.specs.declared.answers.State.TheVariants as states;
 ghost use Rattle.quic_connection_core.specs.declared.answers.ConfigError.TheVariants as config_errors;
-ghost use Rattle.quic_connection_core.specs.End.{MadeFrom, refusal_of, with_end, with_closing, with_numbers};
-ghost use Rattle.quic_connection_core.specs.Closing.{ticked, closed_for, failed};
+ghost use Rattle.quic_connection_core.specs.End.{MadeFrom, refusal_of, with_end, with_closing, closed_by, with_numbers, with_ping, HasFailed};
+ghost use Rattle.quic_connection_core.specs.Closing.{ticked};
 ghost use Rattle.quic_connection_core.specs.Table.{at};
-ghost use Rattle.quic_connection_core.specs.Poll.{first_pending};
+ghost use Rattle.quic_connection_core.specs.Poll.{first_pending, waits};
+ghost use Rattle.quic_connection_core.specs.Receive.{after_taken};
+ghost use Rattle.quic_recovery_core.specs.Timers.{no_timers};
 ghost use Rattle.quic_connection_core.specs.declared.answers.WriteError.TheVariants as write_errors;
 ghost use Rattle.quic_connection_core.specs.declared.answers.ReadError.TheVariants as read_errors;
 ghost use Rattle.quic_connection_core.specs.Sending.{finish_answer};
 ghost use Rattle.quic_connection_core.specs.Receiving.{read_answer};
-ghost use Rattle.quic_connection_core.specs.Calls.{is_open, can_open, open_answer, after_open, end_accepts, end_after_accept, end_writes, end_after_write, end_after_finish, end_next, end_after_next};
-ghost use Rattle.quic_connection_core.specs.Numbers.{can_number, is_duplicate, number_opened, number_taken};
+ghost use Rattle.quic_connection_core.specs.Calls.{is_open, can_open, open_answer, after_open, end_accepts, end_after_accept, end_writes, end_after_write, end_after_finish, end_after_ping, end_next, end_after_next};
+ghost use Rattle.quic_connection_core.specs.Numbers.{can_number, number_opened};
+ghost use Rattle.quic_recovery_core.specs.Duplicates.{is_duplicate};
 ghost use Rattle.quic_connection.specs.Lacking.{CutsPiece};
 
+mod acked;
+mod acknowledging;
 mod closing;
-mod dedup;
 mod ids;
 mod numbers;
 pub(crate) mod receiving;
 mod sending;
+mod timeouts;
+mod tracking;
 
 use crate::config::Config;
+use crate::connection::acknowledging::{Acknowledging, ack_due};
 use crate::connection::closing::Closing;
 use crate::connection::ids::{Ids, OWN_ID_LENGTH};
 use crate::connection::numbers::Numbers;
+use crate::connection::tracking::Tracking;
 use crate::handles::{Chunks, RecvStream, SendStream, Streams};
 use crate::streams::receiving::Receiving;
 use crate::streams::sending::Sending;
 use quic_connection_core::{
-    ConfigError, FinishError, Instant, LostReason, ReadError, ReadableError, State, WriteError,
+    ConfigError, FinishError, Instant, LostReason, ReadError, ReadableError, State, StreamEvent,
+    WriteError,
 };
+use quic_recovery_core::{Timer, TimerTable};
 use quic_streams_core::Chunk;
 use quic_wire::TransportParameters;
 use quic_wire::crypto::{HeaderKey, Keys, PacketKey};
 use quic_wire_core::{ConnectionId, Dir, Side, StreamId};
 use rand_core::Rng;
 use std::alloc::{AllocError, Global};
+use std::collections::VecDeque;
 use std::marker::Model;
 
 /// One end of a connection: a deterministic state machine of datagrams, moments and application calls
@@ -50,16 +61,24 @@ pub struct Connection<H, K, R> {
     closing: Closing,
     ids: Ids,
     numbers: Numbers,
+    acknowledging: Acknowledging,
+    timers: TimerTable,
+    tracking: Tracking,
     validated: bool,
     sending: Sending,
     receiving: Receiving,
+    // What the application is to be told of streams.
+    events: VecDeque<StreamEvent>,
+    // Whether a PING waits to be sent.
+    ping_pending: bool,
     keys: Keys<H, K>,
     random: R,
+    alloc: Global,
 }
 
 impl<H, K, R> Model for Connection<H, K, R> {
     ghost use Rattle.quic_connection_core.specs.End.{Whole};
-    ghost use Rattle.quic_connection_core.specs.Parts.{nothing_to_acknowledge, nothing_tracked, first_path, no_messages, nothing_waits};
+    ghost use Rattle.quic_connection_core.specs.Parts.{first_path, no_messages, nothing_waits};
 
     ghost Value = { Whole H K R };
 
@@ -71,13 +90,15 @@ impl<H, K, R> Model for Connection<H, K, R> {
         closing = c.closing;
         ids = c.ids;
         numbers = c.numbers;
-        acknowledging = nothing_to_acknowledge;
-        tracking = nothing_tracked;
+        acknowledging = c.acknowledging;
+        timers = c.timers;
+        tracking = c.tracking;
         path = first_path c.validated;
         sending = c.sending;
         receiving = c.receiving;
         messages = no_messages;
-        waiting = nothing_waits;
+        waiting = record nothing_waits { ping = c.ping_pending };
+        events = c.events.items;
       };
     } };
 }
@@ -117,11 +138,17 @@ impl<H: HeaderKey + Drop, K: PacketKey + Drop, R: Rng + Drop> Connection<H, K, R
             closing: Closing::new(now),
             ids: Ids::new(own_id, peer_id),
             numbers: Numbers::new(),
+            acknowledging: Acknowledging::new(alloc),
+            timers: TimerTable::default(),
+            tracking: Tracking::new(alloc),
             validated,
             sending: Sending::new(alloc, &theirs, transport.get_send_window()),
             receiving: Receiving::new(alloc, &transport.transport_parameters()),
+            events: VecDeque::new(alloc),
+            ping_pending: false,
             keys,
             random,
+            alloc,
         })
     }
 
@@ -184,12 +211,29 @@ impl<H: HeaderKey + Drop, K: PacketKey + Drop, R: Rng + Drop> Connection<H, K, R
         self.numbers.open(number)
     }
 
-    /// The whole payload of a packet of this number was taken.
-    pub(crate) fn take_number(&mut self, number: u64)
+    /// The whole payload of a packet of this number was taken, which asks for an acknowledgement or doesn't: its number is to
+    /// be acknowledged. An error is want of memory, and nothing has changed.
+    pub(crate) fn take_number(&mut self, number: u64, asks: bool) -> Result<(), AllocError>
         requires { number < 2 ^ 62 }
-        ensures { self.new ≡ with_end self.old (with_numbers self.old.end (number_taken self.old.end.numbers number)) }
+        ensures ok { OnOk result (self.new ≡ with_end self.old (after_taken number asks self.old.end)) }
+        ensures err { OnErr result (self.new ≡ self.old) }
     {
+        let now = self.closing.clock();
+        let waits = self
+            .acknowledging
+            .take(number, now, asks, self.numbers.dedup())?;
         self.numbers.take(number);
+        if waits {
+            self.timers.set(Timer::MaxAckDelay, ack_due(now));
+        }
+        Ok(())
+    }
+
+    /// Asks for a PING, so that the peer acknowledges (RFC 9000, section 19.2). Two before it goes are one.
+    pub fn ping(&mut self)
+        ensures { self.new ≡ with_end self.old (end_after_ping self.old.end) }
+    {
+        self.ping_pending = true;
     }
 
     /// The streams of the end.
@@ -314,18 +358,28 @@ impl<H: HeaderKey + Drop, K: PacketKey + Drop, R: Rng + Drop> Connection<H, K, R
         }
     }
 
-    /// Closes for a reason.
+    /// Closes for a reason: no timer is set any more.
     pub(crate) fn close_by(&mut self, reason: LostReason)
-        ensures { self.new ≡ with_end self.old (with_closing self.old.end (closed_for reason self.old.end.closing)) }
+        ensures { self.new ≡ with_end self.old (closed_by reason self.old.end) }
     {
         self.closing.close(reason);
+        self.stop_timers();
     }
 
-    /// Fails for good.
+    /// Fails for good: no timer is set any more.
     pub(crate) fn fail(&mut self)
-        ensures { self.new ≡ with_end self.old (with_closing self.old.end (failed self.old.end.closing)) }
+        ensures failed { HasFailed self.old self.new }
+        ensures stopped { self.new.end.timers ≡ no_timers }
     {
         self.closing.fail();
+        self.stop_timers();
+    }
+
+    /// No timer is set any more.
+    fn stop_timers(&mut self)
+        ensures { self.new ≡ with_end self.old (record self.old.end { timers = no_timers }) }
+    {
+        self.timers = TimerTable::default();
     }
 
     /// Whether an ordinary datagram may still be numbered.
@@ -333,6 +387,23 @@ impl<H: HeaderKey + Drop, K: PacketKey + Drop, R: Rng + Drop> Connection<H, K, R
         ensures { result ≡ can_number self.now.end.numbers }
     {
         self.numbers.can_number()
+    }
+
+    /// Whether anything waits to be sent.
+    pub(crate) fn has_waiting(&self) -> bool
+        ensures { result ≡ waits self.now.end }
+    {
+        self.acknowledging.is_due() || self.ping_pending || self.pending().is_some()
+    }
+
+    /// A PING that waits is taken: whether one did.
+    pub(crate) fn take_ping(&mut self) -> bool
+        ensures waited { result ≡ self.old.end.waiting.ping }
+        ensures end { self.new ≡ with_end self.old (with_ping self.old.end false) }
+    {
+        let waited = self.ping_pending;
+        self.ping_pending = false;
+        waited
     }
 
     /// The first stream with something to send.

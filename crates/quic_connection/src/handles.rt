@@ -12,7 +12,7 @@ ghost use Rattle.quic_connection_core.specs.Calls.{can_open, open_answer, after_
 
 use crate::connection::Connection;
 use quic_connection_core::{FinishError, ReadError, ReadableError, WriteError};
-use quic_streams_core::Chunk;
+use quic_streams_core::{Chunk, ShouldTransmit};
 use quic_wire::crypto::{HeaderKey, PacketKey};
 use quic_wire_core::{Dir, StreamId};
 use rand_core::Rng;
@@ -147,20 +147,6 @@ impl<'a, H: HeaderKey + Drop, K: PacketKey + Drop, R: Rng + Drop> Chunks<'a, H, 
         ensures answer { result ≡ record { 0 = false } }
         ensures same_end { self.exit.1.0.now ≡ self.entry.connection.now }
     {
-        ShouldTransmit(false)
-    }
-}
-
-/// Whether a poll may give a datagram that it wouldn't have given before (quinn-proto's `ShouldTransmit`).
-#[derive(Clone, Copy, Debug, PartialEq, Eq)]
-#[must_use]
-pub struct ShouldTransmit(bool);
-
-impl ShouldTransmit {
-    /// Its truth value.
-    pub fn should_transmit(self) -> bool
-        ensures { result ≡ self.0 }
-    {
-        self.0
+        ShouldTransmit::new(false)
     }
 }

@@ -11,12 +11,12 @@ mod streams;
 
 pub use config::Config;
 pub use connection::Connection;
-pub use handles::{Chunks, RecvStream, SendStream, ShouldTransmit, Streams};
+pub use handles::{Chunks, RecvStream, SendStream, Streams};
 pub use pair::Making;
 pub use quic_connection_core::{
-    Answer, Call, ConfigError, Datagram, Delivery, DropReason, EndView, Failed, FinishError,
-    IdleTimeout, Instant, LostReason, Nexts, ReadCall, ReadError, ReadableError, Received,
-    RunEvent, State, Transmit, TransportConfig, View, WriteError,
+    Answer, Call, ConfigError, Datagram, Delivery, DropReason, EndView, Event, Failed, FinishError,
+    IdleTimeout, Injection, Instant, LostReason, Nexts, ReadCall, ReadError, ReadableError,
+    Received, RunEvent, State, StreamEvent, Timer, Transmit, TransportConfig, View, WriteError,
 };
-pub use quic_streams_core::Chunk;
+pub use quic_streams_core::{Chunk, ShouldTransmit};
 pub use running::{Ends, Given, Outcome, run, step};

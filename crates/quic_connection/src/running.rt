@@ -3,15 +3,16 @@ ghost use Rattle.std.specs.Prelude.{◌≡◌, ◌++◌, [], length, ◌≤◌, 
 ghost use Rattle.quic_connection_core.specs.End.{policy_of, with_end};
 ghost use Rattle.quic_connection_core.specs.Machine.{IsAnswer, IsLeft, fails, gives, IsStep, view_of, end_view, Follows};
 ghost use Rattle.quic_connection_core.specs.Calls.{AreNexts, after_nexts};
-ghost use Rattle.quic_connection_core.specs.Headline.{IsHonest, OrderedPrefix, Slices, Once, EndAfterAll, BlockedOnlyWithoutBytes, AcceptsAll, NumbersRise};
+ghost use Rattle.quic_recovery_core.specs.Timers.{each_timer};
+ghost use Rattle.quic_connection_core.specs.Headline.{IsHonest, OrderedPrefix, Slices, Once, EndAfterAll, BlockedOnlyWithoutBytes, AcceptsAll, FinishedMeansArrived, NumbersRise};
 ghost use Rattle.quic_connection.specs.Ends.{world_of, first_world, policies_of, run_of};
 ghost use Rattle.quic_connection.specs.declared.running.Given.{Given};
 
 use crate::connection::Connection;
 use crate::handles::Chunks;
 use quic_connection_core::{
-    Answer, Call, Datagram, Delivery, EndView, Instant, LostReason, Nexts, ReadCall, ReadError,
-    RunEvent, View,
+    Answer, Call, Datagram, Delivery, EndView, Injection, Instant, LostReason, Nexts, ReadCall,
+    ReadError, RunEvent, Timer, View,
 };
 use quic_streams_core::Chunk;
 use quic_wire::crypto::{HeaderKey, PacketKey};
@@ -116,8 +117,17 @@ fn at_end<H: HeaderKey + Drop, K: PacketKey + Drop, R: Rng + Drop>(
         Call::Write(id, data) => Ok(Answer::Write(end.send_stream(*id).write(data.as_slice()))),
         Call::Finish(id) => Ok(Answer::Finish(end.send_stream(*id).finish())),
         Call::Read(read) => read_at(alloc, end, read),
+        Call::Ping => {
+            end.ping();
+            Ok(Answer::Ping)
+        }
         Call::Poll(now) => poll_at(alloc, end, mine, *now),
+        Call::Timeout(now) => Ok(Answer::Timeout(end.handle_timeout(*now))),
         Call::Deliver(delivery) => deliver_at(alloc, end, theirs, delivery),
+        Call::Inject(injection) => inject_at(alloc, end, injection),
+        Call::Event => Ok(Answer::Event(end.poll())),
+        Call::Timer(timer) => Ok(Answer::Timer(end.timer(*timer))),
+        Call::NextTimeout => Ok(Answer::NextTimeout(end.poll_timeout())),
     }
 }
 
@@ -165,6 +175,25 @@ fn deliver_at<H: HeaderKey + Drop, K: PacketKey + Drop, R: Rng + Drop>(
     }
 }
 
+/// The arrival of any bytes. Where they would open, no call is made.
+fn inject_at<H: HeaderKey + Drop, K: PacketKey + Drop, R: Rng + Drop>(
+    alloc: Global,
+    end: &mut Connection<H, K, R>,
+    injection: &Injection,
+) -> Result<Answer, AllocError>
+    ensures answer { IfOk result (λ a. IsAnswer (policy_of H.masks H.hides H.unmasks H.reveals K.sealed K.opened end.old) end.old.end [] (Call.Inject injection.entry.now) a) }
+    ensures end { IfOk result (λ a. IsLeft (fails a) (policy_of H.masks H.hides H.unmasks H.reveals K.sealed K.opened end.old) end.old.end [] (Call.Inject injection.entry.now) a end.new.end) }
+    ensures keys { end.new ≡ with_end end.old end.new.end }
+    ensures err { OnErr result (end.new ≡ end.old) }
+{
+    let mut scratch = Vec::from_slice(alloc, injection.bytes.as_slice())?;
+    if end.would_open(&mut scratch) {
+        return Ok(Answer::Opens);
+    }
+    let mut copy = Vec::from_slice(alloc, injection.bytes.as_slice())?;
+    Ok(Answer::Inject(end.receive(injection.now, injection.ecn, &mut copy)))
+}
+
 /// A read of a stream: each `next`, then `finalize` or a drop.
 fn read_at<H: HeaderKey + Drop, K: PacketKey + Drop, R: Rng + Drop>(
     alloc: Global,
@@ -206,6 +235,25 @@ fn read_each<H: HeaderKey + Drop, K: PacketKey + Drop, R: Rng + Drop>(
     }
 }
 
+/// When each timer of an end expires, if it is set.
+fn timers<H: HeaderKey + Drop, K: PacketKey + Drop, R: Rng + Drop>(
+    end: &Connection<H, K, R>,
+) -> [Option<Instant>; 9]
+    ensures { result ≡ each_timer end.now.end.timers }
+{
+    [
+        end.timer(Timer::LossDetection),
+        end.timer(Timer::Idle),
+        end.timer(Timer::Close),
+        end.timer(Timer::KeyDiscard),
+        end.timer(Timer::PathValidation),
+        end.timer(Timer::KeepAlive),
+        end.timer(Timer::Pacing),
+        end.timer(Timer::PushNewCid),
+        end.timer(Timer::MaxAckDelay),
+    ]
+}
+
 /// What is seen of an end.
 fn end_view<H: HeaderKey + Drop, K: PacketKey + Drop, R: Rng + Drop>(
     end: &Connection<H, K, R>,
@@ -216,7 +264,7 @@ fn end_view<H: HeaderKey + Drop, K: PacketKey + Drop, R: Rng + Drop>(
         state: end.state(),
         reason: end.lost().map(LostReason::copied),
         validated: end.is_validated(),
-        timers: [None; 9],
+        timers: timers(end),
         window: None,
         current_mtu: None,
     }
@@ -235,9 +283,9 @@ fn view<H: HeaderKey + Drop, K: PacketKey + Drop, R: Rng + Drop>(ends: &Ends<H, 
 /// Makes each event's call in turn, once: one answer and one view for each, until memory lacks in the run itself.
 ///
 /// Where a client and a server were made for one another, with keys that are mates, and applications use their own
-/// streams (`IsHonest`), it holds at each place up to which no delivery and no poll met want of memory: what is read of
-/// a stream is a prefix of what was written on it, no byte comes twice, the end comes only behind all, and packet numbers
-/// rise.
+/// streams (`IsHonest`), it holds at each place up to which no delivery, poll or timeout met want of memory: what is read of
+/// a stream is a prefix of what was written on it, no byte comes twice, the end comes only behind all, a stream is told to be
+/// finished only where the other end took all of it, and packet numbers rise.
 pub fn run<H: HeaderKey + Drop, K: PacketKey + Drop, R: Rng + Drop>(
     alloc: Global,
     ends: Ends<H, K, R>,
@@ -252,6 +300,7 @@ pub fn run<H: HeaderKey + Drop, K: PacketKey + Drop, R: Rng + Drop>(
     ensures end_after_all { let r = run_of (policies_of H.masks H.hides H.unmasks H.reveals K.sealed K.opened ends) ends events.now result.answers.items result.views.items result.given in IsHonest r → EndAfterAll r }
     ensures blocked_only_without_bytes { let r = run_of (policies_of H.masks H.hides H.unmasks H.reveals K.sealed K.opened ends) ends events.now result.answers.items result.views.items result.given in IsHonest r → BlockedOnlyWithoutBytes r }
     ensures accepts_all { let r = run_of (policies_of H.masks H.hides H.unmasks H.reveals K.sealed K.opened ends) ends events.now result.answers.items result.views.items result.given in IsHonest r → AcceptsAll r }
+    ensures finished_means_arrived { let r = run_of (policies_of H.masks H.hides H.unmasks H.reveals K.sealed K.opened ends) ends events.now result.answers.items result.views.items result.given in IsHonest r → FinishedMeansArrived r }
     ensures numbers_rise { let r = run_of (policies_of H.masks H.hides H.unmasks H.reveals K.sealed K.opened ends) ends events.now result.answers.items result.views.items result.given in IsHonest r → NumbersRise r }
 {
     run_events(alloc, ends, events)

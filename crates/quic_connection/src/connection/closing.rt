@@ -1,6 +1,6 @@
 //! The clock of an end, and whether it is open.
-ghost use Rattle.std.specs.Prelude.{◌≡◌, option_copied, None};
-ghost use Rattle.quic_connection_core.specs.Closing.{ticked, closed_for, failed};
+ghost use Rattle.std.specs.Prelude.{◌≡◌, option_copied, None, false};
+ghost use Rattle.quic_connection_core.specs.Closing.{ticked, closed_for, failed, loss_to_tell, after_told};
 
 use quic_connection_core::{Instant, LostReason, State};
 use std::marker::Model;
@@ -11,6 +11,8 @@ pub(crate) struct Closing {
     clock: Instant,
     state: State,
     reason: Option<LostReason>,
+    // Whether the application was told why.
+    told: bool,
 }
 
 impl Model for Closing {
@@ -20,7 +22,7 @@ impl Model for Closing {
 
     ghost Value = { words.Closing };
 
-    ghost view = { λ c. record { clock = c.clock; state = c.state; reason = c.reason } };
+    ghost view = { λ c. record { clock = c.clock; state = c.state; reason = c.reason; told = c.told } };
 
     ghost invariant = { λ c. c.state ≡ states.Failed → c.reason ≡ None };
 }
@@ -30,12 +32,13 @@ impl Closing {
 
     /// An open end that begins at this moment.
     pub(crate) fn new(now: Instant) -> Self
-        ensures { result ≡ record { clock = now; state = states.Open; reason = None } }
+        ensures { result ≡ record { clock = now; state = states.Open; reason = None; told = false } }
     {
         Closing {
             clock: now,
             state: State::Open,
             reason: None,
+            told: false,
         }
     }
 
@@ -51,6 +54,26 @@ impl Closing {
         ensures { option_copied result ≡ self.now.reason }
     {
         self.reason.as_ref()
+    }
+
+    /// The greatest moment that was taken over.
+    pub(crate) fn clock(&self) -> Instant
+        ensures { result ≡ self.now.clock }
+    {
+        self.clock
+    }
+
+    /// Why the end isn't open, where the application wasn't told yet: it is now.
+    pub(crate) fn poll(&mut self) -> Option<LostReason>
+        ensures answer { result ≡ loss_to_tell self.old }
+        ensures next { self.new ≡ after_told (loss_to_tell self.old) self.old }
+    {
+        if self.told {
+            return None;
+        }
+        let reason = self.reason.as_ref()?.copied();
+        self.told = true;
+        Some(reason)
     }
 
     /// Takes a moment over; one that steps back counts as the greatest so far.

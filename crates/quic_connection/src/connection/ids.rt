@@ -2,7 +2,7 @@
 ghost use Rattle.std.specs.Prelude.{◌≡◌, ◌+◌, ◌≤◌, length, OnOk};
 ghost use Rattle.quic_wire.specs.Destination.{decoded, fixed_length_id};
 ghost use Rattle.quic_connection_core.specs.Ids.{first_ids, known};
-ghost use Rattle.quic_connection_core.specs.Receive.{own_id_length};
+ghost use Rattle.quic_connection_core.specs.Opens.{own_id_length};
 
 use quic_wire::{FixedLengthConnectionIdParser, HeaderError, ShortHeader};
 use quic_wire_core::ConnectionId;

@@ -1,34 +1,36 @@
 //! Packet numbers of an end (RFC 9000, section 12.3).
 ghost use Rattle.std.specs.Prelude.{◌≡◌, ◌+◌, ◌-◌, ◌<◌, ◌≤◌, ◌^◌, if◌then◌else◌, true};
 ghost use Rattle.quic_wire.specs.Number.{truncated};
-ghost use Rattle.quic_connection_core.specs.Numbers.{no_numbers, expected, cut_against, can_number, number_given, number_opened, number_taken, is_duplicate};
+ghost use Rattle.quic_connection_core.specs.Numbers.{no_numbers, expected, cut_against, can_number, number_given, number_opened, number_taken, number_named};
+ghost use Rattle.quic_recovery_core.specs.Duplicates.{is_duplicate};
 
-use crate::connection::dedup::Dedup;
+use quic_recovery_core::Dedup;
 use quic_wire::PacketNumber;
 use std::marker::Model;
 
 /// How many numbers are kept for closes.
 const KEPT_NUMBERS: u64 = 16;
 
-/// The next number to give, the numbers opened, and the greatest whose whole payload was taken.
-#[derive(Clone, Copy, Debug)]
+/// The next number to give, the greatest that the peer named, the numbers opened, and the greatest whose whole payload was
+/// taken.
+#[derive(Drop)]
 pub(crate) struct Numbers {
     next: u64,
+    largest_acked: Option<u64>,
     dedup: Dedup,
     largest_taken: Option<u64>,
 }
 
 impl Model for Numbers {
-    ghost use Rattle.std.specs.Prelude.{◌+◌, ◌<◌, ◌≤◌, ◌^◌, IfSome, None};
+    ghost use Rattle.std.specs.Prelude.{◌+◌, ◌-◌, ◌<◌, ◌^◌, IfSome, unwrap_or};
     ghost use Rattle.quic_connection_core.specs.Numbers as words;
 
     ghost Value = { words.Numbers };
 
-    ghost view = { λ n. record { next = n.next; acknowledged = None; opened = n.dedup; taken = n.largest_taken } };
+    ghost view = { λ n. record { next = n.next; acknowledged = n.largest_acked; opened = n.dedup; taken = n.largest_taken } };
 
-    ghost invariant = { λ n. (n.next < 2 ^ 31) × IfSome n.largest_taken (λ t. t < 2 ^ 62) };
-
-    ghost inverse = { λ n. record { next = n.next; dedup = n.opened; largest_taken = n.taken } };
+    // The next number has a short form (RFC 9000, A.2), and the peer named none from it on.
+    ghost invariant = { λ n. (n.next < 2 ^ 62) × (n.next - unwrap_or n.largest_acked 0 < 2 ^ 31) × IfSome n.largest_acked (λ a. a < n.next) × IfSome n.largest_taken (λ t. t < 2 ^ 62) };
 }
 
 impl Numbers {
@@ -38,6 +40,7 @@ impl Numbers {
     {
         Numbers {
             next: 0,
+            largest_acked: None,
             dedup: Dedup::new(),
             largest_taken: None,
         }
@@ -58,26 +61,33 @@ impl Numbers {
     pub(crate) fn can_number(&self) -> bool
         ensures { result ≡ can_number self.now }
     {
-        self.next + KEPT_NUMBERS < 1 << 31
+        self.next + KEPT_NUMBERS < 1 << 62
+            && self.next.saturating_sub(self.reference()) + KEPT_NUMBERS < 1 << 31
     }
 
     /// The next number.
     pub(crate) fn next(&self) -> u64
         ensures value { result ≡ self.now.next }
-        ensures bound { result < 2 ^ 31 }
-        ensures can { can_number self.now ≡ true → result + 16 < 2 ^ 31 }
+        ensures bound { result < 2 ^ 62 }
     {
         self.next
     }
 
-    /// The next number as it is written, cut against the greatest acknowledged, which at this stage is none.
+    /// What numbers are cut against: the greatest that the peer named, 0 if there is none (RFC 9000, A.2).
+    pub(crate) fn reference(&self) -> u64
+        ensures value { result ≡ cut_against self.now }
+    {
+        self.largest_acked.unwrap_or(0)
+    }
+
+    /// The next number as it is written, cut against the greatest that the peer named.
     pub(crate) fn packet_number(&self) -> PacketNumber
         ensures value { result ≡ truncated self.now.next (cut_against self.now) }
         ensures near { self.now.next - cut_against self.now < 2 ^ 31 }
         ensures some { 1 ≤ result.width }
         ensures four { result.width ≤ 4 }
     {
-        PacketNumber::new(self.next, 0)
+        PacketNumber::new(self.next, self.reference())
     }
 
     /// The next number is given.
@@ -86,6 +96,24 @@ impl Numbers {
         ensures { self.new ≡ number_given self.old }
     {
         self.next += 1;
+    }
+
+    /// The peer named own numbers up to this one.
+    pub(crate) fn name(&mut self, number: u64)
+        requires { number < self.old.next }
+        ensures { self.new ≡ number_named self.old number }
+    {
+        self.largest_acked = Some(match self.largest_acked {
+            None => number,
+            Some(largest) => largest.max(number),
+        });
+    }
+
+    /// The numbers opened.
+    pub(crate) fn dedup(&self) -> &Dedup
+        ensures { result.now ≡ self.now.opened }
+    {
+        &self.dedup
     }
 
     /// A packet of this number opened: whether it came before, which changes nothing.

@@ -3,12 +3,13 @@ ghost use Rattle.std.specs.Prelude.{◌≡◌, ◌≢◌, ◌+◌, ◌≤◌, �
 ghost use Rattle.quic_wire.specs.Items.{items};
 ghost use Rattle.quic_wire.specs.Destination.{decoded, fixed_length_id};
 ghost use Rattle.quic_connection_core.specs.Ids.{known};
+ghost use Rattle.quic_recovery_core.specs.Timers.{no_timers};
 ghost use Rattle.quic_wire.specs.Value.{stream};
 ghost use Rattle.quic_wire.specs.FrameView.{stream_view, frame_view, item_view};
-ghost use Rattle.quic_connection_core.specs.End.{with_end, policy_of, with_closing, HasFailed};
-ghost use Rattle.quic_connection_core.specs.Closing.{closed_for};
-ghost use Rattle.quic_connection_core.specs.Receive.{received, opened_to, processed, fault_of_breach, fault_at, plain_error, take_frame, take_item, take_items, take_payload, opening, error_of, reason_of, drop_of, own_id_length, violation};
-ghost use Rattle.quic_connection.specs.Faults.{fault_view, TakesAs};
+ghost use Rattle.quic_connection_core.specs.End.{with_end, policy_of, closed_by, HasFailed};
+ghost use Rattle.quic_connection_core.specs.Opens.{own_id_length, would_open};
+ghost use Rattle.quic_connection_core.specs.Receive.{received, opened_to, processed, fault_of_breach, fault_at, plain_error, take_ack, take_frame, take_item, take_items, take_payload, item_asks, asks_in, opening, error_of, reason_of, drop_of, violation};
+ghost use Rattle.quic_connection.specs.Faults.{fault_view, TakesAs, TakesAllAs, TakesPacketAs};
 ghost use Rattle.quic_connection.specs.Lacking.{TakesFrames};
 
 use crate::connection::Connection;
@@ -16,10 +17,11 @@ use crate::connection::ids::OWN_ID_LENGTH;
 use crate::streams::receiving::ReceivedError;
 use quic_connection_core::{Breach, DropReason, Instant, LostReason, Received, State};
 use quic_wire::crypto::{HeaderKey, NotOpened, PacketKey};
-use quic_wire::frame::{Frame, InvalidFrame, Iter, Stream};
+use quic_wire::frame::{Ack, Frame, InvalidFrame, Iter, Stream};
 use quic_wire::{HeaderError, Opened, open_packet};
 use quic_wire_core::{Code, ConnectionId, EcnCodepoint, Reason, Side, TransportError};
 use rand_core::Rng;
+use std::alloc::AllocError;
 
 /// Why the frames of a packet weren't all taken.
 #[derive(Debug, Drop)]
@@ -30,6 +32,17 @@ pub(crate) enum Trouble {
     TooManyPieces,
     /// Memory lacks.
     Memory,
+}
+
+impl From<AllocError> for Trouble {
+    ghost use Rattle.std.specs.Prelude.{◌≡◌};
+    ghost use Rattle.quic_connection.specs.declared.connection.receiving.Trouble.TheVariants as troubles;
+
+    ghost from_gives = { λ error trouble. trouble ≡ troubles.Memory };
+
+    fn from(_: AllocError) -> Trouble {
+        Trouble::Memory
+    }
 }
 
 /// An error that names no frame.
@@ -70,7 +83,8 @@ impl<H: HeaderKey + Drop, K: PacketKey + Drop, R: Rng + Drop> Connection<H, K, R
     ///
     /// A datagram that is dropped changes nothing but, where its packet opened, the numbers that count as duplicates.
     /// Where it breaks a rule, the end closes; the frames before keep their effect, and its number isn't taken.
-    /// Where memory lacks, the end fails for good. Marks are not read yet.
+    /// Where memory lacks, the end fails for good. Its number is to be acknowledged once all its frames were taken. Marks
+    /// are not read yet.
     pub fn receive(
         &mut self,
         now: Instant,
@@ -80,6 +94,7 @@ impl<H: HeaderKey + Drop, K: PacketKey + Drop, R: Rng + Drop> Connection<H, K, R
         ensures answer { result ≢ Received.Failed → result ≡ (received (policy_of H.masks H.hides H.unmasks H.reveals K.sealed K.opened self.old) self.old.end now datagram.old).answer }
         ensures end { result ≢ Received.Failed → self.new ≡ with_end self.old (received (policy_of H.masks H.hides H.unmasks H.reveals K.sealed K.opened self.old) self.old.end now datagram.old).end }
         ensures failed { result ≡ Received.Failed → HasFailed self.old self.new }
+        ensures stopped { result ≡ Received.Failed → self.new.end.timers ≡ no_timers }
         ensures lacking { result ≡ Received.Failed → TakesFrames (received (policy_of H.masks H.hides H.unmasks H.reveals K.sealed K.opened self.old) self.old.end now datagram.old).answer }
     {
         let _ = ecn;
@@ -103,6 +118,21 @@ impl<H: HeaderKey + Drop, K: PacketKey + Drop, R: Rng + Drop> Connection<H, K, R
         ensures room { OnOk result (own_id_length + 21 ≤ length datagram.now) }
     {
         self.ids.decode(datagram)
+    }
+
+    /// Whether a datagram would open here, whatever the state of the end, and also where it came before: it has a short header
+    /// with an own id, its packet opens under its number, and its key phase is 0. It is opened in place, so `scratch` is
+    /// a copy of it; the end stays as it is.
+    pub fn would_open(&self, scratch: &mut [u8]) -> bool
+        ensures { result ≡ would_open (policy_of H.masks H.hides H.unmasks H.reveals K.sealed K.opened self.now) self.now.end scratch.old }
+    {
+        if self.destination_of(scratch).is_err() {
+            return false;
+        }
+        match self.unprotect(scratch) {
+            Ok(opened) => !opened.key_phase(),
+            Err(NotOpened) => false,
+        }
     }
 
     /// Opens a datagram in place, whose destination id is an own one.
@@ -131,6 +161,7 @@ impl<H: HeaderKey + Drop, K: PacketKey + Drop, R: Rng + Drop> Connection<H, K, R
         ensures answer { result ≢ Received.Failed → result ≡ (opened_to (record { first = opened.now.first; number = opened.now.number; payload = payload.now }) now self.old.end).answer }
         ensures end { result ≢ Received.Failed → self.new ≡ with_end self.old (opened_to (record { first = opened.now.first; number = opened.now.number; payload = payload.now }) now self.old.end).end }
         ensures failed { result ≡ Received.Failed → HasFailed self.old self.new }
+        ensures stopped { result ≡ Received.Failed → self.new.end.timers ≡ no_timers }
         ensures lacking { result ≡ Received.Failed → TakesFrames (opened_to (record { first = opened.now.first; number = opened.now.number; payload = payload.now }) now self.old.end).answer }
     {
         if opened.key_phase() {
@@ -153,21 +184,30 @@ impl<H: HeaderKey + Drop, K: PacketKey + Drop, R: Rng + Drop> Connection<H, K, R
         ensures answer { result ≢ Received.Failed → result ≡ (processed (record { first = opened.now.first; number = opened.now.number; payload = payload.now }) now self.old.end).answer }
         ensures end { result ≢ Received.Failed → self.new ≡ with_end self.old (processed (record { first = opened.now.first; number = opened.now.number; payload = payload.now }) now self.old.end).end }
         ensures failed { result ≡ Received.Failed → HasFailed self.old self.new }
+        ensures stopped { result ≡ Received.Failed → self.new.end.timers ≡ no_timers }
         ensures lacking { result ≡ Received.Failed → TakesFrames (processed (record { first = opened.now.first; number = opened.now.number; payload = payload.now }) now self.old.end).answer }
     {
         self.tick(now);
-        match self.take_payload(opened, payload) {
-            Ok(()) => {
-                self.take_number(opened.number);
-                Received::Taken
-            }
+        match self.take_packet(opened, payload) {
+            Ok(()) => Received::Taken,
             Err(trouble) => self.close_for(trouble),
         }
     }
 
-    /// Takes the frames of a packet, one after another.
-    fn take_payload(&mut self, opened: &Opened, payload: &[u8]) -> Result<(), Trouble>
-        ensures takes { TakesAs result (take_payload opened.now.first (items payload.now) self.old.end) self.new.end }
+    /// Takes the frames of a packet, and then its number.
+    fn take_packet(&mut self, opened: &Opened, payload: &[u8]) -> Result<(), Trouble>
+        requires { opened.now.number < 2 ^ 62 }
+        ensures takes { TakesPacketAs result (take_payload opened.now.first (items payload.now) self.old.end) (asks_in (items payload.now)) opened.now.number self.new.end }
+        ensures others { self.new ≡ with_end self.old self.new.end }
+    {
+        let asks = self.take_payload(opened, payload)?;
+        self.take_number(opened.number, asks)?;
+        Ok(())
+    }
+
+    /// Takes the frames of a packet, one after another: whether one asks for an acknowledgement.
+    fn take_payload(&mut self, opened: &Opened, payload: &[u8]) -> Result<bool, Trouble>
+        ensures takes { TakesAllAs result (take_payload opened.now.first (items payload.now) self.old.end) (asks_in (items payload.now)) self.new.end }
         ensures others { self.new ≡ with_end self.old self.new.end }
     {
         if opened.reserved_bits() != 0 {
@@ -179,15 +219,17 @@ impl<H: HeaderKey + Drop, K: PacketKey + Drop, R: Rng + Drop> Connection<H, K, R
         self.take_frames(payload)
     }
 
-    /// Takes frames up to the first that is at fault.
-    fn take_frames(&mut self, payload: &[u8]) -> Result<(), Trouble>
-        ensures takes { TakesAs result (take_items (items payload.now) self.old.end) self.new.end }
+    /// Takes frames up to the first that is at fault: whether one asks for an acknowledgement.
+    fn take_frames(&mut self, payload: &[u8]) -> Result<bool, Trouble>
+        ensures takes { TakesAllAs result (take_items (items payload.now) self.old.end) (asks_in (items payload.now)) self.new.end }
         ensures others { self.new ≡ with_end self.old self.new.end }
     {
+        let mut asks = false;
         for item in Iter::new(payload) {
             self.take_item(&item)?;
+            asks = asks || item_asks(&item);
         }
-        Ok(())
+        Ok(asks)
     }
 
     /// Takes a frame, or what can't be read as one.
@@ -201,12 +243,13 @@ impl<H: HeaderKey + Drop, K: PacketKey + Drop, R: Rng + Drop> Connection<H, K, R
         }
     }
 
-    /// Takes a frame. Those that are neither of streams nor of servers alone do nothing yet.
+    /// Takes a frame. Those of other kinds do nothing yet.
     fn take_frame(&mut self, frame: &Frame<'_>) -> Result<(), Trouble>
         ensures takes { TakesAs result (take_frame (frame_view frame.now) self.old.end) self.new.end }
         ensures others { self.new ≡ with_end self.old self.new.end }
     {
         match frame {
+            Frame::Ack(frame) => self.take_ack(frame),
             Frame::Stream(frame) => self.take_stream(frame),
             Frame::NewToken { .. } | Frame::HandshakeDone => self.take_of_server(),
             _ => Ok(()),
@@ -224,6 +267,21 @@ impl<H: HeaderKey + Drop, K: PacketKey + Drop, R: Rng + Drop> Connection<H, K, R
         }
     }
 
+    /// Takes an ACK frame: the greatest number that it names counts, and the tracked packets that it names are acknowledged.
+    /// A number that was never given breaks a rule (RFC 9000, section 13.1).
+    fn take_ack(&mut self, frame: &Ack<'_>) -> Result<(), Trouble>
+        ensures takes { TakesAs result (take_ack frame.now self.old.end) self.new.end }
+        ensures others { self.new ≡ with_end self.old self.new.end }
+    {
+        let largest = frame.largest();
+        if self.numbers.next() <= largest {
+            return Err(violation(Reason::IllegalValue));
+        }
+        self.numbers.name(largest);
+        self.on_ack_received(frame)?;
+        Ok(())
+    }
+
     /// Takes a STREAM frame.
     fn take_stream(&mut self, frame: &Stream<'_>) -> Result<(), Trouble>
         ensures takes { TakesAs result (take_frame (stream (stream_view frame.now)) self.old.end) self.new.end }
@@ -239,25 +297,36 @@ impl<H: HeaderKey + Drop, K: PacketKey + Drop, R: Rng + Drop> Connection<H, K, R
     /// Closes for what was wrong with a packet, or fails.
     fn close_for(&mut self, trouble: Trouble) -> Received
         ensures answer { IfSome (fault_view trouble) (λ fault. result ≡ Received.Closed (error_of fault)) }
-        ensures end { IfSome (fault_view trouble) (λ fault. self.new ≡ with_end self.old (with_closing self.old.end (closed_for (reason_of fault) self.old.end.closing))) }
+        ensures end { IfSome (fault_view trouble) (λ fault. self.new ≡ with_end self.old (closed_by (reason_of fault) self.old.end)) }
         ensures memory { IfNone (fault_view trouble) (result ≡ Received.Failed) }
         ensures failed { IfNone (fault_view trouble) (HasFailed self.old self.new) }
+        ensures stopped { IfNone (fault_view trouble) (self.new.end.timers ≡ no_timers) }
     {
         match trouble {
             Trouble::Broke(error) => {
                 let answer = Received::Closed(error.copied());
-                self.closing.close(LostReason::Transport(error));
+                self.close_by(LostReason::Transport(error));
                 answer
             }
             Trouble::TooManyPieces => {
-                self.closing.close(LostReason::Pieces);
+                self.close_by(LostReason::Pieces);
                 Received::Closed(plain_error(Code::INTERNAL_ERROR, Reason::TooManyPieces))
             }
             Trouble::Memory => {
-                self.closing.fail();
+                self.fail();
                 Received::Failed
             }
         }
+    }
+}
+
+/// Whether a frame asks for an acknowledgement; what can't be read as one doesn't.
+fn item_asks(item: &Result<Frame<'_>, InvalidFrame>) -> bool
+    ensures { result ≡ item_asks (item_view item.now) }
+{
+    match item {
+        Ok(frame) => frame.is_ack_eliciting(),
+        Err(_) => false,
     }
 }
 

@@ -1,7 +1,7 @@
 // What has come on one stream.
-ghost use Rattle.std.specs.Prelude.{◌≡◌, ◌≢◌, ◌<◌, ◌^◌, nat_le, nat_lt, true, OnOk, Ok, Err};
+ghost use Rattle.std.specs.Prelude.{◌≡◌, ◌≢◌, ◌<◌, ◌^◌, nat_le, nat_lt, true, false, IfOk, OnOk, OnErr, Ok, Err};
 ghost use Rattle.quic_wire.specs.FrameView.{stream_view};
-ghost use Rattle.quic_streams_core.specs.Arrived.{given, cuts, runs_of};
+ghost use Rattle.quic_streams_core.specs.Arrived.{given, cuts, runs_of, after_read_in};
 ghost use Rattle.quic_connection_core.specs.Receiving.{untouched, end_of, breaks_final, with_frame, is_read, most_pieces, next_chunk};
 ghost use Rattle.quic_connection_core.specs.declared.answers.ReadError.TheVariants as read_errors;
 ghost use Rattle.quic_connection.specs.Halves.{half_after_next};
@@ -25,14 +25,15 @@ pub(crate) struct Recv {
 }
 
 impl Model for Recv {
-    ghost use Rattle.std.specs.Prelude.{◌<◌, ◌^◌};
+    ghost use Rattle.std.specs.Prelude.{◌≡◌, ◌<◌, ◌^◌, false};
     ghost use Rattle.quic_connection_core.specs.Receiving.{RecvHalf};
 
     ghost Value = { RecvHalf };
 
     ghost view = { λ h. record { arrived = h.assembler; seen = h.end; final = h.final_offset } };
 
-    ghost invariant = { λ h. h.end < 2 ^ 62 };
+    // Reads are in order.
+    ghost invariant = { λ h. (h.end < 2 ^ 62) × (h.assembler.unordered ≡ false) };
 }
 
 // Whether a frame's last byte lies behind the greatest offset (RFC 9000, section 4.5: 2^62 - 1).
@@ -109,9 +110,26 @@ impl Recv {
         ensures { result ≡ is_read self.now.final self.now.arrived.read }
     {
         match self.final_offset {
-            Some(size) => size == self.assembler.bytes_read(),
+            Some(size) => size == self.bytes_read(),
             None => false,
         }
+    }
+
+    // The offset up to which the stream is read.
+    fn bytes_read(&self) -> u64
+        ensures { result ≡ self.now.arrived.read }
+    {
+        self.assembler.bytes_read()
+    }
+
+    // Reads what waits next.
+    fn read(&mut self, max: usize) -> Result<Option<Chunk>, AllocError>
+        ensures chunk { IfOk result (λ chunk. chunk ≡ given self.old.arrived.parts self.old.arrived.read max) }
+        ensures ok { OnOk result (self.new ≡ record self.old { arrived = after_read_in false self.old.arrived max }) }
+        ensures err { OnErr result (self.new ≡ self.old) }
+        ensures lacking { OnErr result (cuts self.old.arrived.parts self.old.arrived.read max ≡ true) }
+    {
+        self.assembler.read(max)
     }
 
     // Reads on; only want of memory changes nothing and answers nothing.
@@ -120,7 +138,7 @@ impl Recv {
         ensures new { self.new ≡ half_after_next result self.old max }
         ensures lacking { result ≡ Err read_errors.Memory → cuts self.old.arrived.parts self.old.arrived.read max ≡ true }
     {
-        match self.assembler.read(max) {
+        match self.read(max) {
             Ok(Some(chunk)) => Ok(Some(chunk)),
             Ok(None) => {
                 if self.is_read() {

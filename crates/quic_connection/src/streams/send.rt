@@ -2,11 +2,12 @@
 ghost use Rattle.std.specs.Prelude.{◌≡◌, ◌+◌, ◌≤◌, ◌-◌, ◌++◌, length, OnOk, OnErr, vec_len, vec_capacity};
 ghost use Rattle.quic_wire.specs.Writing.{stream_spelling, width_of};
 ghost use Rattle.quic_streams_core.specs.Buffered.{writes_length};
-ghost use Rattle.quic_connection_core.specs.Sending.{new_half, written_on, has_pending, grown, ended};
+ghost use Rattle.quic_connection_core.specs.Sending.{new_half, written_on, has_pending, grown, ended, is_acked, half_acked, half_lost};
 ghost use Rattle.quic_connection_core.specs.Poll.{frame_of, half_after};
+ghost use Rattle.quic_connection_core.specs.Tracking.{meta_of};
 ghost use Rattle.quic_connection.specs.Frames.{frame_meta, HasFrame};
 
-use quic_streams_core::SendBuffer;
+use quic_streams_core::{SendBuffer, StreamMeta};
 use quic_wire::frame::{Stream, put_stream_parts};
 use quic_wire_core::{StreamId, VarInt};
 use std::alloc::{AllocError, Global};
@@ -31,6 +32,8 @@ pub(crate) struct Send {
     finished: bool,
     // Whether the end has to go yet.
     fin_pending: bool,
+    // Whether the end is acknowledged.
+    fin_acked: bool,
     // How far the peer lets it come.
     max_data: VarInt,
 }
@@ -40,7 +43,7 @@ impl Model for Send {
 
     ghost Value = { SendHalf };
 
-    ghost view = { λ h. record { buffer = h.pending; finished = h.finished; end_waits = h.fin_pending; limit = h.max_data } };
+    ghost view = { λ h. record { buffer = h.pending; finished = h.finished; end_waits = h.fin_pending; end_acked = h.fin_acked; limit = h.max_data } };
 }
 
 impl Send {
@@ -52,6 +55,7 @@ impl Send {
             pending: SendBuffer::new(alloc),
             finished: false,
             fin_pending: false,
+            fin_acked: false,
             max_data,
         }
     }
@@ -88,11 +92,49 @@ impl Send {
         self.fin_pending = true;
     }
 
-    // Whether it has something to send: bytes never sent, or its end.
+    // Whether it has something to send: bytes that are lost or were never sent, or its end.
     pub(crate) fn has_pending(&self) -> bool
         ensures { result ≡ has_pending self.now }
     {
         self.pending.has_unsent_data() || self.fin_pending
+    }
+
+    // How many bytes are kept until they are acknowledged.
+    pub(crate) fn buffered(&self) -> usize
+        ensures { result ≡ length self.now.buffer.kept }
+    {
+        self.pending.buffered()
+    }
+
+    // Whether all of it is acknowledged, its end too.
+    pub(crate) fn is_acked(&self) -> bool
+        ensures { result ≡ is_acked self.now }
+    {
+        self.fin_acked && self.pending.is_fully_acked()
+    }
+
+    // A frame of it was acknowledged, which never goes again. An `Err` (want of memory) changes
+    // nothing.
+    pub(crate) fn ack(&mut self, frame: &StreamMeta) -> Result<(), AllocError>
+        ensures ok { OnOk result (self.new ≡ half_acked self.old frame.now) }
+        ensures err { OnErr result (self.new ≡ self.old) }
+    {
+        self.pending.ack(frame.offsets.start..frame.offsets.end)?;
+        self.fin_pending = self.fin_pending && !frame.fin;
+        self.fin_acked = self.fin_acked || frame.fin;
+        Ok(())
+    }
+
+    // A frame of it was lost: what isn't acknowledged of it goes again (RFC 9000, section 13.3).
+    // An `Err` (want of memory) changes nothing.
+    pub(crate) fn retransmit(&mut self, frame: &StreamMeta) -> Result<(), AllocError>
+        ensures ok { OnOk result (self.new ≡ half_lost self.old frame.now) }
+        ensures err { OnErr result (self.new ≡ self.old) }
+    {
+        self.pending
+            .retransmit(frame.offsets.start..frame.offsets.end)?;
+        self.fin_pending = self.fin_pending || (frame.fin && !self.fin_acked);
+        Ok(())
     }
 
     // Takes what the next frame says, with so much room behind its type and id.
@@ -112,17 +154,24 @@ impl Send {
         }
     }
 
-    // Appends the next frame, with so much room behind its type and id, and takes it.
-    pub(crate) fn put_frame(&mut self, id: StreamId, max_len: usize, out: &mut Vec<u8>)
+    // Appends the next frame, with so much room behind its type and id, and takes it: what it
+    // carries.
+    pub(crate) fn put_frame(
+        &mut self,
+        id: StreamId,
+        max_len: usize,
+        out: &mut Vec<u8>,
+    ) -> StreamMeta
         requires some { 17 ≤ max_len }
         requires room { vec_len out.old + (1 + width_of id) + max_len ≤ vec_capacity out.old }
         ensures items { out.new.items ≡ out.old.items ++ stream_spelling (writes_length self.old.buffer max_len) (frame_of id self.old max_len) }
         ensures len { vec_len out.new ≤ vec_len out.old + (1 + width_of id) + max_len }
         ensures capacity { vec_capacity out.old ≤ vec_capacity out.new }
         ensures new { self.new ≡ half_after self.old max_len }
+        ensures meta { result ≡ meta_of (frame_of id self.old max_len) }
     {
         let meta = self.poll(max_len);
-        let start = meta.offsets.start;
+        let (start, end) = (meta.offsets.start, meta.offsets.end);
         let (data, more) = self.pending.get_parts(meta.offsets);
         let frame = Stream {
             id,
@@ -131,12 +180,18 @@ impl Send {
             data,
         };
         put_stream_parts(out, &frame, more, meta.has_length);
+        StreamMeta {
+            id,
+            offsets: start..end,
+            fin: meta.fin,
+        }
     }
 }
 
 #[cfg(test)]
 mod tests {
     use super::*;
+    use quic_wire_core::{Dir, Side};
     use std::test::Fail;
 
     // 16 bytes are room for 16 bytes at offset 0 with no length, and then for 7 with one.
@@ -156,6 +211,53 @@ mod tests {
         let last = half.poll(16);
         assert_eq!(rt; (last.offsets.start, last.offsets.end), (16, 22));
         assert!(rt; last.fin && last.has_length);
+        assert!(rt; !half.has_pending());
+        Ok(())
+    }
+
+    fn frame_of(offsets: Range<u64>, fin: bool) -> StreamMeta
+        ensures { result ≡ record { id = 0; offsets = offsets; fin = fin } }
+    {
+        StreamMeta {
+            id: StreamId::new(Side::Client, Dir::Bi, 0),
+            offsets,
+            fin,
+        }
+    }
+
+    // A stream of five bytes goes in one frame, and is acknowledged in parts, the last one first.
+    #[test]
+    fn parts_are_acknowledged_out_of_order(rt: HostRuntime) -> Result<(), Fail> {
+        let mut half = Send::new(rt.alloc(), VarInt::from_u32(30));
+        half.write(b"Hello")?;
+        half.finish();
+        let sent = half.poll(100);
+        assert_eq!(rt; (sent.offsets.end, sent.fin), (5, true));
+        half.ack(&frame_of(3..5, false))?;
+        assert!(rt; !half.is_acked());
+        half.ack(&frame_of(0..3, false))?;
+        assert_eq!(rt; half.buffered(), 0);
+        assert!(rt; !half.is_acked());
+        half.ack(&frame_of(5..5, true))?;
+        assert!(rt; half.is_acked());
+        half.retransmit(&frame_of(0..5, true))?;
+        assert!(rt; !half.has_pending());
+        Ok(())
+    }
+
+    #[test]
+    fn lost_bytes_go_again(rt: HostRuntime) -> Result<(), Fail> {
+        let mut half = Send::new(rt.alloc(), VarInt::from_u32(30));
+        half.write(b"Hello")?;
+        half.finish();
+        let _ = half.poll(100);
+        assert!(rt; !half.has_pending());
+        half.ack(&frame_of(0..2, false))?;
+        half.retransmit(&frame_of(0..5, true))?;
+        assert!(rt; half.has_pending());
+        let again = half.poll(100);
+        assert_eq!(rt; (again.offsets.start, again.offsets.end), (2, 5));
+        assert!(rt; again.fin);
         assert!(rt; !half.has_pending());
         Ok(())
     }

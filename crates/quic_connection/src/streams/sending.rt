@@ -1,20 +1,22 @@
 // What is sent on the streams of one end.
 ghost use Rattle.std.specs.Prelude.{◌≡◌, ◌≢◌, ◌<◌, ◌≤◌, ◌-◌, ◌+◌, ◌++◌, [], length, IsSome, IfSome, IfOk, IsOk, OnOk, OnErr, Ok, Err, Some, None, true, false, vec_len, vec_capacity};
-ghost use Rattle.std.specs.Option.{option_copied};
+ghost use Rattle.std.specs.Option.{option_copied, option_map};
 ghost use Rattle.quic_wire.specs.Parameters.{AreInRange};
 ghost use Rattle.quic_wire.specs.Writing.{stream_spelling, width_of};
 ghost use Rattle.quic_streams_core.specs.Buffered.{writes_length};
 ghost use Rattle.quic_wire_core.specs.declared.stream_id.Dir.TheVariants as dirs;
 ghost use Rattle.quic_connection_core.specs.Table.{at};
-ghost use Rattle.quic_connection_core.specs.Sending.{Sending, written_on, room, opened_of, count_of, may_open, opens, next_id, first_limit, after_open, taken_by, written_to, write_answer, grown_at, after_written, finish_answer, after_finish};
+ghost use Rattle.quic_connection_core.specs.Sending.{Sending, written_on, room, opened_of, count_of, may_open, opens, next_id, first_limit, after_open, taken_by, written_to, write_answer, grown_at, after_written, finish_answer, after_finish, after_stream_acked, after_stream_lost, finishes};
 ghost use Rattle.quic_connection_core.specs.Poll.{first_pending, frame_of};
+ghost use Rattle.quic_connection_core.specs.Tracking.{meta_of};
 ghost use Rattle.quic_connection_core.specs.declared.answers.WriteError.TheVariants as write_errors;
-ghost use Rattle.quic_connection.specs.Frames.{polled_at};
+ghost use Rattle.quic_connection.specs.Frames.{polled_at, half_frame};
 ghost use Rattle.quic_connection.specs.Bounds.{IsLast};
 ghost use Rattle.quic_connection.specs.Halves.{is_closed};
 
 use crate::streams::send::Send;
 use quic_connection_core::{FinishError, WriteError};
+use quic_streams_core::StreamMeta;
 use quic_wire::TransportParameters;
 use quic_wire_core::{Dir, Side, StreamId, VarInt};
 use std::alloc::{AllocError, Global};
@@ -295,8 +297,14 @@ impl Sending {
         }
     }
 
-    // Appends the next frame of a stream, with so much room behind its type and id, and takes it.
-    pub(crate) fn put_frame(&mut self, id: StreamId, max_len: usize, out: &mut Vec<u8>)
+    // Appends the next frame of a stream, with so much room behind its type and id, and takes it:
+    // what it carries.
+    pub(crate) fn put_frame(
+        &mut self,
+        id: StreamId,
+        max_len: usize,
+        out: &mut Vec<u8>,
+    ) -> Option<StreamMeta>
         requires some { 17 ≤ max_len }
         requires room { vec_len out.old + (1 + width_of id) + max_len ≤ vec_capacity out.old }
         ensures items { IfSome (at self.old.halves id) (λ h. out.new.items ≡ out.old.items ++ stream_spelling (writes_length h.buffer max_len) (frame_of id h max_len)) }
@@ -304,11 +312,41 @@ impl Sending {
         ensures grows { vec_len out.old ≤ vec_len out.new }
         ensures capacity { vec_capacity out.old ≤ vec_capacity out.new }
         ensures new { self.new ≡ record self.old { halves = polled_at (at self.old.halves id) self.old.halves id max_len } }
+        ensures meta { result ≡ option_map meta_of (half_frame (at self.old.halves id) id max_len) }
     {
         let Some(half) = self.halves.get_mut(&u64::from(id)) else {
-            return;
+            return None;
         };
-        half.put_frame(id, max_len, out);
+        Some(half.put_frame(id, max_len, out))
+    }
+
+    // A frame was acknowledged: whether all of its stream is acknowledged now, its end too, that
+    // wasn't before. An `Err` (want of memory) changes nothing.
+    pub(crate) fn received_ack_of(&mut self, frame: &StreamMeta) -> Result<bool, AllocError>
+        ensures answer { IfOk result (λ done. done ≡ finishes self.old frame.now) }
+        ensures ok { OnOk result (self.new ≡ after_stream_acked self.old frame.now) }
+        ensures err { OnErr result (self.new ≡ self.old) }
+    {
+        let Some(half) = self.halves.get_mut(&u64::from(frame.id)) else {
+            return Ok(false);
+        };
+        let (was_acked, held) = (half.is_acked(), half.buffered() as u64);
+        half.ack(frame)?;
+        let (is_acked, kept) = (half.is_acked(), half.buffered() as u64);
+        self.buffered = self.buffered - held + kept;
+        Ok(!was_acked && is_acked)
+    }
+
+    // A frame was lost: what isn't acknowledged of it goes again. An `Err` (want of memory)
+    // changes nothing.
+    pub(crate) fn retransmit(&mut self, frame: &StreamMeta) -> Result<(), AllocError>
+        ensures ok { OnOk result (self.new ≡ after_stream_lost self.old frame.now) }
+        ensures err { OnErr result (self.new ≡ self.old) }
+    {
+        let Some(half) = self.halves.get_mut(&u64::from(frame.id)) else {
+            return Ok(());
+        };
+        half.retransmit(frame)
     }
 }
 
@@ -368,6 +406,55 @@ mod tests {
         sending.take_back(Side::Client);
         assert_eq!(rt; sending.finish(id), Err(FinishError::ClosedStream));
         assert!(rt; sending.opens(Side::Client, Dir::Bi));
+        Ok(())
+    }
+
+    fn frame_of(id: StreamId, start: u64, end: u64, fin: bool) -> StreamMeta
+        ensures { result ≡ record { id = id; offsets = record { start = start; end = end }; fin = fin } }
+    {
+        StreamMeta {
+            id,
+            offsets: start..end,
+            fin,
+        }
+    }
+
+    // Five bytes may be buffered: what is acknowledged makes room for more.
+    #[test]
+    fn acknowledged_bytes_make_room(rt: HostRuntime) -> Result<(), Fail> {
+        let ours = TransportConfig::default().transport_parameters();
+        let mut sending = Sending::new(rt.alloc(), &ours, 5);
+        assert!(rt; sending.opens(Side::Client, Dir::Bi));
+        let id = sending.open(Side::Client, Dir::Bi)?;
+        assert_eq!(rt; sending.write(true, id, b"Hello"), Ok(5));
+        let mut out = Vec::with_capacity(rt.alloc(), 100)?;
+        sending.put_frame(id, 50, &mut out);
+        assert!(rt; !sending.received_ack_of(&frame_of(id, 3, 5, false))?);
+        assert_eq!(rt; sending.write(true, id, b"!"), Err(WriteError::Blocked));
+        assert!(rt; !sending.received_ack_of(&frame_of(id, 0, 3, false))?);
+        assert_eq!(rt; sending.write(true, id, b"!"), Ok(1));
+        Ok(())
+    }
+
+    // A stream is finished once all of it is acknowledged, the last part first; lost bytes go again.
+    #[test]
+    fn a_stream_is_acknowledged(rt: HostRuntime) -> Result<(), Fail> {
+        let ours = TransportConfig::default().transport_parameters();
+        let mut sending = Sending::new(rt.alloc(), &ours, 100);
+        assert!(rt; sending.opens(Side::Client, Dir::Bi));
+        let id = sending.open(Side::Client, Dir::Bi)?;
+        assert_eq!(rt; sending.write(true, id, b"Hello"), Ok(5));
+        assert_eq!(rt; sending.finish(id), Ok(()));
+        let mut out = Vec::with_capacity(rt.alloc(), 100)?;
+        sending.put_frame(id, 50, &mut out);
+        assert_eq!(rt; sending.pending(), None);
+        assert!(rt; !sending.received_ack_of(&frame_of(id, 3, 5, false))?);
+        sending.retransmit(&frame_of(id, 0, 5, true))?;
+        assert_eq!(rt; sending.pending(), Some(id));
+        assert!(rt; !sending.received_ack_of(&frame_of(id, 0, 3, false))?);
+        assert!(rt; sending.received_ack_of(&frame_of(id, 5, 5, true))?);
+        assert_eq!(rt; sending.pending(), None);
+        assert!(rt; !sending.received_ack_of(&frame_of(id, 5, 5, true))?);
         Ok(())
     }
 }

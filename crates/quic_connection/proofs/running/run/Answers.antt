@@ -2,7 +2,7 @@
 use Rattle.std.proofs.Common.{refl}
 use Rattle.quic_connection_core.specs.Machine.{World, Policies}
 use Rattle.quic_connection_core.specs.Runs.{Run}
-use Rattle.quic_connection_core.proofs.Whole.{ordered_prefix, slices, once, end_after_all, blocked_only_without_bytes, accepts_all, numbers_rise}
+use Rattle.quic_connection_core.proofs.Whole.{ordered_prefix, slices, once, end_after_all, blocked_only_without_bytes, accepts_all, finished_means_arrived, numbers_rise}
 use Rattle.quic_connection.specs.Ends.{world_of, policies_of, run_of}
 use Rattle.quic_connection.proofs.running.run.Goals as goal
 
@@ -47,6 +47,13 @@ returns-clause-accepts_all g c =
     let keys : Policies = policies_of g.H.HeaderKey.masks g.H.HeaderKey.hides g.H.HeaderKey.unmasks g.H.HeaderKey.reveals g.K.PacketKey.sealed g.K.PacketKey.opened c.args.ends in
     let r : Run = run_of keys c.args.ends c.args.events.now o.answers.items o.views.items o.given in
     λ honest. accepts_all r (world_of o.ends o.given) honest (record { follows = c.run_events.ensures.follows; from_client = refl; from_server = refl })
+
+pub returns-clause-finished_means_arrived : goal.returns-clause-finished_means_arrived
+returns-clause-finished_means_arrived g c =
+    let o = c.run_events.result in
+    let keys : Policies = policies_of g.H.HeaderKey.masks g.H.HeaderKey.hides g.H.HeaderKey.unmasks g.H.HeaderKey.reveals g.K.PacketKey.sealed g.K.PacketKey.opened c.args.ends in
+    let r : Run = run_of keys c.args.ends c.args.events.now o.answers.items o.views.items o.given in
+    λ honest. finished_means_arrived r (world_of o.ends o.given) honest (record { follows = c.run_events.ensures.follows; from_client = refl; from_server = refl })
 
 pub returns-clause-numbers_rise : goal.returns-clause-numbers_rise
 returns-clause-numbers_rise g c =

@@ -1,31 +1,63 @@
-use Rattle.std.proofs.Common.{rules, ◌≡◌, ◌++◌, List, ℕ, subst}
-use Rattle.std.specs.Prelude.{IfSome, vec_len}
-use Rattle.quic_wire.specs.Writing.{stream_spelling}
+use Rattle.std.proofs.Common.{rules, ◌++◌, ℕ, List, ap, sym, ◌∙◌, arith}
+use Rattle.std.specs.Prelude.{vec_len}
 use Rattle.quic_wire.specs.Number.{truncated}
 use Rattle.quic_wire.specs.Header.{header_bytes}
-use Rattle.quic_streams_core.specs.Buffered.{writes_length}
-use Rattle.quic_connection_core.specs.End.{with_end, with_sending}
 use Rattle.quic_connection_core.specs.Numbers.{cut_against}
-use Rattle.quic_connection_core.specs.Table.{at, put}
-use Rattle.quic_connection_core.specs.Sending.{SendHalf}
-use Rattle.quic_connection_core.specs.Poll.{stream_room, frame_of, half_after}
-use Rattle.quic_connection.proofs.Plain.{plain_of}
+use Rattle.quic_connection_core.specs.Poll.{composed}
+use Rattle.quic_connection.proofs.Plain.{same_numbers, same_ids, payload_is, plain_of}
 use Rattle.quic_connection.proofs.connection.Connection.put_plain.Goals as goal
+
+pub put_frames-sent-requires-clause-some : goal.put_frames-sent-requires-clause-some
+put_frames-sent-requires-clause-some g c =
+    let width = c.put_header-width.ensures.width in
+    let short = c.put_header-width.ensures.short in
+    omega arith
+
+pub put_frames-sent-requires-clause-room : goal.put_frames-sent-requires-clause-room
+put_frames-sent-requires-clause-room g c =
+    let width = c.put_header-width.ensures.width in
+    let len = c.put_header-width.ensures.len in
+    let short = c.put_header-width.ensures.short in
+    let capacity = c.put_header-width.ensures.capacity in
+    let room = c.requires.room in
+    omega arith
+
+pub pad-requires-clause-room : goal.pad-requires-clause-room
+pad-requires-clause-room g c =
+    let within = c.put_frames-sent.ensures.within in
+    let grows = c.put_frames-sent.ensures.grows in
+    let width = c.put_header-width.ensures.width in
+    let len = c.put_header-width.ensures.len in
+    let short = c.put_header-width.ensures.short in
+    let body = c.len-body.ensures in
+    let one = c.put_header-width.ensures.capacity in
+    let two = c.put_frames-sent.ensures.capacity in
+    let room = c.requires.room in
+    omega arith
 
 pub returns-clause-items : goal.returns-clause-items
 returns-clause-items g c =
     let e = c.args.self.now.end in
-    let id : ℕ = c.args.id in
     let t = truncated e.numbers.next (cut_against e.numbers) in
     let before : List ℕ = c.put_header-width.new.out.items in
-    let whole : List ℕ = c.put_frame.new.out.items in
-    let framed = λ (r : ℕ) (h : SendHalf). stream_spelling (writes_length h.buffer r) (frame_of id h r) in
-    let carried = subst (λ (r : ℕ). IfSome (at e.sending.halves id) (λ (h : SendHalf). whole ≡ before ++ framed r h)) c.stream_room-room.ensures.room c.put_frame.ensures.items in
-    plain_of (at e.sending.halves id) c.args.out.now.items before (header_bytes e.ids.active.id t) whole c.pad.new.out.items t.width c.put_header-width.result (vec_len c.put_frame.new.out) c.len-body.result (framed (stream_room e id))
-    (search rules) (search rules) (search rules) (search rules) carried c.pad.ensures.items
+    let whole : List ℕ = c.put_frames-sent.new.out.items in
+    plain_of c.args.out.now.items before (header_bytes e.ids.active.id t) whole c.pad.new.out.items (composed e).bytes t.width c.put_header-width.result (vec_len c.put_frames-sent.new.out) c.len-body.result
+    (search rules) (search rules) (search rules) (search rules) c.put_frames-sent.ensures.items c.pad.ensures.items
+    ∙ ap (λ (z : List ℕ). c.args.out.now.items ++ (header_bytes e.ids.active.id t ++ z)) (sym (payload_is e))
 
-pub returns-clause-end : goal.returns-clause-end
-returns-clause-end g c =
-    let e = c.args.self.now.end in
-    let id : ℕ = c.args.id in
-    subst (λ (r : ℕ). IfSome (at e.sending.halves id) (λ (h : SendHalf). c.put_frame.new.self ≡ with_end c.args.self.now (with_sending e (record e.sending { halves = put e.sending.halves id (half_after h r) })))) c.stream_room-room.ensures.room c.put_frame.ensures.end
+pub returns-clause-within : goal.returns-clause-within
+returns-clause-within g c =
+    let within = c.put_frames-sent.ensures.within in
+    let grows = c.put_frames-sent.ensures.grows in
+    let width = c.put_header-width.ensures.width in
+    let len = c.put_header-width.ensures.len in
+    let short = c.put_header-width.ensures.short in
+    let body = c.len-body.ensures in
+    let padded = c.pad.ensures.len in
+    omega arith
+
+pub returns-clause-numbers : goal.returns-clause-numbers
+returns-clause-numbers g c = ap (λ w. w.end.numbers) c.put_frames-sent.ensures.end ∙ same_numbers c.args.self.now.end
+
+pub returns-clause-ids : goal.returns-clause-ids
+returns-clause-ids g c = ap (λ w. w.end.ids) c.put_frames-sent.ensures.end ∙ same_ids c.args.self.now.end
