@@ -1,7 +1,7 @@
 -- How the words of a line are read, one after another.
 use Rattle.std.proofs.Common.{◌≡◌, ℕ, ◌+◌, ◌<◌, ◌^◌, ◌==◌, List, [], ◌∷◌, length, drop, Bool, true, false, cond, not, ◌&&◌, nat_lt, if◌then◌else◌, Option, Some, None, Result, Ok, Err, ok_or, refl, arith}
 use Rattle.std.specs.List.{slice_split, onto_first, position_or_len, before_first, after_first}
-use Rattle.std.specs.Option.{SomeIff}
+use Rattle.std.specs.Option.{SomeIff, option_map}
 use Rattle.std.specs.Str.{all_ascii_digits, is_utf8, IsUtf8}
 use Rattle.std.specs.Str.Parse.{IsNumeral, digits_value}
 use Rattle.std.proofs.lemmas.List.Splits.{slice_split_first}
@@ -10,7 +10,7 @@ use Rattle.std.proofs.lemmas.Str.{IsUtf8-from_is_utf8}
 use Rattle.std.proofs.lemmas.Str.Parse.{IsNumeralModel, numerals_by_value, tells_all_ascii_digits}
 use Rattle.quic_wire_core.specs.declared.stream_id.Side.{Side}
 use Rattle.quic_run_core.specs.Named.{side_named}
-use Rattle.quic_run_core.specs.Language.{Command, words, ends, first, number_named, at_side, command_said, words_said, is_skipped, said}
+use Rattle.quic_run_core.specs.Language.{Command, words, ends, first, one, number_named, at_side, command_said, words_said, is_skipped, said}
 
 -- a blank
 abbrev is_blank : ℕ → Bool
@@ -81,6 +81,16 @@ words_said-at e (w ∷ v ∷ vs) side name args h r = go (side_named w) h
         let named : v ≡ name = cc in
         let others : vs ≡ args = cc in
         rw (same, named, others) refl
+
+-- what is made of just one word stands where that word was read and none is left
+pub one-read : {A B E : Type 0} (make : A → B) (f : List ℕ → Option A) (e : E) (ws : List (List ℕ)) (a : A) → Ok a ≡ ok_or (first f ws) e → one make f ws ≡ ends (drop 1 ws) (Some (make a))
+one-read make f e [] a h = absurd cc
+one-read {A} make f e (w ∷ []) a h = go (f w) h
+  where
+    go : (o : Option A) → Ok a ≡ ok_or o e → option_map make o ≡ Some (make a)
+    go None h = absurd cc
+    go (Some b) h = let same : b ≡ a = cc in rw same refl
+one-read make f e (w ∷ v ∷ vs) a h = refl
 
 -- a line of text that is neither too long nor skipped asks for what its words do
 pub said-words : (line : List ℕ) → nat_lt 1048576 (length line) ≡ false → is_skipped line ≡ false → is_utf8 line ≡ true → said line ≡ words_said (words line)

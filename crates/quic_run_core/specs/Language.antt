@@ -10,6 +10,7 @@ use Rattle.std.specs.Str.Parse.{digits_value}
 use Rattle.quic_wire_core.specs.declared.stream_id.Side.{Side}
 use Rattle.quic_wire_core.specs.declared.stream_id.Dir.{Dir}
 use Rattle.quic_wire_core.specs.declared.shared.EcnCodepoint.{EcnCodepoint}
+use Rattle.quic_recovery_core.specs.declared.timer.Timer.{Timer}
 use Rattle.quic_connection_core.specs.declared.run.Call.{Call}
 use Rattle.quic_connection_core.specs.declared.run.Call.TheVariants as calls
 use Rattle.quic_run_core.specs.declared.script.Line.{Line}
@@ -18,7 +19,7 @@ use Rattle.quic_run_core.specs.declared.script.LineError.{LineError}
 use Rattle.quic_run_core.specs.declared.script.LineError.TheVariants.{BadCommand, OutOfMemory}
 use Rattle.quic_run_core.specs.declared.script.Setting.{Setting}
 use Rattle.quic_run_core.specs.declared.script.Setting.TheVariants.{ReceiveWindow, StreamWindow, SendWindow, Word}
-use Rattle.quic_run_core.specs.Named.{side_named, dir_named, mark_named, bytes_named}
+use Rattle.quic_run_core.specs.Named.{side_named, dir_named, mark_named, timer_named, bytes_named}
 
 -- ---- what may be asked for
 
@@ -30,8 +31,14 @@ pub data Asked : Type 0 where
   finishes : ℕ → Asked
   -- one `next` of at most so many bytes, and `finalize`
   reads : ℕ → ℕ → Asked
+  pings : Asked
   polls : ℕ → Asked
+  times_out : ℕ → Asked
   delivers : ℕ → Option EcnCodepoint → ℕ → Asked
+  injects : ℕ → Option EcnCodepoint → List ℕ → Asked
+  asks_event : Asked
+  asks_timer : Timer → Asked
+  asks_next : Asked
   -- a read that no line asks for
   others : Asked
 
@@ -80,6 +87,11 @@ abbrev pub varint_named : List ℕ → Option ℕ
 varint_named word = varint_in (number_named word)
 
 -- ---- words that stand alone behind a name
+
+-- a whole that names something, if no words are left behind it
+abbrev pub ends : {A : Type 0} → List (List ℕ) → Option A → Option A
+ends [] whole = whole
+ends (w ∷ ws) whole = None
 
 -- both of two, made into one
 abbrev pub both : {A B C : Type 0} → (A → B → C) → Option A → Option B → Option C
@@ -132,9 +144,15 @@ call_said name args =
     else (if is_word name (codes "write") then two writes varint_named bytes_named args
     else (if is_word name (codes "finish") then one finishes varint_named args
     else (if is_word name (codes "read") then two reads varint_named number_named args
+    else (if is_word name (codes "ping") then ends args (Some pings)
     else (if is_word name (codes "poll") then one polls number_named args
+    else (if is_word name (codes "timeout") then one times_out number_named args
     else (if is_word name (codes "deliver") then three delivers number_named mark_named number_named args
-    else None))))))
+    else (if is_word name (codes "inject") then three injects number_named mark_named bytes_named args
+    else (if is_word name (codes "event") then ends args (Some asks_event)
+    else (if is_word name (codes "timer") then one asks_timer timer_named args
+    else (if is_word name (codes "next") then ends args (Some asks_next)
+    else None))))))))))))
 
 -- what the words behind an end's ask for
 abbrev pub command_said : Side → List ℕ → List (List ℕ) → Option Command
@@ -182,8 +200,14 @@ asked_of (calls.Accept dir) = accepts dir
 asked_of (calls.Write id bytes) = writes id bytes
 asked_of (calls.Finish id) = finishes id
 asked_of (calls.Read read) = asked_read read.id read.nexts.items read.finalize
+asked_of calls.Ping = pings
 asked_of (calls.Poll now) = polls now
+asked_of (calls.Timeout now) = times_out now
 asked_of (calls.Deliver delivery) = delivers delivery.now delivery.ecn delivery.index
+asked_of (calls.Inject injection) = injects injection.now injection.ecn injection.bytes
+asked_of calls.Event = asks_event
+asked_of (calls.Timer timer) = asks_timer timer
+asked_of calls.NextTimeout = asks_next
 
 -- what is done at a line
 abbrev pub command_of : Line → Command
@@ -191,11 +215,6 @@ command_of lines.Empty = nothing
 command_of (lines.Set side setting) = sets side setting
 command_of (lines.Call event) = asks event.side (asked_of event.call)
 command_of (lines.Show side index) = shows side index
-
--- a whole that names something, if no words are left behind it
-abbrev pub ends : {A : Type 0} → List (List ℕ) → Option A → Option A
-ends [] whole = whole
-ends (w ∷ ws) whole = None
 
 -- What was read of a line's words, with those that are left: the whole names it where none are left, and nothing else. A bad command: the whole names nothing.
 abbrev pub Reads : {T A : Type 0} → Result T LineError → (T → A) → Option A → List (List ℕ) → Type 0

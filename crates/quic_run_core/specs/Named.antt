@@ -11,6 +11,8 @@ use Rattle.quic_wire_core.specs.declared.stream_id.Dir.{Dir}
 use Rattle.quic_wire_core.specs.declared.stream_id.Dir.TheVariants.{Bi, Uni}
 use Rattle.quic_wire_core.specs.declared.shared.EcnCodepoint.{EcnCodepoint}
 use Rattle.quic_wire_core.specs.declared.shared.EcnCodepoint.TheVariants.{Ect0, Ect1, Ce}
+use Rattle.quic_recovery_core.specs.declared.timer.Timer.{Timer}
+use Rattle.quic_recovery_core.specs.declared.timer.Timer.TheVariants.{LossDetection, Idle, Close, KeyDiscard, PathValidation, KeepAlive, Pacing, PushNewCid, MaxAckDelay}
 
 -- the end that a word names
 abbrev pub side_named : List ℕ → Option Side
@@ -34,6 +36,20 @@ mark_named word =
     else (if pointwise nat_eq word (codes "ect1") then Some (Some Ect1)
     else (if pointwise nat_eq word (codes "ce") then Some (Some Ce)
     else None)))
+
+-- the timer that a word names
+abbrev pub timer_named : List ℕ → Option Timer
+timer_named word =
+    if pointwise nat_eq word (codes "lossdetection") then Some LossDetection
+    else (if pointwise nat_eq word (codes "idle") then Some Idle
+    else (if pointwise nat_eq word (codes "close") then Some Close
+    else (if pointwise nat_eq word (codes "keydiscard") then Some KeyDiscard
+    else (if pointwise nat_eq word (codes "pathvalidation") then Some PathValidation
+    else (if pointwise nat_eq word (codes "keepalive") then Some KeepAlive
+    else (if pointwise nat_eq word (codes "pacing") then Some Pacing
+    else (if pointwise nat_eq word (codes "pushnewcid") then Some PushNewCid
+    else (if pointwise nat_eq word (codes "maxackdelay") then Some MaxAckDelay
+    else None))))))))
 
 -- the bytes that a word names in lower-case hexadecimal, where `-` names none
 abbrev pub bytes_named : List ℕ → Option (List ℕ)

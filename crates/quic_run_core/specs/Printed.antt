@@ -14,10 +14,16 @@ use Rattle.quic_connection_core.specs.declared.answers.ReadError.TheVariants as 
 use Rattle.quic_connection_core.specs.declared.answers.ReadableError.{ReadableError}
 use Rattle.quic_connection_core.specs.declared.answers.ReadableError.TheVariants as readables
 use Rattle.quic_connection_core.specs.declared.answers.DropReason.{DropReason}
-use Rattle.quic_connection_core.specs.declared.answers.DropReason.TheVariants.{TooShort, NotShort, FixedBit, UnknownId, NotOpened, KeyPhase, Duplicate, Closing, Drained, Failed}
+use Rattle.quic_connection_core.specs.declared.answers.DropReason.TheVariants as drops
 use Rattle.quic_connection_core.specs.declared.answers.Received.{Received}
 use Rattle.quic_connection_core.specs.declared.answers.Received.TheVariants as receives
 use Rattle.quic_connection_core.specs.declared.answers.Transmit.{Transmit}
+use Rattle.quic_connection_core.specs.declared.answers.Failed.{Failed}
+use Rattle.quic_connection_core.specs.declared.answers.LostReason.{LostReason}
+use Rattle.quic_connection_core.specs.declared.answers.LostReason.TheVariants as losses
+use Rattle.quic_connection_core.specs.declared.answers.StreamEvent.TheVariants as happenings
+use Rattle.quic_connection_core.specs.declared.answers.Event.{Event}
+use Rattle.quic_connection_core.specs.declared.answers.Event.TheVariants as events
 use Rattle.quic_connection_core.specs.declared.run.Call.{Call}
 use Rattle.quic_connection_core.specs.declared.run.Call.TheVariants as calls
 use Rattle.quic_connection_core.specs.declared.run.Answer.{Answer}
@@ -38,6 +44,11 @@ coded_text word code = word ++ (codes " " ++ decimal code)
 abbrev pub id_text : Option ℕ → List ℕ
 id_text (Some id) = decimal id
 id_text None = codes "none"
+
+-- a moment in nanoseconds, if there is one
+abbrev pub moment_text : Option ℕ → List ℕ
+moment_text (Some moment) = decimal moment
+moment_text None = codes "none"
 
 -- a mark, where `-` stands for none
 abbrev pub mark_text : Option EcnCodepoint → List ℕ
@@ -81,16 +92,16 @@ transmit_text index transmit = decimal index ++ (codes " " ++ (decimal transmit.
 
 -- the name of the reason why a datagram was dropped
 abbrev pub reason_text : DropReason → List ℕ
-reason_text TooShort = codes "tooshort"
-reason_text NotShort = codes "notshort"
-reason_text FixedBit = codes "fixedbit"
-reason_text UnknownId = codes "unknownid"
-reason_text NotOpened = codes "notopened"
-reason_text KeyPhase = codes "keyphase"
-reason_text Duplicate = codes "duplicate"
-reason_text Closing = codes "closing"
-reason_text Drained = codes "drained"
-reason_text Failed = codes "failed"
+reason_text drops.TooShort = codes "tooshort"
+reason_text drops.NotShort = codes "notshort"
+reason_text drops.FixedBit = codes "fixedbit"
+reason_text drops.UnknownId = codes "unknownid"
+reason_text drops.NotOpened = codes "notopened"
+reason_text drops.KeyPhase = codes "keyphase"
+reason_text drops.Duplicate = codes "duplicate"
+reason_text drops.Closing = codes "closing"
+reason_text drops.Drained = codes "drained"
+reason_text drops.Failed = codes "failed"
 
 -- what came of a datagram
 abbrev pub received_text : Received → List ℕ
@@ -98,6 +109,26 @@ received_text receives.Taken = codes "taken"
 received_text (receives.Dropped reason) = codes "dropped " ++ reason_text reason
 received_text (receives.Closed error) = coded_text (codes "closed") error.code
 received_text receives.Failed = codes "failed"
+
+-- whether timers were let expire, or the end has failed
+abbrev pub timeout_text : Result (Unit {0}) Failed → List ℕ
+timeout_text (Ok done) = codes "ok"
+timeout_text (Err failed) = codes "failed"
+
+-- the name of the reason why an end is lost
+abbrev pub loss_text : LostReason → List ℕ
+loss_text losses.Application = codes "application"
+loss_text losses.Pieces = codes "pieces"
+loss_text losses.Idle = codes "idle"
+loss_text losses.KeyLimit = codes "keylimit"
+loss_text losses.NumberLimit = codes "numberlimit"
+loss_text (losses.Transport error) = codes "transport"
+
+-- what the application is told, if anything
+abbrev pub event_text : Option Event → List ℕ
+event_text (Some (events.Stream (happenings.Finished id))) = coded_text (codes "finished") id
+event_text (Some (events.Lost reason)) = codes "lost " ++ loss_text reason
+event_text None = codes "none"
 
 -- ---- any answer
 
@@ -111,11 +142,18 @@ answer_text given (answers.Finish finished) = finish_text finished
 answer_text given (answers.Read (Ok nexts)) = first_next_text nexts
 answer_text given (answers.Read (Err readables.ClosedStream)) = codes "closed"
 answer_text given (answers.Read (Err readables.Memory)) = codes "memory"
+answer_text given answers.Ping = codes "ok"
 answer_text given (answers.Poll (Ok (Some transmit))) = transmit_text (given - 1) transmit
 answer_text given (answers.Poll (Ok None)) = codes "none"
 answer_text given (answers.Poll (Err failed)) = codes "failed"
+answer_text given (answers.Timeout done) = timeout_text done
 answer_text given (answers.Deliver received) = received_text received
 answer_text given answers.NoDatagram = codes "nodatagram"
+answer_text given (answers.Inject received) = received_text received
+answer_text given answers.Opens = codes "opens"
+answer_text given (answers.Event told) = event_text told
+answer_text given (answers.Timer moment) = moment_text moment
+answer_text given (answers.NextTimeout moment) = moment_text moment
 
 -- ---- calls
 
@@ -126,5 +164,11 @@ call_text (calls.Accept dir) = codes "accept"
 call_text (calls.Write id bytes) = codes "write"
 call_text (calls.Finish id) = codes "finish"
 call_text (calls.Read read) = codes "read"
+call_text calls.Ping = codes "ping"
 call_text (calls.Poll now) = codes "poll"
+call_text (calls.Timeout now) = codes "timeout"
 call_text (calls.Deliver delivery) = codes "deliver"
+call_text (calls.Inject injection) = codes "inject"
+call_text calls.Event = codes "event"
+call_text (calls.Timer timer) = codes "timer"
+call_text calls.NextTimeout = codes "next"

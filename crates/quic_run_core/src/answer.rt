@@ -1,10 +1,10 @@
 //! What is printed of an answer.
 ghost use Rattle.std.specs.Prelude.{◌≡◌, ◌++◌, OnOk, string_bytes};
-ghost use Rattle.quic_run_core.specs.Printed.{bytes_text, coded_text, id_text, mark_text, write_text, finish_text, next_text, transmit_text, reason_text, received_text, answer_text, call_text};
+ghost use Rattle.quic_run_core.specs.Printed.{bytes_text, coded_text, id_text, moment_text, mark_text, write_text, finish_text, next_text, transmit_text, reason_text, received_text, timeout_text, loss_text, event_text, answer_text, call_text};
 
 use quic_connection::{
-    Answer, Call, Chunk, DropReason, FinishError, ReadError, ReadableError, Received, Transmit,
-    WriteError,
+    Answer, Call, Chunk, DropReason, Event, Failed, FinishError, Instant, LostReason, ReadError,
+    ReadableError, Received, StreamEvent, Transmit, WriteError,
 };
 use quic_wire_core::{EcnCodepoint, StreamId, VarInt};
 use std::alloc::{AllocError, Global};
@@ -36,6 +36,19 @@ fn put_id(out: &mut String, id: Option<StreamId>) -> Result<(), AllocError>
         Some(id) => {
             let id = u64::from(id);
             write!(out, "{id}")
+        }
+        None => out.push_str("none"),
+    }
+}
+
+/// Appends a moment in nanoseconds, if there is one.
+fn put_moment(out: &mut String, moment: Option<Instant>) -> Result<(), AllocError>
+    ensures { OnOk result (string_bytes out.new ≡ string_bytes out.old ++ moment_text moment) }
+{
+    match moment {
+        Some(moment) => {
+            let nanos = moment.as_nanos();
+            write!(out, "{nanos}")
         }
         None => out.push_str("none"),
     }
@@ -140,6 +153,46 @@ fn put_received(out: &mut String, received: &Received) -> Result<(), AllocError>
     }
 }
 
+/// How it is printed whether timers were let expire, or the end has failed.
+fn timeout_name(done: &Result<(), Failed>) -> &'static str
+    ensures { result.now ≡ timeout_text done.now }
+{
+    match done {
+        Ok(()) => "ok",
+        Err(Failed) => "failed",
+    }
+}
+
+/// How the reason why an end is lost is printed.
+fn loss_name(reason: &LostReason) -> &'static str
+    ensures { result.now ≡ loss_text reason.now }
+{
+    match reason {
+        LostReason::Application => "application",
+        LostReason::Pieces => "pieces",
+        LostReason::Idle => "idle",
+        LostReason::KeyLimit => "keylimit",
+        LostReason::NumberLimit => "numberlimit",
+        LostReason::Transport(_) => "transport",
+    }
+}
+
+/// Appends what the application is told, if anything.
+fn put_event(out: &mut String, event: &Option<Event>) -> Result<(), AllocError>
+    ensures { OnOk result (string_bytes out.new ≡ string_bytes out.old ++ event_text event.now) }
+{
+    match event {
+        Some(Event::Stream(StreamEvent::Finished(id))) => {
+            put_code(out, "finished", VarInt::from(*id))
+        }
+        Some(Event::Lost(reason)) => {
+            let name = loss_name(reason);
+            write!(out, "lost {name}")
+        }
+        None => out.push_str("none"),
+    }
+}
+
 /// Appends an answer. A datagram that was given out is the last of the `given` datagrams of its end.
 pub(crate) fn put_answer(
     alloc: Global,
@@ -160,11 +213,16 @@ pub(crate) fn put_answer(
             [next, ..] => put_next(alloc, out, next),
             [] => Ok(()),
         },
+        Answer::Ping => out.push_str("ok"),
         Answer::Poll(Ok(Some(transmit))) => put_transmit(out, transmit, given.saturating_sub(1)),
         Answer::Poll(Ok(None)) => out.push_str("none"),
         Answer::Poll(Err(_)) => out.push_str("failed"),
-        Answer::Deliver(received) => put_received(out, received),
+        Answer::Timeout(done) => out.push_str(timeout_name(done)),
+        Answer::Deliver(received) | Answer::Inject(received) => put_received(out, received),
         Answer::NoDatagram => out.push_str("nodatagram"),
+        Answer::Opens => out.push_str("opens"),
+        Answer::Event(event) => put_event(out, event),
+        Answer::Timer(moment) | Answer::NextTimeout(moment) => put_moment(out, *moment),
     }
 }
 
@@ -178,7 +236,57 @@ pub(crate) fn call_name(call: &Call) -> &'static str
         Call::Write(_, _) => "write",
         Call::Finish(_) => "finish",
         Call::Read(_) => "read",
+        Call::Ping => "ping",
         Call::Poll(_) => "poll",
+        Call::Timeout(_) => "timeout",
         Call::Deliver(_) => "deliver",
+        Call::Inject(_) => "inject",
+        Call::Event => "event",
+        Call::Timer(_) => "timer",
+        Call::NextTimeout => "next",
+    }
+}
+
+#[cfg(test)]
+mod tests {
+    use super::*;
+    use quic_wire_core::{Code, Reason, TransportError};
+    use std::test::Fail;
+
+    #[test]
+    fn reasons_of_a_loss_have_names(rt: HostRuntime) -> Result<(), Fail> {
+        let broken = TransportError::new(Code::PROTOCOL_VIOLATION, None, Reason::NoFrame);
+        let reasons = [
+            (LostReason::Application, "lost application"),
+            (LostReason::Pieces, "lost pieces"),
+            (LostReason::Idle, "lost idle"),
+            (LostReason::KeyLimit, "lost keylimit"),
+            (LostReason::NumberLimit, "lost numberlimit"),
+            (LostReason::Transport(broken), "lost transport"),
+        ];
+        for (reason, wanted) in reasons {
+            let mut out = String::new(rt.alloc());
+            let answer = Answer::Event(Some(Event::Lost(reason)));
+            put_answer(rt.alloc(), &mut out, &answer, 0)?;
+            assert_eq!(rt; out.as_str(), wanted);
+        }
+        Ok(())
+    }
+
+    #[test]
+    fn what_no_script_meets_is_printed(rt: HostRuntime) -> Result<(), Fail> {
+        let broken = TransportError::new(Code::PROTOCOL_VIOLATION, None, Reason::NoFrame);
+        let answers = [
+            (Answer::Timeout(Err(Failed)), "failed"),
+            (Answer::Inject(Received::Taken), "taken"),
+            (Answer::Inject(Received::Closed(broken)), "closed 10"),
+            (Answer::Inject(Received::Failed), "failed"),
+        ];
+        for (answer, wanted) in answers {
+            let mut out = String::new(rt.alloc());
+            put_answer(rt.alloc(), &mut out, &answer, 0)?;
+            assert_eq!(rt; out.as_str(), wanted);
+        }
+        Ok(())
     }
 }

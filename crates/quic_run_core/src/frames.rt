@@ -1,12 +1,16 @@
 //! What an end makes of a payload that its peer sealed: frames of every kind, and payloads that are none.
-use crate::key::keys_for;
+use crate::key::{PlainHeaderKey, PlainKey, keys_for};
 use crate::words::Words;
-use quic_connection::{Config, Connection, Instant, Received, TransportConfig};
+use quic_connection::{
+    Config, Connection, Event, Instant, LostReason, Received, Timer, TransportConfig,
+};
 use quic_wire::seal_packet;
 use quic_wire_core::{Code, ConnectionId, Side};
 use std::alloc::{AllocError, Global};
 use std::process::Abort;
 use std::test::Fail;
+
+type End = Connection<PlainHeaderKey, PlainKey, Words>;
 
 /// The first byte of both ids, eight times.
 fn id_of(side: Side) -> [u8; 8] {
@@ -28,28 +32,51 @@ fn sealed_for(alloc: Global, side: Side, payload: &[u8]) -> Result<Vec<u8>, Allo
     Ok(out)
 }
 
-/// What a new end answers to this payload: none where it is taken, else the code that it closes with.
+fn now() -> Instant {
+    Instant::from_nanos(0)
+}
+
+/// A new end, which gave so many datagrams with a PING.
+fn end_with<R: Abort + AllocGlobal>(rt: &R, side: Side, given: u64) -> Result<End, Fail> {
+    let mut end = Connection::new(
+        rt.alloc(),
+        side,
+        &Config::new(TransportConfig::default()),
+        &[],
+        ConnectionId::new(&id_of(side)),
+        ConnectionId::new(&id_of(!side)),
+        keys_for(side),
+        now(),
+        Words::word(63),
+        true,
+    )?;
+    let mut out = Vec::new(rt.alloc());
+    for _ in 0..given {
+        end.ping();
+        assert!(rt; end.poll_transmit(now(), &mut out)?.is_some());
+    }
+    Ok(end)
+}
+
+/// What an end that gave the numbers 0 to 5 answers to this payload: none where it is taken, else the code that it closes
+/// with.
 fn answered<R: Abort + AllocGlobal>(
     rt: &R,
     side: Side,
     payload: &[u8],
 ) -> Result<Option<Code>, Fail> {
-    let config = Config::new(TransportConfig::default());
-    let now = Instant::from_nanos(0);
-    let mut end = Connection::new(
-        rt.alloc(),
-        side,
-        &config,
-        &[],
-        ConnectionId::new(&id_of(side)),
-        ConnectionId::new(&id_of(!side)),
-        keys_for(side),
-        now,
-        Words::word(63),
-        true,
-    )?;
+    taken_by(rt, &mut end_with(rt, side, 6)?, side, payload)
+}
+
+/// What an end answers to this payload: none where it is taken, else the code that it closes with.
+fn taken_by<R: Abort + AllocGlobal>(
+    rt: &R,
+    end: &mut End,
+    side: Side,
+    payload: &[u8],
+) -> Result<Option<Code>, Fail> {
     let mut datagram = sealed_for(rt.alloc(), side, payload)?;
-    match end.receive(now, None, &mut datagram) {
+    match end.receive(now(), None, &mut datagram) {
         Received::Taken => Ok(None),
         Received::Closed(error) => Ok(Some(error.code())),
         Received::Dropped(reason) => panic!(rt; "dropped: {reason:?}"),
@@ -111,6 +138,70 @@ fn servers_refuse_what_only_servers_send(rt: HostRuntime) -> Result<(), Fail> {
         assert_eq!(rt; answered(&rt, Side::Client, frame)?, None);
         assert_eq!(rt; answered(&rt, Side::Server, frame)?, VIOLATION);
     }
+    Ok(())
+}
+
+// An ACK of a number that was never given closes the end (RFC 9000, section 13.1).
+#[test]
+fn numbers_that_were_never_given_close(rt: HostRuntime) -> Result<(), Fail> {
+    let cases: [(u64, &[u8], Option<Code>); 7] = [
+        (0, &[0x02, 0x00, 0x00, 0x00, 0x00], VIOLATION),
+        (1, &[0x02, 0x00, 0x00, 0x00, 0x00], None),
+        (1, &[0x02, 0x01, 0x00, 0x00, 0x00], VIOLATION),
+        (
+            1,
+            &[0x03, 0x01, 0x00, 0x00, 0x01, 0x00, 0x00, 0x00],
+            VIOLATION,
+        ),
+        (2, &[0x02, 0x02, 0x00, 0x01, 0x00, 0x00, 0x00], VIOLATION),
+        (3, &[0x02, 0x02, 0x00, 0x01, 0x00, 0x00, 0x00], None),
+        // Behind an ACK of a number that was given.
+        (
+            1,
+            &[0x02, 0x00, 0x00, 0x00, 0x00, 0x02, 0x01, 0x00, 0x00, 0x01],
+            VIOLATION,
+        ),
+    ];
+    for (given, payload, wanted) in cases {
+        for side in [Side::Client, Side::Server] {
+            let mut end = end_with(&rt, side, given)?;
+            assert_eq!(rt; taken_by(&rt, &mut end, side, payload)?, wanted);
+            assert_eq!(rt; end.is_drained(), wanted.is_some());
+        }
+    }
+    Ok(())
+}
+
+#[test]
+fn a_close_is_told_once(rt: HostRuntime) -> Result<(), Fail> {
+    let mut end = end_with(&rt, Side::Client, 0)?;
+    assert!(rt; end.poll().is_none());
+    // A PING, and an ACK of the number 0.
+    let payload = [0x01, 0x02, 0x00, 0x00, 0x00, 0x00];
+    assert_eq!(rt; taken_by(&rt, &mut end, Side::Client, &payload)?, VIOLATION);
+    assert_eq!(rt; end.poll_timeout(), None);
+    match end.poll() {
+        Some(Event::Lost(LostReason::Transport(error))) => {
+            assert_eq!(rt; error.code(), Code::PROTOCOL_VIOLATION);
+        }
+        _ => panic!(rt; "not told"),
+    }
+    assert!(rt; end.poll().is_none());
+    Ok(())
+}
+
+// A packet that asks is to be acknowledged within 25 ms (RFC 9000, sections 13.2.1 and 18.2), one that doesn't isn't.
+#[test]
+fn what_asks_sets_the_timer(rt: HostRuntime) -> Result<(), Fail> {
+    let mut asked = end_with(&rt, Side::Client, 0)?;
+    assert_eq!(rt; taken_by(&rt, &mut asked, Side::Client, &[0x01])?, None);
+    let due = Some(Instant::from_nanos(25_000_000));
+    assert_eq!(rt; asked.timer(Timer::MaxAckDelay), due);
+    assert_eq!(rt; asked.poll_timeout(), due);
+    let mut quiet = end_with(&rt, Side::Client, 1)?;
+    let ack = [0x02, 0x00, 0x00, 0x00, 0x00];
+    assert_eq!(rt; taken_by(&rt, &mut quiet, Side::Client, &ack)?, None);
+    assert_eq!(rt; quiet.poll_timeout(), None);
     Ok(())
 }
 

@@ -4,9 +4,9 @@ use crate::key::{PlainHeaderKey, PlainKey, keys_for};
 use crate::words::Words;
 use bytes::Bytes;
 use quic_connection::{
-    Answer, Call, Chunk, Config, ConfigError, Connection, Delivery, DropReason, Ends, Given,
-    Instant, ReadCall, ReadError, ReadableError, Received, RunEvent, State, TransportConfig,
-    WriteError, run, step,
+    Answer, Call, Chunk, Config, ConfigError, Connection, Delivery, DropReason, Ends, Event, Given,
+    Injection, Instant, ReadCall, ReadError, ReadableError, Received, RunEvent, State, StreamEvent,
+    TransportConfig, WriteError, run, step,
 };
 use quic_wire_core::{ConnectionId, Dir, EcnCodepoint, Side, StreamId};
 use std::alloc::{AllocError, Global};
@@ -36,6 +36,11 @@ type BothEnds = Ends<PlainHeaderKey, PlainKey, Words>;
 
 fn now() -> Instant {
     Instant::from_nanos(0)
+}
+
+/// When the acknowledgement of what came at first is due.
+fn due() -> Instant {
+    Instant::from_nanos(25_000_000)
 }
 
 /// The stream that the client opens.
@@ -219,22 +224,36 @@ fn read_call<R: AllocGlobal>(rt: &R) -> Result<Call, Fail> {
     }))
 }
 
-/// The worked exchange as events.
-fn events<R: AllocGlobal>(rt: &R) -> Result<[RunEvent; 7], Fail> {
-    let delivery = Delivery {
-        now: now(),
+/// The first datagram of the other end arrives.
+fn first_arrives(now: Instant) -> Call {
+    Call::Deliver(Delivery {
+        now,
         ecn: Some(EcnCodepoint::Ect0),
         index: 0,
-    };
+    })
+}
+
+/// The worked exchange as events: what is written is read, and then acknowledged; and bytes are injected.
+fn events<R: AllocGlobal>(rt: &R) -> Result<[RunEvent; 12], Fail> {
     let hello = Bytes::from_static(b"hello");
+    let injection = Injection {
+        now: due(),
+        ecn: None,
+        bytes: Bytes::from_static(b"hello"),
+    };
     Ok([
         client(Call::Open(Dir::Bi)),
         client(Call::Write(stream(), hello)),
         client(Call::Finish(stream())),
         client(Call::Poll(now())),
-        server(Call::Deliver(delivery)),
+        server(first_arrives(now())),
         server(Call::Accept(Dir::Bi)),
         server(read_call(rt)?),
+        server(Call::Timeout(due())),
+        server(Call::Poll(due())),
+        client(first_arrives(due())),
+        client(Call::Event),
+        client(Call::Inject(injection)),
     ])
 }
 
@@ -258,7 +277,11 @@ fn is_served(index: usize, answer: &Answer) -> bool {
         (0, Answer::Open(Ok(Some(_)))) | (5, Answer::Accept(Some(_))) => true,
         (1, Answer::Write(Ok(5))) | (2, Answer::Finish(Ok(()))) => true,
         (3, Answer::Poll(Ok(Some(transmit)))) => transmit.size == 34,
-        (4, Answer::Deliver(Received::Taken)) => true,
+        (8, Answer::Poll(Ok(Some(transmit)))) => transmit.size == 32,
+        (4, Answer::Deliver(Received::Taken)) | (9, Answer::Deliver(Received::Taken)) => true,
+        (7, Answer::Timeout(Ok(()))) => true,
+        (10, Answer::Event(Some(Event::Stream(StreamEvent::Finished(_))))) => true,
+        (11, Answer::Inject(Received::Dropped(DropReason::TooShort))) => true,
         (6, Answer::Read(Ok(nexts))) => match nexts.as_slice() {
             [Ok(Some(chunk))] => chunk.offset == 0 && chunk.bytes.as_slice() == b"hello".as_slice(),
             _ => false,
@@ -329,6 +352,7 @@ fn steps_are_made<R: Abort + AllocGlobal>(rt: &R) -> Result<(), Fail> {
         assert!(rt; is_served(index, &answer), "event {index}");
     }
     assert_eq!(rt; given.client.len(), 1);
+    assert_eq!(rt; given.server.len(), 1);
     Ok(())
 }
 
@@ -341,7 +365,7 @@ fn run_is_made<R: Abort + AllocGlobal>(rt: &R) -> Result<(), Fail> {
     let events = events(rt)?;
     let outcome = run(rt.alloc(), ends, &events);
     assert_eq!(rt; outcome.answers.len(), outcome.views.len());
-    assert!(rt; outcome.cut_short || outcome.answers.len() == 7);
+    assert!(rt; outcome.cut_short || outcome.answers.len() == 12);
     let seen = outcome.answers.iter().zip(outcome.views.iter());
     for (index, (answer, view)) in seen.enumerate() {
         if !is_served(index, answer) {
@@ -368,43 +392,74 @@ fn spend<R: AllocGlobal>(rt: &R, count: u8) {
     }
 }
 
-/// Makes each call behind so many other allocations: where it is the Nth one that fails, that is the (N - spent)th of
-/// these calls, which make fewer than 48. So all are made to fail where N goes from 41 to 48 and each test below is run.
-fn every_call<R: Abort + AllocGlobal>(rt: &R, spent: u8) -> Result<(), Fail> {
+/// Makes each call of an end behind so many other allocations: where it is the Nth one that fails, that is the (N - spent)th
+/// of these calls, which make 24 at most. So all are made to fail where N goes from 57 to 64 and the three tests of them are
+/// run.
+fn each_call<R: Abort + AllocGlobal>(rt: &R, spent: u8) -> Result<(), Fail> {
     spend(rt, spent);
     parameters_are_written(rt)?;
     datagram_is_given(rt)?;
-    bytes_are_read(rt)?;
+    bytes_are_read(rt)
+}
+
+/// The same of the calls of a run, which make 64 at most: all are made to fail where the eight tests of them are run.
+fn each_event<R: Abort + AllocGlobal>(rt: &R, spent: u8) -> Result<(), Fail> {
+    spend(rt, spent);
     steps_are_made(rt)?;
     run_is_made(rt)
 }
 
 #[test]
+fn ends_lack_memory_from_17(rt: HostRuntime) -> Result<(), Fail> {
+    each_call(&rt, 40)
+}
+
+#[test]
+fn ends_lack_memory_from_9(rt: HostRuntime) -> Result<(), Fail> {
+    each_call(&rt, 48)
+}
+
+#[test]
+fn ends_lack_memory_from_1(rt: HostRuntime) -> Result<(), Fail> {
+    each_call(&rt, 56)
+}
+
+#[test]
+fn calls_lack_memory_from_57(rt: HostRuntime) -> Result<(), Fail> {
+    each_event(&rt, 0)
+}
+
+#[test]
+fn calls_lack_memory_from_49(rt: HostRuntime) -> Result<(), Fail> {
+    each_event(&rt, 8)
+}
+
+#[test]
 fn calls_lack_memory_from_41(rt: HostRuntime) -> Result<(), Fail> {
-    every_call(&rt, 0)
+    each_event(&rt, 16)
 }
 
 #[test]
 fn calls_lack_memory_from_33(rt: HostRuntime) -> Result<(), Fail> {
-    every_call(&rt, 8)
+    each_event(&rt, 24)
 }
 
 #[test]
 fn calls_lack_memory_from_25(rt: HostRuntime) -> Result<(), Fail> {
-    every_call(&rt, 16)
+    each_event(&rt, 32)
 }
 
 #[test]
 fn calls_lack_memory_from_17(rt: HostRuntime) -> Result<(), Fail> {
-    every_call(&rt, 24)
+    each_event(&rt, 40)
 }
 
 #[test]
 fn calls_lack_memory_from_9(rt: HostRuntime) -> Result<(), Fail> {
-    every_call(&rt, 32)
+    each_event(&rt, 48)
 }
 
 #[test]
 fn calls_lack_memory_from_1(rt: HostRuntime) -> Result<(), Fail> {
-    every_call(&rt, 40)
+    each_event(&rt, 56)
 }

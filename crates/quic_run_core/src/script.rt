@@ -4,13 +4,13 @@ ghost use Rattle.std.specs.Char.{is_ascii_uppercase};
 ghost use Rattle.std.specs.List.{list_any};
 ghost use Rattle.std.specs.Option.{SomeIff};
 ghost use Rattle.std.specs.Str.Parse.{IsNumeral, digits_value};
-ghost use Rattle.quic_run_core.specs.Named.{side_named, dir_named, mark_named, bytes_named};
-ghost use Rattle.quic_run_core.specs.Language.{number_named, varint_named, first, two, three, reads, delivers, words_left, setting_said, settings_said, call_said, command_said, words_said, is_skipped, said, command_of, asked_of, asked_read, Reads};
+ghost use Rattle.quic_run_core.specs.Named.{side_named, dir_named, mark_named, timer_named, bytes_named};
+ghost use Rattle.quic_run_core.specs.Language.{number_named, varint_named, first, two, three, reads, delivers, injects, words_left, setting_said, settings_said, call_said, command_said, words_said, is_skipped, said, command_of, asked_of, asked_read, Reads};
 ghost use Rattle.quic_run_core.specs.Language.{words as words_of};
 
 use bytes::Bytes;
 use hex::FromHexError;
-use quic_connection::{Call, Delivery, Instant, ReadCall, RunEvent};
+use quic_connection::{Call, Delivery, Injection, Instant, ReadCall, RunEvent, Timer};
 use quic_wire_core::{Dir, EcnCodepoint, Side, StreamId, VarInt};
 use std::alloc::{AllocError, Global};
 use std::str;
@@ -146,6 +146,13 @@ impl<'a> LineWords<'a> {
         mark(self.next()?).ok_or(LineError::BadCommand)
     }
 
+    fn timer(&mut self) -> Result<Timer, LineError>
+        ensures answer { result ≡ ok_or (first timer_named (words_left self.old.rest)) LineError.BadCommand }
+        ensures rest { words_left self.new.rest ≡ drop 1 (words_left self.old.rest) }
+    {
+        timer(self.next()?).ok_or(LineError::BadCommand)
+    }
+
     fn bytes(&mut self, alloc: Global) -> Result<Bytes, LineError>
         ensures answer { MatchResult result
             (λ bytes. first bytes_named (words_left self.old.rest) ≡ Some bytes)
@@ -182,6 +189,16 @@ impl<'a> LineWords<'a> {
             now: self.moment()?,
             ecn: self.mark()?,
             index: self.index()?,
+        })
+    }
+
+    fn injection(&mut self, alloc: Global) -> Result<Injection, LineError>
+        ensures { Reads result (λ injection. injects injection.now injection.ecn injection.bytes) (three injects number_named mark_named bytes_named (words_left self.old.rest)) (words_left self.new.rest) }
+    {
+        Ok(Injection {
+            now: self.moment()?,
+            ecn: self.mark()?,
+            bytes: self.bytes(alloc)?,
         })
     }
 }
@@ -228,6 +245,24 @@ fn mark(word: &str) -> Option<Option<EcnCodepoint>>
         "ect0" => Some(Some(EcnCodepoint::Ect0)),
         "ect1" => Some(Some(EcnCodepoint::Ect1)),
         "ce" => Some(Some(EcnCodepoint::Ce)),
+        _ => None,
+    }
+}
+
+/// A timer: its name in lower case, without a break between its words.
+fn timer(word: &str) -> Option<Timer>
+    ensures { result ≡ timer_named word.now }
+{
+    match word {
+        "lossdetection" => Some(Timer::LossDetection),
+        "idle" => Some(Timer::Idle),
+        "close" => Some(Timer::Close),
+        "keydiscard" => Some(Timer::KeyDiscard),
+        "pathvalidation" => Some(Timer::PathValidation),
+        "keepalive" => Some(Timer::KeepAlive),
+        "pacing" => Some(Timer::Pacing),
+        "pushnewcid" => Some(Timer::PushNewCid),
+        "maxackdelay" => Some(Timer::MaxAckDelay),
         _ => None,
     }
 }
@@ -284,8 +319,14 @@ fn call_of(alloc: Global, name: &str, words: &mut LineWords) -> Result<Call, Lin
         }
         "finish" => Ok(Call::Finish(words.stream_id()?)),
         "read" => Ok(Call::Read(words.read_call(alloc)?)),
+        "ping" => Ok(Call::Ping),
         "poll" => Ok(Call::Poll(words.moment()?)),
+        "timeout" => Ok(Call::Timeout(words.moment()?)),
         "deliver" => Ok(Call::Deliver(words.delivery()?)),
+        "inject" => Ok(Call::Inject(words.injection(alloc)?)),
+        "event" => Ok(Call::Event),
+        "timer" => Ok(Call::Timer(words.timer()?)),
+        "next" => Ok(Call::NextTimeout),
         _ => Err(LineError::BadCommand),
     }
 }

@@ -61,6 +61,35 @@ fn answers_are_printed(rt: HostRuntime) -> Result<(), Fail> {
 }
 
 #[test]
+fn timers_and_injections_are_printed(rt: HostRuntime) -> Result<(), Fail> {
+    let scripts: [(&[u8], &[u8]); 2] = [
+        // Nothing has come: no timer is set, and there is nothing to tell.
+        (
+            b"c event\nc next\nc timer lossdetection\nc timer idle\nc timer close\nc timer keydiscard\n\
+            c timer pathvalidation\nc timer keepalive\nc timer pacing\nc timer pushnewcid\nc timer maxackdelay\n\
+            c timeout 18446744073709551615\nc poll 0\n",
+            b"c event none\nc next none\nc timer none\nc timer none\nc timer none\nc timer none\n\
+            c timer none\nc timer none\nc timer none\nc timer none\nc timer none\n\
+            c timeout ok\nc poll none\n",
+        ),
+        // Bytes that don't open are dropped, for the first reason that holds.
+        (
+            b"s inject 0 - -\ns inject 0 ect1 c05050505050505050000000000000000000000000000000000000000000\n\
+            s inject 0 ce 005050505050505050000000000000000000000000000000000000000000\n\
+            s inject 7 ect0 40c0c0c0c0c0c0c0c0000000000000000000000000000000000000000000\n\
+            s inject 0 - 405050505050505050000000000000000000000000000000000000000000\n",
+            b"s inject dropped tooshort\ns inject dropped notshort\ns inject dropped fixedbit\n\
+            s inject dropped unknownid\ns inject dropped notopened\n",
+        ),
+    ];
+    for (script, wanted) in scripts {
+        let got = printed(&rt, script)?;
+        assert!(rt; got.as_slice() == wanted, "of {script:?}");
+    }
+    Ok(())
+}
+
+#[test]
 fn other_lines_are_bad(rt: HostRuntime) -> Result<(), Fail> {
     let lines: [&[u8]; 30] = [
         b"c",
@@ -91,7 +120,7 @@ fn other_lines_are_bad(rt: HostRuntime) -> Result<(), Fail> {
         b"c deliver 0 ect2 0",
         b"c set receive_window 4611686018427387904",
         b"c set bidi 1",
-        b"c ping",
+        b"c recv",
         b"settle 0",
     ];
     for line in lines {
@@ -103,6 +132,33 @@ fn other_lines_are_bad(rt: HostRuntime) -> Result<(), Fail> {
     }
     let late = printed(&rt, b"# from here on\nc open bi\nc set word 1\n");
     assert!(rt; matches!(&late, Err(ScriptError::BadCommand(3))));
+    Ok(())
+}
+
+#[test]
+fn other_lines_of_timers_are_bad(rt: HostRuntime) -> Result<(), Fail> {
+    let lines: [&[u8]; 13] = [
+        b"c timeout",
+        b"c timeout -1",
+        b"c timeout 0 0",
+        b"c inject 0 -",
+        b"c inject 0 - 0G",
+        b"c inject 0 - 6A",
+        b"c inject - - 00",
+        b"c inject 0 - 00 0",
+        b"c event 0",
+        b"c timer",
+        b"c timer MaxAckDelay",
+        b"c timer max_ack_delay",
+        b"c next 0",
+    ];
+    for line in lines {
+        let got = printed(&rt, line);
+        assert!(rt;
+            matches!(&got, Err(ScriptError::BadCommand(1))),
+            "of {line:?}"
+        );
+    }
     Ok(())
 }
 
