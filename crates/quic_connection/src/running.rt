@@ -4,7 +4,7 @@ ghost use Rattle.quic_connection_core.specs.End.{policy_of, with_end};
 ghost use Rattle.quic_connection_core.specs.Machine.{IsAnswer, IsLeft, fails, gives, IsStep, view_of, end_view, Follows};
 ghost use Rattle.quic_connection_core.specs.Calls.{AreNexts, after_nexts};
 ghost use Rattle.quic_recovery_core.specs.Timers.{each_timer};
-ghost use Rattle.quic_connection_core.specs.Headline.{IsHonest, OrderedPrefix, Slices, Once, EndAfterAll, BlockedOnlyWithoutBytes, AcceptsAll, FinishedMeansArrived, NumbersRise};
+ghost use Rattle.quic_connection_core.specs.Headline.{IsHonest, OrderedPrefix, Slices, Once, EndAfterAll, BlockedOnlyWithoutBytes, AcceptsAll, FinishedMeansArrived, AcknowledgedWereTaken, NumbersRise};
 ghost use Rattle.quic_connection.specs.Ends.{world_of, first_world, policies_of, run_of};
 ghost use Rattle.quic_connection.specs.declared.running.Given.{Given};
 
@@ -285,7 +285,8 @@ fn view<H: HeaderKey + Drop, K: PacketKey + Drop, R: Rng + Drop>(ends: &Ends<H, 
 /// Where a client and a server were made for one another, with keys that are mates, and applications use their own
 /// streams (`IsHonest`), it holds at each place up to which no delivery, poll or timeout met want of memory: what is read of
 /// a stream is a prefix of what was written on it, no byte comes twice, the end comes only behind all, a stream is told to be
-/// finished only where the other end took all of it, and packet numbers rise.
+/// finished only where the other end took all of it, an acknowledgement that came names only what the other end took, and
+/// packet numbers rise.
 pub fn run<H: HeaderKey + Drop, K: PacketKey + Drop, R: Rng + Drop>(
     alloc: Global,
     ends: Ends<H, K, R>,
@@ -301,6 +302,7 @@ pub fn run<H: HeaderKey + Drop, K: PacketKey + Drop, R: Rng + Drop>(
     ensures blocked_only_without_bytes { let r = run_of (policies_of H.masks H.hides H.unmasks H.reveals K.sealed K.opened ends) ends events.now result.answers.items result.views.items result.given in IsHonest r → BlockedOnlyWithoutBytes r }
     ensures accepts_all { let r = run_of (policies_of H.masks H.hides H.unmasks H.reveals K.sealed K.opened ends) ends events.now result.answers.items result.views.items result.given in IsHonest r → AcceptsAll r }
     ensures finished_means_arrived { let r = run_of (policies_of H.masks H.hides H.unmasks H.reveals K.sealed K.opened ends) ends events.now result.answers.items result.views.items result.given in IsHonest r → FinishedMeansArrived r }
+    ensures acknowledged_were_taken { let r = run_of (policies_of H.masks H.hides H.unmasks H.reveals K.sealed K.opened ends) ends events.now result.answers.items result.views.items result.given in IsHonest r → AcknowledgedWereTaken r }
     ensures numbers_rise { let r = run_of (policies_of H.masks H.hides H.unmasks H.reveals K.sealed K.opened ends) ends events.now result.answers.items result.views.items result.given in IsHonest r → NumbersRise r }
 {
     run_events(alloc, ends, events)

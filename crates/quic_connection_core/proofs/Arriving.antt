@@ -20,10 +20,10 @@ use Rattle.quic_connection_core.specs.End.{End, with_numbers}
 use Rattle.quic_connection_core.specs.Acked.{without_known, finished_event, streams_acked, stream_acked, packet_acked, packets_acked, stream_lost, streams_lost, packets_lost, after_named}
 use Rattle.quic_connection_core.specs.Numbers.{cut_against, number_named}
 use Rattle.quic_connection_core.specs.Receive.{Fault, take_frame, unless_fault, take_items}
-use Rattle.quic_connection_core.specs.Runs.{Told, Packet, Intake, In, written, ended, WasTaken, HasArrived, EndHasArrived}
+use Rattle.quic_connection_core.specs.Runs.{Told, Packet, Intake, In, written, ended, WasTaken, HasArrived, EndHasArrived, IsTaken}
 use Rattle.quic_connection_core.specs.Headline.{AllArrived}
 use Rattle.quic_connection_core.proofs.Tables.{at-put, at-put-apart}
-use Rattle.quic_connection_core.proofs.Invariant.{IsWritten, AllSay, IsHalf, Sent, Streams, HalfArrived, Arrives, AreTracked, IsTaken, WereSent, AllFrom, IsSent}
+use Rattle.quic_connection_core.proofs.Invariant.{IsWritten, AllSay, IsHalf, Sent, Streams, HalfArrived, Arrives, AreTracked, WereSent, AllFrom, IsSent}
 use Rattle.quic_connection_core.specs.Policy.{Policy}
 use Rattle.quic_connection_core.proofs.Delivered.{Arrivals, begun, arrived}
 use Rattle.quic_connection_core.proofs.Stays.{ack_taken}

@@ -6,6 +6,8 @@ use Rattle.quic_wire_core.specs.declared.stream_id.Side.TheVariants.{Client, Ser
 use Rattle.quic_wire_core.specs.declared.stream_id.Dir.TheVariants.{Bi}
 use Rattle.quic_wire.specs.FrameTypes.{kind_of}
 use Rattle.quic_wire.specs.Reading.{block_at, sized_at, offset_at, data_at, stream_at, body_at}
+use Rattle.quic_wire.specs.AckReading.{ack_at, ranges_at, range_at, some_ecn_at}
+use Rattle.quic_wire.specs.Value.{AckValue, ack}
 use Rattle.quic_wire.specs.Items.{frame_at, items_within, items}
 use Rattle.quic_streams_core.specs.declared.connection.assembler.Chunk.{Chunk}
 use Rattle.quic_connection_core.specs.declared.answers.WriteError.{WriteError}
@@ -14,10 +16,10 @@ use Rattle.quic_connection_core.specs.declared.answers.FinishError.TheVariants a
 use Rattle.quic_connection_core.specs.declared.answers.Received.{Received}
 use Rattle.quic_connection_core.specs.declared.answers.Received.TheVariants as receives
 use Rattle.quic_connection_core.specs.declared.run.ReadCall.{ReadCall}
-use Rattle.quic_connection_core.specs.Runs.{Packet, Next, In, until, nexts, chunks_of, reads, bytes_of, offsets_of, took, WasTaken, HasArrived}
-use Rattle.quic_connection_core.specs.Headline.{OrderedPrefix, Slices, Once, EndAfterAll, BlockedOnlyWithoutBytes, AcceptsAll, FinishedMeansArrived, NumbersRise, IsNumbered}
+use Rattle.quic_connection_core.specs.Runs.{Packet, Next, In, IsNamed, until, nexts, chunks_of, reads, bytes_of, offsets_of, took, WasTaken, HasArrived}
+use Rattle.quic_connection_core.specs.Headline.{OrderedPrefix, Slices, Once, EndAfterAll, BlockedOnlyWithoutBytes, AcceptsAll, FinishedMeansArrived, AcknowledgedWereTaken, NumbersRise, IsNumbered}
 use Rattle.quic_connection_core.specs.Worked.{worked_policies, server_id, hello, hello_frame, run_with}
-use Rattle.quic_connection_core.specs.Broken.{NextAnswers, answers_with, duplicate, hellp, gives_chunk, all_nexts, changed_nexts, repeated_nexts, early_nexts, changed_byte, repeated_bytes, unwritten_byte, early_end, unwritten_end, taken_twice, blocked_read, never_accepted, early_finish, empty_datagram, repeated_number}
+use Rattle.quic_connection_core.specs.Broken.{NextAnswers, answers_with, duplicate, hellp, gives_chunk, all_nexts, changed_nexts, repeated_nexts, early_nexts, changed_byte, repeated_bytes, unwritten_byte, early_end, unwritten_end, taken_twice, blocked_read, never_accepted, early_finish, early_acknowledgement, empty_datagram, repeated_number}
 use Rattle.quic_connection_core.proofs.WorkedNumber.{only_number}
 use Rattle.quic_connection_core.proofs.WorkedRun.{hello_packet, frame_taken}
 
@@ -109,6 +111,22 @@ never_accepts read h =
 -- the one event of the run tells that the stream ended, of which nothing came
 pub finishes_early : FinishedMeansArrived early_finish → ⊥
 finishes_early h = (h Client 0 0 refl (record { event = refl; answer = refl })).end.taken.was_taken
+
+-- ---- acknowledgements
+
+-- the one packet that the client took: ACK of number 0
+abbrev ack_packet : Packet
+ack_packet = record { number = 0; frames = ack (record { largest = 0; delay = 3125; ranges = (0, 0) ∷ []; ecn = None }) ∷ [] }
+
+took_ack : took early_acknowledgement Client 1 ≡ ack_packet ∷ []
+unfolding items items_within frame_at body_at kind_of ack_at ranges_at range_at some_ecn_at
+took_ack = refl
+
+-- the server took nothing
+pub acknowledges_early : AcknowledgedWereTaken early_acknowledgement → ⊥
+acknowledges_early h =
+    let named : IsNamed (ack_packet ∷ []) 0 = record { packet = ack_packet; was_taken = inl refl; frame = record { largest = 0; delay = 3125; ranges = (0, 0) ∷ []; ecn = None }; carried = inl refl; named = refl } in
+    (h Client 1 0 refl (subst (λ (ps : List Packet). IsNamed ps 0) (sym took_ack) named)).was_taken
 
 -- ---- numbers
 

@@ -23,7 +23,7 @@ use Rattle.quic_connection_core.specs.declared.run.Answer.TheVariants as answers
 use Rattle.quic_connection_core.specs.declared.run.View.{View}
 use Rattle.quic_connection_core.specs.Machine.{IsAnswer, IsRead, IsStep, Follows, World, policy_at, end_at, given_by, fails}
 use Rattle.quic_connection_core.specs.Worked.{client_made, server_made, server_took, server_accepted, hello, hello_datagram, delivery, delivers, before_sending, after_sending, worked_policies, worked_events}
-use Rattle.quic_connection_core.specs.Broken.{NextAnswers, hellp, gives_chunk, changed_nexts, repeated_nexts, early_nexts, blocked_nexts, changed_byte, repeated_bytes, unwritten_byte, early_end, unwritten_end, taken_twice, never_taken, blocked_read, never_accepted, early_finish}
+use Rattle.quic_connection_core.specs.Broken.{NextAnswers, hellp, gives_chunk, changed_nexts, repeated_nexts, early_nexts, blocked_nexts, changed_byte, repeated_bytes, unwritten_byte, early_end, unwritten_end, taken_twice, never_taken, blocked_read, never_accepted, early_finish, early_acknowledgement}
 use Rattle.quic_connection_core.proofs.OneRun.{one_world}
 use Rattle.quic_connection_core.proofs.WorkedRun.{opens, writes, finishes, gives, takes, drops_duplicate, accepts}
 
@@ -173,3 +173,8 @@ no_never_accepted read views end r =
 pub never_finishes : (views : List View) (end : World) → Follows worked_policies early_finish.start early_finish.events early_finish.answers views end → ⊥
 never_finishes [] end f = absurd f
 never_finishes (v ∷ views) end f = let is = f.1.answer in cc
+
+-- nothing comes to the client that the server never gave
+pub never_acknowledges : (views : List View) (end : World) → Follows worked_policies early_acknowledgement.start early_acknowledgement.events early_acknowledgement.answers views end → ⊥
+never_acknowledges [] end f = absurd f
+never_acknowledges (v ∷ views) end f = let is = f.1.answer in cc

@@ -32,7 +32,7 @@ use Rattle.quic_connection_core.specs.declared.answers.StreamEvent.{StreamEvent}
 use Rattle.quic_connection_core.specs.declared.answers.StreamEvent.TheVariants.{Finished}
 use Rattle.quic_connection_core.specs.Tracking.{TrackedPacket, carried_in}
 use Rattle.quic_connection_core.specs.Headline.{AllArrived}
-use Rattle.quic_connection_core.specs.Runs.{Told, Next, Packet, Intake, In, written, ended, nexts, chunks_of, bytes_of, tells_end, accepts, WasTaken, HasArrived, EndHasArrived, expected_behind, acknowledged}
+use Rattle.quic_connection_core.specs.Runs.{Told, Next, Packet, Intake, In, written, ended, nexts, chunks_of, bytes_of, tells_end, accepts, WasTaken, HasArrived, EndHasArrived, IsTaken, expected_behind, acknowledged}
 
 -- ---- what was written only grows, and once ended stays
 
@@ -132,12 +132,6 @@ pub record Gives (p : Policy) (id : List ℕ) (numbers : Numbers) (told : List T
   pub next : numbers.next ≡ length given
   pub each : AllFrom (IsSent p id told) 0 sents given
   pub against : map (λ s. s.0) sents ≡ references
-
--- a number is that of a packet that was taken
-pub record IsTaken (packets : List Packet) (number : ℕ) : Type 0 where
-  pub packet : Packet
-  pub was_taken : In packet packets
-  pub is : packet.number ≡ number
 
 -- ACK frames name numbers of these packets only
 abbrev pub NameTaken : List Sent → List Packet → Type 0

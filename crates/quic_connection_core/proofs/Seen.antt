@@ -4,6 +4,7 @@ use Rattle.std.specs.Prelude.{slice_get}
 use Rattle.quic_wire_core.specs.declared.stream_id.Side.{Side}
 use Rattle.quic_wire_core.specs.declared.stream_id.Side.TheVariants.{Client, Server}
 use Rattle.quic_wire_core.specs.StreamId.{other_side}
+use Rattle.quic_wire.specs.Value.{ack}
 use Rattle.quic_connection_core.specs.declared.answers.StreamEvent.TheVariants.{Finished}
 use Rattle.quic_connection_core.specs.declared.run.RunEvent.{RunEvent}
 use Rattle.quic_connection_core.specs.declared.run.Call.{Call}
@@ -12,9 +13,9 @@ use Rattle.quic_connection_core.specs.declared.run.View.{View}
 use Rattle.quic_connection_core.specs.Ids.{known}
 use Rattle.quic_connection_core.specs.End.{End}
 use Rattle.quic_connection_core.specs.Machine.{World, Policies, IsAnswer, policy_at, end_at, given_by, Follows}
-use Rattle.quic_connection_core.specs.Runs.{Run, In, until, took, given_of, intake, nothing_came, references, references_until, given_until, count_given, first_id_of_peer}
+use Rattle.quic_connection_core.specs.Runs.{Run, Packet, In, IsTaken, IsNamed, until, took, given_of, intake, nothing_came, references, references_until, given_until, count_given, first_id_of_peer}
 use Rattle.quic_connection_core.specs.Headline.{AllArrived, Rise, IsAt}
-use Rattle.quic_connection_core.proofs.Invariant.{Content, Kept, Accepted}
+use Rattle.quic_connection_core.proofs.Invariant.{Sent, Content, Kept, Accepted, NameTaken, WereSent}
 use Rattle.quic_connection_core.proofs.Way.{Way, came, cut}
 use Rattle.quic_connection_core.proofs.Rising.{rise}
 
@@ -28,6 +29,8 @@ pub record Seen (r : Run) (side : Side) (i : ℕ) : Type 0 where
   pub accepted : Accepted side end.receiving (until r side i)
   -- a stream that is to be told finished arrived wholly at the other side
   pub finished : (id : ℕ) → In (Finished id) end.events → AllArrived (took r (other_side side) i) id (until r side i)
+  -- what an ACK frame names that this side took, the other took
+  pub named : (number : ℕ) → IsNamed (took r side i) number → IsTaken (took r (other_side side) i) number
   pub rises : Rise (policy_at side r.keys) (first_id_of_peer r side) 0 (references_until r side i) (given_until r side i)
   pub answers : (call : Call) (a : Answer) → IsAt r i side call a → IsAnswer (policy_at side r.keys) end theirs call a
 
@@ -42,6 +45,12 @@ pub took_there : (r : Run) (side : Side) (i : ℕ) (id : List ℕ) → known (en
 took_there r side i id same =
     ap (λ ids. (intake (policy_at (other_side side) r.keys) ids (given_of r (other_side (other_side side))) (until r (other_side side) i) nothing_came).took) same
     ∙ ap (λ s. (came (policy_at (other_side side) r.keys) id (given_of r s) (until r (other_side side) i)).took) (other_twice side)
+
+-- what the packets name that were sent so was taken
+named_taken : (sents : List Sent) (packets theirs : List Packet) → WereSent sents packets → NameTaken sents theirs → (number : ℕ) → IsNamed packets number → IsTaken theirs number
+named_taken sents packets theirs sent taken number n =
+    let w = sent n.packet n.was_taken in
+    taken n.packet.number w.sent n.frame number w.is (subst (λ frames. In (ack n.frame) frames) (sym w.frames) n.carried) n.named
 
 -- what stands at a place is the first of what is left from there on
 first_left : {X : Type 0} (xs : List X) (i : ℕ) (x : X) → slice_get xs i ≡ Some x → drop i xs ≡ x ∷ drop (suc i) xs
@@ -89,6 +98,10 @@ module _ (r : Run) (side : Side) (i : ℕ) where
         kept = subst (λ packets. Kept side y.receiving packets) (sym took_is) (rw is at reads.kept);
         accepted = rw is at reads.accepted;
         finished = λ stream waits. subst (λ packets. AllArrived packets stream (until r side i)) (sym (took_there r side i theirs_id theirs_same)) (gives.arrives.finished stream waits);
+        named = λ number n.
+            let theirs_took : took r (other_side side) i ≡ (came (policy_at (other_side side) r.keys) theirs_id (given_of r side) (until r (other_side side) i)).took = took_there r side i theirs_id theirs_same in
+            let named : IsNamed (came (policy_at side r.keys) id (given_of r (other_side side)) (until r side i)).took number = subst (λ packets. IsNamed packets number) took_is n in
+            subst (λ packets. IsTaken packets number) (sym theirs_took) (named_taken reads.sents (came (policy_at side r.keys) id (given_of r (other_side side)) (until r side i)).took (came (policy_at (other_side side) r.keys) theirs_id (given_of r side) (until r (other_side side) i)).took reads.taken reads.named number named);
         rises = subst (λ t. Rise (policy_at side r.keys) t 0 (references_until r side i) (given_until r side i)) (sym first)
             (subst (λ t. Rise (policy_at side r.keys) theirs_id 0 t (given_until r side i)) (sym references_are)
             (subst (λ t. Rise (policy_at side r.keys) theirs_id 0 (cut (policy_at side r.keys) id (given_of r (other_side side)) (until r side i)) t) (sym given_is) rises));

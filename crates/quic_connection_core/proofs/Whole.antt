@@ -15,7 +15,7 @@ use Rattle.quic_connection_core.specs.Ids.{known, own_id}
 use Rattle.quic_connection_core.specs.Calls.{end_accepts}
 use Rattle.quic_connection_core.specs.Machine.{World, Policies, IsStep, fails}
 use Rattle.quic_connection_core.specs.Runs.{Run, Told, told_by, until, AreServed, written, ended, nexts, took}
-use Rattle.quic_connection_core.specs.Headline.{IsInRange, IsHonest, AreStarted, IsRun, OrderedPrefix, Slices, Once, EndAfterAll, BlockedOnlyWithoutBytes, AcceptsAll, FinishedMeansArrived, NumbersRise}
+use Rattle.quic_connection_core.specs.Headline.{IsInRange, IsHonest, AreStarted, IsRun, OrderedPrefix, Slices, Once, EndAfterAll, BlockedOnlyWithoutBytes, AcceptsAll, FinishedMeansArrived, AcknowledgedWereTaken, NumbersRise}
 use Rattle.quic_wire.specs.Parameters.{ParameterValues}
 use Rattle.quic_wire.specs.ParametersRead.{parameters_at}
 use Rattle.quic_recovery_core.specs.Transport.{Settings, parameters_of}
@@ -163,6 +163,9 @@ pub finished_means_arrived : (r : Run) (end : World) → IsHonest r → IsRun r 
 finished_means_arrived r end honest run side id i served at =
     let s = seen r end honest run side i served in
     s.finished id (finished_told s.end id (s.answers calls.Event (answers.Event (Some (events.Stream (Finished id)))) at))
+
+pub acknowledged_were_taken : (r : Run) (end : World) → IsHonest r → IsRun r end → AcknowledgedWereTaken r
+acknowledged_were_taken r end honest run side i number served named = (seen r end honest run side i served).named number named
 
 pub numbers_rise : (r : Run) (end : World) → IsHonest r → IsRun r end → NumbersRise r
 numbers_rise r end honest run side i served = (seen r end honest run side i served).rises

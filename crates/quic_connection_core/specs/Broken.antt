@@ -19,6 +19,7 @@ use Rattle.quic_connection_core.specs.declared.run.Call.TheVariants as calls
 use Rattle.quic_connection_core.specs.declared.run.Answer.{Answer}
 use Rattle.quic_connection_core.specs.declared.run.Answer.TheVariants as answers
 use Rattle.quic_connection_core.specs.Runs.{Run}
+use Rattle.quic_connection_core.specs.Acknowledged.{from_server, ack_payload}
 use Rattle.quic_connection_core.specs.Worked.{worked_policies, client_ended, client_sent, hello, hello_datagram, before_sending, worked_views, worked_run}
 
 -- ---- the worked run with other answers
@@ -141,4 +142,18 @@ early_finish =
       views = take 1 worked_views;
       from_client = [];
       from_server = [];
+    }
+
+-- the client takes the server's acknowledgement of its datagram, which the server never got
+abbrev pub early_acknowledgement : Run
+early_acknowledgement =
+    let comes : RunEvent = record { side = Client; call = calls.Deliver (record { now = 0; ecn = None; index = 0 }) } in
+    record {
+      keys = worked_policies;
+      start = before_sending client_sent;
+      events = comes ∷ [];
+      answers = answers.Deliver receives.Taken ∷ [];
+      views = take 1 worked_views;
+      from_client = hello_datagram ∷ [];
+      from_server = from_server 0 ack_payload ∷ [];
     }

@@ -23,7 +23,7 @@ use Rattle.quic_connection_core.specs.End.{End, MadeFrom}
 use Rattle.quic_connection_core.specs.Opens.{own_id_length}
 use Rattle.quic_connection_core.specs.Poll.{IsDatagram}
 use Rattle.quic_connection_core.specs.Machine.{World, Policies, policy_at, Follows}
-use Rattle.quic_connection_core.specs.Runs.{Run, Told, Next, Packet, In, until, AreServed, written, ended, nexts, chunks_of, reads, bytes_of, offsets_of, ids_of, accepts, took, WasTaken, HasArrived, EndHasArrived, given_until, references_until, first_id_of_peer}
+use Rattle.quic_connection_core.specs.Runs.{Run, Told, Next, Packet, In, until, AreServed, written, ended, nexts, chunks_of, reads, bytes_of, offsets_of, ids_of, accepts, took, WasTaken, HasArrived, EndHasArrived, IsTaken, IsNamed, given_until, references_until, first_id_of_peer}
 
 -- ---- the premises
 
@@ -139,6 +139,12 @@ pub record AllArrived (packets : List Packet) (id : ℕ) (told : List Told) : Ty
 -- a stream is told to be finished only where it was ended, and all that was written and its end are in what the other end took
 abbrev pub FinishedMeansArrived : Run → Type 0
 FinishedMeansArrived r = (side : Side) (id i : ℕ) → AreServed r i → IsAt r i side calls.Event (answers.Event (Some (events.Stream (Finished id)))) → AllArrived (took r (other_side side) i) id (until r side i)
+
+-- ---- acknowledgements
+
+-- an ACK frame that came names only packets that its end had taken whole
+abbrev pub AcknowledgedWereTaken : Run → Type 0
+AcknowledgedWereTaken r = (side : Side) (i number : ℕ) → AreServed r i → IsNamed (took r side i) number → IsTaken (took r (other_side side) i) number
 
 -- ---- numbers
 

@@ -4,7 +4,7 @@ use Rattle.std.specs.List.{list_any}
 use Rattle.quic_wire_core.specs.declared.stream_id.Side.{Side}
 use Rattle.quic_wire_core.specs.declared.stream_id.Side.TheVariants.{Client, Server}
 use Rattle.quic_wire_core.specs.StreamId.{other_side}
-use Rattle.quic_wire.specs.Value.{FrameValue, StreamValue, ack, stream}
+use Rattle.quic_wire.specs.Value.{FrameValue, StreamValue, AckValue, ack, stream}
 use Rattle.quic_wire.specs.Items.{items}
 use Rattle.quic_wire.specs.Datagram.{Opening}
 use Rattle.quic_wire.specs.declared.frame.InvalidFrame.{InvalidFrame}
@@ -22,6 +22,7 @@ use Rattle.quic_connection_core.specs.declared.run.View.{View}
 use Rattle.quic_connection_core.specs.Ids.{known, own_id}
 use Rattle.quic_connection_core.specs.Numbers.{duplicate_span}
 use Rattle.quic_connection_core.specs.Policy.{Policy}
+use Rattle.quic_connection_core.specs.Tracking.{names}
 use Rattle.quic_connection_core.specs.Opens.{own_id_length, in_phase, opens_behind, opens}
 use Rattle.quic_connection_core.specs.Machine.{World, Policies, policy_at, end_at, fails}
 
@@ -275,6 +276,20 @@ pub record EndHasArrived (packets : List Packet) (id size : ℕ) : Type 0 where
   pub of_stream : frame.id ≡ id
   pub fin : frame.fin ≡ true
   pub behind : frame.offset + length frame.bytes ≡ size
+
+-- A number is that of a packet that was taken.
+pub record IsTaken (packets : List Packet) (number : ℕ) : Type 0 where
+  pub packet : Packet
+  pub was_taken : In packet packets
+  pub is : packet.number ≡ number
+
+-- A number is named in an ACK frame that was taken (RFC 9000, section 19.3.1).
+pub record IsNamed (packets : List Packet) (number : ℕ) : Type 0 where
+  pub packet : Packet
+  pub was_taken : In packet packets
+  pub frame : AckValue
+  pub carried : In (ack frame) packet.frames
+  pub named : names frame number ≡ true
 
 -- ---- what was given
 

@@ -2,7 +2,7 @@
 //! reference machine whose ends, keys and applications meet the premises.
 ghost use Rattle.quic_connection_core.specs.Machine.{World};
 ghost use Rattle.quic_connection_core.specs.Runs.{Run};
-ghost use Rattle.quic_connection_core.specs.Headline.{IsHonest, IsRun, OrderedPrefix, Slices, Once, EndAfterAll, BlockedOnlyWithoutBytes, AcceptsAll, FinishedMeansArrived, NumbersRise};
+ghost use Rattle.quic_connection_core.specs.Headline.{IsHonest, IsRun, OrderedPrefix, Slices, Once, EndAfterAll, BlockedOnlyWithoutBytes, AcceptsAll, FinishedMeansArrived, AcknowledgedWereTaken, NumbersRise};
 
 /// The bytes read of a stream at one end are a prefix of those written on it at the other (RFC 9000, section 2.2).
 pub fn ordered_prefix()
@@ -37,6 +37,11 @@ pub fn accepts_all()
 /// A stream is told to be finished only where it was ended, and all its bytes and its end are in what the other end took.
 pub fn finished_means_arrived()
     ensures { (r : Run) (end : World) → IsHonest r → IsRun r end → FinishedMeansArrived r }
+{}
+
+/// An ACK frame that came names only packets that its end had taken whole (RFC 9000, section 13.1).
+pub fn acknowledged_were_taken()
+    ensures { (r : Run) (end : World) → IsHonest r → IsRun r end → AcknowledgedWereTaken r }
 {}
 
 /// Each datagram given is the datagram of a number, the peer's id and stated frames, and its number is above all before
