@@ -23,8 +23,10 @@ use Rattle.quic_connection_core.specs.declared.run.Answer.TheVariants as answers
 use Rattle.quic_connection_core.specs.declared.run.View.{View}
 use Rattle.quic_connection_core.specs.Machine.{IsAnswer, IsRead, IsStep, Follows, World, policy_at, end_at, given_by, fails}
 use Rattle.quic_connection_core.specs.Worked.{client_made, server_made, server_took, server_accepted, hello, hello_datagram, delivery, delivers, before_sending, after_sending, worked_policies, worked_events}
-use Rattle.quic_connection_core.specs.Broken.{NextAnswers, hellp, gives_chunk, changed_nexts, repeated_nexts, early_nexts, blocked_nexts, changed_byte, repeated_bytes, unwritten_byte, early_end, unwritten_end, taken_twice, never_taken, blocked_read, never_accepted, early_finish, early_acknowledgement}
+use Rattle.quic_connection_core.specs.Broken.{NextAnswers, hellp, gives_chunk, changed_nexts, repeated_nexts, early_nexts, blocked_nexts, changed_byte, repeated_bytes, unwritten_byte, early_end, unwritten_end, taken_twice, never_taken, blocked_read, never_accepted, early_finish, early_acknowledgement, never_timed}
 use Rattle.quic_connection_core.proofs.OneRun.{one_world}
+use Rattle.quic_connection_core.proofs.LossTimers.{loss_timers_follow}
+use Rattle.quic_connection_core.proofs.BrokenClauses.{never_sets}
 use Rattle.quic_connection_core.proofs.WorkedRun.{opens, writes, finishes, gives, takes, drops_duplicate, accepts}
 
 -- the machine may run these events with these answers from a world on
@@ -178,3 +180,7 @@ never_finishes (v ∷ views) end f = let is = f.1.answer in cc
 pub never_acknowledges : (views : List View) (end : World) → Follows worked_policies early_acknowledgement.start early_acknowledgement.events early_acknowledgement.answers views end → ⊥
 never_acknowledges [] end f = absurd f
 never_acknowledges (v ∷ views) end f = let is = f.1.answer in cc
+
+-- the timer follows at the first ends, so it does wherever a run leads
+pub never_untimed : (events : List RunEvent) (told : List Answer) (views : List View) → Follows worked_policies (before_sending client_made) events told views never_timed → ⊥
+never_untimed events told views f = never_sets (loss_timers_follow worked_policies (before_sending client_made) never_timed events told views f (λ opened. refl, λ opened. refl))

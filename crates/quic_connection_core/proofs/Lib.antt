@@ -12,6 +12,7 @@ mod Injected
 mod Steps
 mod Polls
 mod Leaves
+pub mod LossTimers
 mod Window
 mod Naming
 mod Delivered

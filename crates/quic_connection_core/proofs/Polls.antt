@@ -133,7 +133,7 @@ poll_count p e now =
 
 -- ---- what a poll leaves as it was
 
--- side, ids and numbers are as they were, and so are clock and state
+-- side, ids and numbers are as they were, and so are clock and state, and the loss timer
 pub record Composes (e f : End) : Type 0 where
   pub side : f.side ≡ e.side
   pub ids : f.ids ≡ e.ids
@@ -141,22 +141,23 @@ pub record Composes (e f : End) : Type 0 where
   pub closing : f.closing ≡ e.closing
   pub events : f.events ≡ e.events
   pub tracking : f.tracking ≡ e.tracking
+  pub loss : f.timers.loss_detection ≡ e.timers.loss_detection
   pub path : f.path ≡ e.path
 
 composes_on : (e f g : End) → Composes e f → Composes f g → Composes e g
-composes_on e f g s t = record { side = t.side ∙ s.side; ids = t.ids ∙ s.ids; numbers = t.numbers ∙ s.numbers; closing = t.closing ∙ s.closing; events = t.events ∙ s.events; tracking = t.tracking ∙ s.tracking; path = t.path ∙ s.path }
+composes_on e f g s t = record { side = t.side ∙ s.side; ids = t.ids ∙ s.ids; numbers = t.numbers ∙ s.numbers; closing = t.closing ∙ s.closing; events = t.events ∙ s.events; tracking = t.tracking ∙ s.tracking; loss = t.loss ∙ s.loss; path = t.path ∙ s.path }
 
 half_composes : (o : Option SendHalf) (d : Draft) (id : ℕ) → Composes d.end (stream_if o d id).end
-half_composes None d id = record { side = refl; ids = refl; numbers = refl; closing = refl; events = refl; tracking = refl; path = refl }
-half_composes (Some h) d id = record { side = refl; ids = refl; numbers = refl; closing = refl; events = refl; tracking = refl; path = refl }
+half_composes None d id = record { side = refl; ids = refl; numbers = refl; closing = refl; events = refl; tracking = refl; loss = refl; path = refl }
+half_composes (Some h) d id = record { side = refl; ids = refl; numbers = refl; closing = refl; events = refl; tracking = refl; loss = refl; path = refl }
 
 stream_composes : (o : Option ℕ) (d : Draft) → Composes d.end (stream_of o d).end
-stream_composes None d = record { side = refl; ids = refl; numbers = refl; closing = refl; events = refl; tracking = refl; path = refl }
+stream_composes None d = record { side = refl; ids = refl; numbers = refl; closing = refl; events = refl; tracking = refl; loss = refl; path = refl }
 stream_composes (Some id) d = half_composes (at d.end.sending.halves id) d id
 
 ping_composes : (b : Bool) (d : Draft) → Composes d.end (ping_if b d).end
-ping_composes true d = record { side = refl; ids = refl; numbers = refl; closing = refl; events = refl; tracking = refl; path = refl }
-ping_composes false d = record { side = refl; ids = refl; numbers = refl; closing = refl; events = refl; tracking = refl; path = refl }
+ping_composes true d = record { side = refl; ids = refl; numbers = refl; closing = refl; events = refl; tracking = refl; loss = refl; path = refl }
+ping_composes false d = record { side = refl; ids = refl; numbers = refl; closing = refl; events = refl; tracking = refl; loss = refl; path = refl }
 
 asking_composes : (d : Draft) → Composes d.end (with_asking d).end
 asking_composes d =
@@ -164,8 +165,8 @@ asking_composes d =
     composes_on d.end pinged.end (with_asking d).end (ping_composes d.end.waiting.ping d) (stream_composes (first_pending pinged.end.sending.halves) pinged)
 
 ack_composes : (b : Bool) (d : Draft) → Composes d.end (ack_if b d).end
-ack_composes true d = record { side = refl; ids = refl; numbers = refl; closing = refl; events = refl; tracking = refl; path = refl }
-ack_composes false d = record { side = refl; ids = refl; numbers = refl; closing = refl; events = refl; tracking = refl; path = refl }
+ack_composes true d = record { side = refl; ids = refl; numbers = refl; closing = refl; events = refl; tracking = refl; loss = refl; path = refl }
+ack_composes false d = record { side = refl; ids = refl; numbers = refl; closing = refl; events = refl; tracking = refl; loss = refl; path = refl }
 
 composes_if : (b : Bool) (e : End) → Composes e (composed_if b e).end
 composes_if true e =

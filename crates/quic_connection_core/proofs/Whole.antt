@@ -15,7 +15,7 @@ use Rattle.quic_connection_core.specs.Ids.{known, own_id}
 use Rattle.quic_connection_core.specs.Calls.{end_accepts}
 use Rattle.quic_connection_core.specs.Machine.{World, Policies, IsStep, fails}
 use Rattle.quic_connection_core.specs.Runs.{Run, Told, told_by, until, AreServed, written, ended, nexts, took}
-use Rattle.quic_connection_core.specs.Headline.{IsInRange, IsHonest, AreStarted, IsRun, OrderedPrefix, Slices, Once, EndAfterAll, BlockedOnlyWithoutBytes, AcceptsAll, FinishedMeansArrived, AcknowledgedWereTaken, NumbersRise}
+use Rattle.quic_connection_core.specs.Headline.{IsInRange, IsHonest, AreStarted, IsRun, OrderedPrefix, Slices, Once, EndAfterAll, BlockedOnlyWithoutBytes, AcceptsAll, FinishedMeansArrived, AcknowledgedWereTaken, LossTimerFollows, LossTimersFollow, NumbersRise}
 use Rattle.quic_wire.specs.Parameters.{ParameterValues}
 use Rattle.quic_wire.specs.ParametersRead.{parameters_at}
 use Rattle.quic_recovery_core.specs.Transport.{Settings, parameters_of}
@@ -166,6 +166,13 @@ finished_means_arrived r end honest run side id i served at =
 
 pub acknowledged_were_taken : (r : Run) (end : World) → IsHonest r → IsRun r end → AcknowledgedWereTaken r
 acknowledged_were_taken r end honest run side i number served named = (seen r end honest run side i served).named number named
+
+-- new ends track nothing, and have no timer set
+pub timers_start : (w : World) → AreStarted w → LossTimersFollow w
+timers_start w s = (
+  subst (λ (e : End). LossTimerFollows e) (sym (client_is w s)) (λ opened. refl),
+  subst (λ (e : End). LossTimerFollows e) (sym (server_is w s)) (λ opened. refl),
+)
 
 pub numbers_rise : (r : Run) (end : World) → IsHonest r → IsRun r end → NumbersRise r
 numbers_rise r end honest run side i served = (seen r end honest run side i served).rises

@@ -18,9 +18,10 @@ use Rattle.quic_connection_core.specs.declared.run.ReadCall.{ReadCall}
 use Rattle.quic_connection_core.specs.declared.run.Call.TheVariants as calls
 use Rattle.quic_connection_core.specs.declared.run.Answer.{Answer}
 use Rattle.quic_connection_core.specs.declared.run.Answer.TheVariants as answers
+use Rattle.quic_connection_core.specs.Machine.{World}
 use Rattle.quic_connection_core.specs.Runs.{Run}
 use Rattle.quic_connection_core.specs.Acknowledged.{from_server, ack_payload}
-use Rattle.quic_connection_core.specs.Worked.{worked_policies, client_ended, client_sent, hello, hello_datagram, before_sending, worked_views, worked_run}
+use Rattle.quic_connection_core.specs.Worked.{worked_policies, client_ended, client_sent, server_made, hello, hello_datagram, ack_timer, before_sending, after_sending, worked_views, worked_run}
 
 -- ---- the worked run with other answers
 
@@ -157,3 +158,7 @@ early_acknowledgement =
       from_client = hello_datagram ∷ [];
       from_server = from_server 0 ack_payload ∷ [];
     }
+
+-- the client gave its datagram, and waits for an acknowledgement with no timer set
+abbrev pub never_timed : World
+never_timed = record (after_sending server_made) { client = record client_sent { timers = ack_timer None } }

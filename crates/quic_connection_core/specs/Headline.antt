@@ -1,6 +1,7 @@
 -- What every run of two honest ends keeps (RFC 9000, sections 2.2, 2.3 and 12.3): the headline, over the run's lists alone.
-use Rattle.std.specs.Prelude.{ℕ, ◌+◌, ◌<◌, ◌≤◌, ◌/◌, ◌^◌, ◌≡◌, ◌≢◌, Bool, true, false, eqb, List, [], ◌∷◌, ◌++◌, length, take, drop, slice_get, Option, Some, None, Result, Ok, Err}
+use Rattle.std.specs.Prelude.{ℕ, ◌+◌, ◌<◌, ◌≤◌, ◌/◌, ◌^◌, ◌≡◌, ◌≢◌, Bool, true, false, not, eqb, List, [], ◌∷◌, ◌++◌, length, take, drop, slice_get, Option, Some, None, Result, Ok, Err}
 use Rattle.std.specs.List.{IsDistinct}
+use Rattle.std.specs.Option.{is_some}
 use Rattle.quic_wire_core.specs.declared.stream_id.Side.{Side}
 use Rattle.quic_wire_core.specs.declared.stream_id.Side.TheVariants.{Client, Server}
 use Rattle.quic_wire_core.specs.declared.stream_id.Dir.{Dir}
@@ -8,6 +9,7 @@ use Rattle.quic_wire_core.specs.StreamId.{stream_id, other_side}
 use Rattle.quic_wire.specs.Value.{FrameValue, StreamValue}
 use Rattle.quic_wire.specs.ParametersRead.{parameters_at}
 use Rattle.quic_streams_core.specs.declared.connection.assembler.Chunk.{Chunk}
+use Rattle.quic_connection_core.specs.declared.answers.State.TheVariants as states
 use Rattle.quic_connection_core.specs.declared.answers.ReadError.TheVariants as read_errors
 use Rattle.quic_connection_core.specs.declared.answers.Event.TheVariants as events
 use Rattle.quic_connection_core.specs.declared.answers.StreamEvent.TheVariants.{Finished}
@@ -19,6 +21,7 @@ use Rattle.quic_connection_core.specs.declared.run.Answer.{Answer}
 use Rattle.quic_connection_core.specs.declared.run.Answer.TheVariants as answers
 use Rattle.quic_recovery_core.specs.Transport.{Settings, parameters_of}
 use Rattle.quic_connection_core.specs.Policy.{Policy, CanOpen}
+use Rattle.quic_connection_core.specs.Tracking.{is_idle}
 use Rattle.quic_connection_core.specs.End.{End, MadeFrom}
 use Rattle.quic_connection_core.specs.Opens.{own_id_length}
 use Rattle.quic_connection_core.specs.Poll.{IsDatagram}
@@ -145,6 +148,16 @@ FinishedMeansArrived r = (side : Side) (id i : ℕ) → AreServed r i → IsAt r
 -- an ACK frame that came names only packets that its end had taken whole
 abbrev pub AcknowledgedWereTaken : Run → Type 0
 AcknowledgedWereTaken r = (side : Side) (i number : ℕ) → AreServed r i → IsNamed (took r side i) number → IsTaken (took r (other_side side) i) number
+
+-- ---- timers
+
+-- at an open end the loss timer is set exactly while a datagram that asks is waited for (RFC 9002, section 6.2.1)
+abbrev pub LossTimerFollows : End → Type 0
+LossTimerFollows e = e.closing.state ≡ states.Open → is_some e.timers.loss_detection ≡ not (is_idle e.tracking.packets)
+
+-- so it is at both ends
+abbrev pub LossTimersFollow : World → Type 0
+LossTimersFollow w = LossTimerFollows w.client × LossTimerFollows w.server
 
 -- ---- numbers
 

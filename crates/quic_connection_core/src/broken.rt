@@ -4,13 +4,15 @@ ghost use Rattle.std.specs.Prelude.{◌≡◌, List, [], ◌∷◌, Ok};
 ghost use Rattle.quic_wire_core.specs.declared.stream_id.Side.TheVariants.{Client, Server};
 ghost use Rattle.quic_wire.specs.Value.{stream};
 ghost use Rattle.quic_connection_core.specs.declared.run.ReadCall.{ReadCall};
+ghost use Rattle.quic_connection_core.specs.declared.run.RunEvent.{RunEvent};
+ghost use Rattle.quic_connection_core.specs.declared.run.Answer.{Answer};
 ghost use Rattle.quic_connection_core.specs.declared.run.Answer.TheVariants as answers;
 ghost use Rattle.quic_connection_core.specs.declared.run.View.{View};
 ghost use Rattle.quic_connection_core.specs.Machine.{World, IsRead, Follows};
 ghost use Rattle.quic_connection_core.specs.Runs.{until, written, reads, bytes_of, took};
-ghost use Rattle.quic_connection_core.specs.Headline.{OrderedPrefix, Slices, Once, EndAfterAll, BlockedOnlyWithoutBytes, AcceptsAll, FinishedMeansArrived, AcknowledgedWereTaken, NumbersRise};
+ghost use Rattle.quic_connection_core.specs.Headline.{OrderedPrefix, Slices, Once, EndAfterAll, BlockedOnlyWithoutBytes, AcceptsAll, FinishedMeansArrived, AcknowledgedWereTaken, LossTimersFollow, NumbersRise};
 ghost use Rattle.quic_connection_core.specs.Worked.{hello, hello_frame, worked_policies, worked_events, client_made, server_made, before_sending, run_with};
-ghost use Rattle.quic_connection_core.specs.Broken.{hellp, changed_byte, repeated_bytes, unwritten_byte, early_end, unwritten_end, taken_twice, never_taken, blocked_read, never_accepted, early_finish, early_acknowledgement, empty_datagram, repeated_number, all_nexts};
+ghost use Rattle.quic_connection_core.specs.Broken.{hellp, changed_byte, repeated_bytes, unwritten_byte, early_end, unwritten_end, taken_twice, never_taken, blocked_read, never_accepted, early_finish, early_acknowledgement, never_timed, empty_datagram, repeated_number, all_nexts};
 
 /// A read that changes a byte gives no prefix of what was written, and no slice of it.
 pub fn changed_byte_shows()
@@ -68,6 +70,12 @@ pub fn early_finish_shows()
 pub fn early_acknowledgement_shows()
     ensures acknowledged { AcknowledgedWereTaken early_acknowledgement → ⊥ }
     ensures machine { (views : List View) (end : World) → Follows worked_policies early_acknowledgement.start early_acknowledgement.events early_acknowledgement.answers views end → ⊥ }
+{}
+
+/// A client that waits for an acknowledgement with no timer set breaks the clause, and no run comes to it.
+pub fn missing_timer_shows()
+    ensures timers { LossTimersFollow never_timed → ⊥ }
+    ensures machine { (events : List RunEvent) (answers : List Answer) (views : List View) → Follows worked_policies (before_sending client_made) events answers views never_timed → ⊥ }
 {}
 
 /// An empty datagram has no number.

@@ -1,8 +1,12 @@
 //! What every run of two honest ends keeps. Each function does nothing: its contract is the law, of every run of the
 //! reference machine whose ends, keys and applications meet the premises.
-ghost use Rattle.quic_connection_core.specs.Machine.{World};
+ghost use Rattle.std.specs.Prelude.{List};
+ghost use Rattle.quic_connection_core.specs.declared.run.RunEvent.{RunEvent};
+ghost use Rattle.quic_connection_core.specs.declared.run.Answer.{Answer};
+ghost use Rattle.quic_connection_core.specs.declared.run.View.{View};
+ghost use Rattle.quic_connection_core.specs.Machine.{World, Policies, Follows};
 ghost use Rattle.quic_connection_core.specs.Runs.{Run};
-ghost use Rattle.quic_connection_core.specs.Headline.{IsHonest, IsRun, OrderedPrefix, Slices, Once, EndAfterAll, BlockedOnlyWithoutBytes, AcceptsAll, FinishedMeansArrived, AcknowledgedWereTaken, NumbersRise};
+ghost use Rattle.quic_connection_core.specs.Headline.{AreStarted, IsHonest, IsRun, OrderedPrefix, Slices, Once, EndAfterAll, BlockedOnlyWithoutBytes, AcceptsAll, FinishedMeansArrived, AcknowledgedWereTaken, LossTimersFollow, NumbersRise};
 
 /// The bytes read of a stream at one end are a prefix of those written on it at the other (RFC 9000, section 2.2).
 pub fn ordered_prefix()
@@ -42,6 +46,13 @@ pub fn finished_means_arrived()
 /// An ACK frame that came names only packets that its end had taken whole (RFC 9000, section 13.1).
 pub fn acknowledged_were_taken()
     ensures { (r : Run) (end : World) → IsHonest r → IsRun r end → AcknowledgedWereTaken r }
+{}
+
+/// At an open end the loss timer is set exactly while a datagram that asks is waited for (RFC 9002, section 6.2.1), in
+/// each run that began so, and new ends begin so. It wants no premise, and holds where memory lacks too.
+pub fn loss_timers_follow()
+    ensures runs { (k : Policies) (w end : World) (events : List RunEvent) (answers : List Answer) (views : List View) → Follows k w events answers views end → LossTimersFollow w → LossTimersFollow end }
+    ensures starts { (w : World) → AreStarted w → LossTimersFollow w }
 {}
 
 /// Each datagram given is the datagram of a number, the peer's id and stated frames, and its number is above all before

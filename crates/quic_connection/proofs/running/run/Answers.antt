@@ -2,8 +2,9 @@
 use Rattle.std.proofs.Common.{refl}
 use Rattle.quic_connection_core.specs.Machine.{World, Policies}
 use Rattle.quic_connection_core.specs.Runs.{Run}
+use Rattle.quic_connection_core.proofs.LossTimers.{loss_timers_follow}
 use Rattle.quic_connection_core.proofs.Whole.{ordered_prefix, slices, once, end_after_all, blocked_only_without_bytes, accepts_all, finished_means_arrived, acknowledged_were_taken, numbers_rise}
-use Rattle.quic_connection.specs.Ends.{world_of, policies_of, run_of}
+use Rattle.quic_connection.specs.Ends.{world_of, first_world, policies_of, run_of}
 use Rattle.quic_connection.proofs.running.run.Goals as goal
 
 pub returns-clause-ordered_prefix : goal.returns-clause-ordered_prefix
@@ -61,6 +62,12 @@ returns-clause-acknowledged_were_taken g c =
     let keys : Policies = policies_of g.H.HeaderKey.masks g.H.HeaderKey.hides g.H.HeaderKey.unmasks g.H.HeaderKey.reveals g.K.PacketKey.sealed g.K.PacketKey.opened c.args.ends in
     let r : Run = run_of keys c.args.ends c.args.events.now o.answers.items o.views.items o.given in
     λ honest. acknowledged_were_taken r (world_of o.ends o.given) honest (record { follows = c.run_events.ensures.follows; from_client = refl; from_server = refl })
+
+pub returns-clause-loss_timers_follow : goal.returns-clause-loss_timers_follow
+returns-clause-loss_timers_follow g c =
+    let o = c.run_events.result in
+    let keys : Policies = policies_of g.H.HeaderKey.masks g.H.HeaderKey.hides g.H.HeaderKey.unmasks g.H.HeaderKey.reveals g.K.PacketKey.sealed g.K.PacketKey.opened c.args.ends in
+    loss_timers_follow keys (first_world c.args.ends) (world_of o.ends o.given) c.args.events.now o.answers.items o.views.items c.run_events.ensures.follows
 
 pub returns-clause-numbers_rise : goal.returns-clause-numbers_rise
 returns-clause-numbers_rise g c =
