@@ -4,7 +4,7 @@ ghost use Rattle.quic_connection_core.specs.End.{policy_of, with_end};
 ghost use Rattle.quic_connection_core.specs.Machine.{IsAnswer, IsLeft, fails, gives, IsStep, view_of, end_view, Follows};
 ghost use Rattle.quic_connection_core.specs.Calls.{AreNexts, after_nexts};
 ghost use Rattle.quic_recovery_core.specs.Timers.{each_timer};
-ghost use Rattle.quic_connection_core.specs.Headline.{IsHonest, OrderedPrefix, Slices, Once, EndAfterAll, BlockedOnlyWithoutBytes, AcceptsAll, FinishedMeansArrived, AcknowledgedWereTaken, LossTimersFollow, NumbersRise};
+ghost use Rattle.quic_connection_core.specs.Headline.{IsHonest, OrderedPrefix, Slices, Once, EndAfterAll, BlockedOnlyWithoutBytes, AcceptsAll, FinishedMeansArrived, TellsOnce, AcknowledgedWereTaken, LossTimersFollow, NumbersRise};
 ghost use Rattle.quic_connection.specs.Ends.{world_of, first_world, policies_of, run_of};
 ghost use Rattle.quic_connection.specs.declared.running.Given.{Given};
 
@@ -286,8 +286,9 @@ fn view<H: HeaderKey + Drop, K: PacketKey + Drop, R: Rng + Drop>(ends: &Ends<H, 
 /// streams (`IsHonest`), it holds at each place up to which no delivery, poll or timeout met want of memory: what is read of
 /// a stream is a prefix of what was written on it, no byte comes twice, the end comes only behind all, a stream is told to be
 /// finished only where the other end took all of it, an acknowledgement that came names only what the other end took, and
-/// packet numbers rise. Where memory lacks too, and with any keys, at an end that is open the loss timer is set exactly while a
-/// datagram that asks is waited for, if it began so.
+/// packet numbers rise. Behind the last answer, where nothing is left to tell, each stream was told to be finished once if all of
+/// it is acknowledged, and never otherwise. Where memory lacks too, and with any keys, an end that is open then has its loss timer
+/// set exactly where a datagram that asks is waited for, if it began so.
 pub fn run<H: HeaderKey + Drop, K: PacketKey + Drop, R: Rng + Drop>(
     alloc: Global,
     ends: Ends<H, K, R>,
@@ -303,6 +304,7 @@ pub fn run<H: HeaderKey + Drop, K: PacketKey + Drop, R: Rng + Drop>(
     ensures blocked_only_without_bytes { let r = run_of (policies_of H.masks H.hides H.unmasks H.reveals K.sealed K.opened ends) ends events.now result.answers.items result.views.items result.given in IsHonest r → BlockedOnlyWithoutBytes r }
     ensures accepts_all { let r = run_of (policies_of H.masks H.hides H.unmasks H.reveals K.sealed K.opened ends) ends events.now result.answers.items result.views.items result.given in IsHonest r → AcceptsAll r }
     ensures finished_means_arrived { let r = run_of (policies_of H.masks H.hides H.unmasks H.reveals K.sealed K.opened ends) ends events.now result.answers.items result.views.items result.given in IsHonest r → FinishedMeansArrived r }
+    ensures told_once { let r = run_of (policies_of H.masks H.hides H.unmasks H.reveals K.sealed K.opened ends) ends events.now result.answers.items result.views.items result.given in IsHonest r → TellsOnce r (world_of result.ends result.given) }
     ensures acknowledged_were_taken { let r = run_of (policies_of H.masks H.hides H.unmasks H.reveals K.sealed K.opened ends) ends events.now result.answers.items result.views.items result.given in IsHonest r → AcknowledgedWereTaken r }
     ensures loss_timers_follow { LossTimersFollow (first_world ends) → LossTimersFollow (world_of result.ends result.given) }
     ensures numbers_rise { let r = run_of (policies_of H.masks H.hides H.unmasks H.reveals K.sealed K.opened ends) ends events.now result.answers.items result.views.items result.given in IsHonest r → NumbersRise r }

@@ -37,6 +37,8 @@ use Rattle.quic_connection_core.proofs.Way.{Way, Both, came}
 use Rattle.quic_connection_core.proofs.Arriving.{NamesTaken, Stands, Arriving, arrivals_arriving, sents_say, sents_length}
 use Rattle.quic_connection_core.proofs.AckedSteps.{adds_step, arrives_grows, arrives_adds, arrives_on}
 use Rattle.quic_connection_core.proofs.TrackedSteps.{tracked_more, tracked_step}
+use Rattle.quic_connection_core.proofs.Finishing.{Tells}
+use Rattle.quic_connection_core.proofs.Telling.{are_ended, tells_delivery, tells_step}
 use Rattle.quic_connection_core.proofs.Stays.{Stays, stays_items, stays_received}
 use Rattle.quic_connection_core.proofs.Steps.{gives_count}
 use Rattle.quic_connection_core.proofs.Intakes.{count_more, intake_more, took_more, nothing_handed}
@@ -60,7 +62,7 @@ writer_takes p q own id x y given final back theirs wrote read delivery d mates 
     let frames : List FrameValue = found.0.1 in
     let g : IsGiven q own read (0 + delivery.index) reference frames d = found.2 in
     let stands : Stands took w.sents wrote = record { taken = w.taken; say = λ n s is. sents_say p id wrote 0 w.sents given n s w.gives.each is } in
-    let before : Arriving took w.sents wrote x.side x = record { streams = w.streams; arrives = w.arrives; tracked = w.tracked } in
+    let before : Arriving took w.sents wrote x.side x = record { streams = w.streams; arrives = w.arrives; tells = w.tells; tracked = w.tracked } in
     let named : (a : AckValue) → In (ack a) frames → NamesTaken took a = λ a is k names. other.named delivery.index found.0 a k found.1 is names in
     by_arrival q p own read (0 + delivery.index) reference frames d g x delivery.now i (λ o j. Arriving took w.sents wrote x.side o.end) mates lawful eight other.known other.knows
     (arrivals_arriving took w.sents wrote x.side stands x delivery.now (0 + delivery.index) frames i named before)
@@ -69,19 +71,22 @@ writer_takes p q own id x y given final back theirs wrote read delivery d mates 
 writer_delivered : (p q : Policy) (own id : List ℕ) (x y : End) (given final back theirs : List (List ℕ)) (wrote read : List Told) (delivery : Delivery) (o : Option (List ℕ)) → CanOpen q p → IsLawful q → length own ≡ own_id_length
     → slice_get theirs delivery.index ≡ o → Way q p id own y x theirs back final read wrote → (w : Way p q own id x y given final back wrote read)
     → Arriving (came q id final read).took w.sents wrote x.side (after_delivered p x delivery.now o)
-writer_delivered p q own id x y given final back theirs wrote read delivery None mates lawful eight at_given other w = record { streams = w.streams; arrives = w.arrives; tracked = w.tracked }
+writer_delivered p q own id x y given final back theirs wrote read delivery None mates lawful eight at_given other w = record { streams = w.streams; arrives = w.arrives; tells = w.tells; tracked = w.tracked }
 writer_delivered p q own id x y given final back theirs wrote read delivery (Some d) mates lawful eight at_given other w = writer_takes p q own id x y given final back theirs wrote read delivery d mates lawful eight at_given other w
 
--- after a call, what is known to be acknowledged arrived, and what is waited for was sent
-writer_arrives : (p q : Policy) (own id : List ℕ) (x y : End) (given final back theirs : List (List ℕ)) (wrote read : List Told) (call : Call) (a : Answer) (reference : ℕ) → CanOpen q p → IsLawful q → length own ≡ own_id_length
+-- after a call, what is known to be acknowledged arrived, what is waited for was sent, and streams are told to be finished once
+writer_arrives : (p q : Policy) (own id : List ℕ) (x y : End) (given final back theirs : List (List ℕ)) (wrote read : List Told) (call : Call) (a : Answer) (state : State) (reference : ℕ) → CanOpen q p → IsLawful q → length own ≡ own_id_length
     → IsAnswer p x theirs call a → fails a ≡ false → Way q p id own y x theirs back final read wrote → (w : Way p q own id x y given final back wrote read)
     → Arrives (came q id final read).took wrote (after_call p x theirs call a).sending (after_call p x theirs call a).events × AreTracked (w.sents ++ sents_by x call a reference) (after_call p x theirs call a).tracking.packets
-writer_arrives p q own id x y given final back theirs wrote read (calls.Deliver delivery) a reference mates lawful eight is served other w =
+    × Tells (wrote ++ told_of call a state ∷ []) (after_call p x theirs call a).sending.halves (after_call p x theirs call a).events
+writer_arrives p q own id x y given final back theirs wrote read (calls.Deliver delivery) a state reference mates lawful eight is served other w =
     let after = writer_delivered p q own id x y given final back theirs wrote read delivery (slice_get theirs delivery.index) mates lawful eight refl other w in
-    (after.arrives, tracked_more w.sents [] (after_call p x theirs (calls.Deliver delivery) a).tracking.packets after.tracked)
-writer_arrives p q own id x y given final back theirs wrote read call a reference mates lawful eight is served other w = (
+    let end : End = after_call p x theirs (calls.Deliver delivery) a in
+    (after.arrives, tracked_more w.sents [] end.tracking.packets after.tracked, tells_delivery wrote (calls.Deliver delivery) a state end.sending.halves end.events refl after.tells)
+writer_arrives p q own id x y given final back theirs wrote read call a state reference mates lawful eight is served other w = (
   arrives_adds (came q id final read).took wrote x (after_call p x theirs call a) (adds_step p x theirs call a refl) w.arrives,
   tracked_step p x theirs call a w.sents reference refl is served (w.gives.next ∙ sents_length p id wrote 0 w.sents given w.gives.each) w.tracked,
+  tells_step p x theirs call a wrote state refl is w.streams (are_ended (came q id final read).took wrote x.side x.sending x.events w.streams w.arrives) w.tells,
 )
 
 pub way_writer : (p q : Policy) (own id : List ℕ) (x y : End) (given final back theirs : List (List ℕ)) (wrote read : List Told) (call : Call) (a : Answer) (state : State) → length id ≡ 8 → CanOpen q p → IsLawful q → length own ≡ own_id_length
@@ -94,7 +99,7 @@ way_writer p q own id x y given final back theirs wrote read call a state eight 
     let told = count_more wrote (told_of call a state) in
     let before = w.count in
     let counted : length (given ++ gives p x call a) ≡ count_given (wrote ++ told_of call a state ∷ []) = omega arith in
-    let after = writer_arrives p q own id x y given final back theirs wrote read call a (acknowledged (came p own back wrote).took) mates lawful own_eight is served other w in
+    let after = writer_arrives p q own id x y given final back theirs wrote read call a state (acknowledged (came p own back wrote).took) mates lawful own_eight is served other w in
     record {
       streams = subst (λ side. Streams side (after_call p x theirs call a).sending (wrote ++ told_of call a state ∷ [])) (sym (side_step p x theirs call a)) (streams_step p x theirs call a wrote state is served w.streams);
       sents = w.sents ++ sents_by x call a (acknowledged (came p own back wrote).took);
@@ -113,6 +118,7 @@ way_writer p q own id x y given final back theirs wrote read call a state eight 
           (name_taken_step x call a (acknowledged (came p own back wrote).took) w.sents (came p own back wrote).took other.acks other.acking w.named);
       acking = w.acking;
       arrives = arrives_grows (came q id final read).took wrote (wrote ++ told_of call a state ∷ []) (after_call p x theirs call a).sending (after_call p x theirs call a).events (grows_step p x theirs call a wrote state is served w.streams) after.0;
+      tells = after.2;
       tracked = after.1;
     }
 
@@ -215,6 +221,7 @@ way_reads p q own id x y given final back wrote read call a state other is serve
       named = w.named;
       acking = subst (λ i. AreTaken end.acknowledging.runs i.took) (sym same) (taken_step q y given call a (came q id final read).took other w.acking);
       arrives = arrives_on (came q id final read).took (came q id final (read ++ t ∷ [])).took wrote x.sending x.events (took_more q (id ∷ []) final read t nothing_came) w.arrives;
+      tells = w.tells;
       tracked = w.tracked;
     }
 
@@ -304,6 +311,7 @@ way_takes p q own id x y given final back wrote read delivery a d mates lawful e
       acking = subst (λ j. AreTaken o.end.acknowledging.runs j.took) (sym came_is)
           (by_arrival p q id wrote (0 + delivery.index) reference frames d g y now i (λ o j. AreTaken o.end.acknowledging.runs j.took) mates lawful eight w.known w.knows (taken_arrivals y now (0 + delivery.index) frames i w.acks w.acking));
       arrives = arrives_on (came q id final read).took (came q id final (read ++ t ∷ [])).took wrote x.sending x.events (took_more q (id ∷ []) final read t nothing_came) w.arrives;
+      tells = w.tells;
       tracked = w.tracked;
     }
 
@@ -331,6 +339,7 @@ way_delivered p q own id x y given final back wrote read delivery a mates lawful
       named = w.named;
       acking = subst (λ j. AreTaken y.acknowledging.runs j.took) (sym same) w.acking;
       arrives = arrives_on (came q id final read).took (came q id final (read ++ t ∷ [])).took wrote x.sending x.events (took_more q (id ∷ []) final read t nothing_came) w.arrives;
+      tells = w.tells;
       tracked = w.tracked;
     }
 way_delivered p q own id x y given final back wrote read delivery a mates lawful eight more served (Some d) at (inl is) w =

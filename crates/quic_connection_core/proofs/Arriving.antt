@@ -1,4 +1,4 @@
--- What acknowledgements of packets that were taken leave: what is acknowledged arrived, and a stream that is told finished arrived wholly.
+-- What acknowledgements of packets that were taken leave: what is acknowledged arrived, and a stream that is told finished arrived wholly, and is told once.
 use Rattle.std.proofs.Common.{◌≡◌, ℕ, zero, suc, ◌+◌, ◌<◌, ◌≤◌, Bool, true, false, ◌||◌, ◌&&◌, not, List, [], ◌∷◌, ◌++◌, length, filter, map, cond, Option, Some, None, Ok, refl, sym, ap, ◌∙◌, subst, ◌⊎◌, inl, inr, arith}
 use Rattle.std.specs.Prelude.{slice_get, nat_le}
 use Rattle.std.proofs.lemmas.Bool.{cases_eq, eqb-true}
@@ -28,6 +28,7 @@ use Rattle.quic_connection_core.specs.Policy.{Policy}
 use Rattle.quic_connection_core.proofs.Delivered.{Arrivals, begun, arrived}
 use Rattle.quic_connection_core.proofs.Stays.{ack_taken}
 use Rattle.quic_connection_core.proofs.Writes.{half_at}
+use Rattle.quic_connection_core.proofs.Finishing.{Tells, stream_tells, lost_tells}
 use Rattle.quic_connection_core.proofs.Losing.{acked_half, settles_stream_acked, settles_stream_lost}
 
 -- ---- what a taken packet carries
@@ -176,6 +177,7 @@ lost_arrives took told s events m (Some h) found i =
 pub record KeepsArrived (took : List Packet) (told : List Told) (side : Side) (e : End) : Type 0 where
   pub streams : Streams side e.sending told
   pub arrives : Arrives took told e.sending e.events
+  pub tells : Tells told e.sending.halves e.events
 
 -- each packet of a list carries what was taken
 abbrev pub AllCarry : List Packet → List Told → Table TrackedPacket → Type 0
@@ -186,7 +188,7 @@ module _ (took : List Packet) (told : List Told) (side : Side) where
   -- numbers that the peer knows of
   known_keeps : (o : Option ℕ) (e : End) → KeepsArrived took told side e → KeepsArrived took told side (without_known o e)
   known_keeps None e r = r
-  known_keeps (Some n) e r = record { streams = r.streams; arrives = r.arrives }
+  known_keeps (Some n) e r = record { streams = r.streams; arrives = r.arrives; tells = r.tells }
 
   -- acknowledged STREAM frames
   streams_keep : (ms : List StreamMeta) (e : End) → AllCarried took told ms → KeepsArrived took told side e → KeepsArrived took told side (streams_acked ms e)
@@ -194,6 +196,7 @@ module _ (took : List Packet) (told : List Told) (side : Side) where
   streams_keep (m ∷ ms) e t r = streams_keep ms (stream_acked m e) t.1 (record {
     streams = (settles_stream_acked m e).sending.streams side told r.streams;
     arrives = stream_arrives took told side e.sending e.events m (at e.sending.halves m.id) refl r.streams t.0 r.arrives;
+    tells = stream_tells told side e.sending e.events m (at e.sending.halves m.id) refl r.streams r.tells;
   })
 
   -- acknowledged packets
@@ -207,6 +210,7 @@ module _ (took : List Packet) (told : List Told) (side : Side) where
   lost_keep (m ∷ ms) e r = lost_keep ms (stream_lost m e) (record {
     streams = (settles_stream_lost m e).sending.streams side told r.streams;
     arrives = lost_arrives took told e.sending e.events m (at e.sending.halves m.id) refl r.arrives;
+    tells = lost_tells told e.sending e.events m (at e.sending.halves m.id) refl r.tells;
   })
 
   -- lost packets
@@ -239,6 +243,7 @@ pub record Stands (took : List Packet) (sents : List Sent) (told : List Told) : 
 pub record Arriving (took : List Packet) (sents : List Sent) (told : List Told) (side : Side) (e : End) : Type 0 where
   pub streams : Streams side e.sending told
   pub arrives : Arrives took told e.sending e.events
+  pub tells : Tells told e.sending.halves e.events
   pub tracked : AreTracked sents e.tracking.packets
 
 module _ (took : List Packet) (sents : List Sent) (told : List Told) (side : Side) (stands : Stands took sents told) where
@@ -272,10 +277,11 @@ module _ (took : List Packet) (sents : List Sent) (told : List Told) (side : Sid
       let left : Table TrackedPacket = not_acked_by a e.tracking.packets in
       let acked : End = packets_acked (p ∷ ps) e in
       let r : KeepsArrived took told side (packets_lost (lost_below greatest left) acked) =
-      lost_packets_keep took told side (lost_below greatest left) acked (packets_keep took told side (p ∷ ps) e c (record { streams = i.streams; arrives = i.arrives })) in
+      lost_packets_keep took told side (lost_below greatest left) acked (packets_keep took told side (p ∷ ps) e c (record { streams = i.streams; arrives = i.arrives; tells = i.tells })) in
       record {
         streams = r.streams;
         arrives = r.arrives;
+        tells = r.tells;
         tracked = λ n t is. i.tracked n t (in_filter (λ q. not (names a q.0)) (n, t) e.tracking.packets (in_filter (λ q. not (is_below greatest q.0)) (n, t) left is));
       }
 
@@ -283,12 +289,12 @@ module _ (took : List Packet) (sents : List Sent) (told : List Told) (side : Sid
   ack_arriving : (b : Bool) (a : AckValue) (e : End) → NamesTaken took a → Arriving took sents told side e → Arriving took sents told side (ack_taken b a e).end
   ack_arriving true a e named i = i
   ack_arriving false a e named i =
-      named_arriving (acked_by a e.tracking.packets) a (with_numbers e (number_named e.numbers a.largest)) (carries a e.tracking.packets named i.tracked) (record { streams = i.streams; arrives = i.arrives; tracked = i.tracked })
+      named_arriving (acked_by a e.tracking.packets) a (with_numbers e (number_named e.numbers a.largest)) (carries a e.tracking.packets named i.tracked) (record { streams = i.streams; arrives = i.arrives; tells = i.tells; tracked = i.tracked })
 
   -- one frame
   frame_arriving : (f : FrameValue) (e : End) → ((a : AckValue) → ack a ≡ f → NamesTaken took a) → Arriving took sents told side e → Arriving took sents told side (take_frame f e).end
   frame_arriving (ack a) e named i = ack_arriving (nat_le e.numbers.next a.largest) a e (named a refl) i
-  frame_arriving (stream f) e named i = record { streams = i.streams; arrives = i.arrives; tracked = i.tracked }
+  frame_arriving (stream f) e named i = record { streams = i.streams; arrives = i.arrives; tells = i.tells; tracked = i.tracked }
   frame_arriving (new_token t) e named i = i
   frame_arriving handshake_done e named i = i
   frame_arriving f e named i = i
@@ -310,13 +316,13 @@ module _ (took : List Packet) (sents : List Sent) (told : List Told) (side : Sid
       → Arrivals e now n frames came (λ o j. Arriving took sents told side o.end)
   arrivals_arriving e now n frames came named i = record {
     ignored = λ reason. i;
-    noted = λ state reason. record { streams = i.streams; arrives = i.arrives; tracked = i.tracked };
-    takes = λ state new none. record { streams = after.streams; arrives = after.arrives; tracked = after.tracked };
-    refuses = λ state new f is. record { streams = after.streams; arrives = after.arrives; tracked = after.tracked };
+    noted = λ state reason. record { streams = i.streams; arrives = i.arrives; tells = i.tells; tracked = i.tracked };
+    takes = λ state new none. record { streams = after.streams; arrives = after.arrives; tells = after.tells; tracked = after.tracked };
+    refuses = λ state new f is. record { streams = after.streams; arrives = after.arrives; tells = after.tells; tracked = after.tracked };
   }
     where
       after : Arriving took sents told side (arrived e now n frames).end
-      after = frames_arriving frames (begun e now n) named (record { streams = i.streams; arrives = i.arrives; tracked = i.tracked })
+      after = frames_arriving frames (begun e now n) named (record { streams = i.streams; arrives = i.arrives; tells = i.tells; tracked = i.tracked })
 
 -- ---- what was sent
 

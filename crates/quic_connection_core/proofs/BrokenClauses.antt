@@ -17,9 +17,10 @@ use Rattle.quic_connection_core.specs.declared.answers.Received.{Received}
 use Rattle.quic_connection_core.specs.declared.answers.Received.TheVariants as receives
 use Rattle.quic_connection_core.specs.declared.run.ReadCall.{ReadCall}
 use Rattle.quic_connection_core.specs.Runs.{Packet, Next, In, IsNamed, until, nexts, chunks_of, reads, bytes_of, offsets_of, took, WasTaken, HasArrived}
-use Rattle.quic_connection_core.specs.Headline.{OrderedPrefix, Slices, Once, EndAfterAll, BlockedOnlyWithoutBytes, AcceptsAll, FinishedMeansArrived, AcknowledgedWereTaken, LossTimersFollow, NumbersRise, IsNumbered}
+use Rattle.quic_connection_core.specs.Headline.{OrderedPrefix, Slices, Once, EndAfterAll, BlockedOnlyWithoutBytes, AcceptsAll, FinishedMeansArrived, TellsOnce, AcknowledgedWereTaken, LossTimersFollow, NumbersRise, IsNumbered}
+use Rattle.quic_connection_core.specs.Acknowledged.{half_done}
 use Rattle.quic_connection_core.specs.Worked.{worked_policies, server_id, hello, hello_frame, run_with}
-use Rattle.quic_connection_core.specs.Broken.{NextAnswers, answers_with, duplicate, hellp, gives_chunk, all_nexts, changed_nexts, repeated_nexts, early_nexts, changed_byte, repeated_bytes, unwritten_byte, early_end, unwritten_end, taken_twice, blocked_read, never_accepted, early_finish, early_acknowledgement, never_timed, empty_datagram, repeated_number}
+use Rattle.quic_connection_core.specs.Broken.{NextAnswers, answers_with, duplicate, hellp, gives_chunk, all_nexts, changed_nexts, repeated_nexts, early_nexts, changed_byte, repeated_bytes, unwritten_byte, early_end, unwritten_end, taken_twice, blocked_read, never_accepted, early_finish, all_told, told_twice, never_told, early_acknowledgement, never_timed, empty_datagram, repeated_number}
 use Rattle.quic_connection_core.proofs.WorkedNumber.{only_number}
 use Rattle.quic_connection_core.proofs.WorkedRun.{hello_packet, frame_taken}
 
@@ -111,6 +112,14 @@ never_accepts read h =
 -- the one event of the run tells that the stream ended, of which nothing came
 pub finishes_early : FinishedMeansArrived early_finish → ⊥
 finishes_early h = (h Client 0 0 refl (record { event = refl; answer = refl })).end.taken.was_taken
+
+-- once isn't twice
+pub tells_twice : TellsOnce told_twice all_told → ⊥
+tells_twice h = let twice : ◌≡◌ {A = ℕ} 2 1 = h refl Client refl 0 half_done refl in omega arith
+
+-- nor is it never
+pub tells_never : TellsOnce never_told all_told → ⊥
+tells_never h = let never : ◌≡◌ {A = ℕ} 0 1 = h refl Client refl 0 half_done refl in omega arith
 
 -- ---- acknowledgements
 

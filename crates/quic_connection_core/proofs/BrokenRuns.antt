@@ -22,8 +22,9 @@ use Rattle.quic_connection_core.specs.declared.run.Answer.{Answer}
 use Rattle.quic_connection_core.specs.declared.run.Answer.TheVariants as answers
 use Rattle.quic_connection_core.specs.declared.run.View.{View}
 use Rattle.quic_connection_core.specs.Machine.{IsAnswer, IsRead, IsStep, Follows, World, policy_at, end_at, given_by, fails}
+use Rattle.quic_connection_core.specs.Acknowledged.{client_acked}
 use Rattle.quic_connection_core.specs.Worked.{client_made, server_made, server_took, server_accepted, hello, hello_datagram, delivery, delivers, before_sending, after_sending, worked_policies, worked_events}
-use Rattle.quic_connection_core.specs.Broken.{NextAnswers, hellp, gives_chunk, changed_nexts, repeated_nexts, early_nexts, blocked_nexts, changed_byte, repeated_bytes, unwritten_byte, early_end, unwritten_end, taken_twice, never_taken, blocked_read, never_accepted, early_finish, early_acknowledgement, never_timed}
+use Rattle.quic_connection_core.specs.Broken.{NextAnswers, hellp, gives_chunk, changed_nexts, repeated_nexts, early_nexts, blocked_nexts, changed_byte, repeated_bytes, unwritten_byte, early_end, unwritten_end, taken_twice, never_taken, blocked_read, never_accepted, early_finish, all_told, asks_event, tells_finished, told_twice, never_told, early_acknowledgement, never_timed}
 use Rattle.quic_connection_core.proofs.OneRun.{one_world}
 use Rattle.quic_connection_core.proofs.LossTimers.{loss_timers_follow}
 use Rattle.quic_connection_core.proofs.BrokenClauses.{never_sets}
@@ -175,6 +176,22 @@ no_never_accepted read views end r =
 pub never_finishes : (views : List View) (end : World) → Follows worked_policies early_finish.start early_finish.events early_finish.answers views end → ⊥
 never_finishes [] end f = absurd f
 never_finishes (v ∷ views) end f = let is = f.1.answer in cc
+
+-- a world from which the run may go on that tells twice, once it told
+never_again : Runs all_told (asks_event ∷ []) (tells_finished ∷ []) → ⊥
+never_again r = stops r (λ is. cc)
+
+-- the stream is told to be finished once
+tells_first : IsStep worked_policies (before_sending client_acked) asks_event tells_finished all_told
+tells_first = record { answer = refl; end = refl; others = refl }
+
+pub never_twice : (views : List View) (end : World) → Follows worked_policies told_twice.start told_twice.events told_twice.answers views end → ⊥
+never_twice views end f = never_again (goes_on refl tells_first (record { views = views; end = end; follows = f }))
+
+-- what is to be told is told
+pub never_silent : (views : List View) (end : World) → Follows worked_policies never_told.start never_told.events never_told.answers views end → ⊥
+never_silent [] end f = absurd f
+never_silent (v ∷ views) end f = let is = f.1.answer in cc
 
 -- nothing comes to the client that the server never gave
 pub never_acknowledges : (views : List View) (end : World) → Follows worked_policies early_acknowledgement.start early_acknowledgement.events early_acknowledgement.answers views end → ⊥

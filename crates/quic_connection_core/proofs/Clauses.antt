@@ -17,15 +17,17 @@ use Rattle.quic_connection_core.specs.declared.answers.LostReason.{LostReason}
 use Rattle.quic_connection_core.specs.declared.answers.StreamEvent.{StreamEvent}
 use Rattle.quic_connection_core.specs.declared.answers.StreamEvent.TheVariants.{Finished}
 use Rattle.quic_connection_core.specs.declared.answers.Event.TheVariants as events
-use Rattle.quic_connection_core.specs.Closing.{loss_to_tell}
+use Rattle.quic_connection_core.specs.Closing.{Closing, loss_to_tell}
 use Rattle.quic_connection_core.specs.Table.{at}
 use Rattle.quic_connection_core.specs.End.{End}
 use Rattle.quic_connection_core.specs.Calls.{tells_of, end_tells, after_nexts}
 use Rattle.quic_connection_core.specs.Machine.{IsRead}
 use Rattle.quic_connection_core.specs.Receiving.{Receiving, RecvHalf, readable, accepted_of, opened_of, accept_answer, may_receive}
 use Rattle.quic_connection_core.specs.Runs.{Told, Next, Packet, In, written, ended, nexts, chunks_of, reads, bytes_of, accepts, WasTaken, HasArrived, EndHasArrived}
+use Rattle.quic_connection_core.specs.Headline.{ToldOnce}
 use Rattle.quic_connection_core.proofs.Invariant.{Accepted, Content, Kept}
 use Rattle.quic_connection_core.proofs.Told.{chunks_append}
+use Rattle.quic_connection_core.proofs.Finishing.{Tells, acked_count, finishes_waiting}
 use Rattle.quic_connection_core.proofs.Next.{Reads, Lacks}
 use Rattle.quic_connection_core.proofs.NextRuns.{HalfNexts, KeptBy, nexts_run, run_blocked}
 
@@ -91,3 +93,16 @@ blocked_is side e wrote told packets id mosts front behind content kept is = (λ
         let at_f : at e.receiving.halves f.id ≡ Some half.0 = ap (λ q. at e.receiving.halves q) same ∙ half.1 in
         let keeps : KeptBy f (at e.receiving.halves id) = subst (λ o. KeptBy f o) (sym half.1) (kept.kept f half.0 taken at_f) in
         subst (λ cs. Lacks f (length (bytes_of cs))) (chunks_append (nexts id told) front) (run_blocked wr (ended id wrote) (nexts id told) f mosts front behind (at e.receiving.halves id) (at (after_nexts e id mosts (front ++ Err read_errors.Blocked ∷ behind)).receiving.halves id) here reading keeps)
+
+-- nothing is left to tell only where no event of a stream is
+no_event : (events : List StreamEvent) (c : Closing) → tells_of events c ≡ None → events ≡ []
+no_event [] c none = refl
+no_event (event ∷ events) c none = cc
+
+-- where nothing is left to tell, each stream was told to be finished once if it is wholly acknowledged
+pub once_told : (told : List Told) (e : End) → Tells told e.sending.halves e.events → ToldOnce told e
+once_told told e i none id h found =
+    let waits : finishes_waiting id e.events ≡ 0 = ap (finishes_waiting id) (no_event e.events e.closing none) in
+    let acked = ap acked_count found in
+    let all = i id in
+    omega arith

@@ -31,6 +31,8 @@ pub mod Tables
 mod Told
 mod Growth
 mod Losing
+mod Finishing
+mod Telling
 mod Arriving
 mod AckedSteps
 mod TrackedSteps

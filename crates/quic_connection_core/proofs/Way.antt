@@ -7,6 +7,7 @@ use Rattle.quic_connection_core.specs.End.{End}
 use Rattle.quic_connection_core.specs.Machine.{World, Policies}
 use Rattle.quic_connection_core.specs.Runs.{Told, Intake, nothing_came, intake, count_given, references}
 use Rattle.quic_connection_core.proofs.Invariant.{Streams, Sent, Gives, Content, Kept, Accepted, KnowsIn, NameTaken, WereSent, AreTaken, Arrives, AreTracked, Acks}
+use Rattle.quic_connection_core.proofs.Finishing.{Tells}
 
 -- what came to an end that is known by one id
 abbrev pub came : Policy → List ℕ → List (List ℕ) → List Told → Intake
@@ -38,6 +39,8 @@ pub record Way (p q : Policy) (own id : List ℕ) (x y : End) (given final back 
   pub acking : AreTaken y.acknowledging.runs (came q id final read).took
   -- what x knows to be acknowledged, y took
   pub arrives : Arrives (came q id final read).took wrote x.sending x.events
+  -- x told that a stream is finished, or is to tell so, once if it is wholly acknowledged
+  pub tells : Tells wrote x.sending.halves x.events
   -- what x waits for was sent
   pub tracked : AreTracked sents x.tracking.packets
 

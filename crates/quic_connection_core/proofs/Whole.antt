@@ -1,6 +1,7 @@
 -- The headline of every honest run: what holds at each place, and the clauses from it.
-use Rattle.std.proofs.Common.{◌≡◌, ℕ, List, [], ◌∷◌, ◌++◌, drop, Bool, false, Some, None, refl, sym, ap, ◌∙◌, subst}
+use Rattle.std.proofs.Common.{◌≡◌, ℕ, List, [], ◌∷◌, ◌++◌, length, drop, Bool, false, Some, None, refl, sym, ap, ◌∙◌, subst, arith}
 use Rattle.std.specs.Prelude.{Result, Ok, Err}
+use Rattle.std.proofs.lemmas.List.{drop_all}
 use Rattle.quic_wire_core.specs.declared.stream_id.Side.{Side}
 use Rattle.quic_wire_core.specs.declared.stream_id.Side.TheVariants.{Client, Server}
 use Rattle.quic_wire_core.specs.StreamId.{other_side}
@@ -8,14 +9,15 @@ use Rattle.quic_connection_core.specs.declared.run.RunEvent.{RunEvent}
 use Rattle.quic_connection_core.specs.declared.run.Call.TheVariants as calls
 use Rattle.quic_connection_core.specs.declared.run.Answer.{Answer}
 use Rattle.quic_connection_core.specs.declared.run.Answer.TheVariants as answers
+use Rattle.quic_connection_core.specs.declared.run.View.{View}
 use Rattle.quic_connection_core.specs.declared.answers.ReadError.TheVariants as read_errors
 use Rattle.quic_connection_core.specs.declared.answers.Event.TheVariants as events
 use Rattle.quic_connection_core.specs.declared.answers.StreamEvent.TheVariants.{Finished}
 use Rattle.quic_connection_core.specs.Ids.{known, own_id}
 use Rattle.quic_connection_core.specs.Calls.{end_accepts}
-use Rattle.quic_connection_core.specs.Machine.{World, Policies, IsStep, fails}
+use Rattle.quic_connection_core.specs.Machine.{World, Policies, IsStep, end_at, fails, Follows}
 use Rattle.quic_connection_core.specs.Runs.{Run, Told, told_by, until, AreServed, written, ended, nexts, took}
-use Rattle.quic_connection_core.specs.Headline.{IsInRange, IsHonest, AreStarted, IsRun, OrderedPrefix, Slices, Once, EndAfterAll, BlockedOnlyWithoutBytes, AcceptsAll, FinishedMeansArrived, AcknowledgedWereTaken, LossTimerFollows, LossTimersFollow, NumbersRise}
+use Rattle.quic_connection_core.specs.Headline.{IsInRange, IsHonest, AreStarted, IsRun, OrderedPrefix, Slices, Once, EndAfterAll, BlockedOnlyWithoutBytes, AcceptsAll, FinishedMeansArrived, ToldOnce, TellsOnce, AcknowledgedWereTaken, LossTimerFollows, LossTimersFollow, NumbersRise}
 use Rattle.quic_wire.specs.Parameters.{ParameterValues}
 use Rattle.quic_wire.specs.ParametersRead.{parameters_at}
 use Rattle.quic_recovery_core.specs.Transport.{Settings, parameters_of}
@@ -30,7 +32,7 @@ use Rattle.quic_connection_core.proofs.Order.{order_prefix, order_slices, order_
 use Rattle.quic_connection_core.proofs.Moments.{Grown, grown, Moment, moment}
 use Rattle.quic_connection_core.proofs.Way.{Way, Both}
 use Rattle.quic_connection_core.proofs.Seen.{Seen, seen_from, answered}
-use Rattle.quic_connection_core.proofs.Clauses.{accepted_is, finished_told, blocked_is}
+use Rattle.quic_connection_core.proofs.Clauses.{accepted_is, finished_told, once_told, blocked_is}
 
 -- the first ids of both ends
 pub record FirstIds (w : World) (client_id server_id : List ℕ) : Type 0 where
@@ -76,6 +78,7 @@ way_first p q x_side y_side x_settings y_settings x_id y_id x_now y_now x_valida
   named = λ n s a k is i named. cc;
   acking = λ k h. absurd h;
   arrives = record { halves = λ id h found. cc; finished = λ id is. absurd is };
+  tells = λ id. refl;
   tracked = λ n t is. absurd is;
 }
 
@@ -96,6 +99,21 @@ both_first k w from_client from_server s =
     world_is : (w : World) (client server : End) → w.client ≡ client → w.server ≡ server → w.from_client ≡ [] → w.from_server ≡ [] → w ≡ record { client = client; server = server; from_client = []; from_server = [] }
     world_is w client server a b c d = ap (λ e. record w { client = e }) a ∙ ap (λ e. record w { client = client; server = e }) b ∙ ap (λ ds. record w { client = client; server = server; from_client = ds }) c ∙ ap (λ ds. record { client = client; server = server; from_client = []; from_server = ds }) d
 
+module _ (r : Run) (end : World) (honest : IsHonest r) (run : IsRun r end) where
+  -- what holds between both ends
+  abbrev Holds : World → List Told → List Told → Type 0
+  Holds w client server = Both r.keys honest.start.client_making.id honest.start.server_making.id w r.from_client r.from_server client server
+
+  step : (w next : World) (event : RunEvent) (a : Answer) (client server : List Told) → Holds w client server → IsStep r.keys w event a next → fails a ≡ false → Grown w end
+      → Holds next (client ++ told_by Client w.client.closing.state event a) (server ++ told_by Server w.server.closing.state event a)
+  step w next event a client server both is goes g =
+      both_step r.keys honest.keys honest.start.client_making.id honest.start.server_making.id honest.start.client_is.id honest.start.server_is.id r.from_client r.from_server w next event a client server both is goes
+      (g.client.0, g.client.1 ∙ sym run.from_client) (g.server.0, g.server.1 ∙ sym run.from_server)
+
+  -- the ends at a place
+  place : (i : ℕ) → AreServed r i → Moment r.keys end Holds step (until r Client i) (until r Server i) (drop i r.events) (drop i r.answers) (drop i r.views)
+  place i served = moment r.keys end Holds step i r.start r.events r.answers r.views [] [] (both_first r.keys r.start r.from_client r.from_server honest.start) run.follows served
+
 -- what a place shows of the end at each side
 pub seen : (r : Run) (end : World) → IsHonest r → IsRun r end → (side : Side) (i : ℕ) → AreServed r i → Seen r side i
 seen r end honest run side i served = at side
@@ -106,17 +124,8 @@ seen r end honest run side i served = at side
     server_id : List ℕ
     server_id = honest.start.server_making.id
 
-    P : World → List Told → List Told → Type 0
-    P w client server = Both r.keys client_id server_id w r.from_client r.from_server client server
-
-    step : (w next : World) (event : RunEvent) (a : Answer) (client server : List Told) → P w client server → IsStep r.keys w event a next → fails a ≡ false → Grown w end
-        → P next (client ++ told_by Client w.client.closing.state event a) (server ++ told_by Server w.server.closing.state event a)
-    step w next event a client server both is goes g =
-        both_step r.keys honest.keys client_id server_id honest.start.client_is.id honest.start.server_is.id r.from_client r.from_server w next event a client server both is goes
-        (g.client.0, g.client.1 ∙ sym run.from_client) (g.server.0, g.server.1 ∙ sym run.from_server)
-
-    m : Moment r.keys end P step (until r Client i) (until r Server i) (drop i r.events) (drop i r.answers) (drop i r.views)
-    m = moment r.keys end P step i r.start r.events r.answers r.views [] [] (both_first r.keys r.start r.from_client r.from_server honest.start) run.follows served
+    m : Moment r.keys end (Holds r end honest run) (step r end honest run) (until r Client i) (until r Server i) (drop i r.events) (drop i r.answers) (drop i r.views)
+    m = place r end honest run i served
 
     g : Grown m.world end
     g = grown r.keys m.world (drop i r.events) (drop i r.answers) (drop i r.views) end m.goes_on
@@ -163,6 +172,29 @@ pub finished_means_arrived : (r : Run) (end : World) → IsHonest r → IsRun r 
 finished_means_arrived r end honest run side id i served at =
     let s = seen r end honest run side i served in
     s.finished id (finished_told s.end id (s.answers calls.Event (answers.Event (Some (events.Stream (Finished id)))) at))
+
+-- a run is over where no answer is left
+over : (k : Policies) (w end : World) (events : List RunEvent) (views : List View) → Follows k w events [] views end → end ≡ w
+over k w end [] [] f = f
+over k w end (e ∷ events) [] f = f
+over k w end [] (v ∷ views) f = absurd f
+over k w end (e ∷ events) (v ∷ views) f = absurd f
+
+pub told_once : (r : Run) (end : World) → IsHonest r → IsRun r end → TellsOnce r end
+told_once r end honest run served side = at side
+  where
+    n : ℕ
+    n = length r.answers
+
+    m : Moment r.keys end (Holds r end honest run) (step r end honest run) (until r Client n) (until r Server n) (drop n r.events) (drop n r.answers) (drop n r.views)
+    m = place r end honest run n served
+
+    is : end ≡ m.world
+    is = over r.keys m.world end (drop n r.events) (drop n r.views) (subst (λ (told : List Answer). Follows r.keys m.world (drop n r.events) told (drop n r.views) end) (drop_all n r.answers (omega arith)) m.goes_on)
+
+    at : (side : Side) → ToldOnce (until r side n) (end_at side end)
+    at Client = subst (λ (w : World). ToldOnce (until r Client n) w.client) (sym is) (once_told (until r Client n) m.world.client m.holds.to_server.tells)
+    at Server = subst (λ (w : World). ToldOnce (until r Server n) w.server) (sym is) (once_told (until r Server n) m.world.server m.holds.to_client.tells)
 
 pub acknowledged_were_taken : (r : Run) (end : World) → IsHonest r → IsRun r end → AcknowledgedWereTaken r
 acknowledged_were_taken r end honest run side i number served named = (seen r end honest run side i served).named number named

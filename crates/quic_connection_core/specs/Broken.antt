@@ -1,5 +1,5 @@
 -- Runs of machines with a bug: the worked run with other answers or another datagram.
-use Rattle.std.specs.Prelude.{ℕ, List, [], ◌∷◌, take, Option, Some, None, Result, Ok, Err}
+use Rattle.std.specs.Prelude.{ℕ, List, [], ◌∷◌, length, replicate, take, Option, Some, None, Result, Ok, Err}
 use Rattle.quic_wire_core.specs.declared.stream_id.Side.TheVariants.{Client}
 use Rattle.quic_wire_core.specs.declared.shared.EcnCodepoint.TheVariants.{Ect0}
 use Rattle.quic_streams_core.specs.declared.connection.assembler.Chunk.{Chunk}
@@ -20,8 +20,8 @@ use Rattle.quic_connection_core.specs.declared.run.Answer.{Answer}
 use Rattle.quic_connection_core.specs.declared.run.Answer.TheVariants as answers
 use Rattle.quic_connection_core.specs.Machine.{World}
 use Rattle.quic_connection_core.specs.Runs.{Run}
-use Rattle.quic_connection_core.specs.Acknowledged.{from_server, ack_payload}
-use Rattle.quic_connection_core.specs.Worked.{worked_policies, client_ended, client_sent, server_made, hello, hello_datagram, ack_timer, before_sending, after_sending, worked_views, worked_run}
+use Rattle.quic_connection_core.specs.Acknowledged.{client_acked, from_server, ack_payload}
+use Rattle.quic_connection_core.specs.Worked.{worked_policies, client_ended, client_sent, server_made, hello, hello_datagram, ack_timer, before_sending, after_sending, open_view, worked_views, worked_run}
 
 -- ---- the worked run with other answers
 
@@ -162,3 +162,35 @@ early_acknowledgement =
 -- the client gave its datagram, and waits for an acknowledgement with no timer set
 abbrev pub never_timed : World
 never_timed = record (after_sending server_made) { client = record client_sent { timers = ack_timer None } }
+
+-- the client took the acknowledgement of all of its stream, and has nothing left to tell
+abbrev pub all_told : World
+all_told = before_sending (record client_acked { events = [] })
+
+-- a run from where that is to be told, in which the application asks as often as there are answers
+abbrev pub telling : List RunEvent → List Answer → Run
+telling asks told = record {
+  keys = worked_policies;
+  start = before_sending client_acked;
+  events = asks;
+  answers = told;
+  views = replicate (length told) (record { client = open_view; server = open_view });
+  from_client = [];
+  from_server = [];
+}
+
+-- the application asks what is to be told
+abbrev pub asks_event : RunEvent
+asks_event = record { side = Client; call = calls.Event }
+
+-- it is told that the stream is finished
+abbrev pub tells_finished : Answer
+tells_finished = answers.Event (Some (events.Stream (Finished 0)))
+
+-- the application is told twice that the stream is finished
+abbrev pub told_twice : Run
+told_twice = telling (asks_event ∷ asks_event ∷ []) (tells_finished ∷ tells_finished ∷ [])
+
+-- the application is never told
+abbrev pub never_told : Run
+never_told = telling (asks_event ∷ []) (answers.Event None ∷ [])

@@ -1,5 +1,5 @@
--- What every run of two honest ends keeps (RFC 9000, sections 2.2, 2.3 and 12.3): the headline, over the run's lists alone.
-use Rattle.std.specs.Prelude.{ℕ, ◌+◌, ◌<◌, ◌≤◌, ◌/◌, ◌^◌, ◌≡◌, ◌≢◌, Bool, true, false, not, eqb, List, [], ◌∷◌, ◌++◌, length, take, drop, slice_get, Option, Some, None, Result, Ok, Err}
+-- What every run of two honest ends keeps (RFC 9000, sections 2.2, 2.3 and 12.3): the headline, over the run's lists alone, and in two clauses over the ends that are left.
+use Rattle.std.specs.Prelude.{ℕ, ◌+◌, ◌<◌, ◌≤◌, ◌/◌, ◌^◌, ◌≡◌, ◌≢◌, Bool, true, false, not, if◌then◌else◌, eqb, List, [], ◌∷◌, ◌++◌, length, take, drop, slice_get, Option, Some, None, Result, Ok, Err}
 use Rattle.std.specs.List.{IsDistinct}
 use Rattle.std.specs.Option.{is_some}
 use Rattle.quic_wire_core.specs.declared.stream_id.Side.{Side}
@@ -21,12 +21,15 @@ use Rattle.quic_connection_core.specs.declared.run.Answer.{Answer}
 use Rattle.quic_connection_core.specs.declared.run.Answer.TheVariants as answers
 use Rattle.quic_recovery_core.specs.Transport.{Settings, parameters_of}
 use Rattle.quic_connection_core.specs.Policy.{Policy, CanOpen}
+use Rattle.quic_connection_core.specs.Table.{at}
 use Rattle.quic_connection_core.specs.Tracking.{is_idle}
+use Rattle.quic_connection_core.specs.Sending.{SendHalf, is_acked}
 use Rattle.quic_connection_core.specs.End.{End, MadeFrom}
 use Rattle.quic_connection_core.specs.Opens.{own_id_length}
+use Rattle.quic_connection_core.specs.Calls.{end_tells}
 use Rattle.quic_connection_core.specs.Poll.{IsDatagram}
-use Rattle.quic_connection_core.specs.Machine.{World, Policies, policy_at, Follows}
-use Rattle.quic_connection_core.specs.Runs.{Run, Told, Next, Packet, In, until, AreServed, written, ended, nexts, chunks_of, reads, bytes_of, offsets_of, ids_of, accepts, took, WasTaken, HasArrived, EndHasArrived, IsTaken, IsNamed, given_until, references_until, first_id_of_peer}
+use Rattle.quic_connection_core.specs.Machine.{World, Policies, policy_at, end_at, Follows}
+use Rattle.quic_connection_core.specs.Runs.{Run, Told, Next, Packet, In, until, AreServed, written, ended, nexts, chunks_of, reads, bytes_of, offsets_of, ids_of, accepts, took, WasTaken, HasArrived, EndHasArrived, IsTaken, IsNamed, finishes_told, given_until, references_until, first_id_of_peer}
 
 -- ---- the premises
 
@@ -142,6 +145,14 @@ pub record AllArrived (packets : List Packet) (id : ℕ) (told : List Told) : Ty
 -- a stream is told to be finished only where it was ended, and all that was written and its end are in what the other end took
 abbrev pub FinishedMeansArrived : Run → Type 0
 FinishedMeansArrived r = (side : Side) (id i : ℕ) → AreServed r i → IsAt r i side calls.Event (answers.Event (Some (events.Stream (Finished id)))) → AllArrived (took r (other_side side) i) id (until r side i)
+
+-- where nothing is left to tell, each stream with a sending half was told to be finished once if it is wholly acknowledged, its end too, and never otherwise
+abbrev pub ToldOnce : List Told → End → Type 0
+ToldOnce told e = end_tells e ≡ None → (id : ℕ) (h : SendHalf) → at e.sending.halves id ≡ Some h → finishes_told id told ≡ (if is_acked h then 1 else 0)
+
+-- so it is at both ends behind the last answer
+abbrev pub TellsOnce : Run → World → Type 0
+TellsOnce r end = AreServed r (length r.answers) → (side : Side) → ToldOnce (until r side (length r.answers)) (end_at side end)
 
 -- ---- acknowledgements
 

@@ -10,6 +10,8 @@ use Rattle.quic_wire.specs.Datagram.{Opening}
 use Rattle.quic_wire.specs.declared.frame.InvalidFrame.{InvalidFrame}
 use Rattle.quic_streams_core.specs.declared.connection.assembler.Chunk.{Chunk}
 use Rattle.quic_connection_core.specs.declared.answers.ReadError.{ReadError}
+use Rattle.quic_connection_core.specs.declared.answers.Event.TheVariants as events
+use Rattle.quic_connection_core.specs.declared.answers.StreamEvent.TheVariants.{Finished}
 use Rattle.quic_connection_core.specs.declared.answers.Received.TheVariants as receives
 use Rattle.quic_connection_core.specs.declared.answers.State.{State}
 use Rattle.quic_connection_core.specs.declared.answers.State.TheVariants as states
@@ -290,6 +292,18 @@ pub record IsNamed (packets : List Packet) (number : ℕ) : Type 0 where
   pub frame : AckValue
   pub carried : In (ack frame) packet.frames
   pub named : names frame number ≡ true
+
+-- ---- what the application was told
+
+-- whether a call told that a stream is finished
+abbrev pub finish_told_by : ℕ → Call → Answer → Bool
+finish_told_by id calls.Event (answers.Event (Some (events.Stream (Finished s)))) = s == id
+finish_told_by id call a = false
+
+-- how often an application was told that a stream is finished
+abbrev pub finishes_told : ℕ → List Told → ℕ
+finishes_told id [] = 0
+finishes_told id (t ∷ ts) = (if finish_told_by id t.call t.answer then 1 else 0) + finishes_told id ts
 
 -- ---- what was given
 

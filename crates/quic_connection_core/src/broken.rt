@@ -10,9 +10,9 @@ ghost use Rattle.quic_connection_core.specs.declared.run.Answer.TheVariants as a
 ghost use Rattle.quic_connection_core.specs.declared.run.View.{View};
 ghost use Rattle.quic_connection_core.specs.Machine.{World, IsRead, Follows};
 ghost use Rattle.quic_connection_core.specs.Runs.{until, written, reads, bytes_of, took};
-ghost use Rattle.quic_connection_core.specs.Headline.{OrderedPrefix, Slices, Once, EndAfterAll, BlockedOnlyWithoutBytes, AcceptsAll, FinishedMeansArrived, AcknowledgedWereTaken, LossTimersFollow, NumbersRise};
+ghost use Rattle.quic_connection_core.specs.Headline.{OrderedPrefix, Slices, Once, EndAfterAll, BlockedOnlyWithoutBytes, AcceptsAll, FinishedMeansArrived, TellsOnce, AcknowledgedWereTaken, LossTimersFollow, NumbersRise};
 ghost use Rattle.quic_connection_core.specs.Worked.{hello, hello_frame, worked_policies, worked_events, client_made, server_made, before_sending, run_with};
-ghost use Rattle.quic_connection_core.specs.Broken.{hellp, changed_byte, repeated_bytes, unwritten_byte, early_end, unwritten_end, taken_twice, never_taken, blocked_read, never_accepted, early_finish, early_acknowledgement, never_timed, empty_datagram, repeated_number, all_nexts};
+ghost use Rattle.quic_connection_core.specs.Broken.{hellp, changed_byte, repeated_bytes, unwritten_byte, early_end, unwritten_end, taken_twice, never_taken, blocked_read, never_accepted, early_finish, all_told, told_twice, never_told, early_acknowledgement, never_timed, empty_datagram, repeated_number, all_nexts};
 
 /// A read that changes a byte gives no prefix of what was written, and no slice of it.
 pub fn changed_byte_shows()
@@ -64,6 +64,18 @@ pub fn never_accepted_shows()
 pub fn early_finish_shows()
     ensures finished { FinishedMeansArrived early_finish → ⊥ }
     ensures machine { (views : List View) (end : World) → Follows worked_policies early_finish.start early_finish.events early_finish.answers views end → ⊥ }
+{}
+
+/// A stream that is told to be finished twice isn't told once.
+pub fn told_twice_shows()
+    ensures once { TellsOnce told_twice all_told → ⊥ }
+    ensures machine { (views : List View) (end : World) → Follows worked_policies told_twice.start told_twice.events told_twice.answers views end → ⊥ }
+{}
+
+/// Nor is one that is never told, although all of it is acknowledged.
+pub fn never_told_shows()
+    ensures once { TellsOnce never_told all_told → ⊥ }
+    ensures machine { (views : List View) (end : World) → Follows worked_policies never_told.start never_told.events never_told.answers views end → ⊥ }
 {}
 
 /// Where the client takes an acknowledgement of what the server never took, it came too early.

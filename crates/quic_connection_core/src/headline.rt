@@ -6,7 +6,7 @@ ghost use Rattle.quic_connection_core.specs.declared.run.Answer.{Answer};
 ghost use Rattle.quic_connection_core.specs.declared.run.View.{View};
 ghost use Rattle.quic_connection_core.specs.Machine.{World, Policies, Follows};
 ghost use Rattle.quic_connection_core.specs.Runs.{Run};
-ghost use Rattle.quic_connection_core.specs.Headline.{AreStarted, IsHonest, IsRun, OrderedPrefix, Slices, Once, EndAfterAll, BlockedOnlyWithoutBytes, AcceptsAll, FinishedMeansArrived, AcknowledgedWereTaken, LossTimersFollow, NumbersRise};
+ghost use Rattle.quic_connection_core.specs.Headline.{AreStarted, IsHonest, IsRun, OrderedPrefix, Slices, Once, EndAfterAll, BlockedOnlyWithoutBytes, AcceptsAll, FinishedMeansArrived, TellsOnce, AcknowledgedWereTaken, LossTimersFollow, NumbersRise};
 
 /// The bytes read of a stream at one end are a prefix of those written on it at the other (RFC 9000, section 2.2).
 pub fn ordered_prefix()
@@ -41,6 +41,12 @@ pub fn accepts_all()
 /// A stream is told to be finished only where it was ended, and all its bytes and its end are in what the other end took.
 pub fn finished_means_arrived()
     ensures { (r : Run) (end : World) → IsHonest r → IsRun r end → FinishedMeansArrived r }
+{}
+
+/// Where nothing is left to tell behind the last answer, each stream was told to be finished once if all its bytes and its end
+/// are acknowledged, and never otherwise.
+pub fn told_once()
+    ensures { (r : Run) (end : World) → IsHonest r → IsRun r end → TellsOnce r end }
 {}
 
 /// An ACK frame that came names only packets that its end had taken whole (RFC 9000, section 13.1).
