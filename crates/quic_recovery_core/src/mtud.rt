@@ -222,6 +222,3 @@ impl MtuDiscovery {
         found
     }
 }
-
-#[cfg(test)]
-mod tests;

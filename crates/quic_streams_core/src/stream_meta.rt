@@ -51,18 +51,3 @@ impl ShouldTransmit {
         self.0
     }
 }
-
-#[cfg(test)]
-mod tests {
-    use super::*;
-
-    #[test]
-    fn nothing_is_carried_at_first(rt: HostRuntime) {
-        let meta = StreamMeta::default();
-        assert_eq!(rt; u64::from(meta.id), 0);
-        assert_eq!(rt; (meta.offsets.start, meta.offsets.end), (0, 0));
-        assert!(rt; !meta.fin);
-        assert!(rt; ShouldTransmit::new(true).should_transmit());
-        assert!(rt; !ShouldTransmit::new(false).should_transmit());
-    }
-}

@@ -544,35 +544,3 @@ impl Default for TransportConfig {
         }
     }
 }
-
-#[cfg(test)]
-mod tests {
-    use super::*;
-    use std::test::Fail;
-
-    #[test]
-    fn settings_are_chained(rt: HostRuntime) -> Result<(), Fail> {
-        let idle = IdleTimeout::try_from(Duration::from_nanos(2_999_999))?;
-        assert_eq!(rt;
-            IdleTimeout::default(),
-            IdleTimeout::from(VarInt::from_u32(0))
-        );
-        let mut config = TransportConfig::default();
-        config
-            .max_idle_timeout(Some(idle))
-            .initial_mtu(1000)
-            .min_mtu(1500)
-            .time_threshold(5, 4);
-        assert_eq!(rt;
-            config.get_max_idle_timeout(),
-            Some(IdleTimeout::from(VarInt::from_u32(2)))
-        );
-        assert_eq!(rt; config.get_initial_mtu(), 1500);
-        assert_eq!(rt; config.get_time_threshold(), (5, 4));
-        assert_eq!(rt;
-            config.transport_parameters().max_idle_timeout,
-            VarInt::from_u32(2)
-        );
-        Ok(())
-    }
-}

@@ -1,0 +1,133 @@
+use quic_streams_core::{Assembler, Chunk};
+use std::alloc::AllocError;
+use std::process::Abort;
+use std::test::Fail;
+
+#[derive(Clone, Copy)]
+enum Step<'a> {
+    Insert(u64, &'a [u8]),
+    // So many bytes are asked for; these come, from this offset on.
+    Read(usize, u64, &'a [u8]),
+    // Nothing comes.
+    Wait,
+    // An ordered or an unordered read may begin, or may not.
+    Begin(bool, bool),
+    // So many bytes were read, and so many runs wait.
+    Count(u64, usize),
+}
+
+fn seen(assembler: &Assembler) -> (u64, usize) {
+    (assembler.bytes_read(), assembler.runs())
+}
+
+fn is_chunk(rt: &impl Abort, chunk: Option<Chunk>, offset: u64, bytes: &[u8]) {
+    let chunk = chunk.expect(rt, "a byte waits");
+    assert_eq!(rt; chunk.offset, offset);
+    assert_eq!(rt; chunk.bytes.as_slice(), bytes);
+}
+
+fn take(rt: &impl Abort, assembler: &mut Assembler, step: Step) -> Result<(), AllocError> {
+    match step {
+        Step::Insert(offset, bytes) => {
+            assert!(rt; offset < 100_000 && bytes.len() < 100);
+            assembler.insert(offset, bytes)?;
+        }
+        Step::Read(max, offset, bytes) => is_chunk(rt, assembler.read(max)?, offset, bytes),
+        Step::Wait => assert!(rt; assembler.read(32)?.is_none()),
+        Step::Begin(ordered, may) => {
+            assert_eq!(rt; assembler.ensure_ordering(ordered).is_ok(), may);
+        }
+        Step::Count(bytes_read, runs) => assert_eq!(rt; seen(assembler), (bytes_read, runs)),
+    }
+    Ok(())
+}
+
+// Where memory lacks, nothing has changed, and the step is made again.
+fn make(rt: &impl Abort, assembler: &mut Assembler, step: Step) -> Result<(), Fail> {
+    let before = seen(assembler);
+    if take(rt, assembler, step).is_err() {
+        assert_eq!(rt; seen(assembler), before);
+        take(rt, assembler, step)?;
+    }
+    Ok(())
+}
+
+fn run<R: Abort + AllocGlobal>(rt: &R, steps: &[Step]) -> Result<(), Fail> {
+    let mut assembler = Assembler::new(rt.alloc());
+    for step in steps {
+        make(rt, &mut assembler, *step)?;
+    }
+    Ok(())
+}
+
+#[test]
+fn first_bytes_stand(rt: HostRuntime) -> Result<(), Fail> {
+    let steps = [
+        Step::Insert(0, b"123"),
+        Step::Insert(1, b"234"),
+        Step::Read(32, 0, b"123"),
+        Step::Read(32, 3, b"4"),
+        Step::Wait,
+    ];
+    run(&rt, &steps)
+}
+
+// Bytes that fill three gaps: where memory lacks for one, none is filled.
+#[test]
+fn an_insert_fills_all_gaps_or_none(rt: HostRuntime) -> Result<(), Fail> {
+    let steps = [
+        Step::Insert(2, b"34"),
+        Step::Wait,
+        Step::Insert(6, b"78"),
+        Step::Insert(0, b"xxxxxxxxx"),
+        Step::Count(0, 1),
+        Step::Read(9, 0, b"xx"),
+        Step::Read(1, 2, b"3"),
+        Step::Read(9, 3, b"4"),
+        Step::Read(9, 4, b"xx"),
+    ];
+    run(&rt, &steps)
+}
+
+#[test]
+fn unordered_reads_give_each_byte_once(rt: HostRuntime) -> Result<(), Fail> {
+    let steps = [
+        Step::Insert(4, b"56"),
+        Step::Insert(0, b"12"),
+        Step::Read(1, 0, b"1"),
+        Step::Begin(false, true),
+        Step::Read(9, 1, b"2"),
+        Step::Read(1, 4, b"5"),
+        Step::Begin(true, false),
+        Step::Insert(0, b"xx34yyz"),
+        Step::Read(9, 2, b"34"),
+        Step::Read(9, 5, b"6"),
+        Step::Read(9, 6, b"z"),
+        Step::Count(7, 0),
+    ];
+    run(&rt, &steps)
+}
+
+#[test]
+fn small_frames_in_order_are_one_run(rt: HostRuntime) -> Result<(), Fail> {
+    let mut assembler = Assembler::new(rt.alloc());
+    for offset in 0..100_000u64 {
+        make(&rt, &mut assembler, Step::Insert(offset, b"x"))?;
+    }
+    make(&rt, &mut assembler, Step::Count(0, 1))?;
+    for _ in 0..2048 {
+        let _ = assembler.read(100_000)?;
+    }
+    make(&rt, &mut assembler, Step::Count(100_000, 0))
+}
+
+#[test]
+fn runs_are_counted(rt: HostRuntime) -> Result<(), Fail> {
+    let mut assembler = Assembler::new(rt.alloc());
+    for place in 0..2048u64 {
+        make(&rt, &mut assembler, Step::Insert(2 * place + 1, b"x"))?;
+    }
+    make(&rt, &mut assembler, Step::Count(0, 2048))?;
+    make(&rt, &mut assembler, Step::Insert(4097, b"x"))?;
+    make(&rt, &mut assembler, Step::Count(0, 2049))
+}

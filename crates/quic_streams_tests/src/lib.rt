@@ -1,0 +1,9 @@
+//! Tests of the two buffers of a stream: worked rows, and each call that takes memory, made where an allocation fails.
+#![tactic(auto)]
+
+#[cfg(test)]
+mod assembler;
+#[cfg(test)]
+mod bytes_source;
+#[cfg(test)]
+mod send_buffer;

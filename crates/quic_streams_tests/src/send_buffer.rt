@@ -1,0 +1,91 @@
+use quic_streams_core::SendBuffer;
+use std::alloc::AllocError;
+use std::process::Abort;
+use std::test::Fail;
+
+#[derive(Clone, Copy)]
+enum Step<'a> {
+    Write(&'a [u8]),
+    // The next frame with 16 bytes of room has these offsets, and a length or none.
+    Send(u64, u64, bool),
+    Ack(u64, u64),
+    Lose(u64, u64),
+    // So many bytes are kept.
+    Keep(usize),
+}
+
+fn seen(buffer: &SendBuffer) -> (u64, u64, usize, bool, bool) {
+    (
+        buffer.offset(),
+        buffer.unsent(),
+        buffer.buffered(),
+        buffer.is_fully_acked(),
+        buffer.has_unsent_data(),
+    )
+}
+
+fn take(rt: &impl Abort, buffer: &mut SendBuffer, step: Step) -> Result<(), AllocError> {
+    match step {
+        Step::Write(bytes) => {
+            assert!(rt; buffer.offset() < 100 && bytes.len() < 100);
+            buffer.write(bytes)?;
+        }
+        Step::Send(start, end, has_length) => {
+            assert_eq!(rt; buffer.poll_transmit(16), (start..end, has_length));
+        }
+        Step::Ack(start, end) => buffer.ack(start..end)?,
+        Step::Lose(start, end) => buffer.retransmit(start..end)?,
+        Step::Keep(count) => assert_eq!(rt; buffer.buffered(), count),
+    }
+    Ok(())
+}
+
+// Where memory lacks, nothing has changed, and the step is made again.
+fn run<R: Abort + AllocGlobal>(rt: &R, steps: &[Step]) -> Result<(), Fail> {
+    let mut buffer = SendBuffer::new(rt.alloc());
+    for step in steps {
+        let before = seen(&buffer);
+        if take(rt, &mut buffer, *step).is_err() {
+            assert_eq!(rt; seen(&buffer), before);
+            take(rt, &mut buffer, *step)?;
+        }
+    }
+    Ok(())
+}
+
+#[test]
+fn lost_bytes_go_again(rt: HostRuntime) -> Result<(), Fail> {
+    let steps = [
+        Step::Write(b"Hello, world with extra data!"),
+        Step::Keep(29),
+        Step::Send(0, 16, false),
+        Step::Send(16, 23, true),
+        Step::Lose(0, 16),
+        Step::Send(0, 16, false),
+        Step::Send(23, 29, true),
+        Step::Lose(16, 23),
+        Step::Send(16, 23, true),
+    ];
+    run(&rt, &steps)
+}
+
+// Pieces of 7 and 8 bytes: each goes when its last byte is acknowledged, and not before.
+#[test]
+fn whole_pieces_are_dropped(rt: HostRuntime) -> Result<(), Fail> {
+    let steps = [
+        Step::Write(b"Hello, "),
+        Step::Write(b"world..."),
+        Step::Send(0, 8, true),
+        Step::Send(8, 15, true),
+        Step::Ack(8, 12),
+        Step::Keep(15),
+        Step::Ack(0, 7),
+        Step::Keep(8),
+        Step::Ack(7, 14),
+        Step::Lose(0, 64),
+        Step::Send(14, 15, true),
+        Step::Ack(14, 64),
+        Step::Keep(0),
+    ];
+    run(&rt, &steps)
+}
