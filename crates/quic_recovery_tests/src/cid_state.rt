@@ -1,3 +1,4 @@
+use Step::{Expire, Issue, Refuse, Retire, Show};
 use quic_recovery_core::{CidState, Duration, Instant};
 use quic_wire_core::{ConnectionId, IssuedCid, ResetToken};
 use std::alloc::AllocError;
@@ -45,16 +46,16 @@ fn at(nanos: u64) -> Option<Instant> {
 
 fn take(rt: &impl Abort, state: &mut CidState, step: &Step) -> Result<(), AllocError> {
     match *step {
-        Step::Issue => {
+        Issue => {
             let ids = [issued(1), issued(2), issued(3), issued(4)];
             state.new_cids(&ids, Instant::from_nanos(5))?;
         }
-        Step::Retire(number, limit, may) => {
+        Retire(number, limit, may) => {
             assert_eq!(rt; state.on_cid_retirement(number, limit), Ok(may));
         }
-        Step::Refuse(number) => assert!(rt; state.on_cid_retirement(number, 5).is_err()),
-        Step::Expire(tells) => assert_eq!(rt; state.on_cid_timeout(), tells),
-        Step::Show(shown) => assert_eq!(rt; seen(state), shown),
+        Refuse(number) => assert!(rt; state.on_cid_retirement(number, 5).is_err()),
+        Expire(tells) => assert_eq!(rt; state.on_cid_timeout(), tells),
+        Show(shown) => assert_eq!(rt; seen(state), shown),
     }
     Ok(())
 }
@@ -83,29 +84,29 @@ fn run(rt: &impl Abort, mut state: CidState, steps: &[Step]) -> Result<(), Fail>
 #[test]
 fn only_issued_ids_are_retired(rt: HostRuntime) -> Result<(), Fail> {
     let steps = [
-        Step::Issue,
-        Step::Refuse(5),
-        Step::Retire(0, 5, true),
-        Step::Retire(1, 3, false),
-        Step::Show((5, 0, false, true, None)),
+        Issue,
+        Refuse(5),
+        Retire(0, 5, true),
+        Retire(1, 3, false),
+        Show((5, 0, false, true, None)),
     ];
     run(&rt, make(&rt, 8, None)?, &steps)
 }
 
 #[test]
 fn empty_ids_are_not_retired(rt: HostRuntime) -> Result<(), Fail> {
-    run(&rt, make(&rt, 0, None)?, &[Step::Refuse(0)])
+    run(&rt, make(&rt, 0, None)?, &[Refuse(0)])
 }
 
 #[test]
 fn batches_expire_in_turn(rt: HostRuntime) -> Result<(), Fail> {
     let steps = [
-        Step::Issue,
-        Step::Show((5, 0, true, true, at(100))),
-        Step::Expire(true),
-        Step::Show((5, 1, true, true, at(105))),
-        Step::Expire(false),
-        Step::Show((5, 1, true, true, None)),
+        Issue,
+        Show((5, 0, true, true, at(100))),
+        Expire(true),
+        Show((5, 1, true, true, at(105))),
+        Expire(false),
+        Show((5, 1, true, true, None)),
     ];
     let lifetime = Some(Duration::from_nanos(100));
     run(&rt, make(&rt, 8, lifetime)?, &steps)
@@ -114,11 +115,11 @@ fn batches_expire_in_turn(rt: HostRuntime) -> Result<(), Fail> {
 #[test]
 fn next_batch_waits_for_retirements(rt: HostRuntime) -> Result<(), Fail> {
     let steps = [
-        Step::Issue,
-        Step::Expire(true),
-        Step::Retire(0, 5, true),
-        Step::Expire(true),
-        Step::Show((5, 5, true, true, None)),
+        Issue,
+        Expire(true),
+        Retire(0, 5, true),
+        Expire(true),
+        Show((5, 5, true, true, None)),
     ];
     let lifetime = Some(Duration::from_nanos(100));
     run(&rt, make(&rt, 8, lifetime)?, &steps)

@@ -1,3 +1,4 @@
+use Step::{Ack, Hole, Limit, Lose, Poll, Reset, Rest, Search};
 use quic_recovery_core::{Instant, MtuDiscovery, MtuDiscoveryConfig};
 use std::process::Abort;
 
@@ -5,15 +6,17 @@ use std::process::Abort;
 enum Step<'a> {
     // On a path that carries so many bytes these sizes are probed one after another.
     Search(u16, &'a [u16]),
-    // At so many seconds this is probed.
+    // At 0 nothing is probed, and the size is this.
+    Rest(u16),
+    // So many seconds later this is probed.
     Poll(u64, Option<u16>),
-    Size(u16),
+    // It begins anew with a size.
     Reset(u16),
     // The peer's limit comes, between two searches.
     Limit(u16),
-    // A packet that is no probe is acknowledged, of this size.
+    // A packet that is no probe is acknowledged, of a size.
     Ack(u64, u16),
-    // Packets that are no probes are lost, of this size.
+    // Packets that are no probes are lost, of a size.
     Lose(&'a [u64], u16),
     // At 0 a black hole is found, or isn't.
     Hole(bool),
@@ -47,27 +50,28 @@ fn probe(rt: &impl Abort, discovery: &mut MtuDiscovery, link: u16, size: u16) {
 
 fn take(rt: &impl Abort, discovery: &mut MtuDiscovery, step: Step) {
     match step {
-        Step::Search(link, sizes) => {
+        Search(link, sizes) => {
             for size in sizes {
                 probe(rt, discovery, link, *size);
             }
         }
-        Step::Poll(seconds, size) => {
-            assert_eq!(rt; discovery.poll_transmit(at(seconds), 7), size);
+        Rest(size) => {
+            assert_eq!(rt; discovery.poll_transmit(at(0), 7), None);
+            assert_eq!(rt; discovery.current_mtu(), size);
         }
-        Step::Size(size) => assert_eq!(rt; discovery.current_mtu(), size),
-        Step::Reset(size) => discovery.reset(size, 1200),
-        Step::Limit(size) => {
+        Poll(seconds, size) => assert_eq!(rt; discovery.poll_transmit(at(seconds), 7), size),
+        Reset(size) => discovery.reset(size, 1200),
+        Limit(size) => {
             assert!(rt; !discovery.is_searching());
             discovery.on_peer_max_udp_payload_size_received(size);
         }
-        Step::Ack(number, size) => assert!(rt; !discovery.on_acked(number, size)),
-        Step::Lose(numbers, size) => {
+        Ack(number, size) => assert!(rt; !discovery.on_acked(number, size)),
+        Lose(numbers, size) => {
             for number in numbers {
                 discovery.on_non_probe_lost(*number, size);
             }
         }
-        Step::Hole(found) => assert_eq!(rt; discovery.black_hole_detected(at(0)), found),
+        Hole(found) => assert_eq!(rt; discovery.black_hole_detected(at(0)), found),
     }
 }
 
@@ -79,34 +83,25 @@ fn run(rt: &impl Abort, mut discovery: MtuDiscovery, steps: &[Step]) {
 
 #[test]
 fn a_search_halves(rt: HostRuntime) {
-    let steps = [
-        Step::Search(1500, &[1326, 1389, 1420, 1452]),
-        Step::Poll(0, None),
-        Step::Size(1452),
-    ];
-    run(&rt, up_to(1452), &steps);
-    run(&rt, up_to(1452), &[Step::Search(1300, &[1326, 1262])]);
+    let sizes = [1326, 1389, 1420, 1452];
+    run(&rt, up_to(1452), &[Search(1500, &sizes), Rest(1452)]);
+    run(&rt, up_to(1452), &[Search(1300, &[1326, 1262])]);
 }
 
 #[test]
 fn greater_sizes_are_lost(rt: HostRuntime) {
-    let steps = [
-        Step::Search(1500, &[5600, 3399, 2299, 1749, 1474, 1611, 1542, 1507]),
-        Step::Poll(0, None),
-        Step::Size(1474),
-    ];
-    run(&rt, up_to(10000), &steps);
+    let sizes = [5600, 3399, 2299, 1749, 1474, 1611, 1542, 1507];
+    run(&rt, up_to(10000), &[Search(1500, &sizes), Rest(1474)]);
 }
 
 #[test]
 fn the_next_search_waits(rt: HostRuntime) {
     let sizes = [5100, 3149, 2174, 1686, 1442, 1563, 1502, 1471, 1501];
     let steps = [
-        Step::Search(1500, &sizes),
-        Step::Poll(0, None),
-        Step::Size(1471),
-        Step::Poll(599, None),
-        Step::Poll(600, Some(5235)),
+        Search(1500, &sizes),
+        Rest(1471),
+        Poll(599, None),
+        Poll(600, Some(5235)),
     ];
     run(&rt, up_to(9000), &steps);
 }
@@ -115,19 +110,15 @@ fn the_next_search_waits(rt: HostRuntime) {
 fn the_peer_limits_sizes(rt: HostRuntime) {
     let config = MtuDiscoveryConfig::default();
     let limited = MtuDiscovery::new(1200, 1200, Some(1300), config);
-    let steps = [Step::Search(1500, &[1250, 1275, 1300]), Step::Poll(0, None)];
-    run(&rt, limited, &steps);
+    run(
+        &rt,
+        limited,
+        &[Search(1500, &[1250, 1275, 1300]), Rest(1300)],
+    );
     let cut = MtuDiscovery::new(1500, 1200, Some(1400), config);
-    let steps = [
-        Step::Size(1400),
-        Step::Poll(0, None),
-        Step::Reset(1450),
-        Step::Size(1400),
-    ];
-    run(&rt, cut, &steps);
+    run(&rt, cut, &[Rest(1400), Reset(1450), Rest(1400)]);
     let disabled = MtuDiscovery::disabled(1400, 1250);
-    let steps = [Step::Limit(1300), Step::Size(1300), Step::Poll(0, None)];
-    run(&rt, disabled, &steps);
+    run(&rt, disabled, &[Rest(1400), Limit(1300), Rest(1300)]);
 }
 
 // Probes are lost and acknowledged in turn.
@@ -144,60 +135,51 @@ fn the_greatest_size_is_found(rt: HostRuntime) {
             assert!(rt; discovery.on_acked(number, size));
         }
     }
-    run(&rt, discovery, &[Step::Poll(0, None), Step::Size(65527)]);
+    run(&rt, discovery, &[Rest(65527)]);
 }
 
 #[test]
 fn a_black_hole_is_found(rt: HostRuntime) {
+    let lost = Lose(&[0, 2, 4, 6], 1300);
     let steps = [
-        Step::Lose(&[0, 2, 4, 6], 1300),
-        Step::Hole(true),
-        Step::Size(1200),
-        Step::Hole(false),
-        Step::Poll(59, None),
-        Step::Poll(60, Some(1326)),
+        lost,
+        Hole(true),
+        Rest(1200),
+        Hole(false),
+        Poll(59, None),
+        Poll(60, Some(1326)),
     ];
     run(&rt, up_to(1452), &steps);
-    let steps = [
-        Step::Lose(&[0, 2, 4, 6], 1300),
-        Step::Hole(true),
-        Step::Size(1250),
-    ];
-    run(&rt, MtuDiscovery::disabled(1400, 1250), &steps);
+    let disabled = MtuDiscovery::disabled(1400, 1250);
+    run(&rt, disabled, &[lost, Hole(true), Rest(1250)]);
 }
 
 #[test]
 fn other_losses_are_no_black_hole(rt: HostRuntime) {
-    let steps = [
-        Step::Lose(&[2, 3], 1300),
-        Step::Lose(&[4], 800),
-        Step::Hole(false),
-        Step::Reset(1200),
-        Step::Ack(8, 1500),
-        Step::Lose(&[0, 2, 4, 6], 1400),
-        Step::Hole(false),
-        Step::Reset(1200),
-        Step::Lose(&[0, 2, 4], 1400),
-        Step::Ack(6, 1400),
-        Step::Lose(&[7], 1400),
-        Step::Hole(false),
-    ];
+    let steps = [Lose(&[2, 3], 1300), Lose(&[4], 800), Hole(false)];
     run(&rt, up_to(1452), &steps);
+    let steps = [Ack(8, 1500), Lose(&[0, 2, 4, 6], 1400), Hole(false)];
+    run(&rt, up_to(1452), &steps);
+    let lost = [
+        Lose(&[0, 2, 4], 1400),
+        Ack(6, 1400),
+        Lose(&[7], 1400),
+        Hole(false),
+    ];
+    run(&rt, up_to(1452), &lost);
 }
 
 #[test]
 fn later_packets_explain_losses(rt: HostRuntime) {
+    let steps = [Ack(0, 1500), Lose(&[0, 2, 4, 6], 1400), Hole(true)];
+    run(&rt, up_to(1452), &steps);
     let steps = [
-        Step::Ack(0, 1500),
-        Step::Lose(&[0, 2, 4, 6], 1400),
-        Step::Hole(true),
-        Step::Reset(1200),
-        Step::Ack(0, 1400),
-        Step::Ack(8, 1400),
-        Step::Lose(&[1, 3, 5, 7], 1400),
-        Step::Hole(false),
-        Step::Lose(&[9, 11, 13, 15], 1400),
-        Step::Hole(true),
+        Ack(0, 1400),
+        Ack(8, 1400),
+        Lose(&[1, 3, 5, 7], 1400),
+        Hole(false),
+        Lose(&[9, 11, 13, 15], 1400),
+        Hole(true),
     ];
     run(&rt, up_to(1452), &steps);
 }

@@ -1,3 +1,4 @@
+use Step::{Ask, Delay, Due, Put, Require, Send, Wait};
 use quic_recovery_core::{Dedup, Duration, Instant, PendingAcks};
 use quic_wire::frame::AckFrequency;
 use quic_wire_core::VarInt;
@@ -9,9 +10,11 @@ use std::test::Fail;
 #[derive(Clone, Copy)]
 enum Step {
     // A number comes at a moment, and is to be acknowledged.
-    Insert(u64, u64),
-    // The packet with a number comes, and asks; whether the timer is to be set.
-    Ask(u64, bool),
+    Put(u64, u64),
+    // The packet with a number comes, and asks.
+    Ask(u64),
+    // It does, and the timer is to be set.
+    Wait(u64),
     Require,
     Send,
     // Whether an acknowledgement is due.
@@ -34,12 +37,7 @@ fn seen(acks: &PendingAcks) -> (usize, Option<u64>, Duration, bool) {
     )
 }
 
-fn insert(
-    rt: &impl Abort,
-    acks: &mut PendingAcks,
-    number: u64,
-    now: u64,
-) -> Result<(), AllocError> {
+fn put(rt: &impl Abort, acks: &mut PendingAcks, number: u64, now: u64) -> Result<(), AllocError> {
     assert!(rt; number < u64::MAX);
     acks.insert_one(number, at(now))
 }
@@ -51,8 +49,8 @@ fn ask(
     number: u64,
     waits: bool,
 ) -> Result<(), AllocError> {
+    put(rt, acks, number, 0)?;
     assert!(rt; number < u64::MAX);
-    acks.insert_one(number, at(0))?;
     assert!(rt; !dedup.insert(number));
     assert_eq!(rt; acks.packet_received(at(0), number, true, dedup), waits);
     Ok(())
@@ -65,12 +63,13 @@ fn take(
     step: Step,
 ) -> Result<(), AllocError> {
     match step {
-        Step::Insert(number, now) => insert(rt, acks, number, now)?,
-        Step::Ask(number, waits) => ask(rt, acks, dedup, number, waits)?,
-        Step::Require => acks.set_immediate_ack_required(),
-        Step::Send => acks.acks_sent(),
-        Step::Due(due) => assert_eq!(rt; acks.can_send(), due),
-        Step::Delay(delay) => assert_eq!(rt; acks.ack_delay(at(7)), Duration::from_millis(delay)),
+        Put(number, now) => put(rt, acks, number, now)?,
+        Ask(number) => ask(rt, acks, dedup, number, false)?,
+        Wait(number) => ask(rt, acks, dedup, number, true)?,
+        Require => acks.set_immediate_ack_required(),
+        Send => acks.acks_sent(),
+        Due(due) => assert_eq!(rt; acks.can_send(), due),
+        Delay(delay) => assert_eq!(rt; acks.ack_delay(at(7)), Duration::from_millis(delay)),
     }
     Ok(())
 }
@@ -91,25 +90,19 @@ fn run(rt: &impl Abort, acks: &mut PendingAcks, steps: &[Step]) -> Result<(), Fa
 #[test]
 fn a_first_packet_waits(rt: HostRuntime) -> Result<(), Fail> {
     let mut acks = PendingAcks::new(rt.alloc());
-    let steps = [
-        Step::Ask(0, true),
-        Step::Due(false),
-        Step::Require,
-        Step::Due(true),
-    ];
-    run(&rt, &mut acks, &steps)
+    run(&rt, &mut acks, &[Wait(0), Due(false), Require, Due(true)])
 }
 
 #[test]
 fn the_delay_is_of_the_greatest_number(rt: HostRuntime) -> Result<(), Fail> {
     let mut acks = PendingAcks::new(rt.alloc());
     let steps = [
-        Step::Insert(0, 0),
-        Step::Delay(7),
-        Step::Insert(3, 2),
-        Step::Delay(5),
-        Step::Insert(2, 7),
-        Step::Delay(5),
+        Put(0, 0),
+        Delay(7),
+        Put(3, 2),
+        Delay(5),
+        Put(2, 7),
+        Delay(5),
     ];
     run(&rt, &mut acks, &steps)
 }
@@ -125,14 +118,14 @@ fn the_peer_sets_the_thresholds(rt: HostRuntime) -> Result<(), Fail> {
         reordering_threshold: VarInt::from_u32(3),
     });
     let steps = [
-        Step::Ask(4, true),
-        Step::Ask(5, false),
-        Step::Send,
-        Step::Ask(7, true),
-        Step::Ask(8, false),
-        Step::Due(false),
-        Step::Ask(9, false),
-        Step::Due(true),
+        Wait(4),
+        Ask(5),
+        Send,
+        Wait(7),
+        Ask(8),
+        Due(false),
+        Ask(9),
+        Due(true),
     ];
     run(&rt, &mut acks, &steps)
 }
@@ -141,7 +134,7 @@ fn the_peer_sets_the_thresholds(rt: HostRuntime) -> Result<(), Fail> {
 fn the_least_of_65_runs_goes(rt: HostRuntime) -> Result<(), Fail> {
     let mut acks = PendingAcks::new(rt.alloc());
     for place in 0..65u64 {
-        run(&rt, &mut acks, &[Step::Insert(2 * place, 7)])?;
+        run(&rt, &mut acks, &[Put(2 * place, 7)])?;
     }
     assert_eq!(rt; seen(&acks), (64, Some(2), Duration::ZERO, false));
     acks.subtract_below(4);

@@ -1,3 +1,4 @@
+use Step::{Begin, Count, Insert, Read, Wait};
 use quic_streams_core::{Assembler, Chunk};
 use std::alloc::AllocError;
 use std::process::Abort;
@@ -28,16 +29,16 @@ fn is_chunk(rt: &impl Abort, chunk: Option<Chunk>, offset: u64, bytes: &[u8]) {
 
 fn take(rt: &impl Abort, assembler: &mut Assembler, step: Step) -> Result<(), AllocError> {
     match step {
-        Step::Insert(offset, bytes) => {
+        Insert(offset, bytes) => {
             assert!(rt; offset < 100_000 && bytes.len() < 100);
             assembler.insert(offset, bytes)?;
         }
-        Step::Read(max, offset, bytes) => is_chunk(rt, assembler.read(max)?, offset, bytes),
-        Step::Wait => assert!(rt; assembler.read(32)?.is_none()),
-        Step::Begin(ordered, may) => {
+        Read(max, offset, bytes) => is_chunk(rt, assembler.read(max)?, offset, bytes),
+        Wait => assert!(rt; assembler.read(32)?.is_none()),
+        Begin(ordered, may) => {
             assert_eq!(rt; assembler.ensure_ordering(ordered).is_ok(), may);
         }
-        Step::Count(bytes_read, runs) => assert_eq!(rt; seen(assembler), (bytes_read, runs)),
+        Count(bytes_read, runs) => assert_eq!(rt; seen(assembler), (bytes_read, runs)),
     }
     Ok(())
 }
@@ -63,11 +64,11 @@ fn run<R: Abort + AllocGlobal>(rt: &R, steps: &[Step]) -> Result<(), Fail> {
 #[test]
 fn first_bytes_stand(rt: HostRuntime) -> Result<(), Fail> {
     let steps = [
-        Step::Insert(0, b"123"),
-        Step::Insert(1, b"234"),
-        Step::Read(32, 0, b"123"),
-        Step::Read(32, 3, b"4"),
-        Step::Wait,
+        Insert(0, b"123"),
+        Insert(1, b"234"),
+        Read(32, 0, b"123"),
+        Read(32, 3, b"4"),
+        Wait,
     ];
     run(&rt, &steps)
 }
@@ -76,15 +77,15 @@ fn first_bytes_stand(rt: HostRuntime) -> Result<(), Fail> {
 #[test]
 fn an_insert_fills_all_gaps_or_none(rt: HostRuntime) -> Result<(), Fail> {
     let steps = [
-        Step::Insert(2, b"34"),
-        Step::Wait,
-        Step::Insert(6, b"78"),
-        Step::Insert(0, b"xxxxxxxxx"),
-        Step::Count(0, 1),
-        Step::Read(9, 0, b"xx"),
-        Step::Read(1, 2, b"3"),
-        Step::Read(9, 3, b"4"),
-        Step::Read(9, 4, b"xx"),
+        Insert(2, b"34"),
+        Wait,
+        Insert(6, b"78"),
+        Insert(0, b"xxxxxxxxx"),
+        Count(0, 1),
+        Read(9, 0, b"xx"),
+        Read(1, 2, b"3"),
+        Read(9, 3, b"4"),
+        Read(9, 4, b"xx"),
     ];
     run(&rt, &steps)
 }
@@ -92,18 +93,18 @@ fn an_insert_fills_all_gaps_or_none(rt: HostRuntime) -> Result<(), Fail> {
 #[test]
 fn unordered_reads_give_each_byte_once(rt: HostRuntime) -> Result<(), Fail> {
     let steps = [
-        Step::Insert(4, b"56"),
-        Step::Insert(0, b"12"),
-        Step::Read(1, 0, b"1"),
-        Step::Begin(false, true),
-        Step::Read(9, 1, b"2"),
-        Step::Read(1, 4, b"5"),
-        Step::Begin(true, false),
-        Step::Insert(0, b"xx34yyz"),
-        Step::Read(9, 2, b"34"),
-        Step::Read(9, 5, b"6"),
-        Step::Read(9, 6, b"z"),
-        Step::Count(7, 0),
+        Insert(4, b"56"),
+        Insert(0, b"12"),
+        Read(1, 0, b"1"),
+        Begin(false, true),
+        Read(9, 1, b"2"),
+        Read(1, 4, b"5"),
+        Begin(true, false),
+        Insert(0, b"xx34yyz"),
+        Read(9, 2, b"34"),
+        Read(9, 5, b"6"),
+        Read(9, 6, b"z"),
+        Count(7, 0),
     ];
     run(&rt, &steps)
 }
@@ -112,22 +113,22 @@ fn unordered_reads_give_each_byte_once(rt: HostRuntime) -> Result<(), Fail> {
 fn small_frames_in_order_are_one_run(rt: HostRuntime) -> Result<(), Fail> {
     let mut assembler = Assembler::new(rt.alloc());
     for offset in 0..100_000u64 {
-        make(&rt, &mut assembler, Step::Insert(offset, b"x"))?;
+        make(&rt, &mut assembler, Insert(offset, b"x"))?;
     }
-    make(&rt, &mut assembler, Step::Count(0, 1))?;
+    make(&rt, &mut assembler, Count(0, 1))?;
     for _ in 0..2048 {
         let _ = assembler.read(100_000)?;
     }
-    make(&rt, &mut assembler, Step::Count(100_000, 0))
+    make(&rt, &mut assembler, Count(100_000, 0))
 }
 
 #[test]
 fn runs_are_counted(rt: HostRuntime) -> Result<(), Fail> {
     let mut assembler = Assembler::new(rt.alloc());
     for place in 0..2048u64 {
-        make(&rt, &mut assembler, Step::Insert(2 * place + 1, b"x"))?;
+        make(&rt, &mut assembler, Insert(2 * place + 1, b"x"))?;
     }
-    make(&rt, &mut assembler, Step::Count(0, 2048))?;
-    make(&rt, &mut assembler, Step::Insert(4097, b"x"))?;
-    make(&rt, &mut assembler, Step::Count(0, 2049))
+    make(&rt, &mut assembler, Count(0, 2048))?;
+    make(&rt, &mut assembler, Insert(4097, b"x"))?;
+    make(&rt, &mut assembler, Count(0, 2049))
 }

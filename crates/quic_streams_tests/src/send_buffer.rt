@@ -1,3 +1,4 @@
+use Step::{Ack, Keep, Lose, Send, Write};
 use quic_streams_core::SendBuffer;
 use std::alloc::AllocError;
 use std::process::Abort;
@@ -26,16 +27,16 @@ fn seen(buffer: &SendBuffer) -> (u64, u64, usize, bool, bool) {
 
 fn take(rt: &impl Abort, buffer: &mut SendBuffer, step: Step) -> Result<(), AllocError> {
     match step {
-        Step::Write(bytes) => {
+        Write(bytes) => {
             assert!(rt; buffer.offset() < 100 && bytes.len() < 100);
             buffer.write(bytes)?;
         }
-        Step::Send(start, end, has_length) => {
+        Send(start, end, has_length) => {
             assert_eq!(rt; buffer.poll_transmit(16), (start..end, has_length));
         }
-        Step::Ack(start, end) => buffer.ack(start..end)?,
-        Step::Lose(start, end) => buffer.retransmit(start..end)?,
-        Step::Keep(count) => assert_eq!(rt; buffer.buffered(), count),
+        Ack(start, end) => buffer.ack(start..end)?,
+        Lose(start, end) => buffer.retransmit(start..end)?,
+        Keep(count) => assert_eq!(rt; buffer.buffered(), count),
     }
     Ok(())
 }
@@ -56,15 +57,15 @@ fn run<R: Abort + AllocGlobal>(rt: &R, steps: &[Step]) -> Result<(), Fail> {
 #[test]
 fn lost_bytes_go_again(rt: HostRuntime) -> Result<(), Fail> {
     let steps = [
-        Step::Write(b"Hello, world with extra data!"),
-        Step::Keep(29),
-        Step::Send(0, 16, false),
-        Step::Send(16, 23, true),
-        Step::Lose(0, 16),
-        Step::Send(0, 16, false),
-        Step::Send(23, 29, true),
-        Step::Lose(16, 23),
-        Step::Send(16, 23, true),
+        Write(b"Hello, world with extra data!"),
+        Keep(29),
+        Send(0, 16, false),
+        Send(16, 23, true),
+        Lose(0, 16),
+        Send(0, 16, false),
+        Send(23, 29, true),
+        Lose(16, 23),
+        Send(16, 23, true),
     ];
     run(&rt, &steps)
 }
@@ -73,19 +74,19 @@ fn lost_bytes_go_again(rt: HostRuntime) -> Result<(), Fail> {
 #[test]
 fn whole_pieces_are_dropped(rt: HostRuntime) -> Result<(), Fail> {
     let steps = [
-        Step::Write(b"Hello, "),
-        Step::Write(b"world..."),
-        Step::Send(0, 8, true),
-        Step::Send(8, 15, true),
-        Step::Ack(8, 12),
-        Step::Keep(15),
-        Step::Ack(0, 7),
-        Step::Keep(8),
-        Step::Ack(7, 14),
-        Step::Lose(0, 64),
-        Step::Send(14, 15, true),
-        Step::Ack(14, 64),
-        Step::Keep(0),
+        Write(b"Hello, "),
+        Write(b"world..."),
+        Send(0, 8, true),
+        Send(8, 15, true),
+        Ack(8, 12),
+        Keep(15),
+        Ack(0, 7),
+        Keep(8),
+        Ack(7, 14),
+        Lose(0, 64),
+        Send(14, 15, true),
+        Ack(14, 64),
+        Keep(0),
     ];
     run(&rt, &steps)
 }
