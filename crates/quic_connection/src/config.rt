@@ -3,7 +3,7 @@ ghost use Rattle.std.specs.Prelude.{◌≡◌, IfOk, Ok, true};
 ghost use Rattle.quic_wire.specs.Parameters.{AreInRange};
 ghost use Rattle.quic_wire.specs.ParametersWritten.{IsWriteOrder, written_parameters};
 ghost use Rattle.quic_wire.specs.ParametersRead.{parameters_at};
-ghost use Rattle.quic_recovery_core.specs.Transport.{settings_with, transport_of, parameters_of};
+ghost use Rattle.quic_config.specs.Transport.{settings_with, transport_of, parameters_of};
 ghost use Rattle.quic_connection_core.specs.Headline.{IsInRange};
 
 use quic_connection_core::TransportConfig;
@@ -19,7 +19,7 @@ pub struct Config {
 }
 
 impl Model for Config {
-    ghost use Rattle.quic_recovery_core.specs.Transport.{Settings, settings_with, transport_of};
+    ghost use Rattle.quic_config.specs.Transport.{Settings, settings_with, transport_of};
 
     ghost Value = { Settings };
 

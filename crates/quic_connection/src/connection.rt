@@ -8,7 +8,7 @@ ghost use Rattle.quic_connection_core.specs.Closing.{ticked};
 ghost use Rattle.quic_connection_core.specs.Table.{at};
 ghost use Rattle.quic_connection_core.specs.Poll.{first_pending, waits};
 ghost use Rattle.quic_connection_core.specs.Receive.{after_taken};
-ghost use Rattle.quic_recovery_core.specs.Timers.{no_timers};
+ghost use Rattle.quic_time.specs.Timers.{no_timers};
 ghost use Rattle.quic_connection_core.specs.declared.answers.WriteError.TheVariants as write_errors;
 ghost use Rattle.quic_connection_core.specs.declared.answers.ReadError.TheVariants as read_errors;
 ghost use Rattle.quic_connection_core.specs.Sending.{finish_answer};
@@ -41,8 +41,8 @@ use quic_connection_core::{
     ConfigError, FinishError, Instant, LostReason, ReadError, ReadableError, State, StreamEvent,
     WriteError,
 };
-use quic_recovery_core::{Timer, TimerTable};
 use quic_streams_core::Chunk;
+use quic_time::{Timer, TimerTable};
 use quic_wire::TransportParameters;
 use quic_wire::crypto::{HeaderKey, Keys, PacketKey};
 use quic_wire_core::{ConnectionId, Dir, Side, StreamId};

@@ -2,7 +2,7 @@
 ghost use Rattle.std.specs.Prelude.{◌≡◌, ◌≢◌, length, Ok, IfOk, IfErr, OnOk};
 ghost use Rattle.quic_wire.specs.ParametersWritten.{written_parameters};
 ghost use Rattle.quic_wire.specs.ParametersRead.{parameters_at};
-ghost use Rattle.quic_recovery_core.specs.Transport.{parameters_of};
+ghost use Rattle.quic_config.specs.Transport.{parameters_of};
 ghost use Rattle.quic_connection_core.specs.Policy.{CanOpen};
 ghost use Rattle.quic_connection_core.specs.End.{MadeFrom};
 ghost use Rattle.quic_connection_core.specs.Headline.{IsInRange, AreStarted, AreKeys};

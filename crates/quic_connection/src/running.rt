@@ -3,7 +3,7 @@ ghost use Rattle.std.specs.Prelude.{◌≡◌, ◌++◌, [], length, ◌≤◌, 
 ghost use Rattle.quic_connection_core.specs.End.{policy_of, with_end};
 ghost use Rattle.quic_connection_core.specs.Machine.{IsAnswer, IsLeft, fails, gives, IsStep, view_of, end_view, Follows};
 ghost use Rattle.quic_connection_core.specs.Calls.{AreNexts, after_nexts};
-ghost use Rattle.quic_recovery_core.specs.Timers.{each_timer};
+ghost use Rattle.quic_time.specs.Timers.{each_timer};
 ghost use Rattle.quic_connection_core.specs.Headline.{IsHonest, OrderedPrefix, Slices, Once, EndAfterAll, BlockedOnlyWithoutBytes, AcceptsAll, FinishedMeansArrived, TellsOnce, AcknowledgedWereTaken, LossTimersFollow, NumbersRise};
 ghost use Rattle.quic_connection.specs.Ends.{world_of, first_world, policies_of, run_of};
 ghost use Rattle.quic_connection.specs.declared.running.Given.{Given};

@@ -7,7 +7,7 @@ use Rattle.quic_wire_core.specs.declared.stream_id.Dir.{Dir}
 use Rattle.quic_wire_core.specs.declared.stream_id.Dir.TheVariants.{Bi, Uni}
 use Rattle.quic_wire.specs.Value.{StreamValue}
 use Rattle.quic_recovery_core.specs.PendingAcks.{can_send}
-use Rattle.quic_recovery_core.specs.Timers.{has_come}
+use Rattle.quic_time.specs.Timers.{has_come}
 use Rattle.quic_connection_core.specs.declared.answers.State.{State}
 use Rattle.quic_connection_core.specs.declared.answers.State.TheVariants as states
 use Rattle.quic_connection_core.specs.declared.answers.StreamEvent.{StreamEvent}

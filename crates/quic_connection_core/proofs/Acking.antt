@@ -6,7 +6,7 @@ use Rattle.quic_wire_core.specs.Runs.{Run}
 use Rattle.quic_wire.specs.Value.{FrameValue}
 use Rattle.quic_recovery_core.specs.Duplicates.{Seen}
 use Rattle.quic_recovery_core.specs.PendingAcks.{Pending, after_insert, with_wait, asking_counted, after_packet, starts_wait, can_send}
-use Rattle.quic_recovery_core.specs.Timers.{has_come}
+use Rattle.quic_time.specs.Timers.{has_come}
 use Rattle.quic_recovery_core.proofs.AckRunSteps.{at_most_kept, kept_numbers}
 use Rattle.quic_connection_core.specs.declared.answers.State.{State}
 use Rattle.quic_connection_core.specs.declared.answers.State.TheVariants as states

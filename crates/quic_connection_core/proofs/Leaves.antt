@@ -1,7 +1,7 @@
 -- What a timeout and an event leave, each in one form.
 use Rattle.std.proofs.Common.{ℕ, Bool, true, false, List, [], ◌∷◌, Option, Some, None}
 use Rattle.quic_recovery_core.specs.PendingAcks.{Pending}
-use Rattle.quic_recovery_core.specs.Timers.{Timers, has_come}
+use Rattle.quic_time.specs.Timers.{Timers, has_come}
 use Rattle.quic_connection_core.specs.declared.answers.State.{State}
 use Rattle.quic_connection_core.specs.declared.answers.State.TheVariants as states
 use Rattle.quic_connection_core.specs.declared.answers.LostReason.{LostReason}

@@ -14,7 +14,7 @@ use Rattle.quic_wire.specs.declared.frame.InvalidFrame.{InvalidFrame}
 use Rattle.quic_wire.specs.declared.packet.HeaderError.{HeaderError}
 use Rattle.quic_recovery_core.specs.Duplicates.{is_duplicate}
 use Rattle.quic_recovery_core.specs.PendingAcks.{after_insert, packet_starts_wait}
-use Rattle.quic_recovery_core.specs.Timers.{Timers, has_come}
+use Rattle.quic_time.specs.Timers.{Timers, has_come}
 use Rattle.quic_connection_core.specs.declared.answers.State.{State}
 use Rattle.quic_connection_core.specs.declared.answers.State.TheVariants as states
 use Rattle.quic_connection_core.specs.declared.answers.LostReason.{LostReason}

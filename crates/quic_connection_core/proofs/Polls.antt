@@ -15,7 +15,7 @@ use Rattle.quic_connection_core.specs.Closing.{ticked}
 use Rattle.quic_connection_core.specs.Numbers.{cut_against, can_number, number_given}
 use Rattle.quic_connection_core.specs.Policy.{Policy}
 use Rattle.quic_recovery_core.specs.PendingAcks.{can_send}
-use Rattle.quic_recovery_core.specs.Timers.{Timers}
+use Rattle.quic_time.specs.Timers.{Timers}
 use Rattle.quic_connection_core.specs.Table.{at}
 use Rattle.quic_connection_core.specs.Sending.{SendHalf}
 use Rattle.quic_connection_core.specs.Tracking.{Tracking}

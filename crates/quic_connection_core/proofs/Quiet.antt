@@ -7,7 +7,7 @@ use Rattle.quic_connection_core.specs.declared.answers.WriteError.{WriteError}
 use Rattle.quic_connection_core.specs.Table.{at}
 use Rattle.quic_connection_core.specs.Policy.{Policy}
 use Rattle.quic_recovery_core.specs.PendingAcks.{can_send}
-use Rattle.quic_recovery_core.specs.Timers.{Timers}
+use Rattle.quic_time.specs.Timers.{Timers}
 use Rattle.quic_connection_core.specs.Sending.{Sending, SendHalf, opens, next_id, after_written, after_finish}
 use Rattle.quic_connection_core.specs.Receiving.{Receiving}
 use Rattle.quic_connection_core.specs.Tracking.{Tracking}

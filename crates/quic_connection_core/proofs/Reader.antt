@@ -11,7 +11,7 @@ use Rattle.quic_connection_core.specs.declared.run.Answer.{Answer}
 use Rattle.quic_connection_core.specs.declared.run.Answer.TheVariants as answers
 use Rattle.quic_connection_core.specs.declared.run.ReadCall.{ReadCall}
 use Rattle.quic_connection_core.specs.declared.run.Delivery.{Delivery}
-use Rattle.quic_recovery_core.specs.Transport.{Settings}
+use Rattle.quic_config.specs.Transport.{Settings}
 use Rattle.quic_connection_core.specs.Policy.{Policy}
 use Rattle.quic_connection_core.specs.Sending.{Sending}
 use Rattle.quic_connection_core.specs.Receiving.{Receiving}

@@ -10,7 +10,7 @@ use Rattle.quic_wire.specs.Value.{FrameValue, ack, padding, stream}
 use Rattle.quic_wire.specs.Number.{truncated}
 use Rattle.quic_streams_core.specs.declared.stream_meta.StreamMeta.{StreamMeta}
 use Rattle.quic_connection_core.specs.Numbers.{Numbers, cut_against}
-use Rattle.quic_recovery_core.specs.Timers.{has_come}
+use Rattle.quic_time.specs.Timers.{has_come}
 use Rattle.quic_connection_core.specs.declared.answers.State.{State}
 use Rattle.quic_connection_core.specs.declared.answers.State.TheVariants as states
 use Rattle.quic_connection_core.specs.declared.answers.StreamEvent.{StreamEvent}

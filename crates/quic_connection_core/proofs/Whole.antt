@@ -20,7 +20,7 @@ use Rattle.quic_connection_core.specs.Runs.{Run, Told, told_by, until, AreServed
 use Rattle.quic_connection_core.specs.Headline.{IsInRange, IsHonest, AreStarted, IsRun, OrderedPrefix, Slices, Once, EndAfterAll, BlockedOnlyWithoutBytes, AcceptsAll, FinishedMeansArrived, ToldOnce, TellsOnce, AcknowledgedWereTaken, LossTimerFollows, LossTimersFollow, NumbersRise}
 use Rattle.quic_wire.specs.Parameters.{ParameterValues}
 use Rattle.quic_wire.specs.ParametersRead.{parameters_at}
-use Rattle.quic_recovery_core.specs.Transport.{Settings, parameters_of}
+use Rattle.quic_config.specs.Transport.{Settings, parameters_of}
 use Rattle.quic_connection_core.specs.Policy.{Policy}
 use Rattle.quic_connection_core.specs.End.{End, IsMade, new_end}
 use Rattle.quic_connection_core.proofs.Writer.{streams_first, gives_first}

@@ -8,7 +8,7 @@ use Rattle.quic_connection_core.specs.declared.run.ReadCall.{ReadCall}
 use Rattle.quic_connection_core.specs.declared.run.RunEvent.{RunEvent}
 use Rattle.quic_connection_core.specs.declared.run.Call.{Call}
 use Rattle.quic_connection_core.specs.declared.run.Call.TheVariants as calls
-use Rattle.quic_recovery_core.specs.Transport.{default_settings, parameters_of}
+use Rattle.quic_config.specs.Transport.{default_settings, parameters_of}
 use Rattle.quic_connection_core.specs.Runs.{In, until, ids_of}
 use Rattle.quic_connection_core.specs.Headline.{IsInRange, Making, AreStarted, UsesOwnIds, used, IsHonest, IsRun}
 use Rattle.quic_connection_core.specs.Worked.{worked_parameters, client_id, server_id, client_made, delivers, before_sending, after_sending, server_read, hello, worked_run}

@@ -18,7 +18,7 @@ use Rattle.quic_connection_core.specs.declared.run.ReadCall.{ReadCall}
 use Rattle.quic_connection_core.specs.declared.run.Call.TheVariants as calls
 use Rattle.quic_connection_core.specs.declared.run.Answer.{Answer}
 use Rattle.quic_connection_core.specs.declared.run.Answer.TheVariants as answers
-use Rattle.quic_recovery_core.specs.Transport.{default_settings}
+use Rattle.quic_config.specs.Transport.{default_settings}
 use Rattle.quic_connection_core.specs.End.{MadeFrom}
 use Rattle.quic_connection_core.specs.Machine.{IsRead, IsStep, Follows}
 use Rattle.quic_connection_core.specs.Calls.{after_nexts}

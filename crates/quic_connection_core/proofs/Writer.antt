@@ -14,7 +14,7 @@ use Rattle.quic_connection_core.specs.declared.run.Call.{Call}
 use Rattle.quic_connection_core.specs.declared.run.Call.TheVariants as calls
 use Rattle.quic_connection_core.specs.declared.run.Answer.{Answer}
 use Rattle.quic_connection_core.specs.declared.run.Answer.TheVariants as answers
-use Rattle.quic_recovery_core.specs.Transport.{Settings}
+use Rattle.quic_config.specs.Transport.{Settings}
 use Rattle.quic_connection_core.specs.Policy.{Policy}
 use Rattle.quic_connection_core.specs.Sending.{opens}
 use Rattle.quic_connection_core.specs.End.{End, new_end}

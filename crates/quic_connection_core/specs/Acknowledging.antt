@@ -1,7 +1,7 @@
 -- What is to be acknowledged, and when (RFC 9000, section 13.2).
 use Rattle.std.specs.Prelude.{ℕ, ◌+◌, ◌-◌, ◌/◌, ◌^◌, min, Bool, cond, Option, Some, None}
 use Rattle.quic_recovery_core.specs.PendingAcks.{Pending, none_pending, delay_of}
-use Rattle.quic_recovery_core.specs.Timers.{Timers}
+use Rattle.quic_time.specs.Timers.{Timers}
 
 -- no packet came, and each may come out of order
 abbrev pub nothing_to_acknowledge : Pending

@@ -8,9 +8,9 @@ use Rattle.quic_wire.specs.ParametersRead.{parameters_at}
 use Rattle.quic_connection_core.specs.declared.answers.State.TheVariants as states
 use Rattle.quic_connection_core.specs.declared.answers.ConfigError.{ConfigError}
 use Rattle.quic_connection_core.specs.declared.answers.ConfigError.TheVariants as config_errors
-use Rattle.quic_recovery_core.specs.Transport.{Settings}
+use Rattle.quic_config.specs.Transport.{Settings}
 use Rattle.quic_recovery_core.specs.PendingAcks.{Pending}
-use Rattle.quic_recovery_core.specs.Timers.{Timers, no_timers}
+use Rattle.quic_time.specs.Timers.{Timers, no_timers}
 use Rattle.quic_connection_core.specs.declared.answers.LostReason.{LostReason}
 use Rattle.quic_connection_core.specs.Closing.{Closing, closed_for}
 use Rattle.quic_connection_core.specs.Acknowledging.{nothing_to_acknowledge, with_ack_timer}

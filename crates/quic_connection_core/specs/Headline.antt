@@ -19,7 +19,7 @@ use Rattle.quic_connection_core.specs.declared.run.Call.{Call}
 use Rattle.quic_connection_core.specs.declared.run.Call.TheVariants as calls
 use Rattle.quic_connection_core.specs.declared.run.Answer.{Answer}
 use Rattle.quic_connection_core.specs.declared.run.Answer.TheVariants as answers
-use Rattle.quic_recovery_core.specs.Transport.{Settings, parameters_of}
+use Rattle.quic_config.specs.Transport.{Settings, parameters_of}
 use Rattle.quic_connection_core.specs.Policy.{Policy, CanOpen}
 use Rattle.quic_connection_core.specs.Table.{at}
 use Rattle.quic_connection_core.specs.Tracking.{is_idle}

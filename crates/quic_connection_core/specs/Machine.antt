@@ -19,7 +19,7 @@ use Rattle.quic_connection_core.specs.Policy.{Policy}
 use Rattle.quic_connection_core.specs.End.{End}
 use Rattle.quic_connection_core.specs.Sending.{finish_answer}
 use Rattle.quic_connection_core.specs.Receiving.{read_answer}
-use Rattle.quic_recovery_core.specs.Timers.{timer_at, each_timer, next_timer}
+use Rattle.quic_time.specs.Timers.{timer_at, each_timer, next_timer}
 use Rattle.quic_connection_core.specs.Opens.{would_open}
 use Rattle.quic_connection_core.specs.Timeouts.{timed_out}
 use Rattle.quic_connection_core.specs.Calls.{end_tells, end_after_event, open_answer, after_open, end_accepts, end_after_accept, end_writes, end_after_write, end_after_finish, end_after_ping, AreNexts, after_nexts}

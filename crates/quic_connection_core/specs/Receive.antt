@@ -27,7 +27,7 @@ use Rattle.quic_connection_core.specs.Ids.{known}
 use Rattle.quic_connection_core.specs.Numbers.{expected, number_opened, number_taken, number_named}
 use Rattle.quic_recovery_core.specs.Duplicates.{Seen, is_duplicate}
 use Rattle.quic_recovery_core.specs.PendingAcks.{Pending, after_insert, after_packet, packet_starts_wait}
-use Rattle.quic_recovery_core.specs.Timers.{Timers}
+use Rattle.quic_time.specs.Timers.{Timers}
 use Rattle.quic_connection_core.specs.Acknowledging.{ack_due, with_ack_timer}
 use Rattle.quic_connection_core.specs.Receiving.{stream_breach, after_stream}
 use Rattle.quic_connection_core.specs.Policy.{Policy}

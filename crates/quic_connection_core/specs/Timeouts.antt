@@ -1,7 +1,7 @@
 -- What an end makes of a moment at which timers expire (RFC 9000, section 13.2.1; RFC 9002, section 6.2).
 use Rattle.std.specs.Prelude.{ℕ, Bool, true, false, None, Result, Ok, Err}
 use Rattle.quic_recovery_core.specs.PendingAcks.{after_timeout}
-use Rattle.quic_recovery_core.specs.Timers.{has_come}
+use Rattle.quic_time.specs.Timers.{has_come}
 use Rattle.quic_connection_core.specs.declared.answers.State.{State}
 use Rattle.quic_connection_core.specs.declared.answers.State.TheVariants as states
 use Rattle.quic_connection_core.specs.declared.answers.Failed.{Failed}

@@ -8,7 +8,7 @@ use Rattle.quic_wire_core.specs.declared.stream_id.Dir.TheVariants.{Bi}
 use Rattle.quic_wire_core.specs.declared.shared.EcnCodepoint.TheVariants.{Ect0}
 use Rattle.quic_wire_core.specs.Runs as wire_runs
 use Rattle.quic_recovery_core.specs.PendingAcks.{Pending}
-use Rattle.quic_recovery_core.specs.Timers.{Timers}
+use Rattle.quic_time.specs.Timers.{Timers}
 use Rattle.quic_wire.specs.Value.{StreamValue}
 use Rattle.quic_wire.specs.Number.{truncated, number_bytes}
 use Rattle.quic_wire.specs.Datagram.{datagram_of, sent}

@@ -4,8 +4,8 @@ ghost use Rattle.std.specs.Prelude.{◌≡◌, ◌-◌, ◌^◌, ◌∷◌, ◌+
 ghost use Rattle.quic_wire_core.specs.TransportError.{plain_error};
 ghost use Rattle.quic_wire_core.specs.declared.shared.EcnCodepoint.TheVariants.{Ect0};
 ghost use Rattle.quic_wire.specs.Value.{ack, ping};
-ghost use Rattle.quic_recovery_core.specs.Timers.{timer_at, next_timer};
-ghost use Rattle.quic_recovery_core.specs.declared.timer.Timer.TheVariants.{MaxAckDelay, LossDetection};
+ghost use Rattle.quic_time.specs.Timers.{timer_at, next_timer};
+ghost use Rattle.quic_time.specs.declared.timer.Timer.TheVariants.{MaxAckDelay, LossDetection};
 ghost use Rattle.quic_connection_core.specs.declared.answers.Event.TheVariants as events;
 ghost use Rattle.quic_connection_core.specs.declared.answers.LostReason.TheVariants.{NumberLimit, Transport};
 ghost use Rattle.quic_connection_core.specs.declared.answers.Received.TheVariants as receives;

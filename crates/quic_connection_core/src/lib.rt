@@ -15,7 +15,8 @@ pub use answers::{
     Breach, ConfigError, DropReason, Event, Failed, FinishError, LostReason, ReadError,
     ReadableError, Received, State, StreamEvent, Transmit, WriteError,
 };
-pub use quic_recovery_core::{IdleTimeout, Instant, Timer, TransportConfig};
+pub use quic_config::{IdleTimeout, TransportConfig};
+pub use quic_time::{Instant, Timer};
 pub use run::{
     Answer, Call, Datagram, Delivery, EndView, Injection, Nexts, ReadCall, RunEvent, View,
 };

@@ -6,8 +6,8 @@ use crate::answers::{
     WriteError,
 };
 use bytes::Bytes;
-use quic_recovery_core::{Instant, Timer};
 use quic_streams_core::Chunk;
+use quic_time::{Instant, Timer};
 use quic_wire_core::{Dir, EcnCodepoint, Side, StreamId};
 use std::alloc::AllocError;
 use std::marker::Model;

@@ -26,7 +26,7 @@ ghost use Rattle.quic_connection_core.specs.declared.answers.Received.TheVariant
 ghost use Rattle.quic_connection_core.specs.declared.run.ReadCall.{ReadCall};
 ghost use Rattle.quic_connection_core.specs.declared.run.Call.TheVariants as calls;
 ghost use Rattle.quic_connection_core.specs.declared.run.Answer.TheVariants as answers;
-ghost use Rattle.quic_recovery_core.specs.Transport.{default_settings};
+ghost use Rattle.quic_config.specs.Transport.{default_settings};
 ghost use Rattle.quic_recovery_core.specs.Duplicates.{is_duplicate};
 ghost use Rattle.quic_recovery_core.specs.DuplicateRuns.{seen_after};
 ghost use Rattle.quic_connection_core.specs.Sending.{finish_answer};

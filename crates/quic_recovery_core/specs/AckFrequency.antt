@@ -6,7 +6,7 @@ use Rattle.quic_wire_core.specs.TransportError.{ErrorValue, plain_error, protoco
 use Rattle.quic_wire.specs.Parameters.{ParameterValues}
 use Rattle.quic_wire.specs.declared.frame.AckFrequency.{AckFrequency}
 use Rattle.quic_recovery_core.specs.declared.ack_frequency.Request.{Request}
-use Rattle.quic_recovery_core.specs.Configs.{FrequencySettings}
+use Rattle.quic_config.specs.Configs.{FrequencySettings}
 
 -- the request in flight, by its packet and the delay that it asks for; the number of the next frame; the delay that the
 -- peer keeps to, as far as this end knows; the greatest number of a frame of the peer; and the delay that this end keeps to

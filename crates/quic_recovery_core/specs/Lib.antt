@@ -1,26 +1,9 @@
 -- The definitions of this crate.
-pub mod Bursts
-pub mod BurstsLaw
-pub mod Configs
-pub mod Clocks
-pub mod Rtt
-pub mod Timers
-pub mod TimerSlots
-pub mod Congestion
-pub mod NewReno
-pub mod NewRenoLaw
 pub mod Duplicates
 pub mod DuplicateBits
 pub mod DuplicateRuns
 pub mod PendingAcks
 pub mod AckRuns
-pub mod Pacer
-pub mod Transport
-pub mod Passing
-pub mod Places
-pub mod Search
-pub mod SearchBounds
-pub mod SearchLaw
 pub mod AckSteps
 pub mod CidQueue
 pub mod AckFrequency

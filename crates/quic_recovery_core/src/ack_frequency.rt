@@ -2,8 +2,8 @@
 ghost use Rattle.std.specs.Prelude.{◌≡◌, ◌+◌, ◌*◌, ◌-◌, ◌^◌, ◌<◌, min, Some};
 ghost use Rattle.quic_recovery_core.specs.AckFrequency.{micros, initial_frequency, least_delay, candidate, asked, longest_delay, differs, should_ask, after_acked, is_stale, after_received, received_answer};
 
-use crate::config::ack_frequency::AckFrequencyConfig;
-use crate::instant::Duration;
+use quic_config::AckFrequencyConfig;
+use quic_time::Duration;
 use quic_wire::TransportParameters;
 use quic_wire::frame::AckFrequency;
 use quic_wire_core::{Code, Reason, TransportError, VarInt};

@@ -3,7 +3,7 @@ ghost use Rattle.std.specs.Prelude.{◌≡◌, ◌<◌, OnOk, OnErr, IfOk};
 ghost use Rattle.std.specs.VecDeque.{deque_len, deque_capacity};
 ghost use Rattle.quic_recovery_core.specs.CidState.{expiry, with_batch, below, first_batches, initial_ids, living_with, some_within, behind, after_new, after_retirement, retirement_answer, first_expiry, after_timeout, timeout_answer, is_in};
 
-use crate::instant::{Duration, Instant};
+use quic_time::{Duration, Instant};
 use quic_wire_core::{Code, IssuedCid, Reason, TransportError};
 use std::alloc::{AllocError, Global};
 use std::collections::{BTreeSet, VecDeque};

@@ -3,9 +3,5 @@
 pub mod ack_frequency;
 pub mod cid_queue;
 pub mod cid_state;
-pub mod clocks;
-pub mod congestion;
 pub mod dedup;
-pub mod mtud;
-pub mod pacing;
 pub mod pending_acks;

@@ -1,4 +1,6 @@
-use quic_recovery_core::{AckFrequencyConfig, AckFrequencyState, Duration};
+use quic_config::AckFrequencyConfig;
+use quic_recovery_core::AckFrequencyState;
+use quic_time::Duration;
 use quic_wire::TransportParameters;
 use quic_wire_core::VarInt;
 

@@ -1,5 +1,6 @@
 use Step::{Expire, Issue, Refuse, Retire, Show};
-use quic_recovery_core::{CidState, Duration, Instant};
+use quic_recovery_core::CidState;
+use quic_time::{Duration, Instant};
 use quic_wire_core::{ConnectionId, IssuedCid, ResetToken};
 use std::alloc::AllocError;
 use std::process::Abort;

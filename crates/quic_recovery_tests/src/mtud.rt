@@ -1,5 +1,7 @@
 use Step::{Ack, Hole, Limit, Lose, Poll, Reset, Rest, Search};
-use quic_recovery_core::{Instant, MtuDiscovery, MtuDiscoveryConfig};
+use quic_config::MtuDiscoveryConfig;
+use quic_congestion::MtuDiscovery;
+use quic_time::Instant;
 use std::process::Abort;
 
 #[derive(Clone, Copy)]

@@ -1,4 +1,5 @@
-use quic_recovery_core::{Controller, ControllerFactory, Instant, NewRenoConfig};
+use quic_congestion::{Controller, ControllerFactory, NewRenoConfig};
+use quic_time::Instant;
 use std::process::Abort;
 use std::test::Fail;
 

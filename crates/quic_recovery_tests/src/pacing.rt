@@ -1,4 +1,5 @@
-use quic_recovery_core::{Duration, Instant, Pacer};
+use quic_congestion::Pacer;
+use quic_time::{Duration, Instant};
 use std::process::Abort;
 
 fn trip() -> Duration {

@@ -1,5 +1,6 @@
 use Step::{Ask, Delay, Due, Put, Require, Send, Wait};
-use quic_recovery_core::{Dedup, Duration, Instant, PendingAcks};
+use quic_recovery_core::{Dedup, PendingAcks};
+use quic_time::{Duration, Instant};
 use quic_wire::frame::AckFrequency;
 use quic_wire_core::VarInt;
 use std::alloc::AllocError;

@@ -1,4 +1,4 @@
-use quic_recovery_core::{Duration, RttEstimator};
+use quic_time::{Duration, RttEstimator};
 
 // 7/8 of 100 ms and 1/8 of 60 ms; 95 ms and four times 3/4 of 50 ms and 1/4 of 40 ms.
 #[test]

@@ -10,7 +10,7 @@ use Rattle.quic_connection_core.specs.declared.answers.ConfigError.{ConfigError}
 use Rattle.quic_connection_core.specs.declared.answers.ConfigError.TheVariants as config_errors
 use Rattle.quic_connection_core.specs.declared.run.RunEvent.{RunEvent}
 use Rattle.quic_connection_core.specs.declared.run.Answer.{Answer}
-use Rattle.quic_recovery_core.specs.Transport.{Settings, settings_with, parameters_of}
+use Rattle.quic_config.specs.Transport.{Settings, settings_with, parameters_of}
 use Rattle.quic_connection_core.specs.End.{End, MadeFrom, refusal_of}
 use Rattle.quic_connection_core.specs.Machine.{World, Policies, IsStep, given_by, end_at, changed, gives, policy_at}
 use Rattle.quic_run_core.specs.declared.options.Options.{Options}

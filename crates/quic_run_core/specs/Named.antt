@@ -11,8 +11,8 @@ use Rattle.quic_wire_core.specs.declared.stream_id.Dir.{Dir}
 use Rattle.quic_wire_core.specs.declared.stream_id.Dir.TheVariants.{Bi, Uni}
 use Rattle.quic_wire_core.specs.declared.shared.EcnCodepoint.{EcnCodepoint}
 use Rattle.quic_wire_core.specs.declared.shared.EcnCodepoint.TheVariants.{Ect0, Ect1, Ce}
-use Rattle.quic_recovery_core.specs.declared.timer.Timer.{Timer}
-use Rattle.quic_recovery_core.specs.declared.timer.Timer.TheVariants.{LossDetection, Idle, Close, KeyDiscard, PathValidation, KeepAlive, Pacing, PushNewCid, MaxAckDelay}
+use Rattle.quic_time.specs.declared.timer.Timer.{Timer}
+use Rattle.quic_time.specs.declared.timer.Timer.TheVariants.{LossDetection, Idle, Close, KeyDiscard, PathValidation, KeepAlive, Pacing, PushNewCid, MaxAckDelay}
 
 -- the end that a word names
 abbrev pub side_named : List ℕ → Option Side

@@ -4,7 +4,7 @@ use Rattle.std.specs.List.{slice_split}
 use Rattle.quic_wire_core.specs.declared.stream_id.Side.{Side}
 use Rattle.quic_wire_core.specs.declared.stream_id.Side.TheVariants.{Client, Server}
 use Rattle.quic_wire_core.specs.StreamId.{other_side}
-use Rattle.quic_recovery_core.specs.Transport.{settings_with, default_transport, parameters_of}
+use Rattle.quic_config.specs.Transport.{settings_with, default_transport, parameters_of}
 use Rattle.quic_connection_core.specs.End.{End, new_end}
 use Rattle.quic_connection_core.specs.Machine.{World, IsStep, given_by}
 use Rattle.quic_connection_core.specs.declared.run.RunEvent.{RunEvent}

@@ -7,7 +7,8 @@ ghost use Rattle.quic_recovery_core.specs.PendingAcks.{after_insert, after_packe
 ghost use Rattle.quic_connection_core.specs.Acknowledging.{nothing_to_acknowledge, ack_due, delay_at};
 ghost use Rattle.quic_connection.specs.Frames.{ack_at, most_ack_bytes};
 
-use quic_recovery_core::{Dedup, Instant, PendingAcks};
+use quic_recovery_core::{Dedup, PendingAcks};
+use quic_time::Instant;
 use quic_wire::frame::{Ack, AckFrequency};
 use quic_wire_core::{ArrayRangeSet, VarInt};
 use std::alloc::{AllocError, Global};

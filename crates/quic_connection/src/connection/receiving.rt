@@ -3,7 +3,7 @@ ghost use Rattle.std.specs.Prelude.{◌≡◌, ◌≢◌, ◌+◌, ◌≤◌, �
 ghost use Rattle.quic_wire.specs.Items.{items};
 ghost use Rattle.quic_wire.specs.Destination.{decoded, fixed_length_id};
 ghost use Rattle.quic_connection_core.specs.Ids.{known};
-ghost use Rattle.quic_recovery_core.specs.Timers.{no_timers};
+ghost use Rattle.quic_time.specs.Timers.{no_timers};
 ghost use Rattle.quic_wire.specs.Value.{stream};
 ghost use Rattle.quic_wire.specs.FrameView.{stream_view, frame_view, item_view};
 ghost use Rattle.quic_connection_core.specs.End.{with_end, policy_of, closed_by, HasFailed};

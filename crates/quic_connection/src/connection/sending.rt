@@ -9,7 +9,7 @@ ghost use Rattle.quic_wire.specs.Value.{ack, ping};
 ghost use Rattle.quic_wire.specs.Writing.{spelling, frame_size};
 ghost use Rattle.quic_recovery_core.specs.declared.spaces.pending_acks.TheConstants.{MAX_ACK_RUNS};
 ghost use Rattle.quic_recovery_core.specs.PendingAcks.{can_send, is_filled};
-ghost use Rattle.quic_recovery_core.specs.Timers.{no_timers};
+ghost use Rattle.quic_time.specs.Timers.{no_timers};
 ghost use Rattle.quic_connection_core.specs.End.{with_end, with_numbers, policy_of, HasFailed};
 ghost use Rattle.quic_connection_core.specs.Numbers.{can_number, cut_against, number_given};
 ghost use Rattle.quic_connection_core.specs.Tracking.{carried_in, meta_of};

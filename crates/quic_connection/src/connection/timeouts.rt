@@ -1,6 +1,6 @@
 //! Timers of an end, and what the application is told.
 ghost use Rattle.std.specs.Prelude.{◌≡◌, OnErr};
-ghost use Rattle.quic_recovery_core.specs.Timers.{timer_at, next_timer, has_come};
+ghost use Rattle.quic_time.specs.Timers.{timer_at, next_timer, has_come};
 ghost use Rattle.quic_connection_core.specs.End.{with_end, HasFailed};
 ghost use Rattle.quic_connection_core.specs.Calls.{end_tells, end_after_event};
 ghost use Rattle.quic_connection_core.specs.Timeouts.{timed_out, loss_expired, acks_expired};

@@ -3,8 +3,8 @@ ghost use Rattle.std.specs.Prelude.{◌≡◌, ◌≤◌, ◌^◌, ◌++◌, ◌
 ghost use Rattle.quic_connection_core.specs.Tracking.{nothing_tracked, is_idle, after_sent, loss_moment, most_doublings, after_loss_timeout, acked_by, not_acked_by, lost_below, kept_above, after_answered};
 ghost use Rattle.quic_connection.specs.Tracked.{Ascends, packets_in, within, outside, among, apart_from, Descends, PopsLost};
 
-use quic_recovery_core::Instant;
 use quic_streams_core::StreamMeta;
+use quic_time::Instant;
 use quic_wire::frame::{Ack, AckIter};
 use std::alloc::{AllocError, Global};
 use std::collections::BTreeMap;

@@ -2,7 +2,7 @@
 ghost use Rattle.std.specs.Prelude.{◌≡◌, ℕ, ◌≤◌, true};
 ghost use Rattle.quic_wire.specs.Parameters.{ParameterValues};
 ghost use Rattle.quic_wire.specs.declared.frame.AckFrequency.{AckFrequency};
-ghost use Rattle.quic_recovery_core.specs.Configs.{FrequencySettings};
+ghost use Rattle.quic_config.specs.Configs.{FrequencySettings};
 ghost use Rattle.quic_recovery_core.specs.AckFrequency.{Frequency, least_delay, candidate, longest_delay, granularity, is_stale, after_received};
 
 /// The peer is never asked for less than it allows.

@@ -1,4 +1,4 @@
-use Rattle.quic_recovery_core.proofs.SettingsRange.{in_range_with}
+use Rattle.quic_config.proofs.SettingsRange.{in_range_with}
 use Rattle.quic_connection.proofs.config.Config.parameters.Goals as goal
 
 pub returns-else-self-clause-in_range : goal.returns-else-self-clause-in_range

@@ -2,7 +2,7 @@ use Rattle.std.proofs.Common.{◌≡◌, refl, sym, subst}
 use Rattle.std.proofs.lemmas.Result.{err_from_is_err_and}
 use Rattle.quic_wire.specs.declared.crypto.Keys.{Keys}
 use Rattle.quic_wire.specs.ParametersWritten.{written_parameters}
-use Rattle.quic_recovery_core.specs.Transport.{parameters_of}
+use Rattle.quic_config.specs.Transport.{parameters_of}
 use Rattle.quic_connection_core.specs.Policy.{Policy}
 use Rattle.quic_connection_core.specs.Headline.{IsLawful, AreKeys}
 use Rattle.quic_connection.specs.Ends.{keys_policy, in_order}

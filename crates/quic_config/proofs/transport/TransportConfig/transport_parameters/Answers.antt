@@ -1,0 +1,11 @@
+use Rattle.quic_config.proofs.SettingsRange.{in_range}
+use Rattle.quic_config.proofs.transport.TransportConfig.transport_parameters.Goals as goal
+
+pub returns-clause-in_range : goal.returns-clause-in_range
+returns-clause-in_range c =
+    in_range c.args.self.now
+    (rw (← c.self.view_is) c.milliseconds.ensures.bound)
+    (rw (← c.self.view_is) c.bounded.ensures.bound)
+    (rw (← c.self.view_is) c.bounded-stream_window.ensures.bound)
+    (rw (← c.self.view_is) c.self.invariant.bidi)
+    (rw (← c.self.view_is) c.self.invariant.uni)

@@ -1,0 +1,10 @@
+//! What an end of a connection is configured with, and what its peer is told of it (RFC 9000, section 18.2).
+#![tactic(auto)]
+
+mod ack_frequency;
+mod mtu_discovery;
+mod transport;
+
+pub use ack_frequency::AckFrequencyConfig;
+pub use mtu_discovery::MtuDiscoveryConfig;
+pub use transport::{IdleTimeout, TransportConfig};

@@ -1,5 +1,0 @@
-use Rattle.quic_recovery_core.proofs.RttLaws.{all_taken}
-use Rattle.quic_recovery_core.proofs.laws.clocks.estimates_are_over_all_samples.Goals as goal
-
-pub returns : goal.returns
-returns c = all_taken

@@ -1,5 +1,0 @@
-use Rattle.quic_recovery_core.proofs.TimerLaws.{same_table}
-use Rattle.quic_recovery_core.proofs.laws.clocks.tables_are_their_moments.Goals as goal
-
-pub returns : goal.returns
-returns c = same_table

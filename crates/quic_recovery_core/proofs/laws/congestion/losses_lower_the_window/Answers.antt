@@ -1,5 +1,0 @@
-use Rattle.quic_recovery_core.proofs.Windows.{lost_most}
-use Rattle.quic_recovery_core.proofs.laws.congestion.losses_lower_the_window.Goals as goal
-
-pub returns : goal.returns
-returns c = lost_most

@@ -1,5 +1,0 @@
-use Rattle.quic_recovery_core.proofs.Histories.{reno_room}
-use Rattle.quic_recovery_core.proofs.laws.congestion.new_reno_keeps_room.Goals as goal
-
-pub returns : goal.returns
-returns c = λ s now size calls. reno_room s now size calls

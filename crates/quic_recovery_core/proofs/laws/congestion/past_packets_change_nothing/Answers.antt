@@ -1,8 +1,0 @@
-use Rattle.quic_recovery_core.proofs.Windows.{past_acked, past_lost}
-use Rattle.quic_recovery_core.proofs.laws.congestion.past_packets_change_nothing.Goals as goal
-
-pub returns-clause-acked : goal.returns-clause-acked
-returns-clause-acked c = past_acked
-
-pub returns-clause-lost : goal.returns-clause-lost
-returns-clause-lost c = past_lost

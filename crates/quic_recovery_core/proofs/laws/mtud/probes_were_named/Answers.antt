@@ -1,5 +1,0 @@
-use Rattle.quic_recovery_core.proofs.NamedSizes.{named_over}
-use Rattle.quic_recovery_core.proofs.laws.mtud.probes_were_named.Goals as goal
-
-pub returns : goal.returns
-returns c = named_over

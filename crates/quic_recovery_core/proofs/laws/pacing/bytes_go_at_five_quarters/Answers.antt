@@ -1,5 +1,0 @@
-use Rattle.quic_recovery_core.proofs.PacerRate.{sent_most}
-use Rattle.quic_recovery_core.proofs.laws.pacing.bytes_go_at_five_quarters.Goals as goal
-
-pub returns : goal.returns
-returns c = sent_most

@@ -1,8 +1,0 @@
-use Rattle.quic_recovery_core.proofs.PacerLaws.{waits, later}
-use Rattle.quic_recovery_core.proofs.laws.pacing.bytes_wait_for_tokens.Goals as goal
-
-pub returns-clause-waits : goal.returns-clause-waits
-returns-clause-waits c = waits
-
-pub returns-clause-later : goal.returns-clause-later
-returns-clause-later c = later

@@ -1,5 +1,0 @@
-use Rattle.quic_recovery_core.proofs.PacerLaws.{fold-after_datagram}
-use Rattle.quic_recovery_core.proofs.laws.pacing.tokens_are_bytes.Goals as goal
-
-pub returns : goal.returns
-returns c = fold-after_datagram

@@ -1,0 +1,2 @@
+pub mod RttLaws
+pub mod TimerLaws

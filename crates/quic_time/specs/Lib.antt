@@ -1,0 +1,5 @@
+-- The definitions of this crate.
+pub mod Clocks
+pub mod Rtt
+pub mod Timers
+pub mod TimerSlots
