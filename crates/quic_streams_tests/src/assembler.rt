@@ -34,7 +34,10 @@ fn take(rt: &impl Abort, assembler: &mut Assembler, step: Step) -> Result<(), Al
             assembler.insert(offset, bytes)?;
         }
         Read(max, offset, bytes) => is_chunk(rt, assembler.read(max)?, offset, bytes),
-        Wait => assert!(rt; assembler.read(32)?.is_none()),
+        Wait => {
+            assert!(rt; !assembler.has_next());
+            assert!(rt; assembler.read(32)?.is_none());
+        }
         Begin(ordered, may) => {
             assert_eq!(rt; assembler.ensure_ordering(ordered).is_ok(), may);
         }
