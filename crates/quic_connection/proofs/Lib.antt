@@ -13,3 +13,4 @@ pub mod ReadAnswers
 pub mod Runs
 mod Pairs
 mod Lost
+pub mod Talking

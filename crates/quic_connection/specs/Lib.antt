@@ -9,3 +9,4 @@ pub mod Lending
 pub mod Lacking
 pub mod Views
 pub mod Tracked
+pub mod Settled

@@ -7,6 +7,7 @@ mod connection;
 mod handles;
 mod pair;
 mod running;
+mod settling;
 mod streams;
 
 pub use config::Config;
@@ -20,3 +21,4 @@ pub use quic_connection_core::{
 };
 pub use quic_streams_core::{Chunk, ShouldTransmit};
 pub use running::{Ends, Given, Outcome, run, step};
+pub use settling::settle;

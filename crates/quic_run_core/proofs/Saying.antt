@@ -1,6 +1,6 @@
 -- How the words of a line are read, one after another.
-use Rattle.std.proofs.Common.{◌≡◌, ℕ, ◌+◌, ◌<◌, ◌^◌, ◌==◌, List, [], ◌∷◌, length, drop, Bool, true, false, cond, not, ◌&&◌, nat_lt, if◌then◌else◌, Option, Some, None, Result, Ok, Err, ok_or, refl, arith}
-use Rattle.std.specs.List.{slice_split, onto_first, position_or_len, before_first, after_first}
+use Rattle.std.proofs.Common.{◌≡◌, ℕ, ◌+◌, ◌<◌, ◌^◌, ◌==◌, List, [], ◌∷◌, length, drop, Bool, true, false, cond, not, ◌&&◌, nat_lt, if◌then◌else◌, Option, Some, None, Ok, ok_or, refl, arith}
+use Rattle.std.specs.List.{onto_first, position_or_len, before_first, after_first}
 use Rattle.std.specs.Option.{SomeIff, option_map}
 use Rattle.std.specs.Str.{all_ascii_digits, is_utf8, IsUtf8}
 use Rattle.std.specs.Str.Parse.{IsNumeral, digits_value}
@@ -9,8 +9,7 @@ use Rattle.std.proofs.lemmas.Bool.{ltb-true, lt-ltb}
 use Rattle.std.proofs.lemmas.Str.{IsUtf8-from_is_utf8}
 use Rattle.std.proofs.lemmas.Str.Parse.{IsNumeralModel, numerals_by_value, tells_all_ascii_digits}
 use Rattle.quic_wire_core.specs.declared.stream_id.Side.{Side}
-use Rattle.quic_run_core.specs.Named.{side_named}
-use Rattle.quic_run_core.specs.Language.{Command, words, ends, first, one, number_named, at_side, command_said, words_said, is_skipped, said}
+use Rattle.quic_run_core.specs.Language.{words, ends, first, one, number_named, command_said, end_said, words_said, is_skipped, said}
 
 -- a blank
 abbrev is_blank : ℕ → Bool
@@ -69,18 +68,8 @@ number_named-from word None h =
     go false b d f = refl
 
 -- the words behind the name of an end are asked of that end
-pub words_said-at : {E : Type 0} (e : E) (ws : List (List ℕ)) (side : Side) (name : List ℕ) (args : List (List ℕ)) → Ok side ≡ ok_or (first side_named ws) e → drop 1 ws ≡ name ∷ args → words_said ws ≡ command_said side name args
-words_said-at e [] side name args h r = absurd cc
-words_said-at e (w ∷ []) side name args h r = absurd cc
-words_said-at e (w ∷ v ∷ vs) side name args h r = go (side_named w) h
-  where
-    go : (o : Option Side) → Ok side ≡ ok_or o e → at_side o v vs ≡ command_said side name args
-    go None h = absurd cc
-    go (Some s) h =
-        let same : s ≡ side = cc in
-        let named : v ≡ name = cc in
-        let others : vs ≡ args = cc in
-        rw (same, named, others) refl
+pub end_said-at : (named : Option Side) (ws : List (List ℕ)) (side : Side) (name : List ℕ) (args : List (List ℕ)) → named ≡ Some side → ws ≡ name ∷ args → end_said named ws ≡ command_said side name args
+end_said-at named ws side name args is words = rw (is, words) refl
 
 -- what is made of just one word stands where that word was read and none is left
 pub one-read : {A B E : Type 0} (make : A → B) (f : List ℕ → Option A) (e : E) (ws : List (List ℕ)) (a : A) → Ok a ≡ ok_or (first f ws) e → one make f ws ≡ ends (drop 1 ws) (Some (make a))

@@ -1,5 +1,5 @@
 -- What a line of a script asks for.
-use Rattle.std.specs.Prelude.{ℕ, ◌≡◌, ◌<◌, ◌^◌, Bool, true, false, ◌==◌, ◌&&◌, nat_lt, if◌then◌else◌, List, [], ◌∷◌, length, codes, Option, Some, None, Result, Ok, Err}
+use Rattle.std.specs.Prelude.{ℕ, ◌≡◌, ◌^◌, Bool, true, false, ◌==◌, ◌&&◌, nat_lt, if◌then◌else◌, List, [], ◌∷◌, length, codes, Option, Some, None, Result, Ok, Err}
 use denote.Ref.{Bor}
 use Rattle.std.specs.Cmp.Lexicographic.{pointwise}
 use Rattle.std.specs.Prelude.{nat_eq}
@@ -48,6 +48,8 @@ pub data Command : Type 0 where
   sets : Side → Setting → Command
   asks : Side → Asked → Command
   shows : Side → ℕ → Command
+  -- both ends talk from a moment on
+  settles : ℕ → Command
 
 -- ---- words
 
@@ -161,16 +163,18 @@ command_said side name args =
     else (if is_word name (codes "show") then one (shows side) number_named args
     else option_map (asks side) (call_said name args))
 
--- the same, where there is an end
-abbrev pub at_side : Option Side → List ℕ → List (List ℕ) → Option Command
-at_side None name args = None
-at_side (Some side) name args = command_said side name args
+-- the same, where there are an end and a word
+abbrev pub end_said : Option Side → List (List ℕ) → Option Command
+end_said None more = None
+end_said (Some side) [] = None
+end_said (Some side) (name ∷ args) = command_said side name args
 
--- what a line's words ask for: an end's name is first, and then what is asked of it
+-- what a line's words ask for: `settle` and a moment, or an end's name and then what is asked of it
 abbrev pub words_said : List (List ℕ) → Option Command
 words_said [] = None
-words_said (end ∷ []) = None
-words_said (end ∷ name ∷ args) = at_side (side_named end) name args
+words_said (word ∷ more) =
+    if is_word word (codes "settle") then one settles number_named more
+    else end_said (side_named word) more
 
 -- whether a line is empty, or a comment, which begins with `#`
 abbrev pub is_skipped : List ℕ → Bool
@@ -215,6 +219,7 @@ command_of lines.Empty = nothing
 command_of (lines.Set side setting) = sets side setting
 command_of (lines.Call event) = asks event.side (asked_of event.call)
 command_of (lines.Show side index) = shows side index
+command_of (lines.Settle now) = settles now
 
 -- What was read of a line's words, with those that are left: the whole names it where none are left, and nothing else. A bad command: the whole names nothing.
 abbrev pub Reads : {T A : Type 0} → Result T LineError → (T → A) → Option A → List (List ℕ) → Type 0

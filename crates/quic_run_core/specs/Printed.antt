@@ -11,7 +11,6 @@ use Rattle.quic_connection_core.specs.declared.answers.FinishError.{FinishError}
 use Rattle.quic_connection_core.specs.declared.answers.FinishError.TheVariants as finishes
 use Rattle.quic_connection_core.specs.declared.answers.ReadError.{ReadError}
 use Rattle.quic_connection_core.specs.declared.answers.ReadError.TheVariants as reads
-use Rattle.quic_connection_core.specs.declared.answers.ReadableError.{ReadableError}
 use Rattle.quic_connection_core.specs.declared.answers.ReadableError.TheVariants as readables
 use Rattle.quic_connection_core.specs.declared.answers.DropReason.{DropReason}
 use Rattle.quic_connection_core.specs.declared.answers.DropReason.TheVariants as drops
@@ -129,6 +128,11 @@ abbrev pub event_text : Option Event → List ℕ
 event_text (Some (events.Stream (happenings.Finished id))) = coded_text (codes "finished") id
 event_text (Some (events.Lost reason)) = codes "lost " ++ loss_text reason
 event_text None = codes "none"
+
+-- the moment at which both ends rest, if they do
+abbrev pub rest_text : Option ℕ → List ℕ
+rest_text (Some moment) = decimal moment
+rest_text None = codes "gave up"
 
 -- ---- any answer
 

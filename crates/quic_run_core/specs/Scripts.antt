@@ -1,5 +1,6 @@
 -- What a script does: its lines in turn, each with what it prints.
-use Rattle.std.specs.Prelude.{◌≡◌, ◌==◌, ℕ, true, List, [], ◌∷◌, ◌++◌, length, replicate, codes, Option, Some, None, IsSome}
+use Rattle.std.specs.Prelude.{◌≡◌, ◌≤◌, ◌==◌, ℕ, true, List, [], ◌∷◌, ◌++◌, length, replicate, codes, Option, Some, None, IsSome, IfSome, Ok}
+use Rattle.std.specs.declared.alloc.AllocError.{AllocError}
 use Rattle.std.specs.List.{slice_split}
 use Rattle.quic_wire_core.specs.declared.stream_id.Side.{Side}
 use Rattle.quic_wire_core.specs.declared.stream_id.Side.TheVariants.{Client, Server}
@@ -9,13 +10,14 @@ use Rattle.quic_connection_core.specs.End.{End, new_end}
 use Rattle.quic_connection_core.specs.Machine.{World, IsStep, given_by}
 use Rattle.quic_connection_core.specs.declared.run.RunEvent.{RunEvent}
 use Rattle.quic_connection_core.specs.declared.run.Answer.{Answer}
+use Rattle.quic_connection.specs.Settled.{AreAtRest, Settles}
 use Rattle.quic_run_core.specs.declared.options.Options.{Options}
 use Rattle.quic_run_core.specs.declared.script.Setting.{Setting}
 use Rattle.quic_run_core.specs.declared.script.Setting.TheVariants.{ReceiveWindow, StreamWindow, SendWindow, Word}
 use Rattle.quic_run_core.specs.Policies.{plain_policies}
-use Rattle.quic_run_core.specs.Printed.{call_text, answer_text}
+use Rattle.quic_run_core.specs.Printed.{call_text, rest_text, answer_text}
 use Rattle.quic_run_core.specs.Shown.{shown_text}
-use Rattle.quic_run_core.specs.Language.{Command, Asked, nothing, sets, asks, shows, opens, accepts, writes, finishes, reads, polls, delivers, others, asked_of, said}
+use Rattle.quic_run_core.specs.Language.{Command, Asked, nothing, sets, asks, shows, settles, asked_of, said}
 
 -- ---- options
 
@@ -54,6 +56,19 @@ pub record IsTold (w : World) (event : RunEvent) (text : List ℕ) (next : World
 -- an event's answer is appended to a text
 abbrev pub Tells : World → RunEvent → List ℕ → List ℕ → World → Type 0
 Tells w event old new next = (text : List ℕ) × IsTold w event text next × (new ≡ old ++ text)
+
+-- What is printed where two ends talk from a moment on, and the world behind it: a moment, not before that one, at which both rest, or that they were
+-- given up.
+pub record IsSettled (w : World) (now : ℕ) (text : List ℕ) (next : World) : Type 0 where
+  pub answer : Option ℕ
+  pub talk : Settles {E = AllocError} plain_policies w (Ok answer) next
+  pub rest : IfSome answer (λ _. AreAtRest next)
+  pub later : IfSome answer (λ moment. now ≤ moment)
+  pub is : text ≡ rest_text answer
+
+-- what comes of a talk is appended to a text
+abbrev pub TellsRest : World → ℕ → List ℕ → List ℕ → World → Type 0
+TellsRest w now old new next = (text : List ℕ) × IsSettled w now text next × (new ≡ old ++ text)
 
 -- ---- a line
 
@@ -113,12 +128,21 @@ pub record IsCall (side : Side) (asked : Asked) (s : Stage) (text : List ℕ) (t
   pub line : text ≡ line_text side (call_text event.call) answer
   pub after : t ≡ with_world next s
 
+-- Both ends settle: the line has its first word and what comes of it.
+pub record IsSettling (now : ℕ) (s : Stage) (text : List ℕ) (t : Stage) : Type 0 where
+  pub answer : List ℕ
+  pub next : World
+  pub settled : IsSettled (world_at s) now answer next
+  pub line : text ≡ codes "settle " ++ (answer ++ line_feed)
+  pub after : t ≡ with_world next s
+
 -- What a command prints, and the stage behind it. An option is set before the ends are made.
 abbrev pub IsDone : Command → Stage → List ℕ → Stage → Type 0
 IsDone nothing s text t = (text ≡ []) × (t ≡ s)
 IsDone (sets side setting) s text t = (s.world ≡ None) × (text ≡ line_text side (codes "set") (codes "ok")) × (t ≡ with_option side setting s)
 IsDone (asks side asked) s text t = IsCall side asked s text t
 IsDone (shows side index) s text t = (text ≡ line_text side (codes "show") (shown_text side (given_by side (world_at s)) index)) × (t ≡ with_world (world_at s) s)
+IsDone (settles now) s text t = IsSettling now s text t
 
 -- what a line prints, and the stage behind it, by what it asks for
 abbrev pub Does : Option Command → Stage → List ℕ → Stage → Type 0
@@ -132,6 +156,7 @@ IsRefused (Some nothing) s = ⊥
 IsRefused (Some (sets side setting)) s = IsSome s.world
 IsRefused (Some (asks side asked)) s = ⊥
 IsRefused (Some (shows side index)) s = ⊥
+IsRefused (Some (settles now)) s = ⊥
 
 -- ---- a script
 

@@ -1,6 +1,6 @@
 //! What is printed of an answer.
 ghost use Rattle.std.specs.Prelude.{◌≡◌, ◌++◌, OnOk, string_bytes};
-ghost use Rattle.quic_run_core.specs.Printed.{bytes_text, coded_text, id_text, moment_text, mark_text, write_text, finish_text, next_text, transmit_text, reason_text, received_text, timeout_text, loss_text, event_text, answer_text, call_text};
+ghost use Rattle.quic_run_core.specs.Printed.{bytes_text, coded_text, id_text, moment_text, mark_text, write_text, finish_text, next_text, transmit_text, reason_text, received_text, timeout_text, loss_text, event_text, rest_text, answer_text, call_text};
 
 use quic_connection::{
     Answer, Call, Chunk, DropReason, Event, Failed, FinishError, Instant, LostReason, ReadError,
@@ -190,6 +190,19 @@ fn put_event(out: &mut String, event: &Option<Event>) -> Result<(), AllocError>
             write!(out, "lost {name}")
         }
         None => out.push_str("none"),
+    }
+}
+
+/// Appends the moment at which both ends rest, or that they were given up.
+pub(crate) fn put_rest(out: &mut String, moment: Option<Instant>) -> Result<(), AllocError>
+    ensures { OnOk result (string_bytes out.new ≡ string_bytes out.old ++ rest_text moment) }
+{
+    match moment {
+        Some(moment) => {
+            let nanos = moment.as_nanos();
+            write!(out, "{nanos}")
+        }
+        None => out.push_str("gave up"),
     }
 }
 

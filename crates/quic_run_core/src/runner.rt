@@ -1,7 +1,7 @@
 //! Runs a script: reads its lines, and prints what each answers.
 ghost use Rattle.std.specs.Prelude.{◌≡◌, ◌⊎◌, MatchResult, IfErr, IfOk, OnOk, IsSome, string_bytes};
 ghost use Rattle.std.specs.Io.KnownBytes.{Appends};
-ghost use Rattle.quic_run_core.specs.Language.{sets, asks, shows, asked_of, said};
+ghost use Rattle.quic_run_core.specs.Language.{sets, asks, shows, settles, asked_of, said};
 ghost use Rattle.quic_run_core.specs.Scripts.{first_stage, with_world, world_at, IsDone, Does, IsRefused};
 ghost use Rattle.quic_run_core.specs.Scripts.{heading as heading_of};
 ghost use Rattle.quic_run_core.specs.Stages.{stage_of};
@@ -14,7 +14,7 @@ use crate::lines::Lines;
 use crate::options::Options;
 use crate::script::{Line, LineError, Setting, parse_line};
 use crate::session::Session;
-use quic_connection::RunEvent;
+use quic_connection::{Instant, RunEvent};
 use quic_wire_core::Side;
 use std::alloc::{AllocError, Global};
 use std::io::{Read, Write};
@@ -81,6 +81,7 @@ impl Runner {
             Line::Set(side, setting) => self.set(side, setting),
             Line::Call(event) => self.call(&event),
             Line::Show(side, index) => self.show(side, index),
+            Line::Settle(now) => self.settle(now),
         }
     }
 
@@ -134,6 +135,23 @@ impl Runner {
         Ok(out)
     }
 
+    /// Lets both ends talk until they rest.
+    fn settle(&mut self, now: Instant) -> Result<String, LineError>
+        ensures { MatchResult result
+            (λ text. IsDone (settles now) (stage_of self.old) (string_bytes text) (stage_of self.new))
+            (λ e. e ≡ LineError.OutOfMemory) }
+    {
+        self.begin()?;
+        let mut out = String::new(self.alloc);
+        out.push_str("settle ")?;
+        match &mut self.session {
+            Some(session) => session.settle(now, &mut out)?,
+            None => unreachable!(),
+        }
+        out.push_str("\n")?;
+        Ok(out)
+    }
+
     /// Makes the ends, unless they are made.
     fn begin(&mut self) -> Result<(), LineError>
         ensures stage { OnOk result (stage_of self.new ≡ with_world (world_at (stage_of self.old)) (stage_of self.old)) }
@@ -157,8 +175,8 @@ fn heading(alloc: Global, side: Side, name: &str) -> Result<String, AllocError>
     format!(in alloc; "{end} {name} ")
 }
 
-/// Runs a script, each of whose lines is a call at one of two ends: prints each answer before the next line is run.
-/// The ends are made at the first line that isn't a setting.
+/// Runs a script, each of whose lines is a call at one of two ends, or lets both settle: prints each answer before the next
+/// line is run. The ends are made at the first line that isn't a setting.
 ///
 /// `ReadFault`: the reader failed, or gave no end within 2^32 calls. `WriteFault`: the writer failed, or took nothing.
 /// `BadCommand`: a line isn't in the language, or sets an option when the ends are made. `OutOfMemory`: memory lacked.

@@ -1,11 +1,11 @@
-//! The language of scripts: a line is a call at one end.
+//! The language of scripts: a line is a call at one end, or both settle.
 ghost use Rattle.std.specs.Prelude.{◌≡◌, ◌<◌, ◌≤◌, ◌^◌, ◌⊎◌, ◌∷◌, [], Some, None, Ok, Err, MatchResult, true, length, drop, ok_or};
 ghost use Rattle.std.specs.Char.{is_ascii_uppercase};
 ghost use Rattle.std.specs.List.{list_any};
 ghost use Rattle.std.specs.Option.{SomeIff};
 ghost use Rattle.std.specs.Str.Parse.{IsNumeral, digits_value};
 ghost use Rattle.quic_run_core.specs.Named.{side_named, dir_named, mark_named, timer_named, bytes_named};
-ghost use Rattle.quic_run_core.specs.Language.{number_named, varint_named, first, two, three, reads, delivers, injects, words_left, setting_said, settings_said, call_said, command_said, words_said, is_skipped, said, command_of, asked_of, asked_read, Reads};
+ghost use Rattle.quic_run_core.specs.Language.{number_named, varint_named, first, two, three, reads, delivers, injects, words_left, setting_said, settings_said, call_said, command_said, end_said, words_said, is_skipped, said, command_of, asked_of, asked_read, Reads};
 ghost use Rattle.quic_run_core.specs.Language.{words as words_of};
 
 use bytes::Bytes;
@@ -29,6 +29,8 @@ pub enum Line {
     Call(RunEvent),
     /// The datagram of this index that the end gave out is shown.
     Show(Side, usize),
+    /// Both ends talk from this moment on until they rest.
+    Settle(Instant),
 }
 
 /// An option of an end.
@@ -123,13 +125,6 @@ impl<'a> LineWords<'a> {
         ensures rest { words_left self.new.rest ≡ drop 1 (words_left self.old.rest) }
     {
         Ok(self.number()? as usize)
-    }
-
-    fn side(&mut self) -> Result<Side, LineError>
-        ensures answer { result ≡ ok_or (first side_named (words_left self.old.rest)) LineError.BadCommand }
-        ensures rest { words_left self.new.rest ≡ drop 1 (words_left self.old.rest) }
-    {
-        side(self.next()?).ok_or(LineError::BadCommand)
     }
 
     fn dir(&mut self) -> Result<Dir, LineError>
@@ -345,13 +340,23 @@ fn command(alloc: Global, side: Side, name: &str, words: &mut LineWords) -> Resu
     }
 }
 
+/// What the words behind this name of an end ask for.
+fn parse_end(alloc: Global, end: &str, words: &mut LineWords) -> Result<Line, LineError>
+    ensures { Reads result command_of (end_said (side_named end.now) (words_left words.old.rest)) (words_left words.new.rest) }
+{
+    let side = side(end).ok_or(LineError::BadCommand)?;
+    let name = words.next()?;
+    command(alloc, side, name, words)
+}
+
 /// What a line's words ask for.
 fn parse_words(alloc: Global, words: &mut LineWords) -> Result<Line, LineError>
     ensures { Reads result command_of (words_said (words_left words.old.rest)) (words_left words.new.rest) }
 {
-    let side = words.side()?;
-    let name = words.next()?;
-    command(alloc, side, name, words)
+    match words.next()? {
+        "settle" => Ok(Line::Settle(words.moment()?)),
+        end => parse_end(alloc, end, words),
+    }
 }
 
 /// What a line's text asks for: nothing stands behind the words that are read.

@@ -7,15 +7,17 @@ ghost use Rattle.quic_run_core.specs.KeysOf.{keys_of};
 ghost use Rattle.quic_run_core.specs.Policies.{plain_policies, policies_in};
 ghost use Rattle.quic_run_core.specs.Shown.{AreNumbers, shown_text};
 ghost use Rattle.quic_run_core.specs.Refusals.{line_error};
-ghost use Rattle.quic_run_core.specs.Scripts.{first_id, first_end, first_world, Tells};
+ghost use Rattle.quic_run_core.specs.Scripts.{first_id, first_end, first_world, Tells, TellsRest};
 
-use crate::answer::put_answer;
+use crate::answer::{put_answer, put_rest};
 use crate::key::{PlainHeaderKey, PlainKey, keys_for};
 use crate::options::Options;
 use crate::script::LineError;
 use crate::show::put_datagram;
 use crate::words::Words;
-use quic_connection::{Config, ConfigError, Connection, Ends, Given, Instant, RunEvent, step};
+use quic_connection::{
+    Config, ConfigError, Connection, Ends, Given, Instant, RunEvent, settle, step,
+};
 use quic_wire_core::{ConnectionId, Side};
 use std::alloc::{AllocError, Global};
 
@@ -110,6 +112,14 @@ impl Session {
             Side::Server => self.given.server.len(),
         };
         put_answer(self.alloc, out, &answer, given)
+    }
+
+    /// Lets both ends talk from this moment on until they rest, and appends when they do.
+    pub(crate) fn settle(&mut self, now: Instant, out: &mut String) -> Result<(), AllocError>
+        ensures { OnOk result (TellsRest (world_of self.old.ends self.old.given) now (string_bytes out.old) (string_bytes out.new) (world_of self.new.ends self.new.given)) }
+    {
+        let moment = settle(self.alloc, &mut self.ends, &mut self.given, now)?;
+        put_rest(out, moment)
     }
 
     /// Appends what stands in a datagram that an end gave out.

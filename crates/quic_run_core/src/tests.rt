@@ -91,7 +91,7 @@ fn timers_and_injections_are_printed(rt: HostRuntime) -> Result<(), Fail> {
 
 #[test]
 fn other_lines_are_bad(rt: HostRuntime) -> Result<(), Fail> {
-    let lines: [&[u8]; 30] = [
+    let lines: [&[u8]; 32] = [
         b"c",
         b"c ",
         b" c open bi",
@@ -121,7 +121,9 @@ fn other_lines_are_bad(rt: HostRuntime) -> Result<(), Fail> {
         b"c set receive_window 4611686018427387904",
         b"c set bidi 1",
         b"c recv",
-        b"settle 0",
+        b"settle",
+        b"settle x",
+        b"c settle 0",
     ];
     for line in lines {
         let got = printed(&rt, line);

@@ -1,0 +1,18 @@
+use Rattle.std.proofs.Common.{◌≡◌, false}
+use Rattle.quic_wire_core.specs.StreamId.{other_side}
+use Rattle.quic_connection_core.specs.Machine.{Policies, end_at}
+use Rattle.quic_connection.specs.Ends.{world_of, policies_of}
+use Rattle.quic_connection.specs.Settled.{Talks}
+use Rattle.quic_connection.proofs.settling.poll_all.Given as goal
+
+abbrev pub invariant-loop-left : goal.invariant-loop-left
+invariant-loop-left g l =
+    let policies : Policies = policies_of g.H.HeaderKey.masks g.H.HeaderKey.hides g.H.HeaderKey.unmasks g.H.HeaderKey.reveals g.K.PacketKey.sealed g.K.PacketKey.opened l.fn.ends in
+    record {
+      talks : Talks policies l.fn.left l.left (world_of l.fn.ends l.fn.given) (world_of l.ends l.given);
+      keys : policies_of g.H.HeaderKey.masks g.H.HeaderKey.hides g.H.HeaderKey.unmasks g.H.HeaderKey.reveals g.K.PacketKey.sealed g.K.PacketKey.opened l.ends ≡ policies;
+      other : l.gave ≡ false → end_at (other_side l.side) (world_of l.ends l.given) ≡ end_at (other_side l.side) (world_of l.fn.ends l.fn.given);
+    }
+
+abbrev pub decreases-loop-left : goal.decreases-loop-left
+decreases-loop-left g l = l.left

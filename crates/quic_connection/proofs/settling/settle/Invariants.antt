@@ -1,0 +1,17 @@
+use Rattle.std.proofs.Common.{◌≡◌, ◌≤◌}
+use Rattle.quic_connection_core.specs.Machine.{Policies}
+use Rattle.quic_connection.specs.Ends.{world_of, policies_of}
+use Rattle.quic_connection.specs.Settled.{Talks, most_polls}
+use Rattle.quic_connection.proofs.settling.settle.Given as goal
+
+abbrev pub invariant-loop-ends : goal.invariant-loop-ends
+invariant-loop-ends g l =
+    let policies : Policies = policies_of g.H.HeaderKey.masks g.H.HeaderKey.hides g.H.HeaderKey.unmasks g.H.HeaderKey.reveals g.K.PacketKey.sealed g.K.PacketKey.opened l.fn.ends in
+    record {
+      talks : Talks policies most_polls l.left (world_of l.fn.ends l.fn.given) (world_of l.ends l.given);
+      keys : policies_of g.H.HeaderKey.masks g.H.HeaderKey.hides g.H.HeaderKey.unmasks g.H.HeaderKey.reveals g.K.PacketKey.sealed g.K.PacketKey.opened l.ends ≡ policies;
+      later : l.fn.now ≤ l.moment;
+    }
+
+abbrev pub decreases-loop-ends : goal.decreases-loop-ends
+decreases-loop-ends g l = l.left

@@ -1,0 +1,45 @@
+use Rattle.std.proofs.Common.{◌≡◌, true, false, inl, refl, ◌∙◌}
+use Rattle.quic_connection.proofs.Talking.{talks_none, talks_on}
+use Rattle.quic_connection.proofs.settling.talk.Goals as goal
+
+pub loop-ends-init : goal.loop-ends-init
+loop-ends-init g c = record { talks = talks_none _ _ _; keys = refl }
+
+pub returns-in_err-round-clause-talks : goal.returns-in_err-round-clause-talks
+returns-in_err-round-clause-talks g c =
+    let inv = c.loop-ends.invariant in
+    talks_on _ _ _ _ _ _ _ _ inv.keys inv.talks c.round.ensures.talks
+
+pub returns-in-None-clause-talks : goal.returns-in-None-clause-talks
+returns-in-None-clause-talks g c =
+    let inv = c.loop-ends.invariant in
+    talks_on _ _ _ _ _ _ _ _ inv.keys inv.talks c.round.ensures.talks
+
+pub loop-ends-preserved : goal.loop-ends-preserved
+loop-ends-preserved g c =
+    let inv = c.loop-ends.invariant in
+    record {
+      talks = talks_on _ _ _ _ _ _ _ _ inv.keys inv.talks c.round.ensures.talks;
+      keys = c.round.ensures.keys ∙ inv.keys;
+    }
+
+pub returns-in-Some-false-clause-talks : goal.returns-in-Some-false-clause-talks
+returns-in-Some-false-clause-talks g c =
+    let inv = c.loop-ends.invariant in
+    talks_on _ _ _ _ _ _ _ _ inv.keys inv.talks c.round.ensures.talks
+
+pub returns-in-Some-false-clause-opened : goal.returns-in-Some-false-clause-opened
+returns-in-Some-false-clause-opened g c = λ ok.
+    let opened : c.are_open.result ≡ true = cc in
+    c.are_open.ensures.opened opened c.round.new.given
+
+pub returns-in-Some-false-clause-silent : goal.returns-in-Some-false-clause-silent
+returns-in-Some-false-clause-silent g c = λ ok.
+    let opened : c.are_open.result ≡ true = cc in
+    let silent = rw c.in-Some-false.is at c.in_ok-round.ensures.silent in
+    silent c.in-Some-false.field-0-test (c.are_open.ensures.opened opened c.round.new.given)
+
+pub returns-in-Some-false-clause-gave_up : goal.returns-in-Some-false-clause-gave_up
+returns-in-Some-false-clause-gave_up g c = λ ok.
+    let closed : c.are_open.result ≡ false = cc in
+    inl (c.are_open.ensures.closed closed c.round.new.given)

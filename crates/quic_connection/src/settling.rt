@@ -1,0 +1,242 @@
+//! Two ends that talk until both rest.
+ghost use Rattle.std.specs.Prelude.{◌≡◌, ◌≤◌, ◌<◌, ◌⊎◌, Bool, true, false, Ok, None, IfOk, IfSome, IfNone};
+ghost use Rattle.quic_wire_core.specs.StreamId.{other_side};
+ghost use Rattle.quic_connection_core.specs.declared.answers.State.TheVariants as states;
+ghost use Rattle.quic_recovery_core.specs.Timers.{earlier};
+ghost use Rattle.quic_connection_core.specs.Machine.{end_at};
+ghost use Rattle.quic_connection_core.specs.Runs.{gave};
+ghost use Rattle.quic_connection.specs.Ends.{world_of, policies_of};
+ghost use Rattle.quic_connection.specs.Settled.{Reaches, is_poll, is_talk, Talks, IsSilent, AreSilent, AreOpen, AreAtRest, HasClosed, Settles, end_wakes, wakes};
+ghost use Rattle.quic_connection.specs.declared.running.Given.{Given};
+
+use crate::connection::Connection;
+use crate::running::{Ends, Given, step};
+use quic_connection_core::{Answer, Call, Delivery, Instant, RunEvent, Timer};
+use quic_wire::crypto::{HeaderKey, PacketKey};
+use quic_wire_core::Side;
+use rand_core::Rng;
+use std::alloc::{AllocError, Global};
+
+/// How many polls a talk has at most.
+const MOST_POLLS: u64 = 10_000;
+
+/// Lets two ends talk until both rest, from this moment on: each is polled until it gives nothing, the client first, and
+/// each datagram is delivered to the other one at once, without a mark, until a round of both gives no datagram. Where a
+/// timer of loss, of acknowledgements or of pacing is set then, the moment is the earliest of these, or stays if that came
+/// before, both ends handle it, and they go on.
+///
+/// It answers the moment at which both rest: they are open, have nothing to send, and none of these timers is set. `None`
+/// says that it gave up: an end isn't open, or 10000 polls were made. All datagrams stand in `given`.
+///
+/// # Errors
+///
+/// [`AllocError`] is want of memory of its own; the calls that were made before stay made.
+pub fn settle<H: HeaderKey + Drop, K: PacketKey + Drop, R: Rng + Drop>(
+    alloc: Global,
+    ends: &mut Ends<H, K, R>,
+    given: &mut Given,
+    now: Instant,
+) -> Result<Option<Instant>, AllocError>
+    ensures settles { Settles (policies_of H.masks H.hides H.unmasks H.reveals K.sealed K.opened ends.old) (world_of ends.old given.old) result (world_of ends.new given.new) }
+    ensures keys { policies_of H.masks H.hides H.unmasks H.reveals K.sealed K.opened ends.new ≡ policies_of H.masks H.hides H.unmasks H.reveals K.sealed K.opened ends.old }
+    ensures rest { IfOk result (λ moment. IfSome moment (λ _. AreAtRest (world_of ends.new given.new))) }
+    ensures later { IfOk result (λ moment. IfSome moment (λ moment. now ≤ moment)) }
+{
+    let mut moment = now;
+    let mut left = MOST_POLLS;
+    loop {
+        if !talk(alloc, ends, given, moment, &mut left)? {
+            return Ok(None);
+        }
+        let Some(next) = wakes(ends) else {
+            return Ok(Some(moment));
+        };
+        moment = moment.later(next);
+        make(alloc, ends, given, Side::Client, Call::Timeout(moment))?;
+        make(alloc, ends, given, Side::Server, Call::Timeout(moment))?;
+    }
+}
+
+/// Rounds at a moment until one gives no datagram: whether both ends are open then. It is `false` too where no poll is left.
+fn talk<H: HeaderKey + Drop, K: PacketKey + Drop, R: Rng + Drop>(
+    alloc: Global,
+    ends: &mut Ends<H, K, R>,
+    given: &mut Given,
+    now: Instant,
+    left: &mut u64,
+) -> Result<bool, AllocError>
+    ensures talks { Talks (policies_of H.masks H.hides H.unmasks H.reveals K.sealed K.opened ends.old) left.old left.new (world_of ends.old given.old) (world_of ends.new given.new) }
+    ensures keys { policies_of H.masks H.hides H.unmasks H.reveals K.sealed K.opened ends.new ≡ policies_of H.masks H.hides H.unmasks H.reveals K.sealed K.opened ends.old }
+    ensures less { result ≡ Ok true → left.new < left.old }
+    ensures opened { result ≡ Ok true → AreOpen (world_of ends.new given.new) }
+    ensures silent { result ≡ Ok true → AreSilent (world_of ends.new given.new) }
+    ensures gave_up { result ≡ Ok false → HasClosed (world_of ends.new given.new) ⊎ (left.new ≡ 0) }
+{
+    loop {
+        match round(alloc, ends, given, now, left)? {
+            None => return Ok(false),
+            Some(true) => {}
+            Some(false) => return Ok(are_open(ends)),
+        }
+    }
+}
+
+/// Polls the client until it gives nothing, and then the server: whether one gave a datagram. It is `None` where an end
+/// isn't open before a poll, or no poll is left.
+fn round<H: HeaderKey + Drop, K: PacketKey + Drop, R: Rng + Drop>(
+    alloc: Global,
+    ends: &mut Ends<H, K, R>,
+    given: &mut Given,
+    now: Instant,
+    left: &mut u64,
+) -> Result<Option<bool>, AllocError>
+    ensures talks { Talks (policies_of H.masks H.hides H.unmasks H.reveals K.sealed K.opened ends.old) left.old left.new (world_of ends.old given.old) (world_of ends.new given.new) }
+    ensures keys { policies_of H.masks H.hides H.unmasks H.reveals K.sealed K.opened ends.new ≡ policies_of H.masks H.hides H.unmasks H.reveals K.sealed K.opened ends.old }
+    ensures less { IfOk result (λ gave. IfSome gave (λ _. left.new < left.old)) }
+    ensures silent { IfOk result (λ gave. IfSome gave (λ gave. gave ≡ false → AreOpen (world_of ends.new given.new) → AreSilent (world_of ends.new given.new))) }
+    ensures gave_up { IfOk result (λ gave. IfNone gave (HasClosed (world_of ends.new given.new) ⊎ (left.new ≡ 0))) }
+{
+    let Some(client) = poll_all(alloc, ends, given, Side::Client, now, left)? else {
+        return Ok(None);
+    };
+    let Some(server) = poll_all(alloc, ends, given, Side::Server, now, left)? else {
+        return Ok(None);
+    };
+    Ok(Some(client || server))
+}
+
+/// Polls an end until it gives nothing: whether it gave a datagram. It is `None` where an end isn't open before a poll, or
+/// no poll is left.
+fn poll_all<H: HeaderKey + Drop, K: PacketKey + Drop, R: Rng + Drop>(
+    alloc: Global,
+    ends: &mut Ends<H, K, R>,
+    given: &mut Given,
+    side: Side,
+    now: Instant,
+    left: &mut u64,
+) -> Result<Option<bool>, AllocError>
+    ensures talks { Talks (policies_of H.masks H.hides H.unmasks H.reveals K.sealed K.opened ends.old) left.old left.new (world_of ends.old given.old) (world_of ends.new given.new) }
+    ensures keys { policies_of H.masks H.hides H.unmasks H.reveals K.sealed K.opened ends.new ≡ policies_of H.masks H.hides H.unmasks H.reveals K.sealed K.opened ends.old }
+    ensures less { IfOk result (λ gave. IfSome gave (λ _. left.new < left.old)) }
+    ensures silent { IfOk result (λ gave. IfSome gave (λ _. (end_at side (world_of ends.new given.new)).closing.state ≡ states.Open → IsSilent (end_at side (world_of ends.new given.new)))) }
+    ensures other { IfOk result (λ gave. IfSome gave (λ gave. gave ≡ false → end_at (other_side side) (world_of ends.new given.new) ≡ end_at (other_side side) (world_of ends.old given.old))) }
+    ensures gave_up { IfOk result (λ gave. IfNone gave (HasClosed (world_of ends.new given.new) ⊎ (left.new ≡ 0))) }
+{
+    let mut gave = false;
+    while *left > 0 && are_open(ends) {
+        if !poll_once(alloc, ends, given, side, now, left)? {
+            return Ok(Some(gave));
+        }
+        gave = true;
+    }
+    Ok(None)
+}
+
+/// Polls an end, and delivers the datagram that it gives to the other one: whether it gave one.
+fn poll_once<H: HeaderKey + Drop, K: PacketKey + Drop, R: Rng + Drop>(
+    alloc: Global,
+    ends: &mut Ends<H, K, R>,
+    given: &mut Given,
+    side: Side,
+    now: Instant,
+    left: &mut u64,
+) -> Result<bool, AllocError>
+    requires some_left { 0 < left.old }
+    ensures talks { Talks (policies_of H.masks H.hides H.unmasks H.reveals K.sealed K.opened ends.old) left.old left.new (world_of ends.old given.old) (world_of ends.new given.new) }
+    ensures keys { policies_of H.masks H.hides H.unmasks H.reveals K.sealed K.opened ends.new ≡ policies_of H.masks H.hides H.unmasks H.reveals K.sealed K.opened ends.old }
+    ensures less { IfOk result (λ _. left.new < left.old) }
+    ensures silent { IfOk result (λ gave. gave ≡ false → (end_at side (world_of ends.new given.new)).closing.state ≡ states.Open → IsSilent (end_at side (world_of ends.new given.new))) }
+    ensures other { IfOk result (λ gave. gave ≡ false → end_at (other_side side) (world_of ends.new given.new) ≡ end_at (other_side side) (world_of ends.old given.old)) }
+{
+    let index = count_given(given, side);
+    let answer = step(
+        alloc,
+        ends,
+        given,
+        &RunEvent {
+            side,
+            call: Call::Poll(now),
+        },
+    )?;
+    *left -= 1;
+    if !gave(&answer) {
+        return Ok(false);
+    }
+    let delivery = Delivery {
+        now,
+        ecn: None,
+        index,
+    };
+    make(alloc, ends, given, !side, Call::Deliver(delivery))?;
+    Ok(true)
+}
+
+/// Whether an answer is a datagram.
+fn gave(answer: &Answer) -> bool
+    ensures { result ≡ gave answer.now }
+{
+    matches!(answer, Answer::Poll(Ok(Some(_))))
+}
+
+/// Makes one call of a talk that is no poll.
+fn make<H: HeaderKey + Drop, K: PacketKey + Drop, R: Rng + Drop>(
+    alloc: Global,
+    ends: &mut Ends<H, K, R>,
+    given: &mut Given,
+    side: Side,
+    call: Call,
+) -> Result<(), AllocError>
+    requires no_poll { is_poll call ≡ false }
+    requires of_talk { is_talk call ≡ true }
+    ensures reaches { Reaches (policies_of H.masks H.hides H.unmasks H.reveals K.sealed K.opened ends.old) 0 (world_of ends.old given.old) (world_of ends.new given.new) }
+    ensures keys { policies_of H.masks H.hides H.unmasks H.reveals K.sealed K.opened ends.new ≡ policies_of H.masks H.hides H.unmasks H.reveals K.sealed K.opened ends.old }
+{
+    step(alloc, ends, given, &RunEvent { side, call })?;
+    Ok(())
+}
+
+/// How many datagrams an end gave.
+fn count_given(given: &Given, side: Side) -> usize {
+    match side {
+        Side::Client => given.client.len(),
+        Side::Server => given.server.len(),
+    }
+}
+
+/// Whether both ends are open.
+fn are_open<H: HeaderKey + Drop, K: PacketKey + Drop, R: Rng + Drop>(ends: &Ends<H, K, R>) -> bool
+    ensures opened { result ≡ true → (given : Given) → AreOpen (world_of ends.now given) }
+    ensures closed { result ≡ false → (given : Given) → HasClosed (world_of ends.now given) }
+{
+    !ends.client.is_closed() && !ends.server.is_closed()
+}
+
+/// The earliest moment for which either end waits.
+fn wakes<H: HeaderKey + Drop, K: PacketKey + Drop, R: Rng + Drop>(
+    ends: &Ends<H, K, R>,
+) -> Option<Instant>
+    ensures { (given : Given) → result ≡ wakes (world_of ends.now given) }
+{
+    earlier(end_wakes(&ends.client), end_wakes(&ends.server))
+}
+
+/// The earliest moment for which an end waits.
+fn end_wakes<H: HeaderKey + Drop, K: PacketKey + Drop, R: Rng + Drop>(
+    end: &Connection<H, K, R>,
+) -> Option<Instant>
+    ensures { result ≡ end_wakes end.now.end.timers }
+{
+    let acks_or_pacing = earlier(end.timer(Timer::MaxAckDelay), end.timer(Timer::Pacing));
+    earlier(end.timer(Timer::LossDetection), acks_or_pacing)
+}
+
+/// The earlier of two moments, or the one that there is.
+fn earlier(one: Option<Instant>, other: Option<Instant>) -> Option<Instant>
+    ensures { result ≡ earlier one other }
+{
+    match (one, other) {
+        (Some(one), Some(other)) => Some(one.min(other)),
+        (one, None) => one,
+        (None, other) => other,
+    }
+}
