@@ -3,22 +3,14 @@
 
 mod answer;
 mod error;
-#[cfg(test)]
-mod frames;
 pub mod key;
 pub mod laws;
 mod lines;
-#[cfg(test)]
-mod memory;
 mod options;
 mod runner;
-#[cfg(test)]
-mod runs;
 mod script;
 mod session;
 mod show;
-#[cfg(test)]
-mod tests;
 mod words;
 
 pub use error::ScriptError;

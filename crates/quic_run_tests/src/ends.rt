@@ -1,0 +1,102 @@
+//! Two ends with the keys of scripts, and events of theirs.
+use bytes::Bytes;
+use quic_connection::{
+    Answer, Call, Config, ConfigError, Delivery, Ends, Given, Instant, Making, ReadCall, Received,
+    RunEvent, TransportConfig, step,
+};
+use quic_run_core::Words;
+use quic_run_core::key::{PlainHeaderKey, PlainKey, keys_for};
+use quic_wire_core::{ConnectionId, Dir, EcnCodepoint, Side, StreamId};
+use std::alloc::{AllocError, Global};
+
+/// The order in which transport parameters are written: that of their ids.
+pub(crate) const ORDER: [u8; 13] = [0, 1, 2, 3, 4, 5, 6, 7, 8, 9, 10, 11, 12];
+
+pub(crate) type BothEnds = Ends<PlainHeaderKey, PlainKey, Words>;
+
+/// The first id of an end.
+fn id_of(side: Side) -> ConnectionId {
+    match side {
+        Side::Client => ConnectionId::new(&[0xc0; 8]),
+        Side::Server => ConnectionId::new(&[0x50; 8]),
+    }
+}
+
+fn making(side: Side) -> Making<PlainHeaderKey, PlainKey, Words> {
+    Making {
+        config: Config::new(TransportConfig::default()),
+        id: id_of(side),
+        keys: keys_for(side),
+        random: Words::word(63),
+        validated: true,
+    }
+}
+
+/// Two ends that are made for one another at the moment 0.
+pub(crate) fn new_ends(alloc: Global) -> Result<BothEnds, ConfigError> {
+    let now = Instant::from_nanos(0);
+    Ends::new(alloc, now, making(Side::Client), making(Side::Server))
+}
+
+/// The stream that the client opens.
+pub(crate) fn stream() -> StreamId {
+    StreamId::new(Side::Client, Dir::Bi, 0)
+}
+
+fn event(side: Side, call: Call) -> RunEvent {
+    RunEvent { side, call }
+}
+
+/// A read of the stream by these bounds.
+pub(crate) fn read_call(alloc: Global, bounds: &[usize]) -> Result<Call, AllocError> {
+    Ok(Call::Read(ReadCall {
+        id: stream(),
+        nexts: Vec::from_slice(alloc, bounds)?,
+        finalize: true,
+    }))
+}
+
+/// The client writes `hello` on its stream and ends it, and the server reads it to its end.
+pub(crate) fn hello(alloc: Global) -> Result<[RunEvent; 6], AllocError> {
+    let now = Instant::from_nanos(0);
+    let delivery = Delivery {
+        now,
+        ecn: Some(EcnCodepoint::Ect0),
+        index: 0,
+    };
+    let bytes = Bytes::from_static(b"hello");
+    let read = read_call(alloc, &[32, 32])?;
+    Ok([
+        event(Side::Client, Call::Open(Dir::Bi)),
+        event(Side::Client, Call::Write(stream(), bytes)),
+        event(Side::Client, Call::Finish(stream())),
+        event(Side::Client, Call::Poll(now)),
+        event(Side::Server, Call::Deliver(delivery)),
+        event(Side::Server, read),
+    ])
+}
+
+/// Whether the event of this index of `hello` is answered as where memory serves.
+pub(crate) fn is_served(index: usize, answer: &Answer) -> bool {
+    match (index, answer) {
+        (0, Answer::Open(Ok(Some(id)))) => *id == stream(),
+        (1, Answer::Write(Ok(5))) | (2, Answer::Finish(Ok(()))) => true,
+        (3, Answer::Poll(Ok(Some(transmit)))) => transmit.size == 34,
+        (4, Answer::Deliver(Received::Taken)) => true,
+        (5, Answer::Read(Ok(nexts))) => match nexts.as_slice() {
+            [Ok(Some(chunk)), Ok(None)] => chunk.bytes.as_slice() == b"hello".as_slice(),
+            _ => false,
+        },
+        _ => false,
+    }
+}
+
+/// Makes the call of one event.
+pub(crate) fn made(
+    alloc: Global,
+    ends: &mut BothEnds,
+    given: &mut Given,
+    event: &RunEvent,
+) -> Result<Answer, AllocError> {
+    step(alloc, ends, given, event)
+}

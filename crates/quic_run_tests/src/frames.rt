@@ -1,0 +1,143 @@
+//! What an end makes of a payload that its peer sealed and that an honest peer doesn't send.
+use quic_connection::{Config, Connection, Instant, LostReason, Received, TransportConfig};
+use quic_run_core::Words;
+use quic_run_core::key::{PlainHeaderKey, PlainKey, keys_for};
+use quic_wire::seal_packet;
+use quic_wire_core::{Code, ConnectionId, Side};
+use std::alloc::{AllocError, Global};
+use std::process::Abort;
+use std::test::Fail;
+
+type End = Connection<PlainHeaderKey, PlainKey, Words>;
+
+/// The first id of an end.
+fn id_of(side: Side) -> [u8; 8] {
+    match side {
+        Side::Client => [0xc0; 8],
+        Side::Server => [0x50; 8],
+    }
+}
+
+/// A datagram for this end under the number 0, which has four bytes, as its peer seals it.
+fn sealed_for(alloc: Global, side: Side, payload: &[u8]) -> Result<Vec<u8>, AllocError> {
+    let mut out = Vec::new(alloc);
+    out.push(0x43)?;
+    out.extend_from_slice(&id_of(side))?;
+    out.extend_from_slice(&[0, 0, 0, 0])?;
+    out.extend_from_slice(payload)?;
+    let keys = keys_for(!side);
+    seal_packet(&mut out, 0, 9, 0, &keys.header.local, &keys.packet.local)?;
+    Ok(out)
+}
+
+/// A new end, which gave one datagram, with a PING under the number 0.
+fn new_end(alloc: Global, side: Side) -> Result<End, Fail> {
+    let mut end = Connection::new(
+        alloc,
+        side,
+        &Config::new(TransportConfig::default()),
+        &[],
+        ConnectionId::new(&id_of(side)),
+        ConnectionId::new(&id_of(!side)),
+        keys_for(side),
+        Instant::from_nanos(0),
+        Words::word(63),
+        true,
+    )?;
+    end.ping();
+    let mut out = Vec::new(alloc);
+    end.poll_transmit(Instant::from_nanos(0), &mut out)?;
+    Ok(end)
+}
+
+/// What an end answers to a payload: none where it is taken, else the code that it closes with.
+fn answered<R: Abort + AllocGlobal>(
+    rt: &R,
+    side: Side,
+    payload: &[u8],
+) -> Result<Option<Code>, Fail> {
+    let mut datagram = sealed_for(rt.alloc(), side, payload)?;
+    let received = new_end(rt.alloc(), side)?.receive(Instant::from_nanos(0), None, &mut datagram);
+    match received {
+        Received::Taken => Ok(None),
+        Received::Closed(error) => Ok(Some(error.code())),
+        Received::Dropped(reason) => panic!(rt; "dropped: {reason:?}"),
+        Received::Failed => panic!(rt; "failed"),
+    }
+}
+
+// RFC 9000, section 13.1: an ACK of 0, and one of 1.
+#[test]
+fn numbers_that_were_never_given_close(rt: HostRuntime) -> Result<(), Fail> {
+    for side in [Side::Client, Side::Server] {
+        let given = answered(&rt, side, &[0x02, 0x00, 0x00, 0x00, 0x00])?;
+        assert_eq!(rt; given, None);
+        let never = answered(&rt, side, &[0x02, 0x01, 0x00, 0x00, 0x00])?;
+        assert_eq!(rt; never, Some(Code::PROTOCOL_VIOLATION));
+    }
+    Ok(())
+}
+
+// RFC 9000, sections 19.7 and 19.20: NEW_TOKEN and HANDSHAKE_DONE.
+#[test]
+fn servers_refuse_what_only_servers_send(rt: HostRuntime) -> Result<(), Fail> {
+    let frames: [&[u8]; 2] = [&[0x07, 0x01, 0xaa], &[0x1e]];
+    for frame in frames {
+        assert_eq!(rt; answered(&rt, Side::Client, frame)?, None);
+        let refused = answered(&rt, Side::Server, frame)?;
+        assert_eq!(rt; refused, Some(Code::PROTOCOL_VIOLATION));
+    }
+    Ok(())
+}
+
+// RFC 9000, section 12.4: a payload has a frame. A STREAM frame whose five bytes were cut to two.
+// PADDING whose type has two bytes, and a PING.
+#[test]
+fn payloads_are_judged(rt: HostRuntime) -> Result<(), Fail> {
+    let none = answered(&rt, Side::Server, &[])?;
+    assert_eq!(rt; none, Some(Code::PROTOCOL_VIOLATION));
+    let cut = answered(&rt, Side::Server, &[0x0a, 0x00, 0x05, 0x68, 0x69])?;
+    assert_eq!(rt; cut, Some(Code::FRAME_ENCODING_ERROR));
+    let padded = answered(&rt, Side::Server, &[0x40, 0x00, 0x01])?;
+    assert_eq!(rt; padded, None);
+    Ok(())
+}
+
+// RFC 9000, sections 4.1, 4.5 and 19.8: a byte at the offset 1250000, one behind the end, and one
+// on a stream that the client didn't open.
+#[test]
+fn streams_keep_to_their_limits(rt: HostRuntime) -> Result<(), Fail> {
+    let beyond = [0x0e, 0x00, 0x80, 0x13, 0x12, 0xd0, 0x01, 0x78];
+    let window = answered(&rt, Side::Server, &beyond)?;
+    assert_eq!(rt; window, Some(Code::FLOW_CONTROL_ERROR));
+    let behind = [0x0b, 0x00, 0x01, 0x78, 0x0e, 0x00, 0x01, 0x01, 0x78];
+    let size = answered(&rt, Side::Server, &behind)?;
+    assert_eq!(rt; size, Some(Code::FINAL_SIZE_ERROR));
+    let own = answered(&rt, Side::Client, &[0x0a, 0x00, 0x01, 0x78])?;
+    assert_eq!(rt; own, Some(Code::STREAM_STATE_ERROR));
+    Ok(())
+}
+
+/// 2048 STREAM frames, each of one byte behind a gap of one byte.
+fn pieces(alloc: Global) -> Result<Vec<u8>, AllocError> {
+    let mut payload = Vec::new(alloc);
+    for high in 0x40..0x50 {
+        for low in 0..128 {
+            payload.extend_from_slice(&[0x0e, 0x00, high, low << 1 | 1, 0x01, 0x78])?;
+        }
+    }
+    Ok(payload)
+}
+
+#[test]
+fn at_most_2048_pieces_wait(rt: HostRuntime) -> Result<(), Fail> {
+    let mut payload = pieces(rt.alloc())?;
+    assert_eq!(rt; answered(&rt, Side::Server, &payload)?, None);
+    let mut server = new_end(rt.alloc(), Side::Server)?;
+    payload.extend_from_slice(&[0x0e, 0x00, 0x50, 0x01, 0x01, 0x78])?;
+    let mut datagram = sealed_for(rt.alloc(), Side::Server, &payload)?;
+    let received = server.receive(Instant::from_nanos(0), None, &mut datagram);
+    assert!(rt; matches!(received, Received::Closed(_)));
+    assert!(rt; matches!(server.lost(), Some(LostReason::Pieces)));
+    Ok(())
+}

@@ -1,0 +1,19 @@
+//! Tests of `quic_connection` and `quic_run_core`, through their public items: values from outside,
+//! runs by chance, and each call that no script makes where memory lacks (`lacking`). Scripts that
+//! end by themselves are cases of `quic_run`.
+#![tactic(auto)]
+
+#[cfg(test)]
+mod chance;
+#[cfg(test)]
+mod config;
+#[cfg(test)]
+mod ends;
+#[cfg(test)]
+mod frames;
+#[cfg(test)]
+mod lacking;
+#[cfg(test)]
+mod runs;
+#[cfg(test)]
+mod scripts;

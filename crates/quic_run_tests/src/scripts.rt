@@ -1,0 +1,111 @@
+//! Scripts whose reader or writer fails.
+use quic_run_core::{ScriptError, run_script, run_script_within};
+use std::io;
+use std::io::{ErrorKind, Read, Write};
+use std::test::Fail;
+
+/// Gives its text a byte at a time, then fails, or gives no end at all.
+#[derive(Drop)]
+struct Failing<'a> {
+    text: &'a [u8],
+    endless: bool,
+}
+
+impl Read for Failing<'_> {
+    fn read(&mut self, buf: &mut [u8]) -> io::Result<usize> {
+        match (self.text.split_first(), buf.first_mut()) {
+            (Some((byte, rest)), Some(place)) => {
+                *place = *byte;
+                self.text = rest;
+                Ok(1)
+            }
+            (None, Some(place)) if self.endless => {
+                *place = b'\n';
+                Ok(1)
+            }
+            _ => Err(io::Error::from(ErrorKind::BrokenPipe)),
+        }
+    }
+}
+
+/// Takes so many bytes, then fails, or takes none.
+#[derive(Drop)]
+struct Full {
+    taken: Vec<u8>,
+    room: usize,
+    fails: bool,
+    flushes: bool,
+}
+
+impl Write for Full {
+    fn write(&mut self, buf: &[u8]) -> io::Result<usize> {
+        let count = buf.len().min(self.room);
+        if count == 0 && self.fails {
+            return Err(io::Error::from(ErrorKind::BrokenPipe));
+        }
+        self.taken.extend_from_slice(&buf[..count])?;
+        self.room -= count;
+        Ok(count)
+    }
+
+    fn flush(&mut self) -> io::Result<()> {
+        if self.flushes {
+            Ok(())
+        } else {
+            Err(io::Error::from(ErrorKind::BrokenPipe))
+        }
+    }
+}
+
+#[test]
+fn a_reader_that_fails_is_a_read_fault(rt: HostRuntime) {
+    let reader = Failing {
+        text: b"c open bi\nc wri",
+        endless: false,
+    };
+    let mut out = Vec::new(rt.alloc());
+    let ended = run_script(rt.alloc(), reader, &mut out);
+    assert_eq!(rt; ended, Err(ScriptError::ReadFault));
+    assert!(rt; out.as_slice() == b"c open 0\n".as_slice());
+}
+
+#[test]
+fn a_reader_is_called_so_often_at_most(rt: HostRuntime) {
+    let endless = Failing {
+        text: b"c open bi\n",
+        endless: true,
+    };
+    let mut out = Vec::new(rt.alloc());
+    let ended = run_script_within(rt.alloc(), endless, &mut out, 100);
+    assert_eq!(rt; ended, Err(ScriptError::ReadFault));
+    assert!(rt; out.as_slice() == b"c open 0\n".as_slice());
+}
+
+#[test]
+fn a_writer_that_fails_is_a_write_fault(rt: HostRuntime) {
+    let script = b"c open bi\nc poll 0\n".as_slice();
+    let printed = b"c open 0\nc poll none\n".as_slice();
+    for (room, fails, flushes) in [(12, true, true), (12, false, true), (99, true, false)] {
+        let mut writer = Full {
+            taken: Vec::new(rt.alloc()),
+            room,
+            fails,
+            flushes,
+        };
+        let ended = run_script(rt.alloc(), script, &mut writer);
+        assert_eq!(rt; ended, Err(ScriptError::WriteFault));
+        assert!(rt; printed.starts_with(writer.taken.as_slice()));
+    }
+}
+
+#[test]
+fn faults_are_told(rt: HostRuntime) -> Result<(), Fail> {
+    for (error, text) in [
+        (ScriptError::ReadFault, "read fault"),
+        (ScriptError::WriteFault, "write fault"),
+    ] {
+        let told = format!(in rt.alloc(); "{error}")?;
+        assert_eq!(rt; told.as_str(), text);
+    }
+    Ok(())
+}
