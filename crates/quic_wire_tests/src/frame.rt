@@ -1,0 +1,3 @@
+pub(crate) mod ack;
+mod refusals;
+mod table;

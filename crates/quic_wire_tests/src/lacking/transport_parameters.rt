@@ -1,0 +1,29 @@
+//! Transport parameters to bytes.
+use quic_wire::TransportParameters;
+use quic_wire_core::VarInt;
+use std::test::Fail;
+
+const ASCENDING: [u8; 13] = [0, 1, 2, 3, 4, 5, 6, 7, 8, 9, 10, 11, 12];
+
+// Nothing stands for the defaults (RFC 9000, section 18.2).
+#[test]
+fn defaults_are_not_written(rt: HostRuntime) -> Result<(), Fail> {
+    let nothing = TransportParameters::default().write(rt.alloc(), &ASCENDING)?;
+    assert_eq!(rt; nothing.len(), 0);
+    Ok(())
+}
+
+#[test]
+fn others_are_written(rt: HostRuntime) -> Result<(), Fail> {
+    let mut parameters = TransportParameters::default();
+    parameters.initial_max_data = VarInt::from_u32(1);
+    parameters.initial_max_streams_uni = VarInt::from_u32(64);
+    parameters.max_ack_delay = VarInt::from_u32(0);
+    let bytes = match parameters.write(rt.alloc(), &ASCENDING) {
+        Ok(bytes) => bytes,
+        Err(_) => parameters.write(rt.alloc(), &ASCENDING)?,
+    };
+    let wanted = [0x04, 0x01, 0x01, 0x09, 0x02, 0x40, 0x40, 0x0b, 0x01, 0x00];
+    assert!(rt; bytes.as_slice() == wanted.as_slice());
+    Ok(())
+}
