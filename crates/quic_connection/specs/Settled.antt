@@ -1,7 +1,7 @@
 -- Two ends that talk until both rest.
 use Rattle.std.specs.Prelude.{ℕ, ◌+◌, ◌≡◌, ◌≢◌, ◌≤◌, ◌⊎◌, Bool, true, false, if◌then◌else◌, List, [], ◌∷◌, length, Option, None, Result, Ok}
 use Rattle.std.specs.List.{list_all}
-use Rattle.quic_recovery_core.specs.Timers.{Timers, earlier}
+use Rattle.quic_time.specs.Timers.{Timers, earlier}
 use Rattle.quic_connection_core.specs.declared.answers.State.TheVariants as states
 use Rattle.quic_connection_core.specs.declared.run.Call.{Call}
 use Rattle.quic_connection_core.specs.declared.run.Call.TheVariants as calls

@@ -2,7 +2,7 @@
 ghost use Rattle.std.specs.Prelude.{◌≡◌, ◌≤◌, ◌<◌, ◌⊎◌, Bool, true, false, Ok, None, IfOk, IfSome, IfNone};
 ghost use Rattle.quic_wire_core.specs.StreamId.{other_side};
 ghost use Rattle.quic_connection_core.specs.declared.answers.State.TheVariants as states;
-ghost use Rattle.quic_recovery_core.specs.Timers.{earlier};
+ghost use Rattle.quic_time.specs.Timers.{earlier};
 ghost use Rattle.quic_connection_core.specs.Machine.{end_at};
 ghost use Rattle.quic_connection_core.specs.Runs.{gave};
 ghost use Rattle.quic_connection.specs.Ends.{world_of, policies_of};

@@ -12,8 +12,6 @@ mod close;
 mod datagram;
 mod iter;
 pub(crate) mod reading;
-#[cfg(test)]
-mod table;
 mod writing;
 
 pub use ack::{Ack, AckIter, EcnCounts};
@@ -316,72 +314,5 @@ impl From<InvalidFrame> for TransportError {
             FrameError::InvalidId => Reason::InvalidFrameId,
         };
         TransportError::new(Code::FRAME_ENCODING_ERROR, invalid.ty, reason)
-    }
-}
-
-#[cfg(test)]
-mod tests {
-    use super::*;
-    use std::test::Fail;
-
-    #[test]
-    fn tells_types(rt: HostRuntime) -> Result<(), Fail> {
-        // Whoever lends a frame of his own making names the types in it that borrow: the proof then knows of them.
-        let _: Option<Ack<'_>> = None;
-        let stream = Stream {
-            id: StreamId::from(VarInt::from_u32(0)),
-            offset: 1,
-            fin: true,
-            data: &[],
-        };
-        let frame = Frame::Stream(stream);
-        assert_eq!(rt; Frame::Padding.ty(), FrameType::PADDING);
-        assert_eq!(rt; Frame::Ping.ty(), FrameType::PING);
-        assert_eq!(rt; frame.ty(), FrameType::from(VarInt::from_u32(0x0d)));
-        assert!(rt; frame.is_ack_eliciting());
-        assert!(rt; Frame::Ping.is_ack_eliciting());
-        assert!(rt; !Frame::Padding.is_ack_eliciting());
-        assert_eq!(rt; Frame::Datagram { data: &[] }.ty(), FrameType::DATAGRAM);
-        let close = Frame::ApplicationClose {
-            error_code: 0,
-            reason: &[],
-        };
-        assert_eq!(rt; close.ty(), FrameType::APPLICATION_CLOSE);
-        assert!(rt; !close.is_ack_eliciting());
-        Ok(())
-    }
-
-    #[test]
-    fn refusals_are_encoding_errors(rt: HostRuntime) -> Result<(), Fail> {
-        let cases = [
-            (
-                FrameError::UnexpectedEnd,
-                "FRAME_ENCODING_ERROR in STREAM: unexpected end",
-            ),
-            (
-                FrameError::Malformed,
-                "FRAME_ENCODING_ERROR in STREAM: malformed",
-            ),
-            (
-                FrameError::InvalidId,
-                "FRAME_ENCODING_ERROR in STREAM: invalid frame ID",
-            ),
-        ];
-        for (reason, wanted) in cases {
-            let invalid = InvalidFrame {
-                ty: Some(FrameType::STREAM),
-                reason,
-            };
-            let error = TransportError::from(invalid);
-            let text = format!(in rt.alloc(); "{error}")?;
-            assert_eq!(rt; text.as_str(), wanted);
-        }
-        let invalid = InvalidFrame {
-            ty: None,
-            reason: FrameError::UnexpectedEnd,
-        };
-        let text = format!(in rt.alloc(); "{invalid}")?;
-        assert_eq!(rt; text.as_str(), "invalid frame: unexpected end");
-        Ok(())
     }
 }

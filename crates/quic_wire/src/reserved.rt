@@ -43,31 +43,3 @@ pub fn put_varint(out: &mut Vec<u8>, n: VarInt)
 {
     n.encode(out).unwrap()
 }
-
-#[cfg(test)]
-mod tests {
-    use super::*;
-    use std::test::Fail;
-
-    #[test]
-    fn integers_take_the_shortest_form(rt: HostRuntime) -> Result<(), Fail> {
-        let mut out = Vec::with_capacity(rt.alloc(), 16)?;
-        // RFC 9000, A.1
-        put_varint(&mut out, VarInt::from_u32(37));
-        put_varint(&mut out, VarInt::from_u32(15293));
-        put_varint(&mut out, VarInt::from_u32(494878333));
-        put_varint(&mut out, VarInt::from_u64_unchecked(151288809941952652));
-        assert!(rt;
-            out.as_slice()
-                == [
-                    0x25, 0x7b, 0xbd, 0x9d, 0x7f, 0x3e, 0x7d, 0xc2, 0x19, 0x7c, 0x5e, 0xff, 0x14,
-                    0xe8, 0x8c,
-                ]
-                .as_slice()
-        );
-        assert_eq!(rt; varint_size(VarInt::from_u32(15293)), 2);
-        append_zeros(&mut out, 1);
-        assert_eq!(rt; out.len(), 16);
-        Ok(())
-    }
-}

@@ -229,24 +229,3 @@ fn name_of(ty: u64) -> Option<&'static str>
     };
     Some(name)
 }
-
-#[cfg(test)]
-mod tests {
-    use super::*;
-    use std::test::Fail;
-
-    #[test]
-    fn prints_names(rt: HostRuntime) -> Result<(), Fail> {
-        let last = FrameType::from(VarInt::from_u32(0x0f));
-        let other = FrameType::from(VarInt::from_u32(0x2a));
-        let text = format!(in rt.alloc(); "{}, {last}, {other}", FrameType::CONNECTION_CLOSE)?;
-        assert_eq!(rt;
-            text.as_str(),
-            "CONNECTION_CLOSE, STREAM, unknown frame type 42"
-        );
-        assert!(rt; last.is_stream());
-        assert!(rt; !other.is_stream());
-        assert!(rt; FrameType::DATAGRAM.is_datagram());
-        Ok(())
-    }
-}

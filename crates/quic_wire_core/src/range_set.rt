@@ -10,8 +10,6 @@ mod iter;
 mod moving;
 mod replace;
 mod runs;
-#[cfg(test)]
-mod tests;
 
 pub use array_range_set::ArrayRangeSet;
 pub use elt_iter::EltIter;

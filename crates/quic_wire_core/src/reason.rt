@@ -55,16 +55,3 @@ impl Reason {
         }
     }
 }
-
-#[cfg(test)]
-mod tests {
-    use super::*;
-    use std::test::Fail;
-
-    #[test]
-    fn says_nothing_or_why(rt: HostRuntime) -> Result<(), Fail> {
-        assert_eq!(rt; Reason::Unsaid.as_str(), "");
-        assert_eq!(rt; Reason::FinalSize.as_str(), "a final size that can't be");
-        Ok(())
-    }
-}

@@ -304,32 +304,3 @@ fn write_reason<W: fmt::Write>(f: &mut fmt::Formatter<W>, reason: Reason) -> fmt
 }
 
 impl Error for TransportError {}
-
-#[cfg(test)]
-mod tests {
-    use super::*;
-    use std::test::Fail;
-
-    #[test]
-    fn prints_code_frame_and_reason(rt: HostRuntime) -> Result<(), Fail> {
-        let error = TransportError::new(
-            Code::FLOW_CONTROL_ERROR,
-            Some(FrameType::STREAM),
-            Reason::TooManyBytes,
-        );
-        let text = format!(in rt.alloc(); "{error}")?;
-        assert_eq!(rt;
-            text.as_str(),
-            "FLOW_CONTROL_ERROR in STREAM: past a limit on bytes"
-        );
-        assert_eq!(rt; error.copied().reason(), Reason::TooManyBytes);
-        assert!(rt; error.copied() == error);
-        assert!(rt; error != TransportError::from(Code::FLOW_CONTROL_ERROR));
-        let plain = TransportError::from(Code::from(VarInt::from_u32(0x1234)));
-        let text = format!(in rt.alloc(); "{plain}")?;
-        assert_eq!(rt; text.as_str(), "unknown error 4660");
-        assert_eq!(rt; plain.frame(), None);
-        assert_eq!(rt; plain.reason(), Reason::Unsaid);
-        Ok(())
-    }
-}

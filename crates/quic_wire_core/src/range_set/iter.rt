@@ -88,29 +88,3 @@ impl<'a> IntoIterator for &'a RangeSet {
         self.iter()
     }
 }
-
-#[cfg(test)]
-mod tests {
-    use super::*;
-    use std::test::Fail;
-
-    #[test]
-    fn runs_come_from_both_ends(rt: HostRuntime) -> Result<(), Fail> {
-        let mut set = RangeSet::new(rt.alloc());
-        let _ = set.replace(5..6)?;
-        let _ = set.replace(1..3)?;
-        let _ = set.replace(8..9)?;
-        let mut runs = set.iter();
-        assert_eq!(rt; runs.next_back(), Some(8..9));
-        assert_eq!(rt; runs.next(), Some(1..3));
-        assert_eq!(rt; runs.next_back(), Some(5..6));
-        assert_eq!(rt; runs.next(), None);
-        let mut again = set.iter();
-        for run in &set {
-            assert_eq!(rt; again.next(), Some(run));
-        }
-        assert_eq!(rt; again.next(), None);
-        assert_eq!(rt; ArrayRangeSet::new(rt.alloc()).iter().next(), None);
-        Ok(())
-    }
-}
