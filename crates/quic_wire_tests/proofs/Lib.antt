@@ -1,1 +1,2 @@
+pub mod Clear
 pub mod Reading

@@ -5,4 +5,5 @@ mod coding;
 mod frame;
 mod packet;
 mod range_set;
+mod sealing;
 mod transport_parameters;

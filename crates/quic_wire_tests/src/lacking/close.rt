@@ -27,14 +27,19 @@ fn errors_close_connections(rt: HostRuntime) -> Result<(), Fail> {
     Ok(())
 }
 
-#[test]
-fn closes_are_copied(rt: HostRuntime) -> Result<(), Fail> {
-    let close = Close::from(close_of(&rt, b"x")?);
+/// Whether a copy of a close equals it.
+fn is_copied(close: &Close) -> Result<bool, AllocError> {
     let copy = match close.clone() {
         Ok(copy) => copy,
         Err(_) => close.clone()?,
     };
-    assert!(rt; copy == close);
+    Ok(copy == *close)
+}
+
+#[test]
+fn closes_are_copied(rt: HostRuntime) -> Result<(), Fail> {
+    let close = Close::from(close_of(&rt, b"x")?);
+    assert!(rt; is_copied(&close)?);
     Ok(())
 }
 
@@ -45,8 +50,8 @@ fn applications_close_connections(rt: HostRuntime) -> Result<(), Fail> {
         Ok(close) => close,
         Err(_) => ApplicationClose::new(rt.alloc(), code, b"bye")?,
     };
-    assert_eq!(rt; close.error_code, code);
-    assert!(rt; close.reason.as_slice() == b"bye".as_slice());
+    assert!(rt; close.error_code == code && close.reason.as_slice() == b"bye".as_slice());
+    assert!(rt; is_copied(&Close::from(close))?);
     Ok(())
 }
 

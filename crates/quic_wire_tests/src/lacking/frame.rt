@@ -10,7 +10,10 @@ use std::test::Fail;
 fn encode(set: &ArrayRangeSet, out: &mut Vec<u8>) -> Result<bool, AllocError> {
     match set.max() {
         Some(max) if max < 1 << 62 => {
-            Ack::encode(42, set, Some(&COUNTS), out)?;
+            if Ack::encode(42, set, Some(&COUNTS), out).is_err() {
+                out.clear();
+                Ack::encode(42, set, Some(&COUNTS), out)?;
+            }
             Ok(true)
         }
         _ => Ok(false),
@@ -21,10 +24,7 @@ fn encode(set: &ArrayRangeSet, out: &mut Vec<u8>) -> Result<bool, AllocError> {
 fn an_ack_is_written(rt: HostRuntime) -> Result<(), Fail> {
     let set = few_of(rt.alloc(), &[(1, 4), (5, 6), (10, 12), (14, 15)])?;
     let mut out = Vec::new(rt.alloc());
-    if encode(&set, &mut out).is_err() {
-        out.clear();
-        assert!(rt; encode(&set, &mut out)?);
-    }
+    assert!(rt; encode(&set, &mut out)?);
     assert!(rt; out.as_slice() == SAMPLE.as_slice());
     Ok(())
 }
