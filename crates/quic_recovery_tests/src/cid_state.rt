@@ -112,7 +112,7 @@ fn only_issued_ids_are_retired(rt: HostRuntime) -> Result<(), Fail> {
 // So many numbers that memory may lack for one of four.
 #[test]
 fn many_ids_are_issued(rt: HostRuntime) -> Result<(), Fail> {
-    let steps = [Issue, Issue, Issue, Show((13, 13, 0, None))];
+    let steps = [Issue, Issue, Issue, Issue, Show((17, 17, 0, None))];
     run(&rt, make(&rt, 8, None)?, &steps)
 }
 
