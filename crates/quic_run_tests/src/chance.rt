@@ -1,9 +1,9 @@
 //! Runs by chance: datagrams are lost, come late, and come again, and moments step on and back.
 //! Whatever comes of it, what is read is a prefix of what was written, and once nothing is lost any
 //! more, all of it arrives.
-use crate::ends::{BothEnds, made, new_ends, read_call, stream};
+use crate::ends::{Pair, read_call, stream};
 use bytes::Bytes;
-use quic_connection::{Answer, Call, Chunk, Delivery, Event, Given, Instant, RunEvent, step};
+use quic_connection::{Answer, Call, Chunk, Delivery, Event, Instant, RunEvent};
 use quic_wire_core::{Dir, Side};
 use std::alloc::Global;
 use std::test::Fail;
@@ -43,8 +43,7 @@ impl Dice {
 #[derive(Drop)]
 struct World {
     alloc: Global,
-    ends: BothEnds,
-    given: Given,
+    pair: Pair,
     dice: Dice,
     // The greatest moment so far, in nanoseconds.
     now: u64,
@@ -62,8 +61,7 @@ impl World {
     fn new(alloc: Global, seed: u64) -> Result<World, Fail> {
         Ok(World {
             alloc,
-            ends: new_ends(alloc)?,
-            given: Given::new(alloc),
+            pair: Pair::new(alloc)?,
             dice: Dice { state: seed },
             now: 0,
             unwritten: TEXT,
@@ -76,7 +74,7 @@ impl World {
 
     fn call(&mut self, side: Side, call: Call) -> Result<Answer, Fail> {
         let event = RunEvent { side, call };
-        Ok(made(self.alloc, &mut self.ends, &mut self.given, &event)?)
+        Ok(self.pair.make(&event)?)
     }
 
     /// The client writes some of what is left, or ends the stream.
@@ -102,8 +100,8 @@ impl World {
     /// How many datagrams an end gave.
     fn given_by(&self, side: Side) -> usize {
         match side {
-            Side::Client => self.given.client.len(),
-            Side::Server => self.given.server.len(),
+            Side::Client => self.pair.given.client.len(),
+            Side::Server => self.pair.given.server.len(),
         }
     }
 
@@ -237,20 +235,29 @@ impl World {
         }
         self.hear()
     }
+
+    /// The client opens a stream, 400 things happen, and then nothing is lost any more: whether
+    /// each read gave what was written there, all of it was read, and the client was told so.
+    fn live(&mut self) -> Result<bool, Fail> {
+        self.call(Side::Client, Call::Open(Dir::Bi))?;
+        for _ in 0..400 {
+            self.happen()?;
+        }
+        self.settle()?;
+        Ok(!self.is_wrong && self.unread.is_empty() && self.is_read && self.is_finished)
+    }
+}
+
+/// Whether all of a run by chance is as it should be.
+fn arrives(alloc: Global, seed: u64) -> Result<bool, Fail> {
+    let mut world = World::new(alloc, seed)?;
+    world.live()
 }
 
 #[test]
 fn random_scripts_arrive(rt: HostRuntime) -> Result<(), Fail> {
     for seed in 1..6 {
-        let mut world = World::new(rt.alloc(), seed)?;
-        world.call(Side::Client, Call::Open(Dir::Bi))?;
-        for _ in 0..400 {
-            world.happen()?;
-            assert!(rt; !world.is_wrong, "seed {seed}");
-        }
-        world.settle()?;
-        assert!(rt; !world.is_wrong && world.unread.is_empty(), "seed {seed}");
-        assert!(rt; world.is_read && world.is_finished, "seed {seed}");
+        assert!(rt; arrives(rt.alloc(), seed)?, "seed {seed}");
     }
     Ok(())
 }

@@ -1,8 +1,9 @@
-//! Two ends with the keys of scripts, and events of theirs.
+//! Two ends with the keys of scripts, and events of theirs. Few functions own ends, since each that
+//! does is proved to let them go wherever it ends.
 use bytes::Bytes;
 use quic_connection::{
     Answer, Call, Config, ConfigError, Delivery, Ends, Given, Instant, Making, ReadCall, Received,
-    RunEvent, TransportConfig, step,
+    RunEvent, TransportConfig, run, step,
 };
 use quic_run_core::Words;
 use quic_run_core::key::{PlainHeaderKey, PlainKey, keys_for};
@@ -12,7 +13,7 @@ use std::alloc::{AllocError, Global};
 /// The order in which transport parameters are written: that of their ids.
 pub(crate) const ORDER: [u8; 13] = [0, 1, 2, 3, 4, 5, 6, 7, 8, 9, 10, 11, 12];
 
-pub(crate) type BothEnds = Ends<PlainHeaderKey, PlainKey, Words>;
+type BothEnds = Ends<PlainHeaderKey, PlainKey, Words>;
 
 /// The first id of an end.
 fn id_of(side: Side) -> ConnectionId {
@@ -36,6 +37,35 @@ fn making(side: Side) -> Making<PlainHeaderKey, PlainKey, Words> {
 pub(crate) fn new_ends(alloc: Global) -> Result<BothEnds, ConfigError> {
     let now = Instant::from_nanos(0);
     Ends::new(alloc, now, making(Side::Client), making(Side::Server))
+}
+
+/// Two ends, and the datagrams that they gave.
+#[derive(Drop)]
+pub(crate) struct Pair {
+    alloc: Global,
+    pub(crate) ends: BothEnds,
+    pub(crate) given: Given,
+}
+
+impl Pair {
+    pub(crate) fn new(alloc: Global) -> Result<Pair, ConfigError> {
+        Ok(Pair {
+            alloc,
+            ends: new_ends(alloc)?,
+            given: Given::new(alloc),
+        })
+    }
+
+    /// Makes the call of one event.
+    pub(crate) fn make(&mut self, event: &RunEvent) -> Result<Answer, AllocError> {
+        step(self.alloc, &mut self.ends, &mut self.given, event)
+    }
+}
+
+/// What a run of new ends answers, and whether it was cut short.
+pub(crate) fn ran(alloc: Global, events: &[RunEvent]) -> Result<(Vec<Answer>, bool), ConfigError> {
+    let outcome = run(alloc, new_ends(alloc)?, events);
+    Ok((outcome.answers, outcome.cut_short))
 }
 
 /// The stream that the client opens.
@@ -89,14 +119,4 @@ pub(crate) fn is_served(index: usize, answer: &Answer) -> bool {
         },
         _ => false,
     }
-}
-
-/// Makes the call of one event.
-pub(crate) fn made(
-    alloc: Global,
-    ends: &mut BothEnds,
-    given: &mut Given,
-    event: &RunEvent,
-) -> Result<Answer, AllocError> {
-    step(alloc, ends, given, event)
 }

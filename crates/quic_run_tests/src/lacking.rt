@@ -1,13 +1,12 @@
 //! Calls that take memory and that no script makes by themselves, made again and again where one
 //! allocation fails, or none: one of them lacks memory then, at most, and says so.
 use crate::config::DEFAULTS;
-use crate::ends::{BothEnds, ORDER, hello, is_served, made, new_ends};
+use crate::ends::{ORDER, Pair, hello, is_served, new_ends, ran};
 use quic_connection::{
-    Answer, Call, Config, ConfigError, Given, Instant, Received, RunEvent, TransportConfig,
-    WriteError, run,
+    Answer, Call, Config, ConfigError, Instant, Received, RunEvent, TransportConfig, WriteError,
 };
 use quic_wire_core::Side;
-use std::alloc::AllocError;
+use std::alloc::{AllocError, Global};
 use std::process::Abort;
 use std::test::Fail;
 
@@ -29,11 +28,16 @@ fn parameters(rt: HostRuntime) {
     }
 }
 
+/// Why no two ends are made, if they aren't.
+fn refusal(alloc: Global) -> Option<ConfigError> {
+    new_ends(alloc).err()
+}
+
 #[test]
 fn both_ends(rt: HostRuntime) {
     let mut lacked = false;
     for _ in 0..TIMES {
-        if let Err(error) = new_ends(rt.alloc()) {
+        if let Some(error) = refusal(rt.alloc()) {
             assert!(rt; error == ConfigError::Memory && !lacked);
             lacked = true;
         }
@@ -42,38 +46,36 @@ fn both_ends(rt: HostRuntime) {
 
 /// A PING goes: whether the client still serves. A step that lacked memory of its own changed
 /// nothing.
-fn ping_goes<R: Abort + AllocGlobal>(rt: &R, ends: &mut BothEnds, given: &mut Given) -> bool {
-    let before = given.client.len();
+fn ping_goes<R: Abort>(rt: &R, pair: &mut Pair, poll: &RunEvent) -> bool {
+    let before = pair.given.client.len();
+    pair.ends.client.ping();
+    let answer = pair.make(poll);
+    let is_failed = pair.ends.client.is_failed();
+    let gave = pair.given.client.len() > before;
+    match answer {
+        Ok(Answer::Poll(Ok(Some(_)))) => assert!(rt; gave && !is_failed),
+        Ok(_) => assert!(rt; !gave && is_failed),
+        Err(AllocError) => assert!(rt; !gave && !is_failed),
+    }
+    !is_failed
+}
+
+fn pings_go<R: Abort>(rt: &R, pair: &mut Pair) {
     let poll = RunEvent {
         side: Side::Client,
         call: Call::Poll(Instant::from_nanos(0)),
     };
-    ends.client.ping();
-    match made(rt.alloc(), ends, given, &poll) {
-        Ok(Answer::Poll(Ok(Some(_)))) => {
-            assert!(rt; given.client.len() > before);
-            true
-        }
-        Ok(_) => {
-            assert!(rt; ends.client.is_failed() && given.client.len() == before);
-            false
-        }
-        Err(AllocError) => {
-            assert!(rt; !ends.client.is_closed() && given.client.len() == before);
-            true
+    for _ in 0..TIMES {
+        if !ping_goes(rt, pair, &poll) {
+            break;
         }
     }
 }
 
 #[test]
 fn a_step(rt: HostRuntime) -> Result<(), Fail> {
-    let mut ends = new_ends(rt.alloc())?;
-    let mut given = Given::new(rt.alloc());
-    for _ in 0..TIMES {
-        if !ping_goes(&rt, &mut ends, &mut given) {
-            break;
-        }
-    }
+    let mut pair = Pair::new(rt.alloc())?;
+    pings_go(&rt, &mut pair);
     Ok(())
 }
 
@@ -88,20 +90,23 @@ fn lacks_memory(answer: &Answer) -> bool {
     )
 }
 
+/// Whether these answers of a run are those where memory serves, up to a call that lacked it.
+fn are_right(answers: &[Answer], cut_short: bool) -> bool {
+    for (index, answer) in answers.iter().enumerate() {
+        if !is_served(index, answer) {
+            return !cut_short && lacks_memory(answer);
+        }
+    }
+    true
+}
+
 #[test]
 fn a_run(rt: HostRuntime) -> Result<(), Fail> {
     let events = hello(rt.alloc())?;
     for _ in 0..3 {
-        let outcome = run(rt.alloc(), new_ends(rt.alloc())?, &events);
-        let whole = outcome.answers.len() == 6;
-        assert!(rt; outcome.answers.len() == outcome.views.len());
-        assert!(rt; outcome.cut_short != whole);
-        for (index, answer) in outcome.answers.iter().enumerate() {
-            if !is_served(index, answer) {
-                assert!(rt; whole && lacks_memory(answer), "event {index}");
-                break;
-            }
-        }
+        let (answers, cut_short) = ran(rt.alloc(), &events)?;
+        assert!(rt; are_right(&answers, cut_short));
+        assert!(rt; cut_short != (answers.len() == 6));
     }
     Ok(())
 }

@@ -1,6 +1,7 @@
 //! The worked example as a list of events, and step by step.
-use crate::ends::{hello, is_served, made, new_ends};
-use quic_connection::{Given, run};
+use crate::ends::{Pair, hello, is_served, ran};
+use quic_connection::RunEvent;
+use std::process::Abort;
 use std::test::Fail;
 
 /// The datagram of `hello` with the end of its stream: a short header, a STREAM frame, the number 0
@@ -12,27 +13,29 @@ const SEALED: [u8; 34] = [
 
 #[test]
 fn five_bytes_arrive(rt: HostRuntime) -> Result<(), Fail> {
-    let events = hello(rt.alloc())?;
-    let outcome = run(rt.alloc(), new_ends(rt.alloc())?, &events);
-    assert_eq!(rt; outcome.answers.len(), 6);
-    for (index, answer) in outcome.answers.iter().enumerate() {
+    let (answers, cut_short) = ran(rt.alloc(), &hello(rt.alloc())?)?;
+    assert!(rt; answers.len() == 6 && !cut_short);
+    for (index, answer) in answers.iter().enumerate() {
         assert!(rt; is_served(index, answer), "event {index}");
+    }
+    Ok(())
+}
+
+fn assert_served<R: Abort>(rt: &R, pair: &mut Pair, events: &[RunEvent]) -> Result<(), Fail> {
+    for (index, event) in events.iter().enumerate() {
+        let answer = pair.make(event)?;
+        assert!(rt; is_served(index, &answer), "event {index}");
+    }
+    match pair.given.client.as_slice() {
+        [datagram] => assert!(rt; datagram.as_slice() == SEALED.as_slice()),
+        _ => panic!(rt; "not one datagram"),
     }
     Ok(())
 }
 
 #[test]
 fn five_bytes_arrive_step_by_step(rt: HostRuntime) -> Result<(), Fail> {
-    let mut ends = new_ends(rt.alloc())?;
-    let mut given = Given::new(rt.alloc());
     let events = hello(rt.alloc())?;
-    for (index, event) in events.iter().enumerate() {
-        let answer = made(rt.alloc(), &mut ends, &mut given, event)?;
-        assert!(rt; is_served(index, &answer), "event {index}");
-    }
-    match given.client.as_slice() {
-        [datagram] => assert!(rt; datagram.as_slice() == SEALED.as_slice()),
-        _ => panic!(rt; "not one datagram"),
-    }
-    Ok(())
+    let mut pair = Pair::new(rt.alloc())?;
+    assert_served(&rt, &mut pair, &events)
 }

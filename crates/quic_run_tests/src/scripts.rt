@@ -1,5 +1,6 @@
 //! Scripts whose reader or writer fails.
 use quic_run_core::{ScriptError, run_script, run_script_within};
+use std::alloc::Global;
 use std::io;
 use std::io::{ErrorKind, Read, Write};
 use std::test::Fail;
@@ -57,28 +58,21 @@ impl Write for Full {
     }
 }
 
-#[test]
-fn a_reader_that_fails_is_a_read_fault(rt: HostRuntime) {
-    let reader = Failing {
-        text: b"c open bi\nc wri",
-        endless: false,
-    };
-    let mut out = Vec::new(rt.alloc());
-    let ended = run_script(rt.alloc(), reader, &mut out);
-    assert_eq!(rt; ended, Err(ScriptError::ReadFault));
-    assert!(rt; out.as_slice() == b"c open 0\n".as_slice());
+/// How a script ends whose reader fails behind this text or has no end, and what it prints.
+fn ended(alloc: Global, text: &[u8], endless: bool) -> (Result<(), ScriptError>, Vec<u8>) {
+    let mut out = Vec::new(alloc);
+    let ended = run_script_within(alloc, Failing { text, endless }, &mut out, 100);
+    (ended, out)
 }
 
 #[test]
-fn a_reader_is_called_so_often_at_most(rt: HostRuntime) {
-    let endless = Failing {
-        text: b"c open bi\n",
-        endless: true,
-    };
-    let mut out = Vec::new(rt.alloc());
-    let ended = run_script_within(rt.alloc(), endless, &mut out, 100);
-    assert_eq!(rt; ended, Err(ScriptError::ReadFault));
-    assert!(rt; out.as_slice() == b"c open 0\n".as_slice());
+fn a_reader_that_fails_or_has_no_end_is_a_read_fault(rt: HostRuntime) {
+    let texts: [(&[u8], bool); 2] = [(b"c open bi\nc wri", false), (b"c open bi\n", true)];
+    for (text, endless) in texts {
+        let (ended, out) = ended(rt.alloc(), text, endless);
+        assert_eq!(rt; ended, Err(ScriptError::ReadFault));
+        assert!(rt; out.as_slice() == b"c open 0\n".as_slice());
+    }
 }
 
 #[test]
