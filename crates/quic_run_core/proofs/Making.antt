@@ -1,5 +1,5 @@
 -- The two ends of a script, as they are made and as they go on.
-use Rattle.std.proofs.Common.{◌≡◌, ◌≢◌, ℕ, true, List, ◌++◌, [], Option, Some, None, Result, Ok, Err, IfOk, OnErr, refl, sym, ap, ◌∙◌, append-nil}
+use Rattle.std.proofs.Common.{◌≡◌, ◌≢◌, ℕ, true, List, ◌++◌, [], length, Option, Some, None, Result, Ok, Err, IfOk, OnErr, refl, sym, ap, ◌∙◌, append-nil}
 use Rattle.std.specs.declared.alloc.AllocError.{AllocError}
 use Rattle.quic_wire_core.specs.declared.stream_id.Side.{Side}
 use Rattle.quic_wire_core.specs.declared.stream_id.Side.TheVariants.{Client, Server}
@@ -14,12 +14,35 @@ use Rattle.quic_config.specs.Transport.{Settings, settings_with, parameters_of}
 use Rattle.quic_connection_core.specs.End.{End, MadeFrom, refusal_of}
 use Rattle.quic_connection_core.specs.Machine.{World, Policies, IsStep, given_by, end_at, changed, gives, policy_at}
 use Rattle.quic_run_core.specs.declared.options.Options.{Options}
-use Rattle.quic_run_core.specs.Scripts.{first_id, first_end}
+use Rattle.quic_connection_core.specs.Headline.{IsMaking, AreStarted}
+use Rattle.quic_run_core.specs.Scripts.{first_id, first_end, first_world, making}
 
 -- the ids of both ends are lawful
 lawful : (E : Type 0) (side : Side) (theirs : ParameterValues) → refusal_of {E = E} (Ok theirs) (first_id side) (first_id (other_side side)) ≡ None
 lawful E Client theirs = refl
 lawful E Server theirs = refl
+
+-- an id has eight bytes
+pub eight : (side : Side) → length (first_id side) ≡ 8
+eight Client = refl
+eight Server = refl
+
+-- two ends that are made so meet the premises on ends
+pub are_started : (client server : Options) → IsMaking (making Client client) → IsMaking (making Server server) → AreStarted (first_world client server)
+are_started client server client_is server_is = record {
+  client_making = making Client client;
+  server_making = making Server server;
+  client_is = client_is;
+  server_is = server_is;
+  client = made Client client server server_is.says;
+  server = made Server server client client_is.says;
+  client_gave = refl;
+  server_gave = refl;
+}
+  where
+    made : (side : Side) (own peer : Options) → parameters_at (making (other_side side) peer).parameters ≡ Ok (parameters_of (settings_with peer.transport true))
+        → MadeFrom side (making side own).settings (making (other_side side) peer).parameters (first_id side) (first_id (other_side side)) 0 true (first_end side own peer)
+    made side own peer says = rw says refl
 
 -- an end is never refused, but for want of memory
 pub never_refused : {E : Type 0} (side other : Side) (e : ConfigError) (read : Result ParameterValues E) (theirs : ParameterValues) (own_id peer_id : List ℕ) → read ≡ Ok theirs → own_id ≡ first_id side → other ≡ other_side side → peer_id ≡ first_id other → (e ≢ config_errors.Memory → Some e ≡ refusal_of read own_id peer_id) → e ≢ config_errors.Memory → ⊥

@@ -6,7 +6,10 @@ use Rattle.quic_wire_core.specs.declared.stream_id.Side.{Side}
 use Rattle.quic_wire_core.specs.declared.stream_id.Side.TheVariants.{Client, Server}
 use Rattle.quic_wire_core.specs.StreamId.{other_side}
 use Rattle.quic_config.specs.Transport.{settings_with, default_transport, parameters_of}
+use Rattle.quic_wire.specs.ParametersWritten.{written_parameters}
 use Rattle.quic_connection_core.specs.End.{End, new_end}
+use Rattle.quic_connection_core.specs.Headline.{Making}
+use Rattle.quic_connection.specs.Ends.{in_order}
 use Rattle.quic_connection_core.specs.Machine.{World, IsStep, given_by}
 use Rattle.quic_connection_core.specs.declared.run.RunEvent.{RunEvent}
 use Rattle.quic_connection_core.specs.declared.run.Answer.{Answer}
@@ -46,6 +49,12 @@ first_end side own peer = new_end side (settings_with own.transport true) (param
 -- both ends as they are made, of the client's options and the server's
 abbrev pub first_world : Options → Options → World
 first_world client server = record { client = first_end Client client server; server = first_end Server server client; from_client = []; from_server = [] }
+
+-- how an end is made, as the premises of every promise on runs name it (its parameters are written in the order of their ids)
+abbrev pub making : Side → Options → Making
+making side own =
+    let settings = settings_with own.transport true in
+    record { settings = settings; parameters = written_parameters (parameters_of settings) in_order; id = first_id side; moment = 0; validated = true }
 
 -- What is printed of an event in a world, and the world behind it: the machine answers so, and leaves it so.
 pub record IsTold (w : World) (event : RunEvent) (text : List ℕ) (next : World) : Type 0 where

@@ -1,13 +1,15 @@
 //! The two ends of a script.
 ghost use Rattle.std.specs.Prelude.{◌≡◌, ◌++◌, IfOk, IfErr, OnOk, string_bytes};
 ghost use Rattle.quic_wire_core.specs.declared.stream_id.Side.TheVariants.{Client, Server};
+ghost use Rattle.quic_wire_core.specs.StreamId.{other_side};
 ghost use Rattle.quic_connection_core.specs.Machine.{given_by};
+ghost use Rattle.quic_connection_core.specs.Headline.{IsMaking, AreStarted};
 ghost use Rattle.quic_connection.specs.Ends.{world_of};
 ghost use Rattle.quic_run_core.specs.KeysOf.{keys_of};
 ghost use Rattle.quic_run_core.specs.Policies.{plain_policies, policies_in};
 ghost use Rattle.quic_run_core.specs.Shown.{AreNumbers, shown_text};
 ghost use Rattle.quic_run_core.specs.Refusals.{line_error};
-ghost use Rattle.quic_run_core.specs.Scripts.{first_id, first_end, first_world, Tells, TellsRest};
+ghost use Rattle.quic_run_core.specs.Scripts.{first_id, first_end, first_world, making, Tells, TellsRest};
 
 use crate::answer::{put_answer, put_rest};
 use crate::key::{PlainHeaderKey, PlainKey, keys_for};
@@ -52,6 +54,7 @@ impl From<ConfigError> for LineError {
 fn make_end(alloc: Global, side: Side, own: &Options, peer: &Options) -> Result<End, LineError>
     ensures end { IfOk result (λ made. made.end ≡ first_end side own.now peer.now) }
     ensures keys { IfOk result (λ made. made.keys ≡ keys_of side) }
+    ensures making { OnOk result (IsMaking (making (other_side side) peer.now)) }
     ensures memory { IfErr result (λ e. e ≡ LineError.OutOfMemory) }
 {
     let parameters = Config::new(peer.transport).write_parameters(alloc, &ORDER)?;
@@ -85,9 +88,10 @@ pub(crate) struct Session {
 }
 
 impl Session {
-    /// Two ends with these options. An error is want of memory.
+    /// Two ends with these options, which meet what the promises on runs ask of ends. An error is want of memory.
     pub(crate) fn new(alloc: Global, client: &Options, server: &Options) -> Result<Self, LineError>
         ensures world { IfOk result (λ session. world_of session.ends session.given ≡ first_world client.now server.now) }
+        ensures started { OnOk result (AreStarted (first_world client.now server.now)) }
         ensures memory { IfErr result (λ e. e ≡ LineError.OutOfMemory) }
     {
         Ok(Session {

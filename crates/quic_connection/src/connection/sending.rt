@@ -1,6 +1,6 @@
 //! Giving a datagram (RFC 9000, sections 12.2, 13.2, 13.3 and 14.1).
 ghost use Rattle.std.specs.Option.{option_map, option_to_list};
-ghost use Rattle.std.specs.Prelude.{◌≡◌, ◌≢◌, ◌+◌, ◌-◌, ◌≤◌, ◌++◌, length, replicate, take, drop, IfOk, OnOk, OnErr, Some, true, vec_len, vec_capacity};
+ghost use Rattle.std.specs.Prelude.{◌≡◌, ◌≢◌, ◌+◌, ◌-◌, ◌≤◌, ◌++◌, length, replicate, take, drop, IfOk, OnOk, OnErr, Ok, Some, None, true, vec_len, vec_capacity};
 ghost use Rattle.quic_wire.specs.Number.{truncated};
 ghost use Rattle.quic_wire.specs.Header.{header_bytes};
 ghost use Rattle.quic_wire.specs.Datagram.{protected};
@@ -17,6 +17,7 @@ ghost use Rattle.quic_connection_core.specs.Poll.{polled, first_pending, compose
 ghost use Rattle.quic_connection.specs.Frames.{stream_bytes, end_after_stream, stream_frame, ping_bytes, pinged, asking_bytes, end_after_asking, asks_behind, asking_meta, most_ack_bytes, fits_behind, ack_bytes_if, acked_if, end_after_ack_if, tracked_as};
 ghost use Rattle.quic_connection.specs.Given.{given_bytes};
 ghost use Rattle.quic_connection.specs.Lacking.{GivesOrHasFailed};
+ghost use Rattle.quic_connection.specs.Settled.{IsSilent};
 
 use crate::connection::Connection;
 use crate::connection::tracking::{Carried, SentPacket};
@@ -64,7 +65,8 @@ impl<H: HeaderKey + Drop, K: PacketKey + Drop, R: Rng + Drop> Connection<H, K, R
     /// until it is acknowledged or lost, and sets the loss timer anew.
     ///
     /// The datagram has at most 1200 bytes and is to be marked ECT(0). Where something waits and the packet numbers are
-    /// used up, the end closes, no timer of it is set any more, and nothing is given.
+    /// used up, the end closes, no timer of it is set any more, and nothing is given. An end that gives nothing and is open
+    /// has nothing left to send.
     ///
     /// # Errors
     ///
@@ -83,6 +85,7 @@ impl<H: HeaderKey + Drop, K: PacketKey + Drop, R: Rng + Drop> Connection<H, K, R
         ensures nothing { OnErr result (out.new.items ≡ out.old.items) }
         ensures lacking { OnErr result (GivesOrHasFailed (polled (policy_of H.masks H.hides H.unmasks H.reveals K.sealed K.opened self.old) self.old.end now).answer) }
         ensures still { self.old.end.closing.state ≡ State.Failed → self.new ≡ self.old }
+        ensures silent { result ≡ Ok None → self.new.end.closing.state ≡ State.Open → IsSilent self.new.end }
     {
         match self.state() {
             State::Failed => return Err(Failed),

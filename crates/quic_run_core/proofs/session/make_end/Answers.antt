@@ -1,12 +1,29 @@
-use Rattle.std.proofs.Common.{ℕ, List, refl, ap, ◌∙◌}
+use Rattle.std.proofs.Common.{◌≡◌, ℕ, List, Ok, true, refl, ap, subst, ◌∙◌}
 use Rattle.std.proofs.lemmas.Result.{err_from_is_err_and}
 use Rattle.quic_wire.specs.ParametersRead.{parameters_at}
-use Rattle.quic_run_core.proofs.Making.{never_refused, is_memory, made_first}
+use Rattle.quic_wire_core.specs.StreamId.{other_side}
+use Rattle.quic_wire.specs.ParametersWritten.{written_parameters}
+use Rattle.quic_config.specs.Transport.{Settings, settings_with, parameters_of}
+use Rattle.quic_connection_core.specs.Headline.{IsInRange}
+use Rattle.quic_connection.specs.Ends.{in_order}
+use Rattle.quic_run_core.specs.declared.options.Options.{Options}
+use Rattle.quic_run_core.proofs.Making.{never_refused, is_memory, made_first, eight}
 use Rattle.quic_run_core.proofs.session.make_end.Goals as goal
 
 pub returns-clause-end : goal.returns-clause-end
 returns-clause-end c =
     made_first c.args.side c.not.result c.args.own.now c.args.peer.now _ c.new.result _ _ _ _ _ _ c.new-2.ensures c.new.ensures c.deref.ensures.value c.in_ok-parameters.ensures.read_back c.first_id.ensures c.not.ensures c.first_id-2.ensures c.from_nanos.ensures c.in_ok-end.ensures.made
+
+pub returns-clause-making : goal.returns-clause-making
+returns-clause-making c =
+    let peer : Options = c.args.peer.now in
+    let set : c.new.result ≡ settings_with peer.transport true = c.new.ensures in
+    record {
+      range = subst (λ (s : Settings). IsInRange s) set c.in_ok-parameters.ensures.range;
+      says = subst (λ (s : Settings). parameters_at (written_parameters (parameters_of s) in_order) ≡ Ok (parameters_of s)) set
+          (subst (λ (bytes : List ℕ). parameters_at bytes ≡ Ok (parameters_of c.new.result)) c.in_ok-parameters.ensures.bytes c.in_ok-parameters.ensures.read_back);
+      id = eight (other_side c.args.side);
+    }
 
 pub returns-in_err-end-clause-memory : goal.returns-in_err-end-clause-memory
 returns-in_err-end-clause-memory c =

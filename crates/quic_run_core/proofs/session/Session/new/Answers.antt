@@ -1,0 +1,19 @@
+use Rattle.std.proofs.Common.{refl}
+use Rattle.std.proofs.lemmas.Result.{err_from_is_err_and}
+use Rattle.quic_run_core.proofs.Making.{are_started}
+use Rattle.quic_run_core.proofs.session.Session.new.Goals as goal
+
+pub returns-clause-started : goal.returns-clause-started
+returns-clause-started c = are_started c.args.client.now c.args.server.now c.in_ok-make_end-2.ensures.making c.in_ok-make_end.ensures.making
+
+pub returns-in_err-make_end-2-clause-memory : goal.returns-in_err-make_end-2-clause-memory
+returns-in_err-make_end-2-clause-memory c =
+    let p = err_from_is_err_and c.from_residual-in_err-make_end-2.result c.from_residual-in_err-make_end-2.ensures.1 in
+    rw (p.1, p.2) c.in_err-make_end-2.ensures.memory
+
+pub invariant_of-result : goal.invariant_of-result
+invariant_of-result c = record {
+  plain = rw (c.in_ok-make_end.ensures.keys, c.in_ok-make_end-2.ensures.keys) refl;
+  client_known = rw (c.new.ensures.client, c.new-2.ensures.items) refl;
+  server_known = rw (c.new.ensures.server, c.new-3.ensures.items) refl;
+}
