@@ -39,6 +39,7 @@ use Rattle.quic_connection_core.proofs.AckedSteps.{adds_step, arrives_grows, arr
 use Rattle.quic_connection_core.proofs.TrackedSteps.{tracked_more, tracked_step}
 use Rattle.quic_connection_core.proofs.Finishing.{Tells}
 use Rattle.quic_connection_core.proofs.Telling.{are_ended, tells_delivery, tells_step}
+use Rattle.quic_connection_core.proofs.UnderWay.{Fly, arrivals_fly, fly_step}
 use Rattle.quic_connection_core.proofs.Stays.{Stays, stays_items, stays_received}
 use Rattle.quic_connection_core.proofs.Steps.{gives_count}
 use Rattle.quic_connection_core.proofs.Intakes.{count_more, intake_more, took_more, nothing_handed}
@@ -89,6 +90,23 @@ writer_arrives p q own id x y given final back theirs wrote read call a state re
   tells_step p x theirs call a wrote state refl is w.streams (are_ended (came q id final read).took wrote x.side x.sending x.events w.streams w.arrives) w.tells,
 )
 
+-- a datagram that the reader gave comes to the end that writes: what is in flight stands in a packet that it waits for
+fly_takes : (p q : Policy) (own id : List ℕ) (x y : End) (given final back theirs : List (List ℕ)) (wrote read : List Told) (delivery : Delivery) (o : Option (List ℕ)) → CanOpen q p → IsLawful q → length own ≡ own_id_length
+    → slice_get theirs delivery.index ≡ o → Way q p id own y x theirs back final read wrote → Way p q own id x y given final back wrote read → Fly (after_delivered p x delivery.now o)
+fly_takes p q own id x y given final back theirs wrote read delivery None mates lawful eight at_given other w = w.flies
+fly_takes p q own id x y given final back theirs wrote read delivery (Some d) mates lawful eight at_given other w =
+    let i : Intake = came p own back wrote in
+    let found = each_at (IsSent q own read) 0 other.sents theirs delivery.index d other.gives.each at_given in
+    let frames : List FrameValue = found.0.1 in
+    let g : IsGiven q own read (0 + delivery.index) found.0.0 frames d = found.2 in
+    by_arrival q p own read (0 + delivery.index) found.0.0 frames d g x delivery.now i (λ o j. Fly o.end) mates lawful eight other.known other.knows (arrivals_fly x.side wrote x delivery.now (0 + delivery.index) frames i w.streams w.flies)
+
+-- after a call, what is in flight stands in a packet that the end waits for
+writer_flies : (p q : Policy) (own id : List ℕ) (x y : End) (given final back theirs : List (List ℕ)) (wrote read : List Told) (call : Call) (a : Answer) → CanOpen q p → IsLawful q → length own ≡ own_id_length
+    → Way q p id own y x theirs back final read wrote → Way p q own id x y given final back wrote read → Fly (after_call p x theirs call a)
+writer_flies p q own id x y given final back theirs wrote read (calls.Deliver delivery) a mates lawful eight other w = fly_takes p q own id x y given final back theirs wrote read delivery (slice_get theirs delivery.index) mates lawful eight refl other w
+writer_flies p q own id x y given final back theirs wrote read call a mates lawful eight other w = fly_step p x theirs call a x.side wrote w.sents refl (w.gives.next ∙ sents_length p id wrote 0 w.sents given w.gives.each) w.streams w.tracked w.flies
+
 pub way_writer : (p q : Policy) (own id : List ℕ) (x y : End) (given final back theirs : List (List ℕ)) (wrote read : List Told) (call : Call) (a : Answer) (state : State) → length id ≡ 8 → CanOpen q p → IsLawful q → length own ≡ own_id_length
     → IsAnswer p x theirs call a → fails a ≡ false
     → Way q p id own y x theirs back final read wrote → Way p q own id x y given final back wrote read
@@ -120,6 +138,7 @@ way_writer p q own id x y given final back theirs wrote read call a state eight 
       arrives = arrives_grows (came q id final read).took wrote (wrote ++ told_of call a state ∷ []) (after_call p x theirs call a).sending (after_call p x theirs call a).events (grows_step p x theirs call a wrote state is served w.streams) after.0;
       tells = after.2;
       tracked = after.1;
+      flies = writer_flies p q own id x y given final back theirs wrote read call a mates lawful own_eight other w;
     }
 
 -- ---- the end that reads makes a call
@@ -223,6 +242,7 @@ way_reads p q own id x y given final back wrote read call a state other is serve
       arrives = arrives_on (came q id final read).took (came q id final (read ++ t ∷ [])).took wrote x.sending x.events (took_more q (id ∷ []) final read t nothing_came) w.arrives;
       tells = w.tells;
       tracked = w.tracked;
+      flies = w.flies;
     }
 
 -- ---- the reader is handed a datagram
@@ -313,6 +333,7 @@ way_takes p q own id x y given final back wrote read delivery a d mates lawful e
       arrives = arrives_on (came q id final read).took (came q id final (read ++ t ∷ [])).took wrote x.sending x.events (took_more q (id ∷ []) final read t nothing_came) w.arrives;
       tells = w.tells;
       tracked = w.tracked;
+      flies = w.flies;
     }
 
 -- a delivery to the reader
@@ -341,6 +362,7 @@ way_delivered p q own id x y given final back wrote read delivery a mates lawful
       arrives = arrives_on (came q id final read).took (came q id final (read ++ t ∷ [])).took wrote x.sending x.events (took_more q (id ∷ []) final read t nothing_came) w.arrives;
       tells = w.tells;
       tracked = w.tracked;
+      flies = w.flies;
     }
 way_delivered p q own id x y given final back wrote read delivery a mates lawful eight more served (Some d) at (inl is) w =
     way_takes p q own id x y given final back wrote read delivery a d mates lawful eight at

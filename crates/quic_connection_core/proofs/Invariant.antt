@@ -15,7 +15,8 @@ use Rattle.quic_wire.specs.Number.{truncated}
 use Rattle.quic_wire.specs.Grammar.{Payload}
 use Rattle.quic_wire.specs.Datagram.{sent}
 use Rattle.quic_streams_core.specs.Arrived.{IsLawful, byte_from, byte_at}
-use Rattle.quic_streams_core.specs.Buffered.{IsBuffered}
+use Rattle.quic_streams_core.specs.Buffered.{IsBuffered, is_in_flight}
+use Rattle.quic_streams_core.specs.declared.stream_meta.StreamMeta.{StreamMeta}
 use Rattle.quic_connection_core.specs.declared.answers.State.{State}
 use Rattle.quic_connection_core.specs.declared.answers.State.TheVariants as states
 use Rattle.quic_connection_core.specs.Policy.{Policy}
@@ -122,6 +123,39 @@ pub record Arrives (took : List Packet) (told : List Told) (s : Sending) (events
 -- each tracked packet was given, and carries what its frames say
 abbrev pub AreTracked : List Sent → Table TrackedPacket → Type 0
 AreTracked sents packets = (n : ℕ) (t : TrackedPacket) → In (n, t) packets → (s : Sent) × (slice_get sents n ≡ Some s) × (t.carried ≡ carried_in s.1)
+
+-- ---- what is in flight
+
+-- a frame stands in one of these tracked packets
+abbrev pub StandsIn : Table TrackedPacket → StreamMeta → Type 0
+StandsIn [] m = ⊥
+StandsIn (p ∷ ps) m = In m p.1.carried.streams ⊎ StandsIn ps m
+
+-- an offset of a stream stands in one of these frames
+pub record HasOffset (F : StreamMeta → Type 0) (id o : ℕ) : Type 0 where
+  pub frame : StreamMeta
+  pub is : F frame
+  pub of_stream : frame.id ≡ id
+  pub from : frame.offsets.start ≤ o
+  pub below : o < frame.offsets.end
+
+-- the end of a stream stands in one of these frames
+pub record HasEnd (F : StreamMeta → Type 0) (id : ℕ) : Type 0 where
+  pub frame : StreamMeta
+  pub is : F frame
+  pub of_stream : frame.id ≡ id
+  pub fin : frame.fin ≡ true
+
+-- what of a half is in flight stands in one of these frames; once it is finished its end waits, stands in one of them, or is acknowledged
+pub record HalfFlies (F : StreamMeta → Type 0) (id : ℕ) (h : SendHalf) : Type 0 where
+  pub bytes : (o : ℕ) → is_in_flight h.buffer o ≡ true → HasOffset F id o
+  pub end : h.finished ≡ true → (h.end_waits ≡ true) ⊎ HasEnd F id ⊎ (h.end_acked ≡ true)
+
+-- a fact of each half
+abbrev pub AllHalves : (ℕ → SendHalf → Type 0) → Table SendHalf → Type 0
+AllHalves P halves = (id : ℕ) (h : SendHalf) → at halves id ≡ Some h → P id h
+
+-- ---- what was sent
 
 -- the datagram of a number that was sent so
 abbrev pub IsSent : Policy → List ℕ → List Told → ℕ → Sent → List ℕ → Type 0

@@ -36,6 +36,8 @@ mod Telling
 mod Arriving
 mod AckedSteps
 mod TrackedSteps
+mod UnderWay
+pub mod Ledger
 mod Stays
 mod Frames
 mod Writes

@@ -8,6 +8,7 @@ use Rattle.quic_connection_core.specs.Machine.{World, Policies}
 use Rattle.quic_connection_core.specs.Runs.{Told, Intake, nothing_came, intake, count_given, references}
 use Rattle.quic_connection_core.proofs.Invariant.{Streams, Sent, Gives, Content, Kept, Accepted, KnowsIn, NameTaken, WereSent, AreTaken, Arrives, AreTracked, Acks}
 use Rattle.quic_connection_core.proofs.Finishing.{Tells}
+use Rattle.quic_connection_core.proofs.UnderWay.{Fly}
 
 -- what came to an end that is known by one id
 abbrev pub came : Policy → List ℕ → List (List ℕ) → List Told → Intake
@@ -43,6 +44,8 @@ pub record Way (p q : Policy) (own id : List ℕ) (x y : End) (given final back 
   pub tells : Tells wrote x.sending.halves x.events
   -- what x waits for was sent
   pub tracked : AreTracked sents x.tracking.packets
+  -- what of x is in flight stands in a packet that it waits for
+  pub flies : Fly x
 
 -- both ways, and the sides of both ends
 pub record Both (k : Policies) (client_id server_id : List ℕ) (w : World) (from_client from_server : List (List ℕ)) (client server : List Told) : Type 0 where

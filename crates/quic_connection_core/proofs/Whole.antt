@@ -16,7 +16,8 @@ use Rattle.quic_connection_core.specs.declared.answers.StreamEvent.TheVariants.{
 use Rattle.quic_connection_core.specs.Ids.{known, own_id}
 use Rattle.quic_connection_core.specs.Calls.{end_accepts}
 use Rattle.quic_connection_core.specs.Machine.{World, Policies, IsStep, end_at, fails, Follows}
-use Rattle.quic_connection_core.specs.Runs.{Run, Told, told_by, until, AreServed, written, ended, nexts, took}
+use Rattle.quic_connection_core.specs.Runs.{Run, Told, Packet, told_by, until, AreServed, written, ended, nexts, intake, nothing_came, took}
+use Rattle.quic_connection_core.specs.Duties.{AreSomewhere, DutiesStand}
 use Rattle.quic_connection_core.specs.Headline.{IsInRange, IsHonest, AreStarted, IsRun, OrderedPrefix, Slices, Once, EndAfterAll, BlockedOnlyWithoutBytes, AcceptsAll, FinishedMeansArrived, ToldOnce, TellsOnce, AcknowledgedWereTaken, LossTimerFollows, LossTimersFollow, NumbersRise}
 use Rattle.quic_wire.specs.Parameters.{ParameterValues}
 use Rattle.quic_wire.specs.ParametersRead.{parameters_at}
@@ -30,9 +31,10 @@ use Rattle.quic_connection_core.proofs.Acking.{acks_first}
 use Rattle.quic_connection_core.proofs.Acts.{both_step}
 use Rattle.quic_connection_core.proofs.Order.{order_prefix, order_slices, order_once, order_ended}
 use Rattle.quic_connection_core.proofs.Moments.{Grown, grown, Moment, moment}
-use Rattle.quic_connection_core.proofs.Way.{Way, Both}
+use Rattle.quic_connection_core.proofs.Way.{Way, Both, came}
 use Rattle.quic_connection_core.proofs.Seen.{Seen, seen_from, answered}
 use Rattle.quic_connection_core.proofs.Clauses.{accepted_is, finished_told, once_told, blocked_is}
+use Rattle.quic_connection_core.proofs.Ledger.{are_somewhere}
 
 -- the first ids of both ends
 pub record FirstIds (w : World) (client_id server_id : List ℕ) : Type 0 where
@@ -80,6 +82,7 @@ way_first p q x_side y_side x_settings y_settings x_id y_id x_now y_now x_valida
   arrives = record { halves = λ id h found. cc; finished = λ id is. absurd is };
   tells = λ id. refl;
   tracked = λ n t is. absurd is;
+  flies = λ id h found. cc;
 }
 
 both_first : (k : Policies) (w : World) (from_client from_server : List (List ℕ)) (s : AreStarted w) → Both k s.client_making.id s.server_making.id w from_client from_server [] []
@@ -195,6 +198,38 @@ told_once r end honest run served side = at side
     at : (side : Side) → ToldOnce (until r side n) (end_at side end)
     at Client = subst (λ (w : World). ToldOnce (until r Client n) w.client) (sym is) (once_told (until r Client n) m.world.client m.holds.to_server.tells)
     at Server = subst (λ (w : World). ToldOnce (until r Server n) w.server) (sym is) (once_told (until r Server n) m.world.server m.holds.to_client.tells)
+
+pub duties_stand : (r : Run) (end : World) → IsHonest r → IsRun r end → DutiesStand r end
+duties_stand r end honest run served side id = at side
+  where
+    n : ℕ
+    n = length r.answers
+
+    m : Moment r.keys end (Holds r end honest run) (step r end honest run) (until r Client n) (until r Server n) (drop n r.events) (drop n r.answers) (drop n r.views)
+    m = place r end honest run n served
+
+    is : end ≡ m.world
+    is = over r.keys m.world end (drop n r.events) (drop n r.views) (subst (λ (told : List Answer). Follows r.keys m.world (drop n r.events) told (drop n r.views) end) (drop_all n r.answers (omega arith)) m.goes_on)
+
+    ids : FirstIds r.start honest.start.client_making.id honest.start.server_making.id
+    ids = first_ids r.start honest.start
+
+    -- what each side took is what came to it that is known by one id
+    server_took : took r Server n ≡ (came r.keys.server honest.start.server_making.id r.from_client (until r Server n)).took
+    server_took = ap (λ known. (intake r.keys.server known r.from_client (until r Server n) nothing_came).took) ids.server
+
+    client_took : took r Client n ≡ (came r.keys.client honest.start.client_making.id r.from_server (until r Client n)).took
+    client_took = ap (λ known. (intake r.keys.client known r.from_server (until r Client n) nothing_came).took) ids.client
+
+    at : (side : Side) → AreSomewhere (end_at side end) (took r (other_side side) n) id (until r side n)
+    at Client =
+        let way = m.holds.to_server in
+        subst (λ (w : World). AreSomewhere w.client (took r Server n) id (until r Client n)) (sym is) (subst (λ (packets : List Packet). AreSomewhere m.world.client packets id (until r Client n)) (sym server_took)
+        (are_somewhere m.world.client.side m.world.client (came r.keys.server honest.start.server_making.id r.from_client (until r Server n)).took (until r Client n) way.streams way.arrives way.flies id))
+    at Server =
+        let way = m.holds.to_client in
+        subst (λ (w : World). AreSomewhere w.server (took r Client n) id (until r Server n)) (sym is) (subst (λ (packets : List Packet). AreSomewhere m.world.server packets id (until r Server n)) (sym client_took)
+        (are_somewhere m.world.server.side m.world.server (came r.keys.client honest.start.client_making.id r.from_server (until r Client n)).took (until r Server n) way.streams way.arrives way.flies id))
 
 pub acknowledged_were_taken : (r : Run) (end : World) → IsHonest r → IsRun r end → AcknowledgedWereTaken r
 acknowledged_were_taken r end honest run side i number served named = (seen r end honest run side i served).named number named

@@ -21,7 +21,8 @@ use Rattle.quic_connection_core.specs.declared.run.Answer.TheVariants as answers
 use Rattle.quic_connection_core.specs.Machine.{World}
 use Rattle.quic_connection_core.specs.Runs.{Run}
 use Rattle.quic_connection_core.specs.Acknowledged.{client_acked, from_server, ack_payload}
-use Rattle.quic_connection_core.specs.Worked.{worked_policies, client_ended, client_sent, server_made, hello, hello_datagram, ack_timer, before_sending, after_sending, open_view, worked_views, worked_run}
+use Rattle.quic_connection_core.specs.Worked.{worked_policies, client_ended, client_sent, server_made, hello, hello_datagram, ack_timer, before_sending, after_sending, worked_events, worked_answers, open_view, worked_views, worked_run}
+use Rattle.quic_connection_core.specs.Tracking.{nothing_tracked}
 
 -- ---- the worked run with other answers
 
@@ -162,6 +163,14 @@ early_acknowledgement =
 -- the client gave its datagram, and waits for an acknowledgement with no timer set
 abbrev pub never_timed : World
 never_timed = record (after_sending server_made) { client = record client_sent { timers = ack_timer None } }
+
+-- the worked run until the client gave its datagram
+abbrev pub sending_run : ReadCall → Run
+sending_run read = record (worked_run read) { events = take 4 (worked_events read); answers = take 4 worked_answers; views = take 4 worked_views }
+
+-- the client gave its datagram, which never came, and forgot it: it neither waits for an acknowledgement nor gives it again
+abbrev pub forgotten : World
+forgotten = record (after_sending server_made) { client = record client_sent { tracking = nothing_tracked; timers = ack_timer None } }
 
 -- the client took the acknowledgement of all of its stream, and has nothing left to tell
 abbrev pub all_told : World

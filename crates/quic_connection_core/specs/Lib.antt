@@ -20,5 +20,6 @@ pub mod Runs
 pub mod Worked
 pub mod Acknowledged
 pub mod Headline
+pub mod Duties
 pub mod Broken
 pub mod Reordered

@@ -10,9 +10,10 @@ ghost use Rattle.quic_connection_core.specs.declared.run.Answer.TheVariants as a
 ghost use Rattle.quic_connection_core.specs.declared.run.View.{View};
 ghost use Rattle.quic_connection_core.specs.Machine.{World, IsRead, Follows};
 ghost use Rattle.quic_connection_core.specs.Runs.{until, written, reads, bytes_of, took};
+ghost use Rattle.quic_connection_core.specs.Duties.{DutiesStand};
 ghost use Rattle.quic_connection_core.specs.Headline.{OrderedPrefix, Slices, Once, EndAfterAll, BlockedOnlyWithoutBytes, AcceptsAll, FinishedMeansArrived, TellsOnce, AcknowledgedWereTaken, LossTimersFollow, NumbersRise};
 ghost use Rattle.quic_connection_core.specs.Worked.{hello, hello_frame, worked_policies, worked_events, client_made, server_made, before_sending, run_with};
-ghost use Rattle.quic_connection_core.specs.Broken.{hellp, changed_byte, repeated_bytes, unwritten_byte, early_end, unwritten_end, taken_twice, never_taken, blocked_read, never_accepted, early_finish, all_told, told_twice, never_told, early_acknowledgement, never_timed, empty_datagram, repeated_number, all_nexts};
+ghost use Rattle.quic_connection_core.specs.Broken.{hellp, changed_byte, repeated_bytes, unwritten_byte, early_end, unwritten_end, taken_twice, never_taken, blocked_read, never_accepted, early_finish, all_told, told_twice, never_told, early_acknowledgement, never_timed, sending_run, forgotten, empty_datagram, repeated_number, all_nexts};
 
 /// A read that changes a byte gives no prefix of what was written, and no slice of it.
 pub fn changed_byte_shows()
@@ -88,6 +89,12 @@ pub fn early_acknowledgement_shows()
 pub fn missing_timer_shows()
     ensures timers { LossTimersFollow never_timed → ⊥ }
     ensures machine { (events : List RunEvent) (answers : List Answer) (views : List View) → Follows worked_policies (before_sending client_made) events answers views never_timed → ⊥ }
+{}
+
+/// A client that forgets its datagram, which never came, owes what nobody has.
+pub fn forgotten_bytes_show()
+    ensures duties { (read : ReadCall) → DutiesStand (sending_run read) forgotten → ⊥ }
+    ensures machine { (read : ReadCall) (views : List View) → Follows worked_policies (before_sending client_made) (sending_run read).events (sending_run read).answers views forgotten → ⊥ }
 {}
 
 /// An empty datagram has no number.

@@ -6,6 +6,7 @@ ghost use Rattle.quic_connection_core.specs.declared.run.Answer.{Answer};
 ghost use Rattle.quic_connection_core.specs.declared.run.View.{View};
 ghost use Rattle.quic_connection_core.specs.Machine.{World, Policies, Follows};
 ghost use Rattle.quic_connection_core.specs.Runs.{Run};
+ghost use Rattle.quic_connection_core.specs.Duties.{DutiesStand};
 ghost use Rattle.quic_connection_core.specs.Headline.{AreStarted, IsHonest, IsRun, OrderedPrefix, Slices, Once, EndAfterAll, BlockedOnlyWithoutBytes, AcceptsAll, FinishedMeansArrived, TellsOnce, AcknowledgedWereTaken, LossTimersFollow, NumbersRise};
 
 /// The bytes read of a stream at one end are a prefix of those written on it at the other (RFC 9000, section 2.2).
@@ -59,6 +60,13 @@ pub fn acknowledged_were_taken()
 pub fn loss_timers_follow()
     ensures runs { (k : Policies) (w end : World) (events : List RunEvent) (answers : List Answer) (views : List View) → Follows k w events answers views end → LossTimersFollow w → LossTimersFollow end }
     ensures starts { (w : World) → AreStarted w → LossTimersFollow w }
+{}
+
+/// Behind the last answer each offset that was written on a stream waits to go, and then its end has something to send; or
+/// it stands in a datagram that is neither acknowledged nor lost yet; or it arrived. So does the end of each stream that was
+/// finished (RFC 9000, section 13.3).
+pub fn duties_stand()
+    ensures { (r : Run) (end : World) → IsHonest r → IsRun r end → DutiesStand r end }
 {}
 
 /// Each datagram given is the datagram of a number, the peer's id and stated frames, and its number is above all before
