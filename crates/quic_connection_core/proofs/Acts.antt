@@ -193,7 +193,7 @@ knows_step q e theirs (calls.Timer timer) a i other k = k
 knows_step q e theirs calls.NextTimeout a i other k = k
 
 -- a call that is no delivery hands nothing in
-none_handed : (given : List (List ℕ)) (call : Call) (a : Answer) → is_delivery call ≡ false → handed given call a ≡ None
+pub none_handed : (given : List (List ℕ)) (call : Call) (a : Answer) → is_delivery call ≡ false → handed given call a ≡ None
 none_handed given (calls.Open dir) a other = refl
 none_handed given (calls.Accept dir) a other = refl
 none_handed given (calls.Write id bytes) a other = refl
@@ -392,7 +392,7 @@ way_reader p q own id x y given final back wrote read calls.NextTimeout a mates 
 -- ---- both ends
 
 -- what an event leaves, where memory served
-left_by : (p : Policy) (e next : End) (theirs : List (List ℕ)) (call : Call) (a : Answer) → fails a ≡ false → IsLeft (fails a) p e theirs call a next → next ≡ after_call p e theirs call a
+pub left_by : (p : Policy) (e next : End) (theirs : List (List ℕ)) (call : Call) (a : Answer) → fails a ≡ false → IsLeft (fails a) p e theirs call a next → next ≡ after_call p e theirs call a
 left_by p e next theirs call a served is = subst (λ b. IsLeft b p e theirs call a next) served is
 
 -- the client makes a call

@@ -33,6 +33,8 @@ mod Growth
 mod Losing
 mod Finishing
 mod Telling
+mod Flying
+mod Watching
 mod Arriving
 mod AckedSteps
 mod TrackedSteps
@@ -48,6 +50,7 @@ pub mod ReorderedRun
 pub mod OneRun
 pub mod BrokenRuns
 pub mod BrokenClauses
+mod Forgotten
 pub mod WorkedKeys
 pub mod WorkedHonest
 pub mod WorkedNumber

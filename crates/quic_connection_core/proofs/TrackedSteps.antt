@@ -39,7 +39,7 @@ use Rattle.quic_connection_core.proofs.Writer.{IsNoPoll, sents_by, poll_answer}
 -- ---- tables of packets
 
 -- what stands behind others stands at their count
-get_last : {X : Type 0} (xs : List X) (y : X) → slice_get (xs ++ y ∷ []) (length xs) ≡ Some y
+pub get_last : {X : Type 0} (xs : List X) (y : X) → slice_get (xs ++ y ∷ []) (length xs) ≡ Some y
 get_last [] y = refl
 get_last (x ∷ xs) y = get_last xs y
 
@@ -72,7 +72,7 @@ streams_padded (stream f ∷ fs) count = ap (λ (ms : List StreamMeta). meta_of 
 streams_padded (f ∷ fs) count = streams_padded fs count
 
 -- a datagram carries what its frames do before they are padded
-carried_padded : (fs : List FrameValue) (count : ℕ) → carried_in fs ≡ carried_in (fs ++ replicate count padding)
+pub carried_padded : (fs : List FrameValue) (count : ℕ) → carried_in fs ≡ carried_in (fs ++ replicate count padding)
 carried_padded fs count = rw (acked_padded fs count, streams_padded fs count) refl
 
 -- ---- calls

@@ -5,6 +5,7 @@ use Rattle.std.proofs.lemmas.List.{drop_all}
 use Rattle.quic_wire_core.specs.declared.stream_id.Side.{Side}
 use Rattle.quic_wire_core.specs.declared.stream_id.Side.TheVariants.{Client, Server}
 use Rattle.quic_wire_core.specs.StreamId.{other_side}
+use Rattle.quic_connection_core.specs.declared.answers.State.TheVariants as states
 use Rattle.quic_connection_core.specs.declared.run.RunEvent.{RunEvent}
 use Rattle.quic_connection_core.specs.declared.run.Call.TheVariants as calls
 use Rattle.quic_connection_core.specs.declared.run.Answer.{Answer}
@@ -15,9 +16,10 @@ use Rattle.quic_connection_core.specs.declared.answers.Event.TheVariants as even
 use Rattle.quic_connection_core.specs.declared.answers.StreamEvent.TheVariants.{Finished}
 use Rattle.quic_connection_core.specs.Ids.{known, own_id}
 use Rattle.quic_connection_core.specs.Calls.{end_accepts}
-use Rattle.quic_connection_core.specs.Machine.{World, Policies, IsStep, end_at, fails, Follows}
-use Rattle.quic_connection_core.specs.Runs.{Run, Told, Packet, told_by, until, AreServed, written, ended, nexts, intake, nothing_came, took}
+use Rattle.quic_connection_core.specs.Machine.{World, Policies, IsStep, policy_at, end_at, fails, Follows}
+use Rattle.quic_connection_core.specs.Runs.{Run, Told, Packet, given_of, told_by, until, AreServed, written, ended, nexts, intake, nothing_came, took}
 use Rattle.quic_connection_core.specs.Duties.{AreSomewhere, DutiesStand}
+use Rattle.quic_connection_core.specs.InFlight.{Flight, first_watch, watched, lens_of, in_flight, TracksInFlight}
 use Rattle.quic_connection_core.specs.Headline.{IsInRange, IsHonest, AreStarted, IsRun, OrderedPrefix, Slices, Once, EndAfterAll, BlockedOnlyWithoutBytes, AcceptsAll, FinishedMeansArrived, ToldOnce, TellsOnce, AcknowledgedWereTaken, LossTimerFollows, LossTimersFollow, NumbersRise}
 use Rattle.quic_wire.specs.Parameters.{ParameterValues}
 use Rattle.quic_wire.specs.ParametersRead.{parameters_at}
@@ -29,6 +31,7 @@ use Rattle.quic_connection_core.proofs.Reader.{content_start, kept_start, accept
 use Rattle.quic_connection_core.proofs.Knowing.{knows_first}
 use Rattle.quic_connection_core.proofs.Acking.{acks_first}
 use Rattle.quic_connection_core.proofs.Acts.{both_step}
+use Rattle.quic_connection_core.proofs.Watching.{IsWatched, InSight, InView, view_step}
 use Rattle.quic_connection_core.proofs.Order.{order_prefix, order_slices, order_once, order_ended}
 use Rattle.quic_connection_core.proofs.Moments.{Grown, grown, Moment, moment}
 use Rattle.quic_connection_core.proofs.Way.{Way, Both, came}
@@ -116,6 +119,28 @@ module _ (r : Run) (end : World) (honest : IsHonest r) (run : IsRun r end) where
   -- the ends at a place
   place : (i : ℕ) → AreServed r i → Moment r.keys end Holds step (until r Client i) (until r Server i) (drop i r.events) (drop i r.answers) (drop i r.views)
   place i served = moment r.keys end Holds step i r.start r.events r.answers r.views [] [] (both_first r.keys r.start r.from_client r.from_server honest.start) run.follows served
+
+  -- what holds between both ends, and what their observers know
+  abbrev Shows : World → List Told → List Told → Type 0
+  Shows w client server = InView r.keys honest.start.client_making.id honest.start.server_making.id r.start.client.closing.clock r.start.server.closing.clock w r.from_client r.from_server client server
+
+  shows_step : (w next : World) (event : RunEvent) (a : Answer) (client server : List Told) → Shows w client server → IsStep r.keys w event a next → fails a ≡ false → Grown w end
+      → Shows next (client ++ told_by Client w.client.closing.state event a) (server ++ told_by Server w.server.closing.state event a)
+  shows_step w next event a client server v is goes g =
+      view_step r.keys honest.keys honest.start.client_making.id honest.start.server_making.id honest.start.client_is.id honest.start.server_is.id r.start.client.closing.clock r.start.server.closing.clock r.from_client r.from_server w next event a client server v is goes
+      (g.client.0, g.client.1 ∙ sym run.from_client) (g.server.0, g.server.1 ∙ sym run.from_server)
+
+  -- before the first event, nothing is in flight
+  shows_first : Shows r.start [] []
+  shows_first = record {
+    both = both_first r.keys r.start r.from_client r.from_server honest.start;
+    of_client = λ rest whole. subst (λ (e : End). IsWatched (first_watch e.closing.clock) e) (sym (client_is r.start honest.start)) (record { path = refl; clock = λ opened. refl; flight = λ opened. refl });
+    of_server = λ rest whole. subst (λ (e : End). IsWatched (first_watch e.closing.clock) e) (sym (server_is r.start honest.start)) (record { path = refl; clock = λ opened. refl; flight = λ opened. refl });
+  }
+
+  -- the ends at a place, as their observers know them
+  shown : (i : ℕ) → AreServed r i → Moment r.keys end Shows shows_step (until r Client i) (until r Server i) (drop i r.events) (drop i r.answers) (drop i r.views)
+  shown i served = moment r.keys end Shows shows_step i r.start r.events r.answers r.views [] [] shows_first run.follows served
 
 -- what a place shows of the end at each side
 pub seen : (r : Run) (end : World) → IsHonest r → IsRun r end → (side : Side) (i : ℕ) → AreServed r i → Seen r side i
@@ -230,6 +255,39 @@ duties_stand r end honest run served side id = at side
         let way = m.holds.to_client in
         subst (λ (w : World). AreSomewhere w.server (took r Client n) id (until r Server n)) (sym is) (subst (λ (packets : List Packet). AreSomewhere m.world.server packets id (until r Server n)) (sym client_took)
         (are_somewhere m.world.server.side m.world.server (came r.keys.client honest.start.client_making.id r.from_server (until r Client n)).took (until r Server n) way.streams way.arrives way.flies id))
+
+-- an open end waits for what its observer counts, whose peer knows it by one id and is known by one
+waits_for : (r : Run) (side : Side) (e : End) (own id : List ℕ) (given : List (List ℕ)) (i : ℕ) → known (end_at side r.start).ids ≡ own ∷ [] → known (end_at (other_side side) r.start).ids ≡ id ∷ [] → (rest : List (List ℕ)) × (given ++ rest ≡ given_of r side)
+    → InSight (policy_at side r.keys) (policy_at (other_side side) r.keys) own id e given (given_of r side) (given_of r (other_side side)) (end_at side r.start).closing.clock (until r side i) → e.closing.state ≡ states.Open
+    → e.tracking.packets ≡ in_flight r side i
+waits_for r side e own id given i own_is id_is whole sight opened =
+    ap (λ (x : Flight). x.packets) (sym ((sight whole.0 whole.1).flight opened))
+    ∙ ap (λ (ids : List (List ℕ)). (watched (record (lens_of r side) { taker_ids = ids; own_ids = own ∷ [] }) (until r side i) (first_watch (end_at side r.start).closing.clock)).flight.packets) (sym id_is)
+    ∙ ap (λ (ids : List (List ℕ)). (watched (record (lens_of r side) { own_ids = ids }) (until r side i) (first_watch (end_at side r.start).closing.clock)).flight.packets) (sym own_is)
+
+pub tracks_in_flight : (r : Run) (end : World) → IsHonest r → IsRun r end → TracksInFlight r end
+tracks_in_flight r end honest run served side = at side
+  where
+    n : ℕ
+    n = length r.answers
+
+    m : Moment r.keys end (Shows r end honest run) (shows_step r end honest run) (until r Client n) (until r Server n) (drop n r.events) (drop n r.answers) (drop n r.views)
+    m = shown r end honest run n served
+
+    is : end ≡ m.world
+    is = over r.keys m.world end (drop n r.events) (drop n r.views) (subst (λ (told : List Answer). Follows r.keys m.world (drop n r.events) told (drop n r.views) end) (drop_all n r.answers (omega arith)) m.goes_on)
+
+    g : Grown m.world end
+    g = grown r.keys m.world (drop n r.events) (drop n r.answers) (drop n r.views) end m.goes_on
+
+    ids : FirstIds r.start honest.start.client_making.id honest.start.server_making.id
+    ids = first_ids r.start honest.start
+
+    at : (side : Side) → (end_at side end).closing.state ≡ states.Open → (end_at side end).tracking.packets ≡ in_flight r side n
+    at Client = subst (λ (w : World). w.client.closing.state ≡ states.Open → w.client.tracking.packets ≡ in_flight r Client n) (sym is)
+        (waits_for r Client m.world.client honest.start.client_making.id honest.start.server_making.id m.world.from_client n ids.client ids.server (g.client.0, g.client.1 ∙ sym run.from_client) m.holds.of_client)
+    at Server = subst (λ (w : World). w.server.closing.state ≡ states.Open → w.server.tracking.packets ≡ in_flight r Server n) (sym is)
+        (waits_for r Server m.world.server honest.start.server_making.id honest.start.client_making.id m.world.from_server n ids.server ids.client (g.server.0, g.server.1 ∙ sym run.from_server) m.holds.of_server)
 
 pub acknowledged_were_taken : (r : Run) (end : World) → IsHonest r → IsRun r end → AcknowledgedWereTaken r
 acknowledged_were_taken r end honest run side i number served named = (seen r end honest run side i served).named number named

@@ -214,7 +214,7 @@ sents_by e (calls.Poll now) a reference = sent_if (gave a) reference (frames_at 
 sents_by e call a reference = []
 
 -- only a poll gives datagrams
-other_gives_none : (p : Policy) (e : End) (theirs : List (List ℕ)) (call : Call) (a : Answer) (reference : ℕ) → IsNoPoll call → IsAnswer p e theirs call a → (gave a ≡ false) × (gives p e call a ≡ []) × (sents_by e call a reference ≡ [])
+pub other_gives_none : (p : Policy) (e : End) (theirs : List (List ℕ)) (call : Call) (a : Answer) (reference : ℕ) → IsNoPoll call → IsAnswer p e theirs call a → (gave a ≡ false) × (gives p e call a ≡ []) × (sents_by e call a reference ≡ [])
 other_gives_none p e theirs (calls.Poll now) a reference other is = absurd other
 other_gives_none p e theirs call a reference other is = (go (gave a) refl, refl, refl)
   where

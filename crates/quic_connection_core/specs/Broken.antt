@@ -1,6 +1,6 @@
 -- Runs of machines with a bug: the worked run with other answers or another datagram.
-use Rattle.std.specs.Prelude.{ℕ, List, [], ◌∷◌, length, replicate, take, Option, Some, None, Result, Ok, Err}
-use Rattle.quic_wire_core.specs.declared.stream_id.Side.TheVariants.{Client}
+use Rattle.std.specs.Prelude.{ℕ, List, [], ◌∷◌, ◌++◌, length, replicate, take, Option, Some, None, Result, Ok, Err}
+use Rattle.quic_wire_core.specs.declared.stream_id.Side.TheVariants.{Client, Server}
 use Rattle.quic_wire_core.specs.declared.shared.EcnCodepoint.TheVariants.{Ect0}
 use Rattle.quic_streams_core.specs.declared.connection.assembler.Chunk.{Chunk}
 use Rattle.quic_connection_core.specs.declared.answers.WriteError.{WriteError}
@@ -167,6 +167,20 @@ never_timed = record (after_sending server_made) { client = record client_sent {
 -- the worked run until the client gave its datagram
 abbrev pub sending_run : ReadCall → Run
 sending_run read = record (worked_run read) { events = take 4 (worked_events read); answers = take 4 worked_answers; views = take 4 worked_views }
+
+-- the worked run until the server took that datagram; then 25 ms pass, the server gives an acknowledgement, and the client takes it
+abbrev pub answered_run : ReadCall → Run
+answered_run read = record (worked_run read) {
+  events =
+      take 5 (worked_events read)
+      ++ record { side = Server; call = calls.Timeout 25000000 }
+      ∷ record { side = Server; call = calls.Poll 25000000 }
+      ∷ record { side = Client; call = calls.Deliver (record { now = 25000000; ecn = None; index = 0 }) }
+      ∷ [];
+  answers = take 5 worked_answers ++ answers.Timeout (Ok tt) ∷ answers.Poll (Ok (Some (record { size = 32; ecn = Some Ect0 }))) ∷ answers.Deliver receives.Taken ∷ [];
+  views = replicate 8 (record { client = open_view; server = open_view });
+  from_server = from_server 0 ack_payload ∷ [];
+}
 
 -- the client gave its datagram, which never came, and forgot it: it neither waits for an acknowledgement nor gives it again
 abbrev pub forgotten : World

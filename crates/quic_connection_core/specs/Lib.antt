@@ -21,5 +21,6 @@ pub mod Worked
 pub mod Acknowledged
 pub mod Headline
 pub mod Duties
+pub mod InFlight
 pub mod Broken
 pub mod Reordered

@@ -1,6 +1,6 @@
 //! Runs of machines with a bug, computed: each breaks a clause of the headline, and the reference machine runs none of
 //! them. Each function does nothing: its contract is the law.
-ghost use Rattle.std.specs.Prelude.{◌≡◌, List, [], ◌∷◌, Ok};
+ghost use Rattle.std.specs.Prelude.{◌≡◌, List, [], ◌∷◌, Ok, true};
 ghost use Rattle.quic_wire_core.specs.declared.stream_id.Side.TheVariants.{Client, Server};
 ghost use Rattle.quic_wire.specs.Value.{stream};
 ghost use Rattle.quic_connection_core.specs.declared.run.ReadCall.{ReadCall};
@@ -11,9 +11,10 @@ ghost use Rattle.quic_connection_core.specs.declared.run.View.{View};
 ghost use Rattle.quic_connection_core.specs.Machine.{World, IsRead, Follows};
 ghost use Rattle.quic_connection_core.specs.Runs.{until, written, reads, bytes_of, took};
 ghost use Rattle.quic_connection_core.specs.Duties.{DutiesStand};
+ghost use Rattle.quic_connection_core.specs.InFlight.{in_flight, TracksInFlight};
 ghost use Rattle.quic_connection_core.specs.Headline.{OrderedPrefix, Slices, Once, EndAfterAll, BlockedOnlyWithoutBytes, AcceptsAll, FinishedMeansArrived, TellsOnce, AcknowledgedWereTaken, LossTimersFollow, NumbersRise};
-ghost use Rattle.quic_connection_core.specs.Worked.{hello, hello_frame, worked_policies, worked_events, client_made, server_made, before_sending, run_with};
-ghost use Rattle.quic_connection_core.specs.Broken.{hellp, changed_byte, repeated_bytes, unwritten_byte, early_end, unwritten_end, taken_twice, never_taken, blocked_read, never_accepted, early_finish, all_told, told_twice, never_told, early_acknowledgement, never_timed, sending_run, forgotten, empty_datagram, repeated_number, all_nexts};
+ghost use Rattle.quic_connection_core.specs.Worked.{hello, hello_frame, worked_policies, worked_events, client_made, server_made, before_sending, run_with, carrying};
+ghost use Rattle.quic_connection_core.specs.Broken.{hellp, changed_byte, repeated_bytes, unwritten_byte, early_end, unwritten_end, taken_twice, never_taken, blocked_read, never_accepted, early_finish, all_told, told_twice, never_told, early_acknowledgement, never_timed, sending_run, answered_run, forgotten, empty_datagram, repeated_number, all_nexts};
 
 /// A read that changes a byte gives no prefix of what was written, and no slice of it.
 pub fn changed_byte_shows()
@@ -94,6 +95,17 @@ pub fn missing_timer_shows()
 /// A client that forgets its datagram, which never came, owes what nobody has.
 pub fn forgotten_bytes_show()
     ensures duties { (read : ReadCall) → DutiesStand (sending_run read) forgotten → ⊥ }
+    ensures machine { (read : ReadCall) (views : List View) → Follows worked_policies (before_sending client_made) (sending_run read).events (sending_run read).answers views forgotten → ⊥ }
+{}
+
+/// The datagram of the worked run is in flight from when it is given until its acknowledgement came. A client that forgets it
+/// doesn't wait for what is in flight.
+pub fn forgotten_datagram_shows()
+    ensures before { (read : ReadCall) → in_flight (answered_run read) Client 3 ≡ [] }
+    ensures given { (read : ReadCall) → in_flight (answered_run read) Client 7 ≡ (0, carrying 0 5 true) ∷ [] }
+    ensures answered { (read : ReadCall) → in_flight (answered_run read) Client 8 ≡ [] }
+    ensures silent { (read : ReadCall) → in_flight (answered_run read) Server 8 ≡ [] }
+    ensures forgotten { (read : ReadCall) → TracksInFlight (sending_run read) forgotten → ⊥ }
     ensures machine { (read : ReadCall) (views : List View) → Follows worked_policies (before_sending client_made) (sending_run read).events (sending_run read).answers views forgotten → ⊥ }
 {}
 

@@ -7,6 +7,7 @@ ghost use Rattle.quic_connection_core.specs.declared.run.View.{View};
 ghost use Rattle.quic_connection_core.specs.Machine.{World, Policies, Follows};
 ghost use Rattle.quic_connection_core.specs.Runs.{Run};
 ghost use Rattle.quic_connection_core.specs.Duties.{DutiesStand};
+ghost use Rattle.quic_connection_core.specs.InFlight.{TracksInFlight};
 ghost use Rattle.quic_connection_core.specs.Headline.{AreStarted, IsHonest, IsRun, OrderedPrefix, Slices, Once, EndAfterAll, BlockedOnlyWithoutBytes, AcceptsAll, FinishedMeansArrived, TellsOnce, AcknowledgedWereTaken, LossTimersFollow, NumbersRise};
 
 /// The bytes read of a stream at one end are a prefix of those written on it at the other (RFC 9000, section 2.2).
@@ -67,6 +68,13 @@ pub fn loss_timers_follow()
 /// finished (RFC 9000, section 13.3).
 pub fn duties_stand()
     ensures { (r : Run) (end : World) → IsHonest r → IsRun r end → DutiesStand r end }
+{}
+
+/// An end that is open behind the last answer waits for exactly the datagrams that are in flight: those that an observer of
+/// the run's lists counts as given, asking for an acknowledgement, and neither acknowledged nor lost (RFC 9002, sections 2
+/// and 6.1.1).
+pub fn tracks_in_flight()
+    ensures { (r : Run) (end : World) → IsHonest r → IsRun r end → TracksInFlight r end }
 {}
 
 /// Each datagram given is the datagram of a number, the peer's id and stated frames, and its number is above all before
