@@ -1,6 +1,7 @@
 -- The settings of an end's transport, and what its peer is told of them.
 use Rattle.std.specs.Prelude.{ℕ, ◌/◌, ◌^◌, ◌<◌, ◌≤◌, Bool, true, false, min, max, Option, Some, None, if◌then◌else◌}
 use Rattle.quic_wire.specs.Parameters.{ParameterValues}
+use Rattle.quic_config.specs.declared.transport.TheConstants.{IDS_KEPT}
 use Rattle.quic_config.specs.Configs.{SearchSettings, FrequencySettings, default_search}
 
 -- the whole milliseconds of a time in nanoseconds
@@ -186,7 +187,7 @@ parameters_of s = record {
   initial_max_streams_uni = s.max_uni;
   ack_delay_exponent = 3;
   max_ack_delay = 25;
-  active_connection_id_limit = 5;
+  active_connection_id_limit = IDS_KEPT;
   max_datagram_frame_size = told_frame_size s.datagram_receive_buffer_size;
   min_ack_delay = if s.ack_frequency_support then Some 1000 else None;
 }

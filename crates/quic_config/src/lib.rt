@@ -7,4 +7,4 @@ mod transport;
 
 pub use ack_frequency::AckFrequencyConfig;
 pub use mtu_discovery::MtuDiscoveryConfig;
-pub use transport::{IdleTimeout, TransportConfig};
+pub use transport::{IDS_KEPT, IdleTimeout, TransportConfig};

@@ -12,10 +12,14 @@ use std::marker::Model;
 /// The bytes of a datagram that each path carries (RFC 9000, section 14).
 const INITIAL_MTU: u16 = 1200;
 
+/// How many ids an end keeps of its peer: as many as it allows it (RFC 9000, section 18.2, active_connection_id_limit).
+pub const IDS_KEPT: u32 = 5;
+
 /// The nanoseconds of a millisecond.
 const MILLISECOND: u64 = 1_000_000;
 
-/// How long a connection may be without a packet, in milliseconds (quinn-proto's `IdleTimeout`). Contracts see the number.
+/// How long a connection may be without a packet, in milliseconds (RFC 9000, section 10.1; quinn-proto's `IdleTimeout`).
+/// Contracts see the number.
 #[derive(Clone, Copy, Debug, Default, PartialEq, Eq, PartialOrd, Ord, Hash)]
 pub struct IdleTimeout(VarInt);
 
@@ -468,7 +472,7 @@ impl TransportConfig {
             initial_max_streams_uni: self.max_concurrent_uni_streams,
             ack_delay_exponent: VarInt::from_u32(3),
             max_ack_delay: VarInt::from_u32(25),
-            active_connection_id_limit: VarInt::from_u32(5),
+            active_connection_id_limit: VarInt::from_u32(IDS_KEPT),
             max_datagram_frame_size: frame_size(self.datagram_receive_buffer_size),
             min_ack_delay: Some(VarInt::from_u32(1000)),
         }

@@ -15,7 +15,9 @@ use std::marker::Model;
 /// One event of a run: a call at one end.
 #[derive(Debug, Drop)]
 pub struct RunEvent {
+    /// The end at which the call is made.
     pub side: Side,
+    /// The call.
     pub call: Call,
 }
 
@@ -53,6 +55,7 @@ pub enum Call {
 /// A read of a stream.
 #[derive(Debug, Drop)]
 pub struct ReadCall {
+    /// The stream.
     pub id: StreamId,
     /// The greatest length of each chunk asked for.
     pub nexts: Vec<usize>,
@@ -63,7 +66,9 @@ pub struct ReadCall {
 /// The arrival of a datagram that the other end gave out.
 #[derive(Clone, Copy, Debug)]
 pub struct Delivery {
+    /// When it arrives.
     pub now: Instant,
+    /// The mark with which it arrives (RFC 3168, section 5), if it has one.
     pub ecn: Option<EcnCodepoint>,
     /// Which of the other end's datagrams it is, counted from 0.
     pub index: usize,
@@ -72,8 +77,11 @@ pub struct Delivery {
 /// The arrival of any bytes as a datagram.
 #[derive(Debug, Drop)]
 pub struct Injection {
+    /// When they arrive.
     pub now: Instant,
+    /// The mark with which they arrive (RFC 3168, section 5), if they have one.
     pub ecn: Option<EcnCodepoint>,
+    /// The bytes.
     pub bytes: Bytes,
 }
 
@@ -112,30 +120,46 @@ impl Nexts {
 /// What an event is answered: what its call answers.
 #[derive(Debug, Drop)]
 pub enum Answer {
+    /// The stream that was opened, or `None` where none may be; or that memory lacks.
     Open(Result<Option<StreamId>, AllocError>),
+    /// The stream that was accepted, or `None` where none waits.
     Accept(Option<StreamId>),
+    /// How many bytes were accepted, or why none were.
     Write(Result<usize, WriteError>),
+    /// The stream is finished, or why it isn't.
     Finish(Result<(), FinishError>),
+    /// What each `next` of the read answered, or why the stream can't be read.
     Read(Result<Nexts, ReadableError>),
+    /// PING waits to go.
     Ping,
+    /// The datagram that was given, or `None` where nothing waits to go; or that the end failed.
     Poll(Result<Option<Transmit>, Failed>),
+    /// The timers were handled; or the end failed.
     Timeout(Result<(), Failed>),
+    /// What became of the delivered datagram.
     Deliver(Received),
     /// The other end gave out no such datagram; no call was made.
     NoDatagram,
+    /// What became of the injected bytes.
     Inject(Received),
     /// The injected bytes would open; no call was made.
     Opens,
+    /// What the application is told, or `None` where there is nothing to tell.
     Event(Option<Event>),
+    /// When the timer expires, or `None` where it isn't set.
     Timer(Option<Instant>),
+    /// When the next timer expires, or `None` where none is set.
     NextTimeout(Option<Instant>),
 }
 
 /// What is seen of one end after an event. What this stage has no call for is `None`.
 #[derive(Debug, Drop)]
 pub struct EndView {
+    /// Whether it is open, closing, drained or failed (RFC 9000, section 10).
     pub state: State,
+    /// Why it isn't open, where that is known.
     pub reason: Option<LostReason>,
+    /// Whether the path to the peer is validated (RFC 9000, section 8).
     pub validated: bool,
     /// The nine timers.
     pub timers: [Option<Instant>; 9],
@@ -148,7 +172,9 @@ pub struct EndView {
 /// What is seen of both ends after an event.
 #[derive(Debug, Drop)]
 pub struct View {
+    /// The client.
     pub client: EndView,
+    /// The server.
     pub server: EndView,
 }
 

@@ -2,7 +2,8 @@
 use Rattle.std.proofs.Common.{◌≡◌, ◌≤◌, Bool, true, false, cond, ltb, Some, refl, ap, arith}
 use Rattle.std.proofs.lemmas.Bool.{le-leb, ltb-false}
 use Rattle.quic_wire.specs.declared.frame.AckFrequency.{AckFrequency}
-use Rattle.quic_recovery_core.specs.AckFrequency.{Frequency, micros, granularity, is_stale, is_too_short, after_newer, after_received}
+use Rattle.quic_time.specs.Clocks.{granularity}
+use Rattle.quic_recovery_core.specs.AckFrequency.{Frequency, micros, is_stale, is_too_short, after_newer, after_received}
 
 newer_old : (f : Frequency) (a : AckFrequency) → is_stale (after_newer f a).last a.sequence ≡ true
 newer_old f a = go (is_too_short a)

@@ -7,6 +7,7 @@ use Rattle.quic_wire.specs.Parameters.{ParameterValues}
 use Rattle.quic_wire.specs.declared.frame.AckFrequency.{AckFrequency}
 use Rattle.quic_recovery_core.specs.declared.ack_frequency.Request.{Request}
 use Rattle.quic_config.specs.Configs.{FrequencySettings}
+use Rattle.quic_time.specs.Clocks.{granularity}
 
 -- the request in flight, by its packet and the delay that it asks for; the number of the next frame; the delay that the
 -- peer keeps to, as far as this end knows; the greatest number of a frame of the peer; and the delay that this end keeps to
@@ -25,10 +26,6 @@ micros n = min (n * 1000) (2 ^ 64 - 1)
 -- an end asks for of itself on a short path
 abbrev pub usual_delay : ℕ
 usual_delay = 25000000
-
--- 1 ms: the least delay that an end keeps to, the granularity of its timers (RFC 9002, section 6.1.2)
-abbrev pub granularity : ℕ
-granularity = 1000000
 
 -- before anything was asked: the peer keeps to the delay that it announced, and this end to the usual one
 abbrev pub initial_frequency : ℕ → Frequency

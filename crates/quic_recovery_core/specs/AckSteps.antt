@@ -4,13 +4,14 @@ use Rattle.quic_recovery_core.specs.Duplicates.{Seen}
 use Rattle.quic_recovery_core.specs.PendingAcks.{Pending, none_pending, after_packet, after_acks_sent, after_timeout, after_lazy}
 
 -- a packet comes (when, its number, whether it asks, the numbers told apart), an acknowledgement goes or is made due, the timer expires,
--- a packet is made that goes anyway
+-- a packet is made that goes anyway, or the peer tells after how many packets, and how far out of order, it wants an acknowledgement
 pub data Step : Type 0 where
   packet : ℕ → ℕ → Bool → Seen → Step
   sent : Step
   required : Step
   expired : Step
   lazy : Step
+  told : ℕ → ℕ → Step
 
 -- after a step
 abbrev pub after_step : Step → Pending → Pending
@@ -19,6 +20,7 @@ after_step sent p = after_acks_sent p
 after_step required p = record p { due = true }
 after_step expired p = after_timeout p
 after_step lazy p = after_lazy p
+after_step (told threshold reordering) p = record p { threshold = threshold; reordering = reordering }
 
 -- after steps, the latest first
 abbrev pub pending_after : List Step → Pending
@@ -38,6 +40,7 @@ asking_since (sent ∷ steps) = 0
 asking_since (required ∷ steps) = asking_since steps
 asking_since (expired ∷ steps) = asking_since steps
 asking_since (lazy ∷ steps) = asking_since steps
+asking_since (told threshold reordering ∷ steps) = asking_since steps
 
 -- and how many that do not
 abbrev pub silent_since : List Step → ℕ
@@ -47,6 +50,7 @@ silent_since (sent ∷ steps) = 0
 silent_since (required ∷ steps) = silent_since steps
 silent_since (expired ∷ steps) = silent_since steps
 silent_since (lazy ∷ steps) = silent_since steps
+silent_since (told threshold reordering ∷ steps) = silent_since steps
 
 -- the greater of numbers, if it counts
 abbrev pub greater_if : Bool → Option ℕ → ℕ → Option ℕ
@@ -61,6 +65,7 @@ greatest_asking (sent ∷ steps) = greatest_asking steps
 greatest_asking (required ∷ steps) = greatest_asking steps
 greatest_asking (expired ∷ steps) = greatest_asking steps
 greatest_asking (lazy ∷ steps) = greatest_asking steps
+greatest_asking (told threshold reordering ∷ steps) = greatest_asking steps
 
 -- and what it was when the last acknowledgement went
 abbrev pub greatest_acked : List Step → Option ℕ
@@ -70,3 +75,34 @@ greatest_acked (sent ∷ steps) = greatest_asking steps
 greatest_acked (required ∷ steps) = greatest_acked steps
 greatest_acked (expired ∷ steps) = greatest_acked steps
 greatest_acked (lazy ∷ steps) = greatest_acked steps
+greatest_acked (told threshold reordering ∷ steps) = greatest_acked steps
+
+-- the threshold on packets that was told last, 1 at first
+abbrev pub threshold_told : List Step → ℕ
+threshold_told [] = 1
+threshold_told (packet now n asks s ∷ steps) = threshold_told steps
+threshold_told (sent ∷ steps) = threshold_told steps
+threshold_told (required ∷ steps) = threshold_told steps
+threshold_told (expired ∷ steps) = threshold_told steps
+threshold_told (lazy ∷ steps) = threshold_told steps
+threshold_told (told threshold reordering ∷ steps) = threshold
+
+-- the threshold on reordering that was told last, 1 at first
+abbrev pub reordering_told : List Step → ℕ
+reordering_told [] = 1
+reordering_told (packet now n asks s ∷ steps) = reordering_told steps
+reordering_told (sent ∷ steps) = reordering_told steps
+reordering_told (required ∷ steps) = reordering_told steps
+reordering_told (expired ∷ steps) = reordering_told steps
+reordering_told (lazy ∷ steps) = reordering_told steps
+reordering_told (told threshold reordering ∷ steps) = reordering
+
+-- no threshold was told: they are those of the beginning
+abbrev pub AreUsual : List Step → Type 0
+AreUsual [] = Unit {0}
+AreUsual (packet now n asks s ∷ steps) = AreUsual steps
+AreUsual (sent ∷ steps) = AreUsual steps
+AreUsual (required ∷ steps) = AreUsual steps
+AreUsual (expired ∷ steps) = AreUsual steps
+AreUsual (lazy ∷ steps) = AreUsual steps
+AreUsual (told threshold reordering ∷ steps) = ⊥

@@ -3,7 +3,7 @@ ghost use Rattle.std.specs.Prelude.{◌≡◌, ◌+◌, ◌*◌, ◌-◌, ◌^�
 ghost use Rattle.quic_recovery_core.specs.AckFrequency.{micros, initial_frequency, least_delay, candidate, asked, longest_delay, differs, should_ask, after_acked, is_stale, after_received, received_answer};
 
 use quic_config::AckFrequencyConfig;
-use quic_time::Duration;
+use quic_time::{Duration, TIMER_GRANULARITY};
 use quic_wire::TransportParameters;
 use quic_wire::frame::AckFrequency;
 use quic_wire_core::{Code, Reason, TransportError, VarInt};
@@ -11,9 +11,6 @@ use std::marker::Model;
 
 /// How long an ACK may wait where nothing else was said, and the least that the peer is asked for on a short path: 25 ms.
 const USUAL_ACK_DELAY: u64 = 25_000_000;
-
-/// The granularity of the timers: 1 ms. An end can't keep to a shorter delay.
-const TIMER_GRANULARITY: u64 = 1_000_000;
 
 /// The packet of a request that isn't acknowledged yet, and the delay that it asks for.
 #[derive(Clone, Copy, Debug)]
@@ -194,7 +191,7 @@ impl AckFrequencyState {
         }
         self.last_ack_frequency_frame = Some(sequence);
         let delay = from_micros(frame.request_max_ack_delay);
-        if delay.as_nanos() < TIMER_GRANULARITY {
+        if delay < TIMER_GRANULARITY {
             return Err(TransportError::new(Code::PROTOCOL_VIOLATION, None, Reason::IllegalValue));
         }
         self.max_ack_delay = delay;

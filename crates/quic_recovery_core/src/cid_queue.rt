@@ -2,6 +2,7 @@
 ghost use Rattle.std.specs.Prelude.{◌≡◌, ◌+◌, ◌<◌, ◌≤◌, [], ◌++◌, drop, replicate, length, None, Some, IfSome, OnErr};
 ghost use Rattle.quic_recovery_core.specs.CidQueue.{IsWindow, kept_ids, known_in, least_from, known_with, known_from, used_from, switched_to, retired_for, retired_up_to, after_insert, insert_answer, after_next, next_answer};
 
+use quic_config::IDS_KEPT;
 use quic_wire::frame::NewConnectionId;
 use quic_wire_core::{ConnectionId, IssuedCid, ResetToken};
 use std::marker::Model;
@@ -73,7 +74,10 @@ fn first_from(slots: &[Option<IssuedCid>], least: u64) -> Option<IssuedCid>
 
 impl CidQueue {
     /// How many ids with consecutive numbers are kept: the one in use, and those behind it.
-    pub const LEN: usize = 5;
+    pub const LEN: usize = IDS_KEPT as usize;
+
+    /// How many retirements of ids of the peer may wait to be told at once: ten for each id that is kept.
+    pub const MAX_PENDING_RETIREMENTS: usize = 10 * CidQueue::LEN;
 
     /// Only the first id is known, under the number 0, and in use.
     pub fn new(cid: ConnectionId) -> Self

@@ -10,23 +10,23 @@ use std::marker::Model;
 /// What a timer is for (quinn-proto's `Timer`).
 #[derive(Clone, Copy, Debug, PartialEq, Eq, PartialOrd, Ord)]
 pub enum Timer {
-    /// When to send a probe that asks for an acknowledgement, or to declare packets lost.
+    /// When to send a probe that asks for an acknowledgement, or to declare packets lost (RFC 9002, section 6).
     LossDetection = 0,
-    /// When to close the connection because nothing came.
+    /// When to close the connection because nothing came (RFC 9000, section 10.1).
     Idle = 1,
-    /// When the end has been closing for long enough.
+    /// When the end has been closing for long enough (RFC 9000, section 10.2).
     Close = 2,
-    /// When to discard keys that no packet should need any more.
+    /// When to discard keys that no packet should need any more (RFC 9001, section 6.5).
     KeyDiscard = 3,
-    /// When to give up a challenge of the path.
+    /// When to give up a challenge of the path (RFC 9000, section 8.2.4).
     PathValidation = 4,
-    /// When to send a PING so that the connection stays alive.
+    /// When to send a PING so that the connection stays alive (RFC 9000, section 10.1.2).
     KeepAlive = 5,
-    /// When the pacer lets the next packet go.
+    /// When the pacer lets the next packet go (RFC 9002, section 7.7).
     Pacing = 6,
-    /// When to retire an old connection id and to issue a new one.
+    /// When to retire an old connection id and to issue a new one (RFC 9000, section 5.1.1).
     PushNewCid = 7,
-    /// When to acknowledge what was held back.
+    /// When to acknowledge what was held back (RFC 9000, section 13.2.1).
     MaxAckDelay = 8,
 }
 

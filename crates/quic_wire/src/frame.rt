@@ -62,7 +62,7 @@ pub enum Frame<'a> {
     MaxStreams {
         /// Which streams.
         dir: Dir,
-        /// How many of them since the connection began: below 2^62, and no reader takes it above 2^60.
+        /// How many of them since the connection began: below 2^62. An end that acts on it closes above 2^60 (section 19.11).
         count: u64,
     },
     /// The limit of the connection holds data back (section 19.12).
@@ -81,7 +81,7 @@ pub enum Frame<'a> {
     StreamsBlocked {
         /// Which streams.
         dir: Dir,
-        /// How many may be opened: below 2^62, and no reader takes it above 2^60.
+        /// How many may be opened: below 2^62. An end that acts on it closes above 2^60 (section 19.14).
         limit: u64,
     },
     /// Gives an id of the connection (section 19.15).

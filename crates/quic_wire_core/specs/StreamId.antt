@@ -36,6 +36,11 @@ abbrev pub other_side : Side → Side
 other_side Client = Server
 other_side Server = Client
 
+-- The other kind of directions.
+abbrev pub other_dir : Dir → Dir
+other_dir Bi = Uni
+other_dir Uni = Bi
+
 -- Both sides, the client first.
 abbrev pub all_sides : List Side
 all_sides = Client ∷ Server ∷ []

@@ -19,6 +19,8 @@ pub enum Reason {
     NoFrame,
     /// Reserved bits of the header are set.
     ReservedBits,
+    /// An acknowledgement names a packet that was never sent.
+    NeverSent,
     /// A client sent a frame that only servers send.
     OfServers,
     /// Bytes came past a limit.
@@ -46,6 +48,7 @@ impl Reason {
             Reason::IllegalValue => "illegal value",
             Reason::NoFrame => "no frame",
             Reason::ReservedBits => "reserved bits set",
+            Reason::NeverSent => "a packet that was never sent",
             Reason::OfServers => "a frame that only servers send",
             Reason::TooManyBytes => "past a limit on bytes",
             Reason::TooManyStreams => "past the limit on streams",

@@ -1,7 +1,7 @@
 //! Sides, directions and stream ids (RFC 9000, section 2.1).
 ghost use Rattle.std.specs.Prelude.{◌≡◌, ◌<◌, ◌^◌, ◌==◌, IsTrue, ◌↔◌, Some};
 ghost use Rattle.std.specs.Array.Iter.{array_into_iter_items};
-ghost use Rattle.quic_wire_core.specs.StreamId.{side_bit, dir_bit, stream_id, initiator_of, dir_of, index_of, other_side, all_sides, all_dirs, side_text, dir_text, stream_text};
+ghost use Rattle.quic_wire_core.specs.StreamId.{side_bit, dir_bit, stream_id, initiator_of, dir_of, index_of, other_side, other_dir, all_sides, all_dirs, side_text, dir_text, stream_text};
 
 use crate::varint::VarInt;
 use std::marker::Model;
@@ -105,6 +105,20 @@ impl Dir {
         match self {
             Dir::Bi => 0,
             Dir::Uni => 1,
+        }
+    }
+}
+
+impl Not for Dir {
+    type Output = Dir;
+
+    ghost not_gives = { λ dir other. other ≡ other_dir dir };
+
+    /// The other kind.
+    fn not(self) -> Dir {
+        match self {
+            Dir::Bi => Dir::Uni,
+            Dir::Uni => Dir::Bi,
         }
     }
 }

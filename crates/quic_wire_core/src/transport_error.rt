@@ -242,7 +242,7 @@ impl PartialEq for TransportError {
     ghost laws = { partial_equiv_from_equiv same_error_equiv };
 
     fn eq(&self, other: &TransportError) -> bool {
-        self.code == other.code && self.frame == other.frame
+        other.code == self.code && other.frame == self.frame
     }
 }
 

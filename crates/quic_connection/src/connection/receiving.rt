@@ -275,7 +275,7 @@ impl<H: HeaderKey + Drop, K: PacketKey + Drop, R: Rng + Drop> Connection<H, K, R
     {
         let largest = frame.largest();
         if self.numbers.next() <= largest {
-            return Err(violation(Reason::IllegalValue));
+            return Err(violation(Reason::NeverSent));
         }
         self.numbers.name(largest);
         self.on_ack_received(frame)?;

@@ -3,7 +3,8 @@ ghost use Rattle.std.specs.Prelude.{◌≡◌, ℕ, ◌≤◌, true};
 ghost use Rattle.quic_wire.specs.Parameters.{ParameterValues};
 ghost use Rattle.quic_wire.specs.declared.frame.AckFrequency.{AckFrequency};
 ghost use Rattle.quic_config.specs.Configs.{FrequencySettings};
-ghost use Rattle.quic_recovery_core.specs.AckFrequency.{Frequency, least_delay, candidate, longest_delay, granularity, is_stale, after_received};
+ghost use Rattle.quic_recovery_core.specs.AckFrequency.{Frequency, least_delay, candidate, longest_delay, is_stale, after_received};
+ghost use Rattle.quic_time.specs.Clocks.{granularity};
 
 /// The peer is never asked for less than it allows.
 pub fn peers_least_delay_is_kept()

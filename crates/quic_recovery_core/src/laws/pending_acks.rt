@@ -5,7 +5,7 @@ ghost use Rattle.quic_recovery_core.specs.Duplicates.{Seen};
 ghost use Rattle.quic_recovery_core.specs.DuplicateRuns.{seen_after, Lacks};
 ghost use Rattle.quic_recovery_core.specs.PendingAcks.{Pending, can_send, after_insert, after_packet, with_one, IsKept};
 ghost use Rattle.quic_recovery_core.specs.AckRuns.{Change, runs_after, Waits, newest_after, IsNewest};
-ghost use Rattle.quic_recovery_core.specs.AckSteps.{Step, packet, pending_after, asking_since, silent_since, greatest_asking, greatest_acked};
+ghost use Rattle.quic_recovery_core.specs.AckSteps.{Step, packet, pending_after, asking_since, silent_since, greatest_asking, greatest_acked, threshold_told, reordering_told, AreUsual};
 
 use crate::spaces::pending_acks::MAX_ACK_RUNS;
 
@@ -35,21 +35,29 @@ pub fn asking_packets_are_answered()
 {}
 
 /// Packets are counted since the last acknowledgement went; the greatest number that asked is kept, and what it was then.
+/// The thresholds are those that the peer told last.
 pub fn counts_are_since_last_acknowledgement()
     ensures asking { (steps : List Step) → (pending_after steps).asking ≡ min (asking_since steps) (2 ^ 64 - 1) }
     ensures silent { (steps : List Step) → (pending_after steps).silent ≡ min (silent_since steps) (2 ^ 64 - 1) }
     ensures greatest { (steps : List Step) → (pending_after steps).greatest ≡ greatest_asking steps }
     ensures acked { (steps : List Step) → (pending_after steps).acked ≡ greatest_acked steps }
+    ensures threshold { (steps : List Step) → (pending_after steps).threshold ≡ threshold_told steps }
+    ensures reordering { (steps : List Step) → (pending_after steps).reordering ≡ reordering_told steps }
+{}
+
+/// An acknowledgement is due when a packet comes that asks, and more came than the threshold that the peer told.
+pub fn packets_above_the_threshold_are_due()
+    ensures { (steps : List Step) (now n : ℕ) (s : Seen) → threshold_told steps < asking_since steps + 1 → asking_since steps + 1 < 2 ^ 64 → IsTrue (pending_after (packet now n true s ∷ steps)).due }
 {}
 
 /// While the thresholds are those of the beginning, an acknowledgement is due from the second packet on that asks.
 pub fn second_asking_packet_is_due()
-    ensures { (steps : List Step) → 1 < asking_since steps → IsTrue (pending_after steps).due }
+    ensures { (steps : List Step) → AreUsual steps → 1 < asking_since steps → IsTrue (pending_after steps).due }
 {}
 
-/// While the thresholds are those of the beginning, an acknowledgement is due where a packet that asks comes below one that
-/// asked, or where a number lacks between them (RFC 9000, section 13.2.1).
+/// Where the peer wants an acknowledgement at once of each packet out of order, as at first, one is due where a packet that
+/// asks comes below one that asked, or where a number lacks between them (RFC 9000, section 13.2.1).
 pub fn packet_out_of_order_is_due()
-    ensures below { (steps : List Step) (now n : ℕ) (s : Seen) → n < unwrap_or (greatest_asking steps) 0 → IsTrue (pending_after (packet now n true s ∷ steps)).due }
-    ensures gap { (steps : List Step) (now n k : ℕ) (ns : List ℕ) → unwrap_or (greatest_asking steps) 0 < k → k < n → Lacks ns k → IsTrue (pending_after (packet now n true (seen_after ns) ∷ steps)).due }
+    ensures below { (steps : List Step) (now n : ℕ) (s : Seen) → reordering_told steps ≡ 1 → n < unwrap_or (greatest_asking steps) 0 → IsTrue (pending_after (packet now n true s ∷ steps)).due }
+    ensures gap { (steps : List Step) (now n k : ℕ) (ns : List ℕ) → reordering_told steps ≡ 1 → unwrap_or (greatest_asking steps) 0 < k → k < n → Lacks ns k → IsTrue (pending_after (packet now n true (seen_after ns) ∷ steps)).due }
 {}

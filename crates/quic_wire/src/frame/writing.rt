@@ -367,7 +367,7 @@ fn size_of_ack_frequency(frame: &AckFrequency) -> usize
     2 + size_of_pair(frame.sequence.into_inner(), threshold) + size_of_pair(delay, reordering)
 }
 
-/// How many bytes a frame takes.
+/// How many bytes a frame takes; STREAM and DATAGRAM are counted with their length.
 pub fn size_of_frame(frame: &Frame<'_>) -> usize
     requires { Fits (frame_view frame.now) }
     ensures { result ≡ frame_size (frame_view frame.now) }
@@ -447,7 +447,7 @@ pub fn put_stream_parts(out: &mut Vec<u8>, stream: &Stream<'_>, more: &[u8], wit
     append(out, more);
 }
 
-/// Appends a frame, a STREAM frame with its length, for which there is room.
+/// Appends a frame, STREAM and DATAGRAM with their length, for which there is room.
 pub fn put_frame(out: &mut Vec<u8>, frame: &Frame<'_>)
     requires form { Fits (frame_view frame.now) }
     requires room { vec_len out.old + frame_size (frame_view frame.now) ≤ vec_capacity out.old }

@@ -51,3 +51,15 @@ fn the_sample_is_written(rt: HostRuntime) -> Result<(), Fail> {
     assert!(rt; out.as_slice() == SAMPLE.as_slice());
     Ok(())
 }
+
+#[test]
+fn one_without_counts_is_written(rt: HostRuntime) -> Result<(), Fail> {
+    let bytes = [0x02, 0x0e, 0x2a, 0x01, 0x00, 0x01, 0x01];
+    let ack = ack_in(&bytes).expect(&rt, "an ACK frame");
+    assert_eq!(rt; ack.largest(), 14);
+    assert!(rt; ack.ecn().is_none() && has_ranges(&ack, &[(14, 14), (10, 11)]));
+    let mut out = Vec::new(rt.alloc());
+    write_frame(&Frame::Ack(ack), &mut out)?;
+    assert!(rt; out.as_slice() == bytes.as_slice());
+    Ok(())
+}

@@ -25,7 +25,7 @@ fn cut_fields_end_frames(rt: HostRuntime) {
     let mut id = [0; 24];
     id[0] = 0x18;
     id[3] = 4;
-    let frames: [&[u8]; 13] = [
+    let frames: [&[u8]; 21] = [
         &[
             0x03, 0x04, 0x00, 0x01, 0x00, 0x01, 0x01, 0x02, 0x00, 0x40, 0x40,
         ],
@@ -36,6 +36,14 @@ fn cut_fields_end_frames(rt: HostRuntime) {
         &[0x0e, 0x01, 0x02, 0x01, 0x61],
         &[0x10, 0x80, 0x00, 0x00, 0x01],
         &[0x11, 0x01, 0x02],
+        &[0x12, 0x40, 0x03],
+        &[0x13, 0x40, 0x03],
+        &[0x14, 0x41, 0x00],
+        &[0x15, 0x02, 0x40, 0x64],
+        &[0x16, 0x40, 0x03],
+        &[0x17, 0x40, 0x05],
+        &[0x19, 0x40, 0x40],
+        &[0x1b, 1, 2, 3, 4, 5, 6, 7, 8],
         &[0x1a, 1, 2, 3, 4, 5, 6, 7, 8],
         &[0x1c, 0x01, 0x02, 0x01, 0x61],
         &[0x1d, 0x01, 0x01, 0x61],
@@ -52,7 +60,7 @@ fn cut_fields_end_frames(rt: HostRuntime) {
 
 #[test]
 fn fields_are_judged_in_their_order(rt: HostRuntime) {
-    let cases: [(&[u8], u32, FrameError); 10] = [
+    let cases: [(&[u8], u32, FrameError); 11] = [
         // A first range longer than the greatest number; a gap that is too large, with nothing behind it; the greatest gap,
         // and nothing behind it; a length that is too large.
         (&[0x02, 0x04, 0x00, 0x00, 0x05], 0x02, FrameError::Malformed),
@@ -76,6 +84,12 @@ fn fields_are_judged_in_their_order(rt: HostRuntime) {
         (&[0x18, 0x01, 0x01, 0x00], 0x18, FrameError::Malformed),
         (&[0x18, 0x01, 0x01, 0x15], 0x18, FrameError::Malformed),
         (&[0x18, 0x01, 0x01, 0x14], 0x18, FrameError::UnexpectedEnd),
+        // A type of two bytes, whose last field is missing.
+        (
+            &[0x40, 0xaf, 0x01, 0x0a, 0x03],
+            0xaf,
+            FrameError::UnexpectedEnd,
+        ),
         // Types that no frame has, one of them in four bytes.
         (&[0x2f, 0x00], 0x2f, FrameError::InvalidId),
         (&[0x80, 0x00, 0x00, 0xae], 0xae, FrameError::InvalidId),
