@@ -5,6 +5,8 @@ ghost use Rattle.quic_connection_core.specs.Machine.{IsAnswer, IsLeft, fails, gi
 ghost use Rattle.quic_connection_core.specs.Calls.{AreNexts, after_nexts};
 ghost use Rattle.quic_time.specs.Timers.{each_timer};
 ghost use Rattle.quic_connection_core.specs.Headline.{IsHonest, OrderedPrefix, Slices, Once, EndAfterAll, BlockedOnlyWithoutBytes, AcceptsAll, FinishedMeansArrived, TellsOnce, AcknowledgedWereTaken, LossTimersFollow, NumbersRise};
+ghost use Rattle.quic_connection_core.specs.Duties.{DutiesStand};
+ghost use Rattle.quic_connection_core.specs.InFlight.{TracksInFlight};
 ghost use Rattle.quic_connection.specs.Ends.{world_of, first_world, policies_of, run_of};
 ghost use Rattle.quic_connection.specs.declared.running.Given.{Given};
 
@@ -287,7 +289,8 @@ fn view<H: HeaderKey + Drop, K: PacketKey + Drop, R: Rng + Drop>(ends: &Ends<H, 
 /// a stream is a prefix of what was written on it, no byte comes twice, the end comes only behind all, a stream is told to be
 /// finished only where the other end took all of it, an acknowledgement that came names only what the other end took, and
 /// packet numbers rise. Behind the last answer, where nothing is left to tell, each stream was told to be finished once if all of
-/// it is acknowledged, and never otherwise. Where memory lacks too, and with any keys, an end that is open then has its loss timer
+/// it is acknowledged, and never otherwise; all that was written waits to go, is under way, or arrived; and an open end waits for
+/// exactly the datagrams that are in flight. Where memory lacks too, and with any keys, an end that is open then has its loss timer
 /// set exactly where a datagram that asks is waited for, if it began so.
 pub fn run<H: HeaderKey + Drop, K: PacketKey + Drop, R: Rng + Drop>(
     alloc: Global,
@@ -305,6 +308,8 @@ pub fn run<H: HeaderKey + Drop, K: PacketKey + Drop, R: Rng + Drop>(
     ensures accepts_all { let r = run_of (policies_of H.masks H.hides H.unmasks H.reveals K.sealed K.opened ends) ends events.now result.answers.items result.views.items result.given in IsHonest r → AcceptsAll r }
     ensures finished_means_arrived { let r = run_of (policies_of H.masks H.hides H.unmasks H.reveals K.sealed K.opened ends) ends events.now result.answers.items result.views.items result.given in IsHonest r → FinishedMeansArrived r }
     ensures told_once { let r = run_of (policies_of H.masks H.hides H.unmasks H.reveals K.sealed K.opened ends) ends events.now result.answers.items result.views.items result.given in IsHonest r → TellsOnce r (world_of result.ends result.given) }
+    ensures duties_stand { let r = run_of (policies_of H.masks H.hides H.unmasks H.reveals K.sealed K.opened ends) ends events.now result.answers.items result.views.items result.given in IsHonest r → DutiesStand r (world_of result.ends result.given) }
+    ensures tracks_in_flight { let r = run_of (policies_of H.masks H.hides H.unmasks H.reveals K.sealed K.opened ends) ends events.now result.answers.items result.views.items result.given in IsHonest r → TracksInFlight r (world_of result.ends result.given) }
     ensures acknowledged_were_taken { let r = run_of (policies_of H.masks H.hides H.unmasks H.reveals K.sealed K.opened ends) ends events.now result.answers.items result.views.items result.given in IsHonest r → AcknowledgedWereTaken r }
     ensures loss_timers_follow { LossTimersFollow (first_world ends) → LossTimersFollow (world_of result.ends result.given) }
     ensures numbers_rise { let r = run_of (policies_of H.masks H.hides H.unmasks H.reveals K.sealed K.opened ends) ends events.now result.answers.items result.views.items result.given in IsHonest r → NumbersRise r }

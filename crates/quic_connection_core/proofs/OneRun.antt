@@ -1,5 +1,5 @@
--- Where memory served, the answers of a run tell all that it leaves.
-use Rattle.std.proofs.Common.{◌≡◌, List, [], ◌∷◌, Bool, true, false, refl, sym, ap, ◌∙◌, subst}
+-- Where memory served, the answers of a run tell all that it leaves; and how many answers and views there are.
+use Rattle.std.proofs.Common.{◌≡◌, ◌≤◌, suc, List, [], ◌∷◌, length, Bool, true, false, refl, sym, ap, ◌∙◌, subst, arith}
 use Rattle.std.specs.Prelude.{◌||◌}
 use Rattle.std.specs.List.{list_any}
 use Rattle.quic_wire_core.specs.StreamId.{other_side}
@@ -49,3 +49,22 @@ one_run k (a ∷ told) w (event ∷ events) (v ∷ vs) (u ∷ us) x y served f g
     let same : g.0 ≡ f.0 = one_world k w event a g.0 f.0 both.0 g.1 f.1 in
     let seen : v ≡ u = f.2 ∙ ap view_of (sym same) ∙ sym g.2 in
     more v u vs us x y seen (one_run k told f.0 events vs us x y both.1 f.3 (subst (λ (m : World). Follows k m events told us y) same g.3))
+
+-- ---- how many answers and views there are
+
+-- one view for each answer
+pub as_many_views : (k : Policies) (w end : World) (events : List RunEvent) (told : List Answer) (views : List View) → Follows k w events told views end → length views ≡ length told
+as_many_views k w end [] [] [] f = refl
+as_many_views k w end (event ∷ events) [] [] f = refl
+as_many_views k w end [] [] (v ∷ views) f = absurd f
+as_many_views k w end (event ∷ events) [] (v ∷ views) f = absurd f
+as_many_views k w end [] (a ∷ told) views f = absurd f
+as_many_views k w end (event ∷ events) (a ∷ told) [] f = absurd f
+as_many_views k w end (event ∷ events) (a ∷ told) (v ∷ views) f = ap suc (as_many_views k f.0 end events told views f.3)
+
+-- no answer without an event
+pub no_more_answers : (k : Policies) (w end : World) (events : List RunEvent) (told : List Answer) (views : List View) → Follows k w events told views end → length told ≤ length events
+no_more_answers k w end events [] views f = omega arith
+no_more_answers k w end [] (a ∷ told) views f = absurd f
+no_more_answers k w end (event ∷ events) (a ∷ told) [] f = absurd f
+no_more_answers k w end (event ∷ events) (a ∷ told) (v ∷ views) f = let fewer = no_more_answers k f.0 end events told views f.3 in omega arith

@@ -1,5 +1,5 @@
 //! What the definitions of runs say together. Each function does nothing: its contract is the law.
-ghost use Rattle.std.specs.Prelude.{◌≡◌, false, List};
+ghost use Rattle.std.specs.Prelude.{◌≡◌, ◌≤◌, length, false, List};
 ghost use Rattle.std.specs.List.{list_any};
 ghost use Rattle.quic_connection_core.specs.declared.run.RunEvent.{RunEvent};
 ghost use Rattle.quic_connection_core.specs.declared.run.Answer.{Answer};
@@ -10,4 +10,10 @@ ghost use Rattle.quic_connection_core.specs.Machine.{World, Policies, Follows, f
 pub fn answers_tell_the_run()
     ensures { (k : Policies) (w : World) (events : List RunEvent) (told : List Answer) (views others : List View) (x y : World) → list_any fails told ≡ false
         → Follows k w events told views x → Follows k w events told others y → (views ≡ others) × (x ≡ y) }
+{}
+
+/// A run has one view for each answer, and no answer without an event.
+pub fn each_answer_has_a_view()
+    ensures views { (k : Policies) (w end : World) (events : List RunEvent) (told : List Answer) (views : List View) → Follows k w events told views end → length views ≡ length told }
+    ensures events { (k : Policies) (w end : World) (events : List RunEvent) (told : List Answer) (views : List View) → Follows k w events told views end → length told ≤ length events }
 {}

@@ -36,7 +36,7 @@ ghost use Rattle.quic_connection_core.specs.Calls.{open_answer, end_accepts, end
 ghost use Rattle.quic_connection_core.specs.Poll.{IsDatagram, polled};
 ghost use Rattle.quic_connection_core.specs.Machine.{IsStep, Follows};
 ghost use Rattle.quic_connection_core.specs.Opens.{opens};
-ghost use Rattle.quic_connection_core.specs.Runs.{until, written, ended, reads, finished, ids_of, accepts, count_given, given_until, took, is_again, HasArrived, EndHasArrived};
+ghost use Rattle.quic_connection_core.specs.Runs.{until, written, ended, reads, finished, ids_of, accepts, count_given, given_until, took, is_again, HasArrived, EndHasArrived, references_until};
 ghost use Rattle.quic_connection_core.specs.Headline.{AreStarted, AreKeys, IsHonest, IsRun};
 ghost use Rattle.quic_connection_core.specs.Worked.{worked_parameters, client_id, server_id, client_made, server_made, client_opened, client_ended, client_sent, hello, hello_frame, hello_payload, hello_datagram, delivers, failed_end, from_client, client_packet, at_server, within, server_took, server_read, before_sending, after_sending, worked_policies, worked_events, worked_answers, worked_views, worked_run};
 
@@ -53,6 +53,7 @@ pub fn hello_is_given()
     ensures size { length hello_datagram ≡ 34 }
     ensures sealed { protected worked_policies.client.mask worked_policies.client.hide worked_policies.client.seal 9 0 ((0x40 ∷ server_id) ++ (0x00 ∷ hello_payload)) ≡ hello_datagram }
     ensures is { IsDatagram worked_policies.client 0 0 server_id (stream hello_frame ∷ []) hello_datagram }
+    ensures against { (read : ReadCall) → references_until (worked_run read) Client 8 ≡ 0 ∷ [] }
 {}
 
 /// The datagram shows the server's id, its number and its frame to the server, and nothing to another end or another key.

@@ -3,7 +3,7 @@ use Rattle.std.proofs.Common.{refl}
 use Rattle.quic_connection_core.specs.Machine.{World, Policies}
 use Rattle.quic_connection_core.specs.Runs.{Run}
 use Rattle.quic_connection_core.proofs.LossTimers.{loss_timers_follow}
-use Rattle.quic_connection_core.proofs.Whole.{ordered_prefix, slices, once, end_after_all, blocked_only_without_bytes, accepts_all, finished_means_arrived, told_once, acknowledged_were_taken, numbers_rise}
+use Rattle.quic_connection_core.proofs.Whole.{ordered_prefix, slices, once, end_after_all, blocked_only_without_bytes, accepts_all, finished_means_arrived, told_once, duties_stand, tracks_in_flight, acknowledged_were_taken, numbers_rise}
 use Rattle.quic_connection.specs.Ends.{world_of, first_world, policies_of, run_of}
 use Rattle.quic_connection.proofs.running.run.Goals as goal
 
@@ -62,6 +62,20 @@ returns-clause-told_once g c =
     let keys : Policies = policies_of g.H.HeaderKey.masks g.H.HeaderKey.hides g.H.HeaderKey.unmasks g.H.HeaderKey.reveals g.K.PacketKey.sealed g.K.PacketKey.opened c.args.ends in
     let r : Run = run_of keys c.args.ends c.args.events.now o.answers.items o.views.items o.given in
     λ honest. told_once r (world_of o.ends o.given) honest (record { follows = c.run_events.ensures.follows; from_client = refl; from_server = refl })
+
+pub returns-clause-duties_stand : goal.returns-clause-duties_stand
+returns-clause-duties_stand g c =
+    let o = c.run_events.result in
+    let keys : Policies = policies_of g.H.HeaderKey.masks g.H.HeaderKey.hides g.H.HeaderKey.unmasks g.H.HeaderKey.reveals g.K.PacketKey.sealed g.K.PacketKey.opened c.args.ends in
+    let r : Run = run_of keys c.args.ends c.args.events.now o.answers.items o.views.items o.given in
+    λ honest. duties_stand r (world_of o.ends o.given) honest (record { follows = c.run_events.ensures.follows; from_client = refl; from_server = refl })
+
+pub returns-clause-tracks_in_flight : goal.returns-clause-tracks_in_flight
+returns-clause-tracks_in_flight g c =
+    let o = c.run_events.result in
+    let keys : Policies = policies_of g.H.HeaderKey.masks g.H.HeaderKey.hides g.H.HeaderKey.unmasks g.H.HeaderKey.reveals g.K.PacketKey.sealed g.K.PacketKey.opened c.args.ends in
+    let r : Run = run_of keys c.args.ends c.args.events.now o.answers.items o.views.items o.given in
+    λ honest. tracks_in_flight r (world_of o.ends o.given) honest (record { follows = c.run_events.ensures.follows; from_client = refl; from_server = refl })
 
 pub returns-clause-acknowledged_were_taken : goal.returns-clause-acknowledged_were_taken
 returns-clause-acknowledged_were_taken g c =
