@@ -1,8 +1,8 @@
 -- Lemmas on the nine timers and their moments.
-use Rattle.std.proofs.Common.{◌≡◌, ℕ, zero, suc, ◌≤◌, ◌⊎◌, inl, inr, Option, Some, None, List, [], ◌∷◌, get_or, map, fold, min, refl, ap, ◌∙◌, arith, IfSome, IsSomeAnd}
+use Rattle.std.proofs.Common.{◌≡◌, ◌≢◌, ℕ, zero, suc, ◌≤◌, ◌⊎◌, inl, inr, Option, Some, None, List, [], ◌∷◌, get_or, map, fold, min, refl, sym, subst, ap, ◌∙◌, arith, IfSome, IsSomeAnd}
 use Rattle.std.specs.List.{Contains}
 use Rattle.std.proofs.lemmas.Bool.{cases_lt}
-use Rattle.quic_time.specs.Timers.{Timers, timer_at, all_timers, each_timer, earlier, next_timer}
+use Rattle.quic_time.specs.Timers.{Timers, timer_at, with_timer, all_timers, each_timer, earlier, next_timer, timers_after, IsLast}
 use Rattle.quic_time.specs.TimerSlots.{timers_of}
 use Rattle.quic_time.specs.declared.timer.Timer.{Timer}
 use Rattle.quic_time.specs.declared.timer.Timer.TheVariants.{LossDetection, Idle, Close, KeyDiscard, PathValidation, KeepAlive, Pacing, PushNewCid, MaxAckDelay}
@@ -126,3 +126,74 @@ next_is_set t =
       | inl never ↦ absurd cc
       | inr there ↦ timer_there all_timers (λ timer. timer_at timer t) there.0 m there.1
     ])
+
+-- ---- a history
+
+-- two timers are one, or aren't
+one_timer : (timer other : Timer) → (timer ≡ other) ⊎ (timer ≢ other)
+one_timer LossDetection LossDetection = inl refl
+one_timer LossDetection other = inr (λ is. cc)
+one_timer Idle Idle = inl refl
+one_timer Idle other = inr (λ is. cc)
+one_timer Close Close = inl refl
+one_timer Close other = inr (λ is. cc)
+one_timer KeyDiscard KeyDiscard = inl refl
+one_timer KeyDiscard other = inr (λ is. cc)
+one_timer PathValidation PathValidation = inl refl
+one_timer PathValidation other = inr (λ is. cc)
+one_timer KeepAlive KeepAlive = inl refl
+one_timer KeepAlive other = inr (λ is. cc)
+one_timer Pacing Pacing = inl refl
+one_timer Pacing other = inr (λ is. cc)
+one_timer PushNewCid PushNewCid = inl refl
+one_timer PushNewCid other = inr (λ is. cc)
+one_timer MaxAckDelay MaxAckDelay = inl refl
+one_timer MaxAckDelay other = inr (λ is. cc)
+
+-- a timer that isn't changed shows what it showed
+apart : (timer other : Timer) (moment : Option ℕ) (t : Timers) → timer ≢ other → timer_at timer (with_timer other moment t) ≡ timer_at timer t
+apart LossDetection LossDetection moment t ne = absurd (ne refl)
+apart LossDetection other moment t ne = refl
+apart Idle Idle moment t ne = absurd (ne refl)
+apart Idle other moment t ne = refl
+apart Close Close moment t ne = absurd (ne refl)
+apart Close other moment t ne = refl
+apart KeyDiscard KeyDiscard moment t ne = absurd (ne refl)
+apart KeyDiscard other moment t ne = refl
+apart PathValidation PathValidation moment t ne = absurd (ne refl)
+apart PathValidation other moment t ne = refl
+apart KeepAlive KeepAlive moment t ne = absurd (ne refl)
+apart KeepAlive other moment t ne = refl
+apart Pacing Pacing moment t ne = absurd (ne refl)
+apart Pacing other moment t ne = refl
+apart PushNewCid PushNewCid moment t ne = absurd (ne refl)
+apart PushNewCid other moment t ne = refl
+apart MaxAckDelay MaxAckDelay moment t ne = absurd (ne refl)
+apart MaxAckDelay other moment t ne = refl
+
+-- one that is changed shows the change
+set_shows : (timer : Timer) (moment : Option ℕ) (t : Timers) → timer_at timer (with_timer timer moment t) ≡ moment
+set_shows LossDetection moment t = refl
+set_shows Idle moment t = refl
+set_shows Close moment t = refl
+set_shows KeyDiscard moment t = refl
+set_shows PathValidation moment t = refl
+set_shows KeepAlive moment t = refl
+set_shows Pacing moment t = refl
+set_shows PushNewCid moment t = refl
+set_shows MaxAckDelay moment t = refl
+
+pub last_change : (changes : List (Timer × Option ℕ)) (timer : Timer) → IsLast timer changes (timer_at timer (timers_after changes))
+last_change [] LossDetection = refl
+last_change [] Idle = refl
+last_change [] Close = refl
+last_change [] KeyDiscard = refl
+last_change [] PathValidation = refl
+last_change [] KeepAlive = refl
+last_change [] Pacing = refl
+last_change [] PushNewCid = refl
+last_change [] MaxAckDelay = refl
+last_change (change ∷ before) timer = elim (one_timer timer change.0) [
+  | inl same ↦ inl (same, rw same (set_shows change.0 change.1 (timers_after before)))
+  | inr other ↦ inr (other, subst (λ (o : Option ℕ). IsLast timer before o) (sym (apart timer change.0 change.1 (timers_after before) other)) (last_change before timer))
+]

@@ -1,5 +1,5 @@
 -- The nine timers of a connection, and the moments at which they expire.
-use Rattle.std.specs.Prelude.{ℕ, min, Bool, false, Option, Some, None, List, [], ◌∷◌, map, fold, nat_le}
+use Rattle.std.specs.Prelude.{ℕ, ◌≡◌, ◌≢◌, ◌⊎◌, min, Bool, false, Option, Some, None, List, [], ◌∷◌, map, fold, nat_le}
 use Rattle.quic_time.specs.declared.timer.Timer.{Timer}
 use Rattle.quic_time.specs.declared.timer.Timer.TheVariants.{LossDetection, Idle, Close, KeyDiscard, PathValidation, KeepAlive, Pacing, PushNewCid, MaxAckDelay}
 
@@ -75,3 +75,15 @@ next_timer t = fold earlier None (each_timer t)
 abbrev pub has_come : Option ℕ → ℕ → Bool
 has_come None now = false
 has_come (Some moment) now = nat_le moment now
+
+-- ---- a history
+
+-- the timers after some were set or stopped, the latest first
+abbrev pub timers_after : List (Timer × Option ℕ) → Timers
+timers_after [] = no_timers
+timers_after (change ∷ before) = with_timer change.0 change.1 (timers_after before)
+
+-- what the latest change of a timer made of it: nothing set it where there is none
+abbrev pub IsLast : Timer → List (Timer × Option ℕ) → Option ℕ → Type 0
+IsLast timer [] moment = moment ≡ None
+IsLast timer (change ∷ before) moment = ((timer ≡ change.0) × (moment ≡ change.1)) ⊎ ((timer ≢ change.0) × IsLast timer before moment)

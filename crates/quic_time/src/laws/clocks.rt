@@ -1,7 +1,7 @@
 //! Laws of moments, timers and round-trip times.
 ghost use Rattle.std.specs.Prelude.{◌≡◌, ◌≢◌, ℕ, ◌+◌, ◌-◌, ◌<◌, ◌≤◌, ◌^◌, List, ◌∷◌, length, fold, reverse, All, Any, Contains, Option, Some, None, IfSome, IsSomeAnd};
 ghost use Rattle.quic_time.specs.Clocks.{saturated};
-ghost use Rattle.quic_time.specs.Timers.{Timers, timer_at, with_timer, no_timers, all_timers, next_timer};
+ghost use Rattle.quic_time.specs.Timers.{Timers, timer_at, with_timer, no_timers, all_timers, next_timer, timers_after, IsLast};
 ghost use Rattle.quic_time.specs.Rtt.{Sample, assumed_rtt, with_sample, least_over, smoothed_over, var_over, estimate_over};
 ghost use Rattle.quic_time.specs.declared.timer.Timer.{Timer};
 
@@ -29,6 +29,11 @@ pub fn timers_are_apart()
     ensures others { (timer other : Timer) (moment : Option ℕ) (t : Timers) → timer ≢ other
         → timer_at other (with_timer timer moment t) ≡ timer_at other t }
     ensures unset { (timer : Timer) → timer_at timer no_timers ≡ None }
+{}
+
+/// After any history each timer shows what its last change made of it.
+pub fn timers_show_their_last_change()
+    ensures { (changes : List (Timer × Option ℕ)) (timer : Timer) → IsLast timer changes (timer_at timer (timers_after changes)) }
 {}
 
 /// Two tables with the same moment at each timer are the same table.
