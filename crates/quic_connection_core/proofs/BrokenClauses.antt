@@ -1,5 +1,5 @@
 -- Each broken run breaks a clause of the headline.
-use Rattle.std.proofs.Common.{◌≡◌, ◌+◌, ◌≤◌, ℕ, List, [], ◌∷◌, ◌++◌, Some, None, Result, Ok, Err, Bool, true, false, Option, refl, inl, ap, sym, ◌∙◌, subst, arith}
+use Rattle.std.proofs.Common.{◌≡◌, ◌+◌, ◌<◌, ◌≤◌, ℕ, List, [], ◌∷◌, ◌++◌, Some, None, Result, Ok, Err, Bool, true, false, Option, refl, inl, ap, sym, ◌∙◌, subst, arith}
 use Rattle.std.specs.Prelude.{slice_index, ◌==◌, eqb, if◌then◌else◌}
 use Rattle.std.specs.List.{IsDistinct}
 use Rattle.quic_wire_core.specs.declared.stream_id.Side.TheVariants.{Client, Server}
@@ -17,10 +17,10 @@ use Rattle.quic_connection_core.specs.declared.answers.Received.{Received}
 use Rattle.quic_connection_core.specs.declared.answers.Received.TheVariants as receives
 use Rattle.quic_connection_core.specs.declared.run.ReadCall.{ReadCall}
 use Rattle.quic_connection_core.specs.Runs.{Packet, Next, In, IsNamed, until, nexts, chunks_of, reads, bytes_of, offsets_of, took, WasTaken, HasArrived}
-use Rattle.quic_connection_core.specs.Headline.{OrderedPrefix, Slices, Once, EndAfterAll, BlockedOnlyWithoutBytes, AcceptsAll, FinishedMeansArrived, TellsOnce, AcknowledgedWereTaken, LossTimersFollow, NumbersRise, IsNumbered}
+use Rattle.quic_connection_core.specs.Headline.{OrderedPrefix, Slices, Once, EndAfterAll, BlockedOnlyWithoutBytes, AcceptsAll, FinishedMeansArrived, TellsOnce, AcknowledgedWereTaken, LossTimersFollow, AckTimersFollow, NumbersRise, IsNumbered}
 use Rattle.quic_connection_core.specs.Acknowledged.{half_done}
 use Rattle.quic_connection_core.specs.Worked.{worked_policies, server_id, hello, hello_frame, run_with}
-use Rattle.quic_connection_core.specs.Broken.{NextAnswers, answers_with, duplicate, hellp, gives_chunk, all_nexts, changed_nexts, repeated_nexts, early_nexts, changed_byte, repeated_bytes, unwritten_byte, early_end, unwritten_end, taken_twice, blocked_read, never_accepted, early_finish, all_told, told_twice, never_told, early_acknowledgement, never_timed, empty_datagram, repeated_number}
+use Rattle.quic_connection_core.specs.Broken.{NextAnswers, answers_with, duplicate, hellp, gives_chunk, all_nexts, changed_nexts, repeated_nexts, early_nexts, changed_byte, repeated_bytes, unwritten_byte, early_end, unwritten_end, taken_twice, blocked_read, never_accepted, early_finish, all_told, told_twice, never_told, early_acknowledgement, never_timed, still_timed, empty_datagram, repeated_number}
 use Rattle.quic_connection_core.proofs.WorkedNumber.{only_number}
 use Rattle.quic_connection_core.proofs.WorkedRun.{hello_packet, frame_taken}
 
@@ -142,6 +142,10 @@ acknowledges_early h =
 -- a datagram that asks is tracked
 pub never_sets : LossTimersFollow never_timed → ⊥
 never_sets i = let clash : ◌≡◌ {A = Bool} false true = i.0 refl in cc
+
+-- no packet that asks came since the acknowledgement
+pub never_stops : AckTimersFollow still_timed → ⊥
+never_stops i = let none : 0 < 0 = i.1 refl refl in omega (arith, none)
 
 -- ---- numbers
 

@@ -24,10 +24,11 @@ use Rattle.quic_connection_core.specs.declared.run.View.{View}
 use Rattle.quic_connection_core.specs.Machine.{IsAnswer, IsRead, IsStep, Follows, World, policy_at, end_at, given_by, fails}
 use Rattle.quic_connection_core.specs.Acknowledged.{client_acked}
 use Rattle.quic_connection_core.specs.Worked.{client_made, server_made, server_took, server_accepted, hello, hello_datagram, delivery, delivers, before_sending, after_sending, worked_policies, worked_events}
-use Rattle.quic_connection_core.specs.Broken.{NextAnswers, hellp, gives_chunk, changed_nexts, repeated_nexts, early_nexts, blocked_nexts, changed_byte, repeated_bytes, unwritten_byte, early_end, unwritten_end, taken_twice, never_taken, blocked_read, never_accepted, early_finish, all_told, asks_event, tells_finished, told_twice, never_told, early_acknowledgement, never_timed}
+use Rattle.quic_connection_core.specs.Broken.{NextAnswers, hellp, gives_chunk, changed_nexts, repeated_nexts, early_nexts, blocked_nexts, changed_byte, repeated_bytes, unwritten_byte, early_end, unwritten_end, taken_twice, never_taken, blocked_read, never_accepted, early_finish, all_told, asks_event, tells_finished, told_twice, never_told, early_acknowledgement, never_timed, still_timed}
 use Rattle.quic_connection_core.proofs.OneRun.{one_world}
 use Rattle.quic_connection_core.proofs.LossTimers.{loss_timers_follow}
-use Rattle.quic_connection_core.proofs.BrokenClauses.{never_sets}
+use Rattle.quic_connection_core.proofs.AckTimers.{ack_timers_follow}
+use Rattle.quic_connection_core.proofs.BrokenClauses.{never_sets, never_stops}
 use Rattle.quic_connection_core.proofs.WorkedRun.{opens, writes, finishes, gives, takes, drops_duplicate, accepts}
 
 -- the machine may run these events with these answers from a world on
@@ -201,3 +202,7 @@ never_acknowledges (v ∷ views) end f = let is = f.1.answer in cc
 -- the timer follows at the first ends, so it does wherever a run leads
 pub never_untimed : (events : List RunEvent) (told : List Answer) (views : List View) → Follows worked_policies (before_sending client_made) events told views never_timed → ⊥
 never_untimed events told views f = never_sets (loss_timers_follow worked_policies (before_sending client_made) never_timed events told views f (λ opened. refl, λ opened. refl))
+
+-- no timer is set at the first ends, so the timer of acknowledgements follows wherever a run leads
+pub never_needless : (events : List RunEvent) (told : List Answer) (views : List View) → Follows worked_policies (before_sending client_made) events told views still_timed → ⊥
+never_needless events told views f = never_stops (ack_timers_follow worked_policies (before_sending client_made) still_timed events told views f (λ opened set. cc, λ opened set. cc))

@@ -13,6 +13,7 @@ mod Steps
 mod Polls
 mod Leaves
 pub mod LossTimers
+pub mod AckTimers
 mod Window
 mod Naming
 mod Delivered

@@ -20,7 +20,7 @@ use Rattle.quic_connection_core.specs.Machine.{World, Policies, IsStep, policy_a
 use Rattle.quic_connection_core.specs.Runs.{Run, Told, Packet, given_of, told_by, until, AreServed, written, ended, nexts, intake, nothing_came, took}
 use Rattle.quic_connection_core.specs.Duties.{AreSomewhere, DutiesStand}
 use Rattle.quic_connection_core.specs.InFlight.{Flight, first_watch, watched, lens_of, in_flight, TracksInFlight}
-use Rattle.quic_connection_core.specs.Headline.{IsInRange, IsHonest, AreStarted, IsRun, OrderedPrefix, Slices, Once, EndAfterAll, BlockedOnlyWithoutBytes, AcceptsAll, FinishedMeansArrived, ToldOnce, TellsOnce, AcknowledgedWereTaken, LossTimerFollows, LossTimersFollow, NumbersRise}
+use Rattle.quic_connection_core.specs.Headline.{IsInRange, IsHonest, AreStarted, IsRun, OrderedPrefix, Slices, Once, EndAfterAll, BlockedOnlyWithoutBytes, AcceptsAll, FinishedMeansArrived, ToldOnce, TellsOnce, AcknowledgedWereTaken, LossTimerFollows, LossTimersFollow, AckTimerFollows, AckTimersFollow, NumbersRise}
 use Rattle.quic_wire.specs.Parameters.{ParameterValues}
 use Rattle.quic_wire.specs.ParametersRead.{parameters_at}
 use Rattle.quic_config.specs.Transport.{Settings, parameters_of}
@@ -297,6 +297,13 @@ pub timers_start : (w : World) → AreStarted w → LossTimersFollow w
 timers_start w s = (
   subst (λ (e : End). LossTimerFollows e) (sym (client_is w s)) (λ opened. refl),
   subst (λ (e : End). LossTimerFollows e) (sym (server_is w s)) (λ opened. refl),
+)
+
+-- new ends have no timer set
+pub ack_timers_start : (w : World) → AreStarted w → AckTimersFollow w
+ack_timers_start w s = (
+  subst (λ (e : End). AckTimerFollows e) (sym (client_is w s)) (λ opened set. cc),
+  subst (λ (e : End). AckTimerFollows e) (sym (server_is w s)) (λ opened set. cc),
 )
 
 pub numbers_rise : (r : Run) (end : World) → IsHonest r → IsRun r end → NumbersRise r

@@ -20,7 +20,7 @@ use Rattle.quic_connection_core.specs.declared.run.Answer.{Answer}
 use Rattle.quic_connection_core.specs.declared.run.Answer.TheVariants as answers
 use Rattle.quic_connection_core.specs.Machine.{World}
 use Rattle.quic_connection_core.specs.Runs.{Run}
-use Rattle.quic_connection_core.specs.Acknowledged.{client_acked, from_server, ack_payload}
+use Rattle.quic_connection_core.specs.Acknowledged.{client_acked, server_acked, from_server, ack_payload}
 use Rattle.quic_connection_core.specs.Worked.{worked_policies, client_ended, client_sent, server_made, hello, hello_datagram, ack_timer, before_sending, after_sending, worked_events, worked_answers, open_view, worked_views, worked_run}
 use Rattle.quic_connection_core.specs.Tracking.{nothing_tracked}
 
@@ -163,6 +163,10 @@ early_acknowledgement =
 -- the client gave its datagram, and waits for an acknowledgement with no timer set
 abbrev pub never_timed : World
 never_timed = record (after_sending server_made) { client = record client_sent { timers = ack_timer None } }
+
+-- the server took the datagram and acknowledged it, and its timer of acknowledgements still runs
+abbrev pub still_timed : World
+still_timed = record (after_sending server_made) { server = record server_acked { timers = ack_timer (Some 50000000) } }
 
 -- the worked run until the client gave its datagram
 abbrev pub sending_run : ReadCall → Run

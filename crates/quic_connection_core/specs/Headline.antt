@@ -170,6 +170,14 @@ LossTimerFollows e = e.closing.state ≡ states.Open → is_some e.timers.loss_d
 abbrev pub LossTimersFollow : World → Type 0
 LossTimersFollow w = LossTimerFollows w.client × LossTimerFollows w.server
 
+-- at an open end the timer of acknowledgements is set only where a packet that asks came since the last acknowledgement went (RFC 9000, section 13.2.1)
+abbrev pub AckTimerFollows : End → Type 0
+AckTimerFollows e = e.closing.state ≡ states.Open → is_some e.timers.max_ack_delay ≡ true → 0 < e.acknowledging.asking
+
+-- so it is at both ends
+abbrev pub AckTimersFollow : World → Type 0
+AckTimersFollow w = AckTimerFollows w.client × AckTimerFollows w.server
+
 -- ---- numbers
 
 -- A datagram has this number: it is the datagram of it, of an id and of stated frames (RFC 9000, sections 12.4 and 17.3.1).

@@ -12,9 +12,9 @@ ghost use Rattle.quic_connection_core.specs.Machine.{World, IsRead, Follows};
 ghost use Rattle.quic_connection_core.specs.Runs.{until, written, reads, bytes_of, took};
 ghost use Rattle.quic_connection_core.specs.Duties.{DutiesStand};
 ghost use Rattle.quic_connection_core.specs.InFlight.{in_flight, TracksInFlight};
-ghost use Rattle.quic_connection_core.specs.Headline.{OrderedPrefix, Slices, Once, EndAfterAll, BlockedOnlyWithoutBytes, AcceptsAll, FinishedMeansArrived, TellsOnce, AcknowledgedWereTaken, LossTimersFollow, NumbersRise};
+ghost use Rattle.quic_connection_core.specs.Headline.{OrderedPrefix, Slices, Once, EndAfterAll, BlockedOnlyWithoutBytes, AcceptsAll, FinishedMeansArrived, TellsOnce, AcknowledgedWereTaken, LossTimersFollow, AckTimersFollow, NumbersRise};
 ghost use Rattle.quic_connection_core.specs.Worked.{hello, hello_frame, worked_policies, worked_events, client_made, server_made, before_sending, run_with, carrying};
-ghost use Rattle.quic_connection_core.specs.Broken.{hellp, changed_byte, repeated_bytes, unwritten_byte, early_end, unwritten_end, taken_twice, never_taken, blocked_read, never_accepted, early_finish, all_told, told_twice, never_told, early_acknowledgement, never_timed, sending_run, answered_run, forgotten, empty_datagram, repeated_number, all_nexts};
+ghost use Rattle.quic_connection_core.specs.Broken.{hellp, changed_byte, repeated_bytes, unwritten_byte, early_end, unwritten_end, taken_twice, never_taken, blocked_read, never_accepted, early_finish, all_told, told_twice, never_told, early_acknowledgement, never_timed, still_timed, sending_run, answered_run, forgotten, empty_datagram, repeated_number, all_nexts};
 
 /// A read that changes a byte gives no prefix of what was written, and no slice of it.
 pub fn changed_byte_shows()
@@ -90,6 +90,12 @@ pub fn early_acknowledgement_shows()
 pub fn missing_timer_shows()
     ensures timers { LossTimersFollow never_timed → ⊥ }
     ensures machine { (events : List RunEvent) (answers : List Answer) (views : List View) → Follows worked_policies (before_sending client_made) events answers views never_timed → ⊥ }
+{}
+
+/// A server that acknowledged all, and whose timer of acknowledgements still runs, breaks the clause, and no run comes to it.
+pub fn needless_timer_shows()
+    ensures timers { AckTimersFollow still_timed → ⊥ }
+    ensures machine { (events : List RunEvent) (answers : List Answer) (views : List View) → Follows worked_policies (before_sending client_made) events answers views still_timed → ⊥ }
 {}
 
 /// A client that forgets its datagram, which never came, owes what nobody has.

@@ -8,7 +8,7 @@ ghost use Rattle.quic_connection_core.specs.Machine.{World, Policies, Follows};
 ghost use Rattle.quic_connection_core.specs.Runs.{Run};
 ghost use Rattle.quic_connection_core.specs.Duties.{DutiesStand};
 ghost use Rattle.quic_connection_core.specs.InFlight.{TracksInFlight};
-ghost use Rattle.quic_connection_core.specs.Headline.{AreStarted, IsHonest, IsRun, OrderedPrefix, Slices, Once, EndAfterAll, BlockedOnlyWithoutBytes, AcceptsAll, FinishedMeansArrived, TellsOnce, AcknowledgedWereTaken, LossTimersFollow, NumbersRise};
+ghost use Rattle.quic_connection_core.specs.Headline.{AreStarted, IsHonest, IsRun, OrderedPrefix, Slices, Once, EndAfterAll, BlockedOnlyWithoutBytes, AcceptsAll, FinishedMeansArrived, TellsOnce, AcknowledgedWereTaken, LossTimersFollow, AckTimersFollow, NumbersRise};
 
 /// The bytes read of a stream at one end are a prefix of those written on it at the other (RFC 9000, section 2.2).
 pub fn ordered_prefix()
@@ -61,6 +61,14 @@ pub fn acknowledged_were_taken()
 pub fn loss_timers_follow()
     ensures runs { (k : Policies) (w end : World) (events : List RunEvent) (answers : List Answer) (views : List View) → Follows k w events answers views end → LossTimersFollow w → LossTimersFollow end }
     ensures starts { (w : World) → AreStarted w → LossTimersFollow w }
+{}
+
+/// At an open end the timer of acknowledgements is set only where a packet that asks came since the last acknowledgement went
+/// (RFC 9000, section 13.2.1), in each run that began so, and new ends begin so. It wants no premise, and holds where memory
+/// lacks too.
+pub fn ack_timers_follow()
+    ensures runs { (k : Policies) (w end : World) (events : List RunEvent) (answers : List Answer) (views : List View) → Follows k w events answers views end → AckTimersFollow w → AckTimersFollow end }
+    ensures starts { (w : World) → AreStarted w → AckTimersFollow w }
 {}
 
 /// Behind the last answer each offset that was written on a stream waits to go, and then its end has something to send; or
