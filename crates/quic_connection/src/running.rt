@@ -4,7 +4,7 @@ ghost use Rattle.quic_connection_core.specs.End.{policy_of, with_end};
 ghost use Rattle.quic_connection_core.specs.Machine.{IsAnswer, IsLeft, fails, gives, IsStep, view_of, end_view, Follows};
 ghost use Rattle.quic_connection_core.specs.Calls.{AreNexts, after_nexts};
 ghost use Rattle.quic_time.specs.Timers.{each_timer};
-ghost use Rattle.quic_connection_core.specs.Headline.{IsHonest, OrderedPrefix, Slices, Once, EndAfterAll, BlockedOnlyWithoutBytes, AcceptsAll, FinishedMeansArrived, TellsOnce, AcknowledgedWereTaken, LossTimersFollow, NumbersRise};
+ghost use Rattle.quic_connection_core.specs.Headline.{IsHonest, OrderedPrefix, Slices, Once, EndAfterAll, BlockedOnlyWithoutBytes, AcceptsAll, FinishedMeansArrived, TellsOnce, AcknowledgedWereTaken, LossTimersFollow, AckTimersFollow, NumbersRise};
 ghost use Rattle.quic_connection_core.specs.Duties.{DutiesStand};
 ghost use Rattle.quic_connection_core.specs.InFlight.{TracksInFlight};
 ghost use Rattle.quic_connection.specs.Ends.{world_of, first_world, policies_of, run_of};
@@ -291,7 +291,8 @@ fn view<H: HeaderKey + Drop, K: PacketKey + Drop, R: Rng + Drop>(ends: &Ends<H, 
 /// packet numbers rise. Behind the last answer, where nothing is left to tell, each stream was told to be finished once if all of
 /// it is acknowledged, and never otherwise; all that was written waits to go, is under way, or arrived; and an open end waits for
 /// exactly the datagrams that are in flight. Where memory lacks too, and with any keys, an end that is open then has its loss timer
-/// set exactly where a datagram that asks is waited for, if it began so.
+/// set exactly where a datagram that asks is waited for, and its timer of acknowledgements only where a packet that asks came since
+/// the last acknowledgement went, if it began so.
 pub fn run<H: HeaderKey + Drop, K: PacketKey + Drop, R: Rng + Drop>(
     alloc: Global,
     ends: Ends<H, K, R>,
@@ -312,6 +313,7 @@ pub fn run<H: HeaderKey + Drop, K: PacketKey + Drop, R: Rng + Drop>(
     ensures tracks_in_flight { let r = run_of (policies_of H.masks H.hides H.unmasks H.reveals K.sealed K.opened ends) ends events.now result.answers.items result.views.items result.given in IsHonest r → TracksInFlight r (world_of result.ends result.given) }
     ensures acknowledged_were_taken { let r = run_of (policies_of H.masks H.hides H.unmasks H.reveals K.sealed K.opened ends) ends events.now result.answers.items result.views.items result.given in IsHonest r → AcknowledgedWereTaken r }
     ensures loss_timers_follow { LossTimersFollow (first_world ends) → LossTimersFollow (world_of result.ends result.given) }
+    ensures ack_timers_follow { AckTimersFollow (first_world ends) → AckTimersFollow (world_of result.ends result.given) }
     ensures numbers_rise { let r = run_of (policies_of H.masks H.hides H.unmasks H.reveals K.sealed K.opened ends) ends events.now result.answers.items result.views.items result.given in IsHonest r → NumbersRise r }
 {
     run_events(alloc, ends, events)

@@ -1,4 +1,4 @@
--- What every run of two honest ends keeps (RFC 9000, sections 2.2, 2.3 and 12.3): the headline, over the run's lists alone, and in two clauses over the ends that are left.
+-- What every run of two honest ends keeps (RFC 9000, sections 2.2, 2.3 and 12.3): the headline, over the run's lists alone, and in some clauses over the ends that are left.
 use Rattle.std.specs.Prelude.{ℕ, ◌+◌, ◌<◌, ◌≤◌, ◌/◌, ◌^◌, ◌≡◌, ◌≢◌, Bool, true, false, not, if◌then◌else◌, eqb, List, [], ◌∷◌, ◌++◌, length, take, drop, slice_get, Option, Some, None, Result, Ok, Err}
 use Rattle.std.specs.List.{IsDistinct}
 use Rattle.std.specs.Option.{is_some}

@@ -2,6 +2,7 @@
 use Rattle.std.proofs.Common.{refl}
 use Rattle.quic_connection_core.specs.Machine.{World, Policies}
 use Rattle.quic_connection_core.specs.Runs.{Run}
+use Rattle.quic_connection_core.proofs.AckTimers.{ack_timers_follow}
 use Rattle.quic_connection_core.proofs.LossTimers.{loss_timers_follow}
 use Rattle.quic_connection_core.proofs.Whole.{ordered_prefix, slices, once, end_after_all, blocked_only_without_bytes, accepts_all, finished_means_arrived, told_once, duties_stand, tracks_in_flight, acknowledged_were_taken, numbers_rise}
 use Rattle.quic_connection.specs.Ends.{world_of, first_world, policies_of, run_of}
@@ -89,6 +90,12 @@ returns-clause-loss_timers_follow g c =
     let o = c.run_events.result in
     let keys : Policies = policies_of g.H.HeaderKey.masks g.H.HeaderKey.hides g.H.HeaderKey.unmasks g.H.HeaderKey.reveals g.K.PacketKey.sealed g.K.PacketKey.opened c.args.ends in
     loss_timers_follow keys (first_world c.args.ends) (world_of o.ends o.given) c.args.events.now o.answers.items o.views.items c.run_events.ensures.follows
+
+pub returns-clause-ack_timers_follow : goal.returns-clause-ack_timers_follow
+returns-clause-ack_timers_follow g c =
+    let o = c.run_events.result in
+    let keys : Policies = policies_of g.H.HeaderKey.masks g.H.HeaderKey.hides g.H.HeaderKey.unmasks g.H.HeaderKey.reveals g.K.PacketKey.sealed g.K.PacketKey.opened c.args.ends in
+    ack_timers_follow keys (first_world c.args.ends) (world_of o.ends o.given) c.args.events.now o.answers.items o.views.items c.run_events.ensures.follows
 
 pub returns-clause-numbers_rise : goal.returns-clause-numbers_rise
 returns-clause-numbers_rise g c =
