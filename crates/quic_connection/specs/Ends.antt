@@ -1,11 +1,14 @@
 -- What the machine sees of two ends with their keys, and of the datagrams that they gave.
-use Rattle.std.specs.Prelude.{ℕ, List, [], ◌∷◌}
+use Rattle.std.specs.Prelude.{ℕ, ◌≡◌, List, [], ◌∷◌, length}
 use Rattle.quic_wire.specs.Keys.{OfFirst, OfNumber, Seal, Open}
 use Rattle.quic_wire.specs.declared.crypto.Keys.{Keys}
 use Rattle.quic_connection_core.specs.declared.run.RunEvent.{RunEvent}
 use Rattle.quic_connection_core.specs.declared.run.Answer.{Answer}
 use Rattle.quic_connection_core.specs.declared.run.View.{View}
+use Rattle.quic_connection_core.specs.declared.answers.ConfigError.{ConfigError}
+use Rattle.quic_connection_core.specs.declared.answers.ConfigError.TheVariants as config_errors
 use Rattle.quic_connection_core.specs.End.{policy_of}
+use Rattle.quic_connection_core.specs.Opens.{own_id_length}
 use Rattle.quic_connection_core.specs.Runs.{Run}
 use Rattle.quic_connection_core.specs.Policy.{Policy}
 use Rattle.quic_connection_core.specs.Machine.{World, Policies}
@@ -53,3 +56,8 @@ run_of keys ends events answers views given = record {
   from_client = given.client.items;
   from_server = given.server.items;
 }
+
+-- Two ends are refused: one of their ids hasn't eight bytes.
+pub record IsRefused (e : ConfigError) (client_id server_id : List ℕ) : Type 0 where
+  pub is : e ≡ config_errors.IdLength
+  pub wrong : (length client_id ≡ own_id_length) → (length server_id ≡ own_id_length) → ⊥

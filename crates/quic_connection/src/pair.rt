@@ -7,7 +7,7 @@ ghost use Rattle.quic_connection_core.specs.Policy.{CanOpen};
 ghost use Rattle.quic_connection_core.specs.End.{MadeFrom};
 ghost use Rattle.quic_connection_core.specs.Headline.{IsInRange, AreStarted, AreKeys};
 ghost use Rattle.quic_connection_core.specs.declared.answers.ConfigError.TheVariants as config_errors;
-ghost use Rattle.quic_connection.specs.Ends.{first_world, policies_of, keys_policy, in_order};
+ghost use Rattle.quic_connection.specs.Ends.{first_world, policies_of, keys_policy, in_order, IsRefused};
 
 use crate::config::Config;
 use crate::connection::Connection;
@@ -64,7 +64,7 @@ fn end_for<H: HeaderKey + Drop, K: PacketKey + Drop, R: Rng + Drop>(
     ensures id { OnOk result (length own.id ≡ 8) }
     ensures read_back { OnOk result (parameters_at (written_parameters (parameters_of peer.entry.now) in_order) ≡ Ok (parameters_of peer.entry.now)) }
     ensures range { OnOk result (IsInRange peer.entry.now) }
-    ensures refusal { IfErr result (λ e. e ≢ config_errors.Memory → e ≡ config_errors.IdLength) }
+    ensures refusal { IfErr result (λ e. e ≢ config_errors.Memory → IsRefused e own.id peer_id) }
 {
     let config = own.config;
     let parameters = parameters(alloc, peer)?;
@@ -99,7 +99,7 @@ impl<H: HeaderKey + Drop, K: PacketKey + Drop, R: Rng + Drop> Ends<H, K, R> {
         ensures server_keys { IfOk result (λ ends. ends.server.keys ≡ server.keys) }
         ensures client_random { IfOk result (λ ends. ends.client.random ≡ client.random) }
         ensures server_random { IfOk result (λ ends. ends.server.random ≡ server.random) }
-        ensures refusal { IfErr result (λ e. e ≢ config_errors.Memory → e ≡ config_errors.IdLength) }
+        ensures refusal { IfErr result (λ e. e ≢ config_errors.Memory → IsRefused e client.id server.id) }
         ensures started { IfOk result (λ ends. AreStarted (first_world ends)) }
         ensures keys { IfOk result (λ ends. CanOpen (keys_policy H.masks H.hides H.unmasks H.reveals K.sealed K.opened client.keys) (keys_policy H.masks H.hides H.unmasks H.reveals K.sealed K.opened server.keys) → CanOpen (keys_policy H.masks H.hides H.unmasks H.reveals K.sealed K.opened server.keys) (keys_policy H.masks H.hides H.unmasks H.reveals K.sealed K.opened client.keys) → AreKeys (policies_of H.masks H.hides H.unmasks H.reveals K.sealed K.opened ends)) }
     {

@@ -6,12 +6,13 @@ use Rattle.quic_config.specs.Transport.{parameters_of}
 use Rattle.quic_connection_core.specs.Policy.{Policy}
 use Rattle.quic_connection_core.specs.Headline.{IsLawful, AreKeys}
 use Rattle.quic_connection.specs.Ends.{keys_policy, in_order}
+use Rattle.quic_connection.proofs.Pairs.{turned}
 use Rattle.quic_connection.proofs.running.Ends.new.Goals as goal
 
 pub returns-in_err-end_for-2-clause-refusal : goal.returns-in_err-end_for-2-clause-refusal
 returns-in_err-end_for-2-clause-refusal g c =
     let p = err_from_is_err_and c.from_residual-in_err-end_for-2.result c.from_residual-in_err-end_for-2.ensures.1 in
-    rw (p.1, p.2) c.in_err-end_for-2.ensures.refusal
+    rw (p.1, p.2) (λ no_memory. turned _ c.args.server.id c.args.client.id (c.in_err-end_for-2.ensures.refusal no_memory))
 
 pub returns-clause-started : goal.returns-clause-started
 returns-clause-started g c =
