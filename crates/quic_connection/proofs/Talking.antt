@@ -1,9 +1,7 @@
--- Runs of steps are joined, and what a poll that gives nothing leaves.
-use Rattle.std.proofs.Common.{◌≡◌, ◌≤◌, ◌<◌, ℕ, ◌+◌, ◌-◌, Bool, true, false, List, [], ◌∷◌, ◌++◌, Option, Some, None, Result, Ok, Err, IfOk, OnErr, length, inl, inr, refl, sym, ap, ◌∙◌, append_assoc, append-nil, length-append, arith}
-use Rattle.std.specs.Prelude.{◌⊎◌, ◌&&◌, ◌||◌, if◌then◌else◌, nat_lt}
-use Rattle.std.proofs.lemmas.List.Folds.{list_all-append}
+-- Turns of a talk are joined, and what a poll that gives nothing leaves.
+use Rattle.std.proofs.Common.{◌≡◌, ◌≤◌, ℕ, ◌+◌, max, Bool, true, false, List, [], ◌∷◌, ◌++◌, Option, Some, None, Result, Ok, Err, OnErr, length, inl, inr, refl, sym, ap, ◌∙◌, append_assoc, append-nil, arith}
+use Rattle.std.specs.Prelude.{◌⊎◌, ◌||◌, if◌then◌else◌, nat_lt}
 use Rattle.std.proofs.lemmas.Bool.{ltb-false}
-use Rattle.std.specs.declared.alloc.AllocError.{AllocError}
 use Rattle.quic_wire_core.specs.declared.stream_id.Side.{Side}
 use Rattle.quic_wire_core.specs.declared.stream_id.Side.TheVariants.{Client, Server}
 use Rattle.quic_wire_core.specs.StreamId.{other_side}
@@ -16,106 +14,97 @@ use Rattle.quic_connection_core.specs.declared.run.Call.{Call}
 use Rattle.quic_connection_core.specs.declared.run.Call.TheVariants as calls
 use Rattle.quic_connection_core.specs.declared.run.Answer.{Answer}
 use Rattle.quic_connection_core.specs.declared.run.Answer.TheVariants as answers
-use Rattle.quic_connection_core.specs.declared.run.View.{View}
 use Rattle.quic_connection_core.specs.Policy.{Policy}
 use Rattle.quic_connection_core.specs.End.{End, with_closing, with_ping}
 use Rattle.quic_connection_core.specs.Closing.{ticked}
 use Rattle.quic_connection_core.specs.Numbers.{can_number}
 use Rattle.quic_connection_core.specs.Poll.{waits, probed, sends, polled_if, polled_in, polled}
 use Rattle.quic_connection_core.specs.Runs.{gave}
-use Rattle.quic_connection_core.specs.Machine.{end_at, given_by, policy_at, changed, gives, World, Policies, IsAnswer, IsLeft, IsStep, fails, view_of, Follows}
-use Rattle.quic_connection.specs.Settled.{polls_in, is_poll, is_talk, are_talk, Reaches, Talks, IsSilent, IsAtRest, AreAtRest, AreOpen, AreSilent, HasClosed, Settles, most_polls, end_wakes, wakes}
+use Rattle.quic_connection_core.specs.Machine.{end_at, given_by, policy_at, changed, gives, World, Policies, IsAnswer, IsLeft, IsStep, fails}
+use Rattle.quic_connection.specs.Settled.{Turn, polls, awaits, polls_in, poll_event, delivery_event, timeout_event, IsPassedOn, IsPolled, IsHandled, IsWaited, IsTalk, Talks, IsHalfHandled, IsCut, IsCutOff, EndsAs, IsSilent, IsAtRest, AreAtRest, AreOpen, AreSilent, HasClosed, Settles, most_polls, end_wakes, wakes}
 
--- ---- runs of steps
+-- ---- turns
 
--- a run behind one whose events were all answered
-follows_behind : (k : Policies) (w : World) (events : List RunEvent) (told : List Answer) (views : List View) (mid : World) (events' : List RunEvent) (told' : List Answer) (views' : List View) (end : World) → length told ≡ length events → Follows k w events told views mid → Follows k mid events' told' views' end → Follows k w (events ++ events') (told ++ told') (views ++ views') end
-follows_behind k w [] [] [] mid events' told' views' end whole f more = rw (sym f) more
-follows_behind k w (e ∷ events) [] [] mid events' told' views' end whole f more = cc
-follows_behind k w [] [] (v ∷ views) mid events' told' views' end whole f more = absurd f
-follows_behind k w (e ∷ events) [] (v ∷ views) mid events' told' views' end whole f more = absurd f
-follows_behind k w [] (b ∷ told) views mid events' told' views' end whole f more = absurd f
-follows_behind k w (e ∷ events) (b ∷ told) [] mid events' told' views' end whole f more = absurd f
-follows_behind k w (e ∷ events) (b ∷ told) (v ∷ views) mid events' told' views' end whole f more =
-    let rest : length told ≡ length events = omega arith in
-    (f.0, f.1, f.2, follows_behind k f.0 events told views mid events' told' views' end rest f.3 more)
+-- turns behind others
+talk_behind : (k : Policies) (now : ℕ) (w : World) (turns : List Turn) (between : ℕ) (mid : World) (turns' : List Turn) (moment : ℕ) (end : World) → IsTalk k now w turns between mid → IsTalk k between mid turns' moment end → IsTalk k now w (turns ++ turns') moment end
+talk_behind k now w [] between mid turns' moment end t more = rw (t.0, t.1) at more
+talk_behind k now w (polls side ∷ turns) between mid turns' moment end t more =
+    (t.0, t.1, talk_behind k now t.0 turns between mid turns' moment end t.2 more)
+talk_behind k now w (awaits ∷ turns) between mid turns' moment end t more =
+    (t.0, t.1, t.2, talk_behind k t.1 t.0 turns between mid turns' moment end t.3 more)
 
-length_behind : {X : Type 0} (xs ys : List X) → length (xs ++ ys) ≡ length xs + length ys
-length_behind xs ys = length-append xs ys
+polls_behind : (turns turns' : List Turn) → polls_in (turns ++ turns') ≡ polls_in turns + polls_in turns'
+polls_behind [] turns' = omega arith
+polls_behind (polls side ∷ turns) turns' = let rest = polls_behind turns turns' in omega arith
+polls_behind (awaits ∷ turns) turns' = polls_behind turns turns'
 
-polls_behind : (events events' : List RunEvent) → polls_in (events ++ events') ≡ polls_in events + polls_in events'
-polls_behind [] events' = omega arith
-polls_behind (e ∷ events) events' = let rest = polls_behind events events' in omega arith
+-- no turn, and no poll less
+pub talks_none : (k : Policies) (now n : ℕ) (w : World) → Talks k now now n n w w
+talks_none k now n w = record { turns = []; talk = (refl, refl); left = omega arith }
 
--- both of two hold
-both_hold : (a b : Bool) → a ≡ true → b ≡ true → (a && b) ≡ true
-both_hold a b first second = rw (first, second) refl
+-- turns behind others, where polls are counted down; the keys of the second do what those of the first do
+pub talks_on : (k k' : Policies) (now between moment before left after : ℕ) (w mid end : World) → k' ≡ k → Talks k now between before left w mid → Talks k' between moment left after mid end → Talks k now moment before after w end
+talks_on k k' now between moment before left after w mid end same t more =
+    let next : Talks k between moment left after mid end = rw same at more in
+    record {
+      turns = t.turns ++ next.turns;
+      talk = talk_behind k now w t.turns between mid next.turns moment end t.talk next.talk;
+      left = let both = polls_behind t.turns next.turns in let first = t.left in let second = next.left in omega arith;
+    }
 
-talk_behind : (events events' : List RunEvent) → are_talk events ≡ true → are_talk events' ≡ true → are_talk (events ++ events') ≡ true
-talk_behind events events' first second =
-    list_all-append (λ (event : RunEvent). is_talk event.call) events events' ∙ both_hold (are_talk events) (are_talk events') first second
-
--- no step at all
-pub stays : (k : Policies) (w : World) → Reaches k 0 w w
-stays k w = record { events = []; answers = []; views = []; follows = refl; whole = refl; count = refl; only = refl }
-
--- one step
-pub reaches_by_step : (k : Policies) (w : World) (event : RunEvent) (a : Answer) (next : World) (polls : ℕ) → polls_in (event ∷ []) ≡ polls → is_talk event.call ≡ true → IsStep k w event a next → Reaches k polls w next
-reaches_by_step k w event a next polls count only step = record {
-  events = event ∷ [];
-  answers = a ∷ [];
-  views = view_of next ∷ [];
-  follows = (next, step, refl, refl);
-  whole = refl;
-  count = count;
-  only = rw only refl;
-}
-
--- a call that isn't a poll, whether it was made or not
-pub made : (k : Policies) (w next : World) (event : RunEvent) (r : Result Answer AllocError) → is_poll event.call ≡ false → is_talk event.call ≡ true → IfOk r (λ a. IsStep k w event a next) → OnErr r (next ≡ w) → Reaches k 0 w next
-made k w next event (Ok a) other only ok err = reaches_by_step k w event a next 0 (rw other refl) only ok
-made k w next event (Err e) other only ok err = rw err (stays k w)
-
--- one run behind another
-pub reaches_behind : (k : Policies) (m n : ℕ) (w mid end : World) → Reaches k m w mid → Reaches k n mid end → Reaches k (m + n) w end
-reaches_behind k m n w mid end r more = record {
-  events = r.events ++ more.events;
-  answers = r.answers ++ more.answers;
-  views = r.views ++ more.views;
-  follows = follows_behind k w r.events r.answers r.views mid more.events more.answers more.views end r.whole r.follows more.follows;
-  whole = let a = length_behind r.answers more.answers in let e = length_behind r.events more.events in let first = r.whole in let second = more.whole in omega arith;
-  count = let whole = polls_behind r.events more.events in let first = r.count in let second = more.count in omega arith;
-  only = talk_behind r.events more.events r.only more.only;
-}
-
--- the same, where polls are counted down; the keys of the second do what those of the first do
-pub talks_on : (k k' : Policies) (before between after : ℕ) (w mid end : World) → k' ≡ k → Talks k before between w mid → Talks k' between after mid end → Talks k before after w end
-talks_on k k' before between after w mid end same t more = record {
-  polls = t.polls + more.polls;
-  reaches = reaches_behind k t.polls more.polls w mid end t.reaches (rw same at more.reaches);
-  left = let first = t.left in let second = more.left in omega arith;
-}
-
--- no step, and no poll less
-pub talks_none : (k : Policies) (n : ℕ) (w : World) → Talks k n n w w
-talks_none k n w = record { polls = 0; reaches = stays k w; left = omega arith }
-
--- the same, where nothing was changed
-pub talks_none_at : (k : Policies) (n : ℕ) (w next : World) → next ≡ w → Talks k n n w next
-talks_none_at k n w next same = rw same (talks_none k n w)
-
--- one poll
-pub talks_once : (k : Policies) (n : ℕ) (w next : World) (side : Side) (now : ℕ) (a : Answer) → 0 < n → IsStep k w (record { side = side; call = calls.Poll now }) a next → Talks k n (n - 1) w next
-talks_once k n w next side now a some step = record {
-  polls = 1;
-  reaches = reaches_by_step k w (record { side = side; call = calls.Poll now }) a next 1 refl refl step;
+-- a poll
+pub talks_polled : (k : Policies) (now before after : ℕ) (w next : World) (side : Side) → after + 1 ≡ before → IsPolled k side now w next → Talks k now now before after w next
+talks_polled k now before after w next side one poll = record {
+  turns = polls side ∷ [];
+  talk = (next, poll, (refl, refl));
   left = omega arith;
 }
 
--- calls behind that are no polls
-pub talks_more : (k k' : Policies) (before after : ℕ) (w mid end : World) → k' ≡ k → Talks k before after w mid → Reaches k' 0 mid end → Talks k before after w end
-talks_more k k' before after w mid end same t more =
-    talks_on k k' before after after w mid end same t (record { polls = 0; reaches = more; left = omega arith })
+-- a wait behind turns
+pub waited_on : (k k' : Policies) (now between wake moment before left : ℕ) (w mid end : World) → k' ≡ k → Talks k now between before left w mid → AreOpen mid → AreSilent mid → wakes mid ≡ Some wake → moment ≡ max between wake → IsHandled k' moment mid end → Talks k now moment before left w end
+waited_on k k' now between wake moment before left w mid end same t opened silent woke is handled =
+    let waited : IsWaited k between moment mid end = record { are_open = opened; silent = silent; wake = wake; wakes = woke; is = is; handled = rw same at handled } in
+    let turn : Talks k between moment left left mid end = record { turns = awaits ∷ []; talk = (end, moment, waited, (refl, refl)); left = omega arith } in
+    talks_on k k now between moment before left left w mid end refl t turn
+
+-- ---- where memory lacked
+
+-- what holds, holds of an error
+pub on_err : {T E P : Type 0} (r : Result T E) → P → OnErr r P
+on_err (Ok x) p = tt
+on_err (Err e) p = p
+
+-- a turn that is begun behind others
+pub cut_behind : (k k' : Policies) (now between before left : ℕ) (w mid end : World) → k' ≡ k → Talks k now between before left w mid → IsCut k' between mid end → IsCutOff k now before w end
+cut_behind k k' now between before left w mid end same t cut = record {
+  turns = t.turns;
+  moment = between;
+  last = mid;
+  talk = t.talk;
+  at_most = let first = t.left in omega arith;
+  cut = ended same cut;
+}
+  where
+    ended : k' ≡ k → IsCut k' between mid end → IsCut k between mid end
+    ended is c = rw is at c
+
+-- turns behind others, and one that is begun
+pub cut_off_behind : (k k' : Policies) (now between before left : ℕ) (w mid end : World) → k' ≡ k → Talks k now between before left w mid → IsCutOff k' between left mid end → IsCutOff k now before w end
+cut_off_behind k k' now between before left w mid end same t more =
+    let next : IsCutOff k between left mid end = rw same at more in
+    record {
+      turns = t.turns ++ next.turns;
+      moment = next.moment;
+      last = next.last;
+      talk = talk_behind k now w t.turns between mid next.turns next.moment next.last t.talk next.talk;
+      at_most = let both = polls_behind t.turns next.turns in let first = t.left in let second = next.at_most in omega arith;
+      cut = next.cut;
+    }
+
+-- a wait of which the client's part was made, or none
+pub half_waited : (k : Policies) (now wake moment : ℕ) (w end : World) → wakes w ≡ Some wake → moment ≡ max now wake → (end ≡ w) ⊎ IsHalfHandled k moment w end → IsCut k now w end
+half_waited k now wake moment w end woke is (inl same) = inl same
+half_waited k now wake moment w end woke is (inr handled) = inr (inr (record { wake = wake; wakes = woke; handled = rw is at handled }))
 
 -- ---- the datagrams that were given
 
@@ -123,8 +112,17 @@ talks_more k k' before after w mid end same t more =
 abbrev HasMore : List (List ℕ) → List (List ℕ) → Type 0
 HasMore old new = (more : List (List ℕ)) × (new ≡ old ++ more)
 
+-- none more
+same_more : (side : Side) (w next : World) → next ≡ w → HasMore (given_by side w) (given_by side next)
+same_more side w next same = ([], ap (λ (v : World). given_by side v) same ∙ sym (append-nil (given_by side w)))
+
+-- more behind more
+more_behind : (old mid new : List (List ℕ)) → HasMore old mid → HasMore mid new → HasMore old new
+more_behind old mid new first rest =
+    (first.0 ++ rest.0, rest.1 ∙ ap (λ (ds : List (List ℕ)). ds ++ rest.0) first.1 ∙ append_assoc old first.0 rest.0)
+
 -- one end has given more, or none has
-changed_more : (at side : Side) (w : World) (e : End) (ds : List (List ℕ)) → HasMore (given_by side w) (given_by side (changed at w e ds))
+changed_more : (at_side side : Side) (w : World) (e : End) (ds : List (List ℕ)) → HasMore (given_by side w) (given_by side (changed at_side w e ds))
 changed_more Client Client w e ds = (ds, refl)
 changed_more Client Server w e ds = ([], sym (append-nil w.from_server))
 changed_more Server Client w e ds = ([], sym (append-nil w.from_client))
@@ -138,21 +136,51 @@ step_more k w event a next side step =
     let here = changed_more event.side side w e ds in
     (here.0, ap (λ (v : World). given_by side v) step.others ∙ here.1)
 
--- so does a run
-follows_more : (k : Policies) (w : World) (events : List RunEvent) (told : List Answer) (views : List View) (end : World) (side : Side) → Follows k w events told views end → HasMore (given_by side w) (given_by side end)
-follows_more k w events [] [] end side f = ([], ap (λ (v : World). given_by side v) f ∙ sym (append-nil (given_by side w)))
-follows_more k w [] [] (v ∷ views) end side f = absurd f
-follows_more k w (e ∷ events) [] (v ∷ views) end side f = absurd f
-follows_more k w [] (b ∷ told) views end side f = absurd f
-follows_more k w (e ∷ events) (b ∷ told) [] end side f = absurd f
-follows_more k w (e ∷ events) (b ∷ told) (v ∷ views) end side f =
-    let first = step_more k w e b f.0 side f.1 in
-    let rest = follows_more k f.0 events told views end side f.3 in
-    (first.0 ++ rest.0, rest.1 ∙ ap (λ (ds : List (List ℕ)). ds ++ rest.0) first.1 ∙ append_assoc (given_by side w) first.0 rest.0)
+-- so does a delivery, where one is made
+passed_more : (b : Bool) (k : Policies) (from : Side) (now index : ℕ) (w next : World) (side : Side) → IsPassedOn b k from now index w next → HasMore (given_by side w) (given_by side next)
+passed_more true k from now index w next side passed = step_more k w (delivery_event from now index) passed.0 next side passed.1
+passed_more false k from now index w next side passed = same_more side w next passed
 
--- and so does a talk
-pub settled_more : {E : Type 0} (k : Policies) (w next : World) (answer : Result (Option ℕ) E) (side : Side) → Settles k w answer next → (more : List (List ℕ)) × (given_by side next ≡ given_by side w ++ more)
-settled_more k w next answer side s = follows_more k w s.reaches.events s.reaches.answers s.reaches.views next side s.reaches.follows
+-- and a poll
+polled_more : (k : Policies) (from : Side) (now : ℕ) (w next : World) (side : Side) → IsPolled k from now w next → HasMore (given_by side w) (given_by side next)
+polled_more k from now w next side p =
+    more_behind (given_by side w) (given_by side p.next) (given_by side next)
+    (step_more k w (poll_event from now) p.answer p.next side p.poll)
+    (passed_more (gave p.answer) k from now (length (given_by from w)) p.next next side p.delivered)
+
+-- and a moment that both ends handle
+handled_more : (k : Policies) (moment : ℕ) (w next : World) (side : Side) → IsHandled k moment w next → HasMore (given_by side w) (given_by side next)
+handled_more k moment w next side handled =
+    more_behind (given_by side w) (given_by side handled.middle) (given_by side next)
+    (step_more k w (timeout_event Client moment) handled.client_answer handled.middle side handled.client)
+    (step_more k handled.middle (timeout_event Server moment) handled.server_answer next side handled.server)
+
+-- and turns
+talk_more : (k : Policies) (now : ℕ) (w : World) (turns : List Turn) (moment : ℕ) (end : World) (side : Side) → IsTalk k now w turns moment end → HasMore (given_by side w) (given_by side end)
+talk_more k now w [] moment end side t = same_more side w end t.1
+talk_more k now w (polls from ∷ turns) moment end side t =
+    more_behind (given_by side w) (given_by side t.0) (given_by side end) (polled_more k from now w t.0 side t.1) (talk_more k now t.0 turns moment end side t.2)
+talk_more k now w (awaits ∷ turns) moment end side t =
+    more_behind (given_by side w) (given_by side t.0) (given_by side end) (handled_more k t.1 w t.0 side t.2.handled) (talk_more k t.1 t.0 turns moment end side t.3)
+
+-- and a turn that was begun
+cut_more : (k : Policies) (now : ℕ) (w next : World) (side : Side) → IsCut k now w next → HasMore (given_by side w) (given_by side next)
+cut_more k now w next side (inl same) = same_more side w next same
+cut_more k now w next side (inr (inl half)) = step_more k w (poll_event half.side now) half.answer next side half.poll
+cut_more k now w next side (inr (inr half)) = step_more k w (timeout_event Client (max now half.wake)) half.handled.answer next side half.handled.client
+
+-- and how a talk ends
+ends_more : {E : Type 0} (answer : Result (Option ℕ) E) (k : Policies) (turns : List Turn) (moment : ℕ) (last next : World) (side : Side) → EndsAs answer k turns moment last next → HasMore (given_by side last) (given_by side next)
+ends_more (Ok (Some rest)) k turns moment last next side ends = same_more side last next ends.1
+ends_more (Ok None) k turns moment last next side ends = same_more side last next ends.0
+ends_more (Err e) k turns moment last next side ends = cut_more k moment last next side ends
+
+-- and a whole talk
+pub settled_more : {E : Type 0} (k : Policies) (now : ℕ) (w next : World) (answer : Result (Option ℕ) E) (side : Side) → Settles k now w answer next → (more : List (List ℕ)) × (given_by side next ≡ given_by side w ++ more)
+settled_more k now w next answer side s =
+    more_behind (given_by side w) (given_by side s.last) (given_by side next)
+    (talk_more k now w s.turns s.moment s.last side s.talk)
+    (ends_more answer k s.turns s.moment s.last next side s.ends)
 
 -- ---- a poll that gives nothing
 
@@ -235,19 +263,39 @@ other_stays Server k w call a next step = ap (λ (w : World). w.client) step.oth
 
 -- ---- two ends settle
 
--- a talk has so many polls at most; where it was given up, an end isn't open, or no poll was left
-pub settled : {E : Type 0} (k : Policies) (left : ℕ) (w next : World) (answer : Result (Option ℕ) E) → Talks k most_polls left w next → (answer ≡ Ok None → HasClosed next ⊎ (left ≡ 0)) → Settles k w answer next
-settled k left w next answer t gave_up = record {
-  polls = t.polls;
-  reaches = t.reaches;
+-- they rest
+pub settled_rest : {E : Type 0} (k : Policies) (now moment left : ℕ) (w next : World) → Talks k now moment most_polls left w next → AreAtRest next → Settles {E = E} k now w (Ok (Some moment)) next
+settled_rest k now moment left w next t rests = record {
+  turns = t.turns;
+  moment = moment;
+  last = next;
+  talk = t.talk;
   at_most = let behind = t.left in omega arith;
-  gave_up = λ is. or_all (gave_up is);
+  ends = (refl, refl, rests);
+}
+
+-- they were given up: an end isn't open, or no poll was left
+pub settled_none : {E : Type 0} (k : Policies) (now moment left : ℕ) (w next : World) → Talks k now moment most_polls left w next → HasClosed next ⊎ (left ≡ 0) → Settles {E = E} k now w (Ok None) next
+settled_none k now moment left w next t gave_up = record {
+  turns = t.turns;
+  moment = moment;
+  last = next;
+  talk = t.talk;
+  at_most = let behind = t.left in omega arith;
+  ends = (refl, or_all gave_up);
 }
   where
-    or_all : HasClosed next ⊎ (left ≡ 0) → HasClosed next ⊎ (t.polls ≡ most_polls)
+    or_all : HasClosed next ⊎ (left ≡ 0) → HasClosed next ⊎ (polls_in t.turns ≡ most_polls)
     or_all (inl closed) = inl closed
     or_all (inr none) = inr (let behind = t.left in omega arith)
 
--- the same, where memory lacked
-pub settled_err : {E : Type 0} (k : Policies) (left : ℕ) (w next : World) (answer : Result (Option ℕ) E) (e : E) → answer ≡ Err e → Talks k most_polls left w next → Settles k w answer next
-settled_err k left w next answer e is t = settled k left w next answer t (λ none. (cc))
+-- memory lacked
+pub settled_err : {E : Type 0} (k : Policies) (now : ℕ) (w next : World) (answer : Result (Option ℕ) E) (e : E) → answer ≡ Err e → IsCutOff k now most_polls w next → Settles k now w answer next
+settled_err k now w next answer e is c = rw is (record {
+  turns = c.turns;
+  moment = c.moment;
+  last = c.last;
+  talk = c.talk;
+  at_most = c.at_most;
+  ends = c.cut;
+})

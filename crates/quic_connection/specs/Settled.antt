@@ -1,57 +1,19 @@
 -- Two ends that talk until both rest.
-use Rattle.std.specs.Prelude.{ℕ, ◌+◌, ◌≡◌, ◌≢◌, ◌≤◌, ◌⊎◌, Bool, true, false, if◌then◌else◌, List, [], ◌∷◌, length, Option, None, Result, Ok}
-use Rattle.std.specs.List.{list_all}
+use Rattle.std.specs.Prelude.{ℕ, ◌+◌, ◌≡◌, ◌≢◌, ◌≤◌, ◌⊎◌, max, Bool, true, false, List, [], ◌∷◌, length, Option, Some, None, Result, Ok, Err}
+use Rattle.quic_wire_core.specs.declared.stream_id.Side.{Side}
+use Rattle.quic_wire_core.specs.declared.stream_id.Side.TheVariants.{Client, Server}
+use Rattle.quic_wire_core.specs.StreamId.{other_side}
 use Rattle.quic_time.specs.Timers.{Timers, earlier}
 use Rattle.quic_connection_core.specs.declared.answers.State.TheVariants as states
-use Rattle.quic_connection_core.specs.declared.run.Call.{Call}
 use Rattle.quic_connection_core.specs.declared.run.Call.TheVariants as calls
 use Rattle.quic_connection_core.specs.declared.run.Answer.{Answer}
 use Rattle.quic_connection_core.specs.declared.run.RunEvent.{RunEvent}
-use Rattle.quic_connection_core.specs.declared.run.View.{View}
 use Rattle.quic_connection_core.specs.End.{End}
 use Rattle.quic_connection_core.specs.Poll.{waits}
-use Rattle.quic_connection_core.specs.Machine.{World, Policies, Follows}
+use Rattle.quic_connection_core.specs.Runs.{gave}
+use Rattle.quic_connection_core.specs.Machine.{World, Policies, IsStep, given_by}
 
--- the most polls of a talk
-abbrev pub most_polls : ℕ
-most_polls = 10000
-
--- whether a call is a poll
-abbrev pub is_poll : Call → Bool
-is_poll (calls.Poll now) = true
-is_poll call = false
-
--- whether a call is one of a talk: a poll, the delivery of a datagram, or a moment at which timers expire
-abbrev pub is_talk : Call → Bool
-is_talk (calls.Poll now) = true
-is_talk (calls.Deliver delivery) = true
-is_talk (calls.Timeout now) = true
-is_talk call = false
-
--- whether all calls are of a talk
-abbrev pub are_talk : List RunEvent → Bool
-are_talk events = list_all (λ event. is_talk event.call) events
-
--- how many events are polls
-abbrev pub polls_in : List RunEvent → ℕ
-polls_in [] = 0
-polls_in (event ∷ events) = (if is_poll event.call then 1 else 0) + polls_in events
-
--- A run of steps of a talk, with so many polls, leads from one world to the other.
-pub record Reaches (k : Policies) (polls : ℕ) (from to : World) : Type 0 where
-  pub events : List RunEvent
-  pub answers : List Answer
-  pub views : List View
-  pub follows : Follows k from events answers views to
-  pub whole : length answers ≡ length events
-  pub count : polls_in events ≡ polls
-  pub only : are_talk events ≡ true
-
--- Such a run, where so many polls were left before it, and so many are behind it.
-pub record Talks (k : Policies) (before after : ℕ) (from to : World) : Type 0 where
-  pub polls : ℕ
-  pub reaches : Reaches k polls from to
-  pub left : polls + after ≡ before
+-- ---- ends and timers
 
 -- An end has nothing to send, and no probe waits.
 pub record IsSilent (e : End) : Type 0 where
@@ -85,13 +47,6 @@ pub record AreSilent (w : World) : Type 0 where
 abbrev pub HasClosed : World → Type 0
 HasClosed w = (w.client.closing.state ≢ states.Open) ⊎ (w.server.closing.state ≢ states.Open)
 
--- Two ends talked, by steps with at most so many polls. Where they were given up, an end isn't open, or no poll was left.
-pub record Settles {E : Type 0} (k : Policies) (from : World) (answer : Result (Option ℕ) E) (to : World) : Type 0 where
-  pub polls : ℕ
-  pub reaches : Reaches k polls from to
-  pub at_most : polls ≤ most_polls
-  pub gave_up : answer ≡ Ok None → HasClosed to ⊎ (polls ≡ most_polls)
-
 -- the earliest of the timers that a talk waits for, at one end
 abbrev pub end_wakes : Timers → Option ℕ
 end_wakes t = earlier t.loss_detection (earlier t.max_ack_delay t.pacing)
@@ -99,3 +54,128 @@ end_wakes t = earlier t.loss_detection (earlier t.max_ack_delay t.pacing)
 -- the earliest of those of both ends
 abbrev pub wakes : World → Option ℕ
 wakes w = earlier (end_wakes w.client.timers) (end_wakes w.server.timers)
+
+-- ---- the turns of a talk
+
+-- the most polls of a talk
+abbrev pub most_polls : ℕ
+most_polls = 10000
+
+-- a turn of a talk
+pub data Turn : Type 0 where
+  -- an end is polled, and what it gives is delivered
+  polls : Side → Turn
+  -- both ends wait for a timer
+  awaits : Turn
+
+-- how many turns are polls
+abbrev pub polls_in : List Turn → ℕ
+polls_in [] = 0
+polls_in (polls side ∷ turns) = 1 + polls_in turns
+polls_in (awaits ∷ turns) = polls_in turns
+
+-- an end is polled at a moment
+abbrev pub poll_event : Side → ℕ → RunEvent
+poll_event side now = record { side = side; call = calls.Poll now }
+
+-- a datagram of an end is delivered to the other one, without a mark
+abbrev pub delivery_event : Side → ℕ → ℕ → RunEvent
+delivery_event side now index = record { side = other_side side; call = calls.Deliver (record { now = now; ecn = None; index = index }) }
+
+-- an end handles a moment
+abbrev pub timeout_event : Side → ℕ → RunEvent
+timeout_event side now = record { side = side; call = calls.Timeout now }
+
+-- what an end gave is delivered to the other one, where it gave something
+abbrev pub IsPassedOn : Bool → Policies → Side → ℕ → ℕ → World → World → Type 0
+IsPassedOn true k side now index w to = (answer : Answer) × IsStep k w (delivery_event side now index) answer to
+IsPassedOn false k side now index w to = to ≡ w
+
+-- Both ends are open, and one is polled at a moment; the datagram that it gives, if it does, is delivered to the other one at once,
+-- without a mark.
+pub record IsPolled (k : Policies) (side : Side) (now : ℕ) (w to : World) : Type 0 where
+  pub are_open : AreOpen w
+  pub answer : Answer
+  pub next : World
+  pub poll : IsStep k w (poll_event side now) answer next
+  pub delivered : IsPassedOn (gave answer) k side now (length (given_by side w)) next to
+
+-- Both ends handle a moment, the client first.
+pub record IsHandled (k : Policies) (moment : ℕ) (w to : World) : Type 0 where
+  pub client_answer : Answer
+  pub middle : World
+  pub client : IsStep k w (timeout_event Client moment) client_answer middle
+  pub server_answer : Answer
+  pub server : IsStep k middle (timeout_event Server moment) server_answer to
+
+-- Both ends are open and have nothing to send. The earliest timer of loss, of acknowledgements or of pacing is waited for, unless it
+-- has come, and both handle the moment.
+pub record IsWaited (k : Policies) (now moment : ℕ) (w to : World) : Type 0 where
+  pub are_open : AreOpen w
+  pub silent : AreSilent w
+  pub wake : ℕ
+  pub wakes : wakes w ≡ Some wake
+  pub is : moment ≡ max now wake
+  pub handled : IsHandled k moment w to
+
+-- turns lead from one moment and world to others
+abbrev pub IsTalk : Policies → ℕ → World → List Turn → ℕ → World → Type 0
+IsTalk k now w [] moment to = (moment ≡ now) × (to ≡ w)
+IsTalk k now w (polls side ∷ turns) moment to = (mid : World) × IsPolled k side now w mid × IsTalk k now mid turns moment to
+IsTalk k now w (awaits ∷ turns) moment to = (mid : World) × (next : ℕ) × IsWaited k now next w mid × IsTalk k next mid turns moment to
+
+-- Such turns, where so many polls were left before them, and so many are behind them.
+pub record Talks (k : Policies) (now moment before after : ℕ) (from to : World) : Type 0 where
+  pub turns : List Turn
+  pub talk : IsTalk k now from turns moment to
+  pub left : polls_in turns + after ≡ before
+
+-- ---- where memory lacked
+
+-- An end was polled, and what it gave wasn't delivered.
+pub record IsHalfPolled (k : Policies) (now : ℕ) (w to : World) : Type 0 where
+  pub side : Side
+  pub answer : Answer
+  pub poll : IsStep k w (poll_event side now) answer to
+
+-- The client handled a moment, and the server didn't.
+pub record IsHalfHandled (k : Policies) (moment : ℕ) (w to : World) : Type 0 where
+  pub answer : Answer
+  pub client : IsStep k w (timeout_event Client moment) answer to
+
+-- The earliest timer was waited for, and only the client handled the moment.
+pub record IsHalfWaited (k : Policies) (now : ℕ) (w to : World) : Type 0 where
+  pub wake : ℕ
+  pub wakes : wakes w ≡ Some wake
+  pub handled : IsHalfHandled k (max now wake) w to
+
+-- a turn may have been begun
+abbrev pub IsCut : Policies → ℕ → World → World → Type 0
+IsCut k now w to = (to ≡ w) ⊎ (IsHalfPolled k now w to ⊎ IsHalfWaited k now w to)
+
+-- Turns were made with at most so many polls, and then one may have been begun.
+pub record IsCutOff (k : Policies) (now before : ℕ) (from to : World) : Type 0 where
+  pub turns : List Turn
+  pub moment : ℕ
+  pub last : World
+  pub talk : IsTalk k now from turns moment last
+  pub at_most : polls_in turns ≤ before
+  pub cut : IsCut k moment last to
+
+-- ---- a whole talk
+
+-- how a talk ends behind its turns, by its answer
+abbrev pub EndsAs : {E : Type 0} → Result (Option ℕ) E → Policies → List Turn → ℕ → World → World → Type 0
+EndsAs (Ok (Some rest)) k turns moment last to = (rest ≡ moment) × (to ≡ last) × AreAtRest last
+EndsAs (Ok None) k turns moment last to = (to ≡ last) × (HasClosed last ⊎ (polls_in turns ≡ most_polls))
+EndsAs (Err e) k turns moment last to = IsCut k moment last to
+
+-- Two ends talked from a moment on, with at most 10000 polls: they rest at the moment that was answered, or were given up where an end
+-- isn't open or no poll was left, or memory lacked.
+pub record Settles {E : Type 0} (k : Policies) (now : ℕ) (from : World) (answer : Result (Option ℕ) E) (to : World) : Type 0 where
+  pub turns : List Turn
+  pub moment : ℕ
+  pub last : World
+  pub talk : IsTalk k now from turns moment last
+  pub at_most : polls_in turns ≤ most_polls
+  pub ends : EndsAs answer k turns moment last to

@@ -1,12 +1,13 @@
 //! Two ends that talk until both rest.
-ghost use Rattle.std.specs.Prelude.{◌≡◌, ◌≤◌, ◌<◌, ◌⊎◌, Bool, true, false, Ok, None, IfOk, IfSome, IfNone};
+ghost use Rattle.std.specs.Prelude.{◌≡◌, ◌≤◌, ◌<◌, ◌+◌, ◌⊎◌, Bool, true, false, Ok, None, length, IfOk, OnOk, OnErr, IfSome, IfNone};
 ghost use Rattle.quic_wire_core.specs.StreamId.{other_side};
 ghost use Rattle.quic_connection_core.specs.declared.answers.State.TheVariants as states;
 ghost use Rattle.quic_time.specs.Timers.{earlier};
-ghost use Rattle.quic_connection_core.specs.Machine.{end_at};
+ghost use Rattle.quic_connection_core.specs.End.{End};
+ghost use Rattle.quic_connection_core.specs.Machine.{end_at, given_by};
 ghost use Rattle.quic_connection_core.specs.Runs.{gave};
 ghost use Rattle.quic_connection.specs.Ends.{world_of, policies_of};
-ghost use Rattle.quic_connection.specs.Settled.{Reaches, is_poll, is_talk, Talks, IsSilent, AreSilent, AreOpen, AreAtRest, HasClosed, Settles, end_wakes, wakes};
+ghost use Rattle.quic_connection.specs.Settled.{Talks, IsPolled, IsHandled, IsHalfHandled, IsCut, IsCutOff, IsSilent, AreSilent, AreOpen, AreAtRest, HasClosed, Settles, end_wakes, wakes};
 ghost use Rattle.quic_connection.specs.declared.running.Given.{Given};
 
 use crate::connection::Connection;
@@ -37,7 +38,7 @@ pub fn settle<H: HeaderKey + Drop, K: PacketKey + Drop, R: Rng + Drop>(
     given: &mut Given,
     now: Instant,
 ) -> Result<Option<Instant>, AllocError>
-    ensures settles { Settles (policies_of H.masks H.hides H.unmasks H.reveals K.sealed K.opened ends.old) (world_of ends.old given.old) result (world_of ends.new given.new) }
+    ensures settles { Settles (policies_of H.masks H.hides H.unmasks H.reveals K.sealed K.opened ends.old) now (world_of ends.old given.old) result (world_of ends.new given.new) }
     ensures keys { policies_of H.masks H.hides H.unmasks H.reveals K.sealed K.opened ends.new ≡ policies_of H.masks H.hides H.unmasks H.reveals K.sealed K.opened ends.old }
     ensures rest { IfOk result (λ moment. IfSome moment (λ _. AreAtRest (world_of ends.new given.new))) }
     ensures later { IfOk result (λ moment. IfSome moment (λ moment. now ≤ moment)) }
@@ -52,8 +53,7 @@ pub fn settle<H: HeaderKey + Drop, K: PacketKey + Drop, R: Rng + Drop>(
             return Ok(Some(moment));
         };
         moment = moment.later(next);
-        make(alloc, ends, given, Side::Client, Call::Timeout(moment))?;
-        make(alloc, ends, given, Side::Server, Call::Timeout(moment))?;
+        time_out(alloc, ends, given, moment)?;
     }
 }
 
@@ -65,7 +65,8 @@ fn talk<H: HeaderKey + Drop, K: PacketKey + Drop, R: Rng + Drop>(
     now: Instant,
     left: &mut u64,
 ) -> Result<bool, AllocError>
-    ensures talks { Talks (policies_of H.masks H.hides H.unmasks H.reveals K.sealed K.opened ends.old) left.old left.new (world_of ends.old given.old) (world_of ends.new given.new) }
+    ensures talks { IfOk result (λ _. Talks (policies_of H.masks H.hides H.unmasks H.reveals K.sealed K.opened ends.old) now now left.old left.new (world_of ends.old given.old) (world_of ends.new given.new)) }
+    ensures cut { OnErr result (IsCutOff (policies_of H.masks H.hides H.unmasks H.reveals K.sealed K.opened ends.old) now left.old (world_of ends.old given.old) (world_of ends.new given.new)) }
     ensures keys { policies_of H.masks H.hides H.unmasks H.reveals K.sealed K.opened ends.new ≡ policies_of H.masks H.hides H.unmasks H.reveals K.sealed K.opened ends.old }
     ensures less { result ≡ Ok true → left.new < left.old }
     ensures opened { result ≡ Ok true → AreOpen (world_of ends.new given.new) }
@@ -90,7 +91,8 @@ fn round<H: HeaderKey + Drop, K: PacketKey + Drop, R: Rng + Drop>(
     now: Instant,
     left: &mut u64,
 ) -> Result<Option<bool>, AllocError>
-    ensures talks { Talks (policies_of H.masks H.hides H.unmasks H.reveals K.sealed K.opened ends.old) left.old left.new (world_of ends.old given.old) (world_of ends.new given.new) }
+    ensures talks { IfOk result (λ _. Talks (policies_of H.masks H.hides H.unmasks H.reveals K.sealed K.opened ends.old) now now left.old left.new (world_of ends.old given.old) (world_of ends.new given.new)) }
+    ensures cut { OnErr result (IsCutOff (policies_of H.masks H.hides H.unmasks H.reveals K.sealed K.opened ends.old) now left.old (world_of ends.old given.old) (world_of ends.new given.new)) }
     ensures keys { policies_of H.masks H.hides H.unmasks H.reveals K.sealed K.opened ends.new ≡ policies_of H.masks H.hides H.unmasks H.reveals K.sealed K.opened ends.old }
     ensures less { IfOk result (λ gave. IfSome gave (λ _. left.new < left.old)) }
     ensures silent { IfOk result (λ gave. IfSome gave (λ gave. gave ≡ false → AreOpen (world_of ends.new given.new) → AreSilent (world_of ends.new given.new))) }
@@ -115,7 +117,8 @@ fn poll_all<H: HeaderKey + Drop, K: PacketKey + Drop, R: Rng + Drop>(
     now: Instant,
     left: &mut u64,
 ) -> Result<Option<bool>, AllocError>
-    ensures talks { Talks (policies_of H.masks H.hides H.unmasks H.reveals K.sealed K.opened ends.old) left.old left.new (world_of ends.old given.old) (world_of ends.new given.new) }
+    ensures talks { IfOk result (λ _. Talks (policies_of H.masks H.hides H.unmasks H.reveals K.sealed K.opened ends.old) now now left.old left.new (world_of ends.old given.old) (world_of ends.new given.new)) }
+    ensures cut { OnErr result (IsCutOff (policies_of H.masks H.hides H.unmasks H.reveals K.sealed K.opened ends.old) now left.old (world_of ends.old given.old) (world_of ends.new given.new)) }
     ensures keys { policies_of H.masks H.hides H.unmasks H.reveals K.sealed K.opened ends.new ≡ policies_of H.masks H.hides H.unmasks H.reveals K.sealed K.opened ends.old }
     ensures less { IfOk result (λ gave. IfSome gave (λ _. left.new < left.old)) }
     ensures silent { IfOk result (λ gave. IfSome gave (λ _. (end_at side (world_of ends.new given.new)).closing.state ≡ states.Open → IsSilent (end_at side (world_of ends.new given.new)))) }
@@ -142,32 +145,34 @@ fn poll_once<H: HeaderKey + Drop, K: PacketKey + Drop, R: Rng + Drop>(
     left: &mut u64,
 ) -> Result<bool, AllocError>
     requires some_left { 0 < left.old }
-    ensures talks { Talks (policies_of H.masks H.hides H.unmasks H.reveals K.sealed K.opened ends.old) left.old left.new (world_of ends.old given.old) (world_of ends.new given.new) }
+    requires opened { AreOpen (world_of ends.old given.old) }
+    ensures polled { IfOk result (λ _. IsPolled (policies_of H.masks H.hides H.unmasks H.reveals K.sealed K.opened ends.old) side now (world_of ends.old given.old) (world_of ends.new given.new)) }
+    ensures cut { OnErr result (IsCut (policies_of H.masks H.hides H.unmasks H.reveals K.sealed K.opened ends.old) now (world_of ends.old given.old) (world_of ends.new given.new)) }
     ensures keys { policies_of H.masks H.hides H.unmasks H.reveals K.sealed K.opened ends.new ≡ policies_of H.masks H.hides H.unmasks H.reveals K.sealed K.opened ends.old }
-    ensures less { IfOk result (λ _. left.new < left.old) }
+    ensures less { IfOk result (λ _. left.new + 1 ≡ left.old) }
     ensures silent { IfOk result (λ gave. gave ≡ false → (end_at side (world_of ends.new given.new)).closing.state ≡ states.Open → IsSilent (end_at side (world_of ends.new given.new))) }
     ensures other { IfOk result (λ gave. gave ≡ false → end_at (other_side side) (world_of ends.new given.new) ≡ end_at (other_side side) (world_of ends.old given.old)) }
 {
     let index = count_given(given, side);
-    let answer = step(
-        alloc,
-        ends,
-        given,
-        &RunEvent {
-            side,
-            call: Call::Poll(now),
-        },
-    )?;
+    let poll = RunEvent {
+        side,
+        call: Call::Poll(now),
+    };
+    let answer = step(alloc, ends, given, &poll)?;
     *left -= 1;
     if !gave(&answer) {
         return Ok(false);
     }
-    let delivery = Delivery {
+    let arrival = Delivery {
         now,
         ecn: None,
         index,
     };
-    make(alloc, ends, given, !side, Call::Deliver(delivery))?;
+    let delivery = RunEvent {
+        side: !side,
+        call: Call::Deliver(arrival),
+    };
+    step(alloc, ends, given, &delivery)?;
     Ok(true)
 }
 
@@ -178,25 +183,34 @@ fn gave(answer: &Answer) -> bool
     matches!(answer, Answer::Poll(Ok(Some(_))))
 }
 
-/// Makes one call of a talk that is no poll.
-fn make<H: HeaderKey + Drop, K: PacketKey + Drop, R: Rng + Drop>(
+/// Both ends handle a moment, the client first.
+fn time_out<H: HeaderKey + Drop, K: PacketKey + Drop, R: Rng + Drop>(
     alloc: Global,
     ends: &mut Ends<H, K, R>,
     given: &mut Given,
-    side: Side,
-    call: Call,
+    now: Instant,
 ) -> Result<(), AllocError>
-    requires no_poll { is_poll call ≡ false }
-    requires of_talk { is_talk call ≡ true }
-    ensures reaches { Reaches (policies_of H.masks H.hides H.unmasks H.reveals K.sealed K.opened ends.old) 0 (world_of ends.old given.old) (world_of ends.new given.new) }
+    ensures handled { OnOk result (IsHandled (policies_of H.masks H.hides H.unmasks H.reveals K.sealed K.opened ends.old) now (world_of ends.old given.old) (world_of ends.new given.new)) }
+    ensures cut { OnErr result ((world_of ends.new given.new ≡ world_of ends.old given.old) ⊎ IsHalfHandled (policies_of H.masks H.hides H.unmasks H.reveals K.sealed K.opened ends.old) now (world_of ends.old given.old) (world_of ends.new given.new)) }
     ensures keys { policies_of H.masks H.hides H.unmasks H.reveals K.sealed K.opened ends.new ≡ policies_of H.masks H.hides H.unmasks H.reveals K.sealed K.opened ends.old }
 {
-    step(alloc, ends, given, &RunEvent { side, call })?;
+    let client = RunEvent {
+        side: Side::Client,
+        call: Call::Timeout(now),
+    };
+    let server = RunEvent {
+        side: Side::Server,
+        call: Call::Timeout(now),
+    };
+    step(alloc, ends, given, &client)?;
+    step(alloc, ends, given, &server)?;
     Ok(())
 }
 
 /// How many datagrams an end gave.
-fn count_given(given: &Given, side: Side) -> usize {
+fn count_given(given: &Given, side: Side) -> usize
+    ensures { (client server : End) → result ≡ length (given_by side (record { client = client; server = server; from_client = given.now.client.items; from_server = given.now.server.items })) }
+{
     match side {
         Side::Client => given.client.len(),
         Side::Server => given.server.len(),

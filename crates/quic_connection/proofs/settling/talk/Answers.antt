@@ -1,32 +1,32 @@
 use Rattle.std.proofs.Common.{◌≡◌, true, false, inl, refl, ◌∙◌}
-use Rattle.quic_connection.proofs.Talking.{talks_none, talks_on}
+use Rattle.quic_connection.proofs.Talking.{talks_none, talks_on, on_err, cut_off_behind}
 use Rattle.quic_connection.proofs.settling.talk.Goals as goal
 
 pub loop-ends-init : goal.loop-ends-init
-loop-ends-init g c = record { talks = talks_none _ _ _; keys = refl }
+loop-ends-init g c = record { talks = talks_none _ _ _ _; keys = refl }
 
-pub returns-in_err-round-clause-talks : goal.returns-in_err-round-clause-talks
-returns-in_err-round-clause-talks g c =
+pub returns-in_err-round-clause-cut : goal.returns-in_err-round-clause-cut
+returns-in_err-round-clause-cut g c =
     let inv = c.loop-ends.invariant in
-    talks_on _ _ _ _ _ _ _ _ inv.keys inv.talks c.round.ensures.talks
+    on_err c.from_residual.result (cut_off_behind _ _ _ _ _ _ _ _ _ inv.keys inv.talks c.in_err-round.ensures.cut)
 
 pub returns-in-None-clause-talks : goal.returns-in-None-clause-talks
 returns-in-None-clause-talks g c =
     let inv = c.loop-ends.invariant in
-    talks_on _ _ _ _ _ _ _ _ inv.keys inv.talks c.round.ensures.talks
+    talks_on _ _ _ _ _ _ _ _ _ _ _ inv.keys inv.talks c.in_ok-round.ensures.talks
 
 pub loop-ends-preserved : goal.loop-ends-preserved
 loop-ends-preserved g c =
     let inv = c.loop-ends.invariant in
     record {
-      talks = talks_on _ _ _ _ _ _ _ _ inv.keys inv.talks c.round.ensures.talks;
+      talks = talks_on _ _ _ _ _ _ _ _ _ _ _ inv.keys inv.talks c.in_ok-round.ensures.talks;
       keys = c.round.ensures.keys ∙ inv.keys;
     }
 
 pub returns-in-Some-false-clause-talks : goal.returns-in-Some-false-clause-talks
 returns-in-Some-false-clause-talks g c =
     let inv = c.loop-ends.invariant in
-    talks_on _ _ _ _ _ _ _ _ inv.keys inv.talks c.round.ensures.talks
+    talks_on _ _ _ _ _ _ _ _ _ _ _ inv.keys inv.talks c.in_ok-round.ensures.talks
 
 pub returns-in-Some-false-clause-opened : goal.returns-in-Some-false-clause-opened
 returns-in-Some-false-clause-opened g c = λ ok.

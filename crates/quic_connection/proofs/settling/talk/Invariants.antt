@@ -8,7 +8,7 @@ abbrev pub invariant-loop-ends : goal.invariant-loop-ends
 invariant-loop-ends g l =
     let policies : Policies = policies_of g.H.HeaderKey.masks g.H.HeaderKey.hides g.H.HeaderKey.unmasks g.H.HeaderKey.reveals g.K.PacketKey.sealed g.K.PacketKey.opened l.fn.ends in
     record {
-      talks : Talks policies l.fn.left l.left (world_of l.fn.ends l.fn.given) (world_of l.ends l.given);
+      talks : Talks policies l.now l.now l.fn.left l.left (world_of l.fn.ends l.fn.given) (world_of l.ends l.given);
       keys : policies_of g.H.HeaderKey.masks g.H.HeaderKey.hides g.H.HeaderKey.unmasks g.H.HeaderKey.reveals g.K.PacketKey.sealed g.K.PacketKey.opened l.ends ≡ policies;
     }
 
