@@ -66,11 +66,11 @@ pub record IsTold (w : World) (event : RunEvent) (text : List ℕ) (next : World
 abbrev pub Tells : World → RunEvent → List ℕ → List ℕ → World → Type 0
 Tells w event old new next = (text : List ℕ) × IsTold w event text next × (new ≡ old ++ text)
 
--- What is printed where two ends talk from a moment on, and the world behind it: a moment, not before that one, at which both rest, or that they were
--- given up.
+-- What is printed where two ends talk from a moment on, turn by turn, and the world behind it: a moment, not before that one, at which both
+-- rest, or that they were given up.
 pub record IsSettled (w : World) (now : ℕ) (text : List ℕ) (next : World) : Type 0 where
   pub answer : Option ℕ
-  pub talk : Settles {E = AllocError} plain_policies w (Ok answer) next
+  pub talk : Settles {E = AllocError} plain_policies now w (Ok answer) next
   pub rest : IfSome answer (λ _. AreAtRest next)
   pub later : IfSome answer (λ moment. now ≤ moment)
   pub is : text ≡ rest_text answer
