@@ -4,6 +4,7 @@
 //! - `pieces ROUNDS [COUNT]`: so many rounds, in each of which `COUNT` pieces (10,000 unless given) of ten bytes arrive in
 //!   a shuffled order, and are read.
 //! - `in_order MIB`: so many MiB arrive in frames of 1200 bytes, and each frame is read when it has come.
+//! - `unread COUNT`: so many frames of one byte arrive in order, and are read once all have come.
 //! - `send MIB`: so many MiB are written in pieces of 1200 bytes; each frame is acknowledged when it has gone.
 //! - `buffered MIB`: so many MiB are written, then all sent, and then all acknowledged.
 #![tactic(auto)]
@@ -125,6 +126,21 @@ fn in_order(alloc: Global, mebibytes: u32, tally: &mut Tally) -> Result<(), Allo
     Ok(())
 }
 
+// Frames of one byte arrive in order, and stay unread.
+fn insert_unread(assembler: &mut Assembler, count: u32) -> Result<(), AllocError> {
+    for offset in 0..count {
+        assembler.insert(offset as u64, b"x")?;
+    }
+    Ok(())
+}
+
+// Frames of one byte arrive in order, and are read once all have come.
+fn unread(alloc: Global, count: u32, tally: &mut Tally) -> Result<(), AllocError> {
+    let mut assembler = Assembler::new(alloc);
+    insert_unread(&mut assembler, count)?;
+    read_parts(&mut assembler, count, tally)
+}
+
 // The least offset that nothing is written at.
 const LIMIT: u64 = 1 << 61;
 
@@ -217,6 +233,7 @@ fn work(alloc: Global, line: &str) -> Result<Tally> {
     match name {
         "pieces" => pieces(alloc, size, count, &mut tally)?,
         "in_order" => in_order(alloc, size, &mut tally)?,
+        "unread" => unread(alloc, size, &mut tally)?,
         "send" => send(alloc, size, &mut tally)?,
         "buffered" => buffered(alloc, size, &mut tally)?,
         _ => bail!("no such work"),

@@ -19,3 +19,4 @@ pub mod Lawful
 pub mod Inserting
 pub mod Kept
 pub mod Joining
+pub mod Extent

@@ -1,9 +1,10 @@
 -- What has arrived of a stream and is not read: a set of offsets with their bytes, and the offsets that reads gave.
-use Rattle.std.specs.Prelude.{◌≡◌, ℕ, ◌+◌, ◌-◌, ◌^◌, ◌<◌, ◌≤◌, ◌==◌, Bool, true, false, cond, ltb, max, not, ◌&&◌, ◌||◌, zero, suc, List, [], ◌∷◌, ◌++◌, length, take, drop, Option, Some, None}
+use Rattle.std.specs.Prelude.{◌≡◌, ℕ, ◌+◌, ◌-◌, ◌*◌, ◌^◌, ◌<◌, ◌≤◌, ◌==◌, Bool, true, false, cond, ltb, leb, max, not, ◌&&◌, ◌||◌, zero, suc, List, [], ◌∷◌, ◌++◌, length, take, drop, Option, Some, None}
 use Rattle.std.specs.Option.{option_or, is_some}
 use Rattle.std.specs.List.{slice_get}
 use Rattle.quic_streams_core.specs.Spans.{Span, AreSpans, in_spans, in_span, width_of, with_run}
 use Rattle.quic_streams_core.specs.declared.connection.assembler.Chunk.{Chunk}
+use Rattle.quic_streams_core.specs.declared.connection.assembler.parts.TheConstants.{SHORT_PART}
 
 -- a part of a stream: the offset behind its last byte, and its bytes
 abbrev pub Part : Type 0
@@ -117,10 +118,25 @@ abbrev pub joined : List Part → List Part
 joined [] = []
 joined (p ∷ ps) = in_front p (joined ps)
 
--- whether there are more than 2048 parts, and more of them touch the one before than there are runs: then half of
--- them go where they are joined, so that a byte isn't copied again and again
+-- where the last part ends, or else an offset
+abbrev pub last_end : ℕ → List Part → ℕ
+last_end end [] = end
+last_end end (p ∷ ps) = last_end p.0 ps
+
+-- how many offsets there are from the first that waits to the last, gaps between them too
+abbrev pub extent : List Part → ℕ
+extent [] = 0
+extent (p ∷ ps) = last_end p.0 ps - start p
+
+-- whether there are at most 64 of them for each part
+abbrev pub are_short : List Part → Bool
+are_short ps = leb (extent ps) (SHORT_PART * length ps)
+
+-- whether there are more than 2048 parts, more of them touch the one before than there are runs, and they are short: then
+-- more than half of them go where they are joined, and at most 64 bytes are copied for each of them; so the copies of any
+-- number of joins are no more than 128 bytes for each part that goes
 abbrev pub is_crowded : List Part → Bool
-is_crowded ps = ltb 2048 (length ps) && ltb (runs_of ps) (length ps - runs_of ps)
+is_crowded ps = ltb 2048 (length ps) && (ltb (runs_of ps) (length ps - runs_of ps) && are_short ps)
 
 -- the parts, joined where there are too many
 abbrev pub settled : List Part → List Part

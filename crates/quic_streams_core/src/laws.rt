@@ -1,8 +1,8 @@
 //! What the definitions of this crate say together. Each function does nothing: its contract is the law.
-ghost use Rattle.std.specs.Prelude.{◌≡◌, ℕ, ◌+◌, ◌<◌, ◌≤◌, ◌^◌, ◌-◌, List, Bool, ◌||◌, [], None, true, false, cond, ltb, max, length, count_by, IfSome, IsSome, is_some};
+ghost use Rattle.std.specs.Prelude.{◌≡◌, ℕ, ◌+◌, ◌<◌, ◌≤◌, ◌^◌, ◌-◌, ◌*◌, ◌/◌, List, Bool, ◌||◌, [], None, true, false, cond, ltb, max, length, count_by, IfSome, IsSome, is_some};
 ghost use Rattle.std.specs.List.{slice_get};
 ghost use Rattle.std.specs.Option.{option_or};
-ghost use Rattle.quic_streams_core.specs.Arrived.{Arrived, IsLawful, runs_of, begins_run, count_to, byte_from, byte_at, holds, is_given, after_insert, given_in, given_by, after_read, after_ordering, in_chunk, length_of, bytes_read_of};
+ghost use Rattle.quic_streams_core.specs.Arrived.{Arrived, Part, IsLawful, runs_of, extent, begins_run, count_to, byte_from, byte_at, holds, is_given, after_insert, given_in, given_by, after_read, after_ordering, in_chunk, length_of, bytes_read_of};
 
 pub mod bytes_source;
 pub mod send_buffer;
@@ -27,9 +27,9 @@ pub fn first_bytes_stand()
     ensures lawful { (a : Arrived) (offset : ℕ) (bytes : List ℕ) → IsLawful a → offset + length bytes < 2 ^ 62 → IsLawful (after_insert a offset bytes) }
 {}
 
-/// No more than 2048 parts are kept, or two for each run.
+/// No more than 2048 parts are kept, or two for each run, or one for each 64 offsets from the first that waits to the last.
 pub fn few_parts_are_kept()
-    ensures { (a : Arrived) (offset : ℕ) (bytes : List ℕ) → IsLawful a → offset + length bytes < 2 ^ 62 → length (after_insert a offset bytes).parts ≤ max 2048 (runs_of (after_insert a offset bytes).parts + runs_of (after_insert a offset bytes).parts) }
+    ensures { (a : Arrived) (offset : ℕ) (bytes : List ℕ) (ps : List Part) → IsLawful a → offset + length bytes < 2 ^ 62 → ps ≡ (after_insert a offset bytes).parts → length ps ≤ max (max 2048 (2 * runs_of ps)) (extent ps / 64) }
 {}
 
 /// A read gives bytes that waited, from one offset on: an ordered one from where the stream is read

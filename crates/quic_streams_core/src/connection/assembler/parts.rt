@@ -4,7 +4,7 @@ ghost use Rattle.std.specs.Option.{option_map};
 ghost use Rattle.std.specs.Map.{lookup, remove_entry};
 ghost use Rattle.std.specs.BTreeMap.{insert_entry, is_at};
 ghost use Rattle.std.specs.Ordering.{nat_cmp};
-ghost use Rattle.quic_streams_core.specs.Arrived.{AreApart, runs_of, with_gaps, with_free, is_next, is_some_part, first_given, left_front, in_front, joined, settled, is_crowded};
+ghost use Rattle.quic_streams_core.specs.Arrived.{AreApart, runs_of, with_gaps, with_free, is_next, is_some_part, first_given, left_front, in_front, joined, settled, is_crowded, last_end, extent, are_short};
 ghost use Rattle.quic_streams_core.specs.Spans.{AreSpans};
 ghost use Rattle.quic_streams_core.specs.PartSteps.{first_bytes, rest_of, front_of, cuts_front, after, span_of, is_held, held_at, gap_at, begins_at, Fits, undone, touching_at, from_after};
 
@@ -14,8 +14,12 @@ use std::alloc::{AllocError, Global};
 use std::collections::BTreeMap;
 use std::marker::Model;
 
-// More parts than these are joined, where that makes them half as many.
+// More parts than these are joined, where that makes them half as many and they are short.
 const MOST_PARTS: usize = 2048;
+
+// Parts are short where there are at most so many offsets for each, from the first that waits to the last: so joining them
+// copies no more bytes for each.
+const SHORT_PART: usize = 64;
 
 /// Parts of a stream that do not overlap, in the order of their offsets, and the number of their runs.
 #[derive(Drop)]
@@ -204,6 +208,37 @@ fn starts_at(parts: &BTreeMap<u64, Bytes>, at: u64) -> bool
     }
 }
 
+// Where the last part ends, or else 0.
+fn last_end(parts: &BTreeMap<u64, Bytes>) -> u64
+    ensures { result ≡ last_end 0 parts.now.entries }
+{
+    match parts.last_key_value() {
+        Some((end, _)) => *end,
+        None => 0,
+    }
+}
+
+// How many offsets there are from the first that waits to the last.
+fn extent(parts: &BTreeMap<u64, Bytes>) -> u64
+    ensures { result ≡ extent parts.now.entries }
+{
+    match parts.first_key_value() {
+        Some((end, bytes)) => {
+            let start = end.saturating_sub(bytes.len() as u64);
+            last_end(parts).saturating_sub(start)
+        }
+        None => 0,
+    }
+}
+
+// Whether there are few offsets for each part.
+fn are_short(parts: &BTreeMap<u64, Bytes>) -> bool
+    requires { AreApart 0 parts.now.entries }
+    ensures { result ≡ are_short parts.now.entries }
+{
+    extent(parts) <= SHORT_PART.saturating_mul(parts.len()) as u64
+}
+
 // At most `max` bytes from the beginning on.
 fn front(bytes: &Bytes, max: usize) -> Result<Bytes, AllocError>
     ensures { IfOk result (λ front. front ≡ take max bytes.now) }
@@ -352,7 +387,7 @@ impl Parts {
         ensures { result ≡ is_crowded self.now }
     {
         let len = self.map.len();
-        len > MOST_PARTS && self.runs < len.saturating_sub(self.runs)
+        len > MOST_PARTS && self.runs < len.saturating_sub(self.runs) && are_short(&self.map)
     }
 
     // Joins the parts that touch. All memory is taken before anything changes.
@@ -364,7 +399,7 @@ impl Parts {
         Ok(())
     }
 
-    // Joins the parts that touch where there are too many.
+    // Joins the parts that touch where there are too many and they are short.
     fn settle(&mut self) -> Result<(), AllocError>
         ensures ok { OnOk result (self.new ≡ settled self.old) }
         ensures err { OnErr result (self.new ≡ self.old) }
@@ -376,7 +411,7 @@ impl Parts {
         }
     }
 
-    // Fills the gaps of a frame, then joins the parts where there are too many.
+    // Fills the gaps of a frame, then joins the parts where there are too many and they are short.
     fn fill_and_settle(
         &mut self,
         given: &BTreeMap<u64, u64>,
@@ -394,7 +429,7 @@ impl Parts {
     }
 
     /// Puts in the bytes of a frame that were not given and do not wait yet, each gap as one more part. Parts
-    /// that touch are joined where there are too many.
+    /// that touch are joined where there are too many and they are short.
     ///
     /// # Errors
     ///
