@@ -20,3 +20,5 @@ pub mod Inserting
 pub mod Kept
 pub mod Joining
 pub mod Extent
+pub mod ArrivedHistory
+pub mod BufferedHistory

@@ -48,7 +48,7 @@ has_with a z rs o runs = same_test (has (with_offsets a z rs) o) (has rs o || is
       | inr x ↦ inr (within_is a z o x)
     ])))
 
-has_without : (a z : ℕ) (rs : List Run) (o : ℕ) → has (without_offsets a z rs) o ≡ (has rs o && not (is_within a z o))
+pub has_without : (a z : ℕ) (rs : List Run) (o : ℕ) → has (without_offsets a z rs) o ≡ (has rs o && not (is_within a z o))
 has_without a z rs o = same_test (has (without_offsets a z rs) o) (has rs o && not (is_within a z o))
     (λ h. let p = (without_is a z rs o).0 (has_is (without_offsets a z rs) o h) in
     and_from (has rs o) (not (is_within a z o)) (has_from rs o p.0) (not_from_false (is_within a z o) (false_from_ne_true (is_within a z o) (λ w. p.1 (within_is a z o w)))))
@@ -126,7 +126,7 @@ fell false acked false true = refl
 fell true true false true = refl
 fell true false false true = refl
 
-loss_has : (b : Buffered) (a z o : ℕ) → IsBuffered b → is_lost (after_loss b a z) o ≡ (is_lost b o || ((is_within a z o && ltb o b.unsent) && not (is_acknowledged b o)))
+pub loss_has : (b : Buffered) (a z o : ℕ) → IsBuffered b → is_lost (after_loss b a z) o ≡ (is_lost b o || ((is_within a z o && ltb o b.unsent) && not (is_acknowledged b o)))
 loss_has b a z o h = has_lost a (min z b.unsent) b.lost b.acked o h.lost ∙ ap (λ x. has b.lost o || (x && not (has b.acked o))) (within_min a z b.unsent o)
 
 pub loss_lost : (b : Buffered) (a z o : ℕ) → IsBuffered b → is_lost (after_loss b a z) o ≡ (is_lost b o || (is_within a z o && is_in_flight b o))
@@ -205,13 +205,13 @@ same_leb u s e o either out = same_test (leb (max u e) o) (leb u o)
     (λ h. let le = leb-true (max u e) o h in le-leb u o (omega (arith, le)))
     (λ h. le-leb (max u e) o (same_behind u s e o either out (leb-true u o h)))
 
-same_ltb : (u s e o : ℕ) → (e ≤ u) ⊎ (s ≡ u) → is_within s e o ≡ false → ltb o (max u e) ≡ ltb o u
+pub same_ltb : (u s e o : ℕ) → (e ≤ u) ⊎ (s ≡ u) → is_within s e o ≡ false → ltb o (max u e) ≡ ltb o u
 same_ltb u s e o either out = elim (cases_lt o u) [
   | inl lt ↦ lt-ltb o (max u e) (omega (arith, lt)) ∙ sym (lt-ltb o u lt)
   | inr ge ↦ le-ltb o (max u e) (same_behind u s e o either out ge) ∙ sym (le-ltb o u ge)
 ]
 
-either_end : (b : Buffered) (most : ℕ) → IsBuffered b → (sent_end b most ≤ b.unsent) ⊎ (next_start b ≡ b.unsent)
+pub either_end : (b : Buffered) (most : ℕ) → IsBuffered b → (sent_end b most ≤ b.unsent) ⊎ (next_start b ≡ b.unsent)
 either_end b most h = elim (first_at b.lost (rest b) b.unsent h.lost h.lost_sent) [
   | inl le ↦ (let end = sent_within b most h in inl (omega (arith, end, le)))
   | inr e ↦ inr e
@@ -251,7 +251,7 @@ ack_byte b a z o h e =
     let s = after_ack b a z in
     from_dropped b.base (done (acknowledged b a z)) b.kept o (kept_from s o (ack_lawful b a z h) (lacks s.acked o e))
 
-behind_get : (xs ys : List ℕ) (i j : ℕ) → i ≡ length xs + j → slice_get (xs ++ ys) i ≡ slice_get ys j
+pub behind_get : (xs ys : List ℕ) (i j : ℕ) → i ≡ length xs + j → slice_get (xs ++ ys) i ≡ slice_get ys j
 behind_get xs ys i j e = ap (slice_get (xs ++ ys)) e ∙ sym (get-drop (length xs) j (xs ++ ys)) ∙ ap (λ (zs : List ℕ). slice_get zs j) (drop_at xs ys (length xs) refl)
 
 pub write_byte : (b : Buffered) (bytes : List ℕ) (o : ℕ) → written b ≤ o → kept_byte (after_write b bytes) o ≡ byte_from (written b) bytes o

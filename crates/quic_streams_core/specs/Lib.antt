@@ -5,3 +5,5 @@ pub mod Buffered
 pub mod PartSteps
 pub mod Inside
 pub mod Source
+pub mod ArrivedHistory
+pub mod BufferedHistory

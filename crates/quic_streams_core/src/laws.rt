@@ -1,8 +1,10 @@
 //! What the definitions of this crate say together. Each function does nothing: its contract is the law.
-ghost use Rattle.std.specs.Prelude.{◌≡◌, ℕ, ◌+◌, ◌<◌, ◌≤◌, ◌^◌, ◌-◌, ◌*◌, ◌/◌, List, Bool, ◌||◌, [], None, true, false, cond, ltb, max, length, count_by, IfSome, IsSome, is_some};
+ghost use Rattle.std.specs.Prelude.{◌≡◌, ℕ, ◌+◌, ◌<◌, ◌≤◌, ◌^◌, ◌-◌, ◌*◌, ◌/◌, List, Bool, ◌||◌, [], None, Some, true, false, cond, ltb, max, length, count_by, sum_by, All, IfSome, IsSome, is_some};
 ghost use Rattle.std.specs.List.{slice_get};
 ghost use Rattle.std.specs.Option.{option_or};
 ghost use Rattle.quic_streams_core.specs.Arrived.{Arrived, Part, IsLawful, runs_of, extent, begins_run, count_to, byte_from, byte_at, holds, is_given, after_insert, given_in, given_by, after_read, after_ordering, in_chunk, length_of, bytes_read_of};
+ghost use Rattle.quic_streams_core.specs.declared.connection.assembler.Chunk.{Chunk};
+ghost use Rattle.quic_streams_core.specs.ArrivedHistory.{Call, AreInRange, arrived_after, given_over, was_given, byte_in, first_came, Came};
 
 pub mod bytes_source;
 pub mod send_buffer;
@@ -66,4 +68,26 @@ pub fn unordered_reads_stay_so()
     ensures begun { (a : Arrived) (ordered : Bool) → a.unordered ≡ true → (after_ordering a ordered).unordered ≡ true }
     ensures read { (a : Arrived) (max : ℕ) → (after_read a max).unordered ≡ a.unordered }
     ensures lawful { (a : Arrived) (ordered : Bool) → IsLawful a → IsLawful (after_ordering a ordered) }
+{}
+
+/// After any calls the byte that waits at an offset is the first that came for it since what waited was dropped, unless it was
+/// given.
+pub fn first_bytes_wait_until_given()
+    ensures lawful { (calls : List Call) → AreInRange calls → IsLawful (arrived_after calls) }
+    ensures waits { (calls : List Call) (o : ℕ) → AreInRange calls → byte_at (arrived_after calls).parts o ≡ cond (was_given (given_over calls) o) None (first_came calls o) }
+    ensures given { (calls : List Call) (o : ℕ) → AreInRange calls → is_given (arrived_after calls) o ≡ was_given (given_over calls) o }
+{}
+
+/// A read after any calls gives bytes that came at their offsets: of each offset the first that came since what waited was
+/// dropped.
+pub fn given_bytes_came()
+    ensures first { (calls : List Call) (max o byte : ℕ) → AreInRange calls → byte_in (given_by (arrived_after calls) max) o ≡ Some byte → first_came calls o ≡ Some byte }
+    ensures came { (calls : List Call) (max o byte : ℕ) → AreInRange calls → byte_in (given_by (arrived_after calls) max) o ≡ Some byte → Came calls o byte }
+    ensures all { (calls : List Call) → AreInRange calls → All (λ chunk. (o byte : ℕ) → byte_in (Some chunk) o ≡ Some byte → Came calls o byte) (given_over calls) }
+{}
+
+/// Whatever the calls, no offset is given twice, and the bytes that were read are those of the chunks.
+pub fn no_offset_is_given_twice()
+    ensures once { (calls : List Call) (o : ℕ) → AreInRange calls → count_by (λ chunk. in_chunk (Some chunk) o) (given_over calls) ≤ 1 }
+    ensures counted { (calls : List Call) → AreInRange calls → bytes_read_of (arrived_after calls) ≡ sum_by (λ chunk. length chunk.bytes) (given_over calls) }
 {}

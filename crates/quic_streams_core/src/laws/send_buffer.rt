@@ -1,10 +1,12 @@
 //! Where the offsets of a stream are that were written, and what each call of [`SendBuffer`] moves.
 //!
 //! [`SendBuffer`]: crate::SendBuffer
-ghost use Rattle.std.specs.Prelude.{◌≡◌, ℕ, ◌+◌, ◌-◌, ◌<◌, ◌≤◌, ◌^◌, List, [], Bool, true, false, cond, ltb, not, ◌&&◌, ◌||◌, length, IsSome};
+ghost use Rattle.std.specs.Prelude.{◌≡◌, ℕ, ◌+◌, ◌-◌, ◌<◌, ◌≤◌, ◌^◌, List, [], Bool, true, false, cond, ltb, not, ◌&&◌, ◌||◌, length, ◌++◌, IsSome};
 ghost use Rattle.quic_streams_core.specs.Buffered.{Buffered, IsBuffered, written, nothing_written, kept_byte, is_fully_acked, has_unsent, places, AreSamePlaces, is_acknowledged, is_lost, is_unsent, is_in_flight, after_write, after_ack, after_loss, after_poll, offset_width, next_start, writes_length, sent_end};
 ghost use Rattle.quic_streams_core.specs.Arrived.{byte_from};
 ghost use Rattle.quic_streams_core.specs.Offsets.{is_within};
+ghost use Rattle.quic_streams_core.specs.BufferedHistory.{Call, buffered_after, written_over, goes, was_sent, was_acked, was_lost};
+ghost use Rattle.std.specs.List.{slice_get};
 
 /// Each offset that was written is in one place: acknowledged, lost, never sent or in flight. Others are in none.
 pub fn offsets_are_in_one_place()
@@ -94,4 +96,30 @@ pub fn frames_fit_their_room()
 /// Nothing is written at first.
 pub fn nothing_is_written()
     ensures { IsBuffered nothing_written }
+{}
+
+/// After any calls each offset that was written is in one place, and no other is in any. It is acknowledged where it was when it
+/// had been sent; lost where it was when it had been sent, and neither acknowledged nor sent since; and never sent where no poll
+/// gave it.
+pub fn history_tells_places()
+    ensures lawful { (calls : List Call) → length (written_over calls) < 2 ^ 62 → IsBuffered (buffered_after calls) }
+    ensures written { (calls : List Call) → length (written_over calls) < 2 ^ 62 → written (buffered_after calls) ≡ length (written_over calls) }
+    ensures one_place { (calls : List Call) (o : ℕ) → length (written_over calls) < 2 ^ 62 → places (buffered_after calls) o ≡ cond (ltb o (length (written_over calls))) 1 0 }
+    ensures acknowledged { (calls : List Call) (o : ℕ) → length (written_over calls) < 2 ^ 62 → is_acknowledged (buffered_after calls) o ≡ was_acked calls o }
+    ensures lost { (calls : List Call) (o : ℕ) → length (written_over calls) < 2 ^ 62 → is_lost (buffered_after calls) o ≡ was_lost calls o }
+    ensures unsent { (calls : List Call) (o : ℕ) → length (written_over calls) < 2 ^ 62 → is_unsent (buffered_after calls) o ≡ ltb o (length (written_over calls)) && not (was_sent calls o) }
+{}
+
+/// What goes out after any calls is bytes that were written: each offset is below their number, and its byte is the one that was
+/// written there.
+pub fn written_bytes_go()
+    ensures written { (calls : List Call) (max o : ℕ) → length (written_over calls) < 2 ^ 62 → goes calls max o ≡ true → o < length (written_over calls) }
+    ensures bytes { (calls : List Call) (max o : ℕ) → length (written_over calls) < 2 ^ 62 → goes calls max o ≡ true → kept_byte (buffered_after calls) o ≡ slice_get (written_over calls) o }
+    ensures kept { (calls : List Call) (o : ℕ) → length (written_over calls) < 2 ^ 62 → was_acked calls o ≡ false → kept_byte (buffered_after calls) o ≡ slice_get (written_over calls) o }
+{}
+
+/// An offset that was acknowledged when it had been sent never goes again, whatever comes.
+pub fn acknowledged_never_goes_again()
+    ensures goes { (calls : List Call) (max o : ℕ) → length (written_over calls) < 2 ^ 62 → was_acked calls o ≡ true → goes calls max o ≡ false }
+    ensures later { (later calls : List Call) (max o : ℕ) → length (written_over (later ++ calls)) < 2 ^ 62 → was_acked calls o ≡ true → goes (later ++ calls) max o ≡ false }
 {}
