@@ -1,5 +1,11 @@
 //! Two ends with the keys of scripts, and events of theirs. Few functions own ends, since each that
 //! does is proved to let them go wherever it ends.
+ghost use Rattle.std.specs.Prelude.{◌≡◌, IfOk};
+ghost use Rattle.quic_connection_core.specs.Headline.{AreStarted, AreKeys};
+ghost use Rattle.quic_connection.specs.Ends.{first_world};
+ghost use Rattle.quic_run_core.specs.KeysOf.{keys_of};
+ghost use Rattle.quic_run_core.specs.Policies.{policies_in};
+
 use bytes::Bytes;
 use quic_connection::{
     Answer, Call, Config, ConfigError, Delivery, Ends, Given, Instant, Making, ReadCall, Received,
@@ -7,6 +13,7 @@ use quic_connection::{
 };
 use quic_run_core::Words;
 use quic_run_core::key::{PlainHeaderKey, PlainKey, keys_for};
+use quic_run_core::laws::keys_meet_the_premises;
 use quic_wire_core::{ConnectionId, Dir, EcnCodepoint, Side, StreamId};
 use std::alloc::{AllocError, Global};
 
@@ -23,7 +30,9 @@ fn id_of(side: Side) -> ConnectionId {
     }
 }
 
-fn making(side: Side) -> Making<PlainHeaderKey, PlainKey, Words> {
+fn making(side: Side) -> Making<PlainHeaderKey, PlainKey, Words>
+    ensures { result.keys ≡ keys_of side }
+{
     Making {
         config: Config::new(TransportConfig::default()),
         id: id_of(side),
@@ -33,8 +42,13 @@ fn making(side: Side) -> Making<PlainHeaderKey, PlainKey, Words> {
     }
 }
 
-/// Two ends that are made for one another at the moment 0.
-pub(crate) fn new_ends(alloc: Global) -> Result<BothEnds, ConfigError> {
+/// Two ends that are made for one another at the moment 0: they and their keys meet what the promises
+/// on runs ask.
+pub(crate) fn new_ends(alloc: Global) -> Result<BothEnds, ConfigError>
+    ensures started { IfOk result (λ ends. AreStarted (first_world ends)) }
+    ensures keys { IfOk result (λ ends. AreKeys (policies_in ends)) }
+{
+    keys_meet_the_premises();
     let now = Instant::from_nanos(0);
     Ends::new(alloc, now, making(Side::Client), making(Side::Server))
 }
