@@ -1,8 +1,8 @@
 -- What each call leaves is again a buffer: the sets are runs and lie apart, and the pieces are those that are needed.
 use Rattle.std.proofs.Common.{◌≡◌, ℕ, ◌+◌, ◌-◌, ◌^◌, ◌≤◌, ◌<◌, ◌⊎◌, ◌↔◌, ◌==◌, min, max, List, [], ◌∷◌, ◌++◌, length, drop, refl, sym, ap, subst, inl, inr, arith, ◌∙◌, length-append, length-drop}
 use Rattle.std.proofs.lemmas.Bool.{cases_lt, cases_Bool, le-leb, lt-leb, eqb-true, eqb-false}
-use Rattle.std.specs.Prelude.{Result, Ok, Err, OnOk, OnErr, IsOk}
-use Rattle.quic_wire_core.specs.Runs.{Run, Has, AreRuns, Adds, Drops, IsInside}
+use Rattle.std.specs.Prelude.{Result, Ok, Err, OnOk, OnErr}
+use Rattle.quic_wire_core.specs.Runs.{Run, Has, AreRuns, Adds, Drops}
 use Rattle.quic_wire_core.specs.Lacking.{AddsLacking}
 use Rattle.quic_streams_core.specs.Offsets.{first_or, first_lacking, with_offsets, without_offsets, with_all, lacking}
 use Rattle.quic_streams_core.specs.Buffered.{Buffered, IsBuffered, AreFilled, ReachPast, bytes_in, written, first_unacknowledged, piece_of, after_write, passed, pieces_behind, done, trimmed, acknowledged, after_ack, after_loss, sent_count, room_behind, next_range, next_start, next_count, sent_end, after_poll}
@@ -239,13 +239,6 @@ sent_within b most h =
     let ordered = next_ordered b h in
     omega (arith, few, ordered)
 
--- the front of what goes next stands at no other end of a lost run
-pub goes_apart : (b : Buffered) (z : ℕ) → IsBuffered b → IsInside b.lost (next_start b) z → ⊥
-goes_apart b z h inside =
-    let before = inside.2 (next_start b - 1) (omega arith) (omega (arith, inside.1)) in
-    let least = first_is_least b.lost (record { start = b.unsent; end = written b }) (next_start b - 1) h.lost before in
-    omega (arith, least, inside.0)
-
 -- with offsets sent that end within what was written
 pub sent_lawful : (b : Buffered) (a z : ℕ) → IsBuffered b → z ≤ written b → IsBuffered (record b { unsent = max b.unsent z; lost = without_offsets a z b.lost })
 sent_lawful b a z h le = record {
@@ -271,10 +264,6 @@ poll_lawful b most h =
 
 -- ---- what the calls do to the fields
 
-pub is_ok_from : {T E : Type 0} {Q : Type 0} (r : Result T E) → OnErr r Q → (Q → ⊥) → IsOk r
-is_ok_from (Ok x) e never = refl
-is_ok_from (Err x) e never = absurd (never e)
-
 -- bytes are appended, or memory lacks
 pub write_either : {T E : Type 0} (r : Result T E) (b : Buffered) (bytes kept pieces : List ℕ) → IsBuffered b → written b + length bytes < 2 ^ 62
     → OnOk r (kept ≡ b.kept ++ bytes) → OnOk r (pieces ≡ b.pieces ++ piece_of (length bytes)) → OnErr r (kept ≡ b.kept) → OnErr r (pieces ≡ b.pieces)
@@ -293,8 +282,18 @@ sent_made v b e h new u a z top runs drops =
     ∙ ap (λ (n : ℕ). record v { unsent = n; lost = without_offsets a z v.lost }) top
     ∙ ap (λ (w : Buffered). record w { unsent = max w.unsent z; lost = without_offsets a z w.lost }) e
 
-pub goes_at : (v b : Buffered) → v ≡ b → IsBuffered v → (a z : ℕ) → a ≡ next_start b → IsInside v.lost a z → ⊥
-goes_at v b e h a z at inside = goes_apart v z h (subst (λ n. IsInside v.lost n z) (at ∙ ap (λ (w : Buffered). next_start w) (sym e)) inside)
+-- what goes next is lost first of all, and begins below the greatest offset
+pub least_at : (v b : Buffered) → v ≡ b → IsBuffered v → (a : ℕ) → a ≡ next_start b → (k : ℕ) → Has v.lost k → a ≤ k
+least_at v b e h a at k x =
+    let le = first_is_least v.lost (record { start = v.unsent; end = written v }) k h.lost x in
+    subst (λ n. n ≤ k) (sym (at ∙ ap (λ (w : Buffered). next_start w) (sym e))) le
+
+pub start_small : (v b : Buffered) → v ≡ b → IsBuffered v → (a : ℕ) → a ≡ next_start b → a < 2 ^ 62
+start_small v b e h a at =
+    let le = next_ordered v h in
+    let lt = next_bounded v h in
+    let small = h.small in
+    subst (λ n. n < 2 ^ 62) (sym (at ∙ ap (λ (w : Buffered). next_start w) (sym e))) (omega (arith, le, lt, small))
 
 -- where nothing is lost, what goes was never sent
 pub first_time : (b : Buffered) (most : ℕ) → b.lost ≡ [] → after_poll b most ≡ record b { unsent = sent_end b most }

@@ -22,3 +22,7 @@ pub mod Joining
 pub mod Extent
 pub mod ArrivedHistory
 pub mod BufferedHistory
+pub mod Loose
+pub mod LooseSteps
+pub mod OffsetSet
+pub mod OffsetCalls

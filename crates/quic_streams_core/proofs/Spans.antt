@@ -153,7 +153,7 @@ or_swap true false x = refl
 or_swap false true x = refl
 or_swap false false x = refl
 
-join : (o a b c : ℕ) (x : Bool) → a ≤ b → b ≤ c → (in_span o (c, a) || x) ≡ (in_span o (b, a) || (in_span o (c, b) || x))
+pub join : (o a b c : ℕ) (x : Bool) → a ≤ b → b ≤ c → (in_span o (c, a) || x) ≡ (in_span o (b, a) || (in_span o (c, b) || x))
 join o a b c x l m = go (ltb o a) (ltb o b) (ltb o c) refl refl refl
   where
     go : (p q r : Bool) → ltb o a ≡ p → ltb o b ≡ q → ltb o c ≡ r → ((not p && r) || x) ≡ ((not p && q) || ((not q && r) || x))

@@ -13,9 +13,9 @@ use Rattle.quic_streams_core.proofs.Filled.{none_below, not_at}
 use Rattle.quic_streams_core.proofs.First.{at_itself}
 use Rattle.quic_streams_core.proofs.Steps.{some_taken, free_fits}
 
-pub undone_last : (ks : List ℕ) (k : ℕ) (ps : List Part) → undone (ks ++ k ∷ []) ps ≡ undone ks (remove_entry (is_at (nat_cmp k)) ps)
+pub undone_last : {X : Type 0} (ks : List ℕ) (k : ℕ) (ps : List (ℕ × X)) → undone (ks ++ k ∷ []) ps ≡ undone ks (remove_entry (is_at (nat_cmp k)) ps)
 undone_last [] k ps = refl
-undone_last (j ∷ ks) k ps = ap (λ (qs : List Part). remove_entry (is_at (nat_cmp j)) qs) (undone_last ks k ps)
+undone_last {X = X} (j ∷ ks) k ps = ap (λ (qs : List (ℕ × X)). remove_entry (is_at (nat_cmp j)) qs) (undone_last ks k ps)
 
 -- what has no such key stays
 pub absent : {X : Type 0} (test : ℕ → Bool) (es : List (ℕ × X)) → lookup test es ≡ None → remove_entry test es ≡ es
@@ -67,5 +67,5 @@ put_none at len n olds news a ps ns bs held v h l b t e k p is =
     rw (p, is, ← v) (undone_last olds (at + n) ps ∙ ap (λ (qs : List Part). undone olds qs) (absent (is_at (nat_cmp (at + n))) ps new))
 
 -- one more part is taken out
-pub undone_more : (olds news : List ℕ) (k : ℕ) (ps ns : List Part) → olds ≡ news ++ k ∷ [] → ns ≡ remove_entry (is_at (nat_cmp k)) ps → undone news ns ≡ undone olds ps
+pub undone_more : {X : Type 0} (olds news : List ℕ) (k : ℕ) (ps ns : List (ℕ × X)) → olds ≡ news ++ k ∷ [] → ns ≡ remove_entry (is_at (nat_cmp k)) ps → undone news ns ≡ undone olds ps
 undone_more olds news k ps ns e is = rw (e, is) (sym (undone_last news k ps))

@@ -7,3 +7,4 @@ pub mod Inside
 pub mod Source
 pub mod ArrivedHistory
 pub mod BufferedHistory
+pub mod Loose

@@ -64,8 +64,8 @@ abbrev pub cuts_front : List Part → ℕ → Bool
 cuts_front [] most = false
 cuts_front (p ∷ ps) most = ltb most (length p.1)
 
--- the parts without those that end at some offsets
-abbrev pub undone : List ℕ → List Part → List Part
+-- the parts, or runs, without those that end at some offsets
+abbrev pub undone : {X : Type 0} → List ℕ → List (ℕ × X) → List (ℕ × X)
 undone [] ps = ps
 undone (k ∷ ks) ps = remove_entry (is_at (nat_cmp k)) (undone ks ps)
 

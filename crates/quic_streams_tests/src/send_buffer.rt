@@ -90,3 +90,35 @@ fn whole_pieces_are_dropped(rt: HostRuntime) -> Result<(), Fail> {
     ];
     run(&rt, &steps)
 }
+
+// Offsets are acknowledged and lost here and there: runs come to be two, and two come to be one.
+#[test]
+fn runs_are_cut_and_joined(rt: HostRuntime) -> Result<(), Fail> {
+    let steps = [
+        Write(b"012345678901234567890123456789012345678901234567890123456789"),
+        Send(0, 16, false),
+        Send(16, 31, false),
+        Send(31, 46, false),
+        Send(46, 53, true),
+        Send(53, 60, true),
+        Ack(20, 25),
+        Ack(40, 50),
+        Lose(0, 60),
+        Ack(30, 35),
+        Send(0, 16, false),
+        Send(16, 20, true),
+        Send(25, 30, true),
+        Send(35, 40, true),
+        Send(50, 57, true),
+        Lose(18, 27),
+        Lose(16, 18),
+        Send(16, 20, true),
+        Send(25, 27, true),
+        Send(57, 60, true),
+        Ack(0, 40),
+        Keep(60),
+        Ack(50, 64),
+        Keep(0),
+    ];
+    run(&rt, &steps)
+}

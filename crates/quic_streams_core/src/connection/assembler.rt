@@ -3,8 +3,8 @@ ghost use Rattle.std.specs.Prelude.{◌≡◌, ◌+◌, ◌<◌, ◌≤◌, ◌^
 ghost use Rattle.quic_streams_core.specs.Arrived.{IsLawful, byte_at, bytes_read_of, runs_of, after_insert, is_next_in, given_in, given_by, after_read_in, after_read, after_ordering, cuts};
 
 mod parts;
-mod spans;
 
+use super::spans;
 use bytes::Bytes;
 use parts::Parts;
 use std::alloc::{AllocError, Global};

@@ -3,7 +3,7 @@ ghost use Rattle.std.specs.Prelude.{◌≡◌, ◌+◌, ◌-◌, ◌≤◌, ◌<
 ghost use Rattle.quic_streams_core.specs.Offsets.{first_lacking, without_offsets};
 ghost use Rattle.quic_streams_core.specs.Buffered.{Buffered, IsBuffered, nothing_written, written, is_fully_acked, has_unsent, piece_of, after_write, after_ack, after_loss, after_poll, offset_width, next_range, next_start, writes_length, sent_end, passed, pieces_behind, first_passed};
 
-use quic_wire_core::RangeSet;
+use super::offset_set::OffsetSet;
 use std::alloc::{AllocError, Global};
 use std::collections::VecDeque;
 use std::marker::Model;
@@ -25,8 +25,8 @@ pub struct SendBuffer {
     base: u64,
     // The first offset that was never sent.
     unsent: u64,
-    acked: RangeSet,
-    lost: RangeSet,
+    acked: OffsetSet,
+    lost: OffsetSet,
 }
 
 impl Model for SendBuffer {
@@ -73,10 +73,10 @@ fn append_piece(
 }
 
 // The first offset that isn't in the set.
-fn first_lacking_of(set: &RangeSet) -> u64
+fn first_lacking_of(set: &OffsetSet) -> u64
     ensures { result ≡ first_lacking set.now }
 {
-    match set.peek_min() {
+    match set.first() {
         Some(run) if run.start == 0 => run.end,
         _ => 0,
     }
@@ -138,8 +138,8 @@ impl SendBuffer {
             pieces: VecDeque::new(alloc),
             base: 0,
             unsent: 0,
-            acked: RangeSet::new(alloc),
-            lost: RangeSet::new(alloc),
+            acked: OffsetSet::new(alloc),
+            lost: OffsetSet::new(alloc),
         }
     }
 
@@ -235,17 +235,17 @@ impl SendBuffer {
         ensures lawful { IsBuffered self.now }
     {
         let unsent = self.unsent..self.offset();
-        self.lost.peek_min().unwrap_or(unsent)
+        self.lost.first().unwrap_or(unsent)
     }
 
-    // What goes was sent, and is lost no longer. The front of a lost run is cut off, which needs no memory.
+    // What goes was sent, and is lost no longer. The front of a lost run is taken out, which needs no memory.
     fn mark_sent(&mut self, range: Range<u64>)
         requires start { range.start ≡ next_start self.old }
         requires bounded { range.end ≤ written self.old }
         ensures { self.new ≡ record self.old { unsent = max self.old.unsent range.end; lost = without_offsets range.start range.end self.old.lost } }
     {
         self.unsent = self.unsent.max(range.end);
-        self.lost.remove(range).unwrap();
+        self.lost.remove_first(range);
     }
 
     /// Takes the next bytes to send, of a STREAM frame (RFC 9000, 19.8) with `max_len` bytes of room behind its type and

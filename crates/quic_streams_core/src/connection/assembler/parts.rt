@@ -8,7 +8,8 @@ ghost use Rattle.quic_streams_core.specs.Arrived.{AreApart, runs_of, with_gaps, 
 ghost use Rattle.quic_streams_core.specs.Spans.{AreSpans};
 ghost use Rattle.quic_streams_core.specs.PartSteps.{first_bytes, rest_of, front_of, cuts_front, after, span_of, is_held, held_at, gap_at, begins_at, Fits, undone, touching_at, from_after};
 
-use super::{Chunk, spans};
+use super::Chunk;
+use crate::connection::spans;
 use bytes::Bytes;
 use std::alloc::{AllocError, Global};
 use std::collections::BTreeMap;

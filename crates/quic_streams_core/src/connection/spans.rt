@@ -11,7 +11,7 @@ use std::alloc::AllocError;
 use std::collections::BTreeMap;
 
 // Where the first run that ends behind an offset begins and ends.
-fn next_after(spans: &BTreeMap<u64, u64>, at: u64) -> Option<(u64, u64)>
+pub(super) fn next_after(spans: &BTreeMap<u64, u64>, at: u64) -> Option<(u64, u64)>
     requires { at < 2 ^ 62 }
     ensures { result ≡ option_map ends_of (next_span at spans.now.entries) }
 {
@@ -23,7 +23,7 @@ fn next_after(spans: &BTreeMap<u64, u64>, at: u64) -> Option<(u64, u64)>
 }
 
 /// Whether an offset is in the set, and how many of `len` offsets from it on are as it.
-pub(crate) fn look(spans: &BTreeMap<u64, u64>, at: u64, len: u64) -> (bool, u64)
+pub(super) fn look(spans: &BTreeMap<u64, u64>, at: u64, len: u64) -> (bool, u64)
     requires { at + len < 2 ^ 62 }
     ensures held { result.0 ≡ is_spanned at (next_span at spans.now.entries) }
     ensures count { result.1 ≡ cond result.0 (spanned_at at len (next_span at spans.now.entries)) (free_at at len (next_span at spans.now.entries)) }
@@ -41,7 +41,7 @@ pub(crate) fn look(spans: &BTreeMap<u64, u64>, at: u64, len: u64) -> (bool, u64)
 }
 
 // Where the run that ends at an offset begins, or else that offset.
-fn begin_of(spans: &BTreeMap<u64, u64>, start: u64) -> u64
+pub(super) fn begin_of(spans: &BTreeMap<u64, u64>, start: u64) -> u64
     ensures { result ≡ first_from start spans.now.entries }
 {
     match spans.get(&start) {
@@ -51,7 +51,7 @@ fn begin_of(spans: &BTreeMap<u64, u64>, start: u64) -> u64
 }
 
 // Where the run that begins at an offset ends, or else that offset.
-fn finish_of(spans: &BTreeMap<u64, u64>, end: u64) -> u64
+pub(super) fn finish_of(spans: &BTreeMap<u64, u64>, end: u64) -> u64
     requires { end < 2 ^ 62 }
     ensures { result ≡ end_from end (next_span end spans.now.entries) }
 {
@@ -62,7 +62,7 @@ fn finish_of(spans: &BTreeMap<u64, u64>, end: u64) -> u64
 }
 
 // Keeps a run that ends at `end`.
-fn keep(spans: &mut BTreeMap<u64, u64>, end: u64, start: u64) -> Result<(), AllocError>
+pub(super) fn keep(spans: &mut BTreeMap<u64, u64>, end: u64, start: u64) -> Result<(), AllocError>
     ensures ok { OnOk result (spans.new.entries ≡ insert_entry nat_cmp spans.old.entries end start) }
     ensures err { OnErr result (spans.new.entries ≡ spans.old.entries) }
 {
@@ -71,7 +71,7 @@ fn keep(spans: &mut BTreeMap<u64, u64>, end: u64, start: u64) -> Result<(), Allo
 }
 
 // Takes out the run that ends at `end`.
-fn remove(spans: &mut BTreeMap<u64, u64>, end: u64)
+pub(super) fn remove(spans: &mut BTreeMap<u64, u64>, end: u64)
     ensures { spans.new.entries ≡ remove_entry (is_at (nat_cmp end)) spans.old.entries }
 {
     let _ = spans.remove(&end);
@@ -95,7 +95,7 @@ fn add_run(spans: &mut BTreeMap<u64, u64>, start: u64, end: u64) -> Result<(), A
 /// # Errors
 ///
 /// [`AllocError`] where memory lacks; nothing changed.
-pub(crate) fn add(spans: &mut BTreeMap<u64, u64>, at: u64, len: u64) -> Result<(), AllocError>
+pub(super) fn add(spans: &mut BTreeMap<u64, u64>, at: u64, len: u64) -> Result<(), AllocError>
     requires { at + len < 2 ^ 62 }
     ensures ok { OnOk result (spans.new.entries ≡ with_run at len spans.old.entries) }
     ensures err { OnErr result (spans.new.entries ≡ spans.old.entries) }

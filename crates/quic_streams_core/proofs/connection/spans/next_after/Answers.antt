@@ -1,7 +1,7 @@
 use Rattle.std.proofs.Common.{sym, ◌∙◌, refl}
 use Rattle.quic_streams_core.proofs.First.{from_next}
 use Rattle.quic_streams_core.proofs.Spans.{next_filter, next_filter_none}
-use Rattle.quic_streams_core.proofs.connection.assembler.spans.next_after.Goals as goal
+use Rattle.quic_streams_core.proofs.connection.spans.next_after.Goals as goal
 
 pub returns-in-Some : goal.returns-in-Some
 returns-in-Some c =

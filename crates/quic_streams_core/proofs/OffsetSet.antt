@@ -1,0 +1,193 @@
+-- A set of offsets as the calls of its map leave it.
+use Rattle.std.proofs.Common.{◌≡◌, ℕ, ◌+◌, ◌^◌, ◌<◌, ◌≤◌, ◌==◌, leb, List, [], ◌∷◌, ◌++◌, length, Bool, true, false, not, ◌&&◌, ◌||◌, cond, Some, None, Option, refl, sym, ap, ◌∙◌, subst, arith, ◌⊎◌, inl, inr}
+use Rattle.std.specs.Ordering.{nat_cmp}
+use Rattle.std.specs.Cmp.{unsigned_tied}
+use Rattle.std.specs.Option.{unwrap_or, option_map}
+use Rattle.std.specs.Result.{OnOk, OnErr}
+use Rattle.std.specs.declared.result.Result.{Result}
+use Rattle.std.specs.declared.result.Result.TheVariants.{Ok, Err}
+use Rattle.std.specs.Map.{lookup, remove_entry, set_value}
+use Rattle.std.specs.BTreeMap.{insert_entry, is_at}
+use Rattle.std.proofs.lemmas.Bool.{or_parts, eqb-true, leb-true, leb-false}
+use Rattle.quic_streams_core.specs.Spans.{Span, in_span, in_spans, next_span, ends_of, is_spanned, spanned_at, free_at, first_from, end_from}
+use Rattle.quic_streams_core.specs.Loose.{LieWithin, greatest, AreLoose, IsCut, FitsRun, inside_at}
+use Rattle.quic_streams_core.specs.PartSteps.{undone}
+use Rattle.quic_streams_core.proofs.Free.{look_some}
+use Rattle.quic_streams_core.proofs.Loose.{lie_up, span_is}
+use Rattle.quic_streams_core.proofs.LooseSteps.{and_true, and_false, look_as, put_free, taken_at, front_at, BeginsPast, none_from, Joined, joined}
+use Rattle.quic_streams_core.proofs.Undone.{undone_last, absent, taken_out}
+
+-- ---- one entry
+pub set_absent : {X : Type 0} (test : ℕ → Bool) (es : List (ℕ × X)) (w : X) → None ≡ lookup test es → es ≡ set_value test es w
+set_absent test [] w e = refl
+set_absent {X = X} test (x ∷ es) w e = go (test x.0) e (set_absent test es w)
+  where
+    go : (b : Bool) → None ≡ cond b (Some x.1) (lookup test es) → (None ≡ lookup test es → es ≡ set_value test es w) → x ∷ es ≡ cond b ((x.0, w) ∷ es) (x ∷ set_value test es w)
+    go true e ih = cc
+    go false e ih = ap (λ (qs : List (ℕ × X)). x ∷ qs) (ih e)
+
+-- a run that is put in, or lacks the memory for it, is taken out again
+pub run_back : {A E : Type 0} (r : Result A E) (k v : ℕ) (es ns : List Span) (olds news : List ℕ) → lookup (is_at (nat_cmp k)) es ≡ None → news ≡ olds ++ k ∷ [] → OnOk r (ns ≡ insert_entry nat_cmp es k v) → OnErr r (ns ≡ es) → undone news ns ≡ undone olds es
+run_back (Ok x) k v es ns olds news none e ok err = rw (e, ok) (undone_last olds k (insert_entry nat_cmp es k v) ∙ ap (λ (qs : List Span). undone olds qs) (taken_out k v es none))
+run_back (Err x) k v es ns olds news none e ok err = rw (e, err) (undone_last olds k es ∙ ap (λ (qs : List Span). undone olds qs) (absent (is_at (nat_cmp k)) es none))
+
+-- ---- offsets that neither set has, or that one has
+pub record Looked (at len : ℕ) (os es : List Span) (other : Bool) (most : ℕ) (held : Bool) (n : ℕ) : Type 0 where
+  pub others : AreLoose os
+  pub loose : AreLoose es
+  pub some : 0 < len
+  pub small : at + len < 2 ^ 62
+  pub other_is : other ≡ is_spanned at (next_span at os)
+  pub most_is : most ≡ cond other (spanned_at at len (next_span at os)) (free_at at len (next_span at os))
+  pub held_is : held ≡ is_spanned at (next_span at es)
+  pub count_is : n ≡ cond held (spanned_at at most (next_span at es)) (free_at at most (next_span at es))
+
+pub counts : {at len : ℕ} {os es : List Span} {other : Bool} {most : ℕ} {held : Bool} {n : ℕ} → Looked at len os es other most held n → (0 < n) × (n ≤ most) × (most ≤ len)
+counts {at} {len} {os} {es} {other} {most} {held} {n} m =
+    let a = look_some at most len os other m.some m.other_is m.most_is in
+    let b = look_some at n most es held a.0 m.held_is m.count_is in
+    (b.0, b.1, a.1)
+
+pub fits : {at len : ℕ} {os es : List Span} {other : Bool} {most : ℕ} {held : Bool} {n : ℕ} → Looked at len os es other most held n → (other || held) ≡ false → FitsRun at (at + n) es
+fits {at} {len} {os} {es} {other} {most} {held} {n} m e =
+    let none = (or_parts other held e).1 in
+    let k = counts m in
+    let s = m.small in
+    put_free at most n es m.loose (sym none ∙ m.held_is) (m.count_is ∙ ap (λ b. cond b (spanned_at at most (next_span at es)) (free_at at most (next_span at es))) none) k.0 k.1 (omega (arith, s, k.2))
+
+pub put_has : {at len : ℕ} {os es : List Span} {other : Bool} {most : ℕ} {held : Bool} {n : ℕ} (ns : List Span) → Looked at len os es other most held n → (other || held) ≡ false → ((o : ℕ) → in_spans ns o ≡ (in_spans es o || in_span o (at + n, at))) → (o : ℕ) → in_spans ns o ≡ (in_spans es o || (in_span o (at + n, at) && not (in_spans os o)))
+put_has {at} {len} {os} {es} {other} {most} {held} {n} ns m e has o = has o ∙ ap (λ b. in_spans es o || b) (go (in_span o (at + n, at)) refl)
+  where
+    go : (b : Bool) → in_span o (at + n, at) ≡ b → b ≡ (b && not (in_spans os o))
+    go true q =
+        let i = span_is o (at + n, at) q in
+        let k = counts m in
+        let none = look_as at len most o os other m.others m.other_is m.most_is i.0 (omega (arith, i.1, k.1)) ∙ (or_parts other held e).0 in
+        rw none refl
+    go false q = refl
+
+pub skip_has : {at len : ℕ} {os es : List Span} {other : Bool} {most : ℕ} {held : Bool} {n : ℕ} → Looked at len os es other most held n → (other || held) ≡ true → (o : ℕ) → in_spans es o ≡ (in_spans es o || (in_span o (at + n, at) && not (in_spans os o)))
+skip_has {at} {len} {os} {es} {other} {most} {held} {n} m e o = go (in_span o (at + n, at)) refl
+  where
+    whole : (x y : Bool) → (y ≡ true) ⊎ (x ≡ true) → x ≡ (x || not y)
+    whole true y e = refl
+    whole false true e = refl
+    whole false false e = elim e [ inl q ↦ q | inr q ↦ q ]
+
+    none : (x : Bool) → x ≡ (x || false)
+    none true = refl
+    none false = refl
+
+    either : (x y : Bool) → (x || y) ≡ true → (x ≡ true) ⊎ (y ≡ true)
+    either true y e = inl refl
+    either false y e = inr e
+
+    go : (b : Bool) → in_span o (at + n, at) ≡ b → in_spans es o ≡ (in_spans es o || (b && not (in_spans os o)))
+    go true q =
+        let i = span_is o (at + n, at) q in
+        let k = counts m in
+        let same = look_as at len most o os other m.others m.other_is m.most_is i.0 (omega (arith, i.1, k.1)) in
+        let own = look_as at most n o es held m.loose m.held_is m.count_is i.0 i.1 in
+        whole (in_spans es o) (in_spans os o) (elim (either other held e) [ inl x ↦ inl (same ∙ x) | inr x ↦ inr (own ∙ x) ])
+    go false q = none (in_spans es o)
+
+-- ---- runs that touch
+some_at : (at : ℕ) (x : Option ℕ) → unwrap_or x at < at → x ≡ Some (unwrap_or x at)
+some_at at None l = absurd (omega (arith, l))
+some_at at (Some y) l = refl
+
+next_at : (at : ℕ) (x : Option Span) → at < end_from at x → x ≡ Some (end_from at x, at)
+next_at at None l = absurd (omega (arith, l))
+next_at at (Some g) l = go (g.1 == at) refl l
+  where
+    go : (b : Bool) → (g.1 == at) ≡ b → at < cond b g.0 at → Some g ≡ Some (cond b g.0 at, at)
+    go true q l = ap (λ (n : ℕ). Some (g.0, n)) (eqb-true g.1 at q)
+    go false q l = absurd (omega (arith, l))
+
+pub join_is : (at first last : ℕ) (es : List Span) → AreLoose es → first ≡ first_from at es → last ≡ end_from at (next_span at es) → first < at → at < last → Joined 0 greatest at first last es
+join_is at first last es h f e l m =
+    let a : lookup (is_at (nat_cmp at)) es ≡ Some first = some_at at (lookup (is_at (nat_cmp at)) es) (subst (λ n. n < at) f l) ∙ ap (λ (n : ℕ). Some n) (sym f) in
+    let b : next_span at es ≡ Some (last, at) = next_at at (next_span at es) (subst (λ n. at < n) e m) ∙ ap (λ (n : ℕ). Some (n, at)) (sym e) in
+    joined 0 greatest at first last es h a b
+
+ends_small : (low high k v : ℕ) (es : List Span) → LieWithin low es high → lookup (is_at (nat_cmp k)) es ≡ Some v → k ≤ high
+ends_small low high k v [] h e = cc
+ends_small low high k v (g ∷ gs) h e = go (is_at (nat_cmp k) g.0) refl e (ends_small g.0 high k v gs h.2)
+  where
+    go : (b : Bool) → is_at (nat_cmp k) g.0 ≡ b → cond b (Some g.1) (lookup (is_at (nat_cmp k)) gs) ≡ Some v → (lookup (is_at (nat_cmp k)) gs ≡ Some v → k ≤ high) → k ≤ high
+    go true q e ih = let same = eqb-true k g.0 (sym (unsigned_tied k g.0) ∙ q) in let up = lie_up g.0 high gs h.2 in omega (arith, same, up)
+    go false q e ih = ih e
+
+pub run_small : (end : ℕ) (es : List Span) → AreLoose es → first_from end es < end → end < 2 ^ 62
+run_small end es h l = let k = ends_small 0 greatest end (first_from end es) es h (some_at end (lookup (is_at (nat_cmp end)) es) l) in omega (arith, k)
+
+-- ---- the next run
+pub next_is : (s e : ℕ) (x : Option Span) → Some (s, e) ≡ option_map ends_of x → x ≡ Some (e, s)
+next_is s e None q = cc
+next_is s e (Some g) q =
+    let a : s ≡ g.1 = ap (λ (o : Option (ℕ × ℕ)). unwrap_or (option_map (λ (p : ℕ × ℕ). p.0) o) 0) q in
+    let b : e ≡ g.0 = ap (λ (o : Option (ℕ × ℕ)). unwrap_or (option_map (λ (p : ℕ × ℕ). p.1) o) 0) q in
+    rw (a, b) refl
+
+inside_is : (end last : ℕ) (x : Option Span) → Some last ≡ inside_at end x → (g : Span) × (x ≡ Some g) × (g.0 ≡ last) × (g.0 ≤ end)
+inside_is end last None e = cc
+inside_is end last (Some g) e = go (leb g.0 end) refl e
+  where
+    go : (b : Bool) → leb g.0 end ≡ b → Some last ≡ cond b (Some g.0) None → (h : Span) × (Some g ≡ Some h) × (h.0 ≡ last) × (h.0 ≤ end)
+    go true q e = (g, refl, sym (ap (λ (o : Option ℕ). unwrap_or o 0) e), leb-true g.0 end q)
+    go false q e = cc
+
+inside_not : (end : ℕ) (g : Span) → inside_at end (Some g) ≡ None → end < g.0
+inside_not end g e = go (leb g.0 end) refl e
+  where
+    go : (b : Bool) → leb g.0 end ≡ b → cond {A = Option ℕ} b (Some g.0) None ≡ None → end < g.0
+    go true q e = cc
+    go false q e = leb-false g.0 end q
+
+-- ---- the offsets of a range are taken out
+pub record Dropped (start end : ℕ) (es ns : List Span) : Type 0 where
+  pub loose : AreLoose ns
+  pub out : (o : ℕ) → in_span o (end, start) ≡ false → in_spans ns o ≡ in_spans es o
+  pub cut : IsCut start (next_span start ns)
+  pub less : length ns < length es
+
+pub drop_step : (start end last : ℕ) (es ns : List Span) → AreLoose es → IsCut start (next_span start es) → Some last ≡ inside_at end (next_span start es) → ns ≡ remove_entry (is_at (nat_cmp last)) es → Dropped start end es ns
+drop_step start end last es ns h c e is =
+    let f = inside_is end last (next_span start es) e in
+    let g = f.0 in
+    let t = taken_at start end g es h f.1 (subst (IsCut start) f.1 c) f.3 in
+    let same : ns ≡ remove_entry (is_at (nat_cmp g.0)) es = is ∙ ap (λ (k : ℕ). remove_entry (is_at (nat_cmp k)) es) (sym f.2) in
+    subst (λ (gs : List Span). Dropped start end es gs) (sym same) (record { loose = t.loose; out = t.out; cut = t.cut; less = t.less })
+
+pub record Emptied (start end : ℕ) (os es : List Span) : Type 0 where
+  pub loose : AreLoose es
+  pub cut : IsCut start (next_span start es)
+  pub out : (o : ℕ) → in_span o (end, start) ≡ false → in_spans es o ≡ in_spans os o
+  pub none_inside : inside_at end (next_span start es) ≡ None
+
+take_rest : (start end : ℕ) (os es : List Span) → Emptied start end os es → BeginsPast end (next_span start es) → (o : ℕ) → in_spans es o ≡ (in_spans os o && not (in_span o (end, start)))
+take_rest start end os es m b o = go (in_span o (end, start)) refl
+  where
+    go : (c : Bool) → in_span o (end, start) ≡ c → in_spans es o ≡ (in_spans os o && not c)
+    go true q = let i = span_is o (end, start) q in none_from start end o es m.loose b i.0 i.1 ∙ sym (and_false (in_spans os o))
+    go false q = m.out o q ∙ sym (and_true (in_spans os o))
+
+pub take_none : (start end : ℕ) (os es : List Span) → Emptied start end os es → None ≡ option_map ends_of (next_span start es) → (o : ℕ) → in_spans es o ≡ (in_spans os o && not (in_span o (end, start)))
+take_none start end os es m e = take_rest start end os es m (go (next_span start es) e)
+  where
+    go : (x : Option Span) → None ≡ option_map ends_of x → BeginsPast end x
+    go None e = tt
+    go (Some g) e = cc
+
+pub take_past : (start end first last : ℕ) (os es : List Span) → Emptied start end os es → Some (first, last) ≡ option_map ends_of (next_span start es) → end ≤ first → (o : ℕ) → in_spans es o ≡ (in_spans os o && not (in_span o (end, start)))
+take_past start end first last os es m e l = take_rest start end os es m (subst (BeginsPast end) (sym (next_is first last (next_span start es) e)) l)
+
+pub take_front : (start end first last : ℕ) (os es ns : List Span) → Emptied start end os es → Some (first, last) ≡ option_map ends_of (next_span start es) → first < end → ns ≡ set_value (is_at (nat_cmp last)) es end → AreLoose ns × ((o : ℕ) → in_spans ns o ≡ (in_spans os o && not (in_span o (end, start))))
+take_front start end first last os es ns m e l is =
+    let n = next_is first last (next_span start es) e in
+    let f = front_at start end (last, first) es m.loose n (subst (IsCut start) n m.cut) l (inside_not end (last, first) (sym (ap (inside_at end) n) ∙ m.none_inside)) in
+    (rw is f.loose, λ o. ap (λ (gs : List Span). in_spans gs o) is ∙ f.has o ∙ go o (in_span o (end, start)) refl)
+  where
+    go : (o : ℕ) (c : Bool) → in_span o (end, start) ≡ c → (in_spans es o && not c) ≡ (in_spans os o && not c)
+    go o true q = and_false (in_spans es o) ∙ sym (and_false (in_spans os o))
+    go o false q = ap (λ b. b && true) (m.out o q)

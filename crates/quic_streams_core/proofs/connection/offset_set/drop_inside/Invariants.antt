@@ -1,0 +1,14 @@
+use Rattle.std.proofs.Common.{◌≡◌, ℕ, length, false}
+use Rattle.quic_streams_core.specs.Spans.{in_span, in_spans, next_span}
+use Rattle.quic_streams_core.specs.Loose.{AreLoose, IsCut}
+use Rattle.quic_streams_core.proofs.connection.offset_set.drop_inside.Given as goal
+
+abbrev pub invariant-loop-last : goal.invariant-loop-last
+invariant-loop-last l = record {
+  loose : AreLoose l.spans.entries;
+  cut : IsCut l.start (next_span l.start l.spans.entries);
+  out : (o : ℕ) → in_span o (l.end, l.start) ≡ false → in_spans l.spans.entries o ≡ in_spans l.fn.spans.entries o;
+}
+
+abbrev pub decreases-loop-last : goal.decreases-loop-last
+decreases-loop-last l = length l.spans.entries

@@ -1,0 +1,7 @@
+use Rattle.quic_streams_core.proofs.OffsetSet.{run_back}
+use Rattle.quic_streams_core.proofs.connection.offset_set.put_run.Goals as goal
+
+pub returns-clause-back : goal.returns-clause-back
+returns-clause-back c =
+    let a = c.args in
+    run_back c.keep.result a.end a.at a.spans.now.entries c.keep.new.spans.entries a.ends.now.items c.push.new.self.items c.requires.absent c.in_ok-push.ensures.items c.keep.ensures.ok c.keep.ensures.err

@@ -1,0 +1,25 @@
+use Rattle.quic_streams_core.proofs.OffsetSet.{next_is}
+use Rattle.quic_streams_core.proofs.LooseSteps.{cut_at}
+use Rattle.quic_streams_core.specs.Spans.{next_span}
+use Rattle.quic_streams_core.proofs.connection.offset_set.split.Goals as goal
+
+pub returns-in_ok-keep-clause-loose : goal.returns-in_ok-keep-clause-loose
+returns-in_ok-keep-clause-loose c =
+    let a = c.args in
+    let g = next_is c.in-Some.start c.in-Some.end (next_span a.at a.spans.now.entries) c.in-Some.ensures in
+    let k = cut_at a.at (c.in-Some.end, c.in-Some.start) a.spans.now.entries c.requires.loose g c.if-start-at.true in
+    rw (c.set_start.ensures, c.in_ok-keep.ensures.ok) k.loose
+
+pub returns-in_ok-keep-clause-offsets : goal.returns-in_ok-keep-clause-offsets
+returns-in_ok-keep-clause-offsets c =
+    let a = c.args in
+    let g = next_is c.in-Some.start c.in-Some.end (next_span a.at a.spans.now.entries) c.in-Some.ensures in
+    let k = cut_at a.at (c.in-Some.end, c.in-Some.start) a.spans.now.entries c.requires.loose g c.if-start-at.true in
+    λ o. rw (c.set_start.ensures, c.in_ok-keep.ensures.ok) (k.has o)
+
+pub returns-in_ok-keep-clause-cut : goal.returns-in_ok-keep-clause-cut
+returns-in_ok-keep-clause-cut c =
+    let a = c.args in
+    let g = next_is c.in-Some.start c.in-Some.end (next_span a.at a.spans.now.entries) c.in-Some.ensures in
+    let k = cut_at a.at (c.in-Some.end, c.in-Some.start) a.spans.now.entries c.requires.loose g c.if-start-at.true in
+    rw (c.set_start.ensures, c.in_ok-keep.ensures.ok) k.cut

@@ -1,0 +1,408 @@
+// A set of offsets as runs in an ordered map, from the offset behind a run to its first: so the run that holds an offset,
+// and those that touch one, are found by one look-up each.
+ghost use Rattle.std.specs.Prelude.{◌≡◌, ℕ, ◌+◌, ◌<◌, ◌≤◌, ◌^◌, [], length, not, ◌&&◌, ◌||◌, ◌↔◌, None, true, false, IsTrue, IfOk, IfSome, OnOk, OnErr, slice_get};
+ghost use Rattle.std.specs.Map.{set_value};
+ghost use Rattle.std.specs.BTreeMap.{is_at};
+ghost use Rattle.std.specs.Ordering.{nat_cmp};
+ghost use Rattle.quic_wire_core.specs.Runs.{Has, AreRuns, Adds, Drops};
+ghost use Rattle.quic_wire_core.specs.Lacking.{AddsLacking};
+ghost use Rattle.quic_streams_core.specs.Spans.{in_span, in_spans, next_span, is_spanned};
+ghost use Rattle.quic_streams_core.specs.Loose.{AreLoose, IsCut, FitsRun, inside_at, held_end, IsReach, maximal};
+ghost use Rattle.quic_streams_core.specs.PartSteps.{undone};
+
+use super::spans::{begin_of, finish_of, keep, look, next_after, remove};
+use std::alloc::{AllocError, Global};
+use std::collections::BTreeMap;
+use std::marker::Model;
+use std::ops::Range;
+
+/// A set of offsets of a stream. Contracts see the list of its maximal runs.
+#[derive(Drop)]
+pub(crate) struct OffsetSet {
+    // Runs are joined by the call that makes them touch. They are left apart only where one was cut in two, and memory lacked
+    // then.
+    map: BTreeMap<u64, u64>,
+    alloc: Global,
+}
+
+impl Model for OffsetSet {
+    ghost use Rattle.std.specs.Prelude.{List};
+    ghost use Rattle.quic_wire_core.specs.Runs.{Run};
+    ghost use Rattle.quic_streams_core.specs.Loose.{AreLoose, maximal};
+
+    ghost Value = { List Run };
+
+    ghost view = { λ s. maximal s.map.entries };
+
+    ghost invariant = { λ s. AreLoose s.map.entries };
+}
+
+// Lets the run that ends at `end` begin at `start`.
+fn set_start(spans: &mut BTreeMap<u64, u64>, end: u64, start: u64)
+    ensures { spans.new.entries ≡ set_value (is_at (nat_cmp end)) spans.old.entries start }
+{
+    if let Some(first) = spans.get_mut(&end) {
+        *first = start;
+    }
+}
+
+// Puts in a run where the set has no offset, and notes where it ends, so that it can be taken out again.
+fn put_run(
+    spans: &mut BTreeMap<u64, u64>,
+    at: u64,
+    end: u64,
+    ends: &mut Vec<u64>,
+) -> Result<(), AllocError>
+    requires { FitsRun at end spans.old.entries }
+    ensures loose { OnOk result (AreLoose spans.new.entries) }
+    ensures offsets { OnOk result ((o : ℕ) → in_spans spans.new.entries o ≡ in_spans spans.old.entries o || in_span o (end, at)) }
+    ensures back { undone ends.new.items spans.new.entries ≡ undone ends.old.items spans.old.entries }
+{
+    ends.push(end)?;
+    keep(spans, end, at)
+}
+
+// Puts in the offsets from `at` on that neither set has, or skips those that one has, and says how many these are.
+fn put_lacking(
+    spans: &mut BTreeMap<u64, u64>,
+    others: &BTreeMap<u64, u64>,
+    at: u64,
+    len: u64,
+    ends: &mut Vec<u64>,
+) -> Result<u64, AllocError>
+    requires loose { AreLoose spans.old.entries }
+    requires others { AreLoose others.now.entries }
+    requires some { 0 < len }
+    requires small { at + len < 2 ^ 62 }
+    ensures some { IfOk result (λ n. 0 < n) }
+    ensures within { IfOk result (λ n. n ≤ len) }
+    ensures loose { IfOk result (λ n. AreLoose spans.new.entries) }
+    ensures offsets { IfOk result (λ n. (o : ℕ) → in_spans spans.new.entries o ≡ in_spans spans.old.entries o || (in_span o (at + n, at) && not (in_spans others.now.entries o))) }
+    ensures back { undone ends.new.items spans.new.entries ≡ undone ends.old.items spans.old.entries }
+{
+    let (other, most) = look(others, at, len);
+    let (held, count) = look(spans, at, most);
+    if !(other | held) {
+        put_run(spans, at, at + count, ends)?;
+    }
+    Ok(count)
+}
+
+// Puts in the offsets of a range that neither set has, and notes where the new runs end.
+fn fill_lacking(
+    spans: &mut BTreeMap<u64, u64>,
+    others: &BTreeMap<u64, u64>,
+    start: u64,
+    end: u64,
+    ends: &mut Vec<u64>,
+) -> Result<(), AllocError>
+    requires loose { AreLoose spans.old.entries }
+    requires others { AreLoose others.now.entries }
+    requires ordered { start ≤ end }
+    requires small { end < 2 ^ 62 }
+    ensures loose { OnOk result (AreLoose spans.new.entries) }
+    ensures offsets { OnOk result ((o : ℕ) → in_spans spans.new.entries o ≡ in_spans spans.old.entries o || (in_span o (end, start) && not (in_spans others.now.entries o))) }
+    ensures back { undone ends.new.items spans.new.entries ≡ undone ends.old.items spans.old.entries }
+{
+    let mut at = start;
+    while at < end {
+        at += put_lacking(spans, others, at, end - at, ends)?;
+    }
+    Ok(())
+}
+
+// Takes out the runs that end at some offsets, the last first.
+fn remove_all(spans: &mut BTreeMap<u64, u64>, ends: &mut Vec<u64>)
+    ensures { spans.new.entries ≡ undone ends.old.items spans.old.entries }
+{
+    while let Some(end) = ends.pop() {
+        remove(spans, end);
+    }
+}
+
+// Joins the run that ends at an offset with the one that begins there.
+fn join_at(spans: &mut BTreeMap<u64, u64>, at: u64)
+    requires loose { AreLoose spans.old.entries }
+    requires small { at < 2 ^ 62 }
+    ensures loose { AreLoose spans.new.entries }
+    ensures offsets { (o : ℕ) → in_spans spans.new.entries o ≡ in_spans spans.old.entries o }
+{
+    let first = begin_of(spans, at);
+    let last = finish_of(spans, at);
+    if first < at && at < last {
+        set_start(spans, last, first);
+        remove(spans, at);
+    }
+}
+
+// Joins the run that ends at an offset with those that it touches.
+fn join_run(spans: &mut BTreeMap<u64, u64>, end: u64)
+    requires { AreLoose spans.old.entries }
+    ensures loose { AreLoose spans.new.entries }
+    ensures offsets { (o : ℕ) → in_spans spans.new.entries o ≡ in_spans spans.old.entries o }
+{
+    let start = begin_of(spans, end);
+    if start < end {
+        join_at(spans, start);
+        join_at(spans, end);
+    }
+}
+
+// Joins the runs that end at some offsets with those that they touch.
+fn join_all(spans: &mut BTreeMap<u64, u64>, ends: &mut Vec<u64>)
+    requires { AreLoose spans.old.entries }
+    ensures loose { AreLoose spans.new.entries }
+    ensures offsets { (o : ℕ) → in_spans spans.new.entries o ≡ in_spans spans.old.entries o }
+{
+    while let Some(end) = ends.pop() {
+        join_run(spans, end);
+    }
+}
+
+// Puts in the offsets of a range that neither set has. The memory is taken before runs are joined.
+fn add_lacking(
+    spans: &mut BTreeMap<u64, u64>,
+    others: &BTreeMap<u64, u64>,
+    start: u64,
+    end: u64,
+    alloc: Global,
+) -> Result<(), AllocError>
+    requires loose { AreLoose spans.old.entries }
+    requires others { AreLoose others.now.entries }
+    requires ordered { start ≤ end }
+    requires small { end < 2 ^ 62 }
+    ensures loose { AreLoose spans.new.entries }
+    ensures ok { OnOk result ((o : ℕ) → in_spans spans.new.entries o ≡ in_spans spans.old.entries o || (in_span o (end, start) && not (in_spans others.now.entries o))) }
+    ensures err { OnErr result (spans.new.entries ≡ spans.old.entries) }
+{
+    let mut ends = Vec::new(alloc);
+    let outcome = fill_lacking(spans, others, start, end, &mut ends);
+    if outcome.is_ok() {
+        join_all(spans, &mut ends);
+    } else {
+        remove_all(spans, &mut ends);
+    }
+    outcome
+}
+
+// Cuts the run in two that has offsets on both sides of one.
+fn split(spans: &mut BTreeMap<u64, u64>, at: u64) -> Result<(), AllocError>
+    requires loose { AreLoose spans.old.entries }
+    requires small { at < 2 ^ 62 }
+    ensures loose { AreLoose spans.new.entries }
+    ensures offsets { (o : ℕ) → in_spans spans.new.entries o ≡ in_spans spans.old.entries o }
+    ensures cut { OnOk result (IsCut at (next_span at spans.new.entries)) }
+{
+    if let Some((start, end)) = next_after(spans, at) {
+        if start < at {
+            keep(spans, at, start)?;
+            set_start(spans, end, at);
+        }
+    }
+    Ok(())
+}
+
+// Where the next run behind an offset ends, if it ends up to `end`.
+fn next_inside(spans: &BTreeMap<u64, u64>, start: u64, end: u64) -> Option<u64>
+    requires { start < 2 ^ 62 }
+    ensures { result ≡ inside_at end (next_span start spans.now.entries) }
+{
+    match next_after(spans, start) {
+        Some((_, last)) => { if last <= end { Some(last) } else { None } }
+        None => None,
+    }
+}
+
+// Takes out the runs of a range, where none has offsets on both sides of its first.
+fn drop_inside(spans: &mut BTreeMap<u64, u64>, start: u64, end: u64)
+    requires loose { AreLoose spans.old.entries }
+    requires cut { IsCut start (next_span start spans.old.entries) }
+    requires small { start < 2 ^ 62 }
+    ensures loose { AreLoose spans.new.entries }
+    ensures cut { IsCut start (next_span start spans.new.entries) }
+    ensures out { (o : ℕ) → in_span o (end, start) ≡ false → in_spans spans.new.entries o ≡ in_spans spans.old.entries o }
+    ensures none_inside { inside_at end (next_span start spans.new.entries) ≡ None }
+{
+    while let Some(last) = next_inside(spans, start, end) {
+        remove(spans, last);
+    }
+}
+
+// Takes out the offsets of a range, where no run has offsets on both sides of its first. This needs no memory.
+fn take_out(spans: &mut BTreeMap<u64, u64>, start: u64, end: u64)
+    requires loose { AreLoose spans.old.entries }
+    requires cut { IsCut start (next_span start spans.old.entries) }
+    requires small { start < 2 ^ 62 }
+    ensures loose { AreLoose spans.new.entries }
+    ensures offsets { (o : ℕ) → in_spans spans.new.entries o ≡ in_spans spans.old.entries o && not (in_span o (end, start)) }
+{
+    drop_inside(spans, start, end);
+    if let Some((first, last)) = next_after(spans, start) {
+        if first < end {
+            set_start(spans, last, end);
+        }
+    }
+}
+
+// Puts in the offsets of a range, and takes them out of another set. The memory for both is taken first.
+fn insert_from(
+    spans: &mut BTreeMap<u64, u64>,
+    x: Range<u64>,
+    others: &mut BTreeMap<u64, u64>,
+    alloc: Global,
+) -> Result<(), AllocError>
+    requires loose { AreLoose spans.old.entries }
+    requires others { AreLoose others.old.entries }
+    requires small { x.end < 2 ^ 62 }
+    ensures loose { AreLoose spans.new.entries }
+    ensures others_loose { AreLoose others.new.entries }
+    ensures ok { OnOk result (Adds (maximal spans.old.entries) (maximal spans.new.entries) x.start x.end) }
+    ensures others { OnOk result (Drops (maximal others.old.entries) (maximal others.new.entries) x.start x.end) }
+    ensures err { OnErr result (maximal spans.new.entries ≡ maximal spans.old.entries) }
+    ensures others_err { OnErr result (maximal others.new.entries ≡ maximal others.old.entries) }
+    ensures lacking { OnErr result (x.start < x.end) }
+{
+    if x.end <= x.start {
+        return Ok(());
+    }
+    let nothing = BTreeMap::new(alloc);
+    split(others, x.start)?;
+    add_lacking(spans, &nothing, x.start, x.end, alloc)?;
+    take_out(others, x.start, x.end);
+    Ok(())
+}
+
+// Puts in the offsets of a range that another set lacks.
+fn insert_lacking(
+    spans: &mut BTreeMap<u64, u64>,
+    x: Range<u64>,
+    others: &BTreeMap<u64, u64>,
+    alloc: Global,
+) -> Result<(), AllocError>
+    requires loose { AreLoose spans.old.entries }
+    requires others { AreLoose others.now.entries }
+    requires small { x.end < 2 ^ 62 }
+    ensures loose { AreLoose spans.new.entries }
+    ensures ok { OnOk result (AddsLacking (maximal spans.old.entries) (maximal others.now.entries) (maximal spans.new.entries) x.start x.end) }
+    ensures err { OnErr result (maximal spans.new.entries ≡ maximal spans.old.entries) }
+    ensures lacking { OnErr result (x.start < x.end) }
+{
+    if x.end <= x.start {
+        return Ok(());
+    }
+    add_lacking(spans, others, x.start, x.end, alloc)
+}
+
+// Where the run ends that an offset is in.
+fn held_end(spans: &BTreeMap<u64, u64>, at: u64) -> Option<u64>
+    requires { at < 2 ^ 62 }
+    ensures { result ≡ held_end at (next_span at spans.now.entries) }
+{
+    match next_after(spans, at) {
+        Some((start, end)) => { if start <= at { Some(end) } else { None } }
+        None => None,
+    }
+}
+
+// The first offset from `at` on that isn't in the set.
+fn reach(spans: &BTreeMap<u64, u64>, at: u64) -> u64
+    requires loose { AreLoose spans.now.entries }
+    requires small { at < 2 ^ 62 }
+    ensures { IsReach spans.now.entries at result }
+{
+    let mut end = at;
+    while let Some(next) = held_end(spans, end) {
+        end = next;
+    }
+    end
+}
+
+// The maximal run of the least offset.
+fn first(spans: &BTreeMap<u64, u64>) -> Option<Range<u64>>
+    requires { AreLoose spans.now.entries }
+    ensures { result ≡ slice_get (maximal spans.now.entries) 0 }
+{
+    match spans.first_key_value() {
+        Some((end, start)) => Some(*start..reach(spans, *end)),
+        None => None,
+    }
+}
+
+impl OffsetSet {
+    /// The empty set.
+    pub(crate) fn new(alloc: Global) -> Self
+        ensures { result ≡ [] }
+    {
+        OffsetSet {
+            map: BTreeMap::new(alloc),
+            alloc,
+        }
+    }
+
+    /// Whether there is no offset in the set.
+    pub(crate) fn is_empty(&self) -> bool
+        ensures { IsTrue result ↔ self.now ≡ [] }
+    {
+        self.map.is_empty()
+    }
+
+    /// The run of the least offset.
+    pub(crate) fn first(&self) -> Option<Range<u64>>
+        ensures { result ≡ slice_get self.now 0 }
+    {
+        first(&self.map)
+    }
+
+    /// Puts in the offsets of a range, and takes them out of another set. An empty or a reversed range changes nothing, and
+    /// needs no memory.
+    ///
+    /// # Errors
+    ///
+    /// [`AllocError`] where memory lacks for the runs; both sets stay.
+    pub(crate) fn insert_from(
+        &mut self,
+        x: Range<u64>,
+        other: &mut OffsetSet,
+    ) -> Result<(), AllocError>
+        requires { x.end < 2 ^ 62 }
+        ensures ok { OnOk result (Adds self.old self.new x.start x.end) }
+        ensures other { OnOk result (Drops other.old other.new x.start x.end) }
+        ensures runs { AreRuns self.new }
+        ensures other_runs { AreRuns other.new }
+        ensures err { OnErr result (self.new ≡ self.old) }
+        ensures other_err { OnErr result (other.new ≡ other.old) }
+        ensures lacking { OnErr result (x.start < x.end) }
+    {
+        insert_from(&mut self.map, x, &mut other.map, self.alloc)
+    }
+
+    /// Puts in the offsets of a range that another set lacks. An empty or a reversed range changes nothing, and needs no
+    /// memory. Takes time for the runs of both sets that have an offset of the range, and no others.
+    ///
+    /// # Errors
+    ///
+    /// [`AllocError`] where memory lacks for the runs; the set stays.
+    pub(crate) fn insert_lacking(
+        &mut self,
+        x: Range<u64>,
+        other: &OffsetSet,
+    ) -> Result<(), AllocError>
+        requires { x.end < 2 ^ 62 }
+        ensures ok { OnOk result (AddsLacking self.old other.now self.new x.start x.end) }
+        ensures runs { AreRuns self.new }
+        ensures err { OnErr result (self.new ≡ self.old) }
+        ensures lacking { OnErr result (x.start < x.end) }
+    {
+        insert_lacking(&mut self.map, x, &other.map, self.alloc)
+    }
+
+    /// Takes out the offsets of a range, where none is below it. This needs no memory.
+    pub(crate) fn remove_first(&mut self, x: Range<u64>)
+        requires least { (k : ℕ) → Has self.old k → x.start ≤ k }
+        requires small { x.start < 2 ^ 62 }
+        ensures ok { Drops self.old self.new x.start x.end }
+        ensures runs { AreRuns self.new }
+    {
+        take_out(&mut self.map, x.start, x.end);
+    }
+}
