@@ -2,7 +2,7 @@
 use Rattle.std.proofs.Common.{◌≡◌, ℕ, ◌+◌, ◌≤◌, ◌<◌, ◌↔◌, true, false, cond, ltb, leb, max, List, [], ◌∷◌, refl, ap, inl, inr, arith}
 use Rattle.std.proofs.lemmas.Bool.{cases_lt, lt-ltb, le-ltb, le-leb, leb-true, ltb-true, and_parts, and_from, or_cases, or_left, or_right, false_from_ne_true, both_ways}
 use Rattle.quic_wire_core.specs.Runs.{Run, Has, AreRunsFrom, AreRuns, Adds, Drops, IsUnion, IsDifference}
-use Rattle.quic_wire_core.specs.Lacking.{AddsLacking}
+use Rattle.quic_streams_core.specs.Lacking.{AddsLacking}
 use Rattle.quic_wire_core.specs.Pieces.{pieces}
 use Rattle.quic_wire_core.proofs.RunLists.{at_least, same_list, has_left, has_right, has_either, joined, after}
 use Rattle.quic_wire_core.proofs.Joining.{with_range_is, with_range_runs, adds_none}

@@ -8,3 +8,4 @@ pub mod Source
 pub mod ArrivedHistory
 pub mod BufferedHistory
 pub mod Loose
+pub mod Lacking

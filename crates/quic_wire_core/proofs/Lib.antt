@@ -7,4 +7,3 @@ pub mod Joining
 mod JoinSteps
 pub mod PieceSteps
 mod PieceExamples
-mod GapSteps

@@ -15,4 +15,3 @@ pub mod RunEdits
 pub mod Elements
 pub mod Pieces
 pub mod Replacing
-pub mod Lacking

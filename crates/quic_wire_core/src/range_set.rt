@@ -7,7 +7,6 @@ ghost use Rattle.quic_wire_core.specs.RunEdits.{edited, HasPlaces, Grows};
 mod array_range_set;
 mod elt_iter;
 mod iter;
-mod moving;
 mod replace;
 mod runs;
 

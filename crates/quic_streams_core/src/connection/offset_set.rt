@@ -5,7 +5,7 @@ ghost use Rattle.std.specs.Map.{set_value};
 ghost use Rattle.std.specs.BTreeMap.{is_at};
 ghost use Rattle.std.specs.Ordering.{nat_cmp};
 ghost use Rattle.quic_wire_core.specs.Runs.{Has, AreRuns, Adds, Drops};
-ghost use Rattle.quic_wire_core.specs.Lacking.{AddsLacking};
+ghost use Rattle.quic_streams_core.specs.Lacking.{AddsLacking};
 ghost use Rattle.quic_streams_core.specs.Spans.{in_span, in_spans, next_span, is_spanned};
 ghost use Rattle.quic_streams_core.specs.Loose.{AreLoose, IsCut, FitsRun, inside_at, held_end, IsReach, maximal};
 ghost use Rattle.quic_streams_core.specs.PartSteps.{undone};

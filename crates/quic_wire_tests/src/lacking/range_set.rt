@@ -148,29 +148,6 @@ fn one_number_is_added(rt: HostRuntime) -> Result<(), Fail> {
 }
 
 #[test]
-fn a_range_moves(rt: HostRuntime) -> Result<(), Fail> {
-    let mut set = RangeSet::new(rt.alloc());
-    let mut other = full_set_of(rt.alloc(), &[(1, 5), (7, 9)])?;
-    if set.insert_from(2..4, &mut other).is_err() {
-        set.insert_from(2..4, &mut other)?;
-    }
-    assert!(rt; are(set.as_slice(), &[(2, 4)]));
-    assert!(rt; are(other.as_slice(), &[(1, 2), (4, 5), (7, 9)]));
-    Ok(())
-}
-
-#[test]
-fn gaps_are_added(rt: HostRuntime) -> Result<(), Fail> {
-    let mut set = RangeSet::new(rt.alloc());
-    let other = set_of(rt.alloc(), &[(0, 3), (5, 6), (8, 12), (14, 15)])?;
-    if set.insert_lacking(2..10, &other).is_err() {
-        set.insert_lacking(2..10, &other)?;
-    }
-    assert!(rt; are(set.as_slice(), &[(3, 5), (6, 8)]));
-    Ok(())
-}
-
-#[test]
 fn few_near_runs_join_and_part(rt: HostRuntime) -> Result<(), Fail> {
     let steps: [Step<'_>; 5] = [
         (true, 1..3, &[(1, 3)]),
