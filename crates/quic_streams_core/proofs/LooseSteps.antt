@@ -1,12 +1,12 @@
 -- Steps on runs that may touch: one is put in, cut in two, taken out, or joined with the next.
-use Rattle.std.proofs.Common.{◌≡◌, ℕ, ◌+◌, ◌^◌, ◌<◌, ◌≤◌, ltb, List, [], ◌∷◌, ◌++◌, length, length-append, Bool, true, false, not, ◌&&◌, ◌||◌, cond, Some, None, Option, refl, sym, ap, ◌∙◌, subst, arith, ◌⊎◌, inl, inr}
+use Rattle.std.proofs.Common.{◌≡◌, ℕ, ◌+◌, ◌^◌, ◌<◌, ◌≤◌, ◌==◌, ltb, List, [], ◌∷◌, ◌++◌, length, length-append, Bool, true, false, not, ◌&&◌, ◌||◌, cond, Some, None, Option, refl, sym, ap, ◌∙◌, subst, arith, ◌⊎◌, inl, inr}
 use Rattle.std.specs.Ordering.{nat_cmp}
 use Rattle.std.specs.Option.{unwrap_or, option_map}
 use Rattle.std.specs.Map.{lookup, remove_entry, set_value}
 use Rattle.std.specs.BTreeMap.{insert_entry, is_at}
-use Rattle.std.proofs.lemmas.Bool.{ltb-true, ltb-false, lt-ltb, le-ltb, cases_lt, cases_order, not-true, not-false}
-use Rattle.quic_streams_core.specs.Spans.{Span, in_span, in_spans, next_span, is_spanned, spanned_at, free_at}
-use Rattle.quic_streams_core.specs.Loose.{LieWithin, greatest, AreLoose, IsCut, FitsRun}
+use Rattle.std.proofs.lemmas.Bool.{ltb-true, ltb-false, lt-ltb, le-ltb, eqb-true, ne_eqb, or_cases, or_left, or_right, and_parts, cases_lt, cases_order, not-true, not-false}
+use Rattle.quic_streams_core.specs.Spans.{Span, in_span, in_spans, next_span, is_spanned, spanned_at, free_at, first_from, end_from}
+use Rattle.quic_streams_core.specs.Loose.{LieWithin, greatest, AreLoose, IsCut, begins_first, touches, FitsRun}
 use Rattle.quic_streams_core.proofs.Filled.{not_at}
 use Rattle.quic_streams_core.proofs.First.{at_itself}
 use Rattle.quic_streams_core.proofs.Spans.{next_past, join}
@@ -250,6 +250,18 @@ none_from start end o es h b l m =
 pub record Joined (low high at first last : ℕ) (es : List Span) : Type 0 where
   pub loose : LieWithin low (remove_entry (is_at (nat_cmp at)) (set_value (is_at (nat_cmp last)) es first)) high
   pub has : (o : ℕ) → in_spans (remove_entry (is_at (nat_cmp at)) (set_value (is_at (nat_cmp last)) es first)) o ≡ in_spans es o
+  pub begin : (o : ℕ) → begins_first o (remove_entry (is_at (nat_cmp at)) (set_value (is_at (nat_cmp last)) es first)) ≡ begins_first o es
+  pub touch : (o : ℕ) → touches o (remove_entry (is_at (nat_cmp at)) (set_value (is_at (nat_cmp last)) es first)) ≡ true → touches o es ≡ true
+  pub apart : touches at (remove_entry (is_at (nat_cmp at)) (set_value (is_at (nat_cmp last)) es first)) ≡ false
+
+-- runs behind an offset don't touch there
+touch_none : (low high o : ℕ) (zs : List Span) → LieWithin low zs high → o ≤ low → touches o zs ≡ false
+touch_none low high o [] h l = refl
+touch_none low high o (z ∷ zs) h l =
+    let a = h.0 in
+    let b = h.1 in
+    let other = ne_eqb z.0 o (λ e. omega (arith, e, a, b, l)) in
+    rw other (touch_none z.0 high o zs h.2 (omega (arith, a, b, l)))
 
 pub joined : (low high at first last : ℕ) (es : List Span) → LieWithin low es high → lookup (is_at (nat_cmp at)) es ≡ Some first → next_span at es ≡ Some (last, at) → Joined low high at first last es
 joined low high at first last [] h f n = cc
@@ -271,6 +283,9 @@ joined low high at first last (g ∷ gs) h f n = go (cases_order g.0 at) h.0 h.1
         record {
           loose = rw new (omega arith, omega arith, r.2);
           has = λ o. rw new (ap (λ k. in_span o (y.0, k) || in_spans ys o) (sym e) ∙ join o g.1 g.0 y.0 (in_spans ys o) (omega arith) (omega arith) ∙ ap (λ k. in_span o g || (in_span o (y.0, k) || in_spans ys o)) (q ∙ sym y1));
+          begin = λ o. rw new (ap (λ n. n == o) (sym e));
+          touch = λ o t. or_right (g.0 == o && y.1 == o) ((y.0 == o && begins_first o ys) || touches o ys) (subst (λ (gs : List Span). touches o gs ≡ true) new t);
+          apart = let past = ne_eqb y.0 at (λ z. omega arith) in rw new (rw past (touch_none y.0 high at ys r.2 (omega arith)));
         }
 
     go : (g.0 ≡ at) ⊎ ((g.0 < at) ⊎ (at < g.0)) → low ≤ g.1 → g.1 < g.0 → LieWithin g.0 gs high → lookup (is_at (nat_cmp at)) (g ∷ gs) ≡ Some first → next_span at (g ∷ gs) ≡ Some (last, at)
@@ -293,9 +308,39 @@ joined low high at first last (g ∷ gs) h f n = go (cases_order g.0 at) h.0 h.1
         record {
           loose = rw new (a, b, j.loose);
           has = λ o. rw new (ap (λ x. in_span o g || x) (j.has o));
+          begin = λ o. rw new refl;
+          touch = λ o t. elim (or_cases (g.0 == o && begins_first o (remove_entry (is_at (nat_cmp at)) (set_value (is_at (nat_cmp last)) gs first))) (touches o (remove_entry (is_at (nat_cmp at)) (set_value (is_at (nat_cmp last)) gs first))) (subst (λ (es : List Span). touches o es ≡ true) new t)) [
+            | inl i ↦ or_left (g.0 == o && begins_first o gs) (touches o gs) (sym (ap (λ x. (g.0 == o) && x) (j.begin o)) ∙ i)
+            | inr i ↦ or_right (g.0 == o && begins_first o gs) (touches o gs) (j.touch o i)
+          ];
+          apart = let past = ne_eqb g.0 at (λ z. omega arith) in rw new (rw past j.apart);
         }
     go (inr (inr q)) a b r f n ih =
         let other : is_at (nat_cmp at) g.0 ≡ false = not_at at g.0 (λ z. omega arith) in
         let none = none_behind g.0 high at gs r q in
         let f2 : lookup (is_at (nat_cmp at)) gs ≡ Some first = subst (λ (x : Bool). cond x (Some g.1) (lookup (is_at (nat_cmp at)) gs) ≡ Some first) other f in
         cc
+
+-- where runs touch, one ends and the next begins
+first_touch : (o : ℕ) (g : Span) (gs : List Span) (high : ℕ) → g.1 < g.0 → LieWithin g.0 gs high → g.0 ≡ o → begins_first o gs ≡ true → (first_from o (g ∷ gs) < o) × (o < end_from o (next_span o (g ∷ gs)))
+first_touch o g [] high l h e b = cc
+first_touch o g (y ∷ ys) high l h e b =
+    let same = eqb-true y.1 o b in
+    let full = h.1 in
+    let here : is_at (nat_cmp o) g.0 ≡ true = ap (λ k. is_at (nat_cmp o) k) e ∙ at_itself o in
+    let t = le-ltb o g.0 (omega arith) in
+    let u = lt-ltb o y.0 (omega arith) in
+    (rw here (omega arith), rw t (rw u (rw b (omega arith))))
+
+pub touch_is : (low high o : ℕ) (es : List Span) → LieWithin low es high → touches o es ≡ true → (first_from o es < o) × (o < end_from o (next_span o es))
+touch_is low high o [] h e = cc
+touch_is low high o (g ∷ gs) h e = elim (or_cases (g.0 == o && begins_first o gs) (touches o gs) e) [
+  | inl i ↦ (let p = and_parts (g.0 == o) (begins_first o gs) i in first_touch o g gs high h.1 h.2 (eqb-true g.0 o p.0) p.1)
+  | inr i ↦ elim (cases_lt g.0 o) [
+    | inl lt ↦ (let ih = touch_is g.0 high o gs h.2 i in
+        let other : is_at (nat_cmp o) g.0 ≡ false = not_at o g.0 (λ z. omega (arith, z, lt)) in
+        let t = le-ltb o g.0 (omega (arith, lt)) in
+        (rw other ih.0, rw t ih.1))
+    | inr ge ↦ (let none = touch_none g.0 high o gs h.2 ge in cc)
+  ]
+]

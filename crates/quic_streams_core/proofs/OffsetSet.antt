@@ -8,13 +8,13 @@ use Rattle.std.specs.declared.result.Result.{Result}
 use Rattle.std.specs.declared.result.Result.TheVariants.{Ok, Err}
 use Rattle.std.specs.Map.{lookup, remove_entry, set_value}
 use Rattle.std.specs.BTreeMap.{insert_entry, is_at}
-use Rattle.std.proofs.lemmas.Bool.{or_parts, eqb-true, leb-true, leb-false}
+use Rattle.std.proofs.lemmas.Bool.{or_parts, false_from_ne_true, both_ways, eqb-true, leb-true, leb-false}
 use Rattle.quic_streams_core.specs.Spans.{Span, in_span, in_spans, next_span, ends_of, is_spanned, spanned_at, free_at, first_from, end_from}
-use Rattle.quic_streams_core.specs.Loose.{LieWithin, greatest, AreLoose, IsCut, FitsRun, inside_at}
+use Rattle.quic_streams_core.specs.Loose.{LieWithin, greatest, AreLoose, IsCut, FitsRun, inside_at, touches, AreApartAt}
 use Rattle.quic_streams_core.specs.PartSteps.{undone}
 use Rattle.quic_streams_core.proofs.Free.{look_some}
 use Rattle.quic_streams_core.proofs.Loose.{lie_up, span_is}
-use Rattle.quic_streams_core.proofs.LooseSteps.{and_true, and_false, look_as, put_free, taken_at, front_at, BeginsPast, none_from, Joined, joined}
+use Rattle.quic_streams_core.proofs.LooseSteps.{and_true, and_false, look_as, put_free, taken_at, front_at, BeginsPast, none_from, Joined, joined, touch_is}
 use Rattle.quic_streams_core.proofs.Undone.{undone_last, absent, taken_out}
 
 -- ---- one entry
@@ -191,3 +191,17 @@ take_front start end first last os es ns m e l is =
     go : (o : ℕ) (c : Bool) → in_span o (end, start) ≡ c → (in_spans es o && not c) ≡ (in_spans os o && not c)
     go o true q = and_false (in_spans es o) ∙ sym (and_false (in_spans os o))
     go o false q = ap (λ b. b && true) (m.out o q)
+
+-- ---- runs that were put in touch no others then
+pub apart_stays : (o : ℕ) (new old : List Span) → ((k : ℕ) → touches k new ≡ true → touches k old ≡ true) → touches o old ≡ false → touches o new ≡ false
+apart_stays o new old less e = false_from_ne_true (touches o new) (λ t. both_ways (touches o old) e (less o t))
+
+pub apart_before : (o : ℕ) (es : List Span) → AreLoose es → o ≤ first_from o es → touches o es ≡ false
+apart_before o es h l = false_from_ne_true (touches o es) (λ t. let p = (touch_is 0 greatest o es h t).0 in omega (arith, l, p))
+
+pub apart_behind : (o : ℕ) (es : List Span) → AreLoose es → end_from o (next_span o es) ≤ o → touches o es ≡ false
+apart_behind o es h l = false_from_ne_true (touches o es) (λ t. let p = (touch_is 0 greatest o es h t).1 in omega (arith, l, p))
+
+pub apart_more : (os : List ℕ) (o : ℕ) (gs : List Span) → AreApartAt os gs → touches o gs ≡ false → AreApartAt (os ++ o ∷ []) gs
+apart_more [] o gs h e = (e, tt)
+apart_more (x ∷ os) o gs h e = (h.0, apart_more os o gs h.1 e)

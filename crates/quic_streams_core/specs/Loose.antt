@@ -1,5 +1,5 @@
 -- A set of offsets as runs that may touch, in ascending order, and the maximal runs that it has.
-use Rattle.std.specs.Prelude.{◌≡◌, ℕ, true, false, leb, ◌||◌, ◌-◌, ◌^◌, ◌<◌, ◌≤◌, ◌==◌, cond, List, [], ◌∷◌, Option, Some, None}
+use Rattle.std.specs.Prelude.{◌≡◌, ℕ, true, false, leb, Bool, ◌&&◌, ◌||◌, ◌-◌, ◌^◌, ◌<◌, ◌≤◌, ◌==◌, cond, List, [], ◌∷◌, Option, Some, None}
 use Rattle.std.specs.Ordering.{nat_cmp}
 use Rattle.std.specs.Map.{lookup}
 use Rattle.std.specs.BTreeMap.{insert_entry, is_at}
@@ -55,3 +55,18 @@ pub record IsReach (gs : List Span) (at end : ℕ) : Type 0 where
   pub above : at ≤ end
   pub held : (o : ℕ) → at ≤ o → o < end → in_spans gs o ≡ true
   pub lacks : in_spans gs end ≡ false
+
+-- whether the first of some runs begins at an offset
+abbrev pub begins_first : ℕ → List Span → Bool
+begins_first o [] = false
+begins_first o (g ∷ gs) = g.1 == o
+
+-- whether a run ends at an offset, and the next begins there
+abbrev pub touches : ℕ → List Span → Bool
+touches o [] = false
+touches o (g ∷ gs) = (g.0 == o && begins_first o gs) || touches o gs
+
+-- no runs touch at some offsets
+abbrev pub AreApartAt : List ℕ → List Span → Type 0
+AreApartAt [] gs = Unit {0}
+AreApartAt (o ∷ os) gs = (touches o gs ≡ false) × AreApartAt os gs

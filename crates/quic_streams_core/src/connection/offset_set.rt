@@ -6,8 +6,8 @@ ghost use Rattle.std.specs.BTreeMap.{is_at};
 ghost use Rattle.std.specs.Ordering.{nat_cmp};
 ghost use Rattle.quic_wire_core.specs.Runs.{Has, AreRuns, Adds, Drops};
 ghost use Rattle.quic_streams_core.specs.Lacking.{AddsLacking};
-ghost use Rattle.quic_streams_core.specs.Spans.{in_span, in_spans, next_span, is_spanned};
-ghost use Rattle.quic_streams_core.specs.Loose.{AreLoose, IsCut, FitsRun, inside_at, held_end, IsReach, maximal};
+ghost use Rattle.quic_streams_core.specs.Spans.{in_span, in_spans, next_span, first_from};
+ghost use Rattle.quic_streams_core.specs.Loose.{AreLoose, IsCut, FitsRun, inside_at, held_end, IsReach, maximal, touches, AreApartAt};
 ghost use Rattle.quic_streams_core.specs.PartSteps.{undone};
 
 use super::spans::{begin_of, finish_of, keep, look, next_after, remove};
@@ -126,6 +126,8 @@ fn join_at(spans: &mut BTreeMap<u64, u64>, at: u64)
     requires small { at < 2 ^ 62 }
     ensures loose { AreLoose spans.new.entries }
     ensures offsets { (o : ℕ) → in_spans spans.new.entries o ≡ in_spans spans.old.entries o }
+    ensures touch { (o : ℕ) → touches o spans.new.entries ≡ true → touches o spans.old.entries ≡ true }
+    ensures apart { touches at spans.new.entries ≡ false }
 {
     let first = begin_of(spans, at);
     let last = finish_of(spans, at);
@@ -140,6 +142,9 @@ fn join_run(spans: &mut BTreeMap<u64, u64>, end: u64)
     requires { AreLoose spans.old.entries }
     ensures loose { AreLoose spans.new.entries }
     ensures offsets { (o : ℕ) → in_spans spans.new.entries o ≡ in_spans spans.old.entries o }
+    ensures touch { (o : ℕ) → touches o spans.new.entries ≡ true → touches o spans.old.entries ≡ true }
+    ensures before { first_from end spans.old.entries < end → touches (first_from end spans.old.entries) spans.new.entries ≡ false }
+    ensures behind { touches end spans.new.entries ≡ false }
 {
     let start = begin_of(spans, end);
     if start < end {
@@ -153,6 +158,7 @@ fn join_all(spans: &mut BTreeMap<u64, u64>, ends: &mut Vec<u64>)
     requires { AreLoose spans.old.entries }
     ensures loose { AreLoose spans.new.entries }
     ensures offsets { (o : ℕ) → in_spans spans.new.entries o ≡ in_spans spans.old.entries o }
+    ensures apart { AreApartAt ends.old.items spans.new.entries }
 {
     while let Some(end) = ends.pop() {
         join_run(spans, end);
