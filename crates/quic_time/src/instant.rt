@@ -46,7 +46,8 @@ impl Instant {
     pub fn as_nanos(self) -> u64
         ensures { result ≡ self }
     {
-        self.0
+        let Instant(nanos) = self;
+        nanos
     }
 
     /// The later of two moments.
@@ -142,7 +143,8 @@ impl Duration {
     pub fn as_nanos(self) -> u64
         ensures { result ≡ self }
     {
-        self.0
+        let Duration(nanos) = self;
+        nanos
     }
 
     /// The whole microseconds.
