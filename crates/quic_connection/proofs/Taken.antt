@@ -10,7 +10,6 @@ use Rattle.std.proofs.lemmas.Map.Steps.{set_value_same}
 use Rattle.quic_wire_core.specs.declared.stream_id.Side.{Side}
 use Rattle.quic_wire_core.specs.StreamId.{index_of}
 use Rattle.quic_wire.specs.Value.{StreamValue}
-use Rattle.quic_streams_core.specs.declared.connection.assembler.Chunk.{Chunk}
 use Rattle.quic_connection_core.specs.declared.answers.ReadError.{ReadError}
 use Rattle.quic_connection_core.specs.declared.answers.Breach.{Breach}
 use Rattle.quic_connection_core.specs.declared.answers.Breach.TheVariants.{StreamLimit, StreamState, Pieces}

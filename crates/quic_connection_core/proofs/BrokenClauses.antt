@@ -7,7 +7,7 @@ use Rattle.quic_wire_core.specs.declared.stream_id.Dir.TheVariants.{Bi}
 use Rattle.quic_wire.specs.FrameTypes.{kind_of}
 use Rattle.quic_wire.specs.Reading.{block_at, sized_at, offset_at, data_at, stream_at, body_at}
 use Rattle.quic_wire.specs.AckReading.{ack_at, ranges_at, range_at, some_ecn_at}
-use Rattle.quic_wire.specs.Value.{AckValue, ack}
+use Rattle.quic_wire.specs.Value.{ack}
 use Rattle.quic_wire.specs.Items.{frame_at, items_within, items}
 use Rattle.quic_streams_core.specs.declared.connection.assembler.Chunk.{Chunk}
 use Rattle.quic_connection_core.specs.declared.answers.WriteError.{WriteError}

@@ -1,16 +1,14 @@
 -- The headline's clauses, each from what its place shows.
-use Rattle.std.proofs.Common.{◌≡◌, ℕ, zero, suc, ◌+◌, ◌*◌, ◌<◌, ◌≤◌, ◌==◌, List, [], ◌∷◌, ◌++◌, length, Bool, true, false, cond, Option, Some, None, refl, sym, ap, ◌∙◌, subst, inl, inr, arith}
-use Rattle.std.specs.Prelude.{nat_lt, Result, Ok, Err}
+use Rattle.std.proofs.Common.{◌≡◌, ℕ, ◌<◌, ◌≤◌, List, [], ◌∷◌, ◌++◌, length, Bool, true, false, cond, Option, Some, None, refl, sym, ap, ◌∙◌, subst, inl, arith}
+use Rattle.std.specs.Prelude.{nat_lt, Ok, Err}
 use Rattle.std.specs.Option.{option_map}
-use Rattle.std.proofs.lemmas.Bool.{ltb-true, ltb-false, eqb-true}
+use Rattle.std.proofs.lemmas.Bool.{ltb-false, eqb-true}
 use Rattle.quic_wire_core.specs.declared.stream_id.Side.{Side}
 use Rattle.quic_wire_core.specs.declared.stream_id.Side.TheVariants.{Client, Server}
 use Rattle.quic_wire_core.specs.declared.stream_id.Dir.{Dir}
 use Rattle.quic_wire_core.specs.declared.stream_id.Dir.TheVariants.{Bi, Uni}
 use Rattle.quic_wire_core.specs.StreamId.{stream_id, index_of, other_side}
 use Rattle.quic_wire.specs.Value.{StreamValue}
-use Rattle.quic_connection_core.specs.declared.run.Call.TheVariants as calls
-use Rattle.quic_connection_core.specs.declared.run.Answer.{Answer}
 use Rattle.quic_connection_core.specs.declared.run.Answer.TheVariants as answers
 use Rattle.quic_connection_core.specs.declared.answers.ReadError.TheVariants as read_errors
 use Rattle.quic_connection_core.specs.declared.answers.LostReason.{LostReason}
@@ -22,7 +20,7 @@ use Rattle.quic_connection_core.specs.Table.{at}
 use Rattle.quic_connection_core.specs.End.{End}
 use Rattle.quic_connection_core.specs.Calls.{tells_of, end_tells, after_nexts}
 use Rattle.quic_connection_core.specs.Machine.{IsRead}
-use Rattle.quic_connection_core.specs.Receiving.{Receiving, RecvHalf, readable, accepted_of, opened_of, accept_answer, may_receive}
+use Rattle.quic_connection_core.specs.Receiving.{Receiving, RecvHalf, readable, accept_answer, may_receive}
 use Rattle.quic_connection_core.specs.Runs.{Told, Next, Packet, In, written, ended, nexts, chunks_of, reads, bytes_of, accepts, WasTaken, HasArrived, EndHasArrived}
 use Rattle.quic_connection_core.specs.Headline.{ToldOnce}
 use Rattle.quic_connection_core.proofs.Invariant.{Accepted, Content, Kept}

@@ -1,5 +1,5 @@
 -- What holds between two ends of a run at each place: one writes, the other reads. A record for each concern, over the plain values that it reads.
-use Rattle.std.specs.Prelude.{ℕ, ◌+◌, ◌-◌, ◌<◌, ◌≤◌, ◌^◌, ◌%◌, ◌≡◌, ◌⊎◌, Bool, true, false, List, [], ◌∷◌, ◌++◌, length, map, take, drop, slice_get, slice_index, Option, Some, None, Ok, Err}
+use Rattle.std.specs.Prelude.{ℕ, ◌+◌, ◌-◌, ◌<◌, ◌≤◌, ◌^◌, ◌≡◌, ◌⊎◌, Bool, true, false, List, [], ◌∷◌, ◌++◌, length, map, take, drop, slice_get, Option, Some, None, Ok, Err}
 use Rattle.std.specs.Option.{is_some}
 use Rattle.std.specs.Ordering.{nat_cmp}
 use Rattle.std.specs.Map.{keys_of}
@@ -27,13 +27,12 @@ use Rattle.quic_recovery_core.specs.PendingAcks as pending
 use Rattle.quic_connection_core.specs.Tracking.{names}
 use Rattle.quic_connection_core.specs.Sending.{Sending, SendHalf, opens, next_id}
 use Rattle.quic_connection_core.specs.Receiving.{Receiving, RecvHalf, may_receive}
-use Rattle.quic_connection_core.specs.End.{End}
 use Rattle.quic_wire_core.specs.Runs.{Has}
 use Rattle.quic_connection_core.specs.declared.answers.StreamEvent.{StreamEvent}
 use Rattle.quic_connection_core.specs.declared.answers.StreamEvent.TheVariants.{Finished}
 use Rattle.quic_connection_core.specs.Tracking.{TrackedPacket, carried_in}
 use Rattle.quic_connection_core.specs.Headline.{AllArrived}
-use Rattle.quic_connection_core.specs.Runs.{Told, Next, Packet, Intake, In, written, ended, nexts, chunks_of, bytes_of, tells_end, accepts, WasTaken, HasArrived, EndHasArrived, IsTaken, expected_behind, acknowledged}
+use Rattle.quic_connection_core.specs.Runs.{Told, Next, Packet, Intake, In, written, ended, nexts, chunks_of, bytes_of, accepts, WasTaken, HasArrived, EndHasArrived, IsTaken, expected_behind, acknowledged}
 
 -- ---- what was written only grows, and once ended stays
 

@@ -7,9 +7,8 @@ use Rattle.quic_wire_core.specs.declared.stream_id.Side.TheVariants.{Client, Ser
 use Rattle.quic_connection_core.specs.declared.run.RunEvent.{RunEvent}
 use Rattle.quic_connection_core.specs.declared.run.Answer.{Answer}
 use Rattle.quic_connection_core.specs.declared.run.View.{View}
-use Rattle.quic_connection_core.specs.Machine.{World, Policies, IsStep, view_of, end_at, changed, gives, policy_at, fails, Follows}
+use Rattle.quic_connection_core.specs.Machine.{World, Policies, IsStep, end_at, changed, gives, policy_at, fails, Follows}
 use Rattle.quic_connection_core.specs.Runs.{Told, told_by, told_at}
-use Rattle.quic_connection_core.specs.Headline.{IsPrefixOf}
 
 -- what both ends gave, the first of all that they give
 pub record Grown (w end : World) : Type 0 where

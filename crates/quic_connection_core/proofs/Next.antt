@@ -1,13 +1,13 @@
 -- One `next` of a read at one half: what it answers stands in what was written, and what it leaves.
-use Rattle.std.proofs.Common.{◌≡◌, ℕ, ◌+◌, ◌<◌, ◌≤◌, ◌==◌, ◌⊎◌, inl, inr, ltb, length, List, [], ◌∷◌, ◌++◌, take, drop, Bool, true, false, cond, Option, Some, None, Ok, Err, refl, sym, ap, ◌∙◌, subst, arith, slice_get, get_or, length-append, length-take, length-drop, take-append-drop, append_assoc, append-nil}
+use Rattle.std.proofs.Common.{◌≡◌, ℕ, ◌+◌, ◌<◌, ◌≤◌, ◌==◌, ◌⊎◌, inl, inr, ltb, length, List, [], ◌∷◌, ◌++◌, take, drop, Bool, true, false, cond, Option, Some, None, Ok, Err, refl, sym, ap, ◌∙◌, subst, arith, slice_get, get_or, length-append, length-take, take-append-drop, append_assoc, append-nil}
 use Rattle.std.specs.Option.{is_some, IfSome}
-use Rattle.std.proofs.lemmas.Bool.{ltb-true, ltb-false, eqb-true, eq-eqb}
+use Rattle.std.proofs.lemmas.Bool.{ltb-true, eqb-true, eq-eqb}
 use Rattle.std.proofs.lemmas.List.{take_at, take_all}
 use Rattle.std.proofs.lemmas.List.Prefix.{at_from_reads}
 use Rattle.std.proofs.lemmas.Option.{slice_get_within, slice_get-get_or, get_or_from_slice_get}
 use Rattle.quic_wire.specs.Value.{StreamValue}
 use Rattle.quic_streams_core.specs.declared.connection.assembler.Chunk.{Chunk}
-use Rattle.quic_streams_core.specs.Arrived.{Arrived, Part, start, IsLawful, byte_at, given, behind, left_by, after_read_in}
+use Rattle.quic_streams_core.specs.Arrived.{Part, start, IsLawful, byte_at, given, behind, after_read_in}
 use Rattle.quic_streams_core.proofs.Bytes.{next_waits}
 use Rattle.quic_streams_core.proofs.Claims.{given_next, read_bytes, leaves}
 use Rattle.quic_streams_core.proofs.Lawful.{next_lawful}

@@ -1,5 +1,5 @@
 -- How many datagrams a call gives.
-use Rattle.std.proofs.Common.{◌≡◌, ℕ, List, [], ◌∷◌, length, false, Option, Some, None, refl, sym, ap, ◌∙◌, subst, inl, inr}
+use Rattle.std.proofs.Common.{◌≡◌, ℕ, List, [], length, false, Option, Some, None, refl, sym, ap, ◌∙◌, subst, inl, inr}
 use Rattle.std.specs.Prelude.{slice_get, if◌then◌else◌, Ok, Err}
 use Rattle.quic_connection_core.specs.declared.run.Call.{Call}
 use Rattle.quic_connection_core.specs.declared.run.Call.TheVariants as calls

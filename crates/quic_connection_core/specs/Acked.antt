@@ -7,7 +7,7 @@ use Rattle.quic_connection_core.specs.declared.answers.StreamEvent.{StreamEvent}
 use Rattle.quic_connection_core.specs.declared.answers.StreamEvent.TheVariants.{Finished}
 use Rattle.quic_connection_core.specs.Table.{Table}
 use Rattle.quic_connection_core.specs.Numbers.{cut_against}
-use Rattle.quic_connection_core.specs.Tracking.{TrackedPacket, is_idle, acked_by, not_acked_by, lost_below, kept_above, after_answered}
+use Rattle.quic_connection_core.specs.Tracking.{TrackedPacket, acked_by, not_acked_by, lost_below, kept_above, after_answered}
 use Rattle.quic_connection_core.specs.Sending.{after_stream_acked, after_stream_lost, finishes}
 use Rattle.quic_connection_core.specs.End.{End, with_acknowledging, with_tracking}
 

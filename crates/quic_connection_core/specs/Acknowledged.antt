@@ -1,5 +1,5 @@
 -- How the worked run goes on: the server acknowledges the datagram once 25 ms have passed, and the client takes the acknowledgement; or the datagram is lost.
-use Rattle.std.specs.Prelude.{ℕ, Bool, true, false, List, [], ◌∷◌, Option, Some, None}
+use Rattle.std.specs.Prelude.{ℕ, Bool, true, false, List, [], ◌∷◌, Some, None}
 use Rattle.quic_wire.specs.Datagram.{sent}
 use Rattle.quic_connection_core.specs.declared.answers.LostReason.{LostReason}
 use Rattle.quic_connection_core.specs.declared.answers.State.TheVariants as states
@@ -7,7 +7,7 @@ use Rattle.quic_connection_core.specs.End.{End}
 use Rattle.quic_connection_core.specs.declared.answers.StreamEvent.TheVariants.{Finished}
 use Rattle.quic_connection_core.specs.Sending.{SendHalf}
 use Rattle.quic_connection_core.specs.Tracking.{TrackedPacket}
-use Rattle.quic_connection_core.specs.Worked.{worked_policies, client_id, server_id, client_made, client_sent, server_made, server_read, hello, half_with, carrying, hello_pending, pending_with, timers_with, ack_timer}
+use Rattle.quic_connection_core.specs.Worked.{worked_policies, client_id, server_id, client_made, client_sent, server_read, hello, half_with, carrying, hello_pending, pending_with, timers_with, ack_timer}
 
 -- an end at a moment
 abbrev pub at_clock : ℕ → End → End

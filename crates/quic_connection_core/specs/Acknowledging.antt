@@ -1,5 +1,5 @@
 -- What is to be acknowledged, and when (RFC 9000, section 13.2).
-use Rattle.std.specs.Prelude.{ℕ, ◌+◌, ◌-◌, ◌/◌, ◌^◌, min, Bool, cond, Option, Some, None}
+use Rattle.std.specs.Prelude.{ℕ, ◌+◌, ◌-◌, ◌/◌, ◌^◌, min, Option}
 use Rattle.quic_recovery_core.specs.PendingAcks.{Pending, none_pending, delay_of}
 use Rattle.quic_time.specs.Timers.{Timers}
 

@@ -1,5 +1,5 @@
 -- The clock of an end, and whether it is open.
-use Rattle.std.specs.Prelude.{ℕ, max, Bool, true, false, if◌then◌else◌, Option, Some, None}
+use Rattle.std.specs.Prelude.{ℕ, max, Bool, true, if◌then◌else◌, Option, Some, None}
 use Rattle.quic_connection_core.specs.declared.answers.State.{State}
 use Rattle.quic_connection_core.specs.declared.answers.State.TheVariants as states
 use Rattle.quic_connection_core.specs.declared.answers.LostReason.{LostReason}

@@ -25,7 +25,7 @@ use Rattle.quic_connection_core.specs.Ids.{known, own_id}
 use Rattle.quic_connection_core.specs.Numbers.{duplicate_span}
 use Rattle.quic_connection_core.specs.Policy.{Policy}
 use Rattle.quic_connection_core.specs.Tracking.{names}
-use Rattle.quic_connection_core.specs.Opens.{own_id_length, in_phase, opens_behind, opens}
+use Rattle.quic_connection_core.specs.Opens.{opens}
 use Rattle.quic_connection_core.specs.Machine.{World, Policies, policy_at, end_at, fails}
 
 -- ---- a run

@@ -1,5 +1,5 @@
 -- Asking datagrams in flight, and when they count as lost (RFC 9002, sections 2, 6.1.1 and 6.2).
-use Rattle.std.specs.Prelude.{ℕ, ◌+◌, ◌-◌, ◌*◌, ◌^◌, min, max, Bool, true, false, not, nat_le, ◌&&◌, List, [], ◌∷◌, filter, Option, Some, None}
+use Rattle.std.specs.Prelude.{ℕ, ◌+◌, ◌-◌, ◌*◌, ◌^◌, min, Bool, true, false, not, nat_le, ◌&&◌, List, [], ◌∷◌, filter, Option, Some, None}
 use Rattle.std.specs.List.{list_any}
 use Rattle.quic_streams_core.specs.declared.stream_meta.StreamMeta.{StreamMeta}
 use Rattle.quic_wire.specs.Value.{FrameValue, StreamValue, AckValue, ack, stream}

@@ -1,6 +1,6 @@
 -- The headline, of the answers, views and datagrams of a run.
 use Rattle.std.proofs.Common.{refl}
-use Rattle.quic_connection_core.specs.Machine.{World, Policies}
+use Rattle.quic_connection_core.specs.Machine.{Policies}
 use Rattle.quic_connection_core.specs.Runs.{Run}
 use Rattle.quic_connection_core.proofs.AckTimers.{ack_timers_follow}
 use Rattle.quic_connection_core.proofs.LossTimers.{loss_timers_follow}

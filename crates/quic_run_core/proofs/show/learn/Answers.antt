@@ -1,5 +1,4 @@
-use Rattle.std.proofs.Common.{◌≡◌, ◌<◌, length, ap, ◌∙◌, arith}
-use Rattle.quic_run_core.specs.Shown.{number_of}
+use Rattle.std.proofs.Common.{◌≡◌, ◌<◌, length, arith}
 use Rattle.quic_run_core.proofs.Showing.{known_push}
 use Rattle.quic_run_core.proofs.show.learn.Goals as goal
 

@@ -1,4 +1,4 @@
-use Rattle.std.proofs.Common.{ℕ, ◌-◌, vec_len}
+use Rattle.std.proofs.Common.{◌-◌, vec_len}
 use Rattle.quic_run_core.specs.Shown.{AreNumbers}
 use Rattle.quic_run_core.proofs.show.learn.Given as goal
 

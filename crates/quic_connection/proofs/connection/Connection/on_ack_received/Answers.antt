@@ -1,9 +1,7 @@
 use Rattle.std.proofs.Common.{◌≡◌, [], length, true, false, ap, ◌∙◌, sym}
 use Rattle.std.proofs.lemmas.Bool.{eqb-true, eq-eqb}
 use Rattle.std.specs.Prelude.{reverse, ◌==◌}
-use Rattle.quic_connection_core.specs.Numbers.{cut_against}
-use Rattle.quic_connection_core.specs.Tracking.{acked_by, not_acked_by, lost_below, kept_above, after_answered}
-use Rattle.quic_connection_core.specs.Acked.{packets_lost}
+use Rattle.quic_connection_core.specs.Tracking.{acked_by, not_acked_by, after_answered}
 use Rattle.quic_connection_core.specs.End.{with_end, with_tracking}
 use Rattle.quic_connection.specs.Tracked.{packets_in, all_acked, with_tracked}
 use Rattle.quic_connection.proofs.Lost.{named_none, named_some, nothing_in}

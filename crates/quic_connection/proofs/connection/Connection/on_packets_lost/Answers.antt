@@ -1,4 +1,4 @@
-use Rattle.std.proofs.Common.{◌≡◌, ap, ◌∙◌, subst}
+use Rattle.std.proofs.Common.{ap, ◌∙◌, subst}
 use Rattle.quic_connection_core.specs.End.{with_end}
 use Rattle.quic_connection_core.specs.Acked.{streams_lost}
 use Rattle.quic_connection.specs.Tracked.{PopsLost, with_tracked}

@@ -1,4 +1,4 @@
-use Rattle.std.proofs.Common.{◌≡◌, ◌<◌, false, length, rules, arith}
+use Rattle.std.proofs.Common.{◌≡◌, false, rules, arith}
 use Rattle.quic_run_core.specs.Reading.{left_of}
 use Rattle.quic_run_core.proofs.Taking.{begun_more, begun_whole, begun_long, begun_filled, begun_end}
 use Rattle.quic_run_core.proofs.lines.Lines.next.Goals as goal

@@ -1,4 +1,4 @@
-use Rattle.std.proofs.Common.{◌≡◌, ℕ, ◌+◌, ◌-◌, ◌≤◌, List, ◌∷◌, ◌++◌, length, take, drop, sym, ap, ◌∙◌, arith, length-take}
+use Rattle.std.proofs.Common.{ℕ, ◌+◌, ◌-◌, ◌≤◌, List, ◌∷◌, ◌++◌, take, drop, sym, ap, ◌∙◌, arith, length-take}
 use Rattle.std.specs.Prelude.{slice_range}
 use Rattle.quic_run_core.proofs.Taking.{first_feed, no_feed, moves_whole, moves_all, drop-range, range_none}
 use Rattle.quic_run_core.proofs.lines.Lines.take_piece.Goals as goal

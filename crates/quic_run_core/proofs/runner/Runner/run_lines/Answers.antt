@@ -3,7 +3,7 @@ use Rattle.std.specs.String.{string_bytes}
 use Rattle.std.proofs.lemmas.Result.{err_from_is_err_and}
 use Rattle.quic_run_core.specs.Reading.{left_of}
 use Rattle.quic_run_core.specs.Stages.{stage_of}
-use Rattle.quic_run_core.proofs.Running.{running-none, running-more, running-some, running-all, running-bad, stopped_fault, refused}
+use Rattle.quic_run_core.proofs.Running.{running-more, running-some, running-bad, stopped_fault, refused}
 use Rattle.quic_run_core.proofs.runner.Runner.run_lines.Goals as goal
 
 pub returns-in_err-next-clause-err : goal.returns-in_err-next-clause-err
