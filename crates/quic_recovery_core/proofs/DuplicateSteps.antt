@@ -5,7 +5,7 @@ use Rattle.std.specs.Int.{bit_at}
 use Rattle.std.proofs.lemmas.Bool.{cases_lt, cases_eq, cases_Bool, eqb-true, eqb-false, eq-eqb, leb-true, le-leb, or_parts, not-false, false_from_ne_true}
 use Rattle.std.proofs.lemmas.Bool.Decides.{nat_tests}
 use Rattle.quic_recovery_core.specs.Duplicates.{is_in, put, next_of, is_near, is_duplicate, with_number, Seen}
-use Rattle.quic_recovery_core.specs.declared.spaces.dedup.TheConstants.{DUPLICATE_SPAN}
+use Rattle.quic_recovery_core.specs.declared.spaces.dedup.TheConstants.{DUPLICATE_SPAN, WINDOW_BITS}
 use Rattle.quic_recovery_core.specs.DuplicateBits.{numbers_below, is_marked, seen}
 use Rattle.quic_recovery_core.proofs.Descending.{In, Descend, is_in-tells, in-is_in, same_list, in_put, put_in, put_descends, in_filter, filter_in, filter_descends, descend_more}
 
@@ -45,8 +45,8 @@ pub in_seen : (next window k : ℕ) → In k (seen next window) → Marks next w
 in_seen zero window k h = absurd h
 in_seen (suc g) window k (inl e) = record { below = omega (arith, e); near = omega (arith, e); marked = inl (omega (arith, e)) }
 in_seen (suc g) window k (inr h) =
-    let i = in_filter (is_marked g window) k (numbers_below g 128) h in
-    let b = in_numbers g 128 k i.1 in
+    let i = in_filter (is_marked g window) k (numbers_below g WINDOW_BITS) h in
+    let b = in_numbers g WINDOW_BITS k i.1 in
     record {
       below = omega (arith, b.0);
       near = omega (arith, b.1);
@@ -59,12 +59,12 @@ seen_in (suc g) window k m = elim (cases_eq k g) [
   | inl e ↦ inl e
   | inr other ↦ (let lt : k < g = omega (arith, m.below, other) in
       let bit : bit_at window (suc g - 2 - k) ≡ 1 = elim m.marked [ inl e ↦ absurd (omega (arith, e, other)) | inr b ↦ b ] in
-      inr (filter_in (is_marked g window) k (numbers_below g 128) (eq-eqb (bit_at window (g - 1 - k)) 1 (ap (λ (p : ℕ). bit_at window p) (place_is g k) ∙ bit)) (numbers_in g 128 k lt (omega (arith, m.near)))))
+      inr (filter_in (is_marked g window) k (numbers_below g WINDOW_BITS) (eq-eqb (bit_at window (g - 1 - k)) 1 (ap (λ (p : ℕ). bit_at window p) (place_is g k) ∙ bit)) (numbers_in g WINDOW_BITS k lt (omega (arith, m.near)))))
 ]
 
 pub seen_descends : (next window : ℕ) → Descend next (seen next window)
 seen_descends zero window = tt
-seen_descends (suc g) window = (omega arith, filter_descends (is_marked g window) g (numbers_below g 128) (numbers_descend g 128))
+seen_descends (suc g) window = (omega arith, filter_descends (is_marked g window) g (numbers_below g WINDOW_BITS) (numbers_descend g WINDOW_BITS))
 
 pub next_of-seen : (next window : ℕ) → next_of (seen next window) ≡ next
 next_of-seen zero window = refl
@@ -88,7 +88,7 @@ placed next window next' window' n e new f g =
     (elim (in_put n k s i.1) [ inl is ↦ inl is | inr old ↦ inr (in_seen next window k old) ])))
 
 -- a number above the greatest
-pub above : (next window window' n : ℕ) → next ≤ n → ((i : ℕ) → i < 128 → i < n - next → bit_at window' i ≡ 0) → ((i : ℕ) → i < 128 → n - next < i → bit_at window' i ≡ bit_at window (i - (n - next + 1))) → (n - next < 128 → bit_at window' (n - next) ≡ 1) → seen (n + 1) window' ≡ with_number (seen next window) n
+pub above : (next window window' n : ℕ) → next ≤ n → ((i : ℕ) → i < WINDOW_BITS → i < n - next → bit_at window' i ≡ 0) → ((i : ℕ) → i < WINDOW_BITS → n - next < i → bit_at window' i ≡ bit_at window (i - (n - next + 1))) → (n - next < WINDOW_BITS → bit_at window' (n - next) ≡ 1) → seen (n + 1) window' ≡ with_number (seen next window) n
 above next window window' n le low high at =
     placed next window (n + 1) window' n (omega (arith, le)) (λ h. let m = in_seen next window n h in omega (arith, m.below, le))
     (λ k m. elim m.marked [
@@ -98,7 +98,7 @@ above next window window' n le low high at =
           elim (cases_eq k n) [
             | inl is ↦ inl is
             | inr other ↦ (let p = n + 1 - 2 - k in
-                let small : p < 128 = omega (arith, near, below, other) in
+                let small : p < WINDOW_BITS = omega (arith, near, below, other) in
                 inr (elim (cases_lt k next) [
                   | inr over ↦ absurd (let z = low p small (omega (arith, over, below, other, le)) in let o : 0 ≡ 1 = sym z ∙ bit in omega (arith, o))
                   | inl under ↦ record {
@@ -117,7 +117,7 @@ above next window window' n le low high at =
       | inl is ↦ record { below = omega (arith, is); near = near; marked = inl (omega (arith, is)) }
       | inr m ↦ (let below = m.below in
           let p = n + 1 - 2 - k in
-          let small : p < 128 = omega (arith, near, below, le) in
+          let small : p < WINDOW_BITS = omega (arith, near, below, le) in
           record {
             below = omega (arith, below, le);
             near = near;

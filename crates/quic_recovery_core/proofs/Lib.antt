@@ -3,6 +3,7 @@ pub mod DuplicateSteps
 pub mod DuplicateShifts
 pub mod DuplicateSearch
 pub mod DuplicateLaws
+mod DuplicateExamples
 pub mod AckRunSteps
 pub mod AckLaws
 pub mod AckCounts

@@ -9,6 +9,9 @@ use std::marker::Model;
 /// A number that lies this far below the greatest, or farther, counts as one that came.
 pub const DUPLICATE_SPAN: u64 = 129;
 
+/// How many numbers below the greatest are told apart: one fewer than [`DUPLICATE_SPAN`].
+const WINDOW_BITS: u64 = DUPLICATE_SPAN - 1;
+
 /// The packet numbers that came, as far as they are told apart: a window below the greatest (quinn-proto's `Dedup`).
 /// Contracts see the list of those numbers, the greatest first.
 #[derive(Drop)]
@@ -18,6 +21,9 @@ pub struct Dedup {
     // One above the greatest, 0 where no number came.
     next: u64,
 }
+
+// The window has a bit for each number that is told apart.
+const _: () = prove!(WINDOW_BITS <= u128::BITS as u64);
 
 impl Model for Dedup {
     ghost use Rattle.quic_recovery_core.specs.Duplicates.{Seen};
@@ -31,7 +37,7 @@ impl Model for Dedup {
 
 // Whether a bit is set.
 fn is_set(window: u128, place: u64) -> bool
-    requires { place < 128 }
+    requires { place < WINDOW_BITS }
     ensures { result ≡ (bit_at window place == 1) }
 {
     window >> place & 1 == 1
@@ -39,7 +45,7 @@ fn is_set(window: u128, place: u64) -> bool
 
 // The window with a bit set.
 fn with_bit(window: u128, place: u64) -> u128
-    requires { place < 128 }
+    requires { place < WINDOW_BITS }
     ensures same { bit_at result place ≡ 1 }
     ensures other { (i : ℕ) → i ≢ place → bit_at result i ≡ bit_at window i }
 {
@@ -48,11 +54,11 @@ fn with_bit(window: u128, place: u64) -> u128
 
 // The window as a number sees it that lies one place above the greatest and these steps farther.
 fn moved(window: u128, steps: u64) -> u128
-    ensures near { (i : ℕ) → i < 128 → i < steps → bit_at result i ≡ 0 }
-    ensures greatest { steps < 128 → bit_at result steps ≡ 1 }
-    ensures far { (i : ℕ) → i < 128 → steps < i → bit_at result i ≡ bit_at window (i - (steps + 1)) }
+    ensures near { (i : ℕ) → i < WINDOW_BITS → i < steps → bit_at result i ≡ 0 }
+    ensures greatest { steps < WINDOW_BITS → bit_at result steps ≡ 1 }
+    ensures far { (i : ℕ) → i < WINDOW_BITS → steps < i → bit_at result i ≡ bit_at window (i - (steps + 1)) }
 {
-    if steps >= 128 {
+    if steps >= WINDOW_BITS {
         return 0;
     }
     with_bit(window << 1 << steps, steps)
@@ -113,7 +119,7 @@ impl Dedup {
     }
 
     /// The least number above `low` and below `high` that did not come. Only the numbers below the greatest that lie nearer
-    /// to it than [`DUPLICATE_SPAN`] count; so this looks at 128 numbers at most.
+    /// to it than [`DUPLICATE_SPAN`] count; so this looks at fewer numbers than that.
     pub fn smallest_missing_in_interval(&self, low: u64, high: u64) -> Option<u64>
         ensures { result ≡ smallest_missing self.now low high }
     {

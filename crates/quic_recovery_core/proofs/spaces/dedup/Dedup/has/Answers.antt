@@ -2,6 +2,7 @@ use Rattle.std.proofs.Common.{ℕ, ◌-◌, ap, ◌∙◌, arith}
 use Rattle.std.specs.Prelude.{List}
 use Rattle.std.proofs.lemmas.Bool.{le-ltb}
 use Rattle.quic_recovery_core.specs.Duplicates.{is_in}
+use Rattle.quic_recovery_core.specs.declared.spaces.dedup.TheConstants.{DUPLICATE_SPAN}
 use Rattle.quic_recovery_core.proofs.DuplicateSteps.{absent, told}
 use Rattle.quic_recovery_core.proofs.spaces.dedup.Dedup.has.Goals as goal
 
@@ -19,6 +20,6 @@ returns-then-below-lt-DUPLICATE_SPAN c = c.is_set.ensures
 pub returns-else-below-lt-DUPLICATE_SPAN : goal.returns-else-below-lt-DUPLICATE_SPAN
 returns-else-below-lt-DUPLICATE_SPAN c =
     let far = c.if-below-lt-DUPLICATE_SPAN.false in
-    le-ltb (c.self.inside.next - 1 - c.args.number) 129 far
+    le-ltb (c.self.inside.next - 1 - c.args.number) DUPLICATE_SPAN far
     ∙ absent c.self.inside.next c.self.inside.window c.args.number (λ m. let near = m.near in omega (arith, near, far))
     ∙ ap (λ (s : List ℕ). is_in s c.args.number) c.self.view_is
