@@ -1,6 +1,6 @@
 -- The definitions of pacing computed at worked values.
-use Rattle.std.proofs.Common.{◌≡◌, ◌++◌, Some, None, refl, replicate}
-use Rattle.quic_congestion.specs.Pacer.{capacity_of, new_pacing, tokens_after, after_delay, delay_of, sent_bytes}
+use Rattle.std.proofs.Common.{◌≡◌, ℕ, zero, suc, ◌+◌, List, [], ◌∷◌, ◌++◌, Some, None, refl, replicate}
+use Rattle.quic_congestion.specs.Pacer.{capacity_of, new_pacing, tokens_after, gained, after_delay, delay_of, Ask, Call, asked_with, went, answer_of, pacing_after, covered_bytes}
 
 -- a window of 2000000 bytes, a round trip of 50 ms
 of_1500 : capacity_of 50000000 2000000 1500 ≡ 80000
@@ -42,6 +42,26 @@ whole = refl
 unpaced : delay_of (new_pacing 400000 30000 1500 15000) 0 1600 1500 1 0 ≡ None
 unpaced = refl
 
--- 80 datagrams of 1000 bytes go at 0, 40 at 800000 and 80 at 2400000, and no further one
-bursts : sent_bytes (replicate 81 (0, 1000) ++ replicate 41 (800000, 1000) ++ replicate 81 (2400000, 1000)) (new_pacing 50000000 2000000 1000 0) 50000000 ≡ 200000
+-- a pacer of 80000 tokens is asked with 1000 bytes, at a moment
+abbrev at : ℕ → Ask
+at moment = record { rtt = 50000000; bytes = 1000; size = 1000; window = 2000000; moment = moment }
+
+-- that, and a datagram of 1000 bytes, so many times
+abbrev repeated : ℕ → ℕ → List Call
+repeated zero moment = []
+repeated (suc n) moment = asked_with (at moment) ∷ went 1000 ∷ repeated n moment
+
+-- 80 datagrams of 1000 bytes go at 0, and then the pacer waits until 1600000
+first : pacing_after (repeated 80 0) (new_pacing 50000000 2000000 1000 0) ≡ record { capacity = 80000; window = 2000000; size = 1000; tokens = 0; refilled = 0 }
+first = refl
+
+then_waits : answer_of (pacing_after (repeated 80 0) (new_pacing 50000000 2000000 1000 0)) (at 0) ≡ Some 1600000
+then_waits = refl
+
+-- of 81 datagrams at 0, 41 at 800000 and 81 at 2400000 each time all but the last go with their tokens
+bursts : covered_bytes (repeated 81 0 ++ repeated 41 800000 ++ repeated 81 2400000) (new_pacing 50000000 2000000 1000 0) ≡ 200000
 bursts = refl
+
+-- as many as the tokens at first, and those that come in 2400000
+no_more : 80000 + gained 50000000 2000000 2400000 ≡ 200000
+no_more = refl

@@ -1,8 +1,8 @@
 -- What the definitions of pacing say together.
 use Rattle.std.proofs.Common.{◌≡◌, ℕ, ◌+◌, ◌-◌, ◌^◌, ◌<◌, ◌≤◌, max, min, Bool, true, false, ◌&&◌, ◌||◌, ◌==◌, cond, nat_le, nat_lt, List, [], ◌∷◌, fold, sum, is_none, IfSome, Some, None, refl, ap, sym, ◌∙◌, arith}
 use Rattle.std.proofs.lemmas.List.Sums.{sum_by-cons}
-use Rattle.std.proofs.lemmas.Bool.{cond_both}
-use Rattle.quic_congestion.specs.Pacer.{Pacing, IsPacing, new_pacing, after_datagram, tokens_after, after_resize, after_refill, after_asking, goes_at_once, next_send, after_delay, delay_of, time_for}
+use Rattle.std.proofs.lemmas.Bool.{cond_both, and_parts, eqb-true}
+use Rattle.quic_congestion.specs.Pacer.{Pacing, IsPacing, new_pacing, after_datagram, tokens_after, after_resize, after_refill, after_asking, goes_at_once, next_send, after_delay, delay_of, time_for, capacity_of, Ask, after_ask, Call, asked_with, went, pacing_after}
 
 -- the tokens after a list of datagrams, and after one more in front
 tokens-cons : (p : Pacing) (len : ℕ) (lengths : List ℕ) → (p.tokens - len) - sum lengths ≡ p.tokens - sum (len ∷ lengths)
@@ -35,6 +35,24 @@ asked_keeps p rtt bytes window moment is = cond_both (goes_at_once p rtt bytes w
 
 pub delayed : (p : Pacing) (rtt bytes size window moment : ℕ) → IsPacing p → IsPacing (after_delay p rtt bytes size window moment)
 delayed p rtt bytes size window moment is = asked_keeps (after_resize p rtt window size) rtt bytes window moment (resized p rtt window size is)
+
+-- the bounds after any calls
+pub bounds : (calls : List Call) (p : Pacing) → IsPacing p → IsPacing (pacing_after calls p)
+bounds [] p is = is
+bounds (asked_with ask ∷ calls) p is = bounds calls _ (delayed p ask.rtt ask.bytes ask.size ask.window ask.moment is)
+bounds (went length ∷ calls) p is = bounds calls _ (sent p length is)
+
+-- an ask with another window or size reckons the capacity anew
+last_resized : (p : Pacing) (rtt window size : ℕ) → (p.window ≡ window → p.size ≡ size → ⊥) → (after_resize p rtt window size).capacity ≡ capacity_of rtt window size
+last_resized p rtt window size differ =
+    cond_both ((p.window == window) && (p.size == size)) _ _ (λ (q : Pacing). q.capacity ≡ capacity_of rtt window size)
+    (λ same. absurd (let both = and_parts (p.window == window) (p.size == size) same in differ (eqb-true p.window window both.0) (eqb-true p.size size both.1)))
+    (λ other. refl)
+
+pub last : (p : Pacing) (ask : Ask) → (p.window ≡ ask.window → p.size ≡ ask.size → ⊥) → (after_ask p ask).capacity ≡ capacity_of ask.rtt ask.window ask.size
+last p ask differ =
+    let e = last_resized p ask.rtt ask.window ask.size differ in
+    cond_both (goes_at_once (after_resize p ask.rtt ask.window ask.size) ask.rtt ask.bytes ask.window) _ _ (λ (q : Pacing). q.capacity ≡ capacity_of ask.rtt ask.window ask.size) (λ at_once. e) (λ waits. e)
 
 -- where a test answers, and whether one does
 none_of : (b : Bool) (m : ℕ) → is_none (cond b None (Some m)) ≡ b

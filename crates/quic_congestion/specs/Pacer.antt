@@ -1,6 +1,6 @@
 -- How sending is spread over time: a pacer holds tokens, one for each byte that may go at once (RFC 9002, section 7.7).
 -- Times are in nanoseconds, windows and lengths in bytes.
-use Rattle.std.specs.Prelude.{ℕ, ◌+◌, ◌-◌, ◌*◌, ◌/◌, ◌^◌, ◌≤◌, max, min, Bool, ◌&&◌, ◌||◌, ◌==◌, nat_le, nat_lt, List, [], ◌∷◌, Option, Some, None, is_none, if◌then◌else◌, sum}
+use Rattle.std.specs.Prelude.{ℕ, ◌+◌, ◌-◌, ◌*◌, ◌/◌, ◌^◌, ◌≤◌, max, min, Bool, ◌&&◌, ◌||◌, ◌==◌, nat_le, nat_lt, List, [], ◌∷◌, Option, Some, None, if◌then◌else◌, sum}
 
 -- the tokens of a pacer, how many it holds at most, the window and the size of datagrams for which that was reckoned, and
 -- the moment when tokens last came
@@ -100,27 +100,41 @@ after_delay p rtt bytes size window moment = after_asking (after_resize p rtt wi
 abbrev pub delay_of : Pacing → ℕ → ℕ → ℕ → ℕ → ℕ → Option ℕ
 delay_of p rtt bytes size window moment = asked (after_resize p rtt window size) rtt bytes window moment
 
--- whether bytes that are asked for at a moment go: those that needn't wait. Here the round trip, the window and the size
--- stay as they are
-abbrev pub may_go : Pacing → ℕ → ℕ × ℕ → Bool
-may_go p rtt ask = is_none (delay_of p rtt ask.1 p.size p.window ask.0)
+-- what a pacer is asked with: the round trip, the bytes that are to go, the size of datagrams, the window, and the moment
+pub record Ask : Type 0 where
+  pub rtt : ℕ
+  pub bytes : ℕ
+  pub size : ℕ
+  pub window : ℕ
+  pub moment : ℕ
 
--- how many of them go
-abbrev pub bytes_gone : Pacing → ℕ → ℕ × ℕ → ℕ
-bytes_gone p rtt ask = if may_go p rtt ask then ask.1 else 0
+-- a call of a pacer: it was asked whether bytes may go, or a datagram of so many bytes went
+pub data Call : Type 0 where
+  asked_with : Ask → Call
+  went : ℕ → Call
 
--- the pacer after they went or didn't
-abbrev pub after_ask : Pacing → ℕ → ℕ × ℕ → Pacing
-after_ask p rtt ask =
-    if may_go p rtt ask then after_datagram (after_delay p rtt ask.1 p.size p.window ask.0) ask.1
-    else after_delay p rtt ask.1 p.size p.window ask.0
+-- the pacer after it was asked, and what it answered
+abbrev pub after_ask : Pacing → Ask → Pacing
+after_ask p ask = after_delay p ask.rtt ask.bytes ask.size ask.window ask.moment
 
--- how many bytes go of those that are asked for, each time at a moment and so many
-abbrev pub sent_bytes : List (ℕ × ℕ) → Pacing → ℕ → ℕ
-sent_bytes [] p rtt = 0
-sent_bytes (ask ∷ asks) p rtt = bytes_gone p rtt ask + sent_bytes asks (after_ask p rtt ask) rtt
+abbrev pub answer_of : Pacing → Ask → Option ℕ
+answer_of p ask = delay_of p ask.rtt ask.bytes ask.size ask.window ask.moment
 
--- the moments don't fall, and are between two
-abbrev pub AreMoments : List (ℕ × ℕ) → ℕ → ℕ → Type 0
-AreMoments [] from until = from ≤ until
-AreMoments (ask ∷ asks) from until = (from ≤ ask.0) × AreMoments asks ask.0 until
+-- the pacer after calls, the earliest first
+abbrev pub pacing_after : List Call → Pacing → Pacing
+pacing_after [] p = p
+pacing_after (asked_with ask ∷ calls) p = pacing_after calls (after_ask p ask)
+pacing_after (went length ∷ calls) p = pacing_after calls (after_datagram p length)
+
+-- the bytes of the datagrams that went with a token for each byte
+abbrev pub covered_bytes : List Call → Pacing → ℕ
+covered_bytes [] p = 0
+covered_bytes (asked_with ask ∷ calls) p = covered_bytes calls (after_ask p ask)
+covered_bytes (went length ∷ calls) p = (if nat_le length p.tokens then length else 0) + covered_bytes calls (after_datagram p length)
+
+-- it is asked at moments that don't fall, from one up to another, each time with a round trip of at least so long and a
+-- window of at most so many bytes
+abbrev pub AreAsked : List Call → (rtt window from until : ℕ) → Type 0
+AreAsked [] rtt window from until = from ≤ until
+AreAsked (asked_with ask ∷ calls) rtt window from until = (rtt ≤ ask.rtt) × (ask.window ≤ window) × (from ≤ ask.moment) × AreAsked calls rtt window ask.moment until
+AreAsked (went length ∷ calls) rtt window from until = AreAsked calls rtt window from until

@@ -1,17 +1,20 @@
 //! What the definitions of pacing say together.
-ghost use Rattle.std.specs.Prelude.{◌≡◌, ℕ, ◌+◌, ◌-◌, ◌*◌, ◌/◌, ◌<◌, ◌≤◌, ◌^◌, List, fold, is_none, IfSome};
-ghost use Rattle.quic_congestion.specs.Pacer.{Pacing, IsPacing, new_pacing, after_datagram, tokens_after, after_delay, delay_of, goes_at_once, gained, time_for, sent_bytes, AreMoments};
+ghost use Rattle.std.specs.Prelude.{◌≡◌, ℕ, ◌+◌, ◌-◌, ◌*◌, ◌/◌, ◌<◌, ◌≤◌, ◌^◌, List, None, fold, is_none, IfSome};
+ghost use Rattle.quic_congestion.specs.Pacer.{Pacing, IsPacing, capacity_of, new_pacing, after_datagram, tokens_after, after_delay, delay_of, goes_at_once, gained, time_for, Ask, Call, after_ask, answer_of, pacing_after, covered_bytes, AreAsked};
 
 /// Datagrams take as many tokens as they have bytes together, and all of them where they have more.
 pub fn tokens_are_bytes()
     ensures { (p : Pacing) (lengths : List ℕ) → fold after_datagram p lengths ≡ record p { tokens = tokens_after p.tokens lengths } }
 {}
 
-/// A pacer never holds more than its capacity, which is from 10 datagrams to 256.
+/// A pacer never holds more than its capacity, which is from 10 datagrams to 256: at first, after each call, and after any
+/// calls. Another window or size than before gives it anew.
 pub fn bursts_are_bounded()
     ensures made { (rtt window size moment : ℕ) → IsPacing (new_pacing rtt window size moment) }
     ensures sent { (p : Pacing) (len : ℕ) → IsPacing p → IsPacing (after_datagram p len) }
     ensures asked { (p : Pacing) (rtt bytes size window moment : ℕ) → IsPacing p → IsPacing (after_delay p rtt bytes size window moment) }
+    ensures bounds { (calls : List Call) (p : Pacing) → IsPacing p → IsPacing (pacing_after calls p) }
+    ensures last { (p : Pacing) (ask : Ask) → (p.window ≡ ask.window → p.size ≡ ask.size → ⊥) → (after_ask p ask).capacity ≡ capacity_of ask.rtt ask.window ask.size }
 {}
 
 /// Bytes wait exactly where they're paced and the pacer then lacks a token for one of them, and never until a moment that
@@ -27,7 +30,10 @@ pub fn waits_are_for_what_lacks()
     ensures least { (rtt missing window : ℕ) → 0 < rtt → 0 < window → missing ≤ gained rtt window (time_for rtt missing window) + window * 5 / rtt + 1 }
 {}
 
-/// No more bytes go in a time than there are tokens at its start, and five quarters of a window in each round trip.
+/// However window, round trip and size change: datagrams that have their tokens go no faster than the tokens at first and
+/// five quarters of the greatest window in each shortest round trip; and what a pacer lets go has its tokens, where it's
+/// paced.
 pub fn bytes_go_at_five_quarters()
-    ensures { (asks : List (ℕ × ℕ)) (p : Pacing) (rtt until : ℕ) → 0 < rtt → p.window < 2 ^ 32 → AreMoments asks p.refilled until → sent_bytes asks p rtt ≤ p.tokens + gained rtt p.window (until - p.refilled) }
+    ensures rate { (calls : List Call) (p : Pacing) (rtt window until : ℕ) → 0 < rtt → AreAsked calls rtt window p.refilled until → covered_bytes calls p + (pacing_after calls p).tokens ≤ p.tokens + gained rtt window (until - p.refilled) }
+    ensures let_go { (p : Pacing) (ask : Ask) → 0 < ask.rtt → ask.window < 2 ^ 32 → answer_of p ask ≡ None → ask.bytes ≤ (after_ask p ask).tokens }
 {}

@@ -1,4 +1,4 @@
-use Rattle.quic_congestion.proofs.PacerLaws.{made, sent, delayed}
+use Rattle.quic_congestion.proofs.PacerLaws.{made, sent, delayed, bounds, last}
 use Rattle.quic_congestion.proofs.laws.pacing.bursts_are_bounded.Goals as goal
 
 pub returns-clause-made : goal.returns-clause-made
@@ -9,3 +9,9 @@ returns-clause-sent c = sent
 
 pub returns-clause-asked : goal.returns-clause-asked
 returns-clause-asked c = delayed
+
+pub returns-clause-bounds : goal.returns-clause-bounds
+returns-clause-bounds c = bounds
+
+pub returns-clause-last : goal.returns-clause-last
+returns-clause-last c = last
