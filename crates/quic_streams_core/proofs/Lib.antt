@@ -20,6 +20,7 @@ pub mod Inserting
 pub mod Kept
 pub mod Joining
 pub mod Extent
+pub mod Begins
 pub mod ArrivedHistory
 pub mod BufferedHistory
 pub mod Loose

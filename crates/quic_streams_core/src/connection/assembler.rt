@@ -12,6 +12,9 @@ use std::collections::BTreeMap;
 use std::marker::Model;
 use thiserror::Error;
 
+/// The most runs of a stream that its reader keeps; above this many parts, neighbours are joined.
+pub const MOST_PIECES: usize = 2048;
+
 /// Bytes of a stream, with the offset of the first, as quinn-proto's `Chunk`.
 #[derive(Debug, Drop)]
 pub struct Chunk {
