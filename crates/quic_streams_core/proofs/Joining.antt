@@ -14,7 +14,7 @@ use Rattle.quic_streams_core.proofs.Bytes.{from_below, from_behind, from_within}
 use Rattle.quic_streams_core.proofs.Filled.{low_small}
 
 -- ---- what two parts that touch are as one
-touch : (p q : Part) (qs : List Part) → AreApart p.0 (q ∷ qs) → start q ≡ p.0 → q.0 ≡ p.0 + length q.1
+pub touch : (p q : Part) (qs : List Part) → AreApart p.0 (q ∷ qs) → start q ≡ p.0 → q.0 ≡ p.0 + length q.1
 touch p q qs h e = let a = h.0 in let b = h.1 in omega arith
 
 in_front_apart : (low : ℕ) (p : Part) (ps : List Part) → AreApart low (p ∷ ps) → AreApart low (in_front p ps)

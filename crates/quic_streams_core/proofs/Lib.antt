@@ -21,6 +21,8 @@ pub mod Kept
 pub mod Joining
 pub mod Extent
 pub mod Begins
+pub mod Inserted
+pub mod Taken
 pub mod ArrivedHistory
 pub mod BufferedHistory
 pub mod Loose
