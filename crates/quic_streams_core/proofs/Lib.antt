@@ -23,6 +23,7 @@ pub mod Extent
 pub mod Begins
 pub mod Inserted
 pub mod Taken
+pub mod OneStep
 pub mod ArrivedHistory
 pub mod BufferedHistory
 pub mod Loose

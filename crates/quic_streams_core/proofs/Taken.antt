@@ -17,7 +17,7 @@ next_begins : (at : ℕ) (ps : List Part) → is_next ps at ≡ true → begins_
 next_begins at [] e = e
 next_begins at (p ∷ ps) e = or_left (start p == at) (begins_part ps at) e
 
-waits_begins : (at : ℕ) (ps : List Part) → AreApart at ps → waits ps at ≡ true → begins_part ps at ≡ true
+pub waits_begins : (at : ℕ) (ps : List Part) → AreApart at ps → waits ps at ≡ true → begins_part ps at ≡ true
 waits_begins at ps h w = next_begins at ps (next_waits at ps h ∙ w)
 
 -- ---- the chunk of the first part
