@@ -142,9 +142,9 @@ gaps_begin low (p ∷ ps) at bs o h =
     let front = take (start p - at) bs in
     let back = drop (p.0 - at) bs in
     let split = edge_split (fresh (p ∷ ps) at bs) (comes at front) (fresh ps (max at p.0) back) (start p) p.0 o (omega arith)
-        (λ i. front_fresh low at p ps bs i h)
-        (λ i l. ap is_some (from_front_behind at (start p) bs i l))
-        (λ i l. ap (λ x. is_some x && not (waits ps i)) (from_below (max at p.0) back i (omega arith))) in
+    (λ i. front_fresh low at p ps bs i h)
+    (λ i l. ap is_some (from_front_behind at (start p) bs i l))
+    (λ i l. ap (λ x. is_some x && not (waits ps i)) (from_below (max at p.0) back i (omega arith))) in
     part_begins at front (p ∷ with_gaps ps (max at p.0) back) o
     ∙ ap (λ b. edge (comes at front) o || ((start p == o) || b)) (gaps_begin p.0 ps (max at p.0) back o h.2)
     ∙ or_order (start p == o) (begins_part ps o) (edge (comes at front) o) (edge (fresh ps (max at p.0) back) o)
@@ -190,9 +190,9 @@ free_begin low at below o (g ∷ gs) ps bs s h m small =
     let d = length-drop (g.0 - at) bs in
     let apart = gaps_apart low at ps front h m (λ l. let k = small (omega arith) in omega arith) in
     let split = edge_split (fresh_free (g ∷ gs) ps at bs) (fresh ps at front) (fresh_free gs (with_gaps ps at front) (max at g.0) back) g.1 g.0 o full
-        (λ i. beside_span low at below g gs ps bs i s h)
-        (λ i l. ap (λ x. is_some x && not (waits ps i)) (from_front_behind at g.1 bs i l))
-        (λ i l. ap (λ x. is_some x && not (in_spans gs i || waits (with_gaps ps at front) i)) (from_below (max at g.0) back i (omega arith))) in
+    (λ i. beside_span low at below g gs ps bs i s h)
+    (λ i l. ap (λ x. is_some x && not (waits ps i)) (from_front_behind at g.1 bs i l))
+    (λ i l. ap (λ x. is_some x && not (in_spans gs i || waits (with_gaps ps at front) i)) (from_below (max at g.0) back i (omega arith))) in
     free_begin low (max at g.0) (g.0 + 1) o gs (with_gaps ps at front) back s.2 apart (omega arith) (λ l. let k = small (omega arith) in omega arith)
     ∙ ap (λ b. b || edge (fresh_free gs (with_gaps ps at front) (max at g.0) back) o) (gaps_begin low ps at front o h)
     ∙ sym (or_assoc (begins_part ps o) (edge (fresh ps at front) o) (edge (fresh_free gs (with_gaps ps at front) (max at g.0) back) o))

@@ -118,10 +118,10 @@ settled_begins low n o ps h m = go (is_crowded ps) refl
     go : (b : Bool) → is_crowded ps ≡ b → begins_part (cond b (joined ps) ps) o ≡ cond (are_too_many (count_to (begins_part ps) n) (runs_of (cond b (joined ps) ps)) (extent (cond b (joined ps) ps))) (begins_run (cond b (joined ps) ps) o) (begins_part ps o)
     go true q =
         let t : are_too_many (count_to (begins_part ps) n) (runs_of (joined ps)) (extent (joined ps)) ≡ true =
-            ap (λ k. are_too_many k (runs_of (joined ps)) (extent (joined ps))) (sym (parts_counted low n ps h m))
-            ∙ ap (λ k. are_too_many (length ps) k (extent (joined ps))) (joined_runs low ps h)
-            ∙ ap (λ k. are_too_many (length ps) (runs_of ps) k) (joined_extent low ps h)
-            ∙ q in
+        ap (λ k. are_too_many k (runs_of (joined ps)) (extent (joined ps))) (sym (parts_counted low n ps h m))
+        ∙ ap (λ k. are_too_many (length ps) k (extent (joined ps))) (joined_runs low ps h)
+        ∙ ap (λ k. are_too_many (length ps) (runs_of ps) k) (joined_extent low ps h)
+        ∙ q in
         runs_begin low o (joined ps) (joined_apart low ps h) (joined_loose ps) ∙ sym (ap (λ b. cond b (begins_run (joined ps) o) (begins_part ps o)) t)
     go false q =
         let t : are_too_many (count_to (begins_part ps) n) (runs_of ps) (extent ps) ≡ false = ap (λ k. are_too_many k (runs_of ps) (extent ps)) (sym (parts_counted low n ps h m)) ∙ q in

@@ -1,5 +1,5 @@
 -- The words of sets determine what is after an insert, what a read gives, and what is after it.
-use Rattle.std.proofs.Common.{◌≡◌, ℕ, ◌+◌, ◌-◌, ◌^◌, ◌<◌, ◌≤◌, ◌==◌, ltb, length, List, [], ◌∷◌, get_or, Bool, true, false, not, ◌||◌, cond, Some, refl, sym, ap, ◌∙◌, subst, arith, inl, inr}
+use Rattle.std.proofs.Common.{◌≡◌, ℕ, ◌+◌, ◌-◌, ◌^◌, ◌<◌, ◌≤◌, ◌==◌, ltb, length, List, [], ◌∷◌, get_or, Bool, true, false, not, ◌||◌, cond, Some, None, Option, refl, sym, ap, ◌∙◌, subst, arith, inl, inr}
 use Rattle.std.specs.Option.{is_some}
 use Rattle.std.proofs.lemmas.Bool.{both_ways, lt-ltb, le-ltb, eq-eqb, ne_eqb, cases_lt, cases_order, cases_Bool, or_left}
 use Rattle.std.proofs.lemmas.List.{same_lists}
@@ -7,7 +7,7 @@ use Rattle.std.proofs.lemmas.Option.{slice_get-get_or}
 use Rattle.quic_streams_core.specs.declared.connection.assembler.Chunk.{Chunk}
 use Rattle.quic_streams_core.specs.Spans.{Span, AreSpans, in_spans}
 use Rattle.quic_streams_core.specs.Arrived.{Arrived, Part, start, AreApart, IsLawful, byte_at, waits, is_given, last_end, extent, runs_of, begins_run, count_to}
-use Rattle.quic_streams_core.specs.Waiting.{begins_part, begins_then, are_too_many, end_of, IsInserted, IsChunk, IsTaken}
+use Rattle.quic_streams_core.specs.Waiting.{begins_part, begins_then, are_too_many, end_of, IsInserted, IsChunk, IsPlace, IsDry, IsRead, IsTaken, IsLeft}
 use Rattle.quic_streams_core.proofs.Bytes.{from_behind, from_within, at_below}
 use Rattle.quic_streams_core.proofs.Free.{in_below}
 use Rattle.quic_streams_core.proofs.Inserted.{begins_above}
@@ -87,8 +87,8 @@ same_bytes low below p q ps qs h k w e r =
     let far = k.0 in
     let n : length p.1 ≡ length q.1 = omega arith in
     same_lists p.1 q.1 n (λ i d l.
-        let there : byte_at (q ∷ qs) (start p + i) ≡ Some (get_or q.1 i 0) = ap (λ o. byte_at (q ∷ qs) (o + i)) e ∙ first_byte below i q qs k (omega arith) in
-        get_or_any p.1 i d 0 l ∙ some_same (get_or p.1 i 0) (get_or q.1 i 0) (sym (first_byte low i p ps h l) ∙ w (start p + i) ∙ there) ∙ get_or_any q.1 i 0 d (omega arith))
+    let there : byte_at (q ∷ qs) (start p + i) ≡ Some (get_or q.1 i 0) = ap (λ o. byte_at (q ∷ qs) (o + i)) e ∙ first_byte below i q qs k (omega arith) in
+    get_or_any p.1 i d 0 l ∙ some_same (get_or p.1 i 0) (get_or q.1 i 0) (sym (first_byte low i p ps h l) ∙ w (start p + i) ∙ there) ∙ get_or_any q.1 i 0 d (omega arith))
 
 past_bytes : (low : ℕ) (p : Part) (ps : List Part) (o : ℕ) → AreApart low (p ∷ ps) → p.0 ≤ o → byte_at (p ∷ ps) o ≡ byte_at ps o
 past_bytes low p ps o h l =
@@ -228,7 +228,7 @@ one_chunk a at most c d h k =
       | inr (inr l) ↦ absurd (shorter a at most d c k h l)
     ] in
     let bytes = same_lists c.bytes d.bytes n (λ i x l.
-        some_same (get_or c.bytes i x) (get_or d.bytes i x) (sym (slice_get-get_or c.bytes i x l) ∙ h.bytes i l ∙ sym (k.bytes i (omega arith)) ∙ slice_get-get_or d.bytes i x (omega arith))) in
+    some_same (get_or c.bytes i x) (get_or d.bytes i x) (sym (slice_get-get_or c.bytes i x l) ∙ h.bytes i l ∙ sym (k.bytes i (omega arith)) ∙ slice_get-get_or d.bytes i x (omega arith))) in
     same_chunk c d (h.offset ∙ sym k.offset) bytes
 
 -- ---- sets of runs with the same offsets
@@ -337,3 +337,35 @@ one_taken a b c chunk h k =
     ] in
     let picked = spans_are_their_offsets b.read c.read b.picked c.picked h.lawful.spans k.lawful.spans (same_picked b c h.lawful k.lawful g r) in
     same_arrived b c r (h.order ∙ sym k.order) picked parts
+
+-- ---- whether it gives any, and from where
+no_place : (a : Arrived) (at : ℕ) → IsDry a → IsPlace a at → ⊥
+no_place a at d h = elim (cases_Bool a.unordered) [
+  | inl u ↦ both_ways (waits a.parts at) (ap (λ ps. waits ps at) (d.unordered u)) h.waiting
+  | inr u ↦ both_ways (waits a.parts at) (ap (λ o. waits a.parts o) (h.ordered u) ∙ ap is_some (d.ordered u)) h.waiting
+]
+
+lesser_place : (a : Arrived) (at other : ℕ) → a.unordered ≡ true → IsPlace a at → IsPlace a other → at < other → ⊥
+lesser_place a at other u h k l = both_ways (waits a.parts at) (ap is_some (k.least u at l)) h.waiting
+
+one_place : (a : Arrived) (at other : ℕ) → IsPlace a at → IsPlace a other → at ≡ other
+one_place a at other h k = elim (cases_Bool a.unordered) [
+  | inl u ↦ elim (cases_order at other) [
+    | inl e ↦ e
+    | inr (inl l) ↦ absurd (lesser_place a at other u h k l)
+    | inr (inr l) ↦ absurd (lesser_place a other at u k h l)
+  ]
+  | inr u ↦ h.ordered u ∙ sym (k.ordered u)
+]
+
+pub one_read : (a : Arrived) (most : ℕ) (c d : Option Chunk) → IsRead a most c → IsRead a most d → c ≡ d
+one_read a most None None h k = refl
+one_read a most None (Some d) h k = absurd (no_place a d.offset h k.0)
+one_read a most (Some c) None h k = absurd (no_place a c.offset k h.0)
+one_read a most (Some c) (Some d) h k =
+    let same = one_place a c.offset d.offset h.0 k.0 in
+    ap (λ x. Some x) (one_chunk a d.offset most c d (subst (λ at. IsChunk a at most c) same h.1) k.1)
+
+pub one_left : (a b c : Arrived) (chunk : Option Chunk) → IsLeft a chunk b → IsLeft a chunk c → b ≡ c
+one_left a b c None h k = h ∙ sym k
+one_left a b c (Some chunk) h k = one_taken a b c chunk h k

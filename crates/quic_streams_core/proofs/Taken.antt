@@ -1,6 +1,9 @@
 -- A read in words of sets: the chunk that it gives, and where a part begins behind it.
 use Rattle.std.proofs.Common.{◌≡◌, ℕ, ◌+◌, ◌-◌, ◌<◌, ◌≤◌, ◌==◌, ltb, length, List, [], ◌∷◌, take, drop, Bool, true, false, not, ◌&&◌, ◌||◌, cond, Some, None, Option, refl, sym, ap, ◌∙◌, subst, arith, length-take, length-drop, ◌⊎◌, inl, inr}
 use Rattle.std.specs.Option.{is_some}
+use Rattle.std.specs.Result.{IfOk, OnOk}
+use Rattle.std.specs.declared.result.Result.{Result}
+use Rattle.std.specs.declared.result.Result.TheVariants.{Ok, Err}
 use Rattle.std.proofs.lemmas.Bool.{ltb-true, ltb-false, lt-ltb, le-ltb, eqb-true, eq-eqb, ne_eqb, cases_lt, cases_order, or_left, or_right}
 use Rattle.std.proofs.lemmas.Option.{slice_get-get_or}
 use Rattle.quic_streams_core.specs.declared.connection.assembler.Chunk.{Chunk}
@@ -66,12 +69,14 @@ first_read a most [] u h = record { ordered = λ e. refl; unordered = λ e. refl
 first_read a most (p ∷ ps) u h =
     let big = h.0 in
     let full = h.1 in
-    let other : a.unordered ≡ false → start p ≡ a.read = λ e. (let no : true ≡ false = sym u ∙ e in cc) in
-    (record {
-      waiting = in_part a.read p ps (start p) h (omega arith) (omega arith);
-      ordered = other;
-      least = λ e o l. at_below (start p) (p ∷ ps) o (from_start a.read p ps h) l;
-    }, first_chunk a a.read most p ps h)
+    let other : a.unordered ≡ false → start p ≡ a.read = λ e. (let no : true ≡ false = sym u ∙ e in cc) in (
+      record {
+        waiting = in_part a.read p ps (start p) h (omega arith) (omega arith);
+        ordered = other;
+        least = λ e o l. at_below (start p) (p ∷ ps) o (from_start a.read p ps h) l;
+      },
+      first_chunk a a.read most p ps h,
+    )
 
 next_read : (a : Arrived) (most : ℕ) (ps : List Part) → a.unordered ≡ false → AreApart a.read ps → IsRead (record a { parts = ps }) most (given ps a.read most)
 next_read a most [] u h = record { ordered = λ e. refl; unordered = λ e. refl }
@@ -88,12 +93,14 @@ next_read a most (p ∷ ps) u h = go (start p == a.read) refl
     go true q =
         let big = h.0 in
         let full = h.1 in
-        let same = eqb-true (start p) a.read q in
-        (record {
-          waiting = in_part a.read p ps a.read h (omega arith) (omega arith);
-          ordered = λ e. refl;
-          least = λ e o l. at_below a.read (p ∷ ps) o h l;
-        }, subst (λ n. IsChunk (record a { parts = p ∷ ps }) n most (record { offset = n; bytes = take most p.1 })) same (first_chunk a a.read most p ps h))
+        let same = eqb-true (start p) a.read q in (
+          record {
+            waiting = in_part a.read p ps a.read h (omega arith) (omega arith);
+            ordered = λ e. refl;
+            least = λ e o l. at_below a.read (p ∷ ps) o h l;
+          },
+          subst (λ n. IsChunk (record a { parts = p ∷ ps }) n most (record { offset = n; bytes = take most p.1 })) same (first_chunk a a.read most p ps h),
+        )
     go false q = record {
       ordered = λ e. none (byte_at (p ∷ ps) a.read) (sym (next_waits a.read (p ∷ ps) h) ∙ q);
       unordered = λ e. differ (p ∷ ps ≡ []) e;
@@ -258,3 +265,13 @@ is_left a most h = go (given_by a most) refl (λ o. read_leaves a most o h) (λ 
       read = λ u. read_place a most u;
       lawful = read_lawful a most h;
     }
+
+-- ---- as the call says it
+pub ok_read : {E : Type 0} (r : Result (Option Chunk) E) (a : Arrived) (most : ℕ) (b : Bool) → IsLawful a → b ≡ a.unordered → IfOk r (λ chunk. chunk ≡ given_in b a most) → IfOk r (λ chunk. IsRead a most chunk)
+ok_read (Ok x) a most b h e ok = subst (λ o. IsRead a most o) (sym (ok ∙ ap (λ t. given_in t a most) e)) (is_read a most h)
+ok_read (Err x) a most b h e ok = tt
+
+pub ok_left : {E : Type 0} (r : Result (Option Chunk) E) (a n : Arrived) (most : ℕ) (b : Bool) → IsLawful a → b ≡ a.unordered → IfOk r (λ chunk. chunk ≡ given_in b a most) → OnOk r (n ≡ after_read_in b a most) → IfOk r (λ chunk. IsLeft a chunk n)
+ok_left (Ok x) a n most b h e ok new =
+    subst (λ o. IsLeft a o n) (sym (ok ∙ ap (λ t. given_in t a most) e)) (subst (λ m. IsLeft a (given_by a most) m) (sym (new ∙ ap (λ t. after_read_in t a most) e)) (is_left a most h))
+ok_left (Err x) a n most b h e ok new = tt
