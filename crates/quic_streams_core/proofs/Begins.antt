@@ -8,7 +8,8 @@ use Rattle.quic_streams_core.specs.Waiting.{begins_part, is_new, begins_then}
 use Rattle.quic_streams_core.proofs.Bytes.{from_below, from_behind, from_within, from_front, from_front_behind, from_back, at_gaps, or_none}
 use Rattle.quic_streams_core.proofs.Claims.{gaps_apart}
 use Rattle.quic_streams_core.proofs.Free.{in_below}
-use Rattle.quic_streams_core.proofs.Runs.{in_part, in_past}
+use Rattle.quic_streams_core.proofs.Lawful.{or_false, or_assoc}
+use Rattle.quic_streams_core.proofs.Runs.{and_true, in_part, in_past}
 use Rattle.quic_streams_core.proofs.Runs as runs
 
 -- ---- where a test begins to hold
@@ -85,7 +86,7 @@ comes_edge at bs o full = go (cases_order o at)
     go (inr (inl l)) = edge_of (comes at bs) o false (before (comes at bs) o) (ap is_some (from_below at bs o l)) refl ∙ sym (ne_eqb at o (λ e. omega arith))
     go (inr (inr l)) = past (cases_lt o (at + length bs)) l ∙ sym (ne_eqb at o (λ e. omega arith))
 
-pub part_begins : (at : ℕ) (bs : List ℕ) (ps : List Part) (o : ℕ) → begins_part (with_part at bs ps) o ≡ (edge (comes at bs) o || begins_part ps o)
+part_begins : (at : ℕ) (bs : List ℕ) (ps : List Part) (o : ℕ) → begins_part (with_part at bs ps) o ≡ (edge (comes at bs) o || begins_part ps o)
 part_begins at [] ps o = sym (ap (λ b. b || begins_part ps o) (edge_of (comes at []) o false (before (comes at []) o) (no_bytes at o) refl))
 part_begins at (b ∷ bs) ps o =
     let s : at + length (b ∷ bs) - length (b ∷ bs) ≡ at = omega arith in
@@ -94,14 +95,6 @@ part_begins at (b ∷ bs) ps o =
 -- ---- in the gaps between parts
 abbrev fresh : List Part → ℕ → List ℕ → ℕ → Bool
 fresh ps at bs o = comes at bs o && not (waits ps o)
-
-and_true : (b : Bool) → (b && true) ≡ b
-and_true true = refl
-and_true false = refl
-
-or_false : (b : Bool) → (b || false) ≡ b
-or_false true = refl
-or_false false = refl
 
 front_fresh : (low at : ℕ) (p : Part) (ps : List Part) (bs : List ℕ) (i : ℕ) → AreApart low (p ∷ ps) → fresh (p ∷ ps) at bs i ≡ (comes at (take (start p - at) bs) i || fresh ps (max at p.0) (drop (p.0 - at) bs) i)
 front_fresh low at p ps bs i h = go (cases_lt i (start p)) (cases_lt i p.0)
@@ -124,11 +117,7 @@ front_fresh low at p ps bs i h = go (cases_lt i (start p)) (cases_lt i p.0)
         ap (λ b. comes at bs i && not b) w ∙ sym (ap (λ b. b || fresh ps (max at p.0) (drop (p.0 - at) bs) i) e1 ∙ ap (λ b. b && not (waits ps i)) e2)
 
 or_order : (s b e1 e2 : Bool) → (e1 || (s || (b || e2))) ≡ ((s || b) || (e1 || e2))
-or_order s b false e2 = or_assoc s b e2
-  where
-    or_assoc : (u v x : Bool) → (u || (v || x)) ≡ ((u || v) || x)
-    or_assoc true v x = refl
-    or_assoc false v x = refl
+or_order s b false e2 = sym (or_assoc s b e2)
 or_order true b true e2 = refl
 or_order false true true e2 = refl
 or_order false false true e2 = refl
@@ -180,7 +169,7 @@ beside_span low at below g gs ps bs i s h = go (cases_lt i g.1) (cases_lt i g.0)
         let e3 = at_gaps low ps at (take (g.1 - at) bs) i h in
         rw (t1, t2, e3, e1, e2, or_none (byte_at ps i)) refl
 
-pub free_begin : (low at below o : ℕ) (gs : List Span) (ps : List Part) (bs : List ℕ) → AreSpans below gs → AreApart low ps → low ≤ at → (0 < length bs → at + length bs < 2 ^ 62) → begins_part (with_free gs ps at bs) o ≡ (begins_part ps o || edge (fresh_free gs ps at bs) o)
+free_begin : (low at below o : ℕ) (gs : List Span) (ps : List Part) (bs : List ℕ) → AreSpans below gs → AreApart low ps → low ≤ at → (0 < length bs → at + length bs < 2 ^ 62) → begins_part (with_free gs ps at bs) o ≡ (begins_part ps o || edge (fresh_free gs ps at bs) o)
 free_begin low at below o [] ps bs s h m small = gaps_begin low ps at bs o h
 free_begin low at below o (g ∷ gs) ps bs s h m small =
     let full = s.1 in
@@ -195,12 +184,8 @@ free_begin low at below o (g ∷ gs) ps bs s h m small =
     (λ i l. ap (λ x. is_some x && not (in_spans gs i || waits (with_gaps ps at front) i)) (from_below (max at g.0) back i (omega arith))) in
     free_begin low (max at g.0) (g.0 + 1) o gs (with_gaps ps at front) back s.2 apart (omega arith) (λ l. let k = small (omega arith) in omega arith)
     ∙ ap (λ b. b || edge (fresh_free gs (with_gaps ps at front) (max at g.0) back) o) (gaps_begin low ps at front o h)
-    ∙ sym (or_assoc (begins_part ps o) (edge (fresh ps at front) o) (edge (fresh_free gs (with_gaps ps at front) (max at g.0) back) o))
+    ∙ or_assoc (begins_part ps o) (edge (fresh ps at front) o) (edge (fresh_free gs (with_gaps ps at front) (max at g.0) back) o)
     ∙ ap (λ b. begins_part ps o || b) (sym split)
-  where
-    or_assoc : (u v x : Bool) → (u || (v || x)) ≡ ((u || v) || x)
-    or_assoc true v x = refl
-    or_assoc false v x = refl
 
 -- ---- as they came, with what was given before
 same_new : (a : Arrived) (at : ℕ) (bytes : List ℕ) (i : ℕ) → fresh_free a.picked a.parts (max a.read at) (drop (a.read - at) bytes) i ≡ is_new a at bytes i

@@ -110,11 +110,11 @@ or_swap true false x = refl
 or_swap false true x = refl
 or_swap false false x = refl
 
-or_assoc : (u v x : Bool) → ((u || v) || x) ≡ (u || (v || x))
+pub or_assoc : (u v x : Bool) → ((u || v) || x) ≡ (u || (v || x))
 or_assoc true v x = refl
 or_assoc false v x = refl
 
-or_false : (b : Bool) → (b || false) ≡ b
+pub or_false : (b : Bool) → (b || false) ≡ b
 or_false true = refl
 or_false false = refl
 

@@ -93,7 +93,7 @@ same_runs low joins p ps i h j n = go (cases_order i (start p)) (cases_order i p
         let k : joins i ≡ false = j i (omega arith) in
         rw (b, w, t, k) refl
 
-and_true : (b : Bool) → (b && true) ≡ b
+pub and_true : (b : Bool) → (b && true) ≡ b
 and_true true = refl
 and_true false = refl
 

@@ -11,7 +11,7 @@ use Rattle.quic_streams_core.specs.Arrived.{Arrived, Part, start, AreApart, IsLa
 use Rattle.quic_streams_core.specs.Waiting.{begins_part, end_of, IsChunk, IsRead, IsLeft}
 use Rattle.quic_streams_core.proofs.Bytes.{get-take, from_within, at_below, next_waits}
 use Rattle.quic_streams_core.proofs.Inserted.{begins_above}
-use Rattle.quic_streams_core.proofs.Lawful.{read_lawful, read_given, read_leaves}
+use Rattle.quic_streams_core.proofs.Lawful.{or_false, read_lawful, read_given, read_leaves}
 use Rattle.quic_streams_core.proofs.Picking.{from_start}
 use Rattle.quic_streams_core.proofs.Runs.{in_part, in_past}
 
@@ -114,10 +114,6 @@ is_read a most h = go a.unordered refl
     go false q = next_read a most a.parts q h.apart
 
 -- ---- where a part begins behind it
-or_false : (b : Bool) → (b || false) ≡ b
-or_false true = refl
-or_false false = refl
-
 abbrev Begins : ℕ → Part → List Part → List Part → ℕ → Type 0
 Begins most p ps qs o = begins_part qs o ≡ (not (in_chunk (Some (cut most p)) o) && (begins_part (p ∷ ps) o || (o == end_of (cut most p) && waits (p ∷ ps) o)))
 

@@ -37,7 +37,8 @@ pub fn insertion_is_one()
     ensures { (a b c : Arrived) (at : ℕ) (bytes : List ℕ) → IsInserted a at bytes b → IsInserted a at bytes c → b ≡ c }
 {}
 
-/// No more than [`MOST_PIECES`](crate::MOST_PIECES) parts are kept, or two for each run, or one for each 64 offsets from the first that waits to the last.
+/// No more than [`MOST_PIECES`](crate::MOST_PIECES) parts are kept, or two for each run, or one for each 64 offsets from the
+/// first that waits to the last.
 pub fn few_parts_are_kept()
     ensures { (a : Arrived) (offset : ℕ) (bytes : List ℕ) (ps : List Part) → IsLawful a → offset + length bytes < 2 ^ 62 → ps ≡ (after_insert a offset bytes).parts → length ps ≤ max (max MOST_PIECES (2 * runs_of ps)) (extent ps / 64) }
 {}

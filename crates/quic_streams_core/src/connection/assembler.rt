@@ -148,9 +148,9 @@ impl Assembler {
 
     /// Puts in bytes that came at an offset (RFC 9000, 19.8): those that were not read and do not
     /// wait yet. They end at 2^62 - 1 at most. Parts that touch are joined where there are more
-    /// than [`MOST_PIECES`], more than two for each run, and no fewer than one for each 64 offsets from the
-    /// first that waits to the last. So joining copies no more than 128 bytes for each part that
-    /// goes.
+    /// than [`MOST_PIECES`], more than two for each run, and no fewer than one for each 64 offsets
+    /// from the first that waits to the last. So joining copies no more than 128 bytes for each
+    /// part that goes.
     ///
     /// # Errors
     ///
