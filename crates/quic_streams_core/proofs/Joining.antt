@@ -8,13 +8,14 @@ use Rattle.std.specs.BTreeMap.{insert_entry}
 use Rattle.std.proofs.lemmas.Bool.{ltb-true, ltb-false, leb-false, lt-ltb, le-ltb, eqb-true, eq-eqb}
 use Rattle.std.proofs.Math.ListN.{get_or-append}
 use Rattle.std.proofs.Math.Seq.{get_or-append_right}
+use Rattle.quic_streams_core.specs.declared.connection.assembler.TheConstants.{MOST_PIECES}
 use Rattle.quic_streams_core.specs.Arrived.{Part, start, AreApart, byte_from, byte_at, runs_of, runs_behind, in_front, joined, extent, is_crowded, settled}
 use Rattle.quic_streams_core.specs.PartSteps.{after, touching_at, from_after}
 use Rattle.quic_streams_core.proofs.Bytes.{from_below, from_behind, from_within}
 use Rattle.quic_streams_core.proofs.Filled.{low_small}
 
 -- ---- what two parts that touch are as one
-touch : (p q : Part) (qs : List Part) → AreApart p.0 (q ∷ qs) → start q ≡ p.0 → q.0 ≡ p.0 + length q.1
+pub touch : (p q : Part) (qs : List Part) → AreApart p.0 (q ∷ qs) → start q ≡ p.0 → q.0 ≡ p.0 + length q.1
 touch p q qs h e = let a = h.0 in let b = h.1 in omega arith
 
 in_front_apart : (low : ℕ) (p : Part) (ps : List Part) → AreApart low (p ∷ ps) → AreApart low (in_front p ps)
@@ -154,15 +155,15 @@ settled_byte low ps o h = go (is_crowded ps)
     go true = joined_byte low ps o h
     go false = refl
 
--- then no more than 2048 are left, or two for each run, or one for each 64 offsets
-pub settled_few : (low : ℕ) (ps : List Part) → AreApart low ps → length (settled ps) ≤ max (max 2048 (2 * runs_of (settled ps))) (extent (settled ps) / 64)
-settled_few low ps h = go (ltb 2048 (length ps)) refl (ltb (runs_of ps) (length ps - runs_of ps)) refl (leb (extent ps) (64 * length ps)) refl
+-- then no more than MOST_PIECES are left, or two for each run, or one for each 64 offsets
+pub settled_few : (low : ℕ) (ps : List Part) → AreApart low ps → length (settled ps) ≤ max (max MOST_PIECES (2 * runs_of (settled ps))) (extent (settled ps) / 64)
+settled_few low ps h = go (ltb MOST_PIECES (length ps)) refl (ltb (runs_of ps) (length ps - runs_of ps)) refl (leb (extent ps) (64 * length ps)) refl
   where
-    go : (b : Bool) → ltb 2048 (length ps) ≡ b → (c : Bool) → ltb (runs_of ps) (length ps - runs_of ps) ≡ c → (d : Bool) → leb (extent ps) (64 * length ps) ≡ d → length (cond (b && (c && d)) (joined ps) ps) ≤ max (max 2048 (2 * runs_of (cond (b && (c && d)) (joined ps) ps))) (extent (cond (b && (c && d)) (joined ps) ps) / 64)
+    go : (b : Bool) → ltb MOST_PIECES (length ps) ≡ b → (c : Bool) → ltb (runs_of ps) (length ps - runs_of ps) ≡ c → (d : Bool) → leb (extent ps) (64 * length ps) ≡ d → length (cond (b && (c && d)) (joined ps) ps) ≤ max (max MOST_PIECES (2 * runs_of (cond (b && (c && d)) (joined ps) ps))) (extent (cond (b && (c && d)) (joined ps) ps) / 64)
     go true e true f true g = let l = joined_length ps in omega arith
     go true e true f false g = let k = leb-false (extent ps) (64 * length ps) g in omega arith
     go true e false f d g = let k = ltb-false (runs_of ps) (length ps - runs_of ps) f in omega arith
-    go false e c f d g = let k = ltb-false 2048 (length ps) e in omega arith
+    go false e c f d g = let k = ltb-false MOST_PIECES (length ps) e in omega arith
 
 -- ---- the parts behind an offset
 after_past : (at : ℕ) (ps : List Part) (x : Part) → after at ps ≡ Some x → at < x.0

@@ -20,6 +20,10 @@ pub mod Inserting
 pub mod Kept
 pub mod Joining
 pub mod Extent
+pub mod Begins
+pub mod Inserted
+pub mod Taken
+pub mod OneStep
 pub mod ArrivedHistory
 pub mod BufferedHistory
 pub mod Loose

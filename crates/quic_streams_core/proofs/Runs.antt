@@ -7,16 +7,16 @@ use Rattle.quic_streams_core.proofs.Filled.{low_small}
 use Rattle.quic_streams_core.proofs.Bytes.{from_below, from_behind, from_within, at_below}
 
 -- ---- counting
-count_none : (f : ℕ → Bool) (n : ℕ) → ((i : ℕ) → f i ≡ false) → count_to f n ≡ 0
+pub count_none : (f : ℕ → Bool) (n : ℕ) → ((i : ℕ) → f i ≡ false) → count_to f n ≡ 0
 count_none f zero h = refl
 count_none f (suc n) h = rw (h n, count_none f n h) refl
 
-count_same : (f g : ℕ → Bool) (n : ℕ) → ((i : ℕ) → i < n → f i ≡ g i) → count_to f n ≡ count_to g n
+pub count_same : (f g : ℕ → Bool) (n : ℕ) → ((i : ℕ) → i < n → f i ≡ g i) → count_to f n ≡ count_to g n
 count_same f g zero h = refl
 count_same f g (suc n) h = rw (h n (omega arith), count_same f g n (λ i l. h i (omega arith))) refl
 
 -- two tests that differ at one place alone
-count_but : (f g : ℕ → Bool) (s n : ℕ) → s < n → ((i : ℕ) → (i ≡ s → ⊥) → f i ≡ g i) → g s ≡ false → count_to f n ≡ cond (f s) 1 0 + count_to g n
+pub count_but : (f g : ℕ → Bool) (s n : ℕ) → s < n → ((i : ℕ) → (i ≡ s → ⊥) → f i ≡ g i) → g s ≡ false → count_to f n ≡ cond (f s) 1 0 + count_to g n
 count_but f g s zero l h e = absurd (omega arith)
 count_but f g s (suc n) l h e = go (cases_eq n s) (λ k. count_but f g s n k h e)
   where
@@ -38,34 +38,34 @@ count_but f g s (suc n) l h e = go (cases_eq n s) (λ k. count_but f g s n k h e
         apart n s l q = omega arith
 
 -- ---- what waits beside a first part
-in_below : (low : ℕ) (p : Part) (ps : List Part) (i : ℕ) → AreApart low (p ∷ ps) → i < start p → waits (p ∷ ps) i ≡ false
+pub in_below : (low : ℕ) (p : Part) (ps : List Part) (i : ℕ) → AreApart low (p ∷ ps) → i < start p → waits (p ∷ ps) i ≡ false
 in_below low p ps i h l =
     let big = h.0 in
     let full = h.1 in
     rw (from_below (start p) p.1 i l, at_below p.0 ps i h.2 (omega arith)) refl
 
-in_part : (low : ℕ) (p : Part) (ps : List Part) (i : ℕ) → AreApart low (p ∷ ps) → start p ≤ i → i < p.0 → waits (p ∷ ps) i ≡ true
+pub in_part : (low : ℕ) (p : Part) (ps : List Part) (i : ℕ) → AreApart low (p ∷ ps) → start p ≤ i → i < p.0 → waits (p ∷ ps) i ≡ true
 in_part low p ps i h l m =
     let big = h.0 in
     rw (from_within (start p) p.1 i l (omega arith)) refl
 
-in_past : (low : ℕ) (p : Part) (ps : List Part) (i : ℕ) → AreApart low (p ∷ ps) → p.0 ≤ i → waits (p ∷ ps) i ≡ waits ps i
+pub in_past : (low : ℕ) (p : Part) (ps : List Part) (i : ℕ) → AreApart low (p ∷ ps) → p.0 ≤ i → waits (p ∷ ps) i ≡ waits ps i
 in_past low p ps i h l =
     let big = h.0 in
     rw (from_behind (start p) p.1 i (omega arith)) refl
 
-none_yet : (p : Part) (ps : List Part) (i : ℕ) → AreApart p.0 ps → i < p.0 → waits ps i ≡ false
+pub none_yet : (p : Part) (ps : List Part) (i : ℕ) → AreApart p.0 ps → i < p.0 → waits ps i ≡ false
 none_yet p ps i h l = ap is_some (at_below p.0 ps i h l)
 
 -- a run begins, where what stands right before isn't seen and `joins` says whether it touches
-abbrev begins : (ℕ → Bool) → List Part → ℕ → Bool
+abbrev pub begins : (ℕ → Bool) → List Part → ℕ → Bool
 begins joins ps o = waits ps o && (not (joins o) && not (waits_before ps o))
 
 before_is : (ps : List Part) (o : ℕ) → 0 < o → waits_before ps o ≡ waits ps (o - 1)
 before_is ps o l = rw (ne_eqb o 0 (λ e. omega arith)) refl
 
 -- behind the first part's beginning, the runs are those of the others
-same_runs : (low : ℕ) (joins : ℕ → Bool) (p : Part) (ps : List Part) (i : ℕ) → AreApart low (p ∷ ps) → ((o : ℕ) → low < o → joins o ≡ false) → (i ≡ start p → ⊥) → begins joins (p ∷ ps) i ≡ begins (λ o. o == p.0) ps i
+pub same_runs : (low : ℕ) (joins : ℕ → Bool) (p : Part) (ps : List Part) (i : ℕ) → AreApart low (p ∷ ps) → ((o : ℕ) → low < o → joins o ≡ false) → (i ≡ start p → ⊥) → begins joins (p ∷ ps) i ≡ begins (λ o. o == p.0) ps i
 same_runs low joins p ps i h j n = go (cases_order i (start p)) (cases_order i p.0)
   where
     go : (i ≡ start p) ⊎ ((i < start p) ⊎ (start p < i)) → (i ≡ p.0) ⊎ ((i < p.0) ⊎ (p.0 < i)) → begins joins (p ∷ ps) i ≡ begins (λ o. o == p.0) ps i
@@ -93,12 +93,12 @@ same_runs low joins p ps i h j n = go (cases_order i (start p)) (cases_order i p
         let k : joins i ≡ false = j i (omega arith) in
         rw (b, w, t, k) refl
 
-and_true : (b : Bool) → (b && true) ≡ b
+pub and_true : (b : Bool) → (b && true) ≡ b
 and_true true = refl
 and_true false = refl
 
 -- at its beginning a run begins, unless it joins
-at_start : (low : ℕ) (joins : ℕ → Bool) (p : Part) (ps : List Part) → AreApart low (p ∷ ps) → begins joins (p ∷ ps) (start p) ≡ not (joins (start p))
+pub at_start : (low : ℕ) (joins : ℕ → Bool) (p : Part) (ps : List Part) → AreApart low (p ∷ ps) → begins joins (p ∷ ps) (start p) ≡ not (joins (start p))
 at_start low joins p ps h =
     let big = h.0 in
     let full = h.1 in

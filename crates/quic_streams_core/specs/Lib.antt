@@ -1,5 +1,6 @@
 pub mod Spans
 pub mod Arrived
+pub mod Waiting
 pub mod Offsets
 pub mod Buffered
 pub mod PartSteps

@@ -1,9 +1,11 @@
 //! What the definitions of this crate say together. Each function does nothing: its contract is the law.
-ghost use Rattle.std.specs.Prelude.{◌≡◌, ℕ, ◌+◌, ◌<◌, ◌≤◌, ◌^◌, ◌-◌, ◌*◌, ◌/◌, List, Bool, ◌||◌, [], None, Some, true, false, cond, ltb, max, length, count_by, sum_by, All, IfSome, IsSome, is_some};
+ghost use Rattle.std.specs.Prelude.{◌≡◌, ℕ, ◌+◌, ◌<◌, ◌≤◌, ◌^◌, ◌-◌, ◌*◌, ◌/◌, List, Bool, ◌||◌, [], None, Some, true, false, cond, ltb, max, length, count_by, sum_by, All, IfSome, IsSome, is_some, Option};
 ghost use Rattle.std.specs.List.{slice_get};
 ghost use Rattle.std.specs.Option.{option_or};
 ghost use Rattle.quic_streams_core.specs.Arrived.{Arrived, Part, IsLawful, runs_of, extent, begins_run, count_to, byte_from, byte_at, holds, is_given, after_insert, given_in, given_by, after_read, after_ordering, in_chunk, length_of, bytes_read_of};
+ghost use Rattle.quic_streams_core.specs.Waiting.{IsInserted, IsChunk, IsRead, IsLeft};
 ghost use Rattle.quic_streams_core.specs.declared.connection.assembler.Chunk.{Chunk};
+ghost use Rattle.quic_streams_core.specs.declared.connection.assembler.TheConstants.{MOST_PIECES};
 ghost use Rattle.quic_streams_core.specs.ArrivedHistory.{Call, AreInRange, arrived_after, given_over, was_given, byte_in, first_came, Came};
 
 pub mod bytes_source;
@@ -29,9 +31,16 @@ pub fn first_bytes_stand()
     ensures lawful { (a : Arrived) (offset : ℕ) (bytes : List ℕ) → IsLawful a → offset + length bytes < 2 ^ 62 → IsLawful (after_insert a offset bytes) }
 {}
 
-/// No more than 2048 parts are kept, or two for each run, or one for each 64 offsets from the first that waits to the last.
+/// What is said of the offsets after bytes came determines what is after it: which wait, with which bytes, and where a part of
+/// them begins.
+pub fn insertion_is_one()
+    ensures { (a b c : Arrived) (at : ℕ) (bytes : List ℕ) → IsInserted a at bytes b → IsInserted a at bytes c → b ≡ c }
+{}
+
+/// No more than [`MOST_PIECES`](crate::MOST_PIECES) parts are kept, or two for each run, or one for each 64 offsets from the
+/// first that waits to the last.
 pub fn few_parts_are_kept()
-    ensures { (a : Arrived) (offset : ℕ) (bytes : List ℕ) (ps : List Part) → IsLawful a → offset + length bytes < 2 ^ 62 → ps ≡ (after_insert a offset bytes).parts → length ps ≤ max (max 2048 (2 * runs_of ps)) (extent ps / 64) }
+    ensures { (a : Arrived) (offset : ℕ) (bytes : List ℕ) (ps : List Part) → IsLawful a → offset + length bytes < 2 ^ 62 → ps ≡ (after_insert a offset bytes).parts → length ps ≤ max (max MOST_PIECES (2 * runs_of ps)) (extent ps / 64) }
 {}
 
 /// A read gives bytes that waited, from one offset on: an ordered one from where the stream is read
@@ -54,6 +63,14 @@ pub fn each_offset_is_given_once()
     ensures leaves { (a : Arrived) (max o : ℕ) → IsLawful a → byte_at (after_read a max).parts o ≡ cond (in_chunk (given_by a max) o) None (byte_at a.parts o) }
     ensures counted { (a : Arrived) (max : ℕ) → IsLawful a → bytes_read_of (after_read a max) ≡ bytes_read_of a + length_of (given_by a max) }
     ensures lawful { (a : Arrived) (max : ℕ) → IsLawful a → IsLawful (after_read a max) }
+{}
+
+/// What is said of the offsets at a read determines it: the chunk from an offset on, whether there is one and from where, and
+/// what is after it.
+pub fn reads_are_one()
+    ensures chunk { (a : Arrived) (at max : ℕ) (c d : Chunk) → IsChunk a at max c → IsChunk a at max d → c ≡ d }
+    ensures given { (a : Arrived) (max : ℕ) (c d : Option Chunk) → IsRead a max c → IsRead a max d → c ≡ d }
+    ensures left { (a b c : Arrived) (chunk : Option Chunk) → IsLeft a chunk b → IsLeft a chunk c → b ≡ c }
 {}
 
 /// While no read was unordered, the offsets that were given are those below where the stream is read

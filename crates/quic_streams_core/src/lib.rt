@@ -8,6 +8,6 @@ pub mod laws;
 mod stream_meta;
 
 pub use bytes_source::{ByteSlice, BytesArray, BytesSource};
-pub use connection::assembler::{Assembler, Chunk, IllegalOrderedRead};
+pub use connection::assembler::{Assembler, Chunk, IllegalOrderedRead, MOST_PIECES};
 pub use connection::send_buffer::SendBuffer;
 pub use stream_meta::{ShouldTransmit, StreamMeta};

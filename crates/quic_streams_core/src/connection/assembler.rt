@@ -1,6 +1,7 @@
 // What has arrived of a stream and is not read yet, in parts.
 ghost use Rattle.std.specs.Prelude.{◌≡◌, ◌+◌, ◌<◌, ◌≤◌, ◌^◌, ◌&&◌, length, [], IfOk, IsOk, OnOk, OnErr, is_err, is_some, true, false};
 ghost use Rattle.quic_streams_core.specs.Arrived.{IsLawful, byte_at, bytes_read_of, runs_of, after_insert, is_next_in, given_in, given_by, after_read_in, after_read, after_ordering, cuts};
+ghost use Rattle.quic_streams_core.specs.Waiting.{IsInserted, IsRead, IsLeft};
 
 mod parts;
 
@@ -11,6 +12,9 @@ use std::alloc::{AllocError, Global};
 use std::collections::BTreeMap;
 use std::marker::Model;
 use thiserror::Error;
+
+/// The most runs of a stream that its reader keeps; above this many parts, neighbours are joined.
+pub const MOST_PIECES: usize = 2048;
 
 /// Bytes of a stream, with the offset of the first, as quinn-proto's `Chunk`.
 #[derive(Debug, Drop)]
@@ -144,9 +148,9 @@ impl Assembler {
 
     /// Puts in bytes that came at an offset (RFC 9000, 19.8): those that were not read and do not
     /// wait yet. They end at 2^62 - 1 at most. Parts that touch are joined where there are more
-    /// than 2048, more than two for each run, and no fewer than one for each 64 offsets from the
-    /// first that waits to the last. So joining copies no more than 128 bytes for each part that
-    /// goes.
+    /// than [`MOST_PIECES`], more than two for each run, and no fewer than one for each 64 offsets
+    /// from the first that waits to the last. So joining copies no more than 128 bytes for each
+    /// part that goes.
     ///
     /// # Errors
     ///
@@ -154,6 +158,7 @@ impl Assembler {
     pub fn insert(&mut self, offset: u64, bytes: &[u8]) -> Result<(), AllocError>
         requires { offset + length bytes.now < 2 ^ 62 }
         ensures ok { OnOk result (self.new ≡ after_insert self.old offset bytes.now) }
+        ensures inserted { OnOk result (IsInserted self.old offset bytes.now self.new) }
         ensures err { OnErr result (self.new ≡ self.old) }
     {
         let known = self.read.saturating_sub(offset).min(bytes.len() as u64);
@@ -164,6 +169,7 @@ impl Assembler {
     // An ordered read.
     fn read_next(&mut self, max: usize) -> Result<Option<Chunk>, AllocError>
         requires { self.old.unordered ≡ false }
+        ensures lawful { IsLawful self.old }
         ensures ok { IfOk result (λ chunk. chunk ≡ given_in false self.old max) }
         ensures new { OnOk result (self.new ≡ after_read_in false self.old max) }
         ensures err { OnErr result (self.new ≡ self.old) }
@@ -187,6 +193,7 @@ impl Assembler {
     // An unordered read. The bytes are cut off only once they count as given.
     fn read_any(&mut self, max: usize) -> Result<Option<Chunk>, AllocError>
         requires { self.old.unordered ≡ true }
+        ensures lawful { IsLawful self.old }
         ensures ok { IfOk result (λ chunk. chunk ≡ given_in true self.old max) }
         ensures new { OnOk result (self.new ≡ after_read_in true self.old max) }
         ensures err { OnErr result (self.new ≡ self.old) }
@@ -217,6 +224,8 @@ impl Assembler {
         ensures ok { IfOk result (λ chunk. chunk ≡ given_by self.old max) }
         ensures new { OnOk result (self.new ≡ after_read self.old max) }
         ensures err { OnErr result (self.new ≡ self.old) }
+        ensures chunk { IfOk result (λ chunk. IsRead self.old max chunk) }
+        ensures taken { IfOk result (λ chunk. IsLeft self.old chunk self.new) }
         ensures whole { self.old.unordered ≡ false → cuts self.old.parts self.old.read max ≡ false → IsOk result }
     {
         if self.is_unordered() {

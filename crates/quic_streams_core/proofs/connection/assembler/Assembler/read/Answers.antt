@@ -1,0 +1,15 @@
+use Rattle.std.proofs.Common.{true, false, sym, ◌∙◌}
+use Rattle.quic_streams_core.proofs.Taken.{ok_read, ok_left}
+use Rattle.quic_streams_core.proofs.connection.assembler.Assembler.read.Goals as goal
+
+pub returns-then-is_unordered-clause-chunk : goal.returns-then-is_unordered-clause-chunk
+returns-then-is_unordered-clause-chunk c = ok_read c.read_any.result c.args.self.now c.args.max true c.read_any.ensures.lawful (sym c.if-is_unordered.true ∙ c.is_unordered.ensures) c.read_any.ensures.ok
+
+pub returns-then-is_unordered-clause-taken : goal.returns-then-is_unordered-clause-taken
+returns-then-is_unordered-clause-taken c = ok_left c.read_any.result c.args.self.now _ c.args.max true c.read_any.ensures.lawful (sym c.if-is_unordered.true ∙ c.is_unordered.ensures) c.read_any.ensures.ok c.read_any.ensures.new
+
+pub returns-else-is_unordered-clause-chunk : goal.returns-else-is_unordered-clause-chunk
+returns-else-is_unordered-clause-chunk c = ok_read c.read_next.result c.args.self.now c.args.max false c.read_next.ensures.lawful (sym c.if-is_unordered.false ∙ c.is_unordered.ensures) c.read_next.ensures.ok
+
+pub returns-else-is_unordered-clause-taken : goal.returns-else-is_unordered-clause-taken
+returns-else-is_unordered-clause-taken c = ok_left c.read_next.result c.args.self.now _ c.args.max false c.read_next.ensures.lawful (sym c.if-is_unordered.false ∙ c.is_unordered.ensures) c.read_next.ensures.ok c.read_next.ensures.new
