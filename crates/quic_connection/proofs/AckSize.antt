@@ -3,7 +3,7 @@ use Rattle.std.proofs.Common.{◌≡◌, ℕ, ◌+◌, ◌-◌, ◌*◌, ◌≤�
 use Rattle.std.proofs.lemmas.List.{length-append}
 use Rattle.quic_wire_core.specs.Law.{length-shortest, varint_size_le}
 use Rattle.quic_wire_core.specs.Varint.{shortest}
-use Rattle.quic_wire_core.specs.Runs.{Run}
+use Rattle.quic_sets.specs.Runs.{Run}
 use Rattle.quic_wire.specs.Value.{AckValue}
 use Rattle.quic_wire.specs.NumbersWritten.{written, width_of, widths}
 use Rattle.quic_wire.specs.AckGrammar.{range_numbers, ack_numbers}

@@ -1,7 +1,7 @@
 -- The greatest number of a set is the one that its ACK frame names.
 use Rattle.std.proofs.Common.{◌≡◌, ℕ, ◌≤◌, List, [], ◌∷◌, Option, Some, None, refl, inl, inr, arith}
 use Rattle.std.specs.Option.{MatchOption, unwrap_or}
-use Rattle.quic_wire_core.specs.Runs.{Run, Has, AreRuns, IsGreatest}
+use Rattle.quic_sets.specs.Runs.{Run, Has, AreRuns, IsGreatest}
 use Rattle.quic_wire.specs.AckGrammar.{Below, GoDown, InRanges}
 use Rattle.quic_wire.specs.AckSet.{ranges_of_set, greatest}
 use Rattle.quic_wire.proofs.AckSet.{set_down, set_numbers}

@@ -8,7 +8,7 @@ use Rattle.quic_wire_core.specs.declared.stream_id.Side.{Side}
 use Rattle.quic_wire_core.specs.declared.stream_id.Dir.{Dir}
 use Rattle.quic_wire_core.specs.declared.stream_id.Dir.TheVariants.{Bi}
 use Rattle.quic_wire_core.specs.StreamId.{stream_id, index_of, other_side}
-use Rattle.quic_wire_core.specs.Runs.{Run, Has}
+use Rattle.quic_sets.specs.Runs.{Run, Has}
 use Rattle.quic_wire.specs.Value.{FrameValue, StreamValue, AckValue, ack, stream, padding, ping}
 use Rattle.quic_wire.specs.AckSet.{IsSmall}
 use Rattle.quic_wire.specs.Number.{truncated}
@@ -27,7 +27,7 @@ use Rattle.quic_recovery_core.specs.PendingAcks as pending
 use Rattle.quic_connection_core.specs.Tracking.{names}
 use Rattle.quic_connection_core.specs.Sending.{Sending, SendHalf, opens, next_id}
 use Rattle.quic_connection_core.specs.Receiving.{Receiving, RecvHalf, may_receive}
-use Rattle.quic_wire_core.specs.Runs.{Has}
+use Rattle.quic_sets.specs.Runs.{Has}
 use Rattle.quic_connection_core.specs.declared.answers.StreamEvent.{StreamEvent}
 use Rattle.quic_connection_core.specs.declared.answers.StreamEvent.TheVariants.{Finished}
 use Rattle.quic_connection_core.specs.Tracking.{TrackedPacket, carried_in}

@@ -5,7 +5,7 @@ use Rattle.std.proofs.lemmas.List.{length-drop}
 use Rattle.quic_wire_core.specs.declared.stream_id.Side.{Side}
 use Rattle.quic_wire_core.specs.declared.stream_id.Dir.{Dir}
 use Rattle.quic_wire_core.specs.declared.stream_id.Dir.TheVariants.{Bi, Uni}
-use Rattle.quic_wire_core.specs.Runs.{Has}
+use Rattle.quic_sets.specs.Runs.{Has}
 use Rattle.quic_wire.specs.Value.{AckValue}
 use Rattle.quic_streams_core.specs.Buffered.{done, acknowledged}
 use Rattle.quic_streams_core.specs.declared.stream_meta.StreamMeta.{StreamMeta}

@@ -8,7 +8,7 @@ use Rattle.quic_wire.specs.Reading.{block_at, sized_at, offset_at, data_at, stre
 use Rattle.quic_wire.specs.Items.{frame_at, items_within, items}
 use Rattle.quic_wire.specs.Writing.{stream_spelling}
 use Rattle.quic_streams_core.specs.Offsets.{without_offsets, parts_from}
-use Rattle.quic_wire_core.specs.Pieces.{pieces}
+use Rattle.quic_sets.specs.Pieces.{pieces}
 use Rattle.quic_connection_core.specs.declared.answers.ReadError.TheVariants as read_errors
 use Rattle.quic_connection_core.specs.declared.answers.Received.TheVariants as receives
 use Rattle.quic_connection_core.specs.declared.run.ReadCall.{ReadCall}

@@ -1,7 +1,7 @@
 -- What deliveries and reads leave as it was: all that the end writes from.
 use Rattle.std.proofs.Common.{◌≡◌, ℕ, Bool, true, false, not, ◌||◌, ◌==◌, List, [], ◌∷◌, map, Option, Some, None, Result, Ok, Err, refl, sym, ap, ◌∙◌, arith}
 use Rattle.std.specs.Prelude.{if◌then◌else◌, max, nat_le, unwrap_or}
-use Rattle.quic_wire_core.specs.Runs.{Has}
+use Rattle.quic_sets.specs.Runs.{Has}
 use Rattle.quic_wire.specs.Value.{FrameValue, AckValue, ack, stream, new_token, handshake_done}
 use Rattle.quic_wire.specs.Datagram.{Opening}
 use Rattle.quic_wire.specs.Items.{items}

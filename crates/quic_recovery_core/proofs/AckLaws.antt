@@ -2,8 +2,8 @@
 use Rattle.std.proofs.Common.{◌≡◌, ℕ, ◌+◌, ◌≤◌, ◌<◌, ◌⊎◌, ◌↔◌, true, false, Option, Some, None, List, [], ◌∷◌, length, refl, sym, ap, subst, inl, inr, arith}
 use Rattle.std.specs.Prelude.{nat_lt, not, is_some, is_none, IsTrue, MatchOption}
 use Rattle.std.proofs.lemmas.Bool.{cases_lt, cases_Bool, lt-ltb, le-ltb, cond-true, cond-false, and_cases, not-false}
-use Rattle.quic_wire_core.specs.Runs.{Run, Has, AreRuns}
-use Rattle.quic_wire_core.proofs.RunLists.{at_least}
+use Rattle.quic_sets.specs.Runs.{Run, Has, AreRuns}
+use Rattle.quic_sets.proofs.RunLists.{at_least}
 use Rattle.quic_recovery_core.specs.Duplicates.{Seen}
 use Rattle.quic_recovery_core.specs.PendingAcks.{Pending, with_one, but_least, at_most, above, newer, can_send, starts_wait, with_wait, asking_counted, after_packet}
 use Rattle.quic_recovery_core.specs.AckRuns.{Change, came, known, runs_after, IsInLeast, IsDropped, Waits, newest_after, AreBelow, IsNewest}

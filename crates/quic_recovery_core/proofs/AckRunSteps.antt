@@ -2,8 +2,8 @@
 use Rattle.std.proofs.Common.{◌≡◌, ℕ, suc, ◌+◌, ◌-◌, ◌^◌, ◌≤◌, ◌<◌, ◌⊎◌, true, false, cond, max, min, Option, Some, None, List, [], ◌∷◌, length, sym, ap, ◌∙◌, subst, inl, inr, arith}
 use Rattle.std.specs.Prelude.{◌==◌, nat_lt, MatchOption}
 use Rattle.std.proofs.lemmas.Bool.{cases_lt, cases_eq, lt-ltb, le-ltb, cond-true, cond-false}
-use Rattle.quic_wire_core.specs.Runs.{Run, Has, AreRunsFrom, AreRuns, Adds, Drops}
-use Rattle.quic_wire_core.proofs.RunLists.{same_list, lower}
+use Rattle.quic_sets.specs.Runs.{Run, Has, AreRunsFrom, AreRuns, Adds, Drops}
+use Rattle.quic_sets.proofs.RunLists.{same_list, lower}
 use Rattle.quic_recovery_core.specs.PendingAcks.{joined, with_one, but_least, at_most, if_any, above, IsKept}
 use Rattle.quic_recovery_core.specs.declared.spaces.pending_acks.TheConstants.{MAX_ACK_RUNS}
 

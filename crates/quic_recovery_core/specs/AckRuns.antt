@@ -1,6 +1,6 @@
 -- Numbers to acknowledge that come and go, one after another.
 use Rattle.std.specs.Prelude.{◌≡◌, ℕ, ◌≤◌, ◌<◌, ◌⊎◌, List, [], ◌∷◌, length, Option, None}
-use Rattle.quic_wire_core.specs.Runs.{Run, In}
+use Rattle.quic_sets.specs.Runs.{Run, In}
 use Rattle.quic_recovery_core.specs.PendingAcks.{with_one, at_most, above, newer}
 use Rattle.quic_recovery_core.specs.declared.spaces.pending_acks.TheConstants.{MAX_ACK_RUNS}
 

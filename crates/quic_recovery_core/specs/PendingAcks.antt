@@ -1,6 +1,6 @@
 -- Which packet numbers are to be acknowledged, and when (RFC 9000, section 13.2; the ACK frequency extension, section 6).
 use Rattle.std.specs.Prelude.{ℕ, ◌+◌, ◌-◌, ◌^◌, ◌≤◌, ◌<◌, Bool, true, false, cond, min, max, not, nat_lt, nat_le, ◌==◌, ◌&&◌, ◌||◌, List, [], ◌∷◌, length, Option, Some, None, unwrap_or, is_some, is_none}
-use Rattle.quic_wire_core.specs.Runs.{Run, Has, AreRuns}
+use Rattle.quic_sets.specs.Runs.{Run, Has, AreRuns}
 use Rattle.quic_recovery_core.specs.Duplicates.{Seen, smallest_missing}
 use Rattle.quic_recovery_core.specs.declared.spaces.pending_acks.TheConstants.{MAX_ACK_RUNS, LAZY_ACK_THRESHOLD}
 

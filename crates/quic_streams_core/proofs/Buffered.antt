@@ -2,7 +2,7 @@
 use Rattle.std.proofs.Common.{◌≡◌, ℕ, ◌+◌, ◌-◌, ◌^◌, ◌≤◌, ◌<◌, ◌⊎◌, ◌↔◌, ◌==◌, min, max, List, [], ◌∷◌, ◌++◌, length, drop, refl, sym, ap, subst, inl, inr, arith, ◌∙◌, length-append, length-drop}
 use Rattle.std.proofs.lemmas.Bool.{cases_lt, cases_Bool, le-leb, lt-leb, eqb-true, eqb-false}
 use Rattle.std.specs.Prelude.{Result, Ok, Err, OnOk, OnErr}
-use Rattle.quic_wire_core.specs.Runs.{Run, Has, AreRuns, Adds, Drops}
+use Rattle.quic_sets.specs.Runs.{Run, Has, AreRuns, Adds, Drops}
 use Rattle.quic_streams_core.specs.Lacking.{AddsLacking}
 use Rattle.quic_streams_core.specs.Offsets.{first_or, first_lacking, with_offsets, without_offsets, with_all, lacking}
 use Rattle.quic_streams_core.specs.Buffered.{Buffered, IsBuffered, AreFilled, ReachPast, bytes_in, written, first_unacknowledged, piece_of, after_write, passed, pieces_behind, done, trimmed, acknowledged, after_ack, after_loss, sent_count, room_behind, next_range, next_start, next_count, sent_end, after_poll}

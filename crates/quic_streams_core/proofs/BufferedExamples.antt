@@ -2,7 +2,7 @@
 use Rattle.std.proofs.Common.{◌≡◌, ℕ, List, [], ◌∷◌, Bool, true, false, refl}
 use Rattle.quic_streams_core.specs.Buffered.{Buffered, nothing_written, after_write, after_poll, after_loss, after_ack, next_start, sent_end, writes_length, first_unacknowledged}
 use Rattle.quic_streams_core.specs.Offsets.{with_offsets, without_offsets, parts_from}
-use Rattle.quic_wire_core.specs.Pieces.{pieces, with_range, joining}
+use Rattle.quic_sets.specs.Pieces.{pieces, with_range, joining}
 use Rattle.std.specs.Prelude.{replicate}
 
 -- where the frame begins and ends, and whether its length is written

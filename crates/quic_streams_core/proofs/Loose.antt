@@ -6,7 +6,7 @@ use Rattle.std.specs.declared.cmp.Ordering.TheVariants.{Less, Greater}
 use Rattle.std.specs.Map.{lookup, remove_entry, set_value}
 use Rattle.std.specs.BTreeMap.{insert_entry, is_at}
 use Rattle.std.proofs.lemmas.Bool.{ltb-true, ltb-false, lt-ltb, le-ltb, eqb-true, eqb-false, cases_lt, or_cases, or_left, or_right, and_parts, and_from, not-true, not_from_false, both_ways}
-use Rattle.quic_wire_core.specs.Runs.{Run, Has, AreRunsFrom}
+use Rattle.quic_sets.specs.Runs.{Run, Has, AreRunsFrom}
 use Rattle.quic_streams_core.specs.Spans.{Span, in_span, in_spans, next_span}
 use Rattle.quic_streams_core.specs.Loose.{LieWithin, run_before, maximal}
 use Rattle.quic_streams_core.proofs.Filled.{not_at}

@@ -6,9 +6,9 @@ use Rattle.std.specs.Result.{OnErr}
 use Rattle.std.specs.declared.result.Result.{Result}
 use Rattle.std.specs.declared.result.Result.TheVariants.{Ok, Err}
 use Rattle.std.proofs.lemmas.Bool.{cases_lt, cases_order, leb-true, leb-false, or_cases, or_left, or_right, and_parts, and_from, not-true, not_from_false, false_from_ne_true, both_ways}
-use Rattle.quic_wire_core.specs.Runs.{Run, Has, AreRuns, Adds, Drops}
+use Rattle.quic_sets.specs.Runs.{Run, Has, AreRuns, Adds, Drops}
 use Rattle.quic_streams_core.specs.Lacking.{AddsLacking}
-use Rattle.quic_wire_core.proofs.RunLists.{at_least, same_list}
+use Rattle.quic_sets.proofs.RunLists.{at_least, same_list}
 use Rattle.quic_streams_core.specs.Spans.{Span, in_span, in_spans, next_span}
 use Rattle.quic_streams_core.specs.Loose.{LieWithin, greatest, AreLoose, maximal, run_before, IsCut, held_end, IsReach}
 use Rattle.quic_streams_core.proofs.Spans.{next_past, next_in}

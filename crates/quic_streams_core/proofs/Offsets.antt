@@ -1,12 +1,12 @@
 -- Sets of offsets: the words for what a call leaves have the offsets that they should, and are maximal runs.
 use Rattle.std.proofs.Common.{◌≡◌, ℕ, ◌+◌, ◌≤◌, ◌<◌, ◌↔◌, true, false, cond, ltb, leb, max, List, [], ◌∷◌, refl, ap, inl, inr, arith}
 use Rattle.std.proofs.lemmas.Bool.{cases_lt, lt-ltb, le-ltb, le-leb, leb-true, ltb-true, and_parts, and_from, or_cases, or_left, or_right, false_from_ne_true, both_ways}
-use Rattle.quic_wire_core.specs.Runs.{Run, Has, AreRunsFrom, AreRuns, Adds, Drops, IsUnion, IsDifference}
+use Rattle.quic_sets.specs.Runs.{Run, Has, AreRunsFrom, AreRuns, Adds, Drops, IsUnion, IsDifference}
 use Rattle.quic_streams_core.specs.Lacking.{AddsLacking}
-use Rattle.quic_wire_core.specs.Pieces.{pieces}
-use Rattle.quic_wire_core.proofs.RunLists.{at_least, same_list, has_left, has_right, has_either, joined, after}
-use Rattle.quic_wire_core.proofs.Joining.{with_range_is, with_range_runs, adds_none}
-use Rattle.quic_wire_core.proofs.PieceSteps.{pieces_numbers, pieces_runs}
+use Rattle.quic_sets.specs.Pieces.{pieces}
+use Rattle.quic_sets.proofs.RunLists.{at_least, same_list, has_left, has_right, has_either, joined, after}
+use Rattle.quic_sets.proofs.Joining.{with_range_is, with_range_runs, adds_none}
+use Rattle.quic_sets.proofs.PieceSteps.{pieces_numbers, pieces_runs}
 use Rattle.quic_streams_core.specs.Offsets.{is_within, has, first_or, first_lacking, span, with_offsets, parts_from, without_offsets, with_all, without_all, lacking}
 
 -- ---- tests and sets

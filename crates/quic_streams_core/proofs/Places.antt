@@ -3,7 +3,7 @@ use Rattle.std.proofs.Common.{◌≡◌, ℕ, ◌+◌, ◌-◌, ◌≤◌, ◌<�
 use Rattle.std.specs.List.{slice_get}
 use Rattle.std.proofs.lemmas.Bool.{cases_lt, cases_Bool, lt-ltb, le-ltb, le-leb, lt-leb, leb-true, ltb-true, ltb-false, eqb-true, eq-eqb, or_parts, and_parts, and_from, or_cases, or_left, or_right, or_from, not_from_false, not-true, false_from_ne_true, both_ways}
 use Rattle.std.proofs.lemmas.List.{drop_at}
-use Rattle.quic_wire_core.specs.Runs.{Run, Has, AreRuns}
+use Rattle.quic_sets.specs.Runs.{Run, Has, AreRuns}
 use Rattle.quic_streams_core.specs.Arrived.{byte_from}
 use Rattle.quic_streams_core.specs.Offsets.{is_within, has, has_any, first_or, with_offsets, without_offsets, with_all, lacking}
 use Rattle.quic_streams_core.specs.Buffered.{Buffered, IsBuffered, AreSamePlaces, ReachPast, bytes_in, written, first_unacknowledged, is_fully_acked, has_unsent, after_write, places, kept_byte, done, acknowledged, is_acknowledged, is_lost, is_unsent, is_in_flight, after_ack, after_loss, next_start, sent_end, after_poll}

@@ -1,6 +1,6 @@
 -- What was written to a stream and may have to be sent (RFC 9000, 2.2 and 13.3).
 use Rattle.std.specs.Prelude.{◌≡◌, ℕ, ◌+◌, ◌-◌, ◌^◌, ◌<◌, ◌≤◌, ◌==◌, Bool, cond, ltb, leb, not, ◌&&◌, ◌||◌, min, max, List, [], ◌∷◌, ◌++◌, length, drop, Option, Some, None}
-use Rattle.quic_wire_core.specs.Runs.{Run, Has, AreRuns}
+use Rattle.quic_sets.specs.Runs.{Run, Has, AreRuns}
 use Rattle.quic_streams_core.specs.Offsets.{has, has_any, first_or, first_lacking, with_offsets, without_offsets, with_all, lacking}
 use Rattle.quic_streams_core.specs.Arrived.{byte_from}
 

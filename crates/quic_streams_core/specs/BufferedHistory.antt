@@ -1,6 +1,6 @@
 -- What the calls of a send buffer make, one after another.
 use Rattle.std.specs.Prelude.{ℕ, Bool, false, not, ◌&&◌, ◌||◌, List, [], ◌∷◌, ◌++◌}
-use Rattle.quic_wire_core.specs.Runs.{Run}
+use Rattle.quic_sets.specs.Runs.{Run}
 use Rattle.quic_streams_core.specs.Offsets.{is_within, has}
 use Rattle.quic_streams_core.specs.Buffered.{Buffered, nothing_written, after_write, after_ack, after_loss, after_poll, next_start, sent_end}
 

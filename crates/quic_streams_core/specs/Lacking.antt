@@ -1,6 +1,6 @@
 -- What of a range another set lacks.
 use Rattle.std.specs.Prelude.{ℕ, ◌≤◌, ◌<◌, ◌⊎◌, ◌↔◌, List}
-use Rattle.quic_wire_core.specs.Runs.{Run, Has}
+use Rattle.quic_sets.specs.Runs.{Run, Has}
 
 -- the number is one from a up to b, and lacks in the other set
 abbrev pub IsLacking : List Run → ℕ → ℕ → ℕ → Type 0

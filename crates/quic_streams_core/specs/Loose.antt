@@ -3,7 +3,7 @@ use Rattle.std.specs.Prelude.{◌≡◌, ℕ, true, false, leb, Bool, ◌&&◌, 
 use Rattle.std.specs.Ordering.{nat_cmp}
 use Rattle.std.specs.Map.{lookup}
 use Rattle.std.specs.BTreeMap.{insert_entry, is_at}
-use Rattle.quic_wire_core.specs.Runs.{Run}
+use Rattle.quic_sets.specs.Runs.{Run}
 use Rattle.quic_streams_core.specs.Spans.{Span, in_span, in_spans}
 
 -- runs from `low` up to `high`, none empty, one behind the other

@@ -1,8 +1,8 @@
 -- Sets of offsets as their maximal runs: what they have, and one range or the runs of another set more or less.
 use Rattle.std.specs.Prelude.{ℕ, Bool, true, false, cond, ltb, leb, ◌&&◌, ◌||◌, max, List, [], ◌∷◌, ◌++◌, map}
 use Rattle.std.specs.List.{filter}
-use Rattle.quic_wire_core.specs.Runs.{Run}
-use Rattle.quic_wire_core.specs.Pieces.{pieces, is_filled, with_range}
+use Rattle.quic_sets.specs.Runs.{Run}
+use Rattle.quic_sets.specs.Pieces.{pieces, is_filled, with_range}
 
 -- whether an offset is one from a up to z
 abbrev pub is_within : ℕ → ℕ → ℕ → Bool

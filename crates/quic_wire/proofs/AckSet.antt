@@ -1,7 +1,7 @@
 -- The ranges of a set go down, hold the numbers of the set, and are as many as its runs.
 use Rattle.std.proofs.Common.{◌≡◌, ℕ, ◌+◌, ◌-◌, ◌*◌, ◌≤◌, ◌<◌, ◌^◌, List, [], ◌∷◌, ◌++◌, length, map, reverse, Option, None, refl, sym, ap, ◌∙◌, ◌↔◌, ◌⊎◌, inl, inr, arith}
 use Rattle.std.proofs.lemmas.List.{length-map, length-reverse, map-append, reverse-append, nil_from_length}
-use Rattle.quic_wire_core.specs.Runs.{Run, Has, AreRunsFrom, AreRuns}
+use Rattle.quic_sets.specs.Runs.{Run, Has, AreRunsFrom, AreRuns}
 use Rattle.quic_wire.specs.AckGrammar.{Below, GoDown, EcnFits, AckFits, InRanges, has_ecn, range_numbers, ecn_numbers, ack_numbers}
 use Rattle.quic_wire.specs.FrameTypes.{is_ack, type_of}
 use Rattle.quic_wire.specs.AckSet.{range_of_run, ranges_of_set, greatest, ack_of_set, IsSmall}

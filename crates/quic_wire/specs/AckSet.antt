@@ -1,6 +1,6 @@
 -- Sets of numbers as ACK frames (RFC 9000, section 19.3.1).
 use Rattle.std.specs.Prelude.{ℕ, ◌-◌, ◌<◌, ◌^◌, List, [], ◌∷◌, map, reverse, Option}
-use Rattle.quic_wire_core.specs.Runs.{Run, Has}
+use Rattle.quic_sets.specs.Runs.{Run, Has}
 use Rattle.quic_wire.specs.Value.{AckValue}
 
 -- The least and the greatest number of a run.

@@ -5,7 +5,7 @@ ghost use Rattle.quic_wire.specs.Value.{FrameValue, StreamValue, ack, padding, s
 ghost use Rattle.quic_wire.specs.FrameTypes.{Kind, IsKnown, kind_of, type_of};
 ghost use Rattle.quic_wire.specs.Grammar.{Ends, IsForm, Payload};
 ghost use Rattle.quic_wire.specs.Items.{items, EndsAtRefusal};
-ghost use Rattle.quic_wire_core.specs.Runs.{Run, Has, AreRuns};
+ghost use Rattle.quic_sets.specs.Runs.{Run, Has, AreRuns};
 ghost use Rattle.quic_wire.specs.AckGrammar.{EcnFits, InRanges};
 ghost use Rattle.quic_wire.specs.AckSet.{ack_of_set, IsSmall};
 ghost use Rattle.quic_wire.specs.AckWriting.{ack_spelling};

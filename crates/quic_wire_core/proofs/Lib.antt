@@ -1,9 +1,1 @@
 mod Examples
-mod RunExamples
-pub mod RunLists
-pub mod RunEdits
-mod ElementSteps
-pub mod Joining
-mod JoinSteps
-pub mod PieceSteps
-mod PieceExamples

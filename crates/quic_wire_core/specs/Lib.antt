@@ -10,8 +10,3 @@ pub mod Reason
 pub mod TransportError
 pub mod TransportErrorLaw
 pub mod Ecn
-pub mod Runs
-pub mod RunEdits
-pub mod Elements
-pub mod Pieces
-pub mod Replacing

@@ -3,10 +3,8 @@ ghost use Rattle.std.specs.Prelude.{◌≡◌, ℕ, ◌<◌, ◌≤◌, ◌^◌,
 ghost use Rattle.std.specs.Cmp.Lexicographic.{pointwise};
 ghost use Rattle.std.specs.Int.{w8, w16, w32, w64};
 ghost use Rattle.std.specs.declared.cmp.Ordering.TheVariants.{Equal};
-ghost use Rattle.std.specs.List.{Contains};
 ghost use Rattle.quic_wire_core.specs.Coding.{IsBytes, fixed_at, BeginsWith};
 ghost use Rattle.quic_wire_core.specs.ConnectionId.{id_cmp};
-ghost use Rattle.quic_wire_core.specs.Runs.{Run, AreRuns, AreSame, IsMaximal};
 ghost use Rattle.quic_wire_core.specs.StreamId.{stream_id, initiator_of, dir_of, index_of};
 ghost use Rattle.quic_wire_core.specs.StreamIdLaw.{AreSameParts};
 ghost use Rattle.quic_wire_core.specs.TransportError.{ErrorValue, same_error};
@@ -93,14 +91,4 @@ pub fn connection_ids_are_their_bytes()
 /// What `==` answers of two errors of the transport: whether they have the same code and the same frame.
 pub fn errors_are_code_and_frame()
     ensures { (a b : ErrorValue) → IsTrue (same_error a b) ↔ a ≡ b }
-{}
-
-/// Two lists of maximal runs that have the same numbers are the same list: a set has one.
-pub fn runs_are_their_numbers()
-    ensures { (a b : List Run) → AreRuns a → AreRuns b → AreSame a b → a ≡ b }
-{}
-
-/// The runs of a set are maximal: the numbers beside one aren't in the set.
-pub fn runs_are_maximal()
-    ensures { (runs : List Run) (run : Run) → AreRuns runs → Contains runs run → IsMaximal runs run }
 {}

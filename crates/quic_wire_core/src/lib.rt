@@ -4,7 +4,6 @@
 mod coding;
 mod frame_type;
 pub mod laws;
-mod range_set;
 mod reason;
 mod shared;
 mod stream_id;
@@ -14,7 +13,6 @@ mod varint;
 
 pub use coding::{Codec, UnexpectedEnd};
 pub use frame_type::FrameType;
-pub use range_set::{ArrayRangeSet, EltIter, Iter, RangeSet, Replace};
 pub use reason::Reason;
 pub use shared::{ConnectionId, EcnCodepoint, IssuedCid, MAX_CID_SIZE};
 pub use stream_id::{Dir, Side, StreamId};

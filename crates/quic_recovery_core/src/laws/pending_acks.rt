@@ -1,6 +1,6 @@
 //! Numbers to acknowledge that come and go (RFC 9000, section 13.2).
 ghost use Rattle.std.specs.Prelude.{◌≡◌, ℕ, ◌+◌, ◌-◌, ◌^◌, ◌<◌, ◌≤◌, ◌⊎◌, ◌↔◌, List, [], ◌∷◌, true, unwrap_or, length, min, is_some, IsTrue, MatchOption};
-ghost use Rattle.quic_wire_core.specs.Runs.{Has, AreRuns};
+ghost use Rattle.quic_sets.specs.Runs.{Has, AreRuns};
 ghost use Rattle.quic_recovery_core.specs.Duplicates.{Seen};
 ghost use Rattle.quic_recovery_core.specs.DuplicateRuns.{seen_after, Lacks};
 ghost use Rattle.quic_recovery_core.specs.PendingAcks.{Pending, can_send, after_insert, after_packet, with_one, IsKept};

@@ -4,7 +4,7 @@ ghost use Rattle.std.specs.Prelude.{◌≡◌, ℕ, ◌+◌, ◌<◌, ◌≤◌,
 ghost use Rattle.std.specs.Map.{set_value};
 ghost use Rattle.std.specs.BTreeMap.{is_at};
 ghost use Rattle.std.specs.Ordering.{nat_cmp};
-ghost use Rattle.quic_wire_core.specs.Runs.{Has, AreRuns, Adds, Drops};
+ghost use Rattle.quic_sets.specs.Runs.{Has, AreRuns, Adds, Drops};
 ghost use Rattle.quic_streams_core.specs.Lacking.{AddsLacking};
 ghost use Rattle.quic_streams_core.specs.Spans.{in_span, in_spans, next_span, first_from};
 ghost use Rattle.quic_streams_core.specs.Loose.{AreLoose, IsCut, FitsRun, inside_at, held_end, IsReach, maximal, touches, AreApartAt};
@@ -27,7 +27,7 @@ pub(crate) struct OffsetSet {
 
 impl Model for OffsetSet {
     ghost use Rattle.std.specs.Prelude.{List};
-    ghost use Rattle.quic_wire_core.specs.Runs.{Run};
+    ghost use Rattle.quic_sets.specs.Runs.{Run};
     ghost use Rattle.quic_streams_core.specs.Loose.{AreLoose, maximal};
 
     ghost Value = { List Run };

@@ -4,7 +4,8 @@ ghost use Rattle.quic_wire.specs.AckCounts.{one_more};
 
 use crate::frame::writing::write_numbers;
 use bytes::BufMut;
-use quic_wire_core::{ArrayRangeSet, EcnCodepoint, FrameType};
+use quic_sets::ArrayRangeSet;
+use quic_wire_core::{EcnCodepoint, FrameType};
 use std::alloc::AllocError;
 use std::marker::Model;
 use std::ops::{AddAssign, RangeInclusive};

@@ -2,7 +2,8 @@
 use crate::frame::ack::{COUNTS, SAMPLE};
 use crate::lacking::range_set::few_of;
 use quic_wire::frame::{Ack, Frame, Stream, write_frame};
-use quic_wire_core::{ArrayRangeSet, StreamId, VarInt};
+use quic_sets::ArrayRangeSet;
+use quic_wire_core::{StreamId, VarInt};
 use std::alloc::AllocError;
 use std::test::Fail;
 

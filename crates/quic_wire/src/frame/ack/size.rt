@@ -1,6 +1,6 @@
 //! How many bytes acknowledgements take.
 ghost use Rattle.std.specs.Prelude.{◌≡◌, ◌+◌, ◌*◌, ◌<◌, ◌≤◌, ◌^◌, [], length};
-ghost use Rattle.quic_wire_core.specs.Runs.{AreRuns};
+ghost use Rattle.quic_sets.specs.Runs.{AreRuns};
 ghost use Rattle.quic_wire.specs.AckGrammar.{Below, AckFits, range_numbers, ecn_numbers};
 ghost use Rattle.quic_wire.specs.AckSet.{ranges_of_set, ack_of_set, IsSmall};
 ghost use Rattle.quic_wire.specs.AckView.{ecn_view};

@@ -1,6 +1,6 @@
 //! Acknowledgements to bytes: each number in its shortest form (RFC 9000, section 16).
 ghost use Rattle.std.specs.Prelude.{◌≡◌, ◌<◌, ◌^◌, ◌++◌, [], OnOk, OnErr};
-ghost use Rattle.quic_wire_core.specs.Runs.{AreRuns};
+ghost use Rattle.quic_sets.specs.Runs.{AreRuns};
 ghost use Rattle.quic_wire.specs.AckGrammar.{Below, AckFits, has_ecn, range_numbers, ecn_numbers};
 ghost use Rattle.quic_wire.specs.AckSet.{ranges_of_set, ack_of_set, IsSmall};
 ghost use Rattle.quic_wire.specs.AckView.{ecn_view};

@@ -1,5 +1,5 @@
 use Rattle.std.proofs.Common.{List, sym, subst}
-use Rattle.quic_wire_core.specs.Runs.{Run}
+use Rattle.quic_sets.specs.Runs.{Run}
 use Rattle.quic_recovery_core.specs.PendingAcks.{IsKept}
 use Rattle.quic_recovery_core.proofs.AckRunSteps.{cut_is, above_kept}
 use Rattle.quic_recovery_core.proofs.spaces.pending_acks.cut.Goals as goal

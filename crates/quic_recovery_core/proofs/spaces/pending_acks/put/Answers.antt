@@ -1,5 +1,5 @@
 use Rattle.std.proofs.Common.{◌+◌, ◌^◌, ◌<◌, ◌≤◌, List, length, sym, subst, arith}
-use Rattle.quic_wire_core.specs.Runs.{Run}
+use Rattle.quic_sets.specs.Runs.{Run}
 use Rattle.quic_recovery_core.specs.PendingAcks.{IsKept}
 use Rattle.quic_recovery_core.specs.declared.spaces.pending_acks.TheConstants.{MAX_ACK_RUNS}
 use Rattle.quic_recovery_core.proofs.AckRunSteps.{added_is, but_least_is, put_many, put_few, at_most_kept}

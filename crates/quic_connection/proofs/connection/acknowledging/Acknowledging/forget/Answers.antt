@@ -1,5 +1,5 @@
 use Rattle.std.proofs.Common.{subst}
-use Rattle.quic_wire_core.specs.Runs.{Has}
+use Rattle.quic_sets.specs.Runs.{Has}
 use Rattle.quic_recovery_core.specs.PendingAcks.{Pending}
 use Rattle.quic_recovery_core.proofs.AckRunSteps.{in_above}
 use Rattle.quic_connection.proofs.connection.acknowledging.Acknowledging.forget.Goals as goal

@@ -1,6 +1,6 @@
 use Rattle.std.proofs.Common.{rules, ◌≡◌, [], subst}
 use Rattle.std.specs.Option.{MatchOption}
-use Rattle.quic_wire_core.specs.Runs.{AreRuns, IsGreatest}
+use Rattle.quic_sets.specs.Runs.{AreRuns, IsGreatest}
 use Rattle.quic_recovery_core.specs.PendingAcks.{Pending}
 use Rattle.quic_connection.proofs.Greatest.{greatest_is}
 use Rattle.quic_connection.proofs.connection.acknowledging.Acknowledging.largest.Goals as goal

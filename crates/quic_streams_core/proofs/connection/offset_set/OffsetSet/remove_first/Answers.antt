@@ -1,5 +1,5 @@
 use Rattle.std.proofs.Common.{List, subst}
-use Rattle.quic_wire_core.specs.Runs.{Run, Has, Drops}
+use Rattle.quic_sets.specs.Runs.{Run, Has, Drops}
 use Rattle.quic_streams_core.specs.Loose.{greatest, maximal}
 use Rattle.quic_streams_core.proofs.Loose.{maximal_runs}
 use Rattle.quic_streams_core.proofs.OffsetCalls.{cut_least, drops_made}

@@ -1,5 +1,5 @@
 use Rattle.std.proofs.Common.{◌≡◌, ◌≤◌, ◌∙◌, sym, subst, rules, arith}
-use Rattle.quic_wire_core.specs.Runs.{Run}
+use Rattle.quic_sets.specs.Runs.{Run}
 use Rattle.quic_streams_core.specs.Buffered.{written, after_poll}
 use Rattle.quic_streams_core.proofs.Buffered.{next_kept, next_ordered, next_bounded, first_time}
 use Rattle.quic_streams_core.proofs.connection.send_buffer.SendBuffer.poll_transmit.Goals as goal

@@ -1,5 +1,5 @@
 use Rattle.std.proofs.Common.{◌≡◌, ◌<◌, ◌≤◌, ◌^◌, ◌+◌, ◌*◌, length}
-use Rattle.quic_wire_core.specs.Runs.{AreRuns}
+use Rattle.quic_sets.specs.Runs.{AreRuns}
 use Rattle.quic_wire.specs.AckGrammar.{Below, range_numbers}
 use Rattle.quic_wire.specs.AckSet.{ranges_of_set}
 use Rattle.quic_wire.specs.NumbersWritten.{widths}

@@ -1,6 +1,6 @@
 use Rattle.std.proofs.Common.{◌≡◌, ◌+◌, ◌-◌, ◌<◌, ◌++◌, ◌∷◌, [], List, ap, ◌∙◌, arith}
 use Rattle.std.proofs.lemmas.Result.{err_from_is_err_and}
-use Rattle.quic_wire_core.specs.Runs.{Run, AreRuns}
+use Rattle.quic_sets.specs.Runs.{Run, AreRuns}
 use Rattle.quic_wire.specs.AckGrammar.{range_numbers}
 use Rattle.quic_wire.specs.AckSet.{range_of_run, ranges_of_set}
 use Rattle.quic_wire.specs.Writing.{written}

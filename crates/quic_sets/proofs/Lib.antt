@@ -1,0 +1,8 @@
+mod RunExamples
+pub mod RunLists
+pub mod RunEdits
+mod ElementSteps
+pub mod Joining
+mod JoinSteps
+pub mod PieceSteps
+mod PieceExamples

@@ -1,0 +1,11 @@
+use Rattle.quic_sets.proofs.ElementSteps.{filled, listed, has_listed, ascending}
+use Rattle.quic_sets.proofs.range_set.RangeSet.elts.Goals as goal
+
+pub new-requires : goal.new-requires
+new-requires c = rw c.iter.ensures.value (filled 0 c.args.self.now c.iter.ensures.runs)
+
+pub returns-clause-members : goal.returns-clause-members
+returns-clause-members c = λ k. (listed c.args.self.now k, has_listed c.args.self.now k)
+
+pub returns-clause-ascending : goal.returns-clause-ascending
+returns-clause-ascending c = ascending 0 c.args.self.now c.iter.ensures.runs

@@ -1,0 +1,8 @@
+use Rattle.quic_sets.proofs.RunEdits.{tail_runs}
+use Rattle.quic_sets.proofs.range_set.array_range_set.ArrayRangeSet.pop_min.Goals as goal
+
+pub invariant_of-self : goal.invariant_of-self
+invariant_of-self c = rw c.remove.ensures.items (tail_runs _ c.self.invariant)
+
+pub returns-else-is_empty-clause-runs : goal.returns-else-is_empty-clause-runs
+returns-else-is_empty-clause-runs c = rw c.remove.ensures.items (tail_runs _ c.self.invariant)
