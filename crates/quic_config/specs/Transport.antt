@@ -1,6 +1,6 @@
 -- The settings of an end's transport, and what its peer is told of them.
 use Rattle.std.specs.Prelude.{ℕ, ◌/◌, ◌^◌, ◌<◌, ◌≤◌, Bool, true, false, min, max, Option, Some, None, if◌then◌else◌}
-use Rattle.quic_wire.specs.Parameters.{ParameterValues}
+use Rattle.quic_parameters.specs.Parameters.{ParameterValues}
 use Rattle.quic_config.specs.declared.transport.TheConstants.{IDS_KEPT}
 use Rattle.quic_config.specs.Configs.{SearchSettings, FrequencySettings, default_search}
 

@@ -5,7 +5,7 @@ ghost use Rattle.quic_config.specs.Transport.{default_transport, told_timeout, t
 use crate::ack_frequency::AckFrequencyConfig;
 use crate::mtu_discovery::MtuDiscoveryConfig;
 use quic_time::Duration;
-use quic_wire::TransportParameters;
+use quic_parameters::TransportParameters;
 use quic_wire_core::{VarInt, VarIntBoundsExceeded};
 use std::marker::Model;
 
@@ -452,7 +452,7 @@ impl TransportConfig {
 }
 
 impl TransportConfig {
-    ghost use Rattle.quic_wire.specs.Parameters.{AreInRange};
+    ghost use Rattle.quic_parameters.specs.Parameters.{AreInRange};
     ghost use Rattle.quic_config.specs.Transport.{settings_with, parameters_of};
 
     /// What the peer is told of these settings by an end that can be asked when to acknowledge (RFC 9000, section 18.2).

@@ -3,9 +3,9 @@ use Rattle.std.proofs.Common.{◌≡◌, ℕ, ◌+◌, ◌≤◌, List, [], ◌�
 use Rattle.std.specs.Prelude.{Result, Ok, Err, OnOk, nat_lt, nat_le, if◌then◌else◌}
 use Rattle.std.proofs.lemmas.List.{length-take}
 use Rattle.std.proofs.lemmas.Bool.{leb-true, ltb-false}
-use Rattle.quic_wire.specs.declared.packet.HeaderError.{HeaderError}
-use Rattle.quic_wire.specs.declared.packet.HeaderError.TheVariants.{TooShort, NotShort, FixedBit, UnknownId}
-use Rattle.quic_wire.specs.Destination.{decoded, accepted, fixed_length_id, is_known}
+use Rattle.quic_packet.specs.declared.packet.HeaderError.{HeaderError}
+use Rattle.quic_packet.specs.declared.packet.HeaderError.TheVariants.{TooShort, NotShort, FixedBit, UnknownId}
+use Rattle.quic_packet.specs.Destination.{decoded, accepted, fixed_length_id, is_known}
 
 -- what the test of the room tells
 room : (b : Bool) (first len : ℕ) (known : List (List ℕ)) (rest id out : List ℕ) → length id ≡ len → nat_lt (length rest) (length id + 20) ≡ b

@@ -3,7 +3,7 @@ use Rattle.std.proofs.Common.{◌≡◌, ℕ, ◌<◌, suc, true, false, List, [
 use Rattle.quic_wire.specs.Value.{FrameValue}
 use Rattle.quic_wire.specs.declared.frame.InvalidFrame.{InvalidFrame}
 use Rattle.quic_wire.specs.Items.{items, items_within, first_and, frame_at}
-use Rattle.quic_wire.specs.Header.{reserved_bits}
+use Rattle.quic_packet.specs.Header.{reserved_bits}
 use Rattle.quic_connection_core.specs.End.{End}
 use Rattle.quic_connection_core.specs.Receive.{is_empty, take_payload, take_items, violation}
 

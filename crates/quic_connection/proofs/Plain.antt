@@ -1,14 +1,14 @@
 -- What the parts of a packet say of the frames that it carries.
 use Rattle.std.proofs.Common.{◌≡◌, ℕ, ◌+◌, ◌-◌, ◌<◌, ◌^◌, ◌++◌, Bool, true, false, List, length, replicate, take, drop, Option, Some, None, refl, sym, ap, ◌∙◌, arith}
 use Rattle.std.proofs.lemmas.List.{length-append, append_assoc, append-nil}
-use Rattle.quic_wire.specs.Number.{truncated}
+use Rattle.quic_packet.specs.Number.{truncated}
 use Rattle.quic_wire.specs.Value.{ack}
 use Rattle.quic_wire.specs.Writing.{spelling, frame_size}
 use Rattle.quic_recovery_core.specs.PendingAcks.{can_send}
-use Rattle.quic_wire.specs.Header.{header_bytes}
-use Rattle.quic_wire.specs.Keys.{OfFirst, OfNumber, Seal}
-use Rattle.quic_wire.specs.Datagram.{protected, sent}
-use Rattle.quic_wire.proofs.Opening.{sealed_is_sent}
+use Rattle.quic_packet.specs.Header.{header_bytes}
+use Rattle.quic_packet.specs.Keys.{OfFirst, OfNumber, Seal}
+use Rattle.quic_packet.specs.Datagram.{protected, sent}
+use Rattle.quic_packet.proofs.Opening.{sealed_is_sent}
 use Rattle.quic_connection_core.specs.Table.{at}
 use Rattle.quic_connection_core.specs.Ids.{Ids}
 use Rattle.quic_connection_core.specs.Numbers.{Numbers, cut_against}

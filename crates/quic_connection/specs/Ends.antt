@@ -1,7 +1,7 @@
 -- What the machine sees of two ends with their keys, and of the datagrams that they gave.
 use Rattle.std.specs.Prelude.{ℕ, ◌≡◌, List, [], ◌∷◌, length}
-use Rattle.quic_wire.specs.Keys.{OfFirst, OfNumber, Seal, Open}
-use Rattle.quic_wire.specs.declared.crypto.Keys.{Keys}
+use Rattle.quic_packet.specs.Keys.{OfFirst, OfNumber, Seal, Open}
+use Rattle.quic_packet.specs.declared.crypto.Keys.{Keys}
 use Rattle.quic_connection_core.specs.declared.run.RunEvent.{RunEvent}
 use Rattle.quic_connection_core.specs.declared.run.Answer.{Answer}
 use Rattle.quic_connection_core.specs.declared.run.View.{View}

@@ -1,13 +1,13 @@
 //! What both ends of a connection are made from.
 ghost use Rattle.std.specs.Prelude.{◌≡◌, IfOk, Ok, true};
-ghost use Rattle.quic_wire.specs.Parameters.{AreInRange};
-ghost use Rattle.quic_wire.specs.ParametersWritten.{IsWriteOrder, written_parameters};
-ghost use Rattle.quic_wire.specs.ParametersRead.{parameters_at};
+ghost use Rattle.quic_parameters.specs.Parameters.{AreInRange};
+ghost use Rattle.quic_parameters.specs.ParametersWritten.{IsWriteOrder, written_parameters};
+ghost use Rattle.quic_parameters.specs.ParametersRead.{parameters_at};
 ghost use Rattle.quic_config.specs.Transport.{settings_with, transport_of, parameters_of};
 ghost use Rattle.quic_connection_core.specs.Headline.{IsInRange};
 
 use quic_connection_core::TransportConfig;
-use quic_wire::TransportParameters;
+use quic_parameters::TransportParameters;
 use std::alloc::{AllocError, Global};
 use std::marker::Model;
 

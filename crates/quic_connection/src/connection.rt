@@ -1,6 +1,6 @@
 //! One end of a connection (RFC 9000).
 ghost use Rattle.std.specs.Prelude.{◌≡◌, ◌≢◌, ◌+◌, ◌≤◌, ◌<◌, ◌^◌, ◌++◌, ◌↔◌, length, Ok, Err, Some, None, IfOk, IsOk, OnOk, OnErr, IfErr, IsTrue, option_copied, if◌then◌else◌, true, false, IfSome, IsSome, MatchResult};
-ghost use Rattle.quic_wire.specs.ParametersRead.{parameters_at};
+ghost use Rattle.quic_parameters.specs.ParametersRead.{parameters_at};
 ghost use Rattle.quic_connection_core.specs.declared.answers.State.TheVariants as states;
 ghost use Rattle.quic_connection_core.specs.declared.answers.ConfigError.TheVariants as config_errors;
 ghost use Rattle.quic_connection_core.specs.End.{MadeFrom, refusal_of, with_end, with_closing, closed_by, with_numbers, with_ping, HasFailed};
@@ -43,8 +43,8 @@ use quic_connection_core::{
 };
 use quic_streams_core::Chunk;
 use quic_time::{Timer, TimerTable};
-use quic_wire::TransportParameters;
-use quic_wire::crypto::{HeaderKey, Keys, PacketKey};
+use quic_parameters::TransportParameters;
+use quic_packet::crypto::{HeaderKey, Keys, PacketKey};
 use quic_wire_core::{ConnectionId, Dir, Side, StreamId};
 use rand_core::Rng;
 use std::alloc::{AllocError, Global};

@@ -1,7 +1,7 @@
 //! Two ends that are made for one another.
 ghost use Rattle.std.specs.Prelude.{◌≡◌, ◌≢◌, length, Ok, IfOk, IfErr, OnOk};
-ghost use Rattle.quic_wire.specs.ParametersWritten.{written_parameters};
-ghost use Rattle.quic_wire.specs.ParametersRead.{parameters_at};
+ghost use Rattle.quic_parameters.specs.ParametersWritten.{written_parameters};
+ghost use Rattle.quic_parameters.specs.ParametersRead.{parameters_at};
 ghost use Rattle.quic_config.specs.Transport.{parameters_of};
 ghost use Rattle.quic_connection_core.specs.Policy.{CanOpen};
 ghost use Rattle.quic_connection_core.specs.End.{MadeFrom};
@@ -13,7 +13,7 @@ use crate::config::Config;
 use crate::connection::Connection;
 use crate::running::Ends;
 use quic_connection_core::{ConfigError, Instant};
-use quic_wire::crypto::{HeaderKey, Keys, PacketKey};
+use quic_packet::crypto::{HeaderKey, Keys, PacketKey};
 use quic_wire_core::{ConnectionId, Side};
 use rand_core::Rng;
 use std::alloc::{AllocError, Global};

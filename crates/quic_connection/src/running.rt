@@ -17,7 +17,7 @@ use quic_connection_core::{
     ReadError, RunEvent, Timer, View,
 };
 use quic_streams_core::Chunk;
-use quic_wire::crypto::{HeaderKey, PacketKey};
+use quic_packet::crypto::{HeaderKey, PacketKey};
 use quic_wire_core::{Side, StreamId};
 use rand_core::Rng;
 use std::alloc::{AllocError, Global};

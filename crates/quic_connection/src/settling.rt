@@ -13,7 +13,7 @@ ghost use Rattle.quic_connection.specs.declared.running.Given.{Given};
 use crate::connection::Connection;
 use crate::running::{Ends, Given, step};
 use quic_connection_core::{Answer, Call, Delivery, Instant, RunEvent, Timer};
-use quic_wire::crypto::{HeaderKey, PacketKey};
+use quic_packet::crypto::{HeaderKey, PacketKey};
 use quic_wire_core::Side;
 use rand_core::Rng;
 use std::alloc::{AllocError, Global};

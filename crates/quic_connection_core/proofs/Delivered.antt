@@ -5,18 +5,18 @@ use Rattle.std.specs.Cmp.Lexicographic.{pointwise}
 use Rattle.std.proofs.lemmas.Bool.{or_left}
 use Rattle.std.proofs.lemmas.Cmp.{nat_list_eq_equiv}
 use Rattle.quic_wire.specs.Value.{FrameValue}
-use Rattle.quic_wire.specs.Number.{truncated, expanded}
-use Rattle.quic_wire.specs.Header.{first_byte, key_phase, reserved_bits}
+use Rattle.quic_packet.specs.Number.{truncated, expanded}
+use Rattle.quic_packet.specs.Header.{first_byte, key_phase, reserved_bits}
 use Rattle.quic_wire.specs.Grammar.{Payload}
 use Rattle.quic_wire.specs.Items.{items}
-use Rattle.quic_wire.specs.Datagram.{Opening, opened_packet}
-use Rattle.quic_wire.specs.Destination.{decoded, fixed_length_id, is_known}
+use Rattle.quic_packet.specs.Datagram.{Opening, opened_packet}
+use Rattle.quic_packet.specs.Destination.{decoded, fixed_length_id, is_known}
 use Rattle.quic_wire.specs.declared.frame.InvalidFrame.{InvalidFrame}
-use Rattle.quic_wire.specs.declared.packet.HeaderError.{HeaderError}
-use Rattle.quic_wire.specs.declared.packet.HeaderError.TheVariants.{UnknownId}
-use Rattle.quic_wire.proofs.Numbers.{fewest}
-use Rattle.quic_wire.proofs.Opening.{mates_open}
-use Rattle.quic_wire.proofs.Destinations.{fixed_length_finds, sent_is_decoded}
+use Rattle.quic_packet.specs.declared.packet.HeaderError.{HeaderError}
+use Rattle.quic_packet.specs.declared.packet.HeaderError.TheVariants.{UnknownId}
+use Rattle.quic_packet.proofs.Numbers.{fewest}
+use Rattle.quic_packet.proofs.Opening.{mates_open}
+use Rattle.quic_packet.proofs.Destinations.{fixed_length_finds, sent_is_decoded}
 use Rattle.quic_wire.proofs.FrameWhole.{payload_items}
 use Rattle.quic_connection_core.specs.declared.answers.State.{State}
 use Rattle.quic_connection_core.specs.declared.answers.State.TheVariants as states

@@ -3,8 +3,8 @@ use Rattle.std.proofs.Common.{◌≡◌, ℕ, zero, suc, ◌+◌, ◌-◌, ◌<�
 use Rattle.std.specs.Prelude.{if◌then◌else◌, nat_le, unwrap_or}
 use Rattle.std.proofs.lemmas.Bool.{cases_lt, eq-eqb}
 use Rattle.quic_wire.specs.Value.{FrameValue, AckValue, ack, stream, new_token, handshake_done, padding, asks}
-use Rattle.quic_wire.specs.Number.{truncated, width_for, window, expanded}
-use Rattle.quic_wire.proofs.Numbers.{newest_opens}
+use Rattle.quic_packet.specs.Number.{truncated, width_for, window, expanded}
+use Rattle.quic_packet.proofs.Numbers.{newest_opens}
 use Rattle.quic_streams_core.specs.declared.stream_meta.StreamMeta.{StreamMeta}
 use Rattle.quic_connection_core.specs.Policy.{Policy, CanOpen}
 use Rattle.quic_connection_core.specs.Closing.{Closing}

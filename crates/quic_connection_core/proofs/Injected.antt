@@ -2,10 +2,10 @@
 use Rattle.std.proofs.Common.{◌≡◌, ℕ, Bool, true, false, List, Option, Some, None, Result, Ok, Err, refl}
 use Rattle.std.specs.Prelude.{if◌then◌else◌}
 use Rattle.std.specs.Option.{is_some}
-use Rattle.quic_wire.specs.Header.{key_phase}
-use Rattle.quic_wire.specs.Datagram.{Opening}
-use Rattle.quic_wire.specs.Destination.{decoded, fixed_length_id}
-use Rattle.quic_wire.specs.declared.packet.HeaderError.{HeaderError}
+use Rattle.quic_packet.specs.Header.{key_phase}
+use Rattle.quic_packet.specs.Datagram.{Opening}
+use Rattle.quic_packet.specs.Destination.{decoded, fixed_length_id}
+use Rattle.quic_packet.specs.declared.packet.HeaderError.{HeaderError}
 use Rattle.quic_connection_core.specs.declared.answers.State.{State}
 use Rattle.quic_connection_core.specs.declared.answers.State.TheVariants as states
 use Rattle.quic_connection_core.specs.declared.answers.DropReason.TheVariants as drops

@@ -11,9 +11,9 @@ use Rattle.quic_wire_core.specs.StreamId.{stream_id, index_of, other_side}
 use Rattle.quic_sets.specs.Runs.{Run, Has}
 use Rattle.quic_wire.specs.Value.{FrameValue, StreamValue, AckValue, ack, stream, padding, ping}
 use Rattle.quic_wire.specs.AckSet.{IsSmall}
-use Rattle.quic_wire.specs.Number.{truncated}
+use Rattle.quic_packet.specs.Number.{truncated}
 use Rattle.quic_wire.specs.Grammar.{Payload}
-use Rattle.quic_wire.specs.Datagram.{sent}
+use Rattle.quic_packet.specs.Datagram.{sent}
 use Rattle.quic_streams_core.specs.Arrived.{IsLawful, byte_from, byte_at}
 use Rattle.quic_streams_core.specs.Buffered.{IsBuffered, is_in_flight}
 use Rattle.quic_streams_core.specs.declared.stream_meta.StreamMeta.{StreamMeta}

@@ -6,12 +6,12 @@ use Rattle.quic_wire_core.specs.declared.stream_id.Side.{Side}
 use Rattle.quic_wire_core.specs.declared.stream_id.Side.TheVariants.{Client, Server}
 use Rattle.quic_wire_core.specs.declared.stream_id.Dir.{Dir}
 use Rattle.quic_wire.specs.Value.{FrameValue, AckValue, ack, stream, new_token, handshake_done}
-use Rattle.quic_wire.specs.Datagram.{Opening}
+use Rattle.quic_packet.specs.Datagram.{Opening}
 use Rattle.quic_wire.specs.Items.{items}
-use Rattle.quic_wire.specs.Header.{key_phase, reserved_bits}
-use Rattle.quic_wire.specs.Destination.{decoded, fixed_length_id}
+use Rattle.quic_packet.specs.Header.{key_phase, reserved_bits}
+use Rattle.quic_packet.specs.Destination.{decoded, fixed_length_id}
 use Rattle.quic_wire.specs.declared.frame.InvalidFrame.{InvalidFrame}
-use Rattle.quic_wire.specs.declared.packet.HeaderError.{HeaderError}
+use Rattle.quic_packet.specs.declared.packet.HeaderError.{HeaderError}
 use Rattle.quic_recovery_core.specs.Duplicates.{is_duplicate}
 use Rattle.quic_recovery_core.specs.PendingAcks.{after_insert, packet_starts_wait}
 use Rattle.quic_time.specs.Timers.{Timers, has_come}

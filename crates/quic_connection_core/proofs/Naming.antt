@@ -5,7 +5,7 @@ use Rattle.std.specs.List.{list_any}
 use Rattle.std.proofs.lemmas.Bool.{leb-true, and_parts}
 use Rattle.std.proofs.lemmas.List.{append-nil}
 use Rattle.quic_sets.specs.Runs.{Run, Has}
-use Rattle.quic_wire.specs.Number.{truncated}
+use Rattle.quic_packet.specs.Number.{truncated}
 use Rattle.quic_wire.specs.Value.{FrameValue, AckValue, ack, stream, ping, padding}
 use Rattle.quic_wire.specs.AckGrammar.{InRanges}
 use Rattle.quic_wire.specs.AckSet.{ranges_of_set}

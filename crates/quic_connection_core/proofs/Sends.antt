@@ -7,12 +7,12 @@ use Rattle.std.specs.BTreeMap.{is_at}
 use Rattle.std.proofs.lemmas.Bool.{ltb-true, leb-true, and_parts}
 use Rattle.std.proofs.lemmas.List.{append-nil, append_assoc, length-append, map-append}
 use Rattle.quic_wire_core.specs.declared.stream_id.Side.{Side}
-use Rattle.quic_wire.specs.Number.{truncated, width_for}
+use Rattle.quic_packet.specs.Number.{truncated, width_for}
 use Rattle.quic_wire.specs.Value.{FrameValue, StreamValue, ack, padding, ping, stream}
 use Rattle.quic_wire.specs.Grammar.{Payload}
 use Rattle.quic_wire.specs.AckGrammar.{AckFits}
 use Rattle.quic_wire.specs.Writing.{spelling, stream_spelling, StreamFits, frame_size, width_of}
-use Rattle.quic_wire.specs.Datagram.{sent}
+use Rattle.quic_packet.specs.Datagram.{sent}
 use Rattle.quic_wire.proofs.AckNumbers.{ack_size_most}
 use Rattle.quic_wire.proofs.AckSet.{set_length, set_fits}
 use Rattle.quic_wire.proofs.FrameWritten.{spelling_length}

@@ -3,12 +3,12 @@ use Rattle.std.proofs.Common.{◌≡◌, ℕ, Bool, true, false, not, ◌||◌, 
 use Rattle.std.specs.Prelude.{if◌then◌else◌, max, nat_le, unwrap_or}
 use Rattle.quic_sets.specs.Runs.{Has}
 use Rattle.quic_wire.specs.Value.{FrameValue, AckValue, ack, stream, new_token, handshake_done}
-use Rattle.quic_wire.specs.Datagram.{Opening}
+use Rattle.quic_packet.specs.Datagram.{Opening}
 use Rattle.quic_wire.specs.Items.{items}
-use Rattle.quic_wire.specs.Header.{key_phase, reserved_bits}
-use Rattle.quic_wire.specs.Destination.{decoded, fixed_length_id}
+use Rattle.quic_packet.specs.Header.{key_phase, reserved_bits}
+use Rattle.quic_packet.specs.Destination.{decoded, fixed_length_id}
 use Rattle.quic_wire.specs.declared.frame.InvalidFrame.{InvalidFrame}
-use Rattle.quic_wire.specs.declared.packet.HeaderError.{HeaderError}
+use Rattle.quic_packet.specs.declared.packet.HeaderError.{HeaderError}
 use Rattle.quic_connection_core.specs.declared.answers.State.{State}
 use Rattle.quic_connection_core.specs.declared.answers.State.TheVariants as states
 use Rattle.quic_connection_core.specs.declared.answers.DropReason.TheVariants as drops

@@ -7,7 +7,7 @@ use Rattle.std.specs.declared.cmp.Ordering.TheVariants.{Less, Equal, Greater}
 use Rattle.std.proofs.lemmas.Cmp.{ranked}
 use Rattle.quic_wire_core.specs.declared.stream_id.Dir.{Dir}
 use Rattle.quic_wire.specs.Value.{FrameValue, ack, padding, stream}
-use Rattle.quic_wire.specs.Number.{truncated}
+use Rattle.quic_packet.specs.Number.{truncated}
 use Rattle.quic_streams_core.specs.declared.stream_meta.StreamMeta.{StreamMeta}
 use Rattle.quic_connection_core.specs.Numbers.{Numbers, cut_against}
 use Rattle.quic_time.specs.Timers.{has_come}

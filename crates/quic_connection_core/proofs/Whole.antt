@@ -21,8 +21,8 @@ use Rattle.quic_connection_core.specs.Runs.{Run, Told, Packet, given_of, told_by
 use Rattle.quic_connection_core.specs.Duties.{AreSomewhere, DutiesStand}
 use Rattle.quic_connection_core.specs.InFlight.{Flight, first_watch, watched, lens_of, in_flight, TracksInFlight}
 use Rattle.quic_connection_core.specs.Headline.{IsInRange, IsHonest, AreStarted, IsRun, OrderedPrefix, Slices, Once, EndAfterAll, BlockedOnlyWithoutBytes, AcceptsAll, FinishedMeansArrived, ToldOnce, TellsOnce, AcknowledgedWereTaken, LossTimerFollows, LossTimersFollow, AckTimerFollows, AckTimersFollow, NumbersRise}
-use Rattle.quic_wire.specs.Parameters.{ParameterValues}
-use Rattle.quic_wire.specs.ParametersRead.{parameters_at}
+use Rattle.quic_parameters.specs.Parameters.{ParameterValues}
+use Rattle.quic_parameters.specs.ParametersRead.{parameters_at}
 use Rattle.quic_config.specs.Transport.{Settings, parameters_of}
 use Rattle.quic_connection_core.specs.Policy.{Policy}
 use Rattle.quic_connection_core.specs.End.{End, IsMade, new_end}

@@ -3,7 +3,7 @@ use Rattle.std.proofs.Common.{◌≡◌, ℕ, zero, suc, slice_get, List, [], �
 use Rattle.quic_wire_core.specs.declared.stream_id.Side.{Side}
 use Rattle.quic_wire_core.specs.declared.stream_id.Side.TheVariants.{Client, Server}
 use Rattle.quic_wire_core.specs.declared.stream_id.Dir.TheVariants.{Bi}
-use Rattle.quic_wire.specs.ParametersRead.{entry_at, whole_at, met_after, met_within, met_in, values_met, judged, parameters_at}
+use Rattle.quic_parameters.specs.ParametersRead.{entry_at, whole_at, met_after, met_within, met_in, values_met, judged, parameters_at}
 use Rattle.quic_connection_core.specs.declared.run.ReadCall.{ReadCall}
 use Rattle.quic_connection_core.specs.declared.run.RunEvent.{RunEvent}
 use Rattle.quic_connection_core.specs.declared.run.Call.{Call}

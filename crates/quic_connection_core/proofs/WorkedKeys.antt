@@ -8,7 +8,7 @@ use Rattle.std.proofs.lemmas.Bool.{le-leb}
 use Rattle.std.proofs.lemmas.Nat.{from_be_bytes-to_be_bytes_8, xor_shr}
 use Rattle.std.proofs.lemmas.List.{take_at, drop_at}
 use Rattle.std.proofs.lemmas.Slice.Eq.{bytes_eq-Decides}
-use Rattle.quic_wire.specs.Keys.{IsHeaderMate, IsMate}
+use Rattle.quic_packet.specs.Keys.{IsHeaderMate, IsMate}
 use Rattle.quic_connection_core.specs.Headline.{IsLawful, AreKeys}
 use Rattle.quic_connection_core.specs.Worked.{masked, masked_first, masked_number, tag_of, marked, unmarked, marking, worked_policies}
 

@@ -2,9 +2,9 @@
 use Rattle.std.proofs.Common.{◌≡◌, ◌⊎◌, ◌-◌, ◌*◌, ◌%◌, ◌<◌, ℕ, List, [], take, drop, Bool, true, false, refl, inl, inr, ap, sym, ◌∙◌, subst, arith}
 use Rattle.std.specs.Prelude.{slice_index, bit_xor, nat_lt, if◌then◌else◌}
 use Rattle.std.proofs.lemmas.Bool.{ltb-true}
-use Rattle.quic_wire.specs.Number.{Truncated, width_for, window, number_bytes}
-use Rattle.quic_wire.specs.Header.{first_byte}
-use Rattle.quic_wire.specs.Datagram.{datagram_of}
+use Rattle.quic_packet.specs.Number.{Truncated, width_for, window, number_bytes}
+use Rattle.quic_packet.specs.Header.{first_byte}
+use Rattle.quic_packet.specs.Datagram.{datagram_of}
 use Rattle.quic_connection_core.specs.Headline.{IsNumbered}
 use Rattle.quic_connection_core.specs.Worked.{masked_first, masked_number, marked, worked_policies, server_id, hello_datagram}
 use Rattle.quic_connection_core.proofs.WorkedKeys.{xor_twice}

@@ -9,7 +9,7 @@ use Rattle.quic_wire.specs.FrameTypes.{kind_of}
 use Rattle.quic_wire.specs.Reading.{block_at, sized_at, offset_at, data_at, stream_at, body_at}
 use Rattle.quic_wire.specs.Items.{frame_at, items_within, items}
 use Rattle.quic_wire.specs.Writing.{stream_spelling}
-use Rattle.quic_wire.specs.ParametersRead.{entry_at, whole_at, met_after, met_within, met_in, values_met, judged, parameters_at}
+use Rattle.quic_parameters.specs.ParametersRead.{entry_at, whole_at, met_after, met_within, met_in, values_met, judged, parameters_at}
 use Rattle.quic_streams_core.specs.Offsets.{without_offsets, parts_from}
 use Rattle.quic_sets.specs.Pieces.{pieces}
 use Rattle.quic_connection_core.specs.declared.answers.Received.TheVariants as receives

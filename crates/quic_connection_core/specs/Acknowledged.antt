@@ -1,6 +1,6 @@
 -- How the worked run goes on: the server acknowledges the datagram once 25 ms have passed, and the client takes the acknowledgement; or the datagram is lost.
 use Rattle.std.specs.Prelude.{ℕ, Bool, true, false, List, [], ◌∷◌, Some, None}
-use Rattle.quic_wire.specs.Datagram.{sent}
+use Rattle.quic_packet.specs.Datagram.{sent}
 use Rattle.quic_connection_core.specs.declared.answers.LostReason.{LostReason}
 use Rattle.quic_connection_core.specs.declared.answers.State.TheVariants as states
 use Rattle.quic_connection_core.specs.End.{End}

@@ -1,10 +1,10 @@
 -- One end: a record of parts, one for each concern, and beside it the keys and the random source.
 use Rattle.std.specs.Prelude.{◌≡◌, ℕ, Bool, ◌==◌, ◌||◌, not, if◌then◌else◌, List, [], length, false, Option, Some, None, Result, Ok, Err}
 use Rattle.quic_wire_core.specs.declared.stream_id.Side.{Side}
-use Rattle.quic_wire.specs.Keys.{OfFirst, OfNumber, Seal, Open}
-use Rattle.quic_wire.specs.declared.crypto.Keys.{Keys}
-use Rattle.quic_wire.specs.Parameters.{ParameterValues}
-use Rattle.quic_wire.specs.ParametersRead.{parameters_at}
+use Rattle.quic_packet.specs.Keys.{OfFirst, OfNumber, Seal, Open}
+use Rattle.quic_packet.specs.declared.crypto.Keys.{Keys}
+use Rattle.quic_parameters.specs.Parameters.{ParameterValues}
+use Rattle.quic_parameters.specs.ParametersRead.{parameters_at}
 use Rattle.quic_connection_core.specs.declared.answers.State.TheVariants as states
 use Rattle.quic_connection_core.specs.declared.answers.ConfigError.{ConfigError}
 use Rattle.quic_connection_core.specs.declared.answers.ConfigError.TheVariants as config_errors

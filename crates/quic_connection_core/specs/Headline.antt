@@ -7,7 +7,7 @@ use Rattle.quic_wire_core.specs.declared.stream_id.Side.TheVariants.{Client, Ser
 use Rattle.quic_wire_core.specs.declared.stream_id.Dir.{Dir}
 use Rattle.quic_wire_core.specs.StreamId.{stream_id, other_side}
 use Rattle.quic_wire.specs.Value.{FrameValue, StreamValue}
-use Rattle.quic_wire.specs.ParametersRead.{parameters_at}
+use Rattle.quic_parameters.specs.ParametersRead.{parameters_at}
 use Rattle.quic_streams_core.specs.declared.connection.assembler.Chunk.{Chunk}
 use Rattle.quic_connection_core.specs.declared.answers.State.TheVariants as states
 use Rattle.quic_connection_core.specs.declared.answers.ReadError.TheVariants as read_errors

@@ -5,7 +5,7 @@ use Rattle.quic_wire_core.specs.declared.stream_id.Side.{Side}
 use Rattle.quic_wire_core.specs.StreamId.{other_side}
 use Rattle.quic_wire.specs.Value.{FrameValue, AckValue, ack}
 use Rattle.quic_wire.specs.Items.{items}
-use Rattle.quic_wire.specs.Datagram.{Opening}
+use Rattle.quic_packet.specs.Datagram.{Opening}
 use Rattle.quic_connection_core.specs.declared.answers.State.{State}
 use Rattle.quic_connection_core.specs.declared.answers.State.TheVariants as states
 use Rattle.quic_connection_core.specs.declared.run.Call.{Call}

@@ -1,10 +1,10 @@
 -- Which datagrams open at an end (RFC 9000, section 12.2).
 use Rattle.std.specs.Prelude.{ℕ, ◌+◌, Bool, if◌then◌else◌, List, Option, Some, None, Result, Ok, Err}
 use Rattle.std.specs.Option.{is_some}
-use Rattle.quic_wire.specs.Header.{key_phase}
-use Rattle.quic_wire.specs.Datagram.{Opening, opened_packet}
-use Rattle.quic_wire.specs.Destination.{decoded, fixed_length_id}
-use Rattle.quic_wire.specs.declared.packet.HeaderError.{HeaderError}
+use Rattle.quic_packet.specs.Header.{key_phase}
+use Rattle.quic_packet.specs.Datagram.{Opening, opened_packet}
+use Rattle.quic_packet.specs.Destination.{decoded, fixed_length_id}
+use Rattle.quic_packet.specs.declared.packet.HeaderError.{HeaderError}
 use Rattle.quic_connection_core.specs.Ids.{known}
 use Rattle.quic_connection_core.specs.Numbers.{expected}
 use Rattle.quic_connection_core.specs.Policy.{Policy}

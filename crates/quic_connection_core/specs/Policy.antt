@@ -1,5 +1,5 @@
 -- What the keys of an end do, as plain functions.
-use Rattle.quic_wire.specs.Keys.{OfFirst, OfNumber, Seal, Open, AreMates}
+use Rattle.quic_packet.specs.Keys.{OfFirst, OfNumber, Seal, Open, AreMates}
 
 -- how an end protects what it gives, and how it opens what it takes
 pub record Policy : Type 0 where

@@ -3,12 +3,12 @@ use Rattle.std.specs.Prelude.{ℕ, ◌+◌, ◌-◌, ◌≡◌, Bool, true, fals
 use Rattle.std.specs.List.{list_any}
 use Rattle.std.specs.Option.{is_some}
 use Rattle.quic_wire_core.specs.declared.shared.EcnCodepoint.TheVariants.{Ect0}
-use Rattle.quic_wire.specs.Number.{truncated}
+use Rattle.quic_packet.specs.Number.{truncated}
 use Rattle.quic_wire.specs.Value.{FrameValue, StreamValue, AckValue, ack, ping, stream, asks}
 use Rattle.quic_wire.specs.AckSet.{ack_of_set}
 use Rattle.quic_wire.specs.Writing.{spelling, stream_spelling, frame_size, width_of}
 use Rattle.quic_wire.specs.Grammar.{Payload}
-use Rattle.quic_wire.specs.Datagram.{sent}
+use Rattle.quic_packet.specs.Datagram.{sent}
 use Rattle.quic_streams_core.specs.Buffered.{next_start, sent_end, writes_length, after_poll}
 use Rattle.quic_connection_core.specs.declared.answers.State.{State}
 use Rattle.quic_connection_core.specs.declared.answers.Failed.{Failed}

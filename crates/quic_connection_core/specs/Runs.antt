@@ -6,7 +6,7 @@ use Rattle.quic_wire_core.specs.declared.stream_id.Side.TheVariants.{Client, Ser
 use Rattle.quic_wire_core.specs.StreamId.{other_side}
 use Rattle.quic_wire.specs.Value.{FrameValue, StreamValue, AckValue, ack, stream}
 use Rattle.quic_wire.specs.Items.{items}
-use Rattle.quic_wire.specs.Datagram.{Opening}
+use Rattle.quic_packet.specs.Datagram.{Opening}
 use Rattle.quic_wire.specs.declared.frame.InvalidFrame.{InvalidFrame}
 use Rattle.quic_streams_core.specs.declared.connection.assembler.Chunk.{Chunk}
 use Rattle.quic_connection_core.specs.declared.answers.ReadError.{ReadError}

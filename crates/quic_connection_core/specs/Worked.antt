@@ -10,8 +10,8 @@ use Rattle.quic_sets.specs.Runs as wire_runs
 use Rattle.quic_recovery_core.specs.PendingAcks.{Pending}
 use Rattle.quic_time.specs.Timers.{Timers}
 use Rattle.quic_wire.specs.Value.{StreamValue}
-use Rattle.quic_wire.specs.Number.{truncated, number_bytes}
-use Rattle.quic_wire.specs.Datagram.{datagram_of, sent}
+use Rattle.quic_packet.specs.Number.{truncated, number_bytes}
+use Rattle.quic_packet.specs.Datagram.{datagram_of, sent}
 use Rattle.quic_connection_core.specs.declared.answers.State.TheVariants as states
 use Rattle.quic_connection_core.specs.declared.answers.Received.{Received}
 use Rattle.quic_connection_core.specs.declared.answers.Received.TheVariants as receives

@@ -5,12 +5,12 @@ ghost use Rattle.quic_wire_core.specs.TransportError.{error_in, plain_error};
 ghost use Rattle.quic_wire_core.specs.declared.stream_id.Side.TheVariants.{Client, Server};
 ghost use Rattle.quic_wire_core.specs.declared.stream_id.Dir.TheVariants.{Bi, Uni};
 ghost use Rattle.quic_wire_core.specs.declared.shared.EcnCodepoint.TheVariants.{Ect0};
-ghost use Rattle.quic_wire.specs.declared.packet.HeaderError.TheVariants.{UnknownId};
-ghost use Rattle.quic_wire.specs.Keys.{shielded, unshielded};
-ghost use Rattle.quic_wire.specs.Datagram.{protected, opened_packet};
-ghost use Rattle.quic_wire.specs.Destination.{decoded, fixed_length_id};
+ghost use Rattle.quic_packet.specs.declared.packet.HeaderError.TheVariants.{UnknownId};
+ghost use Rattle.quic_packet.specs.Keys.{shielded, unshielded};
+ghost use Rattle.quic_packet.specs.Datagram.{protected, opened_packet};
+ghost use Rattle.quic_packet.specs.Destination.{decoded, fixed_length_id};
 ghost use Rattle.quic_wire.specs.Value.{stream};
-ghost use Rattle.quic_wire.specs.ParametersRead.{parameters_at};
+ghost use Rattle.quic_parameters.specs.ParametersRead.{parameters_at};
 ghost use Rattle.quic_wire.specs.Writing.{spelling};
 ghost use Rattle.quic_wire.specs.Items.{items};
 ghost use Rattle.quic_connection_core.specs.declared.answers.State.TheVariants as states;
@@ -148,7 +148,7 @@ pub fn broken_rules_are_found()
 {}
 
 /// What application calls are answered where there is nothing to do, and what they accept within limits.
-#[tactic(auto, unfolding(quic_wire::specs::Writing::stream_spelling, quic_wire::specs::ParametersRead::parameters_at, quic_wire::specs::ParametersRead::judged, quic_wire::specs::ParametersRead::values_met, quic_wire::specs::ParametersRead::met_in, quic_wire::specs::ParametersRead::met_within, quic_wire::specs::ParametersRead::met_after, quic_wire::specs::ParametersRead::whole_at, quic_wire::specs::ParametersRead::entry_at))]
+#[tactic(auto, unfolding(quic_wire::specs::Writing::stream_spelling, quic_parameters::specs::ParametersRead::parameters_at, quic_parameters::specs::ParametersRead::judged, quic_parameters::specs::ParametersRead::values_met, quic_parameters::specs::ParametersRead::met_in, quic_parameters::specs::ParametersRead::met_within, quic_parameters::specs::ParametersRead::met_after, quic_parameters::specs::ParametersRead::whole_at, quic_parameters::specs::ParametersRead::entry_at))]
 pub fn calls_are_bounded()
     ensures second_open { open_answer Bi client_opened ≡ None }
     ensures one_way { open_answer Uni client_made ≡ None }

@@ -3,7 +3,7 @@
 use Rattle.std.specs.Prelude.{ℕ, ◌-◌, ◌*◌, ◌^◌, ◌==◌, ◌||◌, Bool, cond, false, true, ltb, leb, max, min, Option, Some, None, unwrap_or, Result, Ok, Err}
 use Rattle.std.specs.Int.{abs_diff}
 use Rattle.quic_wire_core.specs.TransportError.{ErrorValue, plain_error, protocol_violation}
-use Rattle.quic_wire.specs.Parameters.{ParameterValues}
+use Rattle.quic_parameters.specs.Parameters.{ParameterValues}
 use Rattle.quic_wire.specs.declared.frame.AckFrequency.{AckFrequency}
 use Rattle.quic_recovery_core.specs.declared.ack_frequency.Request.{Request}
 use Rattle.quic_config.specs.Configs.{FrequencySettings}

@@ -4,7 +4,7 @@ ghost use Rattle.quic_recovery_core.specs.AckFrequency.{micros, initial_frequenc
 
 use quic_config::AckFrequencyConfig;
 use quic_time::{Duration, TIMER_GRANULARITY};
-use quic_wire::TransportParameters;
+use quic_parameters::TransportParameters;
 use quic_wire::frame::AckFrequency;
 use quic_wire_core::{Code, Reason, TransportError, VarInt};
 use std::marker::Model;

@@ -4,7 +4,7 @@ use Rattle.std.specs.Prelude.{slice_index, bit_xor}
 use Rattle.std.proofs.lemmas.List.{append-nil, get_or-take, get_or-drop, drop-drop, drop_more, take_more_set, drop-set-lt, length-drop, take_all, drop_all}
 use Rattle.std.proofs.Math.Seq.{take-add}
 use borrow.Rule.Slice.PartMut.{put_mid}
-use Rattle.quic_wire.specs.Keys.{with_header, sample}
+use Rattle.quic_packet.specs.Keys.{with_header, sample}
 use Rattle.quic_run_core.specs.Plain.{xored}
 
 -- another first byte and number written in place

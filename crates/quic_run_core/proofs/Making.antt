@@ -4,8 +4,8 @@ use Rattle.std.specs.declared.alloc.AllocError.{AllocError}
 use Rattle.quic_wire_core.specs.declared.stream_id.Side.{Side}
 use Rattle.quic_wire_core.specs.declared.stream_id.Side.TheVariants.{Client, Server}
 use Rattle.quic_wire_core.specs.StreamId.{other_side}
-use Rattle.quic_wire.specs.Parameters.{ParameterValues}
-use Rattle.quic_wire.specs.ParametersRead.{parameters_at}
+use Rattle.quic_parameters.specs.Parameters.{ParameterValues}
+use Rattle.quic_parameters.specs.ParametersRead.{parameters_at}
 use Rattle.quic_connection_core.specs.declared.answers.ConfigError.{ConfigError}
 use Rattle.quic_connection_core.specs.declared.answers.ConfigError.TheVariants as config_errors
 use Rattle.quic_connection_core.specs.declared.run.RunEvent.{RunEvent}

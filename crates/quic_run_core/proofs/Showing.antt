@@ -5,8 +5,8 @@ use Rattle.std.proofs.lemmas.List.{length-take, take-take, take-append-le, take_
 use Rattle.std.proofs.lemmas.Bool.{lt-ltb, le-ltb}
 use Rattle.quic_wire_core.specs.declared.stream_id.Side.{Side}
 use Rattle.quic_wire_core.specs.StreamId.{other_side}
-use Rattle.quic_wire.specs.declared.crypto.Keys.{Keys}
-use Rattle.quic_wire.specs.Datagram.{Opening, opened_packet}
+use Rattle.quic_packet.specs.declared.crypto.Keys.{Keys}
+use Rattle.quic_packet.specs.Datagram.{Opening, opened_packet}
 use Rattle.quic_run_core.specs.declared.key.PlainHeaderKey.{PlainHeaderKey}
 use Rattle.quic_run_core.specs.declared.key.PlainKey.{PlainKey}
 use Rattle.quic_run_core.specs.Plain.{mask_first, mask_number, plain_opened}

@@ -3,7 +3,7 @@ use Rattle.std.specs.Prelude.{ℕ}
 use Rattle.quic_wire_core.specs.declared.stream_id.Side.{Side}
 use Rattle.quic_wire_core.specs.declared.stream_id.Side.TheVariants.{Client, Server}
 use Rattle.quic_wire_core.specs.StreamId.{other_side}
-use Rattle.quic_wire.specs.declared.crypto.Keys.{Keys}
+use Rattle.quic_packet.specs.declared.crypto.Keys.{Keys}
 use Rattle.quic_run_core.specs.declared.key.PlainHeaderKey.{PlainHeaderKey}
 use Rattle.quic_run_core.specs.declared.key.PlainKey.{PlainKey}
 

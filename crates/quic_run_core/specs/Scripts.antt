@@ -6,7 +6,7 @@ use Rattle.quic_wire_core.specs.declared.stream_id.Side.{Side}
 use Rattle.quic_wire_core.specs.declared.stream_id.Side.TheVariants.{Client, Server}
 use Rattle.quic_wire_core.specs.StreamId.{other_side}
 use Rattle.quic_config.specs.Transport.{settings_with, default_transport, parameters_of}
-use Rattle.quic_wire.specs.ParametersWritten.{written_parameters}
+use Rattle.quic_parameters.specs.ParametersWritten.{written_parameters}
 use Rattle.quic_connection_core.specs.End.{End, new_end}
 use Rattle.quic_connection_core.specs.Headline.{Making}
 use Rattle.quic_connection.specs.Ends.{in_order}

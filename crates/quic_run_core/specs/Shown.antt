@@ -3,7 +3,7 @@ use Rattle.std.specs.Prelude.{◌≡◌, ℕ, ◌+◌, ◌^◌, min, List, [], �
 use Rattle.std.specs.Fmt.{decimal}
 use Rattle.quic_wire_core.specs.declared.stream_id.Side.{Side}
 use Rattle.quic_wire_core.specs.StreamId.{other_side}
-use Rattle.quic_wire.specs.Datagram.{Opening, opened_packet}
+use Rattle.quic_packet.specs.Datagram.{Opening, opened_packet}
 use Rattle.quic_run_core.specs.Plain.{mask_first, mask_number, plain_opened}
 use Rattle.quic_run_core.specs.KeysOf.{keys_of}
 use Rattle.quic_run_core.specs.Printed.{bytes_text}

@@ -1,14 +1,14 @@
 //! Keys that protect nothing, for scripts, tests and examples: payloads stay clear, and the tag shows the number and a mark.
 ghost use Rattle.std.specs.Prelude.{◌≡◌, ℕ, ◌+◌, ◌-◌, ◌<◌, ◌≤◌, ◌^◌, List, length, take, drop, slice_index};
-ghost use Rattle.quic_wire.specs.Keys.{with_header, sample, AreMates};
+ghost use Rattle.quic_packet.specs.Keys.{with_header, sample, AreMates};
 ghost use Rattle.quic_wire_core.specs.StreamId.{other_side};
 ghost use Rattle.quic_wire_core.specs.declared.stream_id.Side.{Side};
 ghost use Rattle.quic_run_core.specs.Plain.{xored, mask_first, mask_number, plain_sealed, plain_opened};
 ghost use Rattle.quic_run_core.specs.KeysOf.{key_of, keys_of};
 ghost use Rattle.quic_run_core.specs.PlainLaw.{first_form, number_length, adds_tag};
 
-use quic_wire::crypto::{HeaderKey, KeyPair, Keys, NotOpened, PacketKey};
-use quic_wire::width_in;
+use quic_packet::crypto::{HeaderKey, KeyPair, Keys, NotOpened, PacketKey};
+use quic_packet::width_in;
 use quic_wire_core::Side;
 
 /// A header key whose mask is the sample itself.

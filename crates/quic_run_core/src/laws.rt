@@ -12,7 +12,7 @@ ghost use Rattle.quic_run_core.specs.declared.key.PlainHeaderKey.{PlainHeaderKey
 ghost use Rattle.quic_run_core.specs.declared.key.PlainKey.{PlainKey};
 
 use crate::key::{PlainHeaderKey, PlainKey};
-use quic_wire::crypto::{HeaderKey, PacketKey};
+use quic_packet::crypto::{HeaderKey, PacketKey};
 
 /// The keys of scripts meet what the promises on runs ask of keys: they are lawful, and mates in both directions.
 pub fn keys_meet_the_premises()

@@ -7,7 +7,7 @@ ghost use Rattle.quic_run_core.specs.Opened.{parts_in};
 use crate::answer::put_bytes;
 use crate::key::keys_for;
 use quic_connection::Datagram;
-use quic_wire::{Opened, open_packet};
+use quic_packet::{Opened, open_packet};
 use quic_wire_core::Side;
 use std::alloc::{AllocError, Global};
 

@@ -2,7 +2,7 @@
 use quic_connection::{Config, ConfigError, Connection, Instant, Received, TransportConfig};
 use quic_run_core::Words;
 use quic_run_core::key::{PlainHeaderKey, PlainKey, keys_for};
-use quic_wire::seal_packet;
+use quic_packet::seal_packet;
 use quic_wire_core::{Code, ConnectionId, Side};
 use std::alloc::{AllocError, Global};
 use std::process::Abort;

@@ -2,7 +2,7 @@
 use Rattle.std.proofs.Common.{◌≡◌, ℕ, zero, suc, ◌-◌, ◌+◌, ◌≤◌, ◌<◌, List, [], ◌∷◌, Result, Ok, Err, refl, sym, ◌∙◌, arith}
 use Rattle.quic_wire.specs.declared.frame.FrameError.{FrameError}
 use Rattle.quic_wire.specs.AckReading.{range_at, ranges_at, behind}
-use Rattle.quic_wire.specs.Taking.{◌>>=◌}
+use Rattle.quic_wire_core.specs.Taking.{◌>>=◌}
 use Rattle.std.specs.Prelude.{IsOk}
 use Rattle.quic_wire.specs.AckView.{ranges_of}
 

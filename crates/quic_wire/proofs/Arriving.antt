@@ -2,12 +2,12 @@
 use Rattle.std.proofs.Common.{◌≡◌, ◌++◌, replicate, true, refl, ◌∙◌}
 use Rattle.std.specs.Prelude.{◌==◌}
 use Rattle.std.proofs.lemmas.Bool.{eq-eqb}
-use Rattle.quic_wire.specs.Number.{truncated, expanded}
+use Rattle.quic_packet.specs.Number.{truncated, expanded}
 use Rattle.quic_wire.specs.Writing.{spelled_all}
 use Rattle.quic_wire.specs.Arriving.{FramesArrive}
 use Rattle.quic_wire.proofs.FrameReadBack.{padded_read}
-use Rattle.quic_wire.proofs.Numbers.{late_opens}
-use Rattle.quic_wire.proofs.Opening.{mates_open}
+use Rattle.quic_packet.proofs.Numbers.{late_opens}
+use Rattle.quic_packet.proofs.Opening.{mates_open}
 
 -- the payload that was sealed is the one that opens, and what was written in it is read
 pub frames_arrive : FramesArrive

@@ -6,7 +6,7 @@ use Rattle.quic_wire_core.specs.Coding.{IsBytes}
 use Rattle.quic_wire_core.specs.Varint.{varint_at}
 use Rattle.quic_wire_core.specs.Law.{varint_found}
 use Rattle.quic_wire.specs.declared.frame.FrameError.{FrameError}
-use Rattle.quic_wire.specs.Taking.{◌>>=◌}
+use Rattle.quic_wire_core.specs.Taking.{◌>>=◌}
 use Rattle.quic_wire.specs.Fields.{field, var_at}
 use Rattle.quic_wire.specs.Grammar.{Numbers}
 

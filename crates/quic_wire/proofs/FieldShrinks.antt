@@ -6,7 +6,7 @@ use Rattle.std.proofs.lemmas.Bool.{ltb-false}
 use Rattle.std.proofs.lemmas.List.{length-drop}
 use Rattle.quic_wire_core.specs.Varint.{varint_at, wide_at}
 use Rattle.quic_wire.specs.declared.frame.FrameError.{FrameError}
-use Rattle.quic_wire.specs.Taking.{◌>>=◌}
+use Rattle.quic_wire_core.specs.Taking.{◌>>=◌}
 use Rattle.quic_wire.specs.Fields.{field, var_at}
 
 -- at most n bytes are left

@@ -6,7 +6,7 @@ use Rattle.std.proofs.lemmas.Bool.{cases_eq, cases_lt, eqb-true, eq-eqb, ne_eqb,
 use Rattle.quic_wire.specs.declared.frame.FrameError.{FrameError}
 use Rattle.quic_wire.specs.declared.frame.FrameError.TheVariants.{InvalidId}
 use Rattle.quic_wire.specs.Value.{FrameValue}
-use Rattle.quic_wire.specs.Taking.{Reads}
+use Rattle.quic_wire_core.specs.Taking.{Reads}
 use Rattle.quic_wire.specs.FrameTypes.{Kind, is_padding, is_ping, is_ack, is_reset_stream, is_stop_sending, is_crypto, is_new_token, is_stream, is_max_data, is_max_stream_data, is_max_streams, is_data_blocked, is_stream_data_blocked, is_streams_blocked, is_new_connection_id, is_retire_connection_id, is_path_challenge, is_path_response, is_connection_close, is_application_close, is_handshake_done, is_immediate_ack, is_datagram, is_ack_frequency, is_unknown, IsKnown, frame_types, named, kind_of, type_of, has_bit}
 use Rattle.quic_wire.specs.Reading.{of_kind_at, body_at}
 

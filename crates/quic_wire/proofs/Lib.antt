@@ -1,7 +1,3 @@
-pub mod Numbers
-pub mod Places
-pub mod Opening
-pub mod Destinations
 pub mod FrameKinds
 pub mod AckSteps
 pub mod AckSet

@@ -2,12 +2,12 @@
 use Rattle.std.proofs.Common.{ℕ, zero, suc, ◌*◌, ◌^◌, ◌<◌, ◌≤◌, List, [], ◌∷◌, ◌++◌, length, take, drop, refl, inl, inr, lit<, lit≤, arith}
 use Rattle.std.specs.Prelude.{true, false, replicate}
 use Rattle.quic_wire_core.specs.Varint.{Spells}
-use Rattle.quic_wire.specs.declared.transport_parameters.id.TransportParameterId.{TransportParameterId}
-use Rattle.quic_wire.specs.declared.transport_parameters.id.TransportParameterId.TheVariants.{MaxIdleTimeout, MaxUdpPayloadSize, InitialMaxData, InitialMaxStreamDataBidiLocal, InitialMaxStreamDataBidiRemote, InitialMaxStreamDataUni, InitialMaxStreamsBidi, InitialMaxStreamsUni, AckDelayExponent, MaxAckDelay, ActiveConnectionIdLimit, MaxDatagramFrameSize, MinAckDelay}
-use Rattle.quic_wire.specs.Number.{IsFewest}
+use Rattle.quic_parameters.specs.declared.transport_parameters.id.TransportParameterId.{TransportParameterId}
+use Rattle.quic_parameters.specs.declared.transport_parameters.id.TransportParameterId.TheVariants.{MaxIdleTimeout, MaxUdpPayloadSize, InitialMaxData, InitialMaxStreamDataBidiLocal, InitialMaxStreamDataBidiRemote, InitialMaxStreamDataUni, InitialMaxStreamsBidi, InitialMaxStreamsUni, AckDelayExponent, MaxAckDelay, ActiveConnectionIdLimit, MaxDatagramFrameSize, MinAckDelay}
+use Rattle.quic_packet.specs.Number.{IsFewest}
 use Rattle.quic_wire.specs.Value.{padding, ping, stream}
 use Rattle.quic_wire.specs.Grammar.{Numbers, IsForm, Payload}
-use Rattle.quic_wire.specs.Parameters.{value_of, EntrySpells, EntriesSpell, Says, ParametersSpell}
+use Rattle.quic_parameters.specs.Parameters.{value_of, EntrySpells, EntriesSpell, Says, ParametersSpell}
 use Rattle.quic_wire.specs.Worked.{hello_stream, hello_sized, hello_unsized, limits, limits_spelled}
 
 -- no width below three bytes is enough for 65611 numbers

@@ -2,7 +2,7 @@
 use Rattle.std.specs.Prelude.{ℕ, zero, suc, ◌+◌, ◌-◌, Bool, true, false, List, [], ◌∷◌, Option, Some, None, Result, Ok, Err, nat_lt, if◌then◌else◌}
 use Rattle.quic_wire.specs.declared.frame.FrameError.{FrameError}
 use Rattle.quic_wire.specs.declared.frame.FrameError.TheVariants.{Malformed}
-use Rattle.quic_wire.specs.Taking.{◌>>=◌}
+use Rattle.quic_wire_core.specs.Taking.{◌>>=◌}
 use Rattle.quic_wire.specs.Fields.{var_at}
 use Rattle.quic_wire.specs.Value.{AckValue}
 

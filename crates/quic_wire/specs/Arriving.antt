@@ -3,10 +3,10 @@ use Rattle.std.specs.Prelude.{◌≡◌, ℕ, ◌+◌, ◌-◌, ◌/◌, ◌^◌
 use Rattle.quic_wire.specs.Value.{FrameValue, padding}
 use Rattle.quic_wire.specs.Items.{items}
 use Rattle.quic_wire.specs.Writing.{spelled_all, AllFit}
-use Rattle.quic_wire.specs.Number.{window, truncated}
-use Rattle.quic_wire.specs.Header.{first_byte}
-use Rattle.quic_wire.specs.Keys.{OfFirst, OfNumber, Seal, Open, AreMates}
-use Rattle.quic_wire.specs.Datagram.{Opening, sent, opened_packet}
+use Rattle.quic_packet.specs.Number.{window, truncated}
+use Rattle.quic_packet.specs.Header.{first_byte}
+use Rattle.quic_packet.specs.Keys.{OfFirst, OfNumber, Seal, Open, AreMates}
+use Rattle.quic_packet.specs.Datagram.{Opening, sent, opened_packet}
 
 -- a packet opened to this first byte, this number and a payload that is read as these frames
 pub record OpensToFrames (opened : Option Opening) (first number : ℕ) (frames : List FrameValue) : Type 0 where

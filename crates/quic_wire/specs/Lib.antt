@@ -1,8 +1,3 @@
-pub mod Number
-pub mod Keys
-pub mod Header
-pub mod Datagram
-pub mod Destination
 pub mod Value
 pub mod FrameTypes
 pub mod Fields
@@ -18,15 +13,6 @@ pub mod Items
 pub mod FrameView
 pub mod Grammar
 pub mod Writing
-pub mod Parameters
-pub mod ParametersRead
-pub mod Taking
-pub mod ParametersWritten
-pub mod ParametersCode
-pub mod ParametersSteps
-pub mod ParametersTable
-pub mod ParametersLaw
-pub mod ParametersFound
 pub mod Worked
 pub mod Close
 pub mod Arriving

@@ -2,7 +2,7 @@
 use Rattle.std.specs.Prelude.{ℕ, Bool, true, false, List, [], ◌∷◌, length, take, drop, Result, Ok, Err, nat_lt, ◌||◌, ◌==◌, if◌then◌else◌}
 use Rattle.quic_wire.specs.declared.frame.FrameError.{FrameError}
 use Rattle.quic_wire.specs.declared.frame.FrameError.TheVariants.{UnexpectedEnd, Malformed, InvalidId}
-use Rattle.quic_wire.specs.Taking.{◌>>=◌}
+use Rattle.quic_wire_core.specs.Taking.{◌>>=◌}
 pub use Rattle.quic_wire.specs.Fields.{field, var_at}
 use Rattle.quic_wire.specs.AckReading.{ack_at}
 use Rattle.quic_wire.specs.Value.{ResetStreamValue, StopSendingValue, CryptoValue, StreamValue, StreamLimitValue, StreamCountValue, NewConnectionIdValue, ConnectionCloseValue, ApplicationCloseValue, AckFrequencyValue, FrameValue, padding, ping, ack, reset_stream, stop_sending, crypto, new_token, stream, max_data, max_stream_data, max_streams, data_blocked, stream_data_blocked, streams_blocked, new_connection_id, retire_connection_id, path_challenge, path_response, connection_close, application_close, handshake_done, immediate_ack, datagram, ack_frequency}

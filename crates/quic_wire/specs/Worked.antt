@@ -2,7 +2,7 @@
 use Rattle.std.specs.Prelude.{ℕ, true, List, [], ◌∷◌, ◌++◌, Some, None}
 use Rattle.quic_sets.specs.Runs.{Run}
 use Rattle.quic_wire.specs.Value.{AckValue, StreamValue}
-use Rattle.quic_wire.specs.Parameters.{ParameterValues}
+use Rattle.quic_parameters.specs.Parameters.{ParameterValues}
 
 -- stream 0 from its front: the five bytes of `hello`, and the end
 abbrev pub hello_stream : StreamValue

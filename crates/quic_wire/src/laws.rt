@@ -1,61 +1,8 @@
 //! What the definitions say together, for the crates above.
 ghost use Rattle.quic_wire.specs.Arriving.{FramesArrive};
-ghost use Rattle.quic_wire.specs.Number.{TakesFewest, NewestOpens, LateOpens};
-ghost use Rattle.quic_wire.specs.Datagram.{MatesOpen, SealedIsSent, SentLength};
-ghost use Rattle.quic_wire.specs.Destination.{KnownIsMember, SentIsDecoded, FixedLengthFinds};
-
-/// What one end sealed opens at its mate to the number and the payload where the number's bytes
-/// expand to the number, and to nothing else.
-pub fn mates_open()
-    ensures { MatesOpen }
-{}
-
-/// A number takes the fewest bytes, at most 4, that tell apart more than twice as many numbers as lie between it and the
-/// greatest acknowledged (RFC 9000, 17.1).
-pub fn numbers_take_fewest()
-    ensures { TakesFewest }
-{}
-
-/// The newest number expands to itself where the expected one lies from the greatest
-/// acknowledged up to the one behind it.
-pub fn newest_opens()
-    ensures { NewestOpens }
-{}
-
-/// A number expands to itself where the expected one lies from the greatest acknowledged up to
-/// less than half a window above the number.
-pub fn late_opens()
-    ensures { LateOpens }
-{}
-
-/// Sealing a header and a payload behind other bytes gives the datagram behind them.
-pub fn sealed_is_sent()
-    ensures { SealedIsSent }
-{}
 
 /// Frames that were sent are the frames that a mate reads, where the expected number lies from the greatest acknowledged up
 /// to less than half a window above the datagram's.
 pub fn frames_arrive()
     ensures { FramesArrive }
-{}
-
-/// A datagram is as long as its header, its payload and the tag.
-pub fn sent_length()
-    ensures { SentLength }
-{}
-
-/// An id is known where it is one of the known ids.
-pub fn known_is_member()
-    ensures { KnownIsMember }
-{}
-
-/// A datagram that was sent to a known id is decoded to that id, by a parser that finds the id
-/// in front.
-pub fn sent_is_decoded()
-    ensures { SentIsDecoded }
-{}
-
-/// The parser of one length finds ids of that length in front.
-pub fn fixed_length_finds()
-    ensures { FixedLengthFinds }
 {}

@@ -1,21 +1,13 @@
-//! Frames, packets, keys and transport parameters of QUIC.
+//! The wire layer of QUIC: frames, and what stands below them, packets, keys and transport parameters.
 #![tactic(auto)]
 
-pub mod crypto;
 pub mod frame;
 pub mod frame_laws;
 pub mod laws;
-mod packet;
-pub mod reserved;
-mod sealing;
-pub mod transport_parameters;
 pub mod worked;
 
-pub use packet::{
-    ConnectionIdParser, FixedLengthConnectionIdParser, HeaderError, PacketNumber, ShortHeader,
-    TooShort,
+pub use quic_packet::{
+    ConnectionIdParser, FixedLengthConnectionIdParser, HeaderError, Opened, PacketNumber,
+    ShortHeader, TooShort, crypto, open_packet, seal_packet, seal_reserved, width_in,
 };
-pub use sealing::{Opened, open_packet, seal_packet, seal_reserved, width_in};
-pub use transport_parameters::{
-    TransportParameterId, TransportParameters, TransportParametersError,
-};
+pub use quic_parameters::{TransportParameterId, TransportParameters, TransportParametersError};

@@ -4,21 +4,21 @@ ghost use Rattle.std.specs.Prelude.{◌≡◌, ◌-◌, true, false, [], ◌∷�
 ghost use Rattle.quic_wire_core.specs.Varint.{Spells, varint_at, shortest};
 ghost use Rattle.quic_wire.specs.declared.frame.FrameError.TheVariants.{UnexpectedEnd, InvalidId};
 ghost use Rattle.quic_wire.specs.declared.frame.FrameError.TheVariants as frame_errors;
-ghost use Rattle.quic_wire.specs.declared.packet.HeaderError.TheVariants.{TooShort, NotShort, FixedBit, UnknownId};
-ghost use Rattle.quic_wire.specs.declared.transport_parameters.error.TransportParametersError.TheVariants.{Malformed, IllegalValue};
-ghost use Rattle.quic_wire.specs.Number.{truncated, number_bytes, residue_of, expanded, IsFewest, IsExpansion};
-ghost use Rattle.quic_wire.specs.Header.{header_bytes, key_phase, reserved_bits};
-ghost use Rattle.quic_wire.specs.Keys.{width_in};
-ghost use Rattle.quic_wire.specs.Destination.{decoded, fixed_length_id};
+ghost use Rattle.quic_packet.specs.declared.packet.HeaderError.TheVariants.{TooShort, NotShort, FixedBit, UnknownId};
+ghost use Rattle.quic_parameters.specs.declared.transport_parameters.error.TransportParametersError.TheVariants.{Malformed, IllegalValue};
+ghost use Rattle.quic_packet.specs.Number.{truncated, number_bytes, residue_of, expanded, IsFewest, IsExpansion};
+ghost use Rattle.quic_packet.specs.Header.{header_bytes, key_phase, reserved_bits};
+ghost use Rattle.quic_packet.specs.Keys.{width_in};
+ghost use Rattle.quic_packet.specs.Destination.{decoded, fixed_length_id};
 ghost use Rattle.quic_wire.specs.Value.{ack, padding, ping, stream, asks};
 ghost use Rattle.quic_wire.specs.FrameTypes.{is_stream, kind_of, type_of};
 ghost use Rattle.quic_wire.specs.Grammar.{IsForm, Payload};
 ghost use Rattle.quic_wire.specs.Items.{items};
 ghost use Rattle.quic_wire.specs.AckSet.{ack_of_set};
 ghost use Rattle.quic_wire.specs.Writing.{spelling, stream_spelling, stream_size, frame_size};
-ghost use Rattle.quic_wire.specs.Parameters.{ParametersSpell};
-ghost use Rattle.quic_wire.specs.ParametersRead.{parameters_at};
-ghost use Rattle.quic_wire.specs.ParametersWritten.{IsWriteOrder, places, written_parameters};
+ghost use Rattle.quic_parameters.specs.Parameters.{ParametersSpell};
+ghost use Rattle.quic_parameters.specs.ParametersRead.{parameters_at};
+ghost use Rattle.quic_parameters.specs.ParametersWritten.{IsWriteOrder, places, written_parameters};
 ghost use Rattle.quic_wire.specs.Worked.{seven_numbers, seven_acked, seven_spelled, hello_stream, hello_sized, hello_unsized, eight_bytes, short_header, limits, limits_spelled, no_limits};
 
 /// The samples of RFC 9000, A.1: each form is a form of its number, is read as it, and all but the last are the shortest.
@@ -118,7 +118,7 @@ pub fn frames_are_read()
 
 /// The limits are spelled as RFC 9000, section 18, has them, and read again; what can't be read is refused for the first
 /// reason in the list's order.
-#[tactic(auto, unfolding(crate::specs::ParametersRead::parameters_at, crate::specs::ParametersRead::judged, crate::specs::ParametersRead::values_met, crate::specs::ParametersRead::met_in, crate::specs::ParametersRead::met_within, crate::specs::ParametersRead::met_after, crate::specs::ParametersRead::whole_at, crate::specs::ParametersRead::entry_at))]
+#[tactic(auto, unfolding(quic_parameters::specs::ParametersRead::parameters_at, quic_parameters::specs::ParametersRead::judged, quic_parameters::specs::ParametersRead::values_met, quic_parameters::specs::ParametersRead::met_in, quic_parameters::specs::ParametersRead::met_within, quic_parameters::specs::ParametersRead::met_after, quic_parameters::specs::ParametersRead::whole_at, quic_parameters::specs::ParametersRead::entry_at))]
 pub fn parameters_are_read()
     ensures written { written_parameters limits places ≡ limits_spelled }
     ensures order { IsWriteOrder places }

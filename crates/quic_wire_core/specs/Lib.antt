@@ -10,3 +10,4 @@ pub mod Reason
 pub mod TransportError
 pub mod TransportErrorLaw
 pub mod Ecn
+pub mod Taking

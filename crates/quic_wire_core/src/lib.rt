@@ -5,6 +5,7 @@ mod coding;
 mod frame_type;
 pub mod laws;
 mod reason;
+pub mod reserved;
 mod shared;
 mod stream_id;
 mod token;

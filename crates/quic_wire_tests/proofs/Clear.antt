@@ -3,7 +3,7 @@ use Rattle.std.proofs.Common.{◌≡◌, ℕ, zero, suc, ◌+◌, ◌-◌, ◌%�
 use Rattle.std.proofs.lemmas.List.{append-nil, drop-drop, drop_all, length-drop, length-take-le, take-append-drop}
 use Rattle.std.proofs.Math.Seq.{take-add}
 use borrow.Rule.Slice.PartMut.{put_mid}
-use Rattle.quic_wire.specs.Keys.{shielded}
+use Rattle.quic_packet.specs.Keys.{shielded}
 
 -- A header that is hidden by nothing is as it was.
 pub as_it_was : (at : ℕ) (packet : List ℕ) → 1 ≤ at → at + 20 ≤ length packet → packet ≡ shielded (λ _ first. first) (λ _ bytes. bytes) at packet

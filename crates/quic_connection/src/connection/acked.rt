@@ -11,7 +11,7 @@ use crate::connection::Connection;
 use crate::connection::tracking::SentPacket;
 use quic_connection_core::{StreamEvent, Timer};
 use quic_streams_core::StreamMeta;
-use quic_wire::crypto::{HeaderKey, PacketKey};
+use quic_packet::crypto::{HeaderKey, PacketKey};
 use quic_wire::frame::Ack;
 use rand_core::Rng;
 use std::alloc::AllocError;

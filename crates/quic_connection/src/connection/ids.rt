@@ -1,10 +1,10 @@
 //! The connection ids of an end (RFC 9000, section 5.1).
 ghost use Rattle.std.specs.Prelude.{◌≡◌, ◌+◌, ◌≤◌, length, OnOk};
-ghost use Rattle.quic_wire.specs.Destination.{decoded, fixed_length_id};
+ghost use Rattle.quic_packet.specs.Destination.{decoded, fixed_length_id};
 ghost use Rattle.quic_connection_core.specs.Ids.{first_ids, known};
 ghost use Rattle.quic_connection_core.specs.Opens.{own_id_length};
 
-use quic_wire::{FixedLengthConnectionIdParser, HeaderError, ShortHeader};
+use quic_packet::{FixedLengthConnectionIdParser, HeaderError, ShortHeader};
 use quic_wire_core::ConnectionId;
 use std::marker::Model;
 

@@ -1,11 +1,11 @@
 //! Packet numbers of an end (RFC 9000, section 12.3).
 ghost use Rattle.std.specs.Prelude.{◌≡◌, ◌+◌, ◌-◌, ◌<◌, ◌≤◌, ◌^◌, if◌then◌else◌, true};
-ghost use Rattle.quic_wire.specs.Number.{truncated};
+ghost use Rattle.quic_packet.specs.Number.{truncated};
 ghost use Rattle.quic_connection_core.specs.Numbers.{no_numbers, expected, cut_against, can_number, number_given, number_opened, number_taken, number_named};
 ghost use Rattle.quic_recovery_core.specs.Duplicates.{is_duplicate};
 
 use quic_recovery_core::Dedup;
-use quic_wire::PacketNumber;
+use quic_packet::PacketNumber;
 use std::marker::Model;
 
 /// How many numbers are kept for closes.

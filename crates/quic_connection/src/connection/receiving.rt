@@ -1,7 +1,7 @@
 //! Taking a datagram (RFC 9000, sections 5.2, 12 and 13.1).
 ghost use Rattle.std.specs.Prelude.{◌≡◌, ◌≢◌, ◌+◌, ◌≤◌, ◌<◌, ◌^◌, length, slice_range, Some, None, IfSome, IfNone, IfOk, OnOk, MatchResult};
 ghost use Rattle.quic_wire.specs.Items.{items};
-ghost use Rattle.quic_wire.specs.Destination.{decoded, fixed_length_id};
+ghost use Rattle.quic_packet.specs.Destination.{decoded, fixed_length_id};
 ghost use Rattle.quic_connection_core.specs.Ids.{known};
 ghost use Rattle.quic_time.specs.Timers.{no_timers};
 ghost use Rattle.quic_wire.specs.Value.{stream};
@@ -16,9 +16,9 @@ use crate::connection::Connection;
 use crate::connection::ids::OWN_ID_LENGTH;
 use crate::streams::receiving::ReceivedError;
 use quic_connection_core::{Breach, DropReason, Instant, LostReason, Received, State};
-use quic_wire::crypto::{HeaderKey, NotOpened, PacketKey};
+use quic_packet::crypto::{HeaderKey, NotOpened, PacketKey};
 use quic_wire::frame::{Ack, Frame, InvalidFrame, Iter, Stream};
-use quic_wire::{HeaderError, Opened, open_packet};
+use quic_packet::{HeaderError, Opened, open_packet};
 use quic_wire_core::{Code, ConnectionId, EcnCodepoint, Reason, Side, TransportError};
 use rand_core::Rng;
 use std::alloc::AllocError;

@@ -1,9 +1,9 @@
 //! Giving a datagram (RFC 9000, sections 12.2, 13.2, 13.3 and 14.1).
 ghost use Rattle.std.specs.Option.{option_map, option_to_list};
 ghost use Rattle.std.specs.Prelude.{◌≡◌, ◌≢◌, ◌+◌, ◌-◌, ◌≤◌, ◌++◌, length, replicate, take, drop, IfOk, OnOk, OnErr, Ok, Some, None, true, vec_len, vec_capacity};
-ghost use Rattle.quic_wire.specs.Number.{truncated};
-ghost use Rattle.quic_wire.specs.Header.{header_bytes};
-ghost use Rattle.quic_wire.specs.Datagram.{protected};
+ghost use Rattle.quic_packet.specs.Number.{truncated};
+ghost use Rattle.quic_packet.specs.Header.{header_bytes};
+ghost use Rattle.quic_packet.specs.Datagram.{protected};
 ghost use Rattle.quic_wire.specs.AckSet.{ranges_of_set, greatest};
 ghost use Rattle.quic_wire.specs.Value.{ack, ping};
 ghost use Rattle.quic_wire.specs.Writing.{spelling, frame_size};
@@ -23,10 +23,10 @@ use crate::connection::Connection;
 use crate::connection::tracking::{Carried, SentPacket};
 use quic_connection_core::{Failed, Instant, LostReason, State, Timer, Transmit};
 use quic_streams_core::StreamMeta;
-use quic_wire::crypto::{HeaderKey, PacketKey, TAG_LEN};
+use quic_packet::crypto::{HeaderKey, PacketKey, TAG_LEN};
 use quic_wire::frame::{Ack, Frame, Stream, put_frame};
-use quic_wire::reserved::{append_zeros, varint_size};
-use quic_wire::{ShortHeader, seal_reserved};
+use quic_wire_core::reserved::{append_zeros, varint_size};
+use quic_packet::{ShortHeader, seal_reserved};
 use quic_wire_core::EcnCodepoint;
 use rand_core::Rng;
 use std::alloc::AllocError;

@@ -7,7 +7,7 @@ ghost use Rattle.quic_connection_core.specs.Timeouts.{timed_out, loss_expired, a
 
 use crate::connection::Connection;
 use quic_connection_core::{Event, Failed, Instant, State, Timer};
-use quic_wire::crypto::{HeaderKey, PacketKey};
+use quic_packet::crypto::{HeaderKey, PacketKey};
 use rand_core::Rng;
 
 impl<H: HeaderKey + Drop, K: PacketKey + Drop, R: Rng + Drop> Connection<H, K, R> {

@@ -3,7 +3,7 @@ ghost use Rattle.std.specs.Prelude.{◌≡◌, ◌≢◌, ◌<◌, ◌≤◌, �
 ghost use Rattle.std.specs.Option.{is_some, option_copied};
 ghost use Rattle.quic_wire_core.specs.StreamId.{index_of};
 ghost use Rattle.quic_wire.specs.FrameView.{stream_view};
-ghost use Rattle.quic_wire.specs.Parameters.{AreInRange};
+ghost use Rattle.quic_parameters.specs.Parameters.{AreInRange};
 ghost use Rattle.quic_connection_core.specs.Table.{at, without};
 ghost use Rattle.quic_connection_core.specs.Receiving.{untouched, end_of, opened_of, accepted_of, accept_answer, one_accepted, after_accept, after_own_open, may_receive, breaks_limit, breach_on, half_for, refusal, too_many, kept_at, stream_breach, after_stream, read_answer, next_answer, after_next};
 ghost use Rattle.quic_connection_core.specs.declared.answers.ReadError.TheVariants as read_errors;
@@ -14,7 +14,7 @@ ghost use Rattle.quic_connection.specs.Lacking.{CutsPiece};
 use crate::streams::recv::{Recv, end_of, is_too_far};
 use quic_connection_core::{Breach, ReadError, ReadableError};
 use quic_streams_core::Chunk;
-use quic_wire::TransportParameters;
+use quic_parameters::TransportParameters;
 use quic_wire::frame::Stream;
 use quic_wire_core::{Dir, Side, StreamId};
 use std::alloc::{AllocError, Global};

@@ -1,7 +1,7 @@
 // What is sent on the streams of one end.
 ghost use Rattle.std.specs.Prelude.{◌≡◌, ◌≢◌, ◌<◌, ◌≤◌, ◌-◌, ◌+◌, ◌++◌, [], length, IsSome, IfSome, IfOk, IsOk, OnOk, OnErr, Ok, Err, Some, None, true, false, vec_len, vec_capacity};
 ghost use Rattle.std.specs.Option.{option_copied, option_map};
-ghost use Rattle.quic_wire.specs.Parameters.{AreInRange};
+ghost use Rattle.quic_parameters.specs.Parameters.{AreInRange};
 ghost use Rattle.quic_wire.specs.Writing.{stream_spelling, width_of};
 ghost use Rattle.quic_streams_core.specs.Buffered.{writes_length};
 ghost use Rattle.quic_wire_core.specs.declared.stream_id.Dir.TheVariants as dirs;
@@ -17,7 +17,7 @@ ghost use Rattle.quic_connection.specs.Halves.{is_closed};
 use crate::streams::send::Send;
 use quic_connection_core::{FinishError, WriteError};
 use quic_streams_core::StreamMeta;
-use quic_wire::TransportParameters;
+use quic_parameters::TransportParameters;
 use quic_wire_core::{Dir, Side, StreamId, VarInt};
 use std::alloc::{AllocError, Global};
 use std::collections::BTreeMap;

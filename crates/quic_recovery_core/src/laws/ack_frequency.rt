@@ -1,6 +1,6 @@
 //! What is asked of acknowledgements.
 ghost use Rattle.std.specs.Prelude.{◌≡◌, ℕ, ◌≤◌, true};
-ghost use Rattle.quic_wire.specs.Parameters.{ParameterValues};
+ghost use Rattle.quic_parameters.specs.Parameters.{ParameterValues};
 ghost use Rattle.quic_wire.specs.declared.frame.AckFrequency.{AckFrequency};
 ghost use Rattle.quic_config.specs.Configs.{FrequencySettings};
 ghost use Rattle.quic_recovery_core.specs.AckFrequency.{Frequency, least_delay, candidate, longest_delay, is_stale, after_received};

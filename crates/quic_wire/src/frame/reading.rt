@@ -2,7 +2,7 @@
 //! of no use.
 ghost use Rattle.std.specs.Prelude.{◌≡◌, ◌<◌, ◌^◌, length, IfOk};
 ghost use Rattle.std.specs.Int.{w64, to_be_bytes};
-ghost use Rattle.quic_wire.specs.Taking.{Reads};
+ghost use Rattle.quic_wire_core.specs.Taking.{Reads};
 ghost use Rattle.quic_wire.specs.Reading.{var_at, block_at, sized_at, offset_at, data_at, byte_at, connection_id_at, of_kind_at, body_at};
 ghost use Rattle.quic_wire.specs.FrameTypes.{is_ack, is_reset_stream, is_stop_sending, is_crypto, is_new_token, is_stream, is_max_data, is_max_stream_data, is_max_streams, is_data_blocked, is_stream_data_blocked, is_streams_blocked, is_new_connection_id, is_retire_connection_id, is_path_challenge, is_path_response, is_connection_close, is_application_close, is_datagram, is_ack_frequency, has_bit};
 ghost use Rattle.quic_wire.specs.Items.{frame_at};

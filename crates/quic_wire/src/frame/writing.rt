@@ -11,8 +11,8 @@ ghost use Rattle.quic_wire.specs.Writing.{written, widths, AreNumbers, has_offse
 use crate::frame::ack::size::size_of_ack;
 use crate::frame::ack::writing::write_ack;
 use crate::frame::{AckFrequency, Frame, NewConnectionId, ResetStream, StopSending, Stream};
-use crate::reserved::append;
 use bytes::BufMut;
+use quic_wire_core::reserved::append;
 use quic_wire_core::{Codec, Dir, RESET_TOKEN_SIZE, StreamId, VarInt};
 use std::alloc::AllocError;
 

@@ -2,8 +2,8 @@
 ghost use Rattle.std.specs.Prelude.{◌++◌, None, refl, replicate};
 ghost use Rattle.std.proofs.lemmas.List.{length-append};
 
-use quic_wire::crypto::{HeaderKey, NotOpened, PacketKey};
-use quic_wire::seal_packet;
+use quic_packet::crypto::{HeaderKey, NotOpened, PacketKey};
+use quic_packet::seal_packet;
 use std::test::Fail;
 
 /// A key that hides nothing of a header, and seals with zeros alone.

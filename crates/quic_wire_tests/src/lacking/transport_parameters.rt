@@ -1,5 +1,5 @@
 //! Transport parameters to bytes.
-use quic_wire::TransportParameters;
+use quic_parameters::TransportParameters;
 use quic_wire_core::VarInt;
 use std::test::Fail;
 

@@ -1,8 +1,8 @@
 use Rattle.std.proofs.Common.{◌≡◌, ℕ, List, Ok, true, refl, ap, subst, ◌∙◌}
 use Rattle.std.proofs.lemmas.Result.{err_from_is_err_and}
-use Rattle.quic_wire.specs.ParametersRead.{parameters_at}
+use Rattle.quic_parameters.specs.ParametersRead.{parameters_at}
 use Rattle.quic_wire_core.specs.StreamId.{other_side}
-use Rattle.quic_wire.specs.ParametersWritten.{written_parameters}
+use Rattle.quic_parameters.specs.ParametersWritten.{written_parameters}
 use Rattle.quic_config.specs.Transport.{Settings, settings_with, parameters_of}
 use Rattle.quic_connection_core.specs.Headline.{IsInRange}
 use Rattle.quic_connection.specs.Ends.{in_order}

@@ -1,7 +1,7 @@
 use Rattle.std.proofs.Common.{rules, ◌++◌, ℕ, List, ap, sym, ◌∙◌, arith}
 use Rattle.std.specs.Prelude.{vec_len}
-use Rattle.quic_wire.specs.Number.{truncated}
-use Rattle.quic_wire.specs.Header.{header_bytes}
+use Rattle.quic_packet.specs.Number.{truncated}
+use Rattle.quic_packet.specs.Header.{header_bytes}
 use Rattle.quic_connection_core.specs.Numbers.{cut_against}
 use Rattle.quic_connection_core.specs.Poll.{composed}
 use Rattle.quic_connection.proofs.Plain.{same_numbers, same_ids, payload_is, plain_of}

@@ -1,6 +1,6 @@
 use Rattle.std.proofs.Common.{◌≡◌, ◌<◌, length, arith}
 use Rattle.std.proofs.lemmas.Grind.{common_steps}
-use Rattle.quic_wire.specs.Header.{reserved_bits}
+use Rattle.quic_packet.specs.Header.{reserved_bits}
 use Rattle.quic_connection.proofs.Payloads.{goes, stops_empty}
 use Rattle.quic_connection.proofs.connection.Connection.take_payload.Goals as goal
 

@@ -1,7 +1,7 @@
 use Rattle.std.proofs.Common.{refl, sym, subst}
 use Rattle.std.proofs.lemmas.Result.{err_from_is_err_and}
-use Rattle.quic_wire.specs.declared.crypto.Keys.{Keys}
-use Rattle.quic_wire.specs.ParametersWritten.{written_parameters}
+use Rattle.quic_packet.specs.declared.crypto.Keys.{Keys}
+use Rattle.quic_parameters.specs.ParametersWritten.{written_parameters}
 use Rattle.quic_config.specs.Transport.{parameters_of}
 use Rattle.quic_connection_core.specs.Policy.{Policy}
 use Rattle.quic_connection_core.specs.Headline.{IsLawful, AreKeys}

@@ -1,6 +1,6 @@
 use Rattle.std.proofs.Common.{◌≤◌, ◌^◌, sym, subst, arith}
-use Rattle.quic_wire.specs.Parameters.{ParameterValues}
-use Rattle.quic_wire.specs.declared.transport_parameters.id.TransportParameterId.TheVariants.{InitialMaxStreamsBidi, InitialMaxStreamsUni}
+use Rattle.quic_parameters.specs.Parameters.{ParameterValues}
+use Rattle.quic_parameters.specs.declared.transport_parameters.id.TransportParameterId.TheVariants.{InitialMaxStreamsBidi, InitialMaxStreamsUni}
 use Rattle.quic_connection.proofs.streams.receiving.Receiving.new.Goals as goal
 
 pub invariant_of-result : goal.invariant_of-result

@@ -2,8 +2,8 @@ use Rattle.std.proofs.Common.{◌≤◌, ◌<◌, ◌^◌, length, sym, subst, a
 use Rattle.std.specs.List.{AllByRecursion, sum_by}
 use Rattle.std.specs.Map.{keys_of, values_of}
 use Rattle.quic_wire_core.specs.StreamId.{stream_id}
-use Rattle.quic_wire.specs.Parameters.{ParameterValues}
-use Rattle.quic_wire.specs.declared.transport_parameters.id.TransportParameterId.TheVariants.{InitialMaxStreamsBidi, InitialMaxStreamsUni}
+use Rattle.quic_parameters.specs.Parameters.{ParameterValues}
+use Rattle.quic_parameters.specs.declared.transport_parameters.id.TransportParameterId.TheVariants.{InitialMaxStreamsBidi, InitialMaxStreamsUni}
 use Rattle.quic_connection_core.specs.Table.{Table, at}
 use Rattle.quic_connection_core.specs.Sending.{SendHalf}
 use Rattle.quic_connection.proofs.streams.sending.Sending.new.Goals as goal

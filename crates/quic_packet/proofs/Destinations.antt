@@ -1,0 +1,40 @@
+-- Which id a datagram that was sent is decoded to.
+use Rattle.std.proofs.Common.{◌≡◌, ◌+◌, ◌-◌, ◌/◌, ◌<◌, ◌≤◌, ◌∷◌, ◌++◌, length, take, drop, true, refl, ◌∙◌, ap, arith, length-append}
+use Rattle.std.specs.Prelude.{nat_le}
+use Rattle.std.proofs.lemmas.Bool.{le-ltb, le-leb, lt-leb}
+use Rattle.std.proofs.lemmas.Cmp.{nat_list_eq_equiv}
+use Rattle.std.proofs.lemmas.List.{take_at}
+use Rattle.std.proofs.lemmas.Map.Views.{list_any-from_Contains, Contains-from_any}
+use Rattle.std.proofs.lemmas.Slice.Eq.{bytes_eq-Decides}
+use Rattle.quic_packet.specs.Number.{truncated, number_bytes}
+use Rattle.quic_packet.specs.Header.{first_byte}
+use Rattle.quic_packet.specs.Destination.{accepted, KnownIsMember, SentIsDecoded, FixedLengthFinds}
+use Rattle.quic_packet.proofs.Numbers.{fewest}
+use Rattle.quic_packet.proofs.Opening.{length_of_bytes}
+
+-- the test of known ids is membership
+pub known_is_member : KnownIsMember
+known_is_member id known = (Contains-from_any (λ x y e. (bytes_eq-Decides x y).0 e) id known, list_any-from_Contains nat_list_eq_equiv id known)
+
+-- an id in front is found
+pub fixed_length_finds : FixedLengthFinds
+fixed_length_finds id rest =
+    let long : nat_le (length id) (length (id ++ rest)) ≡ true = le-leb _ _ (omega (arith, length-append id rest)) in
+    rw (long, take_at id rest (length id) refl) refl
+
+-- what was sent is decoded to its id
+pub sent_is_decoded : SentIsDecoded
+sent_is_decoded mask hide seal form keeps adds parsed known n acked id p finds near four =
+    let t = truncated n acked in
+    let few = fewest (n - acked) near in
+    let y = number_bytes t in
+    let first = first_byte t.width in
+    let body = seal n (first ∷ (id ++ y)) p in
+    let s = take 16 (drop (4 - length y) body) in
+    let rest = id ++ (hide s y ++ body) in
+    let width : length y ≡ t.width = length_of_bytes n acked near in
+    let long : length id + 20 ≤ length rest = omega (arith, length-append id (hide s y ++ body), length-append (hide s y) body, keeps s y, adds n (first ∷ (id ++ y)) p, four, width) in
+    let kept : mask s first / 32 ≡ (64 + (t.width - 1)) / 32 = form s first in
+    let low : 64 ≤ mask s first = omega (arith, few.some, few.four) in
+    let high : mask s first < 128 = omega (arith, few.some, few.four) in
+    ap (accepted known (mask s first) rest) (finds (hide s y ++ body)) ∙ rw (le-ltb (length rest) (length id + 20) long, lt-leb 128 (mask s first) high, le-ltb (mask s first) 64 low) refl

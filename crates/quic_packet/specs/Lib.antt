@@ -1,0 +1,5 @@
+pub mod Number
+pub mod Keys
+pub mod Header
+pub mod Datagram
+pub mod Destination

@@ -1,0 +1,125 @@
+//! Keys that protect headers and seal payloads (RFC 9001, sections 5.3 and 5.4). Every call works in place and takes no memory.
+ghost use Rattle.std.specs.Prelude.{◌≡◌, ℕ, ◌+◌, ◌-◌, ◌/◌, ◌<◌, ◌≤◌, ◌^◌, List, ◌++◌, Option, Some, None, length, take, drop, MatchResult};
+ghost use Rattle.quic_packet.specs.Keys.{shielded, unshielded};
+
+use thiserror::Error;
+
+/// How many bytes sealing adds to a payload (RFC 9001, 5.3).
+pub const TAG_LEN: usize = 16;
+
+/// How many bytes of a packet a header key samples (RFC 9001, 5.4.2).
+pub const SAMPLE_SIZE: usize = 16;
+
+/// A packet was not sealed by the key's mate under this number and header (RFC 9001, 5.3).
+#[derive(Clone, Copy, Debug, PartialEq, Eq, Error)]
+#[error("the packet does not open")]
+pub struct NotOpened;
+
+/// The key for what this end sends and the key for what it receives, as in quinn.
+#[derive(Drop)]
+pub struct KeyPair<T> {
+    /// For packets that this end sends.
+    pub local: T,
+    /// For packets that the other end sends.
+    pub remote: T,
+}
+
+/// The keys of one end, as in quinn.
+#[derive(Drop)]
+pub struct Keys<H, K> {
+    /// The keys that protect headers.
+    pub header: KeyPair<H>,
+    /// The keys that seal payloads.
+    pub packet: KeyPair<K>,
+}
+
+/// A key that hides a packet's number and the low five bits of its first byte (RFC 9001, 5.4),
+/// as in quinn.
+pub trait HeaderKey {
+    // What hiding by a sample makes of the first byte and of the number's bytes.
+    ghost masks: { Self → List ℕ → ℕ → ℕ };
+
+    ghost hides: { Self → List ℕ → List ℕ → List ℕ };
+
+    // What showing by a sample makes of them.
+    ghost unmasks: { Self → List ℕ → ℕ → ℕ };
+
+    ghost reveals: { Self → List ℕ → List ℕ → List ℕ };
+
+    /// Hides the first byte and the number of the packet, whose number starts at `number_at`.
+    fn encrypt(&self, number_at: usize, packet: &mut [u8])
+        requires first { 1 ≤ number_at }
+        requires room { number_at + 20 ≤ length packet.old }
+        ensures { packet.new ≡ shielded (masks self.now) (hides self.now) number_at packet.old };
+
+    /// Shows the first byte and the number of the packet, whose number starts at `number_at`.
+    fn decrypt(&self, number_at: usize, packet: &mut [u8])
+        requires first { 1 ≤ number_at }
+        requires room { number_at + 20 ≤ length packet.old }
+        ensures { packet.new ≡ unshielded (unmasks self.now) (reveals self.now) number_at packet.old };
+
+    /// How many bytes the key samples: 16.
+    fn sample_size(&self) -> usize
+        ensures { result ≡ 16 }
+    {
+        SAMPLE_SIZE
+    }
+
+    // Hiding and showing keep the first byte's top three bits and how many bytes the number has.
+    ghost keeps_form: { (k : Self) (s : List ℕ) (first : ℕ) → masks k s first / 32 ≡ first / 32 };
+
+    ghost keeps_length: { (k : Self) (s bytes : List ℕ) → length (hides k s bytes) ≡ length bytes };
+
+    ghost shows_form: { (k : Self) (s : List ℕ) (first : ℕ) → unmasks k s first / 32 ≡ first / 32 };
+
+    ghost shows_length: { (k : Self) (s bytes : List ℕ) → length (reveals k s bytes) ≡ length bytes };
+}
+
+/// A key that seals payloads, or opens them (RFC 9001, 5.3), as in quinn.
+pub trait PacketKey {
+    // What sealing under a number and a header makes of a payload.
+    ghost sealed: { Self → ℕ → List ℕ → List ℕ → List ℕ };
+
+    // The payload that bytes open to under a number and a header.
+    ghost opened: { Self → ℕ → List ℕ → List ℕ → Option (List ℕ) };
+
+    // How many packets the key may seal, and how many it may fail to open.
+    ghost seal_limit: { Self → ℕ };
+
+    ghost refusal_limit: { Self → ℕ };
+
+    /// Seals the payload of `packet`, which is `header` bytes of header, the payload and 16
+    /// bytes of room for the tag.
+    fn encrypt(&self, number: u64, packet: &mut [u8], header: usize)
+        requires number { number < 2 ^ 62 }
+        requires room { header + 16 ≤ length packet.old }
+        ensures { packet.new ≡ take header packet.old ++ sealed self.now number (take header packet.old) (take (length packet.old - header - 16) (drop header packet.old)) };
+
+    /// Opens the bytes of `payload`: how many bytes the opened payload has, which then
+    /// stands at the front.
+    ///
+    /// `NotOpened`: the bytes do not open under this number and header.
+    fn decrypt(&self, number: u64, header: &[u8], payload: &mut [u8]) -> Result<usize, NotOpened>
+        requires { number < 2 ^ 62 }
+        ensures { MatchResult result
+            (λ n. (n ≤ length payload.new) × (opened self.now number header.now payload.old ≡ Some (take n payload.new)))
+            (λ _. opened self.now number header.now payload.old ≡ None) };
+
+    /// How many bytes sealing adds: 16.
+    fn tag_len(&self) -> usize
+        ensures { result ≡ 16 }
+    {
+        TAG_LEN
+    }
+
+    /// How many packets may be sealed before the key is used up (RFC 9001, 6.6).
+    fn confidentiality_limit(&self) -> u64
+        ensures { result ≡ seal_limit self.now };
+
+    /// How many packets may fail to open before the key is used up (RFC 9001, 6.6).
+    fn integrity_limit(&self) -> u64
+        ensures { result ≡ refusal_limit self.now };
+
+    // Sealing adds the tag.
+    ghost adds_tag: { (k : Self) (n : ℕ) (h p : List ℕ) → length (sealed k n h p) ≡ length p + 16 };
+}

@@ -1,5 +1,0 @@
-use Rattle.quic_wire.proofs.Numbers.{late_opens}
-use Rattle.quic_wire.proofs.laws.late_opens.Goals as goal
-
-pub returns : goal.returns
-returns c = late_opens

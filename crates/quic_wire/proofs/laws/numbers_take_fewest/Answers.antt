@@ -1,5 +1,0 @@
-use Rattle.quic_wire.proofs.Numbers.{fewest}
-use Rattle.quic_wire.proofs.laws.numbers_take_fewest.Goals as goal
-
-pub returns : goal.returns
-returns c = λ number acked near. fewest _ near

@@ -1,5 +1,0 @@
-use Rattle.quic_wire.proofs.Opening.{sent_length}
-use Rattle.quic_wire.proofs.laws.sent_length.Goals as goal
-
-pub returns : goal.returns
-returns c = sent_length

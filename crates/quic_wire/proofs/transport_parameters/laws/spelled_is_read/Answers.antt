@@ -1,5 +1,0 @@
-use Rattle.quic_wire.specs.ParametersLaw.{spelled_again}
-use Rattle.quic_wire.proofs.transport_parameters.laws.spelled_is_read.Goals as goal
-
-pub returns : goal.returns
-returns c = spelled_again
