@@ -8,6 +8,7 @@ use Rattle.quic_wire_core.specs.StreamId.{stream_id, index_of, other_side}
 use Rattle.quic_wire.specs.Value.{StreamValue}
 use Rattle.quic_streams_core.specs.Arrived.{Arrived, after_insert, after_read_in, given, runs_of}
 use Rattle.quic_streams_core.specs.declared.connection.assembler.Chunk.{Chunk}
+use Rattle.quic_streams_core.specs.declared.connection.assembler.TheConstants.{MOST_PIECES}
 use Rattle.quic_connection_core.specs.Table.{Table, at, put, without, added}
 use Rattle.quic_connection_core.specs.declared.answers.ReadError.{ReadError}
 use Rattle.quic_connection_core.specs.declared.answers.ReadError.TheVariants as read_errors
@@ -35,10 +36,6 @@ pub record Receiving : Type 0 where
   pub seen : ℕ
   pub limit : ℕ
   pub stream_limit : ℕ
-
--- how many pieces of a stream may wait
-abbrev pub most_pieces : ℕ
-most_pieces = 2048
 
 -- a half on which nothing has come
 abbrev pub untouched : RecvHalf
@@ -120,7 +117,7 @@ breach_at (Some h) r f = breach_on r h f
 -- more pieces wait than may
 abbrev pub too_many : Option RecvHalf → StreamValue → Bool
 too_many None f = false
-too_many (Some h) f = nat_lt most_pieces (runs_of (after_insert h.arrived f.offset f.bytes).parts)
+too_many (Some h) f = nat_lt MOST_PIECES (runs_of (after_insert h.arrived f.offset f.bytes).parts)
 
 -- why a frame is refused before it has any effect
 abbrev pub refusal : Side → Receiving → StreamValue → Option Breach
