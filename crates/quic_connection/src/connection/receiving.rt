@@ -14,8 +14,8 @@ ghost use Rattle.quic_connection.specs.Lacking.{TakesFrames};
 
 use crate::connection::Connection;
 use crate::connection::ids::OWN_ID_LENGTH;
-use crate::streams::receiving::ReceivedError;
 use quic_connection_core::{Breach, DropReason, Instant, LostReason, Received, State};
+use quic_streams::ReceivedError;
 use quic_wire::crypto::{HeaderKey, NotOpened, PacketKey};
 use quic_wire::frame::{Ack, Frame, InvalidFrame, Iter, Stream};
 use quic_wire::{HeaderError, Opened, open_packet};
