@@ -1,12 +1,8 @@
-pub mod Taken
-pub mod Opened
 pub mod Tracked
-pub mod First
 pub mod Payloads
 pub mod Headers
 pub mod AckSize
 pub mod Greatest
-pub mod Room
 pub mod Plain
 pub mod Sent
 pub mod ReadAnswers

@@ -1,44 +1,17 @@
 -- What the frames that are sent say, and which bytes stand behind so many others.
-use Rattle.std.specs.Prelude.{ℕ, ◌+◌, ◌^◌, ◌<◌, ◌≤◌, Bool, true, false, ◌&&◌, ◌||◌, nat_le, List, [], ◌++◌, length, Option, Some, None}
+use Rattle.std.specs.Prelude.{ℕ, ◌+◌, Bool, true, false, ◌&&◌, ◌||◌, nat_le, List, [], ◌++◌, length, Option, Some, None}
 use Rattle.std.specs.Option.{is_some, option_map}
 use Rattle.quic_wire.specs.Value.{AckValue, StreamValue, ack, ping}
 use Rattle.quic_wire.specs.AckSet.{ack_of_set}
-use Rattle.quic_wire.specs.Writing.{spelling, stream_spelling, frame_size}
+use Rattle.quic_wire.specs.Writing.{spelling, frame_size}
 use Rattle.quic_recovery_core.specs.PendingAcks.{Pending, is_filled}
-use Rattle.quic_streams_core.specs.Buffered.{next_start, sent_end, writes_length}
-use Rattle.quic_connection_core.specs.Sending.{SendHalf, written_on}
 use Rattle.quic_streams_core.specs.declared.stream_meta.StreamMeta.{StreamMeta}
 use Rattle.quic_connection_core.specs.Acknowledging.{delay_at}
 use Rattle.quic_connection_core.specs.Tracking.{Carried, meta_of, after_sent}
-use Rattle.quic_connection_core.specs.Poll.{first_pending, frame_of, reaches_end, half_after, room_for, frame_room, ack_of, after_ack}
-use Rattle.quic_connection_core.specs.Table.{Table, at, put}
+use Rattle.quic_connection_core.specs.Poll.{first_pending, room_for, frame_room, ack_of, after_ack}
+use Rattle.quic_connection_core.specs.Table.{at}
 use Rattle.quic_connection_core.specs.End.{End, with_tracking, with_sending, with_ping}
-use Rattle.quic_connection.specs.declared.streams.send.FrameMeta.{FrameMeta}
-
--- what the next frame of a half says, with so much room behind its type and id
-abbrev pub frame_meta : SendHalf → ℕ → FrameMeta
-frame_meta h room = record {
-  offsets = record { start = next_start h.buffer; end = sent_end h.buffer room };
-  fin = reaches_end h (sent_end h.buffer room);
-  has_length = writes_length h.buffer room;
-}
-
--- the bytes of the next frame are some of those that are kept, and end below the greatest offset (RFC 9000, section 4.5)
-pub record HasFrame (h : SendHalf) (room : ℕ) : Type 0 where
-  pub kept : h.buffer.base ≤ next_start h.buffer
-  pub ordered : next_start h.buffer ≤ sent_end h.buffer room
-  pub bounded : sent_end h.buffer room ≤ written_on h
-  pub small : written_on h < 2 ^ 62
-
--- the halves after the next frame of one was taken
-abbrev pub polled_at : Option SendHalf → Table SendHalf → ℕ → ℕ → Table SendHalf
-polled_at None halves id room = halves
-polled_at (Some h) halves id room = put halves id (half_after h room)
-
--- how the next frame of a half is written, with so much room behind its type and id
-abbrev pub half_bytes : Option SendHalf → ℕ → ℕ → List ℕ
-half_bytes None id room = []
-half_bytes (Some h) id room = stream_spelling (writes_length h.buffer room) (frame_of id h room)
+use Rattle.quic_streams.specs.Frames.{polled_at, half_bytes, half_frame}
 
 -- how the next frame of a stream is written, if one has something to send, where so many bytes are used
 abbrev pub stream_bytes : Option ℕ → End → ℕ → List ℕ
@@ -99,11 +72,6 @@ end_after_ack_if true e = after_ack e
 end_after_ack_if false e = e
 
 -- ---- what went, to be known when it is acknowledged or lost
-
--- the next frame of a half, with so much room behind its type and id
-abbrev pub half_frame : Option SendHalf → ℕ → ℕ → Option StreamValue
-half_frame None id room = None
-half_frame (Some h) id room = Some (frame_of id h room)
 
 -- the next frame of a stream, if one has something to send, where so many bytes are used
 abbrev pub stream_frame : Option ℕ → End → ℕ → Option StreamValue

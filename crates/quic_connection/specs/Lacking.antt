@@ -1,11 +1,9 @@
 -- Where a call may lack memory.
-use Rattle.std.specs.Prelude.{◌≡◌, ℕ, true, Option, Some, None, Result, Ok, Err}
-use Rattle.quic_streams_core.specs.Arrived.{cuts}
+use Rattle.std.specs.Prelude.{Option, Some, None, Result, Ok, Err}
 use Rattle.quic_connection_core.specs.declared.answers.Failed.{Failed}
 use Rattle.quic_connection_core.specs.declared.answers.Received.{Received}
 use Rattle.quic_connection_core.specs.declared.answers.Received.TheVariants as receives
 use Rattle.quic_connection_core.specs.declared.answers.Transmit.{Transmit}
-use Rattle.quic_connection_core.specs.Receiving.{RecvHalf}
 
 -- frames of a datagram are taken
 abbrev pub TakesFrames : Received → Type 0
@@ -19,8 +17,3 @@ abbrev pub GivesOrHasFailed : Result (Option Transmit) Failed → Type 0
 GivesOrHasFailed (Ok (Some transmit)) = Unit {0}
 GivesOrHasFailed (Ok None) = ⊥
 GivesOrHasFailed (Err failed) = Unit {0}
-
--- a read of at most so many bytes cuts the piece that waits next
-abbrev pub CutsPiece : Option RecvHalf → ℕ → Type 0
-CutsPiece None most = ⊥
-CutsPiece (Some h) most = cuts h.arrived.parts h.arrived.read most ≡ true

@@ -1,9 +1,6 @@
-pub mod Answered
 pub mod Frames
 pub mod Faults
-pub mod Bounds
 pub mod Ends
-pub mod Halves
 pub mod Given
 pub mod Lending
 pub mod Lacking

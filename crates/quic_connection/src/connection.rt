@@ -16,7 +16,7 @@ ghost use Rattle.quic_connection_core.specs.Receiving.{read_answer};
 ghost use Rattle.quic_connection_core.specs.Calls.{is_open, can_open, open_answer, after_open, end_accepts, end_after_accept, end_writes, end_after_write, end_after_finish, end_after_ping, end_next, end_after_next};
 ghost use Rattle.quic_connection_core.specs.Numbers.{can_number, number_opened};
 ghost use Rattle.quic_recovery_core.specs.Duplicates.{is_duplicate};
-ghost use Rattle.quic_connection.specs.Lacking.{CutsPiece};
+ghost use Rattle.quic_streams.specs.Halves.{CutsPiece};
 
 mod acked;
 mod acknowledging;
@@ -35,12 +35,11 @@ use crate::connection::ids::{Ids, OWN_ID_LENGTH};
 use crate::connection::numbers::Numbers;
 use crate::connection::tracking::Tracking;
 use crate::handles::{Chunks, RecvStream, SendStream, Streams};
-use crate::streams::receiving::Receiving;
-use crate::streams::sending::Sending;
 use quic_connection_core::{
     ConfigError, FinishError, Instant, LostReason, ReadError, ReadableError, State, StreamEvent,
     WriteError,
 };
+use quic_streams::{Receiving, Sending};
 use quic_streams_core::Chunk;
 use quic_time::{Timer, TimerTable};
 use quic_parameters::TransportParameters;

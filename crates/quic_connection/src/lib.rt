@@ -8,7 +8,6 @@ mod handles;
 mod pair;
 mod running;
 mod settling;
-mod streams;
 
 pub use config::Config;
 pub use connection::Connection;

@@ -14,9 +14,9 @@ ghost use Rattle.quic_connection.specs.Lacking.{TakesFrames};
 
 use crate::connection::Connection;
 use crate::connection::ids::OWN_ID_LENGTH;
-use crate::streams::receiving::ReceivedError;
 use quic_connection_core::{Breach, DropReason, Instant, LostReason, Received, State};
 use quic_packet::crypto::{HeaderKey, NotOpened, PacketKey};
+use quic_streams::ReceivedError;
 use quic_wire::frame::{Ack, Frame, InvalidFrame, Iter, Stream};
 use quic_packet::{HeaderError, Opened, open_packet};
 use quic_wire_core::{Code, ConnectionId, EcnCodepoint, Reason, Side, TransportError};

@@ -1,0 +1,4 @@
+pub mod Taken
+pub mod Opened
+pub mod First
+pub mod Room

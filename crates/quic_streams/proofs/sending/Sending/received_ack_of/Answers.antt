@@ -1,0 +1,36 @@
+use Rattle.std.proofs.Common.{◌+◌, ◌-◌, length, rules, ap, ◌∙◌, arith, Result, Ok, Err, OnErr}
+use Rattle.std.specs.Ordering.{nat_cmp}
+use Rattle.std.specs.BTreeMap.{is_at}
+use Rattle.std.proofs.lemmas.Map.Steps.{set_value_same}
+use Rattle.quic_connection_core.specs.Table.{put}
+use Rattle.quic_connection_core.specs.Sending.{SendHalf}
+use Rattle.quic_streams.specs.Views.{sending_of}
+use Rattle.quic_streams.proofs.Opened.{put_keeps, held_within, acked_shrinks}
+use Rattle.quic_streams.proofs.sending.Sending.received_ack_of.Goals as goal
+
+on_err : {T E P : Type 0} (r : Result T E) → P → OnErr r P
+on_err (Ok x) p = tt
+on_err (Err e) p = p
+
+pub invariant_of-self-in_err-ack : goal.invariant_of-self-in_err-ack
+invariant_of-self-in_err-ack c =
+    let i = c.self.invariant in
+    let told = (c.get_mut.follows.holds c.ack.new.self).0 ∙ ap (λ k. put c.self.inside.halves.entries k c.ack.new.self) c.from.ensures in
+    let kept = ap (λ (h : SendHalf). length h.buffer.kept) c.in_err-ack.ensures.err in
+    put_keeps _ _ c.self.inside.buffered c.self.inside.accepted c.args.frame.now.id c.in-Some.half.now c.ack.new.self _ i (search rules) told (omega arith) i.window i.accepted
+
+pub returns-in_err-ack-clause-err : goal.returns-in_err-ack-clause-err
+returns-in_err-ack-clause-err c =
+    let told = (c.get_mut.follows.holds c.ack.new.self).0 ∙ ap (λ k. put c.self.inside.halves.entries k c.ack.new.self) c.from.ensures in
+    let same = told ∙ ap (λ w. put c.self.inside.halves.entries c.args.frame.now.id w) c.in_err-ack.ensures.err ∙ set_value_same (is_at (nat_cmp c.args.frame.now.id)) c.self.inside.halves.entries c.in-Some.half.now (search rules) in
+    on_err c.from_residual.result (rw same c.self.view_is)
+
+pub invariant_of-self-2 : goal.invariant_of-self-2
+invariant_of-self-2 c =
+    let i = c.self.invariant in
+    let within = i.window in
+    let told = (c.get_mut.follows.holds c.ack.new.self).0 ∙ ap (λ k. put c.self.inside.halves.entries k c.ack.new.self) c.from.ensures in
+    let left = ap (λ (h : SendHalf). length h.buffer.kept) c.in_ok-ack.ensures.ok in
+    let held = held_within (sending_of c.self.inside) c.self.inside.buffered c.args.frame.now.id c.in-Some.half.now i (search rules) in
+    let fewer = acked_shrinks c.in-Some.half.now c.args.frame.now in
+    put_keeps _ _ (c.self.inside.buffered - c.buffered.result + c.buffered-2.result) c.self.inside.accepted c.args.frame.now.id c.in-Some.half.now c.ack.new.self _ i (search rules) told (omega arith) (omega arith) i.accepted

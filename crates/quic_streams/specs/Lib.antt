@@ -1,0 +1,5 @@
+pub mod Answered
+pub mod Bounds
+pub mod Frames
+pub mod Halves
+pub mod Views

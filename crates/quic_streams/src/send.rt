@@ -1,0 +1,189 @@
+//! What was written on one stream.
+ghost use Rattle.std.specs.Prelude.{◌≡◌, ◌+◌, ◌≤◌, ◌-◌, ◌++◌, length, OnOk, OnErr, vec_len, vec_capacity};
+ghost use Rattle.quic_wire.specs.Writing.{stream_spelling, width_of};
+ghost use Rattle.quic_streams_core.specs.Buffered.{writes_length};
+ghost use Rattle.quic_connection_core.specs.Sending.{new_half, written_on, has_pending, grown, ended, is_acked, half_acked, half_lost};
+ghost use Rattle.quic_connection_core.specs.Poll.{frame_of, half_after};
+ghost use Rattle.quic_connection_core.specs.Tracking.{meta_of};
+ghost use Rattle.quic_streams.specs.Frames.{frame_meta, HasFrame};
+
+use quic_streams_core::{SendBuffer, StreamMeta};
+use quic_wire::frame::{Stream, put_stream_parts};
+use quic_wire_core::{StreamId, VarInt};
+use std::alloc::{AllocError, Global};
+use std::marker::Model;
+use std::ops::Range;
+
+// What a STREAM frame says of its bytes.
+#[derive(Drop)]
+pub(crate) struct FrameMeta {
+    // The offsets of the bytes.
+    pub(crate) offsets: Range<u64>,
+    // Whether the stream ends behind them.
+    pub(crate) fin: bool,
+    // Whether their length is written.
+    pub(crate) has_length: bool,
+}
+
+// The sending half of a stream (quinn-proto's `Send`).
+#[derive(Drop)]
+pub(crate) struct Send {
+    pending: SendBuffer,
+    finished: bool,
+    // Whether the end has to go yet.
+    fin_pending: bool,
+    // Whether the end is acknowledged.
+    fin_acked: bool,
+    // How far the peer lets it come.
+    max_data: VarInt,
+}
+
+impl Model for Send {
+    ghost use Rattle.quic_connection_core.specs.Sending.{SendHalf};
+
+    ghost Value = { SendHalf };
+
+    ghost view = { λ h. record { buffer = h.pending; finished = h.finished; end_waits = h.fin_pending; end_acked = h.fin_acked; limit = h.max_data } };
+}
+
+impl Send {
+    // Nothing is written.
+    pub(crate) fn new(alloc: Global, max_data: VarInt) -> Self
+        ensures { result ≡ new_half max_data }
+    {
+        Send {
+            pending: SendBuffer::new(alloc),
+            finished: false,
+            fin_pending: false,
+            fin_acked: false,
+            max_data,
+        }
+    }
+
+    pub(crate) fn is_finished(&self) -> bool
+        ensures { result ≡ self.now.finished }
+    {
+        self.finished
+    }
+
+    // How many bytes the peer still lets come.
+    pub(crate) fn room(&self) -> u64
+        ensures { result ≡ self.now.limit - written_on self.now }
+    {
+        let limit = self.max_data.into_inner();
+        limit.saturating_sub(self.pending.offset())
+    }
+
+    // Takes over bytes. An `Err` (want of memory) takes none.
+    pub(crate) fn write(&mut self, bytes: &[u8]) -> Result<(), AllocError>
+        requires { length bytes.now ≤ self.old.limit - written_on self.old }
+        ensures ok { OnOk result (self.new ≡ grown self.old bytes.now) }
+        ensures err { OnErr result (self.new ≡ self.old) }
+    {
+        let _bounds = (self.pending.offset(), self.max_data.into_inner());
+        self.pending.write(bytes)
+    }
+
+    // Nothing more is written, and the end has to go.
+    pub(crate) fn finish(&mut self)
+        ensures { self.new ≡ ended self.old }
+    {
+        self.finished = true;
+        self.fin_pending = true;
+    }
+
+    // Whether it has something to send: bytes that are lost or were never sent, or its end.
+    pub(crate) fn has_pending(&self) -> bool
+        ensures { result ≡ has_pending self.now }
+    {
+        self.pending.has_unsent_data() || self.fin_pending
+    }
+
+    // How many bytes are kept until they are acknowledged.
+    pub(crate) fn buffered(&self) -> usize
+        ensures { result ≡ length self.now.buffer.kept }
+    {
+        self.pending.buffered()
+    }
+
+    // Whether all of it is acknowledged, its end too.
+    pub(crate) fn is_acked(&self) -> bool
+        ensures { result ≡ is_acked self.now }
+    {
+        self.fin_acked && self.pending.is_fully_acked()
+    }
+
+    // A frame of it was acknowledged, which never goes again. An `Err` (want of memory) changes
+    // nothing.
+    pub(crate) fn ack(&mut self, frame: &StreamMeta) -> Result<(), AllocError>
+        ensures ok { OnOk result (self.new ≡ half_acked self.old frame.now) }
+        ensures err { OnErr result (self.new ≡ self.old) }
+    {
+        self.pending.ack(frame.offsets.start..frame.offsets.end)?;
+        self.fin_pending = self.fin_pending && !frame.fin;
+        self.fin_acked = self.fin_acked || frame.fin;
+        Ok(())
+    }
+
+    // A frame of it was lost: what isn't acknowledged of it goes again (RFC 9000, section 13.3).
+    // An `Err` (want of memory) changes nothing.
+    pub(crate) fn retransmit(&mut self, frame: &StreamMeta) -> Result<(), AllocError>
+        ensures ok { OnOk result (self.new ≡ half_lost self.old frame.now) }
+        ensures err { OnErr result (self.new ≡ self.old) }
+    {
+        self.pending
+            .retransmit(frame.offsets.start..frame.offsets.end)?;
+        self.fin_pending = self.fin_pending || (frame.fin && !self.fin_acked);
+        Ok(())
+    }
+
+    // Takes what the next frame says, with so much room behind its type and id.
+    fn poll(&mut self, max_len: usize) -> FrameMeta
+        ensures meta { result ≡ frame_meta self.old max_len }
+        ensures within { HasFrame self.old max_len }
+        ensures new { self.new ≡ half_after self.old max_len }
+    {
+        let _written = self.pending.offset();
+        let (offsets, has_length) = self.pending.poll_transmit(max_len);
+        let fin = self.finished && offsets.end == self.pending.offset();
+        self.fin_pending = self.fin_pending && !fin;
+        FrameMeta {
+            offsets,
+            fin,
+            has_length,
+        }
+    }
+
+    // Appends the next frame, with so much room behind its type and id, and takes it: what it
+    // carries.
+    pub(crate) fn put_frame(
+        &mut self,
+        id: StreamId,
+        max_len: usize,
+        out: &mut Vec<u8>,
+    ) -> StreamMeta
+        requires some { 17 ≤ max_len }
+        requires room { vec_len out.old + (1 + width_of id) + max_len ≤ vec_capacity out.old }
+        ensures items { out.new.items ≡ out.old.items ++ stream_spelling (writes_length self.old.buffer max_len) (frame_of id self.old max_len) }
+        ensures len { vec_len out.new ≤ vec_len out.old + (1 + width_of id) + max_len }
+        ensures capacity { vec_capacity out.old ≤ vec_capacity out.new }
+        ensures new { self.new ≡ half_after self.old max_len }
+        ensures meta { result ≡ meta_of (frame_of id self.old max_len) }
+    {
+        let meta = self.poll(max_len);
+        let (start, end) = (meta.offsets.start, meta.offsets.end);
+        let (data, more) = self.pending.get_parts(meta.offsets);
+        let frame = Stream {
+            id,
+            offset: start,
+            fin: meta.fin,
+            data,
+        };
+        put_stream_parts(out, &frame, more, meta.has_length);
+        StreamMeta {
+            id,
+            offsets: start..end,
+            fin: meta.fin,
+        }
+    }
+}
