@@ -4,8 +4,8 @@ ghost use Rattle.quic_config.specs.Transport.{default_transport, told_timeout, t
 
 use crate::ack_frequency::AckFrequencyConfig;
 use crate::mtu_discovery::MtuDiscoveryConfig;
-use quic_time::Duration;
 use quic_parameters::TransportParameters;
+use quic_time::Duration;
 use quic_wire_core::{VarInt, VarIntBoundsExceeded};
 use std::marker::Model;
 

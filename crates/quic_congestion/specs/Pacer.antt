@@ -113,10 +113,11 @@ pub data Call : Type 0 where
   asked_with : Ask → Call
   went : ℕ → Call
 
--- the pacer after it was asked, and what it answered
+-- the pacer after it was asked
 abbrev pub after_ask : Pacing → Ask → Pacing
 after_ask p ask = after_delay p ask.rtt ask.bytes ask.size ask.window ask.moment
 
+-- what it answers: the moment until which the bytes have to wait, or none where they may go
 abbrev pub answer_of : Pacing → Ask → Option ℕ
 answer_of p ask = delay_of p ask.rtt ask.bytes ask.size ask.window ask.moment
 

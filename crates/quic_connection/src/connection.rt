@@ -39,11 +39,11 @@ use quic_connection_core::{
     ConfigError, FinishError, Instant, LostReason, ReadError, ReadableError, State, StreamEvent,
     WriteError,
 };
+use quic_packet::crypto::{HeaderKey, Keys, PacketKey};
+use quic_parameters::TransportParameters;
 use quic_streams::{Receiving, Sending};
 use quic_streams_core::Chunk;
 use quic_time::{Timer, TimerTable};
-use quic_parameters::TransportParameters;
-use quic_packet::crypto::{HeaderKey, Keys, PacketKey};
 use quic_wire_core::{ConnectionId, Dir, Side, StreamId};
 use rand_core::Rng;
 use std::alloc::{AllocError, Global};

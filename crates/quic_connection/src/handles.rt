@@ -12,8 +12,8 @@ ghost use Rattle.quic_connection_core.specs.Calls.{can_open, open_answer, after_
 
 use crate::connection::Connection;
 use quic_connection_core::{FinishError, ReadError, ReadableError, WriteError};
-use quic_streams_core::{Chunk, ShouldTransmit};
 use quic_packet::crypto::{HeaderKey, PacketKey};
+use quic_streams_core::{Chunk, ShouldTransmit};
 use quic_wire_core::{Dir, StreamId};
 use rand_core::Rng;
 use std::alloc::AllocError;

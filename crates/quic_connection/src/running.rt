@@ -16,8 +16,8 @@ use quic_connection_core::{
     Answer, Call, Datagram, Delivery, EndView, Injection, Instant, LostReason, Nexts, ReadCall,
     ReadError, RunEvent, Timer, View,
 };
-use quic_streams_core::Chunk;
 use quic_packet::crypto::{HeaderKey, PacketKey};
+use quic_streams_core::Chunk;
 use quic_wire_core::{Side, StreamId};
 use rand_core::Rng;
 use std::alloc::{AllocError, Global};

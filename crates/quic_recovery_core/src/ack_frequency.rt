@@ -3,8 +3,8 @@ ghost use Rattle.std.specs.Prelude.{◌≡◌, ◌+◌, ◌*◌, ◌-◌, ◌^�
 ghost use Rattle.quic_recovery_core.specs.AckFrequency.{micros, initial_frequency, least_delay, candidate, asked, longest_delay, differs, should_ask, after_acked, is_stale, after_received, received_answer};
 
 use quic_config::AckFrequencyConfig;
-use quic_time::{Duration, TIMER_GRANULARITY};
 use quic_parameters::TransportParameters;
+use quic_time::{Duration, TIMER_GRANULARITY};
 use quic_wire::frame::AckFrequency;
 use quic_wire_core::{Code, Reason, TransportError, VarInt};
 use std::marker::Model;

@@ -1,7 +1,7 @@
 use quic_config::AckFrequencyConfig;
+use quic_parameters::TransportParameters;
 use quic_recovery_core::AckFrequencyState;
 use quic_time::Duration;
-use quic_parameters::TransportParameters;
 use quic_wire_core::VarInt;
 
 // The delay that a peer is asked for which keeps to `own` and can keep to `least`, both in milliseconds.

@@ -1,8 +1,8 @@
 //! What an end makes of a payload that its peer sealed and that an honest peer doesn't send.
 use quic_connection::{Config, ConfigError, Connection, Instant, Received, TransportConfig};
+use quic_packet::seal_packet;
 use quic_run_core::Words;
 use quic_run_core::key::{PlainHeaderKey, PlainKey, keys_for};
-use quic_packet::seal_packet;
 use quic_wire_core::{Code, ConnectionId, Side};
 use std::alloc::{AllocError, Global};
 use std::process::Abort;

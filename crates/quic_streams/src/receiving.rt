@@ -13,8 +13,8 @@ ghost use Rattle.quic_streams.specs.Halves.{CutsPiece};
 
 use crate::recv::{Recv, end_of, is_too_far};
 use quic_connection_core::{Breach, ReadError, ReadableError};
-use quic_streams_core::Chunk;
 use quic_parameters::TransportParameters;
+use quic_streams_core::Chunk;
 use quic_wire::frame::Stream;
 use quic_wire_core::{Dir, Side, StreamId};
 use std::alloc::{AllocError, Global};

@@ -16,8 +16,8 @@ ghost use Rattle.quic_streams.specs.Halves.{is_closed};
 
 use crate::send::Send;
 use quic_connection_core::{FinishError, WriteError};
-use quic_streams_core::StreamMeta;
 use quic_parameters::TransportParameters;
+use quic_streams_core::StreamMeta;
 use quic_wire_core::{Dir, Side, StreamId, VarInt};
 use std::alloc::{AllocError, Global};
 use std::collections::BTreeMap;

@@ -1,8 +1,8 @@
 //! What errors print, and which reason they give: no clause says it.
 use quic_packet::crypto::NotOpened;
-use quic_wire::frame::{FrameError, InvalidFrame};
 use quic_packet::{HeaderError, TooShort};
 use quic_parameters::TransportParametersError;
+use quic_wire::frame::{FrameError, InvalidFrame};
 use quic_wire_core::{
     Code, FrameType, Reason, TransportError, UnexpectedEnd, VarIntBoundsExceeded,
 };

@@ -8,9 +8,9 @@ ghost use Rattle.quic_connection_core.specs.Acknowledging.{nothing_to_acknowledg
 ghost use Rattle.quic_connection.specs.Frames.{ack_at, most_ack_bytes};
 
 use quic_recovery_core::{Dedup, PendingAcks};
+use quic_sets::ArrayRangeSet;
 use quic_time::Instant;
 use quic_wire::frame::{Ack, AckFrequency};
-use quic_sets::ArrayRangeSet;
 use quic_wire_core::VarInt;
 use std::alloc::{AllocError, Global};
 use std::marker::Model;

@@ -4,8 +4,8 @@ ghost use Rattle.quic_packet.specs.Number.{truncated};
 ghost use Rattle.quic_connection_core.specs.Numbers.{no_numbers, expected, cut_against, can_number, number_given, number_opened, number_taken, number_named};
 ghost use Rattle.quic_recovery_core.specs.Duplicates.{is_duplicate};
 
-use quic_recovery_core::Dedup;
 use quic_packet::PacketNumber;
+use quic_recovery_core::Dedup;
 use std::marker::Model;
 
 /// How many numbers are kept for closes.

@@ -22,12 +22,12 @@ ghost use Rattle.quic_connection.specs.Settled.{IsSilent};
 use crate::connection::Connection;
 use crate::connection::tracking::{Carried, SentPacket};
 use quic_connection_core::{Failed, Instant, LostReason, State, Timer, Transmit};
-use quic_streams_core::StreamMeta;
 use quic_packet::crypto::{HeaderKey, PacketKey, TAG_LEN};
-use quic_wire::frame::{Ack, Frame, Stream, put_frame};
-use quic_wire_core::reserved::{append_zeros, varint_size};
 use quic_packet::{ShortHeader, seal_reserved};
+use quic_streams_core::StreamMeta;
+use quic_wire::frame::{Ack, Frame, Stream, put_frame};
 use quic_wire_core::EcnCodepoint;
+use quic_wire_core::reserved::{append_zeros, varint_size};
 use rand_core::Rng;
 use std::alloc::AllocError;
 

@@ -5,9 +5,9 @@ ghost use Rattle.quic_sets.specs.Runs.{Has, AreRuns, IsApart};
 ghost use Rattle.quic_recovery_core.specs.PendingAcks.{none_pending, after_insert, after_subtract, delay_of, can_send, is_filled, shows_loss, is_out_of_order, asking_counted, starts_wait, with_wait, after_packet, packet_starts_wait, after_acks_sent, after_timeout, after_lazy, count_up, newer, with_one, at_most, above, IsKept};
 
 use crate::spaces::dedup::Dedup;
+use quic_sets::ArrayRangeSet;
 use quic_time::{Duration, Instant};
 use quic_wire::frame::AckFrequency;
-use quic_sets::ArrayRangeSet;
 use std::alloc::{AllocError, Global};
 use std::marker::Model;
 
