@@ -6,7 +6,7 @@ use Rattle.quic_recovery_core.specs.Duplicates.{Seen, smallest_missing}
 use Rattle.quic_recovery_core.specs.DuplicateRuns.{seen_after, Lacks, IsLeastLacking}
 use Rattle.quic_recovery_core.proofs.DuplicateLaws.{missing}
 use Rattle.quic_recovery_core.specs.PendingAcks.{Pending, count_up, greatest_before, leaves_gap, shows_loss, is_out_of_order, asking_counted, starts_wait, after_packet}
-use Rattle.quic_recovery_core.specs.AckSteps.{Step, packet, sent, required, expired, lazy, told, pending_after, count_if, asking_since, silent_since, greater_if, greatest_asking, greatest_acked, threshold_told, reordering_told, AreUsual}
+use Rattle.quic_recovery_core.specs.AckSteps.{Step, packet, sent, required, expired, lazy, told, put, cut, pending_after, count_if, asking_since, silent_since, greater_if, greatest_asking, greatest_acked, threshold_told, reordering_told, AreUsual}
 use Rattle.quic_recovery_core.specs.declared.spaces.pending_acks.TheConstants.{LAZY_ACK_THRESHOLD}
 
 -- what the steps leave
@@ -72,6 +72,8 @@ counts (lazy ∷ steps) = same (pending_after (lazy ∷ steps)) steps (counts st
 counts (told threshold reordering ∷ steps) =
     let h = counts steps in
     record { asking = h.asking; silent_ones = h.silent_ones; greatest_is = h.greatest_is; acked_is = h.acked_is; threshold_is = refl; reordering_is = refl }
+counts (put n now ∷ steps) = same (pending_after (put n now ∷ steps)) steps (counts steps) refl refl refl refl refl refl
+counts (cut n ∷ steps) = same (pending_after (cut n ∷ steps)) steps (counts steps) refl refl refl refl refl refl
 
 -- ---- what is due
 
@@ -103,6 +105,8 @@ usual (required ∷ steps) u = usual steps u
 usual (expired ∷ steps) u = usual steps u
 usual (lazy ∷ steps) u = usual steps u
 usual (told threshold reordering ∷ steps) u = absurd u
+usual (put n now ∷ steps) u = usual steps u
+usual (cut n ∷ steps) u = usual steps u
 
 -- a packet that asks makes one due, where one asked before, and the others leave it so
 packet_due : (steps : List Step) (now n : ℕ) (s : Seen) (b : Bool) → threshold_told steps ≡ 1 → (1 < asking_since steps → (pending_after steps).due ≡ true) → 1 < count_if b (asking_since steps) → (after_packet (pending_after steps) now n b s).due ≡ true
@@ -121,6 +125,8 @@ due_is (required ∷ steps) u lt = refl
 due_is (expired ∷ steps) u lt = let count = (counts steps).asking in lt-ltb 0 (pending_after steps).asking (omega (arith, count, lt))
 due_is (lazy ∷ steps) u lt = or_left (pending_after steps).due (nat_lt LAZY_ACK_THRESHOLD (pending_after steps).silent) (due_is steps u lt)
 due_is (told threshold reordering ∷ steps) u lt = absurd u
+due_is (put n now ∷ steps) u lt = due_is steps u lt
+due_is (cut n ∷ steps) u lt = due_is steps u lt
 
 -- ---- what is counted
 

@@ -7,6 +7,7 @@ mod DuplicateExamples
 pub mod AckRunSteps
 pub mod AckLaws
 pub mod AckCounts
+pub mod AckCauses
 pub mod PeerIdSteps
 pub mod OwnIdSteps
 pub mod PeerIdLaws

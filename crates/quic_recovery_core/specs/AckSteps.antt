@@ -1,10 +1,13 @@
--- What happens to the numbers to acknowledge while the thresholds are those of the beginning.
-use Rattle.std.specs.Prelude.{ℕ, ◌+◌, Bool, true, false, max, not, List, [], ◌∷◌, Option, Some, None, unwrap_or}
+-- What happens to the numbers to acknowledge, one step after another, and when an acknowledgement is due.
+use Rattle.std.specs.Prelude.{◌≡◌, ℕ, ◌+◌, ◌-◌, ◌^◌, ◌<◌, ◌⊎◌, Bool, true, false, max, min, not, List, [], ◌∷◌, Option, Some, None, unwrap_or, IsTrue}
 use Rattle.quic_recovery_core.specs.Duplicates.{Seen}
-use Rattle.quic_recovery_core.specs.PendingAcks.{Pending, none_pending, after_packet, after_acks_sent, after_timeout, after_lazy}
+use Rattle.quic_recovery_core.specs.PendingAcks.{Pending, none_pending, leaves_gap, shows_loss, after_packet, after_acks_sent, after_timeout, after_lazy, after_insert, after_subtract}
+use Rattle.quic_recovery_core.specs.AckRuns.{Change, came, known}
+use Rattle.quic_recovery_core.specs.declared.spaces.pending_acks.TheConstants.{LAZY_ACK_THRESHOLD}
 
 -- a packet comes (when, its number, whether it asks, the numbers told apart), an acknowledgement goes or is made due, the timer expires,
--- a packet is made that goes anyway, or the peer tells after how many packets, and how far out of order, it wants an acknowledgement
+-- a packet is made that goes anyway, the peer tells after how many packets, and how far out of order, it wants an acknowledgement,
+-- a number is to be acknowledged (which, and when it came), or the peer knows of the numbers up to one
 pub data Step : Type 0 where
   packet : ℕ → ℕ → Bool → Seen → Step
   sent : Step
@@ -12,6 +15,8 @@ pub data Step : Type 0 where
   expired : Step
   lazy : Step
   told : ℕ → ℕ → Step
+  put : ℕ → ℕ → Step
+  cut : ℕ → Step
 
 -- after a step
 abbrev pub after_step : Step → Pending → Pending
@@ -21,6 +26,8 @@ after_step required p = record p { due = true }
 after_step expired p = after_timeout p
 after_step lazy p = after_lazy p
 after_step (told threshold reordering) p = record p { threshold = threshold; reordering = reordering }
+after_step (put n now) p = after_insert p n now
+after_step (cut n) p = after_subtract p n
 
 -- after steps, the latest first
 abbrev pub pending_after : List Step → Pending
@@ -41,6 +48,8 @@ asking_since (required ∷ steps) = asking_since steps
 asking_since (expired ∷ steps) = asking_since steps
 asking_since (lazy ∷ steps) = asking_since steps
 asking_since (told threshold reordering ∷ steps) = asking_since steps
+asking_since (put k now ∷ steps) = asking_since steps
+asking_since (cut k ∷ steps) = asking_since steps
 
 -- and how many that do not
 abbrev pub silent_since : List Step → ℕ
@@ -51,6 +60,8 @@ silent_since (required ∷ steps) = silent_since steps
 silent_since (expired ∷ steps) = silent_since steps
 silent_since (lazy ∷ steps) = silent_since steps
 silent_since (told threshold reordering ∷ steps) = silent_since steps
+silent_since (put k now ∷ steps) = silent_since steps
+silent_since (cut k ∷ steps) = silent_since steps
 
 -- the greater of numbers, if it counts
 abbrev pub greater_if : Bool → Option ℕ → ℕ → Option ℕ
@@ -66,6 +77,8 @@ greatest_asking (required ∷ steps) = greatest_asking steps
 greatest_asking (expired ∷ steps) = greatest_asking steps
 greatest_asking (lazy ∷ steps) = greatest_asking steps
 greatest_asking (told threshold reordering ∷ steps) = greatest_asking steps
+greatest_asking (put k now ∷ steps) = greatest_asking steps
+greatest_asking (cut k ∷ steps) = greatest_asking steps
 
 -- and what it was when the last acknowledgement went
 abbrev pub greatest_acked : List Step → Option ℕ
@@ -76,6 +89,8 @@ greatest_acked (required ∷ steps) = greatest_acked steps
 greatest_acked (expired ∷ steps) = greatest_acked steps
 greatest_acked (lazy ∷ steps) = greatest_acked steps
 greatest_acked (told threshold reordering ∷ steps) = greatest_acked steps
+greatest_acked (put k now ∷ steps) = greatest_acked steps
+greatest_acked (cut k ∷ steps) = greatest_acked steps
 
 -- the threshold on packets that was told last, 1 at first
 abbrev pub threshold_told : List Step → ℕ
@@ -86,6 +101,8 @@ threshold_told (required ∷ steps) = threshold_told steps
 threshold_told (expired ∷ steps) = threshold_told steps
 threshold_told (lazy ∷ steps) = threshold_told steps
 threshold_told (told threshold reordering ∷ steps) = threshold
+threshold_told (put k now ∷ steps) = threshold_told steps
+threshold_told (cut k ∷ steps) = threshold_told steps
 
 -- the threshold on reordering that was told last, 1 at first
 abbrev pub reordering_told : List Step → ℕ
@@ -96,6 +113,8 @@ reordering_told (required ∷ steps) = reordering_told steps
 reordering_told (expired ∷ steps) = reordering_told steps
 reordering_told (lazy ∷ steps) = reordering_told steps
 reordering_told (told threshold reordering ∷ steps) = reordering
+reordering_told (put k now ∷ steps) = reordering_told steps
+reordering_told (cut k ∷ steps) = reordering_told steps
 
 -- no threshold was told: they are those of the beginning
 abbrev pub AreUsual : List Step → Type 0
@@ -106,3 +125,67 @@ AreUsual (required ∷ steps) = AreUsual steps
 AreUsual (expired ∷ steps) = AreUsual steps
 AreUsual (lazy ∷ steps) = AreUsual steps
 AreUsual (told threshold reordering ∷ steps) = ⊥
+AreUsual (put k now ∷ steps) = AreUsual steps
+AreUsual (cut k ∷ steps) = AreUsual steps
+
+-- ---- the set
+
+-- what happened to the set
+abbrev pub changes_of : List Step → List Change
+changes_of [] = []
+changes_of (packet now n asks s ∷ steps) = changes_of steps
+changes_of (sent ∷ steps) = changes_of steps
+changes_of (required ∷ steps) = changes_of steps
+changes_of (expired ∷ steps) = changes_of steps
+changes_of (lazy ∷ steps) = changes_of steps
+changes_of (told threshold reordering ∷ steps) = changes_of steps
+changes_of (put k now ∷ steps) = came k ∷ changes_of steps
+changes_of (cut k ∷ steps) = known k ∷ changes_of steps
+
+-- the numbers that came into it, with their moments
+abbrev pub arrivals_of : List Step → List (ℕ × ℕ)
+arrivals_of [] = []
+arrivals_of (packet now n asks s ∷ steps) = arrivals_of steps
+arrivals_of (sent ∷ steps) = arrivals_of steps
+arrivals_of (required ∷ steps) = arrivals_of steps
+arrivals_of (expired ∷ steps) = arrivals_of steps
+arrivals_of (lazy ∷ steps) = arrivals_of steps
+arrivals_of (told threshold reordering ∷ steps) = arrivals_of steps
+arrivals_of (put k now ∷ steps) = (k, now) ∷ arrivals_of steps
+arrivals_of (cut k ∷ steps) = arrivals_of steps
+
+-- ---- when an acknowledgement is due
+
+-- a packet came farther out of order than it may, by the threshold on reordering that was told. With 1 it came below one that asked, or a
+-- number lacks between them; with more, the next acknowledgement would show a number as lost that lacks above the greatest one at the last
+-- acknowledgement less the threshold, plus one; with 0 none does
+abbrev pub CameOutOfOrder : List Step → ℕ → Seen → Type 0
+CameOutOfOrder steps n s =
+    let before = unwrap_or (greatest_asking steps) 0 in
+    ((reordering_told steps ≡ 1) × IsTrue (leaves_gap before n s)) ⊎ ((1 < reordering_told steps) × IsTrue (shows_loss (greatest_acked steps) (reordering_told steps) (max before n) s))
+
+-- since the last acknowledgement went, one was required, or the timer expired when a packet had asked, or a packet came that asks and was
+-- one more than the threshold told then, or out of order, or a packet was made that goes anyway with too many silent ones; what came before
+-- the timer last expired doesn't count
+abbrev pub IsDue : List Step → Type 0
+IsDue [] = ⊥
+IsDue (packet now n asks s ∷ steps) = IsDue steps ⊎ ((asks ≡ true) × ((threshold_told steps < min (asking_since steps + 1) (2 ^ 64 - 1)) ⊎ CameOutOfOrder steps n s))
+IsDue (sent ∷ steps) = ⊥
+IsDue (required ∷ steps) = Unit {0}
+IsDue (expired ∷ steps) = 0 < asking_since steps
+IsDue (lazy ∷ steps) = IsDue steps ⊎ (LAZY_ACK_THRESHOLD < min (silent_since steps) (2 ^ 64 - 1))
+IsDue (told threshold reordering ∷ steps) = IsDue steps
+IsDue (put k now ∷ steps) = IsDue steps
+IsDue (cut k ∷ steps) = IsDue steps
+
+-- a packet that asks came at this moment since the last acknowledgement went
+abbrev pub AskedSince : List Step → ℕ → Type 0
+AskedSince [] m = ⊥
+AskedSince (packet now n asks s ∷ steps) m = ((asks ≡ true) × (m ≡ now)) ⊎ AskedSince steps m
+AskedSince (sent ∷ steps) m = ⊥
+AskedSince (required ∷ steps) m = AskedSince steps m
+AskedSince (expired ∷ steps) m = AskedSince steps m
+AskedSince (lazy ∷ steps) m = AskedSince steps m
+AskedSince (told threshold reordering ∷ steps) m = AskedSince steps m
+AskedSince (put k now ∷ steps) m = AskedSince steps m
+AskedSince (cut k ∷ steps) m = AskedSince steps m

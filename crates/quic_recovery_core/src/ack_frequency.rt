@@ -58,7 +58,7 @@ impl Model for AckFrequencyState {
 fn from_micros(count: VarInt) -> Duration
     ensures { result ≡ micros count }
 {
-    Duration::from_nanos(count.into_inner().saturating_mul(1000))
+    Duration::from_micros(count.into_inner())
 }
 
 /// The least delay that the peer can be asked for.

@@ -1,11 +1,11 @@
 //! Numbers to acknowledge that come and go (RFC 9000, section 13.2).
-ghost use Rattle.std.specs.Prelude.{◌≡◌, ℕ, ◌+◌, ◌-◌, ◌^◌, ◌<◌, ◌≤◌, ◌⊎◌, ◌↔◌, List, [], ◌∷◌, true, unwrap_or, length, min, is_some, IsTrue, MatchOption};
+ghost use Rattle.std.specs.Prelude.{◌≡◌, ℕ, ◌+◌, ◌-◌, ◌^◌, ◌<◌, ◌≤◌, ◌⊎◌, ◌↔◌, List, [], ◌∷◌, true, Some, unwrap_or, length, min, is_some, IsTrue, MatchOption};
 ghost use Rattle.quic_sets.specs.Runs.{Has, AreRuns};
 ghost use Rattle.quic_recovery_core.specs.Duplicates.{Seen};
 ghost use Rattle.quic_recovery_core.specs.DuplicateRuns.{seen_after, Lacks};
-ghost use Rattle.quic_recovery_core.specs.PendingAcks.{Pending, can_send, after_insert, after_packet, with_one, IsKept};
+ghost use Rattle.quic_recovery_core.specs.PendingAcks.{Pending, can_send, after_insert, shows_loss, after_packet, with_one, IsKept};
 ghost use Rattle.quic_recovery_core.specs.AckRuns.{Change, runs_after, Waits, newest_after, IsNewest};
-ghost use Rattle.quic_recovery_core.specs.AckSteps.{Step, packet, pending_after, asking_since, silent_since, greatest_asking, greatest_acked, threshold_told, reordering_told, AreUsual};
+ghost use Rattle.quic_recovery_core.specs.AckSteps.{Step, packet, pending_after, asking_since, silent_since, greatest_asking, greatest_acked, threshold_told, reordering_told, AreUsual, changes_of, arrivals_of, IsDue, AskedSince};
 
 use crate::spaces::pending_acks::MAX_ACK_RUNS;
 
@@ -45,6 +45,13 @@ pub fn counts_are_since_last_acknowledgement()
     ensures reordering { (steps : List Step) → (pending_after steps).reordering ≡ reordering_told steps }
 {}
 
+/// The set, and the greatest number with its moment, are those of the numbers that were put in and taken out, whatever
+/// else happened.
+pub fn sets_are_of_their_changes()
+    ensures runs { (steps : List Step) → (pending_after steps).runs ≡ runs_after (changes_of steps) }
+    ensures newest { (steps : List Step) → (pending_after steps).newest ≡ newest_after (arrivals_of steps) }
+{}
+
 /// An acknowledgement is due when a packet comes that asks, and more came than the threshold that the peer told.
 pub fn packets_above_the_threshold_are_due()
     ensures { (steps : List Step) (now n : ℕ) (s : Seen) → threshold_told steps < asking_since steps + 1 → asking_since steps + 1 < 2 ^ 64 → IsTrue (pending_after (packet now n true s ∷ steps)).due }
@@ -60,4 +67,22 @@ pub fn second_asking_packet_is_due()
 pub fn packet_out_of_order_is_due()
     ensures below { (steps : List Step) (now n : ℕ) (s : Seen) → reordering_told steps ≡ 1 → n < unwrap_or (greatest_asking steps) 0 → IsTrue (pending_after (packet now n true s ∷ steps)).due }
     ensures gap { (steps : List Step) (now n k : ℕ) (ns : List ℕ) → reordering_told steps ≡ 1 → unwrap_or (greatest_asking steps) 0 < k → k < n → Lacks ns k → IsTrue (pending_after (packet now n true (seen_after ns) ∷ steps)).due }
+{}
+
+/// Where the greatest number at the last acknowledgement, `acked`, is at least the threshold on reordering: a number that
+/// lacks above `acked - reordering + 1`, and lies the threshold or more below the greatest now, makes `shows_loss` true.
+pub fn missing_numbers_show()
+    ensures { (ns : List ℕ) (acked reordering greatest k : ℕ) → reordering ≤ acked → acked - reordering + 1 < k → k < greatest → reordering ≤ greatest - k → Lacks ns k → IsTrue (shows_loss (Some acked) reordering greatest (seen_after ns)) }
+{}
+
+/// An acknowledgement is due exactly where something made it so since the last one went: it was required, the timer
+/// expired last when packets were counted that ask, one that asks came and was one too many or out of order, or a packet
+/// was made that goes anyway with too many that do not ask.
+pub fn acknowledgements_are_due_for_a_cause()
+    ensures { (steps : List Step) → IsTrue (pending_after steps).due ↔ IsDue steps }
+{}
+
+/// The timer runs from a packet that asks and came since the last acknowledgement went.
+pub fn waits_began_with_a_packet()
+    ensures { (steps : List Step) (m : ℕ) → (pending_after steps).since ≡ Some m → AskedSince steps m }
 {}

@@ -104,8 +104,8 @@ impl Dedup {
         }
     }
 
-    /// Takes a number in, and answers whether it may have come before: it did, or it lies [`DUPLICATE_SPAN`] or more below
-    /// the greatest. Such a number changes nothing.
+    /// Takes a number in that lies below the greatest u64, and answers whether it may have come before: it did, or it lies
+    /// [`DUPLICATE_SPAN`] or more below the greatest. Such a number changes nothing.
     pub fn insert(&mut self, number: u64) -> bool
         requires { number < u64.MAX }
         ensures answer { result ≡ is_duplicate self.old number }
@@ -119,7 +119,7 @@ impl Dedup {
     }
 
     /// The least number above `low` and below `high` that did not come. Only the numbers below the greatest that lie nearer
-    /// to it than [`DUPLICATE_SPAN`] count; so this looks at fewer numbers than that.
+    /// to it than [`DUPLICATE_SPAN`] count; so this looks at fewer numbers than that. `None` where each of them came.
     pub fn smallest_missing_in_interval(&self, low: u64, high: u64) -> Option<u64>
         ensures { result ≡ smallest_missing self.now low high }
     {

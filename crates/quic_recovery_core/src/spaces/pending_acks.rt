@@ -151,13 +151,12 @@ impl PendingAcks {
         self.immediate_ack_required = self.ack_eliciting_since_last_ack_sent > 0;
     }
 
-    /// The moment up to which the acknowledgement of the packet may wait that the timer was set for.
+    /// The moment up to which the acknowledgement of the packet may wait that the timer was set for; it saturates. `None`
+    /// where no packet set the timer since the last acknowledgement went.
     pub fn max_ack_delay_timeout(&self, max_ack_delay: Duration) -> Option<Instant>
         ensures { result ≡ option_map (λ since. min (since + max_ack_delay) (2 ^ 64 - 1)) self.now.since }
     {
-        let since = self.earliest_ack_eliciting_since_last_ack_sent?;
-        let timeout = since.as_nanos().saturating_add(max_ack_delay.as_nanos());
-        Some(Instant::from_nanos(timeout))
+        Some(self.earliest_ack_eliciting_since_last_ack_sent? + max_ack_delay)
     }
 
     /// Whether an acknowledgement is to go even where nothing else does.
@@ -179,10 +178,8 @@ impl PendingAcks {
         ensures { result ≡ delay_of self.now.newest now }
     {
         match self.largest_packet {
-            Some((_, received)) => {
-                Duration::from_nanos(now.as_nanos().saturating_sub(received.as_nanos()))
-            }
-            None => Duration::from_nanos(0),
+            Some((_, received)) => now.saturating_duration_since(received),
+            None => Duration::ZERO,
         }
     }
 
@@ -271,8 +268,8 @@ impl PendingAcks {
         self.largest_acked = self.largest_ack_eliciting_packet;
     }
 
-    /// Puts the number of a packet that came into the set. Where that makes more than [`MAX_ACK_RUNS`] runs, the one of the
-    /// least number goes.
+    /// Puts the number of a packet that came, which lies below the greatest u64, into the set. Where that makes more than
+    /// [`MAX_ACK_RUNS`] runs, the one of the least number goes.
     ///
     /// # Errors
     ///
