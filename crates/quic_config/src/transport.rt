@@ -225,7 +225,7 @@ impl TransportConfig {
     }
 
     /// After what part of a round trip a packet is lost, where a later one was acknowledged: `numerator / denominator`
-    /// (RFC 9002, section 6.1.2).
+    /// (RFC 9002, section 6.1.2). The denominator has to be above 0.
     pub fn time_threshold(&mut self, numerator: u32, denominator: u32) -> &mut Self
         requires { 0 < denominator }
         ensures same_reference { result.ghost_name ≡ self.entry.ghost_name }

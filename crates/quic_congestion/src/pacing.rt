@@ -62,7 +62,9 @@ impl Pacer {
     }
 
     /// The moment until which so many bytes have to wait, or `None` where they may go now. Windows above 2^32 - 1 bytes
-    /// and a round trip of 0 aren't paced. No moment is earlier than `now`. The caller's window has to be above 0.
+    /// and a round trip of 0 aren't paced. No moment is earlier than `now`.
+    ///
+    /// The window has to be above 0.
     pub fn delay(
         &mut self,
         smoothed_rtt: Duration,
