@@ -1,6 +1,7 @@
 -- The settings of an end's transport, and what its peer is told of them.
 use Rattle.std.specs.Prelude.{ℕ, ◌/◌, ◌^◌, ◌<◌, ◌≤◌, Bool, true, false, min, max, Option, Some, None, if◌then◌else◌}
 use Rattle.quic_parameters.specs.Parameters.{ParameterValues}
+use Rattle.quic_config.specs.declared.mtu_discovery.TheConstants.{MAX_UDP_PAYLOAD}
 use Rattle.quic_config.specs.declared.transport.TheConstants.{IDS_KEPT}
 use Rattle.quic_config.specs.Configs.{SearchSettings, FrequencySettings, default_search}
 
@@ -178,7 +179,7 @@ told_frame_size (Some size) = min size 65535
 abbrev pub parameters_of : Settings → ParameterValues
 parameters_of s = record {
   max_idle_timeout = told_timeout s.max_idle_timeout;
-  max_udp_payload_size = 65527;
+  max_udp_payload_size = MAX_UDP_PAYLOAD;
   initial_max_data = s.receive_window;
   initial_max_stream_data_bidi_local = s.stream_receive_window;
   initial_max_stream_data_bidi_remote = s.stream_receive_window;

@@ -1,12 +1,13 @@
 //! How the size search is configured.
 ghost use Rattle.std.specs.Prelude.{◌≡◌, ◌≤◌, max, min};
 ghost use Rattle.quic_config.specs.Configs.{default_search};
+ghost use Rattle.quic_config.specs.declared.mtu_discovery.TheConstants.{MAX_UDP_PAYLOAD};
 
 use quic_time::Duration;
 use std::marker::Model;
 
 /// The greatest size that a UDP payload may have here, in bytes.
-const MAX_UDP_PAYLOAD: u16 = 65527;
+pub(crate) const MAX_UDP_PAYLOAD: u16 = 65527;
 
 /// How an end looks for the greatest size of a datagram that its path carries (RFC 8899; quinn-proto's `MtuDiscoveryConfig`).
 #[derive(Clone, Copy, Debug)]
@@ -20,6 +21,7 @@ pub struct MtuDiscoveryConfig {
 impl Model for MtuDiscoveryConfig {
     ghost use Rattle.std.specs.Prelude.{◌≤◌};
     ghost use Rattle.quic_config.specs.Configs.{SearchSettings};
+    ghost use Rattle.quic_config.specs.declared.mtu_discovery.TheConstants.{MAX_UDP_PAYLOAD};
 
     ghost Value = { SearchSettings };
 
@@ -30,7 +32,7 @@ impl Model for MtuDiscoveryConfig {
       least_change = c.minimum_change;
     } };
 
-    ghost invariant = { λ c. (c.upper_bound ≤ 65527) × (2 ≤ c.minimum_change) };
+    ghost invariant = { λ c. (c.upper_bound ≤ MAX_UDP_PAYLOAD) × (2 ≤ c.minimum_change) };
 
     ghost inverse = { λ s. record {
       interval = s.interval;
@@ -51,7 +53,7 @@ impl MtuDiscoveryConfig {
     /// The greatest size that is looked for, in bytes.
     pub fn size_bound(&self) -> u16
         ensures value { result ≡ self.now.upper_bound }
-        ensures bound { result ≤ 65527 }
+        ensures bound { result ≤ MAX_UDP_PAYLOAD }
     {
         self.upper_bound
     }
@@ -83,7 +85,7 @@ impl MtuDiscoveryConfig {
     /// The greatest size that is looked for, in bytes; more than 65527 counts as 65527.
     pub fn upper_bound(&mut self, value: u16) -> &mut Self
         ensures same_reference { result.ghost_name ≡ self.entry.ghost_name }
-        ensures value { result.now ≡ record self.old { upper_bound = min value 65527 } }
+        ensures value { result.now ≡ record self.old { upper_bound = min value MAX_UDP_PAYLOAD } }
     {
         self.upper_bound = value.min(MAX_UDP_PAYLOAD);
         self

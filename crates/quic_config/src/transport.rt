@@ -3,7 +3,7 @@ ghost use Rattle.std.specs.Prelude.{◌≡◌, ◌<◌, ◌≤◌, min, max, ◌
 ghost use Rattle.quic_config.specs.Transport.{default_transport, told_timeout, told_frame_size, first_mtu};
 
 use crate::ack_frequency::AckFrequencyConfig;
-use crate::mtu_discovery::MtuDiscoveryConfig;
+use crate::mtu_discovery::{MAX_UDP_PAYLOAD, MtuDiscoveryConfig};
 use quic_parameters::TransportParameters;
 use quic_time::Duration;
 use quic_wire_core::{VarInt, VarIntBoundsExceeded};
@@ -14,9 +14,6 @@ const INITIAL_MTU: u16 = 1200;
 
 /// How many ids an end keeps of its peer: as many as it allows it (RFC 9000, section 18.2, active_connection_id_limit).
 pub const IDS_KEPT: u32 = 5;
-
-/// The nanoseconds of a millisecond.
-const MILLISECOND: u64 = 1_000_000;
 
 /// How long a connection may be without a packet, in milliseconds (RFC 9000, section 10.1; quinn-proto's `IdleTimeout`).
 /// Contracts see the number.
@@ -52,7 +49,7 @@ impl TryFrom<Duration> for IdleTimeout {
 
     /// The whole milliseconds of a time. Every `Duration` has that many, so there's never an error.
     fn try_from(timeout: Duration) -> Result<IdleTimeout, VarIntBoundsExceeded> {
-        let ms = VarInt::from_u64(timeout.as_nanos() / MILLISECOND)?;
+        let ms = VarInt::from_u64(timeout.as_millis())?;
         Ok(IdleTimeout(ms))
     }
 }
@@ -228,7 +225,7 @@ impl TransportConfig {
     }
 
     /// After what part of a round trip a packet is lost, where a later one was acknowledged: `numerator / denominator`
-    /// (RFC 9002, section 6.1.2).
+    /// (RFC 9002, section 6.1.2). The denominator has to be above 0.
     pub fn time_threshold(&mut self, numerator: u32, denominator: u32) -> &mut Self
         requires { 0 < denominator }
         ensures same_reference { result.ghost_name ≡ self.entry.ghost_name }
@@ -463,7 +460,7 @@ impl TransportConfig {
         let stream_window = bounded(self.stream_receive_window);
         TransportParameters {
             max_idle_timeout: milliseconds(self.max_idle_timeout),
-            max_udp_payload_size: VarInt::from_u32(65527),
+            max_udp_payload_size: VarInt::from_u32(u32::from(MAX_UDP_PAYLOAD)),
             initial_max_data: bounded(self.receive_window),
             initial_max_stream_data_bidi_local: stream_window,
             initial_max_stream_data_bidi_remote: stream_window,
@@ -537,7 +534,7 @@ impl Default for TransportConfig {
             send_fairness: true,
             packet_threshold: 3,
             time_threshold: (9, 8),
-            initial_rtt: Duration::from_nanos(333 * MILLISECOND),
+            initial_rtt: Duration::from_millis(333),
             initial_mtu: INITIAL_MTU,
             min_mtu: INITIAL_MTU,
             mtu_discovery_config: Some(MtuDiscoveryConfig::default()),

@@ -1,6 +1,7 @@
 mod Fractions
 mod Histories
 mod Windows
+mod RenoHistories
 mod PacerExamples
 pub mod PacerLaws
 pub mod PacerWaits

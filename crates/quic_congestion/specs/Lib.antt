@@ -7,6 +7,7 @@ pub mod NewRenoLaw
 pub mod Pacer
 pub mod Passing
 pub mod Places
+pub mod RenoHistory
 pub mod Search
 pub mod SearchBounds
 pub mod SearchLaw

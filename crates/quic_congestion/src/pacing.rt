@@ -63,6 +63,8 @@ impl Pacer {
 
     /// The moment until which so many bytes have to wait, or `None` where they may go now. Windows above 2^32 - 1 bytes
     /// and a round trip of 0 aren't paced. No moment is earlier than `now`.
+    ///
+    /// The window has to be above 0.
     pub fn delay(
         &mut self,
         smoothed_rtt: Duration,
@@ -109,7 +111,7 @@ impl Pacer {
         requires bounded { window < 2 ^ 32 }
         ensures { self.new ≡ after_refill self.old smoothed_rtt window now }
     {
-        let elapsed = now.as_nanos().saturating_sub(self.prev.as_nanos());
+        let elapsed = now.saturating_duration_since(self.prev);
         let tokens = u128::from(self.tokens) + tokens_in(smoothed_rtt, window, elapsed);
         self.tokens = tokens.min(u128::from(self.capacity)) as u64;
         self.prev = now;
@@ -144,14 +146,14 @@ fn optimal_capacity(smoothed_rtt: Duration, window: u64, mtu: u16) -> u64
     capacity.clamp(MIN_BURST_SIZE * mtu, MAX_BURST_SIZE * mtu) as u64
 }
 
-/// The tokens that come in so many nanoseconds.
-fn tokens_in(smoothed_rtt: Duration, window: u64, elapsed: u64) -> u128
+/// The tokens that come in so long a time.
+fn tokens_in(smoothed_rtt: Duration, window: u64, elapsed: Duration) -> u128
     requires paced { 0 < smoothed_rtt }
     requires bounded { window < 2 ^ 32 }
     ensures value { result ≡ gained smoothed_rtt window elapsed }
     ensures bound { result < 2 ^ 99 }
 {
-    let scaled = u128::from(window) * 5 * u128::from(elapsed);
+    let scaled = u128::from(window) * 5 * u128::from(elapsed.as_nanos());
     scaled / (4 * u128::from(smoothed_rtt.as_nanos()))
 }
 

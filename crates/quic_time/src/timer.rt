@@ -1,5 +1,5 @@
 //! The timers of a connection.
-ghost use Rattle.std.specs.Prelude.{◌≡◌, Some, None};
+ghost use Rattle.std.specs.Prelude.{◌≡◌, ℕ, ◌≤◌, Some, None, IfSome, IsSomeAnd};
 ghost use Rattle.std.specs.Array.Iter.{array_into_iter_items};
 ghost use Rattle.quic_time.specs.Timers.{timer_at, with_timer, all_timers, earlier, next_timer, has_come};
 
@@ -112,7 +112,10 @@ impl TimerTable {
 
     /// The earliest moment at which a timer expires, or `None` if none is set.
     pub fn next_timeout(&self) -> Option<Instant>
-        ensures { result ≡ next_timer self.now }
+        ensures value { result ≡ next_timer self.now }
+        ensures set { IfSome result (λ next. (timer : Timer) × (timer_at timer self.now ≡ Some next)) }
+        ensures least { (timer : Timer) (moment : ℕ) → timer_at timer self.now ≡ Some moment
+            → IsSomeAnd result (λ next. next ≤ moment) }
     {
         self.moments.iter().copied().fold(None, earlier)
     }

@@ -48,7 +48,8 @@ impl NewRenoConfig {
         self
     }
 
-    /// What a loss leaves of the window: `numerator / denominator` of it.
+    /// What a loss leaves of the window: `numerator / denominator` of it. The numerator has to be at most the denominator,
+    /// and the denominator above 0.
     pub fn loss_reduction_factor(&mut self, numerator: u64, denominator: u64) -> &mut Self
         requires at_most_one { numerator ≤ denominator }
         requires above_zero { 0 < denominator }

@@ -3,6 +3,7 @@ ghost use Rattle.std.specs.Prelude.{◌≡◌, ℕ, ◌+◌, ◌*◌, ◌<◌, �
 ghost use Rattle.quic_time.specs.Rtt.{Rtt};
 ghost use Rattle.quic_congestion.specs.Congestion.{HasRoom, Told, Acked, Congested, AreSized, last_size, Steps, steps_of, after_call, after_calls};
 ghost use Rattle.quic_congestion.specs.NewReno.{RenoSettings, default_reno, Reno, reno_made, reno_acked, reno_congested, reno_steps, window_after};
+ghost use Rattle.quic_congestion.specs.RenoHistory.{Counts, AllCount, bytes_told, acked_bytes, AreWithin, windows_sum};
 
 use crate::congestion::Controller;
 use crate::congestion::new_reno::NewReno;
@@ -63,6 +64,30 @@ pub fn acknowledgements_raise_the_window()
         → r.window ≤ (reno_acked r sent bytes app_limited).window }
     ensures most { (r : Reno) (sent bytes : ℕ) (app_limited : Bool)
         → (reno_acked r sent bytes app_limited).window ≤ r.window + max bytes r.size }
+{}
+
+/// While the window stays below the threshold, it is the first window and the bytes acknowledged since, as long as each
+/// packet counts and 64 bits hold it (RFC 9002, section 7.3.1). So it is after the acknowledgement that takes it to the
+/// threshold or past it.
+pub fn slow_start_adds_what_is_acknowledged()
+    ensures below { (r : Reno) (calls : List Told) → AllCount r calls → r.window + acked_bytes calls < r.threshold
+        → r.window + acked_bytes calls < 2 ^ 64 → window_after r calls ≡ r.window + acked_bytes calls }
+    ensures last { (r : Reno) (calls : List Told) (call : Told) → AllCount r calls → Counts r.recovery call
+        → r.window + acked_bytes calls < r.threshold → r.window + acked_bytes calls + bytes_told call < 2 ^ 64
+        → window_after r (calls ++ call ∷ []) ≡ r.window + acked_bytes calls + bytes_told call }
+{}
+
+/// At or above the threshold each window of bytes acknowledged adds one datagram, as long as each packet counts and 64 bits
+/// hold the window and the bytes (RFC 9002, section 7.3.3). What is left to count is less than a window where no
+/// acknowledgement has more bytes than the first one.
+pub fn avoidance_adds_a_datagram_a_window()
+    ensures each { (r : Reno) (calls : List Told) → AllCount r calls → r.threshold ≤ r.window → r.size ≤ r.window
+        → r.window + r.counted + acked_bytes calls < 2 ^ 64
+        → (k : ℕ) × (window_after r calls ≡ r.window + k * r.size)
+        × (r.counted + acked_bytes calls ≡ (after_calls reno_steps r calls).counted + windows_sum k r.window r.size) }
+    ensures left { (r : Reno) (calls : List Told) → AllCount r calls → AreWithin r.window calls → r.threshold ≤ r.window
+        → r.size ≤ r.window → r.window + r.counted + acked_bytes calls < 2 ^ 64 → r.counted < r.window
+        → (after_calls reno_steps r calls).counted < window_after r calls }
 {}
 
 /// A loss adds nothing to a window that two datagrams fit.
