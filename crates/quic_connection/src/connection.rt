@@ -105,7 +105,7 @@ impl<H: HeaderKey + Drop, K: PacketKey + Drop, R: Rng + Drop> Connection<H, K, R
     /// An end that was made at a moment: its limits are the peer's transport parameters, as the peer's
     /// `Config::write_parameters` wrote them. Both ids were exchanged before.
     ///
-    /// The errors are tested in the order in which [`ConfigError`] lists them.
+    /// The errors are tested in the order in which [`ConfigError`] lists them. Memory never lacks: none is taken.
     pub fn new(
         alloc: Global,
         side: Side,

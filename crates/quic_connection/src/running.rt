@@ -69,8 +69,8 @@ pub struct Outcome<H, K, R> {
     pub cut_short: bool,
 }
 
-/// Makes the call of one event, and appends a datagram that it gives. An error is want of memory of its own, with no
-/// call made and nothing changed.
+/// Makes the call of one event, and appends a datagram that it gives. The call answers want of memory only where it takes
+/// some. An error is want of memory of its own, with no call made and nothing changed.
 pub fn step<H: HeaderKey + Drop, K: PacketKey + Drop, R: Rng + Drop>(
     alloc: Global,
     ends: &mut Ends<H, K, R>,
