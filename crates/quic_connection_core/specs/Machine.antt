@@ -137,7 +137,7 @@ abbrev pub changed : Side → World → End → List (List ℕ) → World
 changed Client w e ds = record w { client = e; from_client = w.from_client ++ ds }
 changed Server w e ds = record w { server = e; from_server = w.from_server ++ ds }
 
--- an event may be answered so, memory may lack there where it does, and it may leave the world so
+-- an event may be answered so, lacking memory only where its call takes some, and leave the world so
 pub record IsStep (k : Policies) (w : World) (event : RunEvent) (a : Answer) (next : World) : Type 0 where
   pub answer : IsAnswer (policy_at event.side k) (end_at event.side w) (given_by (other_side event.side) w) event.call a
   pub end : IsLeft (fails a) (policy_at event.side k) (end_at event.side w) (given_by (other_side event.side) w) event.call a (end_at event.side next)
