@@ -3,7 +3,6 @@ pub mod Faults
 pub mod Ends
 pub mod Given
 pub mod Lending
-pub mod Lacking
 pub mod Views
 pub mod Tracked
 pub mod Settled

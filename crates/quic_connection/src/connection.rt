@@ -2,7 +2,6 @@
 ghost use Rattle.std.specs.Prelude.{◌≡◌, ◌≢◌, ◌+◌, ◌≤◌, ◌<◌, ◌^◌, ◌++◌, ◌↔◌, length, Ok, Err, Some, None, IfOk, IsOk, OnOk, OnErr, IfErr, IsTrue, option_copied, if◌then◌else◌, true, false, IfSome, IsSome, MatchResult};
 ghost use Rattle.quic_parameters.specs.ParametersRead.{parameters_at};
 ghost use Rattle.quic_connection_core.specs.declared.answers.State.TheVariants as states;
-ghost use Rattle.quic_connection_core.specs.declared.answers.ConfigError.TheVariants as config_errors;
 ghost use Rattle.quic_connection_core.specs.End.{MadeFrom, refusal_of, with_end, with_closing, closed_by, with_numbers, with_ping, HasFailed};
 ghost use Rattle.quic_connection_core.specs.Closing.{ticked};
 ghost use Rattle.quic_connection_core.specs.Table.{at};
@@ -16,7 +15,7 @@ ghost use Rattle.quic_connection_core.specs.Receiving.{read_answer};
 ghost use Rattle.quic_connection_core.specs.Calls.{is_open, can_open, open_answer, after_open, end_accepts, end_after_accept, end_writes, end_after_write, end_after_finish, end_after_ping, end_next, end_after_next};
 ghost use Rattle.quic_connection_core.specs.Numbers.{can_number, number_opened};
 ghost use Rattle.quic_recovery_core.specs.Duplicates.{is_duplicate};
-ghost use Rattle.quic_streams.specs.Halves.{CutsPiece};
+ghost use Rattle.quic_connection_core.specs.Lacking.{CutsPiece};
 
 mod acked;
 mod acknowledging;
@@ -106,7 +105,7 @@ impl<H: HeaderKey + Drop, K: PacketKey + Drop, R: Rng + Drop> Connection<H, K, R
     /// An end that was made at a moment: its limits are the peer's transport parameters, as the peer's
     /// `Config::write_parameters` wrote them. Both ids were exchanged before.
     ///
-    /// The errors are tested in the order in which [`ConfigError`] lists them.
+    /// The errors are tested in the order in which [`ConfigError`] lists them. Memory never lacks: none is taken.
     pub fn new(
         alloc: Global,
         side: Side,
@@ -122,7 +121,7 @@ impl<H: HeaderKey + Drop, K: PacketKey + Drop, R: Rng + Drop> Connection<H, K, R
         ensures made { IfOk result (λ c. MadeFrom side config.now peer_parameters.now own_id peer_id now validated c.end) }
         ensures keys { IfOk result (λ c. c.keys ≡ keys) }
         ensures random { IfOk result (λ c. c.random ≡ random) }
-        ensures refusal { IfErr result (λ e. e ≢ config_errors.Memory → Some e ≡ refusal_of (parameters_at peer_parameters.now) own_id peer_id) }
+        ensures refusal { IfErr result (λ e. Some e ≡ refusal_of (parameters_at peer_parameters.now) own_id peer_id) }
         ensures lawful { OnOk result (refusal_of (parameters_at peer_parameters.now) own_id peer_id ≡ None) }
     {
         let Ok(theirs) = TransportParameters::read(side, peer_parameters) else {

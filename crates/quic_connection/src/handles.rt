@@ -5,7 +5,7 @@ ghost use Rattle.quic_connection_core.specs.declared.answers.WriteError.TheVaria
 ghost use Rattle.quic_connection_core.specs.declared.answers.ReadError.TheVariants as read_errors;
 ghost use Rattle.quic_connection_core.specs.End.{with_end};
 ghost use Rattle.quic_connection_core.specs.Table.{at};
-ghost use Rattle.quic_streams.specs.Halves.{CutsPiece};
+ghost use Rattle.quic_connection_core.specs.Lacking.{CutsPiece};
 ghost use Rattle.quic_connection_core.specs.Sending.{finish_answer};
 ghost use Rattle.quic_connection_core.specs.Receiving.{read_answer};
 ghost use Rattle.quic_connection_core.specs.Calls.{can_open, open_answer, after_open, end_accepts, end_after_accept, end_writes, end_after_write, end_after_finish, end_next, end_after_next};

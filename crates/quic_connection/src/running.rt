@@ -3,6 +3,7 @@ ghost use Rattle.std.specs.Prelude.{◌≡◌, ◌++◌, [], length, ◌≤◌, 
 ghost use Rattle.quic_connection_core.specs.End.{policy_of, with_end};
 ghost use Rattle.quic_connection_core.specs.Machine.{IsAnswer, IsLeft, fails, gives, IsStep, view_of, end_view, Follows};
 ghost use Rattle.quic_connection_core.specs.Calls.{AreNexts, after_nexts};
+ghost use Rattle.quic_connection_core.specs.Lacking.{NextsLack, LacksWhere};
 ghost use Rattle.quic_time.specs.Timers.{each_timer};
 ghost use Rattle.quic_connection_core.specs.Headline.{IsHonest, OrderedPrefix, Slices, Once, EndAfterAll, BlockedOnlyWithoutBytes, AcceptsAll, FinishedMeansArrived, TellsOnce, AcknowledgedWereTaken, LossTimersFollow, AckTimersFollow, NumbersRise};
 ghost use Rattle.quic_connection_core.specs.Duties.{DutiesStand};
@@ -68,8 +69,8 @@ pub struct Outcome<H, K, R> {
     pub cut_short: bool,
 }
 
-/// Makes the call of one event, and appends a datagram that it gives. An error is want of memory of its own, with no
-/// call made and nothing changed.
+/// Makes the call of one event, and appends a datagram that it gives. The call answers want of memory only where it takes
+/// some. An error is want of memory of its own, with no call made and nothing changed.
 pub fn step<H: HeaderKey + Drop, K: PacketKey + Drop, R: Rng + Drop>(
     alloc: Global,
     ends: &mut Ends<H, K, R>,
@@ -107,6 +108,7 @@ fn at_end<H: HeaderKey + Drop, K: PacketKey + Drop, R: Rng + Drop>(
     call: &Call,
 ) -> Result<Answer, AllocError>
     ensures answer { IfOk result (λ a. IsAnswer (policy_of H.masks H.hides H.unmasks H.reveals K.sealed K.opened end.old) end.old.end theirs.now call.now a) }
+    ensures lacking { IfOk result (λ a. LacksWhere (policy_of H.masks H.hides H.unmasks H.reveals K.sealed K.opened end.old) end.old.end theirs.now call.now a) }
     ensures end { IfOk result (λ a. IsLeft (fails a) (policy_of H.masks H.hides H.unmasks H.reveals K.sealed K.opened end.old) end.old.end theirs.now call.now a end.new.end) }
     ensures given { IfOk result (λ a. mine.new.items ≡ mine.old.items ++ gives (policy_of H.masks H.hides H.unmasks H.reveals K.sealed K.opened end.old) end.old.end call.now a) }
     ensures keys { end.new ≡ with_end end.old end.new.end }
@@ -141,6 +143,7 @@ fn poll_at<H: HeaderKey + Drop, K: PacketKey + Drop, R: Rng + Drop>(
     now: Instant,
 ) -> Result<Answer, AllocError>
     ensures answer { IfOk result (λ a. IsAnswer (policy_of H.masks H.hides H.unmasks H.reveals K.sealed K.opened end.old) end.old.end [] (Call.Poll now) a) }
+    ensures lacking { IfOk result (λ a. LacksWhere (policy_of H.masks H.hides H.unmasks H.reveals K.sealed K.opened end.old) end.old.end [] (Call.Poll now) a) }
     ensures end { IfOk result (λ a. IsLeft (fails a) (policy_of H.masks H.hides H.unmasks H.reveals K.sealed K.opened end.old) end.old.end [] (Call.Poll now) a end.new.end) }
     ensures given { IfOk result (λ a. mine.new.items ≡ mine.old.items ++ gives (policy_of H.masks H.hides H.unmasks H.reveals K.sealed K.opened end.old) end.old.end (Call.Poll now) a) }
     ensures keys { end.new ≡ with_end end.old end.new.end }
@@ -164,6 +167,7 @@ fn deliver_at<H: HeaderKey + Drop, K: PacketKey + Drop, R: Rng + Drop>(
     delivery: &Delivery,
 ) -> Result<Answer, AllocError>
     ensures answer { IfOk result (λ a. IsAnswer (policy_of H.masks H.hides H.unmasks H.reveals K.sealed K.opened end.old) end.old.end theirs.now (Call.Deliver delivery.entry.now) a) }
+    ensures lacking { IfOk result (λ a. LacksWhere (policy_of H.masks H.hides H.unmasks H.reveals K.sealed K.opened end.old) end.old.end theirs.now (Call.Deliver delivery.entry.now) a) }
     ensures end { IfOk result (λ a. IsLeft (fails a) (policy_of H.masks H.hides H.unmasks H.reveals K.sealed K.opened end.old) end.old.end theirs.now (Call.Deliver delivery.entry.now) a end.new.end) }
     ensures keys { end.new ≡ with_end end.old end.new.end }
     ensures err { OnErr result (end.new ≡ end.old) }
@@ -203,6 +207,7 @@ fn read_at<H: HeaderKey + Drop, K: PacketKey + Drop, R: Rng + Drop>(
     read: &ReadCall,
 ) -> Result<Answer, AllocError>
     ensures answer { IfOk result (λ a. IsAnswer (policy_of H.masks H.hides H.unmasks H.reveals K.sealed K.opened end.old) end.old.end [] (Call.Read read.now) a) }
+    ensures lacking { IfOk result (λ a. LacksWhere (policy_of H.masks H.hides H.unmasks H.reveals K.sealed K.opened end.old) end.old.end [] (Call.Read read.now) a) }
     ensures end { IfOk result (λ a. IsLeft (fails a) (policy_of H.masks H.hides H.unmasks H.reveals K.sealed K.opened end.old) end.old.end [] (Call.Read read.now) a end.new.end) }
     ensures keys { end.new ≡ with_end end.old end.new.end }
     ensures err { OnErr result (end.new ≡ end.old) }
@@ -230,6 +235,7 @@ fn read_each<H: HeaderKey + Drop, K: PacketKey + Drop, R: Rng + Drop>(
     requires room { length nexts.now ≤ vec_capacity items.old }
     ensures same_reference { chunks.new.connection.ghost_name ≡ chunks.old.connection.ghost_name }
     ensures answers { AreNexts chunks.old.connection.now.end chunks.old.id nexts.now items.new.items }
+    ensures lacking { NextsLack chunks.old.connection.now.end chunks.old.id nexts.now items.new.items }
     ensures end { chunks.new.connection.now ≡ with_end chunks.old.connection.now (after_nexts chunks.old.connection.now.end chunks.old.id nexts.now items.new.items) }
 {
     for max_length in nexts {

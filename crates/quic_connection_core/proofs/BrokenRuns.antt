@@ -184,7 +184,7 @@ never_again r = stops r (λ is. cc)
 
 -- the stream is told to be finished once
 tells_first : IsStep worked_policies (before_sending client_acked) asks_event tells_finished all_told
-tells_first = record { answer = refl; end = refl; others = refl }
+tells_first = record { answer = refl; end = refl; others = refl; lacking = tt }
 
 pub never_twice : (views : List View) (end : World) → Follows worked_policies told_twice.start told_twice.events told_twice.answers views end → ⊥
 never_twice views end f = never_again (goes_on refl tells_first (record { views = views; end = end; follows = f }))

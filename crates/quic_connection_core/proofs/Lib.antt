@@ -47,6 +47,7 @@ mod Writes
 mod Sends
 mod Writer
 pub mod WorkedRun
+pub mod WorkedLacks
 pub mod ReorderedRun
 pub mod OneRun
 pub mod BrokenRuns

@@ -17,6 +17,7 @@ use Rattle.quic_connection_core.specs.declared.run.Answer.TheVariants as answers
 use Rattle.quic_connection_core.specs.End.{End}
 use Rattle.quic_connection_core.specs.Calls.{after_nexts}
 use Rattle.quic_connection_core.specs.Machine.{World, IsRead, IsStep, Follows}
+use Rattle.quic_connection_core.specs.Lacking.{NextsLack}
 use Rattle.quic_connection_core.specs.Worked.{worked_policies, waiting_for, client_made, server_made}
 use Rattle.quic_connection_core.specs.Runs.{took}
 use Rattle.quic_connection_core.specs.Broken.{NextAnswers}
@@ -43,38 +44,39 @@ gave_all server = two_ends (waiting_for both_sent (client_after (abc ++ def) (3 
 -- ---- the events
 
 opens : IsStep worked_policies (two_ends client_made server_made []) (record { side = Client; call = calls.Open Bi }) (answers.Open (Ok (Some 0))) opened
-opens = record { answer = inl refl; end = refl; others = refl }
+opens = record { answer = inl refl; end = refl; others = refl; lacking = tt }
 
 writes_abc : IsStep worked_policies opened (record { side = Client; call = calls.Write 0 abc }) (answers.Write (Ok 3)) wrote_abc
-writes_abc = record { answer = inl refl; end = refl; others = refl }
+writes_abc = record { answer = inl refl; end = refl; others = refl; lacking = λ lacks. cc }
 
 gives_abc : IsStep worked_policies wrote_abc (record { side = Client; call = calls.Poll 0 }) (answers.Poll (Ok (Some (record { size = 32; ecn = Some Ect0 })))) gave_abc
 unfolding stream_spelling without_offsets parts_from pieces
-gives_abc = record { answer = inl refl; end = refl; others = refl }
+gives_abc = record { answer = inl refl; end = refl; others = refl; lacking = tt }
 
 writes_def : IsStep worked_policies gave_abc (record { side = Client; call = calls.Write 0 def }) (answers.Write (Ok 3)) wrote_def
-writes_def = record { answer = inl refl; end = refl; others = refl }
+writes_def = record { answer = inl refl; end = refl; others = refl; lacking = λ lacks. cc }
 
 gives_def : IsStep worked_policies wrote_def (record { side = Client; call = calls.Poll 0 }) (answers.Poll (Ok (Some (record { size = 33; ecn = Some Ect0 })))) (gave_all server_made)
 unfolding stream_spelling without_offsets parts_from pieces
-gives_def = record { answer = inl refl; end = refl; others = refl }
+gives_def = record { answer = inl refl; end = refl; others = refl; lacking = tt }
 
 takes_def : IsStep worked_policies (gave_all server_made) (delivers_at 1) (answers.Deliver receives.Taken) (gave_all (server_after (1 ∷ []) (pending_after 1 1) half_late 0))
 unfolding items items_within frame_at body_at kind_of stream_at offset_at data_at sized_at block_at
-takes_def = record { answer = inl refl; end = refl; others = refl }
+takes_def = record { answer = inl refl; end = refl; others = refl; lacking = tt }
 
 accepts : IsStep worked_policies (gave_all (server_after (1 ∷ []) (pending_after 1 1) half_late 0)) (record { side = Server; call = calls.Accept Bi }) (answers.Accept (Some 0)) (gave_all (server_after (1 ∷ []) (pending_after 1 1) half_late 1))
-accepts = record { answer = refl; end = refl; others = refl }
+accepts = record { answer = refl; end = refl; others = refl; lacking = tt }
 
 takes_abc : IsStep worked_policies (gave_all (server_after (1 ∷ []) (pending_after 1 1) half_late 1)) (delivers_at 0) (answers.Deliver receives.Taken) (gave_all (server_after (1 ∷ 0 ∷ []) (pending_after 2 0) half_whole 1))
 unfolding items items_within frame_at body_at kind_of stream_at offset_at data_at sized_at block_at
-takes_abc = record { answer = inl refl; end = refl; others = refl }
+takes_abc = record { answer = inl refl; end = refl; others = refl; lacking = tt }
 
 -- ---- the reads
 
 -- a read at an end of this stream, by these bounds, is answered so, and leaves the end so
 record ReadsSo (e : End) (id : ℕ) (mosts : List ℕ) (nexts : NextAnswers) (next : End) : Type 0 where
   answer : IsRead e id mosts (answers.Read (Ok nexts))
+  lacking : NextsLack e id mosts nexts
   end : next ≡ after_nexts e id mosts nexts
 
 -- it is a step
@@ -82,15 +84,15 @@ step_of : (e : End) (read : ReadCall) (mosts : List ℕ) (nexts : NextAnswers) (
 step_of e read mosts nexts next is_id are_mosts so =
     let by_mosts : ReadsSo e 0 read.nexts.items nexts next = subst (λ ms. ReadsSo e 0 ms nexts next) (sym are_mosts) so in
     let all : ReadsSo e read.id read.nexts.items nexts next = subst (λ n. ReadsSo e n read.nexts.items nexts next) (sym is_id) by_mosts in
-    record { answer = all.answer; end = all.end; others = refl }
+    record { answer = all.answer; end = all.end; others = refl; lacking = all.lacking }
 
 -- nothing is given before the first bytes come
 blocked : ReadsSo (server_after (1 ∷ []) (pending_after 1 1) half_late 1) 0 (32 ∷ []) (Err read_errors.Blocked ∷ []) (server_after (1 ∷ []) (pending_after 1 1) half_late 1)
-blocked = record { answer = (refl, (inl refl, tt)); end = refl }
+blocked = record { answer = (refl, (inl refl, tt)); lacking = (λ lacks. cc, tt); end = refl }
 
 -- then all is given in order
 gives_all : ReadsSo (server_after (1 ∷ 0 ∷ []) (pending_after 2 0) half_whole 1) 0 (32 ∷ 32 ∷ 32 ∷ []) (Ok (Some (record { offset = 0; bytes = abc })) ∷ Ok (Some (record { offset = 3; bytes = def })) ∷ Err read_errors.Blocked ∷ []) (server_after (1 ∷ 0 ∷ []) (pending_after 2 0) half_read 1)
-gives_all = record { answer = (refl, (inl refl, (inl refl, (inl refl, tt)))); end = refl }
+gives_all = record { answer = (refl, (inl refl, (inl refl, (inl refl, tt)))); lacking = (λ lacks. cc, (λ lacks. cc, (λ lacks. cc, tt))); end = refl }
 
 pub follows : (first second : ReadCall) → first.id ≡ 0 → first.nexts.items ≡ 32 ∷ [] → second.id ≡ 0 → second.nexts.items ≡ 32 ∷ 32 ∷ 32 ∷ []
     → Follows worked_policies (two_ends client_made server_made []) (reordered_events first second) reordered_answers reordered_views (gave_all (server_after (1 ∷ 0 ∷ []) (pending_after 2 0) half_read 1))

@@ -22,6 +22,7 @@ use Rattle.quic_config.specs.Transport.{default_settings}
 use Rattle.quic_connection_core.specs.End.{MadeFrom}
 use Rattle.quic_connection_core.specs.Machine.{IsRead, IsStep, Follows}
 use Rattle.quic_connection_core.specs.Calls.{after_nexts}
+use Rattle.quic_connection_core.specs.Lacking.{NextsLack}
 use Rattle.quic_connection_core.specs.Poll.{IsDatagram}
 use Rattle.quic_connection_core.specs.Runs.{Packet, took, WasTaken, HasArrived, EndHasArrived}
 use Rattle.quic_connection_core.specs.Worked.{worked_parameters, client_id, server_id, client_made, server_made, client_opened, client_wrote, client_ended, server_took, server_accepted, server_read, hello, hello_frame, hello_payload, hello_datagram, delivers, before_sending, after_sending, worked_policies, worked_events, worked_answers, worked_views, worked_run}
@@ -35,27 +36,27 @@ unfolding parameters_at judged values_met met_in met_within met_after whole_at e
 server_is_made = refl
 
 pub opens : IsStep worked_policies (before_sending client_made) (record { side = Client; call = calls.Open Bi }) (answers.Open (Ok (Some 0))) (before_sending client_opened)
-opens = record { answer = inl refl; end = refl; others = refl }
+opens = record { answer = inl refl; end = refl; others = refl; lacking = tt }
 
 pub writes : IsStep worked_policies (before_sending client_opened) (record { side = Client; call = calls.Write 0 hello }) (answers.Write (Ok 5)) (before_sending client_wrote)
-writes = record { answer = inl refl; end = refl; others = refl }
+writes = record { answer = inl refl; end = refl; others = refl; lacking = λ lacks. cc }
 
 pub finishes : IsStep worked_policies (before_sending client_wrote) (record { side = Client; call = calls.Finish 0 }) (answers.Finish (Ok tt)) (before_sending client_ended)
-finishes = record { answer = refl; end = refl; others = refl }
+finishes = record { answer = refl; end = refl; others = refl; lacking = tt }
 
 pub gives : IsStep worked_policies (before_sending client_ended) (record { side = Client; call = calls.Poll 0 }) (answers.Poll (Ok (Some (record { size = 34; ecn = Some Ect0 })))) (after_sending server_made)
 unfolding stream_spelling without_offsets parts_from pieces
-gives = record { answer = inl refl; end = refl; others = refl }
+gives = record { answer = inl refl; end = refl; others = refl; lacking = tt }
 
 pub takes : IsStep worked_policies (after_sending server_made) delivers (answers.Deliver receives.Taken) (after_sending server_took)
 unfolding items items_within frame_at body_at kind_of stream_at offset_at data_at sized_at block_at
-takes = record { answer = inl refl; end = refl; others = refl }
+takes = record { answer = inl refl; end = refl; others = refl; lacking = tt }
 
 pub drops_duplicate : IsStep worked_policies (after_sending server_took) delivers (answers.Deliver (receives.Dropped drops.Duplicate)) (after_sending server_took)
-drops_duplicate = record { answer = inl refl; end = refl; others = refl }
+drops_duplicate = record { answer = inl refl; end = refl; others = refl; lacking = tt }
 
 pub accepts : IsStep worked_policies (after_sending server_took) (record { side = Server; call = calls.Accept Bi }) (answers.Accept (Some 0)) (after_sending server_accepted)
-accepts = record { answer = refl; end = refl; others = refl }
+accepts = record { answer = refl; end = refl; others = refl; lacking = tt }
 
 -- what a read of two chunks is answered: the five bytes, then the end
 abbrev read_answer : Answer
@@ -64,15 +65,16 @@ read_answer = answers.Read (Ok (Ok (Some (record { offset = 0; bytes = hello }))
 -- a read at the server of this stream, by these bounds, is answered so, and leaves the half done
 record ReadsAll (id : ℕ) (mosts : List ℕ) : Type 0 where
   answer : IsRead server_accepted id mosts read_answer
+  lacking : NextsLack server_accepted id mosts (Ok (Some (record { offset = 0; bytes = hello })) ∷ Ok None ∷ [])
   end : server_read ≡ after_nexts server_accepted id mosts (Ok (Some (record { offset = 0; bytes = hello })) ∷ Ok None ∷ [])
 
 reads_all : (id : ℕ) (mosts : List ℕ) → id ≡ 0 → mosts ≡ 32 ∷ 32 ∷ [] → ReadsAll id mosts
-reads_all id mosts e f = subst (λ n. ReadsAll n mosts) (sym e) (subst (λ ms. ReadsAll 0 ms) (sym f) (record { answer = (refl, (inl refl, (inl refl, tt))); end = refl }))
+reads_all id mosts e f = subst (λ n. ReadsAll n mosts) (sym e) (subst (λ ms. ReadsAll 0 ms) (sym f) (record { answer = (refl, (inl refl, (inl refl, tt))); lacking = (λ lacks. cc, (λ lacks. cc, tt)); end = refl }))
 
 reads : (read : ReadCall) → read.id ≡ 0 → read.nexts.items ≡ 32 ∷ 32 ∷ [] → IsStep worked_policies (after_sending server_accepted) (record { side = Server; call = calls.Read read }) read_answer (after_sending server_read)
 reads read e f =
     let all = reads_all read.id read.nexts.items e f in
-    record { answer = all.answer; end = all.end; others = refl }
+    record { answer = all.answer; end = all.end; others = refl; lacking = all.lacking }
 
 pub follows : (read : ReadCall) → read.id ≡ 0 → read.nexts.items ≡ 32 ∷ 32 ∷ [] → Follows worked_policies (before_sending client_made) (worked_events read) worked_answers worked_views (after_sending server_read)
 follows read e f = (

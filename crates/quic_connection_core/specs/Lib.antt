@@ -15,6 +15,7 @@ pub mod Receive
 pub mod Poll
 pub mod Timeouts
 pub mod Calls
+pub mod Lacking
 pub mod Machine
 pub mod Runs
 pub mod Worked

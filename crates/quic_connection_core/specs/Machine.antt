@@ -25,6 +25,7 @@ use Rattle.quic_connection_core.specs.Timeouts.{timed_out}
 use Rattle.quic_connection_core.specs.Calls.{end_tells, end_after_event, open_answer, after_open, end_accepts, end_after_accept, end_writes, end_after_write, end_after_finish, end_after_ping, AreNexts, after_nexts}
 use Rattle.quic_connection_core.specs.Receive.{received}
 use Rattle.quic_connection_core.specs.Poll.{polled}
+use Rattle.quic_connection_core.specs.Lacking.{LacksWhere}
 
 -- ---- one call at one end; `theirs` are the datagrams that the other end gave
 
@@ -44,7 +45,7 @@ IsRead e id mosts (answers.Read (Ok nexts)) = (read_answer e.receiving id ≡ Ok
 IsRead e id mosts (answers.Read (Err error)) = (read_answer e.receiving id ≡ Err error) ⊎ (error ≡ readable_errors.Memory)
 IsRead e id mosts a = ⊥
 
--- what a call may be answered: what the machine says, or that memory lacks
+-- what a call may be answered: what the machine says, or that memory lacks (where it may: `LacksWhere`)
 abbrev pub IsAnswer : Policy → End → List (List ℕ) → Call → Answer → Type 0
 IsAnswer p e theirs (calls.Open dir) a = (a ≡ answers.Open (Ok (open_answer dir e))) ⊎ (a ≡ answers.Open (Err alloc_error))
 IsAnswer p e theirs (calls.Accept dir) a = a ≡ answers.Accept (end_accepts dir e)
@@ -136,11 +137,12 @@ abbrev pub changed : Side → World → End → List (List ℕ) → World
 changed Client w e ds = record w { client = e; from_client = w.from_client ++ ds }
 changed Server w e ds = record w { server = e; from_server = w.from_server ++ ds }
 
--- an event may be answered so, and leave the world so
+-- an event may be answered so, lacking memory only where its call takes some, and leave the world so
 pub record IsStep (k : Policies) (w : World) (event : RunEvent) (a : Answer) (next : World) : Type 0 where
   pub answer : IsAnswer (policy_at event.side k) (end_at event.side w) (given_by (other_side event.side) w) event.call a
   pub end : IsLeft (fails a) (policy_at event.side k) (end_at event.side w) (given_by (other_side event.side) w) event.call a (end_at event.side next)
   pub others : next ≡ changed event.side w (end_at event.side next) (gives (policy_at event.side k) (end_at event.side w) event.call a)
+  pub lacking : LacksWhere (policy_at event.side k) (end_at event.side w) (given_by (other_side event.side) w) event.call a
 
 -- what is seen of an end; what this stage has no call for is not there
 abbrev pub end_view : End → EndView

@@ -66,10 +66,11 @@ pub enum Event {
     Lost(LostReason),
 }
 
-/// Why a datagram was dropped; nothing in the end has changed.
+/// Why a datagram was dropped. Nothing in the end has changed, but that the new number of one that a closing end opened counts
+/// as seen.
 #[derive(Clone, Copy, Debug, PartialEq, Eq)]
 pub enum DropReason {
-    /// Fewer bytes than a short header, a sample and a tag have (RFC 9001, section 5.4.2).
+    /// The bytes end within the id, or there are fewer than 20 behind it (RFC 9001, section 5.4.2).
     TooShort,
     /// A long header (RFC 9000, section 17.2).
     NotShort,
@@ -81,7 +82,7 @@ pub enum DropReason {
     NotOpened,
     /// Another key phase, and keys are never updated here (RFC 9001, section 6).
     KeyPhase,
-    /// Its number came before, or is too old to tell (RFC 9000, section 13.2.3).
+    /// Its number came before, or is too old to tell (RFC 9000, section 12.3).
     Duplicate,
     /// The end is closing.
     Closing,
@@ -152,7 +153,7 @@ pub enum ReadableError {
     /// There is no such stream, or its end was read.
     #[error("closed stream")]
     ClosedStream,
-    /// Memory lacked; nothing has changed.
+    /// Memory lacked; nothing has changed. No call gives it yet.
     #[error("out of memory")]
     Memory,
 }

@@ -1,19 +1,25 @@
 //! Runs of machines with a bug, computed: each breaks a clause of the headline, and the reference machine runs none of
 //! them. Each function does nothing: its contract is the law.
-ghost use Rattle.std.specs.Prelude.{◌≡◌, List, [], ◌∷◌, Ok, true};
+ghost use Rattle.std.specs.Prelude.{◌≡◌, List, [], ◌∷◌, Ok, Err, true, alloc_error};
 ghost use Rattle.quic_wire_core.specs.declared.stream_id.Side.TheVariants.{Client, Server};
+ghost use Rattle.quic_wire_core.specs.declared.stream_id.Dir.TheVariants.{Bi};
 ghost use Rattle.quic_wire.specs.Value.{stream};
 ghost use Rattle.quic_connection_core.specs.declared.run.ReadCall.{ReadCall};
 ghost use Rattle.quic_connection_core.specs.declared.run.RunEvent.{RunEvent};
 ghost use Rattle.quic_connection_core.specs.declared.run.Answer.{Answer};
 ghost use Rattle.quic_connection_core.specs.declared.run.Answer.TheVariants as answers;
+ghost use Rattle.quic_connection_core.specs.declared.run.Call.TheVariants as calls;
+ghost use Rattle.quic_connection_core.specs.declared.answers.ReadableError.TheVariants as readable_errors;
+ghost use Rattle.quic_connection_core.specs.declared.answers.ReadError.TheVariants as read_errors;
+ghost use Rattle.quic_connection_core.specs.declared.answers.WriteError.TheVariants as write_errors;
+ghost use Rattle.quic_connection_core.specs.declared.answers.Received.TheVariants as receives;
 ghost use Rattle.quic_connection_core.specs.declared.run.View.{View};
-ghost use Rattle.quic_connection_core.specs.Machine.{World, IsRead, Follows};
+ghost use Rattle.quic_connection_core.specs.Machine.{World, IsRead, IsStep, Follows};
 ghost use Rattle.quic_connection_core.specs.Runs.{until, written, reads, bytes_of, took};
 ghost use Rattle.quic_connection_core.specs.Duties.{DutiesStand};
 ghost use Rattle.quic_connection_core.specs.InFlight.{in_flight, TracksInFlight};
 ghost use Rattle.quic_connection_core.specs.Headline.{OrderedPrefix, Slices, Once, EndAfterAll, BlockedOnlyWithoutBytes, AcceptsAll, FinishedMeansArrived, TellsOnce, AcknowledgedWereTaken, LossTimersFollow, AckTimersFollow, NumbersRise};
-ghost use Rattle.quic_connection_core.specs.Worked.{hello, hello_frame, worked_policies, worked_events, client_made, server_made, before_sending, run_with, carrying};
+ghost use Rattle.quic_connection_core.specs.Worked.{hello, hello_frame, worked_policies, worked_events, client_made, client_opened, client_ended, server_made, server_took, within, delivers, before_sending, after_sending, run_with, carrying};
 ghost use Rattle.quic_connection_core.specs.Broken.{hellp, changed_byte, repeated_bytes, unwritten_byte, early_end, unwritten_end, taken_twice, never_taken, blocked_read, never_accepted, early_finish, all_told, told_twice, never_told, early_acknowledgement, never_timed, still_timed, sending_run, answered_run, forgotten, empty_datagram, repeated_number, all_nexts};
 
 /// A read that changes a byte gives no prefix of what was written, and no slice of it.
@@ -136,4 +142,16 @@ pub fn never_taken_shows()
     ensures reads { (read : ReadCall) → read.id ≡ 0 → bytes_of (reads 0 (until (run_with read never_taken) Server 8)) ≡ hello }
     ensures machine { (read : ReadCall) (views : List View) (end : World) → Follows worked_policies (before_sending client_made) (worked_events read) never_taken views end → ⊥ }
     ensures unread { IsRead server_made 0 (32 ∷ 32 ∷ []) (answers.Read (Ok all_nexts)) → ⊥ }
+{}
+
+/// No call lacks memory that takes none: no open without room, no write that is refused, no read that begins, no `next` that
+/// gives all of a piece, no poll where nothing waits, and no delivery of a datagram that is dropped.
+pub fn needless_lack_shows()
+    ensures open { (next : World) → IsStep worked_policies (before_sending client_opened) (record { side = Client; call = calls.Open Bi }) (answers.Open (Err alloc_error)) next → ⊥ }
+    ensures closed_write { (next : World) → IsStep worked_policies (before_sending client_ended) (record { side = Client; call = calls.Write 0 hello }) (answers.Write (Err write_errors.Memory)) next → ⊥ }
+    ensures blocked_write { (next : World) → IsStep worked_policies (before_sending (within 0 client_opened)) (record { side = Client; call = calls.Write 0 hello }) (answers.Write (Err write_errors.Memory)) next → ⊥ }
+    ensures read { (read : ReadCall) (next : World) → IsStep worked_policies (after_sending server_took) (record { side = Server; call = calls.Read read }) (answers.Read (Err readable_errors.Memory)) next → ⊥ }
+    ensures next { (read : ReadCall) (next : World) → read.id ≡ 0 → read.nexts.items ≡ 32 ∷ [] → IsStep worked_policies (after_sending server_took) (record { side = Server; call = calls.Read read }) (answers.Read (Ok (Err read_errors.Memory ∷ []))) next → ⊥ }
+    ensures poll { (next : World) → IsStep worked_policies (after_sending server_made) (record { side = Client; call = calls.Poll 0 }) (answers.Poll (Err (record {}))) next → ⊥ }
+    ensures deliver { (next : World) → IsStep worked_policies (after_sending server_took) delivers (answers.Deliver receives.Failed) next → ⊥ }
 {}

@@ -175,12 +175,12 @@ pub fn calls_are_bounded()
 {}
 
 /// Where memory lacks, an application's call leaves all as it was, and an end that is polled or that receives has failed.
+/// It may lack where a stream is opened, bytes are kept, a chunk is cut off a piece, a datagram is given, and frames are taken.
 /// A delivery of a datagram that wasn't given is no call.
 pub fn memory_may_lack()
     ensures open { IsStep worked_policies (before_sending client_made) (record { side = Client; call = calls.Open Bi }) (answers.Open (Err alloc_error)) (before_sending client_made) }
     ensures write { IsStep worked_policies (before_sending client_opened) (record { side = Client; call = calls.Write 0 hello }) (answers.Write (Err write_errors.Memory)) (before_sending client_opened) }
-    ensures next { (read : ReadCall) → read.id ≡ 0 → read.nexts.items ≡ 32 ∷ [] → IsStep worked_policies (after_sending server_took) (record { side = Server; call = calls.Read read }) (answers.Read (Ok (Err read_errors.Memory ∷ []))) (after_sending server_took) }
-    ensures read { (read : ReadCall) → read.id ≡ 0 → IsStep worked_policies (after_sending server_took) (record { side = Server; call = calls.Read read }) (answers.Read (Err readable_errors.Memory)) (after_sending server_took) }
+    ensures next { (read : ReadCall) → read.id ≡ 0 → read.nexts.items ≡ 2 ∷ [] → IsStep worked_policies (after_sending server_took) (record { side = Server; call = calls.Read read }) (answers.Read (Ok (Err read_errors.Memory ∷ []))) (after_sending server_took) }
     ensures poll { IsStep worked_policies (before_sending client_ended) (record { side = Client; call = calls.Poll 0 }) (answers.Poll (Err (record {}))) (before_sending (failed_end client_ended)) }
     ensures deliver { IsStep worked_policies (after_sending server_made) delivers (answers.Deliver receives.Failed) (after_sending (failed_end server_made)) }
     ensures no_datagram { IsStep worked_policies (before_sending client_made) delivers answers.NoDatagram (before_sending client_made) }

@@ -1,5 +1,5 @@
 -- The two ends of a script, as they are made and as they go on.
-use Rattle.std.proofs.Common.{◌≡◌, ◌≢◌, ℕ, true, List, ◌++◌, [], length, Some, None, Result, Ok, Err, IfOk, OnErr, refl, sym, ap, ◌∙◌, append-nil}
+use Rattle.std.proofs.Common.{◌≡◌, ℕ, true, List, ◌++◌, [], length, Some, None, Result, Ok, Err, IfOk, OnErr, refl, sym, ap, ◌∙◌, append-nil}
 use Rattle.std.specs.declared.alloc.AllocError.{AllocError}
 use Rattle.quic_wire_core.specs.declared.stream_id.Side.{Side}
 use Rattle.quic_wire_core.specs.declared.stream_id.Side.TheVariants.{Client, Server}
@@ -7,7 +7,6 @@ use Rattle.quic_wire_core.specs.StreamId.{other_side}
 use Rattle.quic_parameters.specs.Parameters.{ParameterValues}
 use Rattle.quic_parameters.specs.ParametersRead.{parameters_at}
 use Rattle.quic_connection_core.specs.declared.answers.ConfigError.{ConfigError}
-use Rattle.quic_connection_core.specs.declared.answers.ConfigError.TheVariants as config_errors
 use Rattle.quic_connection_core.specs.declared.run.RunEvent.{RunEvent}
 use Rattle.quic_connection_core.specs.declared.run.Answer.{Answer}
 use Rattle.quic_config.specs.Transport.{Settings, settings_with, parameters_of}
@@ -44,10 +43,10 @@ are_started client server client_is server_is = record {
         → MadeFrom side (making side own).settings (making (other_side side) peer).parameters (first_id side) (first_id (other_side side)) 0 true (first_end side own peer)
     made side own peer says = rw says refl
 
--- an end is never refused, but for want of memory
-pub never_refused : {E : Type 0} (side other : Side) (e : ConfigError) (read : Result ParameterValues E) (theirs : ParameterValues) (own_id peer_id : List ℕ) → read ≡ Ok theirs → own_id ≡ first_id side → other ≡ other_side side → peer_id ≡ first_id other → (e ≢ config_errors.Memory → Some e ≡ refusal_of read own_id peer_id) → e ≢ config_errors.Memory → ⊥
-never_refused {E} side other e read theirs own_id peer_id is own turned peer refusal no_memory =
-    let refused : Some e ≡ refusal_of {E = E} (Ok theirs) (first_id side) (first_id (other_side side)) = rw (is, own, peer, turned) at (refusal no_memory) in
+-- an end is never refused
+pub never_refused : {E : Type 0} (side other : Side) (e : ConfigError) (read : Result ParameterValues E) (theirs : ParameterValues) (own_id peer_id : List ℕ) → read ≡ Ok theirs → own_id ≡ first_id side → other ≡ other_side side → peer_id ≡ first_id other → Some e ≡ refusal_of read own_id peer_id → ⊥
+never_refused {E} side other e read theirs own_id peer_id is own turned peer refusal =
+    let refused : Some e ≡ refusal_of {E = E} (Ok theirs) (first_id side) (first_id (other_side side)) = rw (is, own, peer, turned) at refusal in
     let never : Some e ≡ None = refused ∙ lawful E side theirs in
     cc
 
@@ -70,9 +69,3 @@ given_more k w next event (Ok a) side ok err =
     go Client Server e ds = ([], sym (append-nil w.from_server))
     go Server Client e ds = ([], sym (append-nil w.from_client))
     go Server Server e ds = (ds, refl)
-
--- what is nothing but want of memory is it
-pub is_memory : (e : ConfigError) → (e ≢ config_errors.Memory → ⊥) → e ≡ config_errors.Memory
-is_memory config_errors.Parameters h = absurd (h (λ is. (cc)))
-is_memory config_errors.IdLength h = absurd (h (λ is. (cc)))
-is_memory config_errors.Memory h = refl

@@ -1,6 +1,6 @@
 -- Words of the halves of streams, and of what a call on them answers where memory may lack.
-use Rattle.std.specs.Prelude.{◌≡◌, ℕ, Bool, true, false, Option, Some, None, Result, Ok, Err}
-use Rattle.quic_streams_core.specs.Arrived.{cuts, after_read_in}
+use Rattle.std.specs.Prelude.{ℕ, Bool, true, false, Option, Some, None, Result, Ok, Err}
+use Rattle.quic_streams_core.specs.Arrived.{after_read_in}
 use Rattle.quic_streams_core.specs.declared.connection.assembler.Chunk.{Chunk}
 use Rattle.quic_connection_core.specs.declared.answers.ReadError.{ReadError}
 use Rattle.quic_connection_core.specs.Table.{put}
@@ -27,8 +27,3 @@ after_touch (Some h) r id = r
 abbrev pub is_closed : Option SendHalf → Bool
 is_closed None = true
 is_closed (Some h) = h.finished
-
--- a read of at most so many bytes cuts the piece that waits next
-abbrev pub CutsPiece : Option RecvHalf → ℕ → Type 0
-CutsPiece None most = ⊥
-CutsPiece (Some h) most = cuts h.arrived.parts h.arrived.read most ≡ true

@@ -1,5 +1,5 @@
 //! What has come on the streams of one end.
-ghost use Rattle.std.specs.Prelude.{◌≡◌, ◌≢◌, ◌<◌, ◌≤◌, ◌^◌, ◌-◌, ◌+◌, [], max, nat_lt, nat_le, not, IsSome, IfSome, IfOk, OnOk, OnErr, Ok, Err, Some, None};
+ghost use Rattle.std.specs.Prelude.{◌≡◌, ◌≢◌, ◌<◌, ◌≤◌, ◌^◌, ◌-◌, ◌+◌, [], max, nat_lt, nat_le, not, IsSome, IfSome, IfOk, OnOk, OnErr, Ok, Err, Some, None, true};
 ghost use Rattle.std.specs.Option.{is_some, option_copied};
 ghost use Rattle.quic_wire_core.specs.StreamId.{index_of};
 ghost use Rattle.quic_wire.specs.FrameView.{stream_view};
@@ -9,7 +9,7 @@ ghost use Rattle.quic_connection_core.specs.Receiving.{untouched, end_of, opened
 ghost use Rattle.quic_connection_core.specs.declared.answers.ReadError.TheVariants as read_errors;
 ghost use Rattle.quic_streams.specs.Halves.{read_at, after_touch};
 ghost use Rattle.quic_streams.specs.Answered.{AnswersBreach, UnlessMemory, OnMemory};
-ghost use Rattle.quic_streams.specs.Halves.{CutsPiece};
+ghost use Rattle.quic_connection_core.specs.Lacking.{CutsPiece};
 
 use crate::recv::{Recv, end_of, is_too_far};
 use quic_connection_core::{Breach, ReadError, ReadableError};
@@ -282,11 +282,13 @@ impl Receiving {
     ///
     /// [`ReceivedError::Breach`] names the first rule that the frame breaks: a stream on which the peer may not send, too many
     /// streams, an offset of 2^62 or more, a final size that can't be, too many bytes, and, once the frame was taken, more than
-    /// 2048 pieces that wait. [`ReceivedError::Memory`]: memory lacked.
+    /// 2048 pieces that wait. [`ReceivedError::Memory`]: memory lacked, where no rule is broken before the frame is taken, and its
+    /// stream isn't read to its end.
     pub fn received(&mut self, side: Side, frame: &Stream<'_>) -> Result<(), ReceivedError>
         ensures answer { AnswersBreach result (stream_breach side self.old (stream_view frame.now)) }
         ensures new { UnlessMemory result (self.new ≡ after_stream side self.old (stream_view frame.now)) }
         ensures memory { OnMemory result (self.new ≡ record self.old { halves = self.new.halves }) }
+        ensures lacking { OnMemory result ((refusal side self.old (stream_view frame.now) ≡ None) × (is_some (half_for (at self.old.halves frame.now.id) self.old frame.now.id) ≡ true)) }
     {
         if let Some(breach) = self.refusal(side, frame) {
             return Err(ReceivedError::Breach(breach));

@@ -10,7 +10,7 @@ ghost use Rattle.quic_connection_core.specs.End.{with_end, policy_of, closed_by,
 ghost use Rattle.quic_connection_core.specs.Opens.{own_id_length, would_open};
 ghost use Rattle.quic_connection_core.specs.Receive.{received, opened_to, processed, fault_of_breach, fault_at, plain_error, take_ack, take_frame, take_item, take_items, take_payload, item_asks, asks_in, opening, error_of, reason_of, drop_of, violation};
 ghost use Rattle.quic_connection.specs.Faults.{fault_view, TakesAs, TakesAllAs, TakesPacketAs};
-ghost use Rattle.quic_connection.specs.Lacking.{TakesFrames};
+ghost use Rattle.quic_connection_core.specs.Lacking.{TakesFrames};
 
 use crate::connection::Connection;
 use crate::connection::ids::OWN_ID_LENGTH;

@@ -16,7 +16,7 @@ ghost use Rattle.quic_connection_core.specs.Tracking.{carried_in, meta_of};
 ghost use Rattle.quic_connection_core.specs.Poll.{polled, first_pending, composed, frame_room, payload_of, datagram_of, after_given, asking, probed, ack_of, after_ack};
 ghost use Rattle.quic_connection.specs.Frames.{stream_bytes, end_after_stream, stream_frame, ping_bytes, pinged, asking_bytes, end_after_asking, asks_behind, asking_meta, most_ack_bytes, fits_behind, ack_bytes_if, acked_if, end_after_ack_if, tracked_as};
 ghost use Rattle.quic_connection.specs.Given.{given_bytes};
-ghost use Rattle.quic_connection.specs.Lacking.{GivesOrHasFailed};
+ghost use Rattle.quic_connection_core.specs.Lacking.{GivesOrHasFailed};
 ghost use Rattle.quic_connection.specs.Settled.{IsSilent};
 
 use crate::connection::Connection;

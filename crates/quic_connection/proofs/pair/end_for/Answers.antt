@@ -25,4 +25,4 @@ returns-clause-range g c = on_ok c.new.result c.in_ok-parameters.ensures.range
 pub returns-clause-refusal : goal.returns-clause-refusal
 returns-clause-refusal g c =
     let read : parameters_at c.deref.result.now ≡ Ok (parameters_of c.args.peer.now) = rw c.deref.ensures.value c.in_ok-parameters.ensures.read_back in
-    if_err_then c.new.result (λ e told. λ other. only_ids (parameters_at c.deref.result.now) (parameters_of c.args.peer.now) c.args.own.id c.args.peer_id e read (told other)) c.new.ensures.refusal
+    if_err_then c.new.result (λ e told. λ other. only_ids (parameters_at c.deref.result.now) (parameters_of c.args.peer.now) c.args.own.id c.args.peer_id e read told) c.new.ensures.refusal

@@ -1,6 +1,7 @@
 use Rattle.std.proofs.Common.{◌≡◌, ◌≤◌, length, take, vec_len, vec_capacity}
 use Rattle.quic_connection_core.specs.End.{with_end}
 use Rattle.quic_connection_core.specs.Calls.{AreNexts, after_nexts}
+use Rattle.quic_connection_core.specs.Lacking.{NextsLack}
 use Rattle.quic_connection.proofs.running.read_each.Given as goal
 
 abbrev pub invariant-loop-max_length : goal.invariant-loop-max_length
@@ -10,5 +11,6 @@ invariant-loop-max_length g l = record {
   room : length l.nexts ≤ vec_capacity l.items;
   count : vec_len l.items ≡ l.max_length-index;
   answers : AreNexts l.initial.chunks.connection.now.end l.initial.chunks.id (take l.max_length-index l.nexts) l.items.items;
+  lacking : NextsLack l.initial.chunks.connection.now.end l.initial.chunks.id (take l.max_length-index l.nexts) l.items.items;
   end : l.chunks.connection.now ≡ with_end l.initial.chunks.connection.now (after_nexts l.initial.chunks.connection.now.end l.initial.chunks.id (take l.max_length-index l.nexts) l.items.items);
 }

@@ -1,5 +1,4 @@
-use Rattle.std.proofs.Common.{◌≡◌, ℕ, List, Ok, true, refl, ap, subst, ◌∙◌}
-use Rattle.std.proofs.lemmas.Result.{err_from_is_err_and}
+use Rattle.std.proofs.Common.{◌≡◌, ℕ, List, Ok, true, ap, subst, ◌∙◌}
 use Rattle.quic_parameters.specs.ParametersRead.{parameters_at}
 use Rattle.quic_wire_core.specs.StreamId.{other_side}
 use Rattle.quic_parameters.specs.ParametersWritten.{written_parameters}
@@ -7,7 +6,7 @@ use Rattle.quic_config.specs.Transport.{Settings, settings_with, parameters_of}
 use Rattle.quic_connection_core.specs.Headline.{IsInRange}
 use Rattle.quic_connection.specs.Ends.{in_order}
 use Rattle.quic_run_core.specs.declared.options.Options.{Options}
-use Rattle.quic_run_core.proofs.Making.{never_refused, is_memory, made_first, eight}
+use Rattle.quic_run_core.proofs.Making.{never_refused, made_first, eight}
 use Rattle.quic_run_core.proofs.session.make_end.Goals as goal
 
 pub returns-clause-end : goal.returns-clause-end
@@ -27,7 +26,5 @@ returns-clause-making c =
 
 pub returns-in_err-end-clause-memory : goal.returns-in_err-end-clause-memory
 returns-in_err-end-clause-memory c =
-    let p = err_from_is_err_and c.from_residual-in_err-end.result c.from_residual-in_err-end.ensures.1 in
     let read = ap (λ (bytes : List ℕ). parameters_at bytes) c.deref.ensures.value ∙ c.in_ok-parameters.ensures.read_back in
-    let lacked = is_memory _ (never_refused c.args.side c.not.result _ _ _ _ _ read c.first_id.ensures c.not.ensures c.first_id-2.ensures c.in_err-end.ensures.refusal) in
-    rw (p.1, p.2, lacked) refl
+    absurd (never_refused c.args.side c.not.result _ _ _ _ _ read c.first_id.ensures c.not.ensures c.first_id-2.ensures c.in_err-end.ensures.refusal)
