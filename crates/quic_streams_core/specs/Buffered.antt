@@ -3,6 +3,7 @@ use Rattle.std.specs.Prelude.{◌≡◌, ℕ, ◌+◌, ◌-◌, ◌^◌, ◌<◌
 use Rattle.quic_sets.specs.Runs.{Run, Has, AreRuns}
 use Rattle.quic_streams_core.specs.Offsets.{has, has_any, first_or, first_lacking, with_offsets, without_offsets, with_all, lacking}
 use Rattle.quic_streams_core.specs.Arrived.{byte_from}
+use Rattle.quic_streams_core.specs.declared.connection.send_buffer.TheConstants.{LENGTH_ROOM}
 
 -- the offset of the first byte that is kept, and the bytes from there on; the lengths of the pieces that they came in,
 -- one for each write; the first offset that was never sent; and the offsets that are acknowledged, and those that are
@@ -161,9 +162,9 @@ room_behind most offset = most - offset_width offset
 abbrev pub needs_length : ℕ → ℕ → Bool
 needs_length left room = ltb left room
 
--- how many bytes go: 8 bytes of the room are for a length that is written
+-- how many bytes go: LENGTH_ROOM bytes of the room are for a length that is written
 abbrev pub sent_count : ℕ → ℕ → ℕ
-sent_count left room = min left (cond (needs_length left room) (room - 8) room)
+sent_count left room = min left (cond (needs_length left room) (room - LENGTH_ROOM) room)
 
 -- what goes next: the least lost run, or else all that was never sent
 abbrev pub next_range : Buffered → Run

@@ -4,6 +4,7 @@
 ghost use Rattle.std.specs.Prelude.{◌≡◌, ℕ, ◌+◌, ◌-◌, ◌<◌, ◌≤◌, ◌^◌, List, [], Bool, true, false, cond, ltb, not, ◌&&◌, ◌||◌, length, ◌++◌, IsSome};
 ghost use Rattle.quic_streams_core.specs.Buffered.{Buffered, IsBuffered, written, nothing_written, kept_byte, is_fully_acked, has_unsent, places, AreSamePlaces, is_acknowledged, is_lost, is_unsent, is_in_flight, after_write, after_ack, after_loss, after_poll, offset_width, next_start, writes_length, sent_end};
 ghost use Rattle.quic_streams_core.specs.Arrived.{byte_from};
+ghost use Rattle.quic_streams_core.specs.declared.connection.send_buffer.TheConstants.{LENGTH_ROOM};
 ghost use Rattle.quic_streams_core.specs.Offsets.{is_within};
 ghost use Rattle.quic_streams_core.specs.BufferedHistory.{Call, buffered_after, written_over, goes, was_sent, was_acked, was_lost};
 ghost use Rattle.std.specs.List.{slice_get};
@@ -88,7 +89,7 @@ pub fn what_waits_is_told()
 /// The offset, the length with its 8 bytes, if it is written, and the bytes of a frame fit the room behind its type and
 /// id. A frame without length fills that room. In 17 bytes of room at least one byte goes, where there is one to go.
 pub fn frames_fit_their_room()
-    ensures with_length { (b : Buffered) (max : ℕ) → IsBuffered b → 16 ≤ max → writes_length b max ≡ true → offset_width (next_start b) + 8 + (sent_end b max - next_start b) ≤ max }
+    ensures with_length { (b : Buffered) (max : ℕ) → IsBuffered b → 16 ≤ max → writes_length b max ≡ true → offset_width (next_start b) + LENGTH_ROOM + (sent_end b max - next_start b) ≤ max }
     ensures without { (b : Buffered) (max : ℕ) → IsBuffered b → 8 ≤ max → writes_length b max ≡ false → offset_width (next_start b) + (sent_end b max - next_start b) ≡ max }
     ensures some { (b : Buffered) (max : ℕ) → IsBuffered b → 17 ≤ max → has_unsent b ≡ true → next_start b < sent_end b max }
 {}

@@ -8,12 +8,15 @@ ghost use Rattle.quic_streams_core.specs.Arrived.{AreApart, runs_of, with_gaps, 
 ghost use Rattle.quic_streams_core.specs.Spans.{AreSpans};
 ghost use Rattle.quic_streams_core.specs.PartSteps.{first_bytes, rest_of, front_of, cuts_front, after, span_of, is_held, held_at, gap_at, begins_at, Fits, undone, touching_at, from_after};
 
-use super::{Chunk, MOST_PIECES};
+use super::Chunk;
 use crate::connection::spans;
 use bytes::Bytes;
 use std::alloc::{AllocError, Global};
 use std::collections::BTreeMap;
 use std::marker::Model;
+
+// Parts that touch are joined only where there are more parts than this.
+const MOST_PARTS: usize = 2048;
 
 // Parts are short where there are at most so many offsets for each, from the first that waits to the last: so joining them
 // copies no more bytes for each.
@@ -385,7 +388,7 @@ impl Parts {
         ensures { result ≡ is_crowded self.now }
     {
         let len = self.map.len();
-        len > MOST_PIECES && self.runs < len.saturating_sub(self.runs) && are_short(&self.map)
+        len > MOST_PARTS && self.runs < len.saturating_sub(self.runs) && are_short(&self.map)
     }
 
     // Joins the parts that touch. All memory is taken before anything changes.
