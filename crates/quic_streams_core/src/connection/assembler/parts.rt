@@ -127,6 +127,37 @@ fn keep(parts: &mut BTreeMap<u64, Bytes>, end: u64, part: Bytes) -> Result<(), A
     Ok(())
 }
 
+// Where the run ends that goes on at an offset.
+fn run_end(parts: &BTreeMap<u64, Bytes>, at: u64) -> u64
+    requires small { at < 2 ^ 62 }
+    requires apart { AreApart 0 parts.now.entries }
+    ensures above { at ≤ result }
+    ensures small { result < 2 ^ 62 }
+{
+    let mut last = at;
+    while let Some((next, _)) = next_touching(parts, last) {
+        last = next;
+    }
+    last
+}
+
+// The first part of a run, with exactly the memory for all its bytes: so each is copied once.
+fn begin_run(
+    parts: &BTreeMap<u64, Bytes>,
+    end: u64,
+    bytes: &[u8],
+    alloc: Global,
+) -> Result<Vec<u8>, AllocError>
+    requires small { end < 2 ^ 62 }
+    requires apart { AreApart 0 parts.now.entries }
+    ensures { IfOk result (λ run. run.items ≡ bytes.now) }
+{
+    let more = run_end(parts, end) - end;
+    let mut run = Vec::with_capacity(alloc, bytes.len().saturating_add(more as usize))?;
+    run.extend_from_slice(bytes)?;
+    Ok(run)
+}
+
 // Joins a part with those that touch it: the run that begins with it, and where it ends.
 fn run_from(
     parts: &BTreeMap<u64, Bytes>,
@@ -140,7 +171,7 @@ fn run_from(
     ensures above { IfOk result (λ run. end ≤ run.0) }
     ensures small { IfOk result (λ run. run.0 < 2 ^ 62) }
 {
-    let mut run = Vec::from_slice(alloc, bytes)?;
+    let mut run = begin_run(parts, end, bytes, alloc)?;
     let mut last = end;
     while let Some((next, more)) = next_touching(parts, last) {
         run.extend_from_slice(more)?;
