@@ -1,6 +1,7 @@
 -- What was written to a stream and may have to be sent (RFC 9000, 2.2 and 13.3).
 use Rattle.std.specs.Prelude.{◌≡◌, ℕ, ◌+◌, ◌-◌, ◌^◌, ◌<◌, ◌≤◌, ◌==◌, Bool, cond, ltb, leb, not, ◌&&◌, ◌||◌, min, max, List, [], ◌∷◌, ◌++◌, length, drop, Option, Some, None}
 use Rattle.quic_sets.specs.Runs.{Run, Has, AreRuns}
+use Rattle.quic_wire_core.specs.Varint.{varint_size}
 use Rattle.quic_streams_core.specs.Offsets.{has, has_any, first_or, first_lacking, with_offsets, without_offsets, with_all, lacking}
 use Rattle.quic_streams_core.specs.Arrived.{byte_from}
 use Rattle.quic_streams_core.specs.declared.connection.send_buffer.TheConstants.{LENGTH_ROOM}
@@ -148,7 +149,7 @@ after_loss b a z = record b { lost = with_all (lacking a (min z b.unsent) b.acke
 
 -- the width of a variable-length integer in bytes (RFC 9000, 16)
 abbrev pub width : ℕ → ℕ
-width n = cond (ltb n 64) 1 (cond (ltb n 16384) 2 (cond (ltb n 1073741824) 4 8))
+width n = varint_size n
 
 -- the width of a frame's offset, which isn't written where it is 0
 abbrev pub offset_width : ℕ → ℕ

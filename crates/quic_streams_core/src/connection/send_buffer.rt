@@ -4,6 +4,7 @@ ghost use Rattle.quic_streams_core.specs.Offsets.{first_lacking, without_offsets
 ghost use Rattle.quic_streams_core.specs.Buffered.{Buffered, IsBuffered, nothing_written, written, kept_byte, is_fully_acked, has_unsent, piece_of, after_write, after_ack, after_loss, after_poll, offset_width, next_range, next_start, writes_length, sent_end, passed, pieces_behind, first_passed};
 
 use super::offset_set::OffsetSet;
+use quic_wire_core::VarInt;
 use std::alloc::{AllocError, Global};
 use std::collections::VecDeque;
 use std::marker::Model;
@@ -113,18 +114,13 @@ fn drop_bytes(kept: &mut VecDeque<u8>, count: usize)
 
 // The width of an offset in a STREAM frame, which isn't written where it is 0.
 fn offset_size(offset: u64) -> usize
+    requires { offset < 2 ^ 62 }
     ensures { result ≡ offset_width offset }
 {
     if offset == 0 {
         0
-    } else if offset < 64 {
-        1
-    } else if offset < 16384 {
-        2
-    } else if offset < 1073741824 {
-        4
     } else {
-        8
+        VarInt::from_u64_unchecked(offset).size()
     }
 }
 
