@@ -36,8 +36,7 @@ last_writes (acked a z ∷ calls) =
     let cut = passed_first b.pieces (first_unacknowledged b - b.base) in
     let all = both_bytes_in ih.0 cut.0 in
     let base = ih.2 in
-    let count = cut.2 in
-    (
+    let count = cut.2 in (
       ih.0 ++ cut.0,
       ih.1 ∙ ap (λ (ns : List ℕ). ih.0 ++ ns) cut.1 ∙ sym (append_assoc ih.0 cut.0 (pieces_behind b.pieces (first_unacknowledged b - b.base))),
       omega (arith, all, base, count),
