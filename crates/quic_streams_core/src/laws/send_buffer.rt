@@ -2,7 +2,7 @@
 //!
 //! [`SendBuffer`]: crate::SendBuffer
 ghost use Rattle.std.specs.Prelude.{◌≡◌, ℕ, ◌+◌, ◌-◌, ◌<◌, ◌≤◌, ◌^◌, List, [], Bool, true, false, cond, ltb, not, ◌&&◌, ◌||◌, length, ◌++◌, ◌∷◌, drop, slice_range, IsSome};
-ghost use Rattle.quic_streams_core.specs.Buffered.{Buffered, IsBuffered, bytes_in, written, nothing_written, kept_byte, is_fully_acked, has_unsent, places, AreSamePlaces, is_acknowledged, is_lost, is_unsent, is_in_flight, after_write, after_ack, after_loss, after_poll, offset_width, next_start, writes_length, sent_end};
+ghost use Rattle.quic_streams_core.specs.Buffered.{Buffered, IsBuffered, bytes_in, written, nothing_written, kept_byte, is_fully_acked, has_unsent, places, AreSamePlaces, is_acknowledged, is_lost, is_unsent, is_in_flight, after_write, after_ack, after_loss, after_poll, width, offset_width, next_start, writes_length, sent_end};
 ghost use Rattle.quic_streams_core.specs.Arrived.{byte_from};
 ghost use Rattle.quic_streams_core.specs.declared.connection.send_buffer.TheConstants.{LENGTH_ROOM};
 ghost use Rattle.quic_streams_core.specs.Offsets.{is_within};
@@ -93,12 +93,13 @@ pub fn what_waits_is_told()
     ensures none_waits { (b : Buffered) (o : ℕ) → has_unsent b ≡ false → (is_lost b o || is_unsent b o) ≡ false }
 {}
 
-/// In 16 bytes of room behind a frame's type and id or more, its offset, its length with 8 bytes, and its bytes fit. A frame
-/// without length fills the room, where that has 8 bytes or more. With less room a frame may not fit, as an offset alone takes
-/// up to 8 bytes. In 17 bytes of room at least one byte goes, where there is one to go.
+/// In 16 bytes of room behind a frame's type and id or more, its offset, its length with 8 bytes, and its bytes fit; no length
+/// takes more. A frame without length fills the room, where that has 8 bytes or more. With less room a frame may not fit, as an
+/// offset alone takes up to 8 bytes. In 17 bytes of room at least one byte goes, where there is one to go.
 pub fn frames_fit_their_room()
     ensures with_length { (b : Buffered) (max : ℕ) → IsBuffered b → 16 ≤ max → writes_length b max ≡ true → offset_width (next_start b) + LENGTH_ROOM + (sent_end b max - next_start b) ≤ max }
     ensures without { (b : Buffered) (max : ℕ) → IsBuffered b → 8 ≤ max → writes_length b max ≡ false → offset_width (next_start b) + (sent_end b max - next_start b) ≡ max }
+    ensures length { (n : ℕ) → width n ≤ LENGTH_ROOM }
     ensures some { (b : Buffered) (max : ℕ) → IsBuffered b → 17 ≤ max → has_unsent b ≡ true → next_start b < sent_end b max }
 {}
 
