@@ -1,5 +1,5 @@
 // The parts of a stream that wait to be read.
-ghost use Rattle.std.specs.Prelude.{◌≡◌, cond, drop, ◌+◌, ◌<◌, ◌≤◌, ◌∷◌, ◌^◌, length, [], take, false, IfOk, IsOk, OnOk, OnErr, is_some};
+ghost use Rattle.std.specs.Prelude.{◌≡◌, cond, drop, ◌+◌, ◌<◌, ◌≤◌, ◌∷◌, ◌^◌, length, [], take, false, None, IfOk, IsOk, OnOk, OnErr, is_some};
 ghost use Rattle.std.specs.Option.{option_map};
 ghost use Rattle.std.specs.Map.{lookup, remove_entry};
 ghost use Rattle.std.specs.BTreeMap.{insert_entry, is_at};
@@ -133,6 +133,7 @@ fn run_end(parts: &BTreeMap<u64, Bytes>, at: u64) -> u64
     requires apart { AreApart 0 parts.now.entries }
     ensures above { at ≤ result }
     ensures small { result < 2 ^ 62 }
+    ensures done { touching_at result (after result parts.now.entries) ≡ None }
 {
     let mut last = at;
     while let Some((next, _)) = next_touching(parts, last) {
