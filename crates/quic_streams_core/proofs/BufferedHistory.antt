@@ -11,10 +11,10 @@ use Rattle.quic_streams_core.proofs.Buffered.{write_lawful, ack_lawful, ack_writ
 use Rattle.quic_streams_core.proofs.Offsets.{within_is}
 use Rattle.quic_streams_core.proofs.Places.{in_one_place, ack_acknowledged, ack_lost, ack_byte, loss_has, has_without, poll_written, poll_unacknowledged, same_ltb, either_end, write_byte, behind_get}
 
-abbrev Fits : List Call → Type 0
+abbrev pub Fits : List Call → Type 0
 Fits calls = length (written_over calls) < 2 ^ 62
 
-fewer : (calls : List Call) (bytes : List ℕ) → Fits (wrote bytes ∷ calls) → Fits calls
+pub fewer : (calls : List Call) (bytes : List ℕ) → Fits (wrote bytes ∷ calls) → Fits calls
 fewer calls bytes s = let l = length-append (written_over calls) bytes in omega arith
 
 -- ---- lawful, and how much was written

@@ -8,7 +8,7 @@ use Rattle.std.specs.BTreeMap.{insert_entry}
 use Rattle.std.proofs.lemmas.Bool.{ltb-true, ltb-false, leb-false, lt-ltb, le-ltb, eqb-true, eq-eqb}
 use Rattle.std.proofs.Math.ListN.{get_or-append}
 use Rattle.std.proofs.Math.Seq.{get_or-append_right}
-use Rattle.quic_streams_core.specs.declared.connection.assembler.TheConstants.{MOST_PIECES}
+use Rattle.quic_streams_core.specs.declared.connection.assembler.parts.TheConstants.{MOST_PARTS, SHORT_PART}
 use Rattle.quic_streams_core.specs.Arrived.{Part, start, AreApart, byte_from, byte_at, runs_of, runs_behind, in_front, joined, extent, is_crowded, settled}
 use Rattle.quic_streams_core.specs.PartSteps.{after, touching_at, from_after}
 use Rattle.quic_streams_core.proofs.Bytes.{from_below, from_behind, from_within}
@@ -155,15 +155,15 @@ settled_byte low ps o h = go (is_crowded ps)
     go true = joined_byte low ps o h
     go false = refl
 
--- then no more than MOST_PIECES are left, or two for each run, or one for each 64 offsets
-pub settled_few : (low : ℕ) (ps : List Part) → AreApart low ps → length (settled ps) ≤ max (max MOST_PIECES (2 * runs_of (settled ps))) (extent (settled ps) / 64)
-settled_few low ps h = go (ltb MOST_PIECES (length ps)) refl (ltb (runs_of ps) (length ps - runs_of ps)) refl (leb (extent ps) (64 * length ps)) refl
+-- then no more than MOST_PARTS are left, or two for each run, or one for each 64 offsets
+pub settled_few : (low : ℕ) (ps : List Part) → AreApart low ps → length (settled ps) ≤ max (max MOST_PARTS (2 * runs_of (settled ps))) (extent (settled ps) / SHORT_PART)
+settled_few low ps h = go (ltb MOST_PARTS (length ps)) refl (ltb (runs_of ps) (length ps - runs_of ps)) refl (leb (extent ps) (SHORT_PART * length ps)) refl
   where
-    go : (b : Bool) → ltb MOST_PIECES (length ps) ≡ b → (c : Bool) → ltb (runs_of ps) (length ps - runs_of ps) ≡ c → (d : Bool) → leb (extent ps) (64 * length ps) ≡ d → length (cond (b && (c && d)) (joined ps) ps) ≤ max (max MOST_PIECES (2 * runs_of (cond (b && (c && d)) (joined ps) ps))) (extent (cond (b && (c && d)) (joined ps) ps) / 64)
+    go : (b : Bool) → ltb MOST_PARTS (length ps) ≡ b → (c : Bool) → ltb (runs_of ps) (length ps - runs_of ps) ≡ c → (d : Bool) → leb (extent ps) (SHORT_PART * length ps) ≡ d → length (cond (b && (c && d)) (joined ps) ps) ≤ max (max MOST_PARTS (2 * runs_of (cond (b && (c && d)) (joined ps) ps))) (extent (cond (b && (c && d)) (joined ps) ps) / SHORT_PART)
     go true e true f true g = let l = joined_length ps in omega arith
-    go true e true f false g = let k = leb-false (extent ps) (64 * length ps) g in omega arith
+    go true e true f false g = let k = leb-false (extent ps) (SHORT_PART * length ps) g in omega arith
     go true e false f d g = let k = ltb-false (runs_of ps) (length ps - runs_of ps) f in omega arith
-    go false e c f d g = let k = ltb-false MOST_PIECES (length ps) e in omega arith
+    go false e c f d g = let k = ltb-false MOST_PARTS (length ps) e in omega arith
 
 -- ---- the parts behind an offset
 after_past : (at : ℕ) (ps : List Part) (x : Part) → after at ps ≡ Some x → at < x.0

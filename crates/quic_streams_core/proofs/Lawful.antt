@@ -5,7 +5,7 @@ use Rattle.std.specs.List.{slice_get}
 use Rattle.std.proofs.lemmas.Bool.{ltb-true, ltb-false, lt-ltb, eqb-true}
 use Rattle.std.proofs.lemmas.Option.{slice_get-get_or}
 use Rattle.quic_streams_core.specs.declared.connection.assembler.Chunk.{Chunk}
-use Rattle.quic_streams_core.specs.declared.connection.assembler.TheConstants.{MOST_PIECES}
+use Rattle.quic_streams_core.specs.declared.connection.assembler.parts.TheConstants.{MOST_PARTS, SHORT_PART}
 use Rattle.quic_streams_core.specs.Spans.{in_spans, width_of}
 use Rattle.quic_streams_core.specs.Arrived.{Arrived, Part, start, AreApart, IsLawful, is_given, byte_from, byte_at, given, behind, left_by, left_front, shortened, first_given, with_free, after_insert, given_in, after_read_in, given_by, after_read, in_chunk, bytes_read_of, length_of, runs_of, extent}
 use Rattle.quic_streams_core.proofs.Bytes.{from_below, from_back, from_within, at_below, get-take}
@@ -53,10 +53,10 @@ insert_lawful a offset bytes h s =
         both true = refl
         both false = refl
 
-pub few_parts : (a : Arrived) (offset : ℕ) (bytes : List ℕ) (ps : List Part) → IsLawful a → offset + length bytes < 2 ^ 62 → ps ≡ (after_insert a offset bytes).parts → length ps ≤ max (max MOST_PIECES (2 * runs_of ps)) (extent ps / 64)
+pub few_parts : (a : Arrived) (offset : ℕ) (bytes : List ℕ) (ps : List Part) → IsLawful a → offset + length bytes < 2 ^ 62 → ps ≡ (after_insert a offset bytes).parts → length ps ≤ max (max MOST_PARTS (2 * runs_of ps)) (extent ps / SHORT_PART)
 few_parts a offset bytes ps h s e =
     let d = length-drop (a.read - offset) bytes in
-    subst (λ (qs : List Part). length qs ≤ max (max MOST_PIECES (2 * runs_of qs)) (extent qs / 64)) (sym e) (settled_few a.read (with_free a.picked a.parts (max a.read offset) (drop (a.read - offset) bytes)) (free_apart a.read (max a.read offset) a.read a.picked a.parts (drop (a.read - offset) bytes) h.spans h.apart (omega arith) (λ l. omega arith)))
+    subst (λ (qs : List Part). length qs ≤ max (max MOST_PARTS (2 * runs_of qs)) (extent qs / SHORT_PART)) (sym e) (settled_few a.read (with_free a.picked a.parts (max a.read offset) (drop (a.read - offset) bytes)) (free_apart a.read (max a.read offset) a.read a.picked a.parts (drop (a.read - offset) bytes) h.spans h.apart (omega arith) (λ l. omega arith)))
 
 -- ---- a read
 next_apart : (read most : ℕ) (ps : List Part) → AreApart read ps → AreApart (behind (given ps read most) read) (left_by ps read most)

@@ -15,9 +15,11 @@ pub mod Reading
 pub mod Spans
 pub mod Free
 pub mod Picking
+pub mod Ranges
 pub mod Lawful
 pub mod Inserting
 pub mod Kept
+pub mod KeptWrites
 pub mod Joining
 pub mod Extent
 pub mod Begins

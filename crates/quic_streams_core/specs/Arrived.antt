@@ -4,8 +4,7 @@ use Rattle.std.specs.Option.{option_or, is_some}
 use Rattle.std.specs.List.{slice_get}
 use Rattle.quic_streams_core.specs.Spans.{Span, AreSpans, in_spans, in_span, width_of, with_run}
 use Rattle.quic_streams_core.specs.declared.connection.assembler.Chunk.{Chunk}
-use Rattle.quic_streams_core.specs.declared.connection.assembler.TheConstants.{MOST_PIECES}
-use Rattle.quic_streams_core.specs.declared.connection.assembler.parts.TheConstants.{SHORT_PART}
+use Rattle.quic_streams_core.specs.declared.connection.assembler.parts.TheConstants.{MOST_PARTS, SHORT_PART}
 
 -- a part of a stream: the offset behind its last byte, and its bytes
 abbrev pub Part : Type 0
@@ -133,11 +132,11 @@ extent (p ∷ ps) = last_end p.0 ps - start p
 abbrev pub are_short : List Part → Bool
 are_short ps = leb (extent ps) (SHORT_PART * length ps)
 
--- whether there are more than MOST_PIECES parts, more of them touch the one before than there are runs, and they are short: then
+-- whether there are more than MOST_PARTS parts, more of them touch the one before than there are runs, and they are short: then
 -- more than half of them go where they are joined, and at most 64 bytes are copied for each of them; so the copies of any
 -- number of joins are no more than 128 bytes for each part that goes
 abbrev pub is_crowded : List Part → Bool
-is_crowded ps = ltb MOST_PIECES (length ps) && (ltb (runs_of ps) (length ps - runs_of ps) && are_short ps)
+is_crowded ps = ltb MOST_PARTS (length ps) && (ltb (runs_of ps) (length ps - runs_of ps) && are_short ps)
 
 -- the parts, joined where there are too many
 abbrev pub settled : List Part → List Part

@@ -1,8 +1,10 @@
 -- What was written to a stream and may have to be sent (RFC 9000, 2.2 and 13.3).
 use Rattle.std.specs.Prelude.{◌≡◌, ℕ, ◌+◌, ◌-◌, ◌^◌, ◌<◌, ◌≤◌, ◌==◌, Bool, cond, ltb, leb, not, ◌&&◌, ◌||◌, min, max, List, [], ◌∷◌, ◌++◌, length, drop, Option, Some, None}
 use Rattle.quic_sets.specs.Runs.{Run, Has, AreRuns}
+use Rattle.quic_wire_core.specs.Varint.{varint_size}
 use Rattle.quic_streams_core.specs.Offsets.{has, has_any, first_or, first_lacking, with_offsets, without_offsets, with_all, lacking}
 use Rattle.quic_streams_core.specs.Arrived.{byte_from}
+use Rattle.quic_streams_core.specs.declared.connection.send_buffer.TheConstants.{LENGTH_ROOM}
 
 -- the offset of the first byte that is kept, and the bytes from there on; the lengths of the pieces that they came in,
 -- one for each write; the first offset that was never sent; and the offsets that are acknowledged, and those that are
@@ -147,7 +149,7 @@ after_loss b a z = record b { lost = with_all (lacking a (min z b.unsent) b.acke
 
 -- the width of a variable-length integer in bytes (RFC 9000, 16)
 abbrev pub width : ℕ → ℕ
-width n = cond (ltb n 64) 1 (cond (ltb n 16384) 2 (cond (ltb n 1073741824) 4 8))
+width n = varint_size n
 
 -- the width of a frame's offset, which isn't written where it is 0
 abbrev pub offset_width : ℕ → ℕ
@@ -161,9 +163,9 @@ room_behind most offset = most - offset_width offset
 abbrev pub needs_length : ℕ → ℕ → Bool
 needs_length left room = ltb left room
 
--- how many bytes go: 8 bytes of the room are for a length that is written
+-- how many bytes go: LENGTH_ROOM bytes of the room are for a length that is written
 abbrev pub sent_count : ℕ → ℕ → ℕ
-sent_count left room = min left (cond (needs_length left room) (room - 8) room)
+sent_count left room = min left (cond (needs_length left room) (room - LENGTH_ROOM) room)
 
 -- what goes next: the least lost run, or else all that was never sent
 abbrev pub next_range : Buffered → Run

@@ -1,8 +1,8 @@
 -- What the calls of a send buffer make, one after another.
-use Rattle.std.specs.Prelude.{ℕ, Bool, false, not, ◌&&◌, ◌||◌, List, [], ◌∷◌, ◌++◌}
+use Rattle.std.specs.Prelude.{ℕ, Bool, false, not, ◌&&◌, ◌||◌, List, [], ◌∷◌, ◌++◌, length}
 use Rattle.quic_sets.specs.Runs.{Run}
 use Rattle.quic_streams_core.specs.Offsets.{is_within, has}
-use Rattle.quic_streams_core.specs.Buffered.{Buffered, nothing_written, after_write, after_ack, after_loss, after_poll, next_start, sent_end}
+use Rattle.quic_streams_core.specs.Buffered.{Buffered, nothing_written, piece_of, after_write, after_ack, after_loss, after_poll, next_start, sent_end}
 
 -- bytes were written; the offsets from one up to another were acknowledged, or lost; a frame was asked for, with so much room
 pub data Call : Type 0 where
@@ -26,6 +26,14 @@ written_over (wrote bytes ∷ calls) = written_over calls ++ bytes
 written_over (acked a z ∷ calls) = written_over calls
 written_over (lost a z ∷ calls) = written_over calls
 written_over (polled most ∷ calls) = written_over calls
+
+-- the lengths of the writes that had bytes, in their order
+abbrev pub writes_of : List Call → List ℕ
+writes_of [] = []
+writes_of (wrote bytes ∷ calls) = writes_of calls ++ piece_of (length bytes)
+writes_of (acked a z ∷ calls) = writes_of calls
+writes_of (lost a z ∷ calls) = writes_of calls
+writes_of (polled most ∷ calls) = writes_of calls
 
 -- the offsets that a poll gives after calls
 abbrev pub goes_after : List Call → ℕ → Run

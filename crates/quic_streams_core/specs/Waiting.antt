@@ -3,8 +3,7 @@ use Rattle.std.specs.Prelude.{◌≡◌, ℕ, ◌+◌, ◌-◌, ◌*◌, ◌^◌
 use Rattle.std.specs.Option.{option_or, is_some}
 use Rattle.std.specs.List.{slice_get}
 use Rattle.quic_streams_core.specs.declared.connection.assembler.Chunk.{Chunk}
-use Rattle.quic_streams_core.specs.declared.connection.assembler.TheConstants.{MOST_PIECES}
-use Rattle.quic_streams_core.specs.declared.connection.assembler.parts.TheConstants.{SHORT_PART}
+use Rattle.quic_streams_core.specs.declared.connection.assembler.parts.TheConstants.{MOST_PARTS, SHORT_PART}
 use Rattle.quic_streams_core.specs.Arrived.{Arrived, Part, IsLawful, start, byte_from, byte_at, waits, is_given, runs_of, extent, begins_run, count_to, in_chunk}
 
 -- whether a part begins at an offset
@@ -28,7 +27,7 @@ begins_then a at bytes offset = begins_part a.parts offset || begins_new a at by
 
 -- whether so many parts, in so many runs and over so many offsets, are too many
 abbrev pub are_too_many : ℕ → ℕ → ℕ → Bool
-are_too_many parts runs offsets = ltb MOST_PIECES parts && (ltb runs (parts - runs) && leb offsets (SHORT_PART * parts))
+are_too_many parts runs offsets = ltb MOST_PARTS parts && (ltb runs (parts - runs) && leb offsets (SHORT_PART * parts))
 
 -- the same bytes, once they came: where an offset waits its byte stands; at another that wasn't given the byte that came, if
 -- one did. A part begins where one did and where new bytes begin; or, where these would be too many, where a run begins.

@@ -5,7 +5,7 @@ ghost use Rattle.std.specs.Option.{option_or};
 ghost use Rattle.quic_streams_core.specs.Arrived.{Arrived, Part, IsLawful, runs_of, extent, begins_run, count_to, byte_from, byte_at, holds, is_given, after_insert, given_in, given_by, after_read, after_ordering, in_chunk, length_of, bytes_read_of};
 ghost use Rattle.quic_streams_core.specs.Waiting.{IsInserted, IsChunk, IsRead, IsLeft};
 ghost use Rattle.quic_streams_core.specs.declared.connection.assembler.Chunk.{Chunk};
-ghost use Rattle.quic_streams_core.specs.declared.connection.assembler.TheConstants.{MOST_PIECES};
+ghost use Rattle.quic_streams_core.specs.declared.connection.assembler.parts.TheConstants.{MOST_PARTS, SHORT_PART};
 ghost use Rattle.quic_streams_core.specs.ArrivedHistory.{Call, AreInRange, arrived_after, given_over, was_given, byte_in, first_came, Came};
 
 pub mod bytes_source;
@@ -37,10 +37,10 @@ pub fn insertion_is_one()
     ensures { (a b c : Arrived) (at : ℕ) (bytes : List ℕ) → IsInserted a at bytes b → IsInserted a at bytes c → b ≡ c }
 {}
 
-/// No more than [`MOST_PIECES`](crate::MOST_PIECES) parts are kept, or two for each run, or one for each 64 offsets from the
+/// No more than 2048 parts are kept, or two for each run, or one for each 64 offsets from the
 /// first that waits to the last.
 pub fn few_parts_are_kept()
-    ensures { (a : Arrived) (offset : ℕ) (bytes : List ℕ) (ps : List Part) → IsLawful a → offset + length bytes < 2 ^ 62 → ps ≡ (after_insert a offset bytes).parts → length ps ≤ max (max MOST_PIECES (2 * runs_of ps)) (extent ps / 64) }
+    ensures { (a : Arrived) (offset : ℕ) (bytes : List ℕ) (ps : List Part) → IsLawful a → offset + length bytes < 2 ^ 62 → ps ≡ (after_insert a offset bytes).parts → length ps ≤ max (max MOST_PARTS (2 * runs_of ps)) (extent ps / SHORT_PART) }
 {}
 
 /// A read gives bytes that waited, from one offset on: an ordered one from where the stream is read

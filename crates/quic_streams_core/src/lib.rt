@@ -1,5 +1,6 @@
 //! The two buffers of a QUIC stream: what has arrived and is not read yet ([`Assembler`]), and
-//! what was written and may have to be sent ([`SendBuffer`]); and what a frame of a stream carries ([`StreamMeta`]).
+//! what was written and may have to be sent ([`SendBuffer`]); what a write takes its bytes from ([`BytesSource`]); and what a
+//! frame of a stream carries ([`StreamMeta`]).
 #![tactic(auto)]
 
 mod bytes_source;

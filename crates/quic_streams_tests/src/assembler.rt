@@ -1,5 +1,5 @@
 use Step::{Begin, Count, Insert, Read, Wait};
-use quic_streams_core::{Assembler, Chunk};
+use quic_streams_core::{Assembler, Chunk, MOST_PIECES};
 use std::alloc::AllocError;
 use std::process::Abort;
 use std::test::Fail;
@@ -121,6 +121,21 @@ fn small_frames_in_order_are_one_run(rt: HostRuntime) -> Result<(), Fail> {
     make(&rt, &mut assembler, Count(100_000, 0))
 }
 
+// What waits is dropped, and may come again; what was read stays so.
+#[test]
+fn cleared_bytes_are_gone(rt: HostRuntime) -> Result<(), Fail> {
+    let mut assembler = Assembler::new(rt.alloc());
+    make(&rt, &mut assembler, Insert(0, b"abcd"))?;
+    make(&rt, &mut assembler, Insert(6, b"gh"))?;
+    make(&rt, &mut assembler, Read(2, 0, b"ab"))?;
+    assembler.clear();
+    make(&rt, &mut assembler, Count(2, 0))?;
+    make(&rt, &mut assembler, Wait)?;
+    make(&rt, &mut assembler, Insert(0, b"wxyz"))?;
+    make(&rt, &mut assembler, Read(9, 2, b"yz"))
+}
+
+// More runs than should wait are kept all the same: who calls refuses them.
 #[test]
 fn runs_are_counted(rt: HostRuntime) -> Result<(), Fail> {
     let mut assembler = Assembler::new(rt.alloc());
@@ -128,6 +143,13 @@ fn runs_are_counted(rt: HostRuntime) -> Result<(), Fail> {
         make(&rt, &mut assembler, Insert(2 * place + 1, b"x"))?;
     }
     make(&rt, &mut assembler, Count(0, 2048))?;
+    assert_eq!(rt; assembler.runs(), MOST_PIECES);
     make(&rt, &mut assembler, Insert(4097, b"x"))?;
-    make(&rt, &mut assembler, Count(0, 2049))
+    make(&rt, &mut assembler, Count(0, 2049))?;
+    assert!(rt; assembler.runs() > MOST_PIECES);
+    make(&rt, &mut assembler, Begin(false, true))?;
+    for place in 0..2049u64 {
+        make(&rt, &mut assembler, Read(9, 2 * place + 1, b"x"))?;
+    }
+    make(&rt, &mut assembler, Count(2049, 0))
 }

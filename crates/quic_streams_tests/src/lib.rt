@@ -1,4 +1,4 @@
-//! Tests of the two buffers of a stream: worked rows, and each call that takes memory, made where an allocation fails.
+//! Tests of the two buffers of a stream, and of what goes with them: worked rows, and each call that takes memory, made where an allocation fails.
 #![tactic(auto)]
 
 #[cfg(test)]
@@ -7,3 +7,5 @@ mod assembler;
 mod bytes_source;
 #[cfg(test)]
 mod send_buffer;
+#[cfg(test)]
+mod stream_meta;

@@ -122,3 +122,16 @@ fn runs_are_cut_and_joined(rt: HostRuntime) -> Result<(), Fail> {
     ];
     run(&rt, &steps)
 }
+
+#[test]
+fn bytes_are_fetched_at_their_offsets(rt: HostRuntime) -> Result<(), Fail> {
+    let mut buffer = SendBuffer::new(rt.alloc());
+    if buffer.write(b"Hello, world with extra data!").is_err() {
+        buffer.write(b"Hello, world with extra data!")?;
+    }
+    let (offsets, _) = buffer.poll_transmit(16);
+    assert_eq!(rt; buffer.get(offsets), b"Hello, world wit".as_slice());
+    let (offsets, _) = buffer.poll_transmit(16);
+    assert_eq!(rt; buffer.get(offsets), b"h extra".as_slice());
+    Ok(())
+}

@@ -13,7 +13,9 @@ use std::collections::BTreeMap;
 use std::marker::Model;
 use thiserror::Error;
 
-/// The most runs of a stream that its reader keeps; above this many parts, neighbours are joined.
+/// The most runs of a stream that should wait. The assembler itself takes any number, and tells it by
+/// [`Assembler::runs`]; who calls it refuses more, so that a peer can't make it keep many small ones (RFC 9000, 21.7), as
+/// quinn-proto does.
 pub const MOST_PIECES: usize = 2048;
 
 /// Bytes of a stream, with the offset of the first, as quinn-proto's `Chunk`.
@@ -148,9 +150,9 @@ impl Assembler {
 
     /// Puts in bytes that came at an offset (RFC 9000, 19.8): those that were not read and do not
     /// wait yet. They end at 2^62 - 1 at most. Parts that touch are joined where there are more
-    /// than [`MOST_PIECES`], more than two for each run, and no fewer than one for each 64 offsets
-    /// from the first that waits to the last. So joining copies no more than 128 bytes for each
-    /// part that goes.
+    /// than 2048, more than two for each run, and no fewer than one for each 64 offsets from the
+    /// first that waits to the last. So joining copies no more than 128 bytes for each part that
+    /// goes, each byte once.
     ///
     /// # Errors
     ///

@@ -250,7 +250,8 @@ fn take_out(spans: &mut BTreeMap<u64, u64>, start: u64, end: u64)
     }
 }
 
-// Puts in the offsets of a range, and takes them out of another set. The memory for both is taken first.
+// Puts in the offsets of a range, and takes them out of another set. The memory for both is taken first. Where it lacks, the
+// run that was cut is joined again, which needs none.
 fn insert_from(
     spans: &mut BTreeMap<u64, u64>,
     x: Range<u64>,
@@ -273,9 +274,16 @@ fn insert_from(
     }
     let nothing = BTreeMap::new(alloc);
     split(others, x.start)?;
-    add_lacking(spans, &nothing, x.start, x.end, alloc)?;
-    take_out(others, x.start, x.end);
-    Ok(())
+    match add_lacking(spans, &nothing, x.start, x.end, alloc) {
+        Ok(()) => {
+            take_out(others, x.start, x.end);
+            Ok(())
+        }
+        Err(e) => {
+            join_at(others, x.start);
+            Err(e)
+        }
+    }
 }
 
 // Puts in the offsets of a range that another set lacks.

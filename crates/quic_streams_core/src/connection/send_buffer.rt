@@ -1,9 +1,10 @@
 // What was written to a stream and may have to be sent.
-ghost use Rattle.std.specs.Prelude.{◌≡◌, ◌+◌, ◌-◌, ◌≤◌, ◌<◌, ◌^◌, ◌++◌, [], length, drop, min, max, slice_range, OnOk, OnErr};
+ghost use Rattle.std.specs.Prelude.{◌≡◌, ℕ, ◌+◌, ◌-◌, ◌≤◌, ◌<◌, ◌^◌, ◌++◌, [], length, drop, min, max, slice_get, slice_range, OnOk, OnErr};
 ghost use Rattle.quic_streams_core.specs.Offsets.{first_lacking, without_offsets};
-ghost use Rattle.quic_streams_core.specs.Buffered.{Buffered, IsBuffered, nothing_written, written, is_fully_acked, has_unsent, piece_of, after_write, after_ack, after_loss, after_poll, offset_width, next_range, next_start, writes_length, sent_end, passed, pieces_behind, first_passed};
+ghost use Rattle.quic_streams_core.specs.Buffered.{Buffered, IsBuffered, nothing_written, written, kept_byte, is_fully_acked, has_unsent, piece_of, after_write, after_ack, after_loss, after_poll, offset_width, next_range, next_start, writes_length, sent_end, passed, pieces_behind, first_passed};
 
 use super::offset_set::OffsetSet;
+use quic_wire_core::VarInt;
 use std::alloc::{AllocError, Global};
 use std::collections::VecDeque;
 use std::marker::Model;
@@ -113,18 +114,13 @@ fn drop_bytes(kept: &mut VecDeque<u8>, count: usize)
 
 // The width of an offset in a STREAM frame, which isn't written where it is 0.
 fn offset_size(offset: u64) -> usize
+    requires { offset < 2 ^ 62 }
     ensures { result ≡ offset_width offset }
 {
     if offset == 0 {
         0
-    } else if offset < 64 {
-        1
-    } else if offset < 16384 {
-        2
-    } else if offset < 1073741824 {
-        4
     } else {
-        8
+        VarInt::from_u64_unchecked(offset).size()
     }
 }
 
@@ -253,7 +249,8 @@ impl SendBuffer {
     ///
     /// The least lost run goes first, cut to the room; bytes that were never sent go where nothing is lost. The offset
     /// takes its width of the room, unless it is 0. Where what is left to go fills the room, the frame ends with it and has
-    /// no length. Else it has one, and 8 bytes are kept for it.
+    /// no length. Else it has one, and 8 bytes are kept for it. With fewer than 16 bytes of room a frame may not fit it: its
+    /// offset and length are written all the same.
     pub fn poll_transmit(&mut self, max_len: usize) -> (Range<u64>, bool)
         ensures start { result.0.start ≡ next_start self.old }
         ensures end { result.0.end ≡ sent_end self.old max_len }
@@ -285,6 +282,7 @@ impl SendBuffer {
         requires ordered { offsets.start ≤ offsets.end }
         requires bounded { offsets.end ≤ written self.now }
         ensures bytes { result.now ≡ slice_range self.now.kept (offsets.start - self.now.base) (offsets.start + length result.now - self.now.base) }
+        ensures each { (i : ℕ) → i < length result.now → slice_get result.now i ≡ kept_byte self.now (offsets.start + i) }
         ensures within { offsets.start + length result.now ≤ offsets.end }
         ensures some { offsets.start < offsets.end → 0 < length result.now }
     {

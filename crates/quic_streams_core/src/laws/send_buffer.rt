@@ -1,11 +1,12 @@
 //! Where the offsets of a stream are that were written, and what each call of [`SendBuffer`] moves.
 //!
 //! [`SendBuffer`]: crate::SendBuffer
-ghost use Rattle.std.specs.Prelude.{◌≡◌, ℕ, ◌+◌, ◌-◌, ◌<◌, ◌≤◌, ◌^◌, List, [], Bool, true, false, cond, ltb, not, ◌&&◌, ◌||◌, length, ◌++◌, IsSome};
-ghost use Rattle.quic_streams_core.specs.Buffered.{Buffered, IsBuffered, written, nothing_written, kept_byte, is_fully_acked, has_unsent, places, AreSamePlaces, is_acknowledged, is_lost, is_unsent, is_in_flight, after_write, after_ack, after_loss, after_poll, offset_width, next_start, writes_length, sent_end};
+ghost use Rattle.std.specs.Prelude.{◌≡◌, ℕ, ◌+◌, ◌-◌, ◌<◌, ◌≤◌, ◌^◌, List, [], Bool, true, false, cond, ltb, not, ◌&&◌, ◌||◌, length, ◌++◌, ◌∷◌, drop, slice_range, IsSome};
+ghost use Rattle.quic_streams_core.specs.Buffered.{Buffered, IsBuffered, bytes_in, written, nothing_written, kept_byte, is_fully_acked, has_unsent, places, AreSamePlaces, is_acknowledged, is_lost, is_unsent, is_in_flight, after_write, after_ack, after_loss, after_poll, width, offset_width, next_start, writes_length, sent_end};
 ghost use Rattle.quic_streams_core.specs.Arrived.{byte_from};
+ghost use Rattle.quic_streams_core.specs.declared.connection.send_buffer.TheConstants.{LENGTH_ROOM};
 ghost use Rattle.quic_streams_core.specs.Offsets.{is_within};
-ghost use Rattle.quic_streams_core.specs.BufferedHistory.{Call, buffered_after, written_over, goes, was_sent, was_acked, was_lost};
+ghost use Rattle.quic_streams_core.specs.BufferedHistory.{Call, buffered_after, written_over, writes_of, goes, was_sent, was_acked, was_lost};
 ghost use Rattle.std.specs.List.{slice_get};
 
 /// Each offset that was written is in one place: acknowledged, lost, never sent or in flight. Others are in none.
@@ -72,6 +73,13 @@ pub fn unacknowledged_bytes_are_kept()
     ensures poll { (b : Buffered) (most o : ℕ) → kept_byte (after_poll b most) o ≡ kept_byte b o }
 {}
 
+/// A range of what is kept, as [`get`](crate::SendBuffer::get) and [`get_parts`](crate::SendBuffer::get_parts) give it, has the
+/// kept bytes of its offsets, one after another.
+pub fn ranges_have_kept_bytes()
+    ensures bytes { (b : Buffered) (start end i : ℕ) → b.base ≤ start → end ≤ written b → start + i < end → slice_get (slice_range b.kept (start - b.base) (end - b.base)) i ≡ kept_byte b (start + i) }
+    ensures count { (b : Buffered) (start end : ℕ) → b.base ≤ start → end ≤ written b → length (slice_range b.kept (start - b.base) (end - b.base)) ≡ end - start }
+{}
+
 /// All is acknowledged where each byte that was written is, and no byte is kept then.
 pub fn fully_acked_is_each_acknowledged()
     ensures each { (b : Buffered) (o : ℕ) → IsBuffered b → is_fully_acked b ≡ true → o < written b → is_acknowledged b o ≡ true }
@@ -85,11 +93,13 @@ pub fn what_waits_is_told()
     ensures none_waits { (b : Buffered) (o : ℕ) → has_unsent b ≡ false → (is_lost b o || is_unsent b o) ≡ false }
 {}
 
-/// The offset, the length with its 8 bytes, if it is written, and the bytes of a frame fit the room behind its type and
-/// id. A frame without length fills that room. In 17 bytes of room at least one byte goes, where there is one to go.
+/// In 16 bytes of room behind a frame's type and id or more, its offset, its length with 8 bytes, and its bytes fit; no length
+/// takes more. A frame without length fills the room, where that has 8 bytes or more. With less room a frame may not fit, as an
+/// offset alone takes up to 8 bytes. In 17 bytes of room at least one byte goes, where there is one to go.
 pub fn frames_fit_their_room()
-    ensures with_length { (b : Buffered) (max : ℕ) → IsBuffered b → 16 ≤ max → writes_length b max ≡ true → offset_width (next_start b) + 8 + (sent_end b max - next_start b) ≤ max }
+    ensures with_length { (b : Buffered) (max : ℕ) → IsBuffered b → 16 ≤ max → writes_length b max ≡ true → offset_width (next_start b) + LENGTH_ROOM + (sent_end b max - next_start b) ≤ max }
     ensures without { (b : Buffered) (max : ℕ) → IsBuffered b → 8 ≤ max → writes_length b max ≡ false → offset_width (next_start b) + (sent_end b max - next_start b) ≡ max }
+    ensures length { (n : ℕ) → width n ≤ LENGTH_ROOM }
     ensures some { (b : Buffered) (max : ℕ) → IsBuffered b → 17 ≤ max → has_unsent b ≡ true → next_start b < sent_end b max }
 {}
 
@@ -116,6 +126,16 @@ pub fn written_bytes_go()
     ensures written { (calls : List Call) (max o : ℕ) → length (written_over calls) < 2 ^ 62 → goes calls max o ≡ true → o < length (written_over calls) }
     ensures bytes { (calls : List Call) (max o : ℕ) → length (written_over calls) < 2 ^ 62 → goes calls max o ≡ true → kept_byte (buffered_after calls) o ≡ slice_get (written_over calls) o }
     ensures kept { (calls : List Call) (o : ℕ) → length (written_over calls) < 2 ^ 62 → was_acked calls o ≡ false → kept_byte (buffered_after calls) o ≡ slice_get (written_over calls) o }
+{}
+
+/// After any calls the pieces are the last of the writes that had bytes, each whole, and begin behind the bytes of those before.
+/// Their bytes are kept, and no others: each offset before them is acknowledged, and some offset of the first of them isn't.
+pub fn whole_writes_are_kept()
+    ensures pieces { (calls : List Call) → length (written_over calls) < 2 ^ 62 → (before : List ℕ) × (writes_of calls ≡ before ++ (buffered_after calls).pieces) × ((buffered_after calls).base ≡ bytes_in before) }
+    ensures bytes { (calls : List Call) → length (written_over calls) < 2 ^ 62 → (buffered_after calls).kept ≡ drop (buffered_after calls).base (written_over calls) }
+    ensures count { (calls : List Call) → length (written_over calls) < 2 ^ 62 → length (buffered_after calls).kept ≡ bytes_in (buffered_after calls).pieces }
+    ensures acknowledged { (calls : List Call) (o : ℕ) → length (written_over calls) < 2 ^ 62 → o < (buffered_after calls).base → was_acked calls o ≡ true }
+    ensures needed { (calls : List Call) (n : ℕ) (ns : List ℕ) → length (written_over calls) < 2 ^ 62 → (buffered_after calls).pieces ≡ n ∷ ns → (o : ℕ) × ((buffered_after calls).base ≤ o) × (o < (buffered_after calls).base + n) × (was_acked calls o ≡ false) }
 {}
 
 /// An offset that was acknowledged when it had been sent never goes again, whatever comes.

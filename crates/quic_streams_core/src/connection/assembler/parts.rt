@@ -1,5 +1,5 @@
 // The parts of a stream that wait to be read.
-ghost use Rattle.std.specs.Prelude.{◌≡◌, cond, drop, ◌+◌, ◌<◌, ◌≤◌, ◌∷◌, ◌^◌, length, [], take, false, IfOk, IsOk, OnOk, OnErr, is_some};
+ghost use Rattle.std.specs.Prelude.{◌≡◌, cond, drop, ◌+◌, ◌<◌, ◌≤◌, ◌∷◌, ◌^◌, length, [], take, false, None, IfOk, IsOk, OnOk, OnErr, is_some};
 ghost use Rattle.std.specs.Option.{option_map};
 ghost use Rattle.std.specs.Map.{lookup, remove_entry};
 ghost use Rattle.std.specs.BTreeMap.{insert_entry, is_at};
@@ -8,12 +8,15 @@ ghost use Rattle.quic_streams_core.specs.Arrived.{AreApart, runs_of, with_gaps, 
 ghost use Rattle.quic_streams_core.specs.Spans.{AreSpans};
 ghost use Rattle.quic_streams_core.specs.PartSteps.{first_bytes, rest_of, front_of, cuts_front, after, span_of, is_held, held_at, gap_at, begins_at, Fits, undone, touching_at, from_after};
 
-use super::{Chunk, MOST_PIECES};
+use super::Chunk;
 use crate::connection::spans;
 use bytes::Bytes;
 use std::alloc::{AllocError, Global};
 use std::collections::BTreeMap;
 use std::marker::Model;
+
+// Parts that touch are joined only where there are more parts than this.
+const MOST_PARTS: usize = 2048;
 
 // Parts are short where there are at most so many offsets for each, from the first that waits to the last: so joining them
 // copies no more bytes for each.
@@ -124,6 +127,38 @@ fn keep(parts: &mut BTreeMap<u64, Bytes>, end: u64, part: Bytes) -> Result<(), A
     Ok(())
 }
 
+// Where the run ends that goes on at an offset.
+fn run_end(parts: &BTreeMap<u64, Bytes>, at: u64) -> u64
+    requires small { at < 2 ^ 62 }
+    requires apart { AreApart 0 parts.now.entries }
+    ensures above { at ≤ result }
+    ensures small { result < 2 ^ 62 }
+    ensures done { touching_at result (after result parts.now.entries) ≡ None }
+{
+    let mut last = at;
+    while let Some((next, _)) = next_touching(parts, last) {
+        last = next;
+    }
+    last
+}
+
+// The first part of a run, with exactly the memory for all its bytes: so each is copied once.
+fn begin_run(
+    parts: &BTreeMap<u64, Bytes>,
+    end: u64,
+    bytes: &[u8],
+    alloc: Global,
+) -> Result<Vec<u8>, AllocError>
+    requires small { end < 2 ^ 62 }
+    requires apart { AreApart 0 parts.now.entries }
+    ensures { IfOk result (λ run. run.items ≡ bytes.now) }
+{
+    let more = run_end(parts, end) - end;
+    let mut run = Vec::with_capacity(alloc, bytes.len().saturating_add(more as usize))?;
+    run.extend_from_slice(bytes)?;
+    Ok(run)
+}
+
 // Joins a part with those that touch it: the run that begins with it, and where it ends.
 fn run_from(
     parts: &BTreeMap<u64, Bytes>,
@@ -137,7 +172,7 @@ fn run_from(
     ensures above { IfOk result (λ run. end ≤ run.0) }
     ensures small { IfOk result (λ run. run.0 < 2 ^ 62) }
 {
-    let mut run = Vec::from_slice(alloc, bytes)?;
+    let mut run = begin_run(parts, end, bytes, alloc)?;
     let mut last = end;
     while let Some((next, more)) = next_touching(parts, last) {
         run.extend_from_slice(more)?;
@@ -385,7 +420,7 @@ impl Parts {
         ensures { result ≡ is_crowded self.now }
     {
         let len = self.map.len();
-        len > MOST_PIECES && self.runs < len.saturating_sub(self.runs) && are_short(&self.map)
+        len > MOST_PARTS && self.runs < len.saturating_sub(self.runs) && are_short(&self.map)
     }
 
     // Joins the parts that touch. All memory is taken before anything changes.

@@ -1,8 +1,14 @@
-use Rattle.std.proofs.Common.{◌≡◌, ◌≤◌, ◌∙◌, sym, subst, rules, arith}
+use Rattle.std.proofs.Common.{◌≡◌, ◌≤◌, ◌∙◌, refl, sym, ap, subst, rules, arith}
 use Rattle.quic_sets.specs.Runs.{Run}
 use Rattle.quic_streams_core.specs.Buffered.{written, after_poll}
-use Rattle.quic_streams_core.proofs.Buffered.{next_kept, next_ordered, next_bounded, first_time}
+use Rattle.quic_streams_core.proofs.Buffered.{next_kept, next_ordered, next_bounded, start_small, first_time}
 use Rattle.quic_streams_core.proofs.connection.send_buffer.SendBuffer.poll_transmit.Goals as goal
+
+pub offset_size-requires : goal.offset_size-requires
+offset_size-requires c =
+    let b = c.args.self.now in
+    let next = c.next_range-next.ensures in
+    start_small b b refl next.lawful c.next_range-next.result.start (ap (λ (r : Run). r.start) next.value)
 
 pub mark_sent-requires-clause-bounded : goal.mark_sent-requires-clause-bounded
 mark_sent-requires-clause-bounded c =
