@@ -1,12 +1,12 @@
 -- The next frame of a sending half fits the room that it was given.
-use Rattle.std.proofs.Common.{◌≡◌, ℕ, ◌+◌, ◌-◌, ◌≤◌, ◌++◌, Bool, true, false, cond, List, length, min, drop, refl, sym, arith, ap, ◌∙◌, ◌==◌, inl, inr}
+use Rattle.std.proofs.Common.{◌≡◌, ℕ, ◌+◌, ◌-◌, ◌≤◌, ◌++◌, Bool, true, false, cond, List, [], length, min, drop, refl, sym, arith, ap, ◌∙◌, ◌==◌, inl, inr}
 use Rattle.std.specs.Prelude.{slice_range}
 use Rattle.std.proofs.lemmas.Bool.{cases_lt, lt-ltb, le-ltb}
 use Rattle.std.proofs.lemmas.List.{length-take, length-drop}
 use Rattle.quic_wire.specs.Writing as wire
 use Rattle.quic_streams_core.specs.Buffered as buffered
 use Rattle.quic_connection_core.specs.Sending.{SendHalf}
-use Rattle.quic_connection_core.specs.Poll.{frame_of}
+use Rattle.quic_connection_core.specs.Poll.{frame_of, reaches_end}
 use Rattle.quic_connection_core.specs.Receiving.{end_of}
 use Rattle.quic_connection_core.specs.Tracking.{meta_of}
 use Rattle.quic_streams_core.specs.declared.stream_meta.StreamMeta.{StreamMeta}
@@ -67,31 +67,32 @@ fits_behind h id room count some le =
     let rest : wire.length_width (wire.some_if (buffered.writes_length h.buffer room) count) + count ≤ behind = by_need (buffered.writes_length h.buffer room) left behind count most few in
     omega arith
 
-pub fits : (h : SendHalf) (id room : ℕ) (meta : FrameMeta) (front back : List ℕ) → HasFrame h room → 17 ≤ room → meta ≡ frame_meta h room
-    → front ++ back ≡ slice_range h.buffer.kept (meta.offsets.start - h.buffer.base) (meta.offsets.end - h.buffer.base)
-    → wire.stream_size meta.has_length (wire.with_more (record { id = id; offset = meta.offsets.start; fin = meta.fin; bytes = front }) back) ≤ 1 + wire.width_of id + room
-fits h id room meta front back f some m e =
-    let start : meta.offsets.start ≡ (buffered.next_start h.buffer) = ap (λ (x : FrameMeta). x.offsets.start) m in
-    let end : meta.offsets.end ≡ buffered.sent_end h.buffer room = ap (λ (x : FrameMeta). x.offsets.end) m in
-    let sized : meta.has_length ≡ buffered.writes_length h.buffer room = ap (λ (x : FrameMeta). x.has_length) m in
-    let from : ℕ = meta.offsets.start - h.buffer.base in
-    let to : ℕ = meta.offsets.end - h.buffer.base in
-    let size : length (front ++ back) ≤ to - from = omega (arith, ap length e, length-take (to - from) (drop from h.buffer.kept)) in
-    let kept = f.kept in
-    let count : length (front ++ back) ≤ buffered.sent_end h.buffer room - (buffered.next_start h.buffer) = omega arith in
-    rw (start, sized) (fits_behind h id room (length (front ++ back)) some count)
+-- what stands before the bytes, and they themselves
+pub fits : (h : SendHalf) (id room : ℕ) (meta : FrameMeta) → HasFrame h room → 17 ≤ room → meta ≡ frame_meta h room
+    → wire.stream_header_size id meta.offsets.start (wire.some_if meta.has_length (meta.offsets.end - meta.offsets.start)) + (meta.offsets.end - meta.offsets.start) ≤ 1 + wire.width_of id + room
+fits h id room meta f some m =
+    rw m (fits_behind h id room (buffered.sent_end h.buffer room - buffered.next_start h.buffer) some (omega arith))
 
 -- what is written is the half's next frame
-spelled_bytes : (wl : Bool) (id start : ℕ) (fin : Bool) (x y : List ℕ) → x ≡ y
-    → wire.stream_spelling wl (record { id = id; offset = start; fin = fin; bytes = x }) ≡ wire.stream_spelling wl (record { id = id; offset = start; fin = fin; bytes = y })
-spelled_bytes wl id start fin x y e = ap (λ (z : List ℕ). wire.stream_spelling wl (record { id = id; offset = start; fin = fin; bytes = z })) e
+header_spelled : (wl : Bool) (id start : ℕ) (fin : Bool) (n : ℕ) (bytes : List ℕ) → n ≡ length bytes
+    → wire.header_of wl (record { id = id; offset = start; fin = fin; bytes = [] }) n ++ bytes ≡ wire.stream_spelling wl (record { id = id; offset = start; fin = fin; bytes = bytes })
+unfolding wire.stream_spelling
+header_spelled wl id start fin n bytes e = ap (λ (k : ℕ). wire.header_of wl (record { id = id; offset = start; fin = fin; bytes = [] }) k ++ bytes) e
 
-pub spelled : (h : SendHalf) (id room : ℕ) (meta : FrameMeta) (front back : List ℕ) → meta ≡ frame_meta h room
-    → front ++ back ≡ slice_range h.buffer.kept (meta.offsets.start - h.buffer.base) (meta.offsets.end - h.buffer.base)
-    → wire.stream_spelling meta.has_length (wire.with_more (record { id = id; offset = meta.offsets.start; fin = meta.fin; bytes = front }) back) ≡ wire.stream_spelling (buffered.writes_length h.buffer room) (frame_of id h room)
-spelled h id room meta front back m e =
-    let said = λ (x : FrameMeta). wire.stream_spelling x.has_length (record { id = id; offset = x.offsets.start; fin = x.fin; bytes = slice_range h.buffer.kept (x.offsets.start - h.buffer.base) (x.offsets.end - h.buffer.base) }) in
-    spelled_bytes meta.has_length id meta.offsets.start meta.fin (front ++ back) _ e ∙ ap said m
+pub spelled : (h : SendHalf) (id room : ℕ) (meta : FrameMeta) → HasFrame h room → meta ≡ frame_meta h room
+    → wire.header_of meta.has_length (record { id = id; offset = meta.offsets.start; fin = meta.fin; bytes = [] }) (meta.offsets.end - meta.offsets.start) ++ slice_range h.buffer.kept (meta.offsets.start - h.buffer.base) (meta.offsets.end - h.buffer.base)
+    ≡ wire.stream_spelling (buffered.writes_length h.buffer room) (frame_of id h room)
+spelled h id room meta f m =
+    let from : ℕ = buffered.next_start h.buffer - h.buffer.base in
+    let to : ℕ = buffered.sent_end h.buffer room - h.buffer.base in
+    let taken = length-take (to - from) (drop from h.buffer.kept) in
+    let behind = length-drop from h.buffer.kept in
+    let kept = f.kept in
+    let ordered = f.ordered in
+    let bounded = f.bounded in
+    let count : buffered.sent_end h.buffer room - buffered.next_start h.buffer ≡ length (slice_range h.buffer.kept from to) = omega (arith, taken, behind, kept, ordered, bounded) in
+    let said = λ (x : FrameMeta). wire.header_of x.has_length (record { id = id; offset = x.offsets.start; fin = x.fin; bytes = [] }) (x.offsets.end - x.offsets.start) ++ slice_range h.buffer.kept (x.offsets.start - h.buffer.base) (x.offsets.end - h.buffer.base) in
+    ap said m ∙ header_spelled (buffered.writes_length h.buffer room) id (buffered.next_start h.buffer) (reaches_end h (buffered.sent_end h.buffer room)) (buffered.sent_end h.buffer room - buffered.next_start h.buffer) (slice_range h.buffer.kept from to) count
 
 -- the bytes of the half's next frame end where its offsets do
 frame_end : (h : SendHalf) (id room : ℕ) → HasFrame h room → end_of (frame_of id h room) ≡ buffered.sent_end h.buffer room

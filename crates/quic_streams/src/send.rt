@@ -8,7 +8,7 @@ ghost use Rattle.quic_connection_core.specs.Tracking.{meta_of};
 ghost use Rattle.quic_streams.specs.Frames.{frame_meta, HasFrame};
 
 use quic_streams_core::{SendBuffer, StreamMeta};
-use quic_wire::frame::{Stream, put_stream_parts};
+use quic_wire::frame::{Stream, put_stream_header};
 use quic_wire_core::{StreamId, VarInt};
 use std::alloc::{AllocError, Global};
 use std::marker::Model;
@@ -172,14 +172,14 @@ impl Send {
     {
         let meta = self.poll(max_len);
         let (start, end) = (meta.offsets.start, meta.offsets.end);
-        let (data, more) = self.pending.get_parts(meta.offsets);
         let frame = Stream {
             id,
             offset: start,
             fin: meta.fin,
-            data,
+            data: &[],
         };
-        put_stream_parts(out, &frame, more, meta.has_length);
+        put_stream_header(out, &frame, (end - start) as usize, meta.has_length);
+        self.pending.put(start..end, out);
         StreamMeta {
             id,
             offsets: start..end,

@@ -35,11 +35,10 @@ impl Tally {
         }
     }
 
-    // A part came out: its first offset, and its bytes, which may lie in two places. Only the last is looked at.
-    fn add(&mut self, offset: u64, front: &[u8], back: &[u8]) {
-        let last = back.last().or(front.last()).copied().unwrap_or(0);
-        let len = (front.len() as u64).wrapping_add(back.len() as u64);
-        self.bytes = self.bytes.wrapping_add(len);
+    // A part came out: its first offset, and its bytes. Only the last is looked at.
+    fn add(&mut self, offset: u64, bytes: &[u8]) {
+        let last = bytes.last().copied().unwrap_or(0);
+        self.bytes = self.bytes.wrapping_add(bytes.len() as u64);
         self.parts = self.parts.wrapping_add(1);
         let mixed = self.checksum.wrapping_mul(31).wrapping_add(offset);
         self.checksum = mixed.wrapping_add(last as u64);
@@ -100,7 +99,7 @@ fn insert_shuffled(assembler: &mut Assembler, count: u32) -> Result<(), AllocErr
 fn read_parts(assembler: &mut Assembler, parts: u32, tally: &mut Tally) -> Result<(), AllocError> {
     for _ in 0..parts {
         if let Some(chunk) = assembler.read(FRAME_SIZE)? {
-            tally.add(chunk.offset, chunk.bytes.as_slice(), &[]);
+            tally.add(chunk.offset, chunk.bytes.as_slice());
         }
     }
     Ok(())
@@ -152,20 +151,31 @@ fn write_frame(buffer: &mut SendBuffer) -> Result<(), AllocError> {
     Ok(())
 }
 
-// Sends the next frame: its offsets.
-fn send_frame(buffer: &mut SendBuffer, tally: &mut Tally) -> Range<u64> {
+// Sends the next frame, whose bytes take the place of those in `frame`: its offsets.
+fn send_frame(
+    buffer: &mut SendBuffer,
+    frame: &mut Vec<u8>,
+    tally: &mut Tally,
+) -> Result<Range<u64>, AllocError> {
     let (range, _) = buffer.poll_transmit(FRAME_SIZE);
-    let (front, back) = buffer.get_parts(range.start..range.end);
-    tally.add(range.start, front, back);
-    range
+    frame.clear();
+    frame.reserve((range.end - range.start) as usize)?;
+    buffer.put(range.start..range.end, frame);
+    tally.add(range.start, frame);
+    Ok(range)
 }
 
 // Sends a frame that is acknowledged, if there are so many bytes to send.
-fn deliver_frame(buffer: &mut SendBuffer, least: u64, tally: &mut Tally) -> Result<(), AllocError> {
+fn deliver_frame(
+    buffer: &mut SendBuffer,
+    least: u64,
+    frame: &mut Vec<u8>,
+    tally: &mut Tally,
+) -> Result<(), AllocError> {
     if buffer.offset().saturating_sub(buffer.unsent()) < least {
         return Ok(());
     }
-    let range = send_frame(buffer, tally);
+    let range = send_frame(buffer, frame, tally)?;
     buffer.ack(range)
 }
 
@@ -173,13 +183,14 @@ fn deliver_frame(buffer: &mut SendBuffer, least: u64, tally: &mut Tally) -> Resu
 // less than a piece, as its offset goes with it; so now and then two go behind a piece.
 fn send(alloc: Global, mebibytes: u32, tally: &mut Tally) -> Result<(), AllocError> {
     let mut buffer = SendBuffer::new(alloc);
+    let mut frame = Vec::new(alloc);
     for _ in 0..frames_in(mebibytes) {
         write_frame(&mut buffer)?;
-        deliver_frame(&mut buffer, FRAME_SIZE as u64, tally)?;
-        deliver_frame(&mut buffer, FRAME_SIZE as u64, tally)?;
+        deliver_frame(&mut buffer, FRAME_SIZE as u64, &mut frame, tally)?;
+        deliver_frame(&mut buffer, FRAME_SIZE as u64, &mut frame, tally)?;
     }
-    deliver_frame(&mut buffer, 1, tally)?;
-    deliver_frame(&mut buffer, 1, tally)
+    deliver_frame(&mut buffer, 1, &mut frame, tally)?;
+    deliver_frame(&mut buffer, 1, &mut frame, tally)
 }
 
 // Sends all that is to be sent: where each frame ends.
@@ -189,11 +200,12 @@ fn send_all(
     tally: &mut Tally,
 ) -> Result<Vec<u64>, AllocError> {
     let mut ends = Vec::new(alloc);
+    let mut frame = Vec::new(alloc);
     for _ in 0..u64::MAX {
         if !buffer.has_unsent_data() {
             break;
         }
-        ends.push(send_frame(buffer, tally).end)?;
+        ends.push(send_frame(buffer, &mut frame, tally)?.end)?;
     }
     Ok(ends)
 }

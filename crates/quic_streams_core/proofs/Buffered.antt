@@ -6,6 +6,7 @@ use Rattle.quic_sets.specs.Runs.{Run, Has, AreRuns, Adds, Drops}
 use Rattle.quic_streams_core.specs.Lacking.{AddsLacking}
 use Rattle.quic_streams_core.specs.Offsets.{first_or, first_lacking, with_offsets, without_offsets, with_all, lacking}
 use Rattle.quic_streams_core.specs.Buffered.{Buffered, IsBuffered, AreFilled, ReachPast, bytes_in, written, first_unacknowledged, piece_of, after_write, passed, pieces_behind, done, trimmed, acknowledged, after_ack, after_loss, sent_count, room_behind, next_range, next_start, next_count, sent_end, after_poll}
+use Rattle.quic_streams_core.specs.KeptBytes.{KeptBytes, with_piece, released_to}
 use Rattle.quic_streams_core.proofs.Offsets.{with_runs, with_is, with_only, without_runs, without_is, without_only, without_none, lost_runs, lost_is, lost_only, first_is_least, below_first, first_by, first_rises}
 
 -- ---- pieces
@@ -264,12 +265,19 @@ poll_lawful b most h =
 
 -- ---- what the calls do to the fields
 
--- bytes are appended, or memory lacks
-pub write_either : {T E : Type 0} (r : Result T E) (b : Buffered) (bytes kept pieces : List ℕ) → IsBuffered b → written b + length bytes < 2 ^ 62
-    → OnOk r (kept ≡ b.kept ++ bytes) → OnOk r (pieces ≡ b.pieces ++ piece_of (length bytes)) → OnErr r (kept ≡ b.kept) → OnErr r (pieces ≡ b.pieces)
-    → IsBuffered (record b { kept = kept; pieces = pieces })
-write_either (Ok x) b bytes kept pieces h small k p same_k same_p = rw (k, p) (write_lawful b bytes h small)
-write_either (Err x) b bytes kept pieces h small k p same_k same_p = rw (same_k, same_p) h
+-- the pieces of a buffer
+abbrev pub pieces_in : Buffered → KeptBytes
+pieces_in b = record { base = b.base; bytes = b.kept; lengths = b.pieces }
+
+-- a buffer with other pieces
+abbrev pub with_pieces : KeptBytes → Buffered → Buffered
+with_pieces k b = record b { base = k.base; kept = k.bytes; pieces = k.lengths }
+
+-- bytes are put behind the others, or memory lacks
+pub write_either : {T E : Type 0} (r : Result T E) (b : Buffered) (bytes : List ℕ) (k : KeptBytes) → IsBuffered b → written b + length bytes < 2 ^ 62
+    → OnOk r (k ≡ with_piece bytes (pieces_in b)) → OnErr r (k ≡ pieces_in b) → IsBuffered (with_pieces k b)
+write_either (Ok x) b bytes k h small put same = rw put (write_lawful b bytes h small)
+write_either (Err x) b bytes k h small put same = rw same h
 
 pub loss_made : (v b : Buffered) → v ≡ b → IsBuffered v → (new : List Run) (a z end : ℕ) → end ≡ min z v.unsent → AreRuns new → AddsLacking v.lost v.acked new a end → record v { lost = new } ≡ after_loss b a z
 loss_made v b e h new a z end cut runs adds =
@@ -305,40 +313,23 @@ first_time b most e =
     ap (λ (n : ℕ). record b { unsent = n; lost = without_offsets (next_start b) (sent_end b most) b.lost }) top
     ∙ ap (λ (l : List Run). record b { unsent = sent_end b most; lost = l }) gone
 
--- the fields after an acknowledgement
-pub record IsAcked (v : Buffered) (a z end : ℕ) (acked lost : List Run) (first room count : ℕ) (pieces : List ℕ) : Type 0 where
+-- the sets after an acknowledgement
+pub record IsAcked (v : Buffered) (a z end : ℕ) (acked lost : List Run) : Type 0 where
   pub cut : end ≡ min z v.unsent
   pub adds : Adds v.acked acked a end
   pub runs_acked : AreRuns acked
   pub drops : Drops v.lost lost a end
   pub runs_lost : AreRuns lost
-  pub first_at : first ≡ first_lacking acked
-  pub room_at : room ≡ first - v.base
-  pub count_at : count ≡ passed v.pieces room
-  pub behind : pieces ≡ pieces_behind v.pieces room
 
-acked_set : {v : Buffered} {a z end : ℕ} {acked lost : List Run} {first room count : ℕ} {pieces : List ℕ} → IsBuffered v → IsAcked v a z end acked lost first room count pieces → acked ≡ with_offsets a (min z v.unsent) v.acked
+acked_set : {v : Buffered} {a z end : ℕ} {acked lost : List Run} → IsBuffered v → IsAcked v a z end acked lost → acked ≡ with_offsets a (min z v.unsent) v.acked
 acked_set {v} {a} {z} {end} {acked} h m = with_only a (min z v.unsent) v.acked acked h.acked m.runs_acked (subst (λ n. Adds v.acked acked a n) m.cut m.adds)
 
-lost_set : {v : Buffered} {a z end : ℕ} {acked lost : List Run} {first room count : ℕ} {pieces : List ℕ} → IsBuffered v → IsAcked v a z end acked lost first room count pieces → lost ≡ without_offsets a (min z v.unsent) v.lost
+lost_set : {v : Buffered} {a z end : ℕ} {acked lost : List Run} → IsBuffered v → IsAcked v a z end acked lost → lost ≡ without_offsets a (min z v.unsent) v.lost
 lost_set {v} {a} {z} {end} {acked} {lost} h m = without_only a (min z v.unsent) v.lost lost h.lost m.runs_lost (subst (λ n. Drops v.lost lost a n) m.cut m.drops)
 
-room_is : {v : Buffered} {a z end : ℕ} {acked lost : List Run} {first room count : ℕ} {pieces : List ℕ} → IsBuffered v → IsAcked v a z end acked lost first room count pieces → room ≡ first_unacknowledged (acknowledged v a z) - v.base
-room_is {v} h m = m.room_at ∙ ap (λ n. n - v.base) (m.first_at ∙ ap first_lacking (acked_set h m))
-
-pub count_is : {v : Buffered} {a z end : ℕ} {acked lost : List Run} {first room count : ℕ} {pieces : List ℕ} → IsBuffered v → IsAcked v a z end acked lost first room count pieces → count ≡ done (acknowledged v a z)
-count_is {v} h m = m.count_at ∙ ap (passed v.pieces) (room_is h m)
-
--- no more bytes are dropped than there are
-pub count_within_kept : {v : Buffered} {a z end : ℕ} {acked lost : List Run} {first room count : ℕ} {pieces : List ℕ} → IsBuffered v → IsAcked v a z end acked lost first room count pieces → count ≤ length v.kept
-count_within_kept {v} {a} {z} h m = rw (count_is h m) (ack_within v a z h)
-
-pub ack_made : {v : Buffered} {a z end : ℕ} {acked lost : List Run} {first room count : ℕ} {pieces : List ℕ} (kept : List ℕ) (base : ℕ) → IsBuffered v → IsAcked v a z end acked lost first room count pieces
-    → kept ≡ drop count v.kept → base ≡ v.base + count → record { base = base; kept = kept; pieces = pieces; unsent = v.unsent; acked = acked; lost = lost } ≡ after_ack v a z
-ack_made {v} {a} {z} {end} {acked} {lost} {first} {room} {count} {pieces} kept base h m k e =
-    let b = acknowledged v a z in
-    ap (λ (n : ℕ). let x : Buffered = record { base = n; kept = kept; pieces = pieces; unsent = v.unsent; acked = acked; lost = lost } in x) (e ∙ ap (λ n. v.base + n) (count_is h m))
-    ∙ ap (λ (xs : List ℕ). let x : Buffered = record { base = v.base + done b; kept = xs; pieces = pieces; unsent = v.unsent; acked = acked; lost = lost } in x) (k ∙ ap (λ n. drop n v.kept) (count_is h m))
-    ∙ ap (λ (ps : List ℕ). let x : Buffered = record { base = v.base + done b; kept = drop (done b) v.kept; pieces = ps; unsent = v.unsent; acked = acked; lost = lost } in x) (m.behind ∙ ap (pieces_behind v.pieces) (room_is h m))
-    ∙ ap (λ (rs : List Run). let x : Buffered = record { base = v.base + done b; kept = drop (done b) v.kept; pieces = pieces_behind v.pieces (first_unacknowledged b - v.base); unsent = v.unsent; acked = rs; lost = lost } in x) (acked_set h m)
-    ∙ ap (λ (rs : List Run). let x : Buffered = record { base = v.base + done b; kept = drop (done b) v.kept; pieces = pieces_behind v.pieces (first_unacknowledged b - v.base); unsent = v.unsent; acked = with_offsets a (min z v.unsent) v.acked; lost = rs } in x) (lost_set h m)
+pub ack_made : {v : Buffered} {a z end : ℕ} {acked lost : List Run} (first : ℕ) (k : KeptBytes) → IsBuffered v → IsAcked v a z end acked lost
+    → first ≡ first_lacking acked → k ≡ released_to first (pieces_in v) → with_pieces k (record v { acked = acked; lost = lost }) ≡ after_ack v a z
+ack_made {v} {a} {z} {end} {acked} {lost} first k h m at made =
+    ap (λ (x : KeptBytes). with_pieces x (record v { acked = acked; lost = lost })) (made ∙ ap (λ n. released_to n (pieces_in v)) at)
+    ∙ ap (λ (rs : List Run). with_pieces (released_to (first_lacking rs) (pieces_in v)) (record v { acked = rs; lost = lost })) (acked_set h m)
+    ∙ ap (λ (rs : List Run). with_pieces (released_to (first_unacknowledged (acknowledged v a z)) (pieces_in v)) (record v { acked = with_offsets a (min z v.unsent) v.acked; lost = rs })) (lost_set h m)

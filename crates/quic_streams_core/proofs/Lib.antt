@@ -5,6 +5,7 @@ pub mod Bytes
 pub mod Claims
 pub mod Runs
 pub mod Parts
+pub mod KeptBytes
 pub mod Offsets
 pub mod Buffered
 pub mod Places

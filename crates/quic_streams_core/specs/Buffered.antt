@@ -1,5 +1,5 @@
 -- What was written to a stream and may have to be sent (RFC 9000, 2.2 and 13.3).
-use Rattle.std.specs.Prelude.{◌≡◌, ℕ, ◌+◌, ◌-◌, ◌^◌, ◌<◌, ◌≤◌, ◌==◌, Bool, cond, ltb, leb, not, ◌&&◌, ◌||◌, min, max, List, [], ◌∷◌, ◌++◌, length, drop, Option, Some, None}
+use Rattle.std.specs.Prelude.{◌≡◌, ℕ, ◌+◌, ◌-◌, ◌^◌, ◌<◌, ◌≤◌, ◌==◌, Bool, cond, ltb, leb, not, ◌&&◌, ◌||◌, min, max, List, [], ◌∷◌, ◌++◌, length, drop, Option}
 use Rattle.quic_sets.specs.Runs.{Run, Has, AreRuns}
 use Rattle.quic_wire_core.specs.Varint.{varint_size}
 use Rattle.quic_streams_core.specs.Offsets.{has, has_any, first_or, first_lacking, with_offsets, without_offsets, with_all, lacking}
@@ -98,6 +98,11 @@ pub record IsBuffered (b : Buffered) : Type 0 where
   pub bounded : b.unsent ≤ written b
   pub small : written b < 2 ^ 62
 
+-- where the piece ends that has an offset, among pieces one behind the other from `at` on; or else that offset
+abbrev pub piece_end : ℕ → List ℕ → ℕ → ℕ
+piece_end at [] o = o
+piece_end at (n ∷ ns) o = cond (ltb o (at + n)) (at + n) (piece_end (at + n) ns o)
+
 -- ---- a write
 
 -- the pieces of a write: one, or none where it has no byte
@@ -119,11 +124,6 @@ passed (n ∷ ns) room = cond (leb n room) (n + passed ns (room - n)) 0
 abbrev pub pieces_behind : List ℕ → ℕ → List ℕ
 pieces_behind [] room = []
 pieces_behind (n ∷ ns) room = cond (leb n room) (pieces_behind ns (room - n)) (n ∷ ns)
-
--- the length of the first piece, if it has no more than `room` bytes
-abbrev pub first_passed : List ℕ → ℕ → Option ℕ
-first_passed [] room = None
-first_passed (n ∷ ns) room = cond (leb n room) (Some n) None
 
 -- how many bytes lie in pieces wholly below the first offset that isn't acknowledged
 abbrev pub done : Buffered → ℕ

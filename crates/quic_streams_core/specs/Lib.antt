@@ -3,6 +3,7 @@ pub mod Arrived
 pub mod Waiting
 pub mod Offsets
 pub mod Buffered
+pub mod KeptBytes
 pub mod PartSteps
 pub mod Inside
 pub mod Source

@@ -135,3 +135,26 @@ fn bytes_are_fetched_at_their_offsets(rt: HostRuntime) -> Result<(), Fail> {
     assert_eq!(rt; buffer.get(offsets), b"h extra".as_slice());
     Ok(())
 }
+
+// Two writes are two pieces: a range over both is fetched piece by piece, and appended whole.
+#[test]
+fn a_range_goes_over_pieces(rt: HostRuntime) -> Result<(), Fail> {
+    let mut buffer = SendBuffer::new(rt.alloc());
+    for piece in [b"Hello, ".as_slice(), b"world"] {
+        assert!(rt; buffer.offset() < 100);
+        if buffer.write(piece).is_err() {
+            assert!(rt; buffer.offset() < 100);
+            buffer.write(piece)?;
+        }
+    }
+    let (offsets, _) = buffer.poll_transmit(64);
+    assert_eq!(rt; (offsets.start, offsets.end), (0, 12));
+    assert_eq!(rt; buffer.get(3..12), b"lo, ".as_slice());
+    let mut frame = Vec::new(rt.alloc());
+    if frame.reserve(9).is_err() {
+        frame.reserve(9)?;
+    }
+    buffer.put(3..12, &mut frame);
+    assert_eq!(rt; frame.as_slice(), b"lo, world".as_slice());
+    Ok(())
+}

@@ -8,7 +8,7 @@ use Rattle.quic_wire_core.specs.Law.{shortest_spells}
 use Rattle.quic_wire.specs.Value.{FrameValue, StreamValue, ack, padding, ping, handshake_done, immediate_ack, reset_stream, stop_sending, crypto, new_token, stream, max_data, max_stream_data, max_streams, data_blocked, stream_data_blocked, streams_blocked, new_connection_id, retire_connection_id, path_challenge, path_response, connection_close, application_close, datagram, ack_frequency}
 use Rattle.quic_wire.specs.FrameTypes.{is_stream, is_max_streams, is_streams_blocked, is_datagram, type_of}
 use Rattle.quic_wire.specs.Grammar.{Numbers, Then, offset_numbers, OffsetFits, length_numbers, number_if, Ends, stream_numbers, IsForm}
-use Rattle.quic_wire.specs.Writing.{written, has_offset, header_of, with_more, stream_header, stream_spelling, text_of, numbers_of, spelling, datagram_to_end, AreNumbers, StreamFits, Fits, widths, width_of, length_width, some_if, stream_header_size, stream_size, frame_size}
+use Rattle.quic_wire.specs.Writing.{written, has_offset, header_of, stream_header, stream_spelling, text_of, numbers_of, spelling, datagram_to_end, AreNumbers, StreamFits, Fits, widths, width_of, length_width, some_if, stream_header_size, stream_size, frame_size}
 use Rattle.quic_wire.specs.AckGrammar.{ack_numbers}
 use Rattle.quic_wire.proofs.AckNumbers.{AreNumbers-append, ack_are_numbers}
 
@@ -45,11 +45,6 @@ stream_type_short true true true = refl
 pub stream_written : (s : StreamValue) (sized : Bool) (w w1 w2 : List ℕ) → w1 ≡ w ++ header_of sized s (length s.bytes) → w2 ≡ w1 ++ s.bytes → w2 ≡ w ++ stream_spelling sized s
 unfolding stream_spelling
 stream_written s sized w w1 w2 e1 e2 = rw (e2, e1) (append_assoc w (header_of sized s (length s.bytes)) s.bytes)
-
--- the same, with bytes that stand in two places
-pub parts_written : (s : StreamValue) (sized : Bool) (n : ℕ) (more w w1 w2 w3 : List ℕ) → n ≡ length (s.bytes ++ more) → w1 ≡ w ++ header_of sized s n → w2 ≡ w1 ++ s.bytes → w3 ≡ w2 ++ more → w3 ≡ w ++ stream_spelling sized (with_more s more)
-parts_written s sized n more w w1 w2 w3 count e1 e2 e3 =
-    stream_written (with_more s more) sized w w1 w3 (rw (← count) e1) (rw (e3, e2) (append_assoc w1 s.bytes more))
 
 -- the parts of a NEW_CONNECTION_ID frame in turn
 pub id_written : (w a id token : List ℕ) (n : ℕ) → (((w ++ a) ++ (n ∷ [])) ++ id) ++ token ≡ w ++ (a ++ (n ∷ (id ++ token)))

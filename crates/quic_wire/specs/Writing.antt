@@ -15,10 +15,6 @@ has_offset offset = not (offset == 0)
 abbrev pub header_of : Bool → StreamValue → ℕ → List ℕ
 header_of with_length s n = written (type_of (is_stream (has_offset s.offset) with_length s.fin) ∷ s.id ∷ (offset_numbers (has_offset s.offset) s.offset ++ number_if with_length n))
 
--- The frame with more bytes behind its own.
-abbrev pub with_more : StreamValue → List ℕ → StreamValue
-with_more s more = record s { bytes = s.bytes ++ more }
-
 -- The header of a STREAM frame, with its length or without.
 abbrev pub stream_header : Bool → StreamValue → List ℕ
 stream_header with_length s = written (stream_numbers (has_offset s.offset) with_length s)

@@ -19,7 +19,7 @@ pub use close::{ApplicationClose, Close, ConnectionClose};
 pub use datagram::Datagram;
 pub use iter::Iter;
 pub use writing::{
-    put_frame, put_stream, put_stream_parts, size_of_frame, size_of_stream_header, write_frame,
+    put_frame, put_stream, put_stream_header, size_of_frame, size_of_stream_header, write_frame,
 };
 
 /// A frame of a payload (quinn-proto's `frame::Frame`).

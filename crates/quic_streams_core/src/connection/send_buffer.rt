@@ -1,12 +1,15 @@
 // What was written to a stream and may have to be sent.
-ghost use Rattle.std.specs.Prelude.{◌≡◌, ℕ, ◌+◌, ◌-◌, ◌≤◌, ◌<◌, ◌^◌, ◌++◌, [], length, drop, min, max, slice_get, slice_range, OnOk, OnErr};
+ghost use Rattle.std.specs.Prelude.{◌≡◌, ℕ, ◌+◌, ◌-◌, ◌≤◌, ◌<◌, ◌^◌, ◌++◌, [], length, min, max, slice_get, slice_range, OnOk, OnErr, vec_len, vec_capacity};
 ghost use Rattle.quic_streams_core.specs.Offsets.{first_lacking, without_offsets};
-ghost use Rattle.quic_streams_core.specs.Buffered.{Buffered, IsBuffered, nothing_written, written, kept_byte, is_fully_acked, has_unsent, piece_of, after_write, after_ack, after_loss, after_poll, offset_width, next_range, next_start, writes_length, sent_end, passed, pieces_behind, first_passed};
+ghost use Rattle.quic_streams_core.specs.Buffered.{Buffered, IsBuffered, nothing_written, written, kept_byte, is_fully_acked, has_unsent, after_write, after_ack, after_loss, after_poll, offset_width, next_range, next_start, writes_length, sent_end, piece_end};
+
+mod pieces;
 
 use super::offset_set::OffsetSet;
+use pieces::Pieces;
 use quic_wire_core::VarInt;
+use quic_wire_core::reserved::append;
 use std::alloc::{AllocError, Global};
-use std::collections::VecDeque;
 use std::marker::Model;
 use std::ops::Range;
 
@@ -19,11 +22,7 @@ const LENGTH_ROOM: usize = 8;
 /// pieces that they were written in, until a whole piece lies below the first offset that isn't acknowledged.
 #[derive(Drop)]
 pub struct SendBuffer {
-    // The bytes from `base` on.
-    kept: VecDeque<u8>,
-    // The lengths of the pieces that they were written in.
-    pieces: VecDeque<usize>,
-    base: u64,
+    pieces: Pieces,
     // The first offset that was never sent.
     unsent: u64,
     acked: OffsetSet,
@@ -35,42 +34,9 @@ impl Model for SendBuffer {
 
     ghost Value = { Buffered };
 
-    ghost view = { λ s. record { base = s.base; kept = s.kept.items; pieces = s.pieces.items; unsent = s.unsent; acked = s.acked; lost = s.lost } };
+    ghost view = { λ s. record { base = s.pieces.base; kept = s.pieces.bytes; pieces = s.pieces.lengths; unsent = s.unsent; acked = s.acked; lost = s.lost } };
 
-    ghost invariant = { λ s. IsBuffered (record { base = s.base; kept = s.kept.items; pieces = s.pieces.items; unsent = s.unsent; acked = s.acked; lost = s.lost }) };
-}
-
-// Puts bytes at the back.
-fn append(kept: &mut VecDeque<u8>, bytes: &[u8]) -> Result<(), AllocError>
-    ensures ok { OnOk result (kept.new.items ≡ kept.old.items ++ bytes.now) }
-    ensures err { OnErr result (kept.new.items ≡ kept.old.items) }
-{
-    kept.reserve(bytes.len())?;
-    for byte in bytes {
-        kept.push_back_reserved(*byte);
-    }
-    Ok(())
-}
-
-// Puts bytes and their length at the back, if there are any. The memory is taken first.
-fn append_piece(
-    kept: &mut VecDeque<u8>,
-    pieces: &mut VecDeque<usize>,
-    bytes: &[u8],
-) -> Result<(), AllocError>
-    ensures kept { OnOk result (kept.new.items ≡ kept.old.items ++ bytes.now) }
-    ensures pieces { OnOk result (pieces.new.items ≡ pieces.old.items ++ piece_of (length bytes.now)) }
-    ensures same_kept { OnErr result (kept.new.items ≡ kept.old.items) }
-    ensures same_pieces { OnErr result (pieces.new.items ≡ pieces.old.items) }
-    ensures lacking { OnErr result (0 < length bytes.now) }
-{
-    if bytes.is_empty() {
-        return Ok(());
-    }
-    pieces.reserve(1)?;
-    append(kept, bytes)?;
-    pieces.push_back_reserved(bytes.len());
-    Ok(())
+    ghost invariant = { λ s. IsBuffered (record { base = s.pieces.base; kept = s.pieces.bytes; pieces = s.pieces.lengths; unsent = s.unsent; acked = s.acked; lost = s.lost }) };
 }
 
 // The first offset that isn't in the set.
@@ -81,35 +47,6 @@ fn first_lacking_of(set: &OffsetSet) -> u64
         Some(run) if run.start == 0 => run.end,
         _ => 0,
     }
-}
-
-// The length of the first piece, if it has no more than `room` bytes.
-fn passed_first(pieces: &VecDeque<usize>, room: u64) -> Option<u64>
-    ensures { result ≡ first_passed pieces.now.items room }
-{
-    let len = *pieces.front()? as u64;
-    if len <= room { Some(len) } else { None }
-}
-
-// Takes off the first pieces that end within `room` bytes, and says how many bytes these have.
-fn drop_pieces(pieces: &mut VecDeque<usize>, room: u64) -> u64
-    ensures count { result ≡ passed pieces.old.items room }
-    ensures pieces { pieces.new.items ≡ pieces_behind pieces.old.items room }
-{
-    let mut left = room;
-    while let Some(len) = passed_first(pieces, left) {
-        left -= len;
-        let _ = pieces.pop_front();
-    }
-    room - left
-}
-
-// Takes off the first bytes.
-fn drop_bytes(kept: &mut VecDeque<u8>, count: usize)
-    requires { count ≤ length kept.old.items }
-    ensures { kept.new.items ≡ drop count kept.old.items }
-{
-    kept.drain(..count);
 }
 
 // The width of an offset in a STREAM frame, which isn't written where it is 0.
@@ -130,9 +67,7 @@ impl SendBuffer {
         ensures { result ≡ nothing_written }
     {
         SendBuffer {
-            kept: VecDeque::new(alloc),
-            pieces: VecDeque::new(alloc),
-            base: 0,
+            pieces: Pieces::new(alloc),
             unsent: 0,
             acked: OffsetSet::new(alloc),
             lost: OffsetSet::new(alloc),
@@ -151,7 +86,7 @@ impl SendBuffer {
         ensures err { OnErr result (self.new ≡ self.old) }
         ensures lacking { OnErr result (0 < length bytes.now) }
     {
-        append_piece(&mut self.kept, &mut self.pieces, bytes)
+        self.pieces.push(bytes)
     }
 
     /// How many bytes were written in all: the offset of the next.
@@ -159,7 +94,7 @@ impl SendBuffer {
         ensures value { result ≡ written self.now }
         ensures lawful { IsBuffered self.now }
     {
-        self.base + self.kept.len() as u64
+        self.pieces.end()
     }
 
     /// The first offset that was never sent.
@@ -173,7 +108,7 @@ impl SendBuffer {
     pub fn buffered(&self) -> usize
         ensures { result ≡ length self.now.kept }
     {
-        self.kept.len()
+        self.pieces.len()
     }
 
     /// Whether each byte that was written is acknowledged.
@@ -203,10 +138,7 @@ impl SendBuffer {
     {
         let sent = range.start..range.end.min(self.unsent);
         self.acked.insert_from(sent, &mut self.lost)?;
-        let room = first_lacking_of(&self.acked).saturating_sub(self.base);
-        let count = drop_pieces(&mut self.pieces, room);
-        drop_bytes(&mut self.kept, count as usize);
-        self.base += count;
+        self.pieces.release(first_lacking_of(&self.acked));
         Ok(())
     }
 
@@ -275,41 +207,36 @@ impl SendBuffer {
         (next.start..end, has_length)
     }
 
-    /// Bytes at these offsets from the first on, at least one where there is one: where the bytes lie in a ring, they may
-    /// end before the last offset.
+    /// The bytes at these offsets from the first on, up to the last or the end of the piece that the first was written in
+    /// (quinn-proto's `SendBuffer::get`).
     pub fn get(&self, offsets: Range<u64>) -> &[u8]
         requires kept { self.now.base ≤ offsets.start }
         requires ordered { offsets.start ≤ offsets.end }
         requires bounded { offsets.end ≤ written self.now }
         ensures bytes { result.now ≡ slice_range self.now.kept (offsets.start - self.now.base) (offsets.start + length result.now - self.now.base) }
         ensures each { (i : ℕ) → i < length result.now → slice_get result.now i ≡ kept_byte self.now (offsets.start + i) }
+        ensures end { offsets.start + length result.now ≡ min offsets.end (piece_end self.now.base self.now.pieces offsets.start) }
         ensures within { offsets.start + length result.now ≤ offsets.end }
         ensures some { offsets.start < offsets.end → 0 < length result.now }
     {
-        let (front, back) = self.kept.as_slices();
-        let start = (offsets.start - self.base) as usize;
-        let end = (offsets.end - self.base) as usize;
-        if start < front.len() {
-            &front[start..end.min(front.len())]
-        } else {
-            &back[start - front.len()..end - front.len()]
-        }
+        self.pieces.get(offsets)
     }
 
-    /// The bytes of a range, in two parts, of which either may be empty: where they lie in a ring, they may pass its end.
-    pub fn get_parts(&self, offsets: Range<u64>) -> (&[u8], &[u8])
+    /// Appends the bytes at these offsets, for which there is room.
+    pub fn put(&self, offsets: Range<u64>, out: &mut Vec<u8>)
         requires kept { self.now.base ≤ offsets.start }
         requires ordered { offsets.start ≤ offsets.end }
         requires bounded { offsets.end ≤ written self.now }
-        ensures { result.0.now ++ result.1.now ≡ slice_range self.now.kept (offsets.start - self.now.base) (offsets.end - self.now.base) }
+        requires room { vec_len out.old + (offsets.end - offsets.start) ≤ vec_capacity out.old }
+        ensures items { out.new.items ≡ out.old.items ++ slice_range self.now.kept (offsets.start - self.now.base) (offsets.end - self.now.base) }
+        ensures len { vec_len out.new ≡ vec_len out.old + (offsets.end - offsets.start) }
+        ensures capacity { vec_capacity out.old ≤ vec_capacity out.new }
     {
-        let (front, back) = self.kept.as_slices();
-        let cut = front.len();
-        let start = (offsets.start - self.base) as usize;
-        let end = (offsets.end - self.base) as usize;
-        (
-            &front[start.min(cut)..end.min(cut)],
-            &back[start.saturating_sub(cut)..end.saturating_sub(cut)],
-        )
+        let mut at = offsets.start;
+        while at < offsets.end {
+            let bytes = self.get(at..offsets.end);
+            append(out, bytes);
+            at += bytes.len() as u64;
+        }
     }
 }

@@ -73,7 +73,7 @@ pub fn unacknowledged_bytes_are_kept()
     ensures poll { (b : Buffered) (most o : ℕ) → kept_byte (after_poll b most) o ≡ kept_byte b o }
 {}
 
-/// A range of what is kept, as [`get`](crate::SendBuffer::get) and [`get_parts`](crate::SendBuffer::get_parts) give it, has the
+/// A range of what is kept, as [`get`](crate::SendBuffer::get) and [`put`](crate::SendBuffer::put) give it, has the
 /// kept bytes of its offsets, one after another.
 pub fn ranges_have_kept_bytes()
     ensures bytes { (b : Buffered) (start end i : ℕ) → b.base ≤ start → end ≤ written b → start + i < end → slice_get (slice_range b.kept (start - b.base) (end - b.base)) i ≡ kept_byte b (start + i) }

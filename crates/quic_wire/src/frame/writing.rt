@@ -6,7 +6,7 @@ ghost use Rattle.quic_wire.specs.FrameView.{is_one_way, reset_stream_view, stop_
 ghost use Rattle.quic_wire.specs.FrameTypes.{bit_if};
 ghost use Rattle.quic_wire.specs.Value.{reset_stream, stop_sending, new_connection_id, ack_frequency};
 ghost use Rattle.quic_wire.specs.Grammar.{offset_numbers, number_if};
-ghost use Rattle.quic_wire.specs.Writing.{written, widths, AreNumbers, has_offset, stream_header, stream_spelling, spelling, StreamFits, Fits, width_of, offset_width, length_width, some_if, header_of, with_more, stream_header_size, stream_size, frame_size, BeginWith, SpendsSpare};
+ghost use Rattle.quic_wire.specs.Writing.{written, widths, AreNumbers, has_offset, stream_header, stream_spelling, spelling, StreamFits, Fits, width_of, offset_width, length_width, some_if, header_of, stream_header_size, stream_size, frame_size, BeginWith, SpendsSpare};
 
 use crate::frame::ack::size::size_of_ack;
 use crate::frame::ack::writing::write_ack;
@@ -406,8 +406,10 @@ pub fn size_of_frame(frame: &Frame<'_>) -> usize
     }
 }
 
-/// Appends the header of a STREAM frame of so many bytes, with its length or without. There is room.
-fn put_stream_header(out: &mut Vec<u8>, stream: &Stream<'_>, length: usize, with_length: bool)
+/// Appends what stands before the bytes of a STREAM frame, for which there is room: its type, id and offset, and its length, if
+/// that is written. So many bytes are to follow, whatever bytes `stream` has (RFC 9000, section 19.8; quinn-proto's
+/// `StreamMeta::encode`).
+pub fn put_stream_header(out: &mut Vec<u8>, stream: &Stream<'_>, length: usize, with_length: bool)
     requires offset { stream.now.offset < 2 ^ 62 }
     requires id { stream.now.id < 2 ^ 62 }
     requires form { length < 2 ^ 62 }
@@ -430,21 +432,6 @@ pub fn put_stream(out: &mut Vec<u8>, stream: &Stream<'_>, with_length: bool)
 {
     put_stream_header(out, stream, stream.data.len(), with_length);
     append(out, stream.data);
-}
-
-/// Appends a STREAM frame whose bytes are those of `stream` and `more` behind them, as [`put_stream`] does one whose
-/// bytes stand in one place.
-pub fn put_stream_parts(out: &mut Vec<u8>, stream: &Stream<'_>, more: &[u8], with_length: bool)
-    requires form { StreamFits (with_more (stream_view stream.now) more.now) }
-    requires room { vec_len out.old + stream_size with_length (with_more (stream_view stream.now) more.now) ≤ vec_capacity out.old }
-    ensures items { out.new.items ≡ out.old.items ++ stream_spelling with_length (with_more (stream_view stream.now) more.now) }
-    ensures len { vec_len out.new ≡ vec_len out.old + stream_size with_length (with_more (stream_view stream.now) more.now) }
-    ensures capacity { vec_capacity out.old ≤ vec_capacity out.new }
-{
-    let count = stream.data.len() + more.len();
-    put_stream_header(out, stream, count, with_length);
-    append(out, stream.data);
-    append(out, more);
 }
 
 /// Appends a frame, STREAM and DATAGRAM with their length, for which there is room.

@@ -9,6 +9,7 @@ ghost use Rattle.quic_streams_core.specs.Spans.{AreSpans};
 ghost use Rattle.quic_streams_core.specs.PartSteps.{first_bytes, rest_of, front_of, cuts_front, after, span_of, is_held, held_at, gap_at, begins_at, Fits, undone, touching_at, from_after};
 
 use super::Chunk;
+use crate::connection::by_end::{keep, next_part};
 use crate::connection::spans;
 use bytes::Bytes;
 use std::alloc::{AllocError, Global};
@@ -54,18 +55,6 @@ fn first_after(parts: &BTreeMap<u64, Bytes>, at: u64) -> Option<(u64, u64)>
     let first = at + 1;
     match parts.range(first..).next() {
         Some((end, bytes)) => Some((end.saturating_sub(bytes.len() as u64), *end)),
-        None => None,
-    }
-}
-
-// The first part that ends behind an offset.
-fn next_part(parts: &BTreeMap<u64, Bytes>, at: u64) -> Option<(u64, &Bytes)>
-    requires { at < 2 ^ 62 }
-    ensures { option_map (λ p. (p.0, p.1.now)) result ≡ after at parts.now.entries }
-{
-    let first = at + 1;
-    match parts.range(first..).next() {
-        Some((end, bytes)) => Some((*end, bytes)),
         None => None,
     }
 }
@@ -116,15 +105,6 @@ fn touches(parts: &BTreeMap<u64, Bytes>, at: u64, joins: bool) -> usize
 {
     let before = if parts.contains_key(&at) { 1 } else { 0 };
     if joins { before + 1 } else { before }
-}
-
-// Keeps a part that ends at `end`.
-fn keep(parts: &mut BTreeMap<u64, Bytes>, end: u64, part: Bytes) -> Result<(), AllocError>
-    ensures ok { OnOk result (parts.new.entries ≡ insert_entry nat_cmp parts.old.entries end part) }
-    ensures err { OnErr result (parts.new.entries ≡ parts.old.entries) }
-{
-    let _ = parts.insert(end, part)?;
-    Ok(())
 }
 
 // Where the run ends that goes on at an offset.

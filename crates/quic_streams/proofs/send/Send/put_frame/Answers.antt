@@ -1,21 +1,43 @@
-use Rattle.std.proofs.Common.{rules, ◌++◌, List, ℕ, ap, ◌∙◌, arith}
+use Rattle.std.proofs.Common.{◌≡◌, ◌-◌, ◌++◌, List, ℕ, ap, ◌∙◌, arith}
+use Rattle.std.specs.Prelude.{slice_range}
+use Rattle.std.proofs.lemmas.List.{append_assoc}
+use Rattle.quic_streams_core.specs.Buffered.{Buffered}
+use Rattle.quic_connection_core.specs.Sending.{SendHalf}
+use Rattle.quic_connection_core.specs.Poll.{half_after}
 use Rattle.quic_streams.proofs.Room.{fits, spelled, carries}
 use Rattle.quic_streams.proofs.send.Send.put_frame.Goals as goal
 
-pub put_stream_parts-requires-clause-room : goal.put_stream_parts-requires-clause-room
-put_stream_parts-requires-clause-room c =
-    let le = fits c.args.self.now c.args.id c.args.max_len c.poll-meta.result c.get_parts.result.0.now c.get_parts.result.1.now c.poll-meta.ensures.within c.requires.some c.poll-meta.ensures.meta (search rules) in
+pub put_stream_header-requires-clause-room : goal.put_stream_header-requires-clause-room
+put_stream_header-requires-clause-room c =
+    let le = fits c.args.self.now c.args.id c.args.max_len c.poll-meta.result c.poll-meta.ensures.within c.requires.some c.poll-meta.ensures.meta in
     let room = c.requires.room in
+    omega arith
+
+pub put-requires-clause-room : goal.put-requires-clause-room
+put-requires-clause-room c =
+    let le = fits c.args.self.now c.args.id c.args.max_len c.poll-meta.result c.poll-meta.ensures.within c.requires.some c.poll-meta.ensures.meta in
+    let room = c.requires.room in
+    let len = c.put_stream_header.ensures.len in
+    let capacity = c.put_stream_header.ensures.capacity in
     omega arith
 
 pub returns-clause-items : goal.returns-clause-items
 returns-clause-items c =
-    c.put_stream_parts.ensures.items ∙ ap (λ (z : List ℕ). c.args.out.now.items ++ z) (spelled c.args.self.now c.args.id c.args.max_len c.poll-meta.result c.get_parts.result.0.now c.get_parts.result.1.now c.poll-meta.ensures.meta (search rules))
+    let made = spelled c.args.self.now c.args.id c.args.max_len c.poll-meta.result c.poll-meta.ensures.within c.poll-meta.ensures.meta in
+    let same : c.self.inside.pending ≡ (half_after c.args.self.now c.args.max_len).buffer = ap (λ (h : SendHalf). h.buffer) (c.self.view_is ∙ c.poll-meta.ensures.new) in
+    let start = c.poll-meta.result.offsets.start in
+    let end = c.poll-meta.result.offsets.end in
+    c.put.ensures.items
+    ∙ ap (λ (b : Buffered). c.put_stream_header.new.out.items ++ slice_range b.kept (start - b.base) (end - b.base)) same
+    ∙ ap (λ (z : List ℕ). z ++ slice_range c.args.self.now.buffer.kept (start - c.args.self.now.buffer.base) (end - c.args.self.now.buffer.base)) c.put_stream_header.ensures.items
+    ∙ append_assoc c.args.out.now.items _ (slice_range c.args.self.now.buffer.kept (start - c.args.self.now.buffer.base) (end - c.args.self.now.buffer.base))
+    ∙ ap (λ (z : List ℕ). c.args.out.now.items ++ z) made
 
 pub returns-clause-len : goal.returns-clause-len
 returns-clause-len c =
-    let le = fits c.args.self.now c.args.id c.args.max_len c.poll-meta.result c.get_parts.result.0.now c.get_parts.result.1.now c.poll-meta.ensures.within c.requires.some c.poll-meta.ensures.meta (search rules) in
-    let len = c.put_stream_parts.ensures.len in
+    let le = fits c.args.self.now c.args.id c.args.max_len c.poll-meta.result c.poll-meta.ensures.within c.requires.some c.poll-meta.ensures.meta in
+    let head = c.put_stream_header.ensures.len in
+    let len = c.put.ensures.len in
     omega arith
 
 pub returns-clause-meta : goal.returns-clause-meta

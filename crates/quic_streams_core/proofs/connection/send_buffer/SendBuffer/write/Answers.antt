@@ -7,5 +7,4 @@ use Rattle.quic_streams_core.proofs.connection.send_buffer.SendBuffer.write.Goal
 pub invariant_of-self : goal.invariant_of-self
 invariant_of-self c =
     let small = subst (λ (b : Buffered). written b + length c.args.bytes.now < 2 ^ 62) (sym c.self.view_is) c.requires in
-    let e = c.append_piece.ensures in
-    write_either c.append_piece.result (the_view c.self.inside) c.args.bytes.now c.append_piece.new.kept.items c.append_piece.new.pieces.items c.self.invariant small e.kept e.pieces e.same_kept e.same_pieces
+    write_either c.push.result (the_view c.self.inside) c.args.bytes.now c.push.new.self c.self.invariant small c.push.ensures.ok c.push.ensures.err
