@@ -1,5 +1,5 @@
 //! One end of a connection (RFC 9000).
-ghost use Rattle.std.specs.Prelude.{◌≡◌, ◌≢◌, ◌+◌, ◌≤◌, ◌<◌, ◌^◌, ◌++◌, ◌↔◌, length, Ok, Err, Some, None, IfOk, IsOk, OnOk, OnErr, IfErr, IsTrue, option_copied, if◌then◌else◌, true, false, IfSome, IsSome, MatchResult};
+ghost use Rattle.std.specs.Prelude.{◌≡◌, ◌≢◌, ◌+◌, ◌≤◌, ◌<◌, ◌^◌, ◌++◌, ◌↔◌, length, Ok, Err, Some, None, IfOk, OnOk, OnErr, IfErr, IsTrue, option_copied, if◌then◌else◌, true, false, IfSome, IsSome, MatchResult};
 ghost use Rattle.quic_parameters.specs.ParametersRead.{parameters_at};
 ghost use Rattle.quic_connection_core.specs.declared.answers.State.TheVariants as states;
 ghost use Rattle.quic_connection_core.specs.End.{MadeFrom, refusal_of, with_end, with_closing, closed_by, with_numbers, with_ping, HasFailed};
@@ -15,7 +15,7 @@ ghost use Rattle.quic_connection_core.specs.Receiving.{read_answer};
 ghost use Rattle.quic_connection_core.specs.Calls.{is_open, can_open, open_answer, after_open, end_accepts, end_after_accept, end_writes, end_after_write, end_after_finish, end_after_ping, end_next, end_after_next};
 ghost use Rattle.quic_connection_core.specs.Numbers.{can_number, number_opened};
 ghost use Rattle.quic_recovery_core.specs.Duplicates.{is_duplicate};
-ghost use Rattle.quic_connection_core.specs.Lacking.{CutsPiece};
+ghost use Rattle.quic_connection_core.specs.Lacking.{CutsPiece, TakesBytes};
 
 mod acked;
 mod acknowledging;
@@ -292,7 +292,7 @@ impl<H: HeaderKey + Drop, K: PacketKey + Drop, R: Rng + Drop> Connection<H, K, R
     pub(crate) fn write(&mut self, id: StreamId, bytes: &[u8]) -> Result<usize, WriteError>
         ensures answer { result ≢ Err write_errors.Memory → result ≡ end_writes self.old.end id (length bytes.now) }
         ensures end { self.new ≡ with_end self.old (end_after_write result self.old.end id bytes.now) }
-        ensures lacking { result ≡ Err write_errors.Memory → IsOk (end_writes self.old.end id (length bytes.now)) }
+        ensures lacking { result ≡ Err write_errors.Memory → TakesBytes (end_writes self.old.end id (length bytes.now)) }
     {
         let is_open = self.is_open();
         self.sending.write(is_open, id, bytes)

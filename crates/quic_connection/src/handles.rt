@@ -1,11 +1,11 @@
 //! What an application holds of an end: its streams, and a half of one (quinn-proto's `Streams`, `SendStream`,
 //! `RecvStream` and `Chunks`). Each borrows the end while it lives.
-ghost use Rattle.std.specs.Prelude.{◌≡◌, ◌≢◌, IfOk, IsOk, OnOk, OnErr, Ok, Err, MatchResult, length, true, false};
+ghost use Rattle.std.specs.Prelude.{◌≡◌, ◌≢◌, IfOk, OnOk, OnErr, Ok, Err, MatchResult, length, true, false};
 ghost use Rattle.quic_connection_core.specs.declared.answers.WriteError.TheVariants as write_errors;
 ghost use Rattle.quic_connection_core.specs.declared.answers.ReadError.TheVariants as read_errors;
 ghost use Rattle.quic_connection_core.specs.End.{with_end};
 ghost use Rattle.quic_connection_core.specs.Table.{at};
-ghost use Rattle.quic_connection_core.specs.Lacking.{CutsPiece};
+ghost use Rattle.quic_connection_core.specs.Lacking.{CutsPiece, TakesBytes};
 ghost use Rattle.quic_connection_core.specs.Sending.{finish_answer};
 ghost use Rattle.quic_connection_core.specs.Receiving.{read_answer};
 ghost use Rattle.quic_connection_core.specs.Calls.{can_open, open_answer, after_open, end_accepts, end_after_accept, end_writes, end_after_write, end_after_finish, end_next, end_after_next};
@@ -69,7 +69,7 @@ impl<'a, H: HeaderKey + Drop, K: PacketKey + Drop, R: Rng + Drop> SendStream<'a,
         ensures same_stream { self.new.id ≡ self.old.id }
         ensures answer { result ≢ Err write_errors.Memory → result ≡ end_writes self.old.connection.now.end self.old.id (length «data».now) }
         ensures end { self.new.connection.now ≡ with_end self.old.connection.now (end_after_write result self.old.connection.now.end self.old.id «data».now) }
-        ensures lacking { result ≡ Err write_errors.Memory → IsOk (end_writes self.old.connection.now.end self.old.id (length «data».now)) }
+        ensures lacking { result ≡ Err write_errors.Memory → TakesBytes (end_writes self.old.connection.now.end self.old.id (length «data».now)) }
     {
         self.connection.write(self.id, data)
     }

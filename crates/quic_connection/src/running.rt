@@ -1,9 +1,10 @@
 //! Runs of two ends over a network: one event at a time, or a list of them.
-ghost use Rattle.std.specs.Prelude.{◌≡◌, ◌++◌, [], length, ◌≤◌, ◌<◌, vec_capacity, IfOk, OnErr, true, false};
+ghost use Rattle.std.specs.Prelude.{◌≡◌, ◌++◌, [], length, ◌≤◌, ◌<◌, vec_capacity, slice_get, IsSome, IfOk, OnErr, true, false};
+ghost use Rattle.quic_wire_core.specs.StreamId.{other_side};
 ghost use Rattle.quic_connection_core.specs.End.{policy_of, with_end};
-ghost use Rattle.quic_connection_core.specs.Machine.{IsAnswer, IsLeft, fails, gives, IsStep, view_of, end_view, Follows};
+ghost use Rattle.quic_connection_core.specs.Machine.{IsAnswer, IsLeft, fails, gives, given_by, IsStep, view_of, end_view, Follows};
 ghost use Rattle.quic_connection_core.specs.Calls.{AreNexts, after_nexts};
-ghost use Rattle.quic_connection_core.specs.Lacking.{NextsLack, LacksWhere};
+ghost use Rattle.quic_connection_core.specs.Lacking.{NextsLack, LacksWhere, TakesOfItsOwn};
 ghost use Rattle.quic_time.specs.Timers.{each_timer};
 ghost use Rattle.quic_connection_core.specs.Headline.{IsHonest, OrderedPrefix, Slices, Once, EndAfterAll, BlockedOnlyWithoutBytes, AcceptsAll, FinishedMeansArrived, TellsOnce, AcknowledgedWereTaken, LossTimersFollow, AckTimersFollow, NumbersRise};
 ghost use Rattle.quic_connection_core.specs.Duties.{DutiesStand};
@@ -70,7 +71,8 @@ pub struct Outcome<H, K, R> {
 }
 
 /// Makes the call of one event, and appends a datagram that it gives. The call answers want of memory only where it takes
-/// some. An error is want of memory of its own, with no call made and nothing changed.
+/// some. An error is want of memory of its own, with no call made and nothing changed: it takes some where it keeps a datagram
+/// that is given, the answers of a read, or a copy of what comes.
 pub fn step<H: HeaderKey + Drop, K: PacketKey + Drop, R: Rng + Drop>(
     alloc: Global,
     ends: &mut Ends<H, K, R>,
@@ -80,6 +82,7 @@ pub fn step<H: HeaderKey + Drop, K: PacketKey + Drop, R: Rng + Drop>(
     ensures step { IfOk result (λ a. IsStep (policies_of H.masks H.hides H.unmasks H.reveals K.sealed K.opened ends.old) (world_of ends.old given.old) event.now a (world_of ends.new given.new)) }
     ensures keys { policies_of H.masks H.hides H.unmasks H.reveals K.sealed K.opened ends.new ≡ policies_of H.masks H.hides H.unmasks H.reveals K.sealed K.opened ends.old }
     ensures err { OnErr result (world_of ends.new given.new ≡ world_of ends.old given.old) }
+    ensures own { OnErr result (TakesOfItsOwn (given_by (other_side event.now.side) (world_of ends.old given.old)) event.now.call) }
 {
     match event.side {
         Side::Client => at_end(
@@ -114,6 +117,7 @@ fn at_end<H: HeaderKey + Drop, K: PacketKey + Drop, R: Rng + Drop>(
     ensures keys { end.new ≡ with_end end.old end.new.end }
     ensures err { OnErr result (end.new ≡ end.old) }
     ensures err_given { OnErr result (mine.new.items ≡ mine.old.items) }
+    ensures own { OnErr result (TakesOfItsOwn theirs.now call.now) }
 {
     match call {
         Call::Open(dir) => Ok(Answer::Open(end.streams().open(*dir))),
@@ -171,6 +175,7 @@ fn deliver_at<H: HeaderKey + Drop, K: PacketKey + Drop, R: Rng + Drop>(
     ensures end { IfOk result (λ a. IsLeft (fails a) (policy_of H.masks H.hides H.unmasks H.reveals K.sealed K.opened end.old) end.old.end theirs.now (Call.Deliver delivery.entry.now) a end.new.end) }
     ensures keys { end.new ≡ with_end end.old end.new.end }
     ensures err { OnErr result (end.new ≡ end.old) }
+    ensures own { OnErr result (IsSome (slice_get theirs.now delivery.entry.now.index)) }
 {
     match theirs.get(delivery.index) {
         None => Ok(Answer::NoDatagram),

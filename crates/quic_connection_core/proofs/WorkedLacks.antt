@@ -1,5 +1,5 @@
 -- Where memory may lack at the ends of the worked run, and where it may not.
-use Rattle.std.proofs.Common.{◌≡◌, ℕ, List, [], ◌∷◌, Ok, Err, refl, inr, subst, sym}
+use Rattle.std.proofs.Common.{◌≡◌, ℕ, List, [], ◌∷◌, Ok, Err, refl, inr, subst, sym, arith}
 use Rattle.std.specs.Prelude.{alloc_error}
 use Rattle.quic_wire_core.specs.declared.stream_id.Side.TheVariants.{Client, Server}
 use Rattle.quic_wire_core.specs.declared.stream_id.Dir.TheVariants.{Bi}
@@ -27,7 +27,7 @@ pub opens : IsStep worked_policies (before_sending client_made) (record { side =
 opens = record { answer = inr refl; end = refl; others = refl; lacking = refl }
 
 pub writes : IsStep worked_policies (before_sending client_opened) (record { side = Client; call = calls.Write 0 hello }) (answers.Write (Err write_errors.Memory)) (before_sending client_opened)
-writes = record { answer = inr refl; end = refl; others = refl; lacking = λ lacks. refl }
+writes = record { answer = inr refl; end = refl; others = refl; lacking = λ lacks. omega arith }
 
 -- a read whose one `next` lacks memory, and which leaves the end as it was
 record ReadsNone (id : ℕ) (mosts : List ℕ) : Type 0 where
@@ -45,11 +45,11 @@ reads read e f =
 
 pub gives : IsStep worked_policies (before_sending client_ended) (record { side = Client; call = calls.Poll 0 }) (answers.Poll (Err (record {}))) (before_sending (failed_end client_ended))
 unfolding stream_spelling without_offsets parts_from pieces
-gives = record { answer = inr refl; end = (refl, refl); others = refl; lacking = tt }
+gives = record { answer = inr refl; end = (refl, refl, λ failed. cc, λ served. refl); others = refl; lacking = tt }
 
 pub takes : IsStep worked_policies (after_sending server_made) delivers (answers.Deliver receives.Failed) (after_sending (failed_end server_made))
 unfolding items items_within frame_at body_at kind_of stream_at offset_at data_at sized_at block_at
-takes = record { answer = inr refl; end = (refl, refl); others = refl; lacking = tt }
+takes = record { answer = inr refl; end = (refl, refl, λ failed. cc, λ served. refl); others = refl; lacking = tt }
 
 -- ---- where it may not
 
@@ -57,10 +57,14 @@ pub not_opens : (next : World) → IsStep worked_policies (before_sending client
 not_opens next step = let room = step.lacking in cc
 
 pub not_closed : (next : World) → IsStep worked_policies (before_sending client_ended) (record { side = Client; call = calls.Write 0 hello }) (answers.Write (Err write_errors.Memory)) next → ⊥
-not_closed next step = let accepted = step.lacking refl in cc
+not_closed next step = step.lacking refl
 
 pub not_blocked : (next : World) → IsStep worked_policies (before_sending (within 0 client_opened)) (record { side = Client; call = calls.Write 0 hello }) (answers.Write (Err write_errors.Memory)) next → ⊥
-not_blocked next step = let accepted = step.lacking refl in cc
+not_blocked next step = step.lacking refl
+
+-- a write of no bytes takes none
+pub not_empty : (next : World) → IsStep worked_policies (before_sending client_opened) (record { side = Client; call = calls.Write 0 [] }) (answers.Write (Err write_errors.Memory)) next → ⊥
+not_empty next step = let accepted = step.lacking refl in omega (arith, accepted)
 
 pub not_begins : (read : ReadCall) (next : World) → IsStep worked_policies (after_sending server_took) (record { side = Server; call = calls.Read read }) (answers.Read (Err readable_errors.Memory)) next → ⊥
 not_begins read next step = step.lacking refl
@@ -81,3 +85,9 @@ not_idle next step = step.lacking
 
 pub not_again : (next : World) → IsStep worked_policies (after_sending server_took) delivers (answers.Deliver receives.Failed) next → ⊥
 not_again next step = step.lacking
+
+-- ---- an end that had failed
+
+-- stays as it is
+pub not_pinging : (next : World) → IsStep worked_policies (before_sending (failed_end client_ended)) (record { side = Client; call = calls.Timeout 0 }) (answers.Timeout (Err (record {}))) next → next.client ≡ failed_end client_ended
+not_pinging next step = step.end.2 refl

@@ -1,5 +1,5 @@
 -- Where a call may lack memory.
-use Rattle.std.specs.Prelude.{ℕ, ◌≡◌, ◌≢◌, true, List, ◌∷◌, length, slice_get, Option, Some, None, Result, Ok, Err, IsOk}
+use Rattle.std.specs.Prelude.{ℕ, ◌≡◌, ◌≢◌, ◌<◌, true, List, ◌∷◌, length, slice_get, Option, Some, None, IsSome, Result, Ok, Err}
 use Rattle.quic_streams_core.specs.Arrived.{cuts}
 use Rattle.quic_streams_core.specs.declared.connection.assembler.Chunk.{Chunk}
 use Rattle.quic_connection_core.specs.declared.answers.Failed.{Failed}
@@ -34,6 +34,11 @@ TakesFrames (receives.Closed error) = Unit {0}
 TakesFrames (receives.Dropped reason) = ⊥
 TakesFrames receives.Failed = ⊥
 
+-- bytes are accepted
+abbrev pub TakesBytes : {E : Type 0} → Result ℕ E → Type 0
+TakesBytes (Ok n) = 0 < n
+TakesBytes (Err error) = ⊥
+
 -- a datagram is given, or the end had failed before
 abbrev pub GivesOrHasFailed : Result (Option Transmit) Failed → Type 0
 GivesOrHasFailed (Ok (Some transmit)) = Unit {0}
@@ -54,9 +59,18 @@ DeliveryTakes p e now (Some d) = TakesFrames (received p e now d).answer
 -- would be given, or frames are taken. To begin a read takes none
 abbrev pub LacksWhere : Policy → End → List (List ℕ) → Call → Answer → Type 0
 LacksWhere p e theirs (calls.Open dir) (answers.Open (Err x)) = can_open e.closing.state dir e ≡ true
-LacksWhere p e theirs (calls.Write id bytes) (answers.Write answer) = answer ≡ Err write_errors.Memory → IsOk (end_writes e id (length bytes))
+LacksWhere p e theirs (calls.Write id bytes) (answers.Write answer) = answer ≡ Err write_errors.Memory → TakesBytes (end_writes e id (length bytes))
 LacksWhere p e theirs (calls.Read read) (answers.Read (Ok nexts)) = NextsLack e read.id read.nexts.items nexts
 LacksWhere p e theirs (calls.Read read) (answers.Read (Err error)) = error ≢ readable_errors.Memory
 LacksWhere p e theirs (calls.Poll now) (answers.Poll (Err x)) = GivesOrHasFailed (polled p e now).answer
 LacksWhere p e theirs (calls.Deliver delivery) (answers.Deliver receives.Failed) = DeliveryTakes p e delivery.now (slice_get theirs delivery.index)
 LacksWhere p e theirs call a = Unit {0}
+
+-- a call for which a run takes memory of its own, before it makes it: a datagram that is given is kept, what comes is copied, and so are the answers of a
+-- read
+abbrev pub TakesOfItsOwn : List (List ℕ) → Call → Type 0
+TakesOfItsOwn theirs (calls.Read read) = Unit {0}
+TakesOfItsOwn theirs (calls.Poll now) = Unit {0}
+TakesOfItsOwn theirs (calls.Deliver delivery) = IsSome (slice_get theirs delivery.index)
+TakesOfItsOwn theirs (calls.Inject injection) = Unit {0}
+TakesOfItsOwn theirs call = ⊥

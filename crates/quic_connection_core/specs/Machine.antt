@@ -1,5 +1,5 @@
 -- The machine of two ends over a network: what each event is answered, and what it leaves.
-use Rattle.std.specs.Prelude.{ℕ, ◌≡◌, ◌⊎◌, Bool, true, false, List, [], ◌∷◌, ◌++◌, length, slice_get, Option, Some, None, Ok, Err, alloc_error}
+use Rattle.std.specs.Prelude.{ℕ, ◌≡◌, ◌≢◌, ◌⊎◌, Bool, true, false, List, [], ◌∷◌, ◌++◌, length, slice_get, Option, Some, None, Ok, Err, alloc_error}
 use Rattle.std.specs.Option.{option_to_list}
 use Rattle.quic_wire_core.specs.declared.stream_id.Side.{Side}
 use Rattle.quic_wire_core.specs.declared.stream_id.Side.TheVariants.{Client, Server}
@@ -19,7 +19,7 @@ use Rattle.quic_connection_core.specs.Policy.{Policy}
 use Rattle.quic_connection_core.specs.End.{End}
 use Rattle.quic_connection_core.specs.Sending.{finish_answer}
 use Rattle.quic_connection_core.specs.Receiving.{read_answer}
-use Rattle.quic_time.specs.Timers.{timer_at, each_timer, next_timer}
+use Rattle.quic_time.specs.Timers.{no_timers, timer_at, each_timer, next_timer}
 use Rattle.quic_connection_core.specs.Opens.{would_open}
 use Rattle.quic_connection_core.specs.Timeouts.{timed_out}
 use Rattle.quic_connection_core.specs.Calls.{end_tells, end_after_event, open_answer, after_open, end_accepts, end_after_accept, end_writes, end_after_write, end_after_finish, end_after_ping, AreNexts, after_nexts}
@@ -98,9 +98,13 @@ fails (answers.Timeout (Err failed)) = true
 fails (answers.Deliver receives.Failed) = true
 fails a = false
 
--- the end that a call leaves: of one that failed, only that it has
+-- an end fails at a call, and has no timer then; or it had failed before, and nothing has changed
+abbrev pub HasStopped : End → End → Type 0
+HasStopped e next = (next.closing.state ≡ states.Failed) × (next.closing.reason ≡ None) × (e.closing.state ≡ states.Failed → next ≡ e) × (e.closing.state ≢ states.Failed → next.timers ≡ no_timers)
+
+-- the end that a call leaves
 abbrev pub IsLeft : Bool → Policy → End → List (List ℕ) → Call → Answer → End → Type 0
-IsLeft true p e theirs call a next = (next.closing.state ≡ states.Failed) × (next.closing.reason ≡ None)
+IsLeft true p e theirs call a next = HasStopped e next
 IsLeft false p e theirs call a next = next ≡ after_call p e theirs call a
 
 -- ---- two ends

@@ -19,7 +19,7 @@ ghost use Rattle.quic_connection_core.specs.Runs.{until, written, reads, bytes_o
 ghost use Rattle.quic_connection_core.specs.Duties.{DutiesStand};
 ghost use Rattle.quic_connection_core.specs.InFlight.{in_flight, TracksInFlight};
 ghost use Rattle.quic_connection_core.specs.Headline.{OrderedPrefix, Slices, Once, EndAfterAll, BlockedOnlyWithoutBytes, AcceptsAll, FinishedMeansArrived, TellsOnce, AcknowledgedWereTaken, LossTimersFollow, AckTimersFollow, NumbersRise};
-ghost use Rattle.quic_connection_core.specs.Worked.{hello, hello_frame, worked_policies, worked_events, client_made, client_opened, client_ended, server_made, server_took, within, delivers, before_sending, after_sending, run_with, carrying};
+ghost use Rattle.quic_connection_core.specs.Worked.{hello, hello_frame, worked_policies, worked_events, client_made, client_opened, client_ended, server_made, server_took, failed_end, within, delivers, before_sending, after_sending, run_with, carrying};
 ghost use Rattle.quic_connection_core.specs.Broken.{hellp, changed_byte, repeated_bytes, unwritten_byte, early_end, unwritten_end, taken_twice, never_taken, blocked_read, never_accepted, early_finish, all_told, told_twice, never_told, early_acknowledgement, never_timed, still_timed, sending_run, answered_run, forgotten, empty_datagram, repeated_number, all_nexts};
 
 /// A read that changes a byte gives no prefix of what was written, and no slice of it.
@@ -144,14 +144,20 @@ pub fn never_taken_shows()
     ensures unread { IsRead server_made 0 (32 ∷ 32 ∷ []) (answers.Read (Ok all_nexts)) → ⊥ }
 {}
 
-/// No call lacks memory that takes none: no open without room, no write that is refused, no read that begins, no `next` that
+/// No call lacks memory that takes none: no open without room, no write that is refused or has no byte, no read that begins, no `next` that
 /// gives all of a piece, no poll where nothing waits, and no delivery of a datagram that is dropped.
 pub fn needless_lack_shows()
     ensures open { (next : World) → IsStep worked_policies (before_sending client_opened) (record { side = Client; call = calls.Open Bi }) (answers.Open (Err alloc_error)) next → ⊥ }
     ensures closed_write { (next : World) → IsStep worked_policies (before_sending client_ended) (record { side = Client; call = calls.Write 0 hello }) (answers.Write (Err write_errors.Memory)) next → ⊥ }
     ensures blocked_write { (next : World) → IsStep worked_policies (before_sending (within 0 client_opened)) (record { side = Client; call = calls.Write 0 hello }) (answers.Write (Err write_errors.Memory)) next → ⊥ }
+    ensures empty_write { (next : World) → IsStep worked_policies (before_sending client_opened) (record { side = Client; call = calls.Write 0 [] }) (answers.Write (Err write_errors.Memory)) next → ⊥ }
     ensures read { (read : ReadCall) (next : World) → IsStep worked_policies (after_sending server_took) (record { side = Server; call = calls.Read read }) (answers.Read (Err readable_errors.Memory)) next → ⊥ }
     ensures next { (read : ReadCall) (next : World) → read.id ≡ 0 → read.nexts.items ≡ 32 ∷ [] → IsStep worked_policies (after_sending server_took) (record { side = Server; call = calls.Read read }) (answers.Read (Ok (Err read_errors.Memory ∷ []))) next → ⊥ }
     ensures poll { (next : World) → IsStep worked_policies (after_sending server_made) (record { side = Client; call = calls.Poll 0 }) (answers.Poll (Err (record {}))) next → ⊥ }
     ensures deliver { (next : World) → IsStep worked_policies (after_sending server_took) delivers (answers.Deliver receives.Failed) next → ⊥ }
+{}
+
+/// A call at an end that had failed leaves it as it is.
+pub fn changed_failure_shows()
+    ensures { (next : World) → IsStep worked_policies (before_sending (failed_end client_ended)) (record { side = Client; call = calls.Timeout 0 }) (answers.Timeout (Err (record {}))) next → next.client ≡ failed_end client_ended }
 {}

@@ -1,8 +1,9 @@
 -- What the next frame of a half says, and the halves behind it.
-use Rattle.std.specs.Prelude.{ℕ, ◌^◌, ◌<◌, ◌≤◌, List, [], Option, Some, None}
+use Rattle.std.specs.Prelude.{ℕ, ◌^◌, ◌<◌, ◌≤◌, min, List, [], Option, Some, None}
 use Rattle.quic_wire.specs.Value.{StreamValue}
 use Rattle.quic_wire.specs.Writing.{stream_spelling}
 use Rattle.quic_streams_core.specs.Buffered.{next_start, sent_end, writes_length}
+use Rattle.quic_streams_core.specs.declared.stream_meta.StreamMeta.{StreamMeta}
 use Rattle.quic_connection_core.specs.Sending.{SendHalf, written_on}
 use Rattle.quic_connection_core.specs.Poll.{frame_of, reaches_end, half_after}
 use Rattle.quic_connection_core.specs.Table.{Table, put}
@@ -37,3 +38,8 @@ half_bytes (Some h) id room = stream_spelling (writes_length h.buffer room) (fra
 abbrev pub half_frame : Option SendHalf → ℕ → ℕ → Option StreamValue
 half_frame None id room = None
 half_frame (Some h) id room = Some (frame_of id h room)
+
+-- some of what a frame carries was sent on a half that is there
+abbrev pub HasSent : Option SendHalf → StreamMeta → Type 0
+HasSent None frame = ⊥
+HasSent (Some h) frame = frame.offsets.start < min frame.offsets.end h.buffer.unsent

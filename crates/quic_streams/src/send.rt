@@ -1,11 +1,11 @@
 //! What was written on one stream.
-ghost use Rattle.std.specs.Prelude.{◌≡◌, ◌+◌, ◌≤◌, ◌-◌, ◌++◌, length, OnOk, OnErr, vec_len, vec_capacity};
+ghost use Rattle.std.specs.Prelude.{◌≡◌, ◌+◌, ◌<◌, ◌≤◌, ◌-◌, ◌++◌, length, Some, OnOk, OnErr, vec_len, vec_capacity};
 ghost use Rattle.quic_wire.specs.Writing.{stream_spelling, width_of};
 ghost use Rattle.quic_streams_core.specs.Buffered.{writes_length};
 ghost use Rattle.quic_connection_core.specs.Sending.{new_half, written_on, has_pending, grown, ended, is_acked, half_acked, half_lost};
 ghost use Rattle.quic_connection_core.specs.Poll.{frame_of, half_after};
 ghost use Rattle.quic_connection_core.specs.Tracking.{meta_of};
-ghost use Rattle.quic_streams.specs.Frames.{frame_meta, HasFrame};
+ghost use Rattle.quic_streams.specs.Frames.{frame_meta, HasFrame, HasSent};
 
 use quic_streams_core::{SendBuffer, StreamMeta};
 use quic_wire::frame::{Stream, put_stream_header};
@@ -79,6 +79,7 @@ impl Send {
         requires { length bytes.now ≤ self.old.limit - written_on self.old }
         ensures ok { OnOk result (self.new ≡ grown self.old bytes.now) }
         ensures err { OnErr result (self.new ≡ self.old) }
+        ensures lacking { OnErr result (0 < length bytes.now) }
     {
         let _bounds = (self.pending.offset(), self.max_data.into_inner());
         self.pending.write(bytes)
@@ -118,6 +119,7 @@ impl Send {
     pub(crate) fn ack(&mut self, frame: &StreamMeta) -> Result<(), AllocError>
         ensures ok { OnOk result (self.new ≡ half_acked self.old frame.now) }
         ensures err { OnErr result (self.new ≡ self.old) }
+        ensures lacking { OnErr result (HasSent (Some self.old) frame.now) }
     {
         self.pending.ack(frame.offsets.start..frame.offsets.end)?;
         self.fin_pending = self.fin_pending && !frame.fin;
@@ -130,6 +132,7 @@ impl Send {
     pub(crate) fn retransmit(&mut self, frame: &StreamMeta) -> Result<(), AllocError>
         ensures ok { OnOk result (self.new ≡ half_lost self.old frame.now) }
         ensures err { OnErr result (self.new ≡ self.old) }
+        ensures lacking { OnErr result (HasSent (Some self.old) frame.now) }
     {
         self.pending
             .retransmit(frame.offsets.start..frame.offsets.end)?;

@@ -1,5 +1,5 @@
 //! What is sent on the streams of one end.
-ghost use Rattle.std.specs.Prelude.{◌≡◌, ◌≢◌, ◌<◌, ◌≤◌, ◌-◌, ◌+◌, ◌++◌, [], length, IsSome, IfSome, IfOk, IsOk, OnOk, OnErr, Ok, Err, Some, None, true, false, vec_len, vec_capacity};
+ghost use Rattle.std.specs.Prelude.{◌≡◌, ◌≢◌, ◌<◌, ◌≤◌, ◌-◌, ◌+◌, ◌++◌, [], length, IsSome, IfSome, IfOk, OnOk, OnErr, Ok, Err, Some, None, true, false, vec_len, vec_capacity};
 ghost use Rattle.std.specs.Option.{option_copied, option_map};
 ghost use Rattle.quic_parameters.specs.Parameters.{AreInRange};
 ghost use Rattle.quic_wire.specs.Writing.{stream_spelling, width_of};
@@ -7,10 +7,11 @@ ghost use Rattle.quic_streams_core.specs.Buffered.{writes_length};
 ghost use Rattle.quic_wire_core.specs.declared.stream_id.Dir.TheVariants as dirs;
 ghost use Rattle.quic_connection_core.specs.Table.{at};
 ghost use Rattle.quic_connection_core.specs.Sending.{Sending, written_on, room, opened_of, count_of, may_open, opens, next_id, first_limit, after_open, taken_by, written_to, write_answer, grown_at, after_written, finish_answer, after_finish, after_stream_acked, after_stream_lost, finishes};
+ghost use Rattle.quic_connection_core.specs.Lacking.{TakesBytes};
 ghost use Rattle.quic_connection_core.specs.Poll.{first_pending, frame_of};
 ghost use Rattle.quic_connection_core.specs.Tracking.{meta_of};
 ghost use Rattle.quic_connection_core.specs.declared.answers.WriteError.TheVariants as write_errors;
-ghost use Rattle.quic_streams.specs.Frames.{polled_at, half_frame};
+ghost use Rattle.quic_streams.specs.Frames.{polled_at, half_frame, HasSent};
 ghost use Rattle.quic_streams.specs.Bounds.{IsLast};
 ghost use Rattle.quic_streams.specs.Halves.{is_closed};
 
@@ -215,13 +216,14 @@ impl Sending {
         }
     }
 
-    // Bytes go behind those that were written on a stream. An `Err` (want of memory) takes none.
+    // Bytes go behind those that were written on a stream. An `Err` (want of memory) takes none; without a byte there is none.
     fn grow(&mut self, id: StreamId, bytes: &[u8]) -> Result<(), AllocError>
         requires found { IsSome (at self.old.halves id) }
         requires half { IfSome (at self.old.halves id) (λ h. length bytes.now ≤ h.limit - written_on h) }
         requires room { length bytes.now ≤ room self.old }
         ensures ok { OnOk result (self.new ≡ record self.old { halves = grown_at (at self.old.halves id) self.old.halves id bytes.now; accepted = self.old.accepted + length bytes.now }) }
         ensures err { OnErr result (self.new ≡ self.old) }
+        ensures lacking { OnErr result (0 < length bytes.now) }
     {
         let Some(half) = self.halves.get_mut(&u64::from(id)) else {
             return Ok(());
@@ -236,11 +238,11 @@ impl Sending {
     /// `SendStream::write`).
     ///
     /// [`WriteError::Blocked`] where the end isn't open, or a limit leaves no room; [`WriteError::ClosedStream`] where there is
-    /// no such stream, or it is finished; [`WriteError::Memory`] where memory lacked. An error changes nothing.
+    /// no such stream, or it is finished; [`WriteError::Memory`] where bytes would be taken and memory lacked. An error changes nothing.
     pub fn write(&mut self, is_open: bool, id: StreamId, bytes: &[u8]) -> Result<usize, WriteError>
         ensures answer { result ≢ Err write_errors.Memory → result ≡ write_answer is_open self.old id (length bytes.now) }
         ensures new { self.new ≡ after_written result self.old id bytes.now }
-        ensures lacking { result ≡ Err write_errors.Memory → IsOk (write_answer is_open self.old id (length bytes.now)) }
+        ensures lacking { result ≡ Err write_errors.Memory → TakesBytes (write_answer is_open self.old id (length bytes.now)) }
     {
         if !is_open {
             return Err(WriteError::Blocked);
@@ -324,11 +326,12 @@ impl Sending {
     }
 
     /// A frame was acknowledged: whether all of its stream is acknowledged now, its end too, that wasn't before (quinn-proto's
-    /// `StreamsState::received_ack_of`). An `Err` (want of memory) changes nothing.
+    /// `StreamsState::received_ack_of`). An `Err` (want of memory, where some of it was sent) changes nothing.
     pub fn received_ack_of(&mut self, frame: &StreamMeta) -> Result<bool, AllocError>
         ensures answer { IfOk result (λ done. done ≡ finishes self.old frame.now) }
         ensures ok { OnOk result (self.new ≡ after_stream_acked self.old frame.now) }
         ensures err { OnErr result (self.new ≡ self.old) }
+        ensures lacking { OnErr result (HasSent (at self.old.halves frame.now.id) frame.now) }
     {
         let Some(half) = self.halves.get_mut(&u64::from(frame.id)) else {
             return Ok(false);
@@ -341,10 +344,11 @@ impl Sending {
     }
 
     /// A frame was lost: what isn't acknowledged of it goes again (RFC 9000, section 13.3; quinn-proto's
-    /// `StreamsState::retransmit`). An `Err` (want of memory) changes nothing.
+    /// `StreamsState::retransmit`). An `Err` (want of memory, where some of it was sent) changes nothing.
     pub fn retransmit(&mut self, frame: &StreamMeta) -> Result<(), AllocError>
         ensures ok { OnOk result (self.new ≡ after_stream_lost self.old frame.now) }
         ensures err { OnErr result (self.new ≡ self.old) }
+        ensures lacking { OnErr result (HasSent (at self.old.halves frame.now.id) frame.now) }
     {
         let Some(half) = self.halves.get_mut(&u64::from(frame.id)) else {
             return Ok(());

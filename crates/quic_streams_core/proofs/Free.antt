@@ -116,10 +116,6 @@ free_apart low at below (x ∷ gs) ps bs g h m s =
 or_or_none : (x y : Option ℕ) → option_or (option_or x y) None ≡ option_or x y
 or_or_none x y = or_none (option_or x y)
 
-none_if : (b : Bool) → cond {A = Option ℕ} b None None ≡ None
-none_if true = refl
-none_if false = refl
-
 -- no run holds an offset below the first
 pub in_below : (low o : ℕ) (gs : List Span) → AreSpans low gs → o < low → in_spans gs o ≡ false
 in_below low o [] h l = refl

@@ -136,7 +136,7 @@ in_front_length p (q ∷ qs) e = go (start q == p.0) refl
     go true f = e
     go false f = rw f (omega arith)
 
-joined_length : (ps : List Part) → length (joined ps) ≡ runs_of (joined ps)
+pub joined_length : (ps : List Part) → length (joined ps) ≡ runs_of (joined ps)
 joined_length [] = refl
 joined_length (p ∷ ps) = in_front_length p (joined ps) (joined_length ps)
 

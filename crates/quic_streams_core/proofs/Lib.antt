@@ -23,6 +23,7 @@ pub mod Kept
 pub mod KeptWrites
 pub mod Joining
 pub mod Extent
+pub mod Copying
 pub mod Begins
 pub mod Inserted
 pub mod Taken

@@ -180,9 +180,6 @@ without_all_is (o ∷ others) rs k =
       λ x. rest.1 (first.1 (x.0, λ w. x.1 (inl w)), λ w. x.1 (inr w)),
     )
 
-span_runs : (a z : ℕ) → AreRuns (span a z)
-span_runs a z = elim (cases_lt a z) [ inl lt ↦ rw (lt-ltb a z lt) (omega arith, lt, tt) | inr le ↦ rw (le-ltb a z le) tt ]
-
 span_is : (a z k : ℕ) → Has (span a z) k ↔ ((a ≤ k) × (k < z))
 span_is a z k = elim (cases_lt a z) [
   | inl lt ↦ rw (lt-ltb a z lt) (λ h. elim h [ inl i ↦ i | inr i ↦ absurd i ], λ h. inl h)

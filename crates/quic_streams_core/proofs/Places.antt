@@ -27,10 +27,6 @@ within_min a z u o = same_test (is_within a (min z u) o) (is_within a z o && ltb
     (λ h. let p = within_is a (min z u) o h in and_from (is_within a z o) (ltb o u) (within_from a z o p.0 (omega (arith, p.1))) (lt-ltb o u (omega (arith, p.1))))
     (λ h. let p = and_parts (is_within a z o) (ltb o u) h in let w = within_is a z o p.0 in let lt = ltb-true o u p.1 in within_from a (min z u) o w.0 (omega (arith, w.1, lt)))
 
-and_is : (x y : Bool) → x ≡ true → (x && y) ≡ y
-and_is true y e = refl
-and_is false y e = absurd (both_ways false refl e)
-
 and_true : (x : Bool) → (x && true) ≡ x
 and_true true = refl
 and_true false = refl

@@ -159,16 +159,6 @@ gap_fits : (at n : ℕ) (o : Option Part) → Fits (at + n) o → n ≡ gap_at a
 gap_fits at n None f = refl
 gap_fits at n (Some x) f = omega arith
 
--- a part put into a gap is an insert of its bytes
-pub filled_is : (low at : ℕ) (ps : List Part) (bs : List ℕ) → AreApart low ps → 0 < length bs → Fits (at + length bs) (after at ps) → with_gaps ps at bs ≡ insert_entry nat_cmp ps (at + length bs) bs
-filled_is low at ps bs h l f =
-    let all : take (length bs) bs ≡ bs = take_all (length bs) bs (omega arith) in
-    let none : drop (length bs) bs ≡ [] = drop_all (length bs) bs (omega arith) in
-    fills low at (length bs) ps bs h l (gap_fits at (length bs) (after at ps) f)
-    ∙ ap (λ r. with_gaps (insert_entry nat_cmp ps (at + length bs) (take (length bs) bs)) (at + length bs) r) none
-    ∙ none_left (insert_entry nat_cmp ps (at + length bs) (take (length bs) bs)) (at + length bs)
-    ∙ ap (λ r. insert_entry nat_cmp ps (at + length bs) r) all
-
 -- a gap that is filled with the first n bytes, as the call says it
 pub put_gaps : (low at len n : ℕ) (a ps ns : List Part) (bs : List ℕ) (held : Bool) → ps ≡ a → AreApart low ps → 0 < length bs → held ≡ is_held at (after at ps) → held ≡ false → n ≡ cond held (held_at at len (after at ps)) (gap_at at len (after at ps)) → len ≡ length bs → ns ≡ insert_entry nat_cmp a (at + length (take n bs)) (take n bs) → with_gaps ps at bs ≡ with_gaps ns (at + n) (drop n bs)
 put_gaps low at len n a ps ns bs held seen h l b t e v is =

@@ -2,10 +2,11 @@
 ghost use Rattle.std.specs.Prelude.{◌≡◌, ℕ, ◌+◌, ◌<◌, ◌≤◌, ◌^◌, ◌-◌, ◌*◌, ◌/◌, List, Bool, ◌||◌, [], None, Some, true, false, cond, ltb, max, length, count_by, sum_by, All, IfSome, IsSome, is_some, Option};
 ghost use Rattle.std.specs.List.{slice_get};
 ghost use Rattle.std.specs.Option.{option_or};
-ghost use Rattle.quic_streams_core.specs.Arrived.{Arrived, Part, IsLawful, runs_of, extent, begins_run, count_to, byte_from, byte_at, holds, is_given, after_insert, given_in, given_by, after_read, after_ordering, in_chunk, length_of, bytes_read_of};
+ghost use Rattle.quic_streams_core.specs.Arrived.{Arrived, Part, IsLawful, runs_of, extent, is_crowded, joined, begins_run, count_to, byte_from, byte_at, holds, is_given, after_insert, given_in, given_by, after_read, after_ordering, in_chunk, length_of, bytes_read_of};
 ghost use Rattle.quic_streams_core.specs.Waiting.{IsInserted, IsChunk, IsRead, IsLeft};
 ghost use Rattle.quic_streams_core.specs.declared.connection.assembler.Chunk.{Chunk};
-ghost use Rattle.quic_streams_core.specs.declared.connection.assembler.parts.TheConstants.{MOST_PARTS, SHORT_PART};
+ghost use Rattle.quic_streams_core.specs.declared.connection.assembler.TheConstants.{MOST_PIECES};
+ghost use Rattle.quic_streams_core.specs.KeptBytes.{bytes_of};
 ghost use Rattle.quic_streams_core.specs.ArrivedHistory.{Call, AreInRange, arrived_after, given_over, was_given, byte_in, first_came, Came};
 
 pub mod bytes_source;
@@ -40,7 +41,17 @@ pub fn insertion_is_one()
 /// No more than 2048 parts are kept, or two for each run, or one for each 64 offsets from the
 /// first that waits to the last.
 pub fn few_parts_are_kept()
-    ensures { (a : Arrived) (offset : ℕ) (bytes : List ℕ) (ps : List Part) → IsLawful a → offset + length bytes < 2 ^ 62 → ps ≡ (after_insert a offset bytes).parts → length ps ≤ max (max MOST_PARTS (2 * runs_of ps)) (extent ps / SHORT_PART) }
+    ensures { (a : Arrived) (offset : ℕ) (bytes : List ℕ) (ps : List Part) → IsLawful a → offset + length bytes < 2 ^ 62 → ps ≡ (after_insert a offset bytes).parts → length ps ≤ max (max 2048 (2 * runs_of ps)) (extent ps / 64) }
+{}
+
+/// Where parts are joined, all of them together have no more than 128 bytes for each part that goes.
+pub fn joins_copy_little()
+    ensures { (a : Arrived) → IsLawful a → is_crowded a.parts ≡ true → length (bytes_of a.parts) ≤ 128 * (length a.parts - length (joined a.parts)) }
+{}
+
+/// 2048 runs of a stream should wait at most (RFC 9000, 21.7).
+pub fn few_runs_should_wait()
+    ensures { MOST_PIECES ≡ 2048 }
 {}
 
 /// A read gives bytes that waited, from one offset on: an ordered one from where the stream is read

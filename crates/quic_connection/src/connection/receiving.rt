@@ -94,6 +94,7 @@ impl<H: HeaderKey + Drop, K: PacketKey + Drop, R: Rng + Drop> Connection<H, K, R
         ensures answer { result ≢ Received.Failed → result ≡ (received (policy_of H.masks H.hides H.unmasks H.reveals K.sealed K.opened self.old) self.old.end now datagram.old).answer }
         ensures end { result ≢ Received.Failed → self.new ≡ with_end self.old (received (policy_of H.masks H.hides H.unmasks H.reveals K.sealed K.opened self.old) self.old.end now datagram.old).end }
         ensures failed { result ≡ Received.Failed → HasFailed self.old self.new }
+        ensures before { result ≡ Received.Failed → self.old.end.closing.state ≢ State.Failed }
         ensures stopped { result ≡ Received.Failed → self.new.end.timers ≡ no_timers }
         ensures lacking { result ≡ Received.Failed → TakesFrames (received (policy_of H.masks H.hides H.unmasks H.reveals K.sealed K.opened self.old) self.old.end now datagram.old).answer }
     {

@@ -22,6 +22,8 @@ impl<H: HeaderKey + Drop, K: PacketKey + Drop, R: Rng + Drop> Connection<H, K, R
         ensures answer { result ≡ (timed_out self.old.end now).answer }
         ensures end { self.new ≡ with_end self.old (timed_out self.old.end now).end }
         ensures failed { OnErr result (HasFailed self.old self.new) }
+        ensures before { OnErr result (self.old.end.closing.state ≡ State.Failed) }
+        ensures still { self.old.end.closing.state ≡ State.Failed → self.new ≡ self.old }
     {
         match self.state() {
             State::Failed => return Err(Failed),

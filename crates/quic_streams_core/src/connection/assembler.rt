@@ -199,6 +199,7 @@ impl Assembler {
         ensures ok { IfOk result (λ chunk. chunk ≡ given_in true self.old max) }
         ensures new { OnOk result (self.new ≡ after_read_in true self.old max) }
         ensures err { OnErr result (self.new ≡ self.old) }
+        ensures some { OnErr result (is_next_in true self.old ≡ true) }
     {
         match self.parts.front(max)? {
             Some(chunk) => {
@@ -220,8 +221,8 @@ impl Assembler {
     ///
     /// # Errors
     ///
-    /// [`AllocError`] where memory lacks; nothing changed. An ordered read fails only where it
-    /// cuts a part.
+    /// [`AllocError`] where memory lacks; nothing changed. An ordered read fails only where it cuts a part, and an unordered
+    /// one only where a byte waits.
     pub fn read(&mut self, max: usize) -> Result<Option<Chunk>, AllocError>
         ensures ok { IfOk result (λ chunk. chunk ≡ given_by self.old max) }
         ensures new { OnOk result (self.new ≡ after_read self.old max) }
@@ -229,6 +230,7 @@ impl Assembler {
         ensures chunk { IfOk result (λ chunk. IsRead self.old max chunk) }
         ensures taken { IfOk result (λ chunk. IsLeft self.old chunk self.new) }
         ensures whole { self.old.unordered ≡ false → cuts self.old.parts self.old.read max ≡ false → IsOk result }
+        ensures some { self.old.unordered ≡ true → OnErr result (is_next_in true self.old ≡ true) }
     {
         if self.is_unordered() {
             self.read_any(max)

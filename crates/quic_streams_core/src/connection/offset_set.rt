@@ -19,8 +19,8 @@ use std::ops::Range;
 /// A set of offsets of a stream. Contracts see the list of its maximal runs.
 #[derive(Drop)]
 pub(crate) struct OffsetSet {
-    // Runs are joined by the call that makes them touch. They are left apart only where one was cut in two, and memory lacked
-    // then.
+    // Runs are joined by the call that makes them touch, and one that was cut in two before memory lacked is joined again. The
+    // invariant lets runs touch all the same: contracts see them joined.
     map: BTreeMap<u64, u64>,
     alloc: Global,
 }

@@ -1,5 +1,5 @@
 // The parts of a stream that wait to be read.
-ghost use Rattle.std.specs.Prelude.{◌≡◌, cond, drop, ◌+◌, ◌<◌, ◌≤◌, ◌∷◌, ◌^◌, length, [], take, false, None, IfOk, IsOk, OnOk, OnErr, is_some};
+ghost use Rattle.std.specs.Prelude.{◌≡◌, cond, drop, ◌+◌, ◌<◌, ◌≤◌, ◌∷◌, ◌^◌, length, [], take, true, false, None, IfOk, IsOk, OnOk, OnErr, is_some};
 ghost use Rattle.std.specs.Option.{option_map};
 ghost use Rattle.std.specs.Map.{lookup, remove_entry};
 ghost use Rattle.std.specs.BTreeMap.{insert_entry, is_at};
@@ -509,7 +509,8 @@ impl Parts {
     ///
     /// [`AllocError`] where memory lacks.
     pub(crate) fn front(&self, max: usize) -> Result<Option<Chunk>, AllocError>
-        ensures { IfOk result (λ chunk. chunk ≡ first_given self.now max) }
+        ensures ok { IfOk result (λ chunk. chunk ≡ first_given self.now max) }
+        ensures some { OnErr result (is_some_part self.now ≡ true) }
     {
         match self.map.first_key_value() {
             Some((end, bytes)) => {

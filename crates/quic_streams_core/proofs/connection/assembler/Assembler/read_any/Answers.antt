@@ -6,7 +6,7 @@ use Rattle.quic_streams_core.proofs.connection.assembler.Assembler.read_any.Goal
 
 pub add-requires : goal.add-requires
 add-requires c =
-    let k = chunk_small c.self.inside.read c.args.max c.self.inside.parts c.in-Some.chunk c.self.invariant.lawful.apart (sym c.in-Some.is ∙ c.in_ok-chunk.ensures) in
+    let k = chunk_small c.self.inside.read c.args.max c.self.inside.parts c.in-Some.chunk c.self.invariant.lawful.apart (sym c.in-Some.is ∙ c.in_ok-chunk.ensures.ok) in
     let l = c.len-len.ensures.value in
     omega arith
 
@@ -23,7 +23,7 @@ invariant_of-self-in-Some c =
     let i = c.self.inside in
     let chunk = c.in-Some.chunk in
     let u = ap (λ (a : Arrived). a.unordered) c.self.view_is ∙ c.requires in
-    let e = sym c.in-Some.is ∙ c.in_ok-chunk.ensures in
+    let e = sym c.in-Some.is ∙ c.in_ok-chunk.ensures.ok in
     let l = c.len-len.ensures.value in
     let added = c.in_ok-add-in-Some.ensures.ok ∙ ap (λ (n : ℕ). with_run chunk.offset n i.picked.entries) l in
     record {
