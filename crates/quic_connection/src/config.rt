@@ -75,8 +75,9 @@ impl Config {
         }
     }
 
-    /// The transport parameters that the peer is told, as bytes (RFC 9000, section 18), in this order of their places:
-    /// what the peer reads of them are these settings. An error is want of memory.
+    /// The transport parameters that the peer is told, as bytes (RFC 9000, section 18), in this order of their places, which
+    /// has each of 0 to 12 once (`TransportParameters::write`): what the peer reads of them are these settings. An error
+    /// is want of memory.
     pub fn write_parameters(&self, alloc: Global, order: &[u8; 13]) -> Result<Vec<u8>, AllocError>
         requires { IsWriteOrder order.now }
         ensures bytes { IfOk result (λ v. v.items ≡ written_parameters (parameters_of self.now) order.now) }

@@ -103,7 +103,8 @@ impl<H, K, R> Model for Connection<H, K, R> {
 
 impl<H: HeaderKey + Drop, K: PacketKey + Drop, R: Rng + Drop> Connection<H, K, R> {
     /// An end that was made at a moment: its limits are the peer's transport parameters, as the peer's
-    /// `Config::write_parameters` wrote them. Both ids were exchanged before.
+    /// `Config::write_parameters` wrote them. Both ids were exchanged before. `validated` says whether the peer's address is
+    /// validated already (RFC 9000, section 8); `random` is the end's random source, which no call draws from yet.
     ///
     /// The errors are tested in the order in which [`ConfigError`] lists them. Memory never lacks: none is taken.
     pub fn new(

@@ -101,7 +101,7 @@ impl<'a, H, K, R> RecvStream<'a, H, K, R> {
     ghost use Rattle.quic_connection.specs.contracts.connection.Connection.{the_row as connection_row};
     ghost use Rattle.quic_connection.specs.Lending.{chunks_lender};
 
-    /// Reads the stream; at this stage in order alone.
+    /// Reads the stream; at this stage in order alone, so `ordered` has to be true.
     ///
     /// `ClosedStream`: there is no such stream, or its end was read. Nothing has changed.
     pub fn read(self, ordered: bool) -> Result<Chunks<'a, H, K, R>, ReadableError>

@@ -57,7 +57,7 @@ pub enum Call {
 pub struct ReadCall {
     /// The stream.
     pub id: StreamId,
-    /// The greatest length of each chunk asked for.
+    /// The greatest length of each chunk asked for, in bytes.
     pub nexts: Vec<usize>,
     /// Whether the read ends by `finalize`, and not by a drop.
     pub finalize: bool,

@@ -1,6 +1,7 @@
-//! Scripts whose reader or writer fails.
+//! Scripts whose reader or writer fails, and when answers are printed.
 use quic_run_core::{ScriptError, run_script, run_script_within};
 use std::alloc::Global;
+use std::cell::Cell;
 use std::io;
 use std::io::{ErrorKind, Read, Write};
 use std::test::Fail;
@@ -58,6 +59,49 @@ impl Write for Full {
     }
 }
 
+/// Gives its text a byte at a time, and fails where the line before wasn't answered.
+#[derive(Drop)]
+struct Waiting<'a> {
+    text: &'a [u8],
+    answered: &'a Cell<bool>,
+}
+
+impl Read for Waiting<'_> {
+    fn read(&mut self, buf: &mut [u8]) -> io::Result<usize> {
+        if !self.answered.get() {
+            return Err(io::Error::from(ErrorKind::BrokenPipe));
+        }
+        match (self.text.split_first(), buf.first_mut()) {
+            (Some((byte, rest)), Some(place)) => {
+                *place = *byte;
+                self.answered.set(*byte != b'\n');
+                self.text = rest;
+                Ok(1)
+            }
+            _ => Ok(0),
+        }
+    }
+}
+
+/// Takes all bytes, and tells when a line was flushed.
+#[derive(Drop)]
+struct Answering<'a> {
+    taken: Vec<u8>,
+    answered: &'a Cell<bool>,
+}
+
+impl Write for Answering<'_> {
+    fn write(&mut self, buf: &[u8]) -> io::Result<usize> {
+        self.taken.extend_from_slice(buf)?;
+        Ok(buf.len())
+    }
+
+    fn flush(&mut self) -> io::Result<()> {
+        self.answered.set(self.taken.ends_with(b"\n"));
+        Ok(())
+    }
+}
+
 /// How a script ends whose reader fails behind this text or has no end, and what it prints.
 fn ended(alloc: Global, text: &[u8], endless: bool) -> (Result<(), ScriptError>, Vec<u8>) {
     let mut out = Vec::new(alloc);
@@ -90,6 +134,24 @@ fn a_writer_that_fails_is_a_write_fault(rt: HostRuntime) {
         assert_eq!(rt; ended, Err(ScriptError::WriteFault));
         assert!(rt; printed.starts_with(writer.taken.as_slice()));
     }
+}
+
+#[test]
+fn each_answer_is_printed_before_more_is_read(rt: HostRuntime) {
+    let text = b"c open bi\nc ping\ns ping\n".as_slice();
+    let answered = Cell::new(true);
+    let reader = Waiting {
+        text,
+        answered: &answered,
+    };
+    let mut writer = Answering {
+        taken: Vec::new(rt.alloc()),
+        answered: &answered,
+    };
+    let ended = run_script(rt.alloc(), reader, &mut writer);
+    assert_eq!(rt; ended, Ok(()));
+    let answers = b"c open 0\nc ping ok\ns ping ok\n".as_slice();
+    assert!(rt; writer.taken.as_slice() == answers);
 }
 
 #[test]

@@ -84,7 +84,7 @@ impl<H: HeaderKey + Drop, K: PacketKey + Drop, R: Rng + Drop> Connection<H, K, R
     /// A datagram that is dropped changes nothing but, where its packet opened, the numbers that count as duplicates.
     /// Where it breaks a rule, the end closes; the frames before keep their effect, and its number isn't taken.
     /// Where memory lacks, the end fails for good. Its number is to be acknowledged once all its frames were taken. Marks
-    /// are not read yet.
+    /// are not read yet. The datagram's bytes may be changed; to what isn't said.
     pub fn receive(
         &mut self,
         now: Instant,
@@ -123,7 +123,7 @@ impl<H: HeaderKey + Drop, K: PacketKey + Drop, R: Rng + Drop> Connection<H, K, R
 
     /// Whether a datagram would open here, whatever the state of the end, and also where it came before: it has a short header
     /// with an own id, its packet opens under its number, and its key phase is 0. It is opened in place, so `scratch` is
-    /// a copy of it; the end stays as it is.
+    /// a copy of it, whose bytes may be changed; the end stays as it is.
     pub fn would_open(&self, scratch: &mut [u8]) -> bool
         ensures { result ≡ would_open (policy_of H.masks H.hides H.unmasks H.reveals K.sealed K.opened self.now) self.now.end scratch.old }
     {
