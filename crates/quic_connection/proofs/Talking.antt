@@ -21,51 +21,69 @@ use Rattle.quic_connection_core.specs.Numbers.{can_number}
 use Rattle.quic_connection_core.specs.Poll.{waits, probed, sends, polled_if, polled_in, polled}
 use Rattle.quic_connection_core.specs.Runs.{gave}
 use Rattle.quic_connection_core.specs.Machine.{end_at, given_by, policy_at, changed, gives, World, Policies, IsAnswer, IsLeft, IsStep, fails}
-use Rattle.quic_connection.specs.Settled.{Turn, polls, awaits, polls_in, poll_event, delivery_event, timeout_event, IsPassedOn, IsPolled, IsHandled, IsWaited, IsTalk, Talks, IsHalfHandled, IsCut, IsCutOff, EndsAs, IsSilent, IsAtRest, AreAtRest, AreOpen, AreSilent, HasClosed, Settles, most_polls, end_wakes, wakes}
+use Rattle.quic_connection.specs.Settled.{Round, asks, quiet, polled_on, Turn, polls, awaits, polls_in, poll_event, delivery_event, timeout_event, IsPassedOn, IsPolled, IsHandled, IsWaited, IsTalk, Talks, Leads, IsHalfHandled, IsCut, IsCutOff, EndsAs, IsSilent, IsAtRest, AreAtRest, AreOpen, AreSilent, HasClosed, Settles, most_polls, end_wakes, wakes}
 
 -- ---- turns
 
 -- turns behind others
-talk_behind : (k : Policies) (now : ℕ) (w : World) (turns : List Turn) (between : ℕ) (mid : World) (turns' : List Turn) (moment : ℕ) (end : World) → IsTalk k now w turns between mid → IsTalk k between mid turns' moment end → IsTalk k now w (turns ++ turns') moment end
-talk_behind k now w [] between mid turns' moment end t more = rw (t.0, t.1) at more
-talk_behind k now w (polls side ∷ turns) between mid turns' moment end t more =
-    (t.0, t.1, talk_behind k now t.0 turns between mid turns' moment end t.2 more)
-talk_behind k now w (awaits ∷ turns) between mid turns' moment end t more =
-    (t.0, t.1, t.2, talk_behind k t.1 t.0 turns between mid turns' moment end t.3 more)
+talk_behind : (k : Policies) (now : ℕ) (at : Round) (w : World) (turns : List Turn) (between : ℕ) (via : Round) (mid : World) (turns' : List Turn) (moment : ℕ) (end : Round) (to : World) → IsTalk k now at w turns between via mid → IsTalk k between via mid turns' moment end to → IsTalk k now at w (turns ++ turns') moment end to
+talk_behind k now at w [] between via mid turns' moment end to t more = rw (t.0, t.1, t.2) at more
+talk_behind k now (asks side before) w (polls ∷ turns) between via mid turns' moment end to t more =
+    (t.0, t.1, t.2, talk_behind k now (polled_on side before t.1) t.0 turns between via mid turns' moment end to t.3 more)
+talk_behind k now quiet w (awaits ∷ turns) between via mid turns' moment end to t more =
+    (t.0, t.1, t.2, talk_behind k t.1 (asks Client false) t.0 turns between via mid turns' moment end to t.3 more)
+talk_behind k now quiet w (polls ∷ turns) between via mid turns' moment end to t more = absurd t
+talk_behind k now (asks side before) w (awaits ∷ turns) between via mid turns' moment end to t more = absurd t
 
 polls_behind : (turns turns' : List Turn) → polls_in (turns ++ turns') ≡ polls_in turns + polls_in turns'
 polls_behind [] turns' = omega arith
-polls_behind (polls side ∷ turns) turns' = let rest = polls_behind turns turns' in omega arith
+polls_behind (polls ∷ turns) turns' = let rest = polls_behind turns turns' in omega arith
 polls_behind (awaits ∷ turns) turns' = polls_behind turns turns'
 
 -- no turn, and no poll less
-pub talks_none : (k : Policies) (now n : ℕ) (w : World) → Talks k now now n n w w
-talks_none k now n w = record { turns = []; talk = (refl, refl); left = omega arith }
+pub talks_none : (k : Policies) (now : ℕ) (at : Round) (n : ℕ) (w : World) → Talks k now now at at n n w w
+talks_none k now at n w = record { turns = []; talk = (refl, refl, refl); left = omega arith }
 
 -- turns behind others, where polls are counted down; the keys of the second do what those of the first do
-pub talks_on : (k k' : Policies) (now between moment before left after : ℕ) (w mid end : World) → k' ≡ k → Talks k now between before left w mid → Talks k' between moment left after mid end → Talks k now moment before after w end
-talks_on k k' now between moment before left after w mid end same t more =
-    let next : Talks k between moment left after mid end = rw same at more in
+pub talks_on : (k k' : Policies) (now between moment : ℕ) (at via end : Round) (before left after : ℕ) (w mid to : World) → k' ≡ k → Talks k now between at via before left w mid → Talks k' between moment via end left after mid to → Talks k now moment at end before after w to
+talks_on k k' now between moment at via end before left after w mid to same t more =
+    let next : Talks k between moment via end left after mid to = rw same at more in
     record {
       turns = t.turns ++ next.turns;
-      talk = talk_behind k now w t.turns between mid next.turns moment end t.talk next.talk;
+      talk = talk_behind k now at w t.turns between via mid next.turns moment end to t.talk next.talk;
       left = let both = polls_behind t.turns next.turns in let first = t.left in let second = next.left in omega arith;
     }
 
+-- the same, to some place
+pub leads_on : (k k' : Policies) (now between moment : ℕ) (at via : Round) (before left after : ℕ) (w mid to : World) → k' ≡ k → Talks k now between at via before left w mid → Leads k' between moment via left after mid to → Leads k now moment at before after w to
+leads_on k k' now between moment at via before left after w mid to same t more = record {
+  end = more.end;
+  talks = talks_on k k' now between moment at via more.end before left after w mid to same t more.talks;
+}
+
+-- none or more, and some
+pub or_none : (b : Bool) → (b || false) ≡ b
+or_none true = refl
+or_none false = refl
+
+pub or_some : (b : Bool) → (b || true) ≡ true
+or_some true = refl
+or_some false = refl
+
 -- a poll
-pub talks_polled : (k : Policies) (now before after : ℕ) (w next : World) (side : Side) → after + 1 ≡ before → IsPolled k side now w next → Talks k now now before after w next
-talks_polled k now before after w next side one poll = record {
-  turns = polls side ∷ [];
-  talk = (next, poll, (refl, refl));
+pub talks_polled : (k : Policies) (now before after : ℕ) (w next : World) (side : Side) (had gave told : Bool) → told ≡ gave → after + 1 ≡ before → IsPolled k side now told w next → Talks k now now (asks side had) (polled_on side had gave) before after w next
+talks_polled k now before after w next side had gave told same one poll = record {
+  turns = polls ∷ [];
+  talk = (next, gave, rw same at poll, (refl, refl, refl));
   left = omega arith;
 }
 
 -- a wait behind turns
-pub waited_on : (k k' : Policies) (now between wake moment before left : ℕ) (w mid end : World) → k' ≡ k → Talks k now between before left w mid → AreOpen mid → AreSilent mid → wakes mid ≡ Some wake → moment ≡ max between wake → IsHandled k' moment mid end → Talks k now moment before left w end
-waited_on k k' now between wake moment before left w mid end same t opened silent woke is handled =
+pub waited_on : (k k' : Policies) (now between wake moment : ℕ) (at : Round) (before left : ℕ) (w mid end : World) → k' ≡ k → Talks k now between at quiet before left w mid → AreOpen mid → AreSilent mid → wakes mid ≡ Some wake → moment ≡ max between wake → IsHandled k' moment mid end → Talks k now moment at (asks Client false) before left w end
+waited_on k k' now between wake moment at before left w mid end same t opened silent woke is handled =
     let waited : IsWaited k between moment mid end = record { are_open = opened; silent = silent; wake = wake; wakes = woke; is = is; handled = rw same at handled } in
-    let turn : Talks k between moment left left mid end = record { turns = awaits ∷ []; talk = (end, moment, waited, (refl, refl)); left = omega arith } in
-    talks_on k k now between moment before left left w mid end refl t turn
+    let turn : Talks k between moment quiet (asks Client false) left left mid end = record { turns = awaits ∷ []; talk = (end, moment, waited, (refl, refl, refl)); left = omega arith } in
+    talks_on k k now between moment at quiet (asks Client false) before left left w mid end refl t turn
 
 -- ---- where memory lacked
 
@@ -75,36 +93,38 @@ on_err (Ok x) p = tt
 on_err (Err e) p = p
 
 -- a turn that is begun behind others
-pub cut_behind : (k k' : Policies) (now between before left : ℕ) (w mid end : World) → k' ≡ k → Talks k now between before left w mid → IsCut k' between mid end → IsCutOff k now before w end
-cut_behind k k' now between before left w mid end same t cut = record {
+pub cut_behind : (k k' : Policies) (now between : ℕ) (at via : Round) (before left : ℕ) (w mid end : World) → k' ≡ k → Talks k now between at via before left w mid → IsCut k' between via mid end → IsCutOff k now at before w end
+cut_behind k k' now between at via before left w mid end same t cut = record {
   turns = t.turns;
   moment = between;
+  end = via;
   last = mid;
   talk = t.talk;
   at_most = let first = t.left in omega arith;
   cut = ended same cut;
 }
   where
-    ended : k' ≡ k → IsCut k' between mid end → IsCut k between mid end
+    ended : k' ≡ k → IsCut k' between via mid end → IsCut k between via mid end
     ended is c = rw is at c
 
 -- turns behind others, and one that is begun
-pub cut_off_behind : (k k' : Policies) (now between before left : ℕ) (w mid end : World) → k' ≡ k → Talks k now between before left w mid → IsCutOff k' between left mid end → IsCutOff k now before w end
-cut_off_behind k k' now between before left w mid end same t more =
-    let next : IsCutOff k between left mid end = rw same at more in
+pub cut_off_behind : (k k' : Policies) (now between : ℕ) (at via : Round) (before left : ℕ) (w mid end : World) → k' ≡ k → Talks k now between at via before left w mid → IsCutOff k' between via left mid end → IsCutOff k now at before w end
+cut_off_behind k k' now between at via before left w mid end same t more =
+    let next : IsCutOff k between via left mid end = rw same at more in
     record {
       turns = t.turns ++ next.turns;
       moment = next.moment;
+      end = next.end;
       last = next.last;
-      talk = talk_behind k now w t.turns between mid next.turns next.moment next.last t.talk next.talk;
+      talk = talk_behind k now at w t.turns between via mid next.turns next.moment next.end next.last t.talk next.talk;
       at_most = let both = polls_behind t.turns next.turns in let first = t.left in let second = next.at_most in omega arith;
       cut = next.cut;
     }
 
 -- a wait of which the client's part was made, or none
-pub half_waited : (k : Policies) (now wake moment : ℕ) (w end : World) → wakes w ≡ Some wake → moment ≡ max now wake → (end ≡ w) ⊎ IsHalfHandled k moment w end → IsCut k now w end
+pub half_waited : (k : Policies) (now wake moment : ℕ) (w end : World) → wakes w ≡ Some wake → moment ≡ max now wake → (end ≡ w) ⊎ IsHalfHandled k moment w end → IsCut k now quiet w end
 half_waited k now wake moment w end woke is (inl same) = inl same
-half_waited k now wake moment w end woke is (inr handled) = inr (inr (record { wake = wake; wakes = woke; handled = rw is at handled }))
+half_waited k now wake moment w end woke is (inr handled) = inr (record { wake = wake; wakes = woke; handled = rw is at handled })
 
 -- ---- the datagrams that were given
 
@@ -142,8 +162,8 @@ passed_more true k from now index w next side passed = step_more k w (delivery_e
 passed_more false k from now index w next side passed = same_more side w next passed
 
 -- and a poll
-polled_more : (k : Policies) (from : Side) (now : ℕ) (w next : World) (side : Side) → IsPolled k from now w next → HasMore (given_by side w) (given_by side next)
-polled_more k from now w next side p =
+polled_more : (k : Policies) (from : Side) (now : ℕ) (has_given : Bool) (w next : World) (side : Side) → IsPolled k from now has_given w next → HasMore (given_by side w) (given_by side next)
+polled_more k from now has_given w next side p =
     more_behind (given_by side w) (given_by side p.next) (given_by side next)
     (step_more k w (poll_event from now) p.answer p.next side p.poll)
     (passed_more (gave p.answer) k from now (length (given_by from w)) p.next next side p.delivered)
@@ -156,31 +176,37 @@ handled_more k moment w next side handled =
     (step_more k handled.middle (timeout_event Server moment) handled.server_answer next side handled.server)
 
 -- and turns
-talk_more : (k : Policies) (now : ℕ) (w : World) (turns : List Turn) (moment : ℕ) (end : World) (side : Side) → IsTalk k now w turns moment end → HasMore (given_by side w) (given_by side end)
-talk_more k now w [] moment end side t = same_more side w end t.1
-talk_more k now w (polls from ∷ turns) moment end side t =
-    more_behind (given_by side w) (given_by side t.0) (given_by side end) (polled_more k from now w t.0 side t.1) (talk_more k now t.0 turns moment end side t.2)
-talk_more k now w (awaits ∷ turns) moment end side t =
-    more_behind (given_by side w) (given_by side t.0) (given_by side end) (handled_more k t.1 w t.0 side t.2.handled) (talk_more k t.1 t.0 turns moment end side t.3)
+talk_more : (k : Policies) (now : ℕ) (at : Round) (w : World) (turns : List Turn) (moment : ℕ) (end : Round) (to : World) (side : Side) → IsTalk k now at w turns moment end to → HasMore (given_by side w) (given_by side to)
+talk_more k now at w [] moment end to side t = same_more side w to t.2
+talk_more k now (asks from before) w (polls ∷ turns) moment end to side t =
+    more_behind (given_by side w) (given_by side t.0) (given_by side to)
+    (polled_more k from now t.1 w t.0 side t.2)
+    (talk_more k now (polled_on from before t.1) t.0 turns moment end to side t.3)
+talk_more k now quiet w (awaits ∷ turns) moment end to side t =
+    more_behind (given_by side w) (given_by side t.0) (given_by side to)
+    (handled_more k t.1 w t.0 side t.2.handled)
+    (talk_more k t.1 (asks Client false) t.0 turns moment end to side t.3)
+talk_more k now quiet w (polls ∷ turns) moment end to side t = absurd t
+talk_more k now (asks from before) w (awaits ∷ turns) moment end to side t = absurd t
 
 -- and a turn that was begun
-cut_more : (k : Policies) (now : ℕ) (w next : World) (side : Side) → IsCut k now w next → HasMore (given_by side w) (given_by side next)
-cut_more k now w next side (inl same) = same_more side w next same
-cut_more k now w next side (inr (inl half)) = step_more k w (poll_event half.side now) half.answer next side half.poll
-cut_more k now w next side (inr (inr half)) = step_more k w (timeout_event Client (max now half.wake)) half.handled.answer next side half.handled.client
+cut_more : (k : Policies) (now : ℕ) (at : Round) (w next : World) (side : Side) → IsCut k now at w next → HasMore (given_by side w) (given_by side next)
+cut_more k now at w next side (inl same) = same_more side w next same
+cut_more k now (asks from before) w next side (inr half) = step_more k w (poll_event from now) half.answer next side half.poll
+cut_more k now quiet w next side (inr half) = step_more k w (timeout_event Client (max now half.wake)) half.handled.answer next side half.handled.client
 
 -- and how a talk ends
-ends_more : {E : Type 0} (answer : Result (Option ℕ) E) (k : Policies) (turns : List Turn) (moment : ℕ) (last next : World) (side : Side) → EndsAs answer k turns moment last next → HasMore (given_by side last) (given_by side next)
-ends_more (Ok (Some rest)) k turns moment last next side ends = same_more side last next ends.1
-ends_more (Ok None) k turns moment last next side ends = same_more side last next ends.0
-ends_more (Err e) k turns moment last next side ends = cut_more k moment last next side ends
+ends_more : {E : Type 0} (answer : Result (Option ℕ) E) (k : Policies) (turns : List Turn) (moment : ℕ) (end : Round) (last next : World) (side : Side) → EndsAs answer k turns moment end last next → HasMore (given_by side last) (given_by side next)
+ends_more (Ok (Some rest)) k turns moment end last next side ends = same_more side last next ends.2
+ends_more (Ok None) k turns moment end last next side ends = same_more side last next ends.0
+ends_more (Err e) k turns moment end last next side ends = cut_more k moment end last next side ends
 
 -- and a whole talk
 pub settled_more : {E : Type 0} (k : Policies) (now : ℕ) (w next : World) (answer : Result (Option ℕ) E) (side : Side) → Settles k now w answer next → (more : List (List ℕ)) × (given_by side next ≡ given_by side w ++ more)
 settled_more k now w next answer side s =
     more_behind (given_by side w) (given_by side s.last) (given_by side next)
-    (talk_more k now w s.turns s.moment s.last side s.talk)
-    (ends_more answer k s.turns s.moment s.last next side s.ends)
+    (talk_more k now (asks Client false) w s.turns s.moment s.end s.last side s.talk)
+    (ends_more answer k s.turns s.moment s.end s.last next side s.ends)
 
 -- ---- a poll that gives nothing
 
@@ -264,36 +290,39 @@ other_stays Server k w call a next step = ap (λ (w : World). w.client) step.oth
 -- ---- two ends settle
 
 -- they rest
-pub settled_rest : {E : Type 0} (k : Policies) (now moment left : ℕ) (w next : World) → Talks k now moment most_polls left w next → AreAtRest next → Settles {E = E} k now w (Ok (Some moment)) next
+pub settled_rest : {E : Type 0} (k : Policies) (now moment left : ℕ) (w next : World) → Talks k now moment (asks Client false) quiet most_polls left w next → AreAtRest next → Settles {E = E} k now w (Ok (Some moment)) next
 settled_rest k now moment left w next t rests = record {
   turns = t.turns;
   moment = moment;
+  end = quiet;
   last = next;
   talk = t.talk;
   at_most = let behind = t.left in omega arith;
-  ends = (refl, refl, rests);
+  ends = (refl, refl, refl, rests);
 }
 
 -- they were given up: an end isn't open, or no poll was left
-pub settled_none : {E : Type 0} (k : Policies) (now moment left : ℕ) (w next : World) → Talks k now moment most_polls left w next → HasClosed next ⊎ (left ≡ 0) → Settles {E = E} k now w (Ok None) next
+pub settled_none : {E : Type 0} (k : Policies) (now moment left : ℕ) (w next : World) → Leads k now moment (asks Client false) most_polls left w next → HasClosed next ⊎ (left ≡ 0) → Settles {E = E} k now w (Ok None) next
 settled_none k now moment left w next t gave_up = record {
-  turns = t.turns;
+  turns = t.talks.turns;
   moment = moment;
+  end = t.end;
   last = next;
-  talk = t.talk;
-  at_most = let behind = t.left in omega arith;
+  talk = t.talks.talk;
+  at_most = let behind = t.talks.left in omega arith;
   ends = (refl, or_all gave_up);
 }
   where
-    or_all : HasClosed next ⊎ (left ≡ 0) → HasClosed next ⊎ (polls_in t.turns ≡ most_polls)
+    or_all : HasClosed next ⊎ (left ≡ 0) → HasClosed next ⊎ (polls_in t.talks.turns ≡ most_polls)
     or_all (inl closed) = inl closed
-    or_all (inr none) = inr (let behind = t.left in omega arith)
+    or_all (inr none) = inr (let behind = t.talks.left in omega arith)
 
 -- memory lacked
-pub settled_err : {E : Type 0} (k : Policies) (now : ℕ) (w next : World) (answer : Result (Option ℕ) E) (e : E) → answer ≡ Err e → IsCutOff k now most_polls w next → Settles k now w answer next
+pub settled_err : {E : Type 0} (k : Policies) (now : ℕ) (w next : World) (answer : Result (Option ℕ) E) (e : E) → answer ≡ Err e → IsCutOff k now (asks Client false) most_polls w next → Settles k now w answer next
 settled_err k now w next answer e is c = rw is (record {
   turns = c.turns;
   moment = c.moment;
+  end = c.end;
   last = c.last;
   talk = c.talk;
   at_most = c.at_most;

@@ -61,17 +61,32 @@ wakes w = earlier (end_wakes w.client.timers) (end_wakes w.server.timers)
 abbrev pub most_polls : ℕ
 most_polls = 10000
 
+-- where a talk is in its rounds
+pub data Round : Type 0 where
+  -- an end is polled next, and whether a datagram was given in this round
+  asks : Side → Bool → Round
+  -- both were polled, and neither gave a datagram
+  quiet : Round
+
+-- behind a poll of an end that gave a datagram, or none: it is polled again until it gives none, and then the other, the client first.
+-- Where a datagram was given, a new round begins behind the server
+abbrev pub polled_on : Side → Bool → Bool → Round
+polled_on side before true = asks side true
+polled_on Client before false = asks Server before
+polled_on Server true false = asks Client false
+polled_on Server false false = quiet
+
 -- a turn of a talk
 pub data Turn : Type 0 where
   -- an end is polled, and what it gives is delivered
-  polls : Side → Turn
+  polls : Turn
   -- both ends wait for a timer
   awaits : Turn
 
 -- how many turns are polls
 abbrev pub polls_in : List Turn → ℕ
 polls_in [] = 0
-polls_in (polls side ∷ turns) = 1 + polls_in turns
+polls_in (polls ∷ turns) = 1 + polls_in turns
 polls_in (awaits ∷ turns) = polls_in turns
 
 -- an end is polled at a moment
@@ -91,13 +106,14 @@ abbrev pub IsPassedOn : Bool → Policies → Side → ℕ → ℕ → World →
 IsPassedOn true k side now index w to = (answer : Answer) × IsStep k w (delivery_event side now index) answer to
 IsPassedOn false k side now index w to = to ≡ w
 
--- Both ends are open, and one is polled at a moment; the datagram that it gives, if it does, is delivered to the other one at once,
+-- Both ends are open, and one is polled at a moment, which gives a datagram or none; a datagram is delivered to the other one at once,
 -- without a mark.
-pub record IsPolled (k : Policies) (side : Side) (now : ℕ) (w to : World) : Type 0 where
+pub record IsPolled (k : Policies) (side : Side) (now : ℕ) (has_given : Bool) (w to : World) : Type 0 where
   pub are_open : AreOpen w
   pub answer : Answer
   pub next : World
   pub poll : IsStep k w (poll_event side now) answer next
+  pub gives : gave answer ≡ has_given
   pub delivered : IsPassedOn (gave answer) k side now (length (given_by side w)) next to
 
 -- Both ends handle a moment, the client first.
@@ -118,23 +134,31 @@ pub record IsWaited (k : Policies) (now moment : ℕ) (w to : World) : Type 0 wh
   pub is : moment ≡ max now wake
   pub handled : IsHandled k moment w to
 
--- turns lead from one moment and world to others
-abbrev pub IsTalk : Policies → ℕ → World → List Turn → ℕ → World → Type 0
-IsTalk k now w [] moment to = (moment ≡ now) × (to ≡ w)
-IsTalk k now w (polls side ∷ turns) moment to = (mid : World) × IsPolled k side now w mid × IsTalk k now mid turns moment to
-IsTalk k now w (awaits ∷ turns) moment to = (mid : World) × (next : ℕ) × IsWaited k now next w mid × IsTalk k next mid turns moment to
+-- turns lead from one moment, place in a round and world to others
+abbrev pub IsTalk : Policies → ℕ → Round → World → List Turn → ℕ → Round → World → Type 0
+IsTalk k now at w [] moment end to = (moment ≡ now) × (end ≡ at) × (to ≡ w)
+IsTalk k now (asks side before) w (polls ∷ turns) moment end to =
+    (mid : World) × (gave : Bool) × IsPolled k side now gave w mid × IsTalk k now (polled_on side before gave) mid turns moment end to
+IsTalk k now quiet w (awaits ∷ turns) moment end to =
+    (mid : World) × (next : ℕ) × IsWaited k now next w mid × IsTalk k next (asks Client false) mid turns moment end to
+IsTalk k now quiet w (polls ∷ turns) moment end to = ⊥
+IsTalk k now (asks side before) w (awaits ∷ turns) moment end to = ⊥
 
--- Such turns, where so many polls were left before them, and so many are behind them.
-pub record Talks (k : Policies) (now moment before after : ℕ) (from to : World) : Type 0 where
+-- Such turns, from one place to another, where so many polls were left before them, and so many are behind them.
+pub record Talks (k : Policies) (now moment : ℕ) (at end : Round) (before after : ℕ) (from to : World) : Type 0 where
   pub turns : List Turn
-  pub talk : IsTalk k now from turns moment to
+  pub talk : IsTalk k now at from turns moment end to
   pub left : polls_in turns + after ≡ before
+
+-- Such turns to some place.
+pub record Leads (k : Policies) (now moment : ℕ) (at : Round) (before after : ℕ) (from to : World) : Type 0 where
+  pub end : Round
+  pub talks : Talks k now moment at end before after from to
 
 -- ---- where memory lacked
 
 -- An end was polled, and what it gave wasn't delivered.
-pub record IsHalfPolled (k : Policies) (now : ℕ) (w to : World) : Type 0 where
-  pub side : Side
+pub record IsHalfPolled (k : Policies) (side : Side) (now : ℕ) (w to : World) : Type 0 where
   pub answer : Answer
   pub poll : IsStep k w (poll_event side now) answer to
 
@@ -149,33 +173,40 @@ pub record IsHalfWaited (k : Policies) (now : ℕ) (w to : World) : Type 0 where
   pub wakes : wakes w ≡ Some wake
   pub handled : IsHalfHandled k (max now wake) w to
 
--- a turn may have been begun
-abbrev pub IsCut : Policies → ℕ → World → World → Type 0
-IsCut k now w to = (to ≡ w) ⊎ (IsHalfPolled k now w to ⊎ IsHalfWaited k now w to)
+-- the next turn at a place was begun
+abbrev pub IsBegun : Policies → ℕ → Round → World → World → Type 0
+IsBegun k now (asks side before) w to = IsHalfPolled k side now w to
+IsBegun k now quiet w to = IsHalfWaited k now w to
 
--- Turns were made with at most so many polls, and then one may have been begun.
-pub record IsCutOff (k : Policies) (now before : ℕ) (from to : World) : Type 0 where
+-- the next turn at a place may have been begun
+abbrev pub IsCut : Policies → ℕ → Round → World → World → Type 0
+IsCut k now at w to = (to ≡ w) ⊎ IsBegun k now at w to
+
+-- Turns were made with at most so many polls, and then the next may have been begun.
+pub record IsCutOff (k : Policies) (now : ℕ) (at : Round) (before : ℕ) (from to : World) : Type 0 where
   pub turns : List Turn
   pub moment : ℕ
+  pub end : Round
   pub last : World
-  pub talk : IsTalk k now from turns moment last
+  pub talk : IsTalk k now at from turns moment end last
   pub at_most : polls_in turns ≤ before
-  pub cut : IsCut k moment last to
+  pub cut : IsCut k moment end last to
 
 -- ---- a whole talk
 
 -- how a talk ends behind its turns, by its answer
-abbrev pub EndsAs : {E : Type 0} → Result (Option ℕ) E → Policies → List Turn → ℕ → World → World → Type 0
-EndsAs (Ok (Some rest)) k turns moment last to = (rest ≡ moment) × (to ≡ last) × AreAtRest last
-EndsAs (Ok None) k turns moment last to = (to ≡ last) × (HasClosed last ⊎ (polls_in turns ≡ most_polls))
-EndsAs (Err e) k turns moment last to = IsCut k moment last to
+abbrev pub EndsAs : {E : Type 0} → Result (Option ℕ) E → Policies → List Turn → ℕ → Round → World → World → Type 0
+EndsAs (Ok (Some rest)) k turns moment end last to = (rest ≡ moment) × (end ≡ quiet) × (to ≡ last) × AreAtRest last
+EndsAs (Ok None) k turns moment end last to = (to ≡ last) × (HasClosed last ⊎ (polls_in turns ≡ most_polls))
+EndsAs (Err e) k turns moment end last to = IsCut k moment end last to
 
--- Two ends talked from a moment on, with at most 10000 polls: they rest at the moment that was answered, or were given up where an end
--- isn't open or no poll was left, or memory lacked.
+-- Two ends talked from a moment on, in rounds of which the first polls the client, with at most 10000 polls: they rest at the moment that
+-- was answered, behind a round without a datagram, or were given up where an end isn't open or no poll was left, or memory lacked.
 pub record Settles {E : Type 0} (k : Policies) (now : ℕ) (from : World) (answer : Result (Option ℕ) E) (to : World) : Type 0 where
   pub turns : List Turn
   pub moment : ℕ
+  pub end : Round
   pub last : World
-  pub talk : IsTalk k now from turns moment last
+  pub talk : IsTalk k now (asks Client false) from turns moment end last
   pub at_most : polls_in turns ≤ most_polls
-  pub ends : EndsAs answer k turns moment last to
+  pub ends : EndsAs answer k turns moment end last to

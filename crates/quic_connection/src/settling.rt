@@ -1,5 +1,6 @@
 //! Two ends that talk until both rest.
-ghost use Rattle.std.specs.Prelude.{◌≡◌, ◌≤◌, ◌<◌, ◌+◌, ◌⊎◌, Bool, true, false, Ok, None, length, IfOk, OnOk, OnErr, IfSome, IfNone};
+ghost use Rattle.std.specs.Prelude.{◌≡◌, ◌≤◌, ◌<◌, ◌+◌, ◌⊎◌, ◌||◌, Bool, true, false, Ok, None, length, IfOk, OnOk, OnErr, IfSome, IfNone};
+ghost use Rattle.quic_wire_core.specs.declared.stream_id.Side.TheVariants.{Client, Server};
 ghost use Rattle.quic_wire_core.specs.StreamId.{other_side};
 ghost use Rattle.quic_connection_core.specs.declared.answers.State.TheVariants as states;
 ghost use Rattle.quic_time.specs.Timers.{earlier};
@@ -7,7 +8,7 @@ ghost use Rattle.quic_connection_core.specs.End.{End};
 ghost use Rattle.quic_connection_core.specs.Machine.{end_at, given_by};
 ghost use Rattle.quic_connection_core.specs.Runs.{gave};
 ghost use Rattle.quic_connection.specs.Ends.{world_of, policies_of};
-ghost use Rattle.quic_connection.specs.Settled.{Talks, IsPolled, IsHandled, IsHalfHandled, IsCut, IsCutOff, IsSilent, AreSilent, AreOpen, AreAtRest, HasClosed, Settles, end_wakes, wakes};
+ghost use Rattle.quic_connection.specs.Settled.{Talks, Leads, asks, quiet, polled_on, IsPolled, IsHandled, IsHalfHandled, IsHalfPolled, IsCutOff, IsSilent, AreSilent, AreOpen, AreAtRest, HasClosed, Settles, end_wakes, wakes};
 ghost use Rattle.quic_connection.specs.declared.running.Given.{Given};
 
 use crate::connection::Connection;
@@ -65,8 +66,9 @@ fn talk<H: HeaderKey + Drop, K: PacketKey + Drop, R: Rng + Drop>(
     now: Instant,
     left: &mut u64,
 ) -> Result<bool, AllocError>
-    ensures talks { IfOk result (λ _. Talks (policies_of H.masks H.hides H.unmasks H.reveals K.sealed K.opened ends.old) now now left.old left.new (world_of ends.old given.old) (world_of ends.new given.new)) }
-    ensures cut { OnErr result (IsCutOff (policies_of H.masks H.hides H.unmasks H.reveals K.sealed K.opened ends.old) now left.old (world_of ends.old given.old) (world_of ends.new given.new)) }
+    ensures talks { result ≡ Ok true → Talks (policies_of H.masks H.hides H.unmasks H.reveals K.sealed K.opened ends.old) now now (asks Client false) quiet left.old left.new (world_of ends.old given.old) (world_of ends.new given.new) }
+    ensures stops { result ≡ Ok false → Leads (policies_of H.masks H.hides H.unmasks H.reveals K.sealed K.opened ends.old) now now (asks Client false) left.old left.new (world_of ends.old given.old) (world_of ends.new given.new) }
+    ensures cut { OnErr result (IsCutOff (policies_of H.masks H.hides H.unmasks H.reveals K.sealed K.opened ends.old) now (asks Client false) left.old (world_of ends.old given.old) (world_of ends.new given.new)) }
     ensures keys { policies_of H.masks H.hides H.unmasks H.reveals K.sealed K.opened ends.new ≡ policies_of H.masks H.hides H.unmasks H.reveals K.sealed K.opened ends.old }
     ensures less { result ≡ Ok true → left.new < left.old }
     ensures opened { result ≡ Ok true → AreOpen (world_of ends.new given.new) }
@@ -91,8 +93,9 @@ fn round<H: HeaderKey + Drop, K: PacketKey + Drop, R: Rng + Drop>(
     now: Instant,
     left: &mut u64,
 ) -> Result<Option<bool>, AllocError>
-    ensures talks { IfOk result (λ _. Talks (policies_of H.masks H.hides H.unmasks H.reveals K.sealed K.opened ends.old) now now left.old left.new (world_of ends.old given.old) (world_of ends.new given.new)) }
-    ensures cut { OnErr result (IsCutOff (policies_of H.masks H.hides H.unmasks H.reveals K.sealed K.opened ends.old) now left.old (world_of ends.old given.old) (world_of ends.new given.new)) }
+    ensures talks { IfOk result (λ gave. IfSome gave (λ gave. Talks (policies_of H.masks H.hides H.unmasks H.reveals K.sealed K.opened ends.old) now now (asks Client false) (polled_on Server gave false) left.old left.new (world_of ends.old given.old) (world_of ends.new given.new))) }
+    ensures stops { IfOk result (λ gave. IfNone gave (Leads (policies_of H.masks H.hides H.unmasks H.reveals K.sealed K.opened ends.old) now now (asks Client false) left.old left.new (world_of ends.old given.old) (world_of ends.new given.new))) }
+    ensures cut { OnErr result (IsCutOff (policies_of H.masks H.hides H.unmasks H.reveals K.sealed K.opened ends.old) now (asks Client false) left.old (world_of ends.old given.old) (world_of ends.new given.new)) }
     ensures keys { policies_of H.masks H.hides H.unmasks H.reveals K.sealed K.opened ends.new ≡ policies_of H.masks H.hides H.unmasks H.reveals K.sealed K.opened ends.old }
     ensures less { IfOk result (λ gave. IfSome gave (λ _. left.new < left.old)) }
     ensures silent { IfOk result (λ gave. IfSome gave (λ gave. gave ≡ false → AreOpen (world_of ends.new given.new) → AreSilent (world_of ends.new given.new))) }
@@ -117,8 +120,9 @@ fn poll_all<H: HeaderKey + Drop, K: PacketKey + Drop, R: Rng + Drop>(
     now: Instant,
     left: &mut u64,
 ) -> Result<Option<bool>, AllocError>
-    ensures talks { IfOk result (λ _. Talks (policies_of H.masks H.hides H.unmasks H.reveals K.sealed K.opened ends.old) now now left.old left.new (world_of ends.old given.old) (world_of ends.new given.new)) }
-    ensures cut { OnErr result (IsCutOff (policies_of H.masks H.hides H.unmasks H.reveals K.sealed K.opened ends.old) now left.old (world_of ends.old given.old) (world_of ends.new given.new)) }
+    ensures talks { IfOk result (λ gave. IfSome gave (λ gave. (before : Bool) → Talks (policies_of H.masks H.hides H.unmasks H.reveals K.sealed K.opened ends.old) now now (asks side before) (polled_on side (before || gave) false) left.old left.new (world_of ends.old given.old) (world_of ends.new given.new))) }
+    ensures stops { IfOk result (λ gave. IfNone gave ((before : Bool) → Leads (policies_of H.masks H.hides H.unmasks H.reveals K.sealed K.opened ends.old) now now (asks side before) left.old left.new (world_of ends.old given.old) (world_of ends.new given.new))) }
+    ensures cut { OnErr result ((before : Bool) → IsCutOff (policies_of H.masks H.hides H.unmasks H.reveals K.sealed K.opened ends.old) now (asks side before) left.old (world_of ends.old given.old) (world_of ends.new given.new)) }
     ensures keys { policies_of H.masks H.hides H.unmasks H.reveals K.sealed K.opened ends.new ≡ policies_of H.masks H.hides H.unmasks H.reveals K.sealed K.opened ends.old }
     ensures less { IfOk result (λ gave. IfSome gave (λ _. left.new < left.old)) }
     ensures silent { IfOk result (λ gave. IfSome gave (λ _. (end_at side (world_of ends.new given.new)).closing.state ≡ states.Open → IsSilent (end_at side (world_of ends.new given.new)))) }
@@ -146,8 +150,8 @@ fn poll_once<H: HeaderKey + Drop, K: PacketKey + Drop, R: Rng + Drop>(
 ) -> Result<bool, AllocError>
     requires some_left { 0 < left.old }
     requires opened { AreOpen (world_of ends.old given.old) }
-    ensures polled { IfOk result (λ _. IsPolled (policies_of H.masks H.hides H.unmasks H.reveals K.sealed K.opened ends.old) side now (world_of ends.old given.old) (world_of ends.new given.new)) }
-    ensures cut { OnErr result (IsCut (policies_of H.masks H.hides H.unmasks H.reveals K.sealed K.opened ends.old) now (world_of ends.old given.old) (world_of ends.new given.new)) }
+    ensures polled { IfOk result (λ gave. IsPolled (policies_of H.masks H.hides H.unmasks H.reveals K.sealed K.opened ends.old) side now gave (world_of ends.old given.old) (world_of ends.new given.new)) }
+    ensures cut { OnErr result ((world_of ends.new given.new ≡ world_of ends.old given.old) ⊎ IsHalfPolled (policies_of H.masks H.hides H.unmasks H.reveals K.sealed K.opened ends.old) side now (world_of ends.old given.old) (world_of ends.new given.new)) }
     ensures keys { policies_of H.masks H.hides H.unmasks H.reveals K.sealed K.opened ends.new ≡ policies_of H.masks H.hides H.unmasks H.reveals K.sealed K.opened ends.old }
     ensures less { IfOk result (λ _. left.new + 1 ≡ left.old) }
     ensures silent { IfOk result (λ gave. gave ≡ false → (end_at side (world_of ends.new given.new)).closing.state ≡ states.Open → IsSilent (end_at side (world_of ends.new given.new))) }

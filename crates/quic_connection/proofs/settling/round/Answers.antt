@@ -1,15 +1,26 @@
-use Rattle.quic_connection.proofs.Talking.{talks_on, on_err, cut_off_behind}
+use Rattle.std.proofs.Common.{true, false}
+use Rattle.quic_connection.proofs.Talking.{talks_on, leads_on, on_err, cut_off_behind}
 use Rattle.quic_connection.proofs.settling.round.Goals as goal
 
 pub returns-in_err-server-clause-cut : goal.returns-in_err-server-clause-cut
 returns-in_err-server-clause-cut g c =
-    on_err c.from_residual-in_err-server.result (cut_off_behind _ _ _ _ _ _ _ _ _ c.poll_all.ensures.keys c.in_ok-client.ensures.talks c.in_err-server.ensures.cut)
+    let client = rw c.in-Some.is at c.in_ok-client.ensures.talks in
+    on_err c.from_residual-in_err-server.result (cut_off_behind _ _ _ _ _ _ _ _ _ _ _ c.poll_all.ensures.keys (client false) (c.in_err-server.ensures.cut _))
 
-pub returns-in_default-2-clause-talks : goal.returns-in_default-2-clause-talks
-returns-in_default-2-clause-talks g c = talks_on _ _ _ _ _ _ _ _ _ _ _ c.poll_all.ensures.keys c.in_ok-client.ensures.talks c.in_ok-server.ensures.talks
+pub returns-in_default-2-clause-stops : goal.returns-in_default-2-clause-stops
+returns-in_default-2-clause-stops g c =
+    let client = rw c.in-Some.is at c.in_ok-client.ensures.talks in
+    let server = rw c.in_default-2.is at c.in_ok-server.ensures.stops in
+    leads_on _ _ _ _ _ _ _ _ _ _ _ _ _ c.poll_all.ensures.keys (client false) (server _)
 
 pub returns-then-client-clause-talks : goal.returns-then-client-clause-talks
-returns-then-client-clause-talks g c = talks_on _ _ _ _ _ _ _ _ _ _ _ c.poll_all.ensures.keys c.in_ok-client.ensures.talks c.in_ok-server.ensures.talks
+returns-then-client-clause-talks g c =
+    let client = rw c.if-client.true at (rw c.in-Some.is at c.in_ok-client.ensures.talks) in
+    let server = rw c.in-Some-2.is at c.in_ok-server.ensures.talks in
+    rw c.if-client.true (talks_on _ _ _ _ _ _ _ _ _ _ _ _ _ _ c.poll_all.ensures.keys (client false) (server true))
 
 pub returns-else-client-clause-talks : goal.returns-else-client-clause-talks
-returns-else-client-clause-talks g c = talks_on _ _ _ _ _ _ _ _ _ _ _ c.poll_all.ensures.keys c.in_ok-client.ensures.talks c.in_ok-server.ensures.talks
+returns-else-client-clause-talks g c =
+    let client = rw c.if-client.false at (rw c.in-Some.is at c.in_ok-client.ensures.talks) in
+    let server = rw c.in-Some-2.is at c.in_ok-server.ensures.talks in
+    talks_on _ _ _ _ _ _ _ _ _ _ _ _ _ _ c.poll_all.ensures.keys (client false) (server false)
