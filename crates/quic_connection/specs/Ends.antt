@@ -30,6 +30,17 @@ policies_of masks hides unmasks reveals sealed opened ends = record {
   server = policy_of masks hides unmasks reveals sealed opened ends.server;
 }
 
+-- what two ends have beside their states
+pub record Held (H K R : Type 0) : Type 0 where
+  pub client_keys : Keys H K
+  pub client_random : R
+  pub server_keys : Keys H K
+  pub server_random : R
+
+-- the keys and the random source of each end
+abbrev pub held_of : {H K R : Type 0} → Ends H K R → Held H K R
+held_of ends = record { client_keys = ends.client.keys; client_random = ends.client.random; server_keys = ends.server.keys; server_random = ends.server.random }
+
 -- what keys do: an end protects with the local ones, and opens with the remote ones
 abbrev pub keys_policy : {H K : Type 0} → (H → OfFirst) → (H → OfNumber) → (H → OfFirst) → (H → OfNumber) → (K → Seal) → (K → Open) → Keys H K → Policy
 keys_policy masks hides unmasks reveals sealed opened keys = record {

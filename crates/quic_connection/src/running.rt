@@ -9,7 +9,7 @@ ghost use Rattle.quic_time.specs.Timers.{each_timer};
 ghost use Rattle.quic_connection_core.specs.Headline.{IsHonest, OrderedPrefix, Slices, Once, EndAfterAll, BlockedOnlyWithoutBytes, AcceptsAll, FinishedMeansArrived, TellsOnce, AcknowledgedWereTaken, LossTimersFollow, AckTimersFollow, NumbersRise};
 ghost use Rattle.quic_connection_core.specs.Duties.{DutiesStand};
 ghost use Rattle.quic_connection_core.specs.InFlight.{TracksInFlight};
-ghost use Rattle.quic_connection.specs.Ends.{world_of, first_world, policies_of, run_of};
+ghost use Rattle.quic_connection.specs.Ends.{world_of, first_world, policies_of, held_of, run_of};
 ghost use Rattle.quic_connection.specs.declared.running.Given.{Given};
 
 use crate::connection::Connection;
@@ -81,6 +81,7 @@ pub fn step<H: HeaderKey + Drop, K: PacketKey + Drop, R: Rng + Drop>(
 ) -> Result<Answer, AllocError>
     ensures step { IfOk result (λ a. IsStep (policies_of H.masks H.hides H.unmasks H.reveals K.sealed K.opened ends.old) (world_of ends.old given.old) event.now a (world_of ends.new given.new)) }
     ensures keys { policies_of H.masks H.hides H.unmasks H.reveals K.sealed K.opened ends.new ≡ policies_of H.masks H.hides H.unmasks H.reveals K.sealed K.opened ends.old }
+    ensures held { held_of ends.new ≡ held_of ends.old }
     ensures err { OnErr result (world_of ends.new given.new ≡ world_of ends.old given.old) }
     ensures own { OnErr result (TakesOfItsOwn (given_by (other_side event.now.side) (world_of ends.old given.old)) event.now.call) }
 {
@@ -312,6 +313,7 @@ pub fn run<H: HeaderKey + Drop, K: PacketKey + Drop, R: Rng + Drop>(
     ensures follows { Follows (policies_of H.masks H.hides H.unmasks H.reveals K.sealed K.opened ends) (first_world ends) events.now result.answers.items result.views.items (world_of result.ends result.given) }
     ensures whole { result.cut_short ≡ false → length result.answers.items ≡ length events.now }
     ensures stopped { result.cut_short ≡ true → length result.answers.items < length events.now }
+    ensures held { held_of result.ends ≡ held_of ends }
     ensures ordered_prefix { let r = run_of (policies_of H.masks H.hides H.unmasks H.reveals K.sealed K.opened ends) ends events.now result.answers.items result.views.items result.given in IsHonest r → OrderedPrefix r }
     ensures slices { let r = run_of (policies_of H.masks H.hides H.unmasks H.reveals K.sealed K.opened ends) ends events.now result.answers.items result.views.items result.given in IsHonest r → Slices r }
     ensures once { let r = run_of (policies_of H.masks H.hides H.unmasks H.reveals K.sealed K.opened ends) ends events.now result.answers.items result.views.items result.given in IsHonest r → Once r }
@@ -339,6 +341,7 @@ fn run_events<H: HeaderKey + Drop, K: PacketKey + Drop, R: Rng + Drop>(
     ensures follows { Follows (policies_of H.masks H.hides H.unmasks H.reveals K.sealed K.opened ends) (first_world ends) events.now result.answers.items result.views.items (world_of result.ends result.given) }
     ensures whole { result.cut_short ≡ false → length result.answers.items ≡ length events.now }
     ensures stopped { result.cut_short ≡ true → length result.answers.items < length events.now }
+    ensures held { held_of result.ends ≡ held_of ends }
 {
     let mut given = Given::new(alloc);
     let mut answers = Vec::new(alloc);

@@ -7,7 +7,7 @@ ghost use Rattle.quic_time.specs.Timers.{earlier};
 ghost use Rattle.quic_connection_core.specs.End.{End};
 ghost use Rattle.quic_connection_core.specs.Machine.{end_at, given_by};
 ghost use Rattle.quic_connection_core.specs.Runs.{gave};
-ghost use Rattle.quic_connection.specs.Ends.{world_of, policies_of};
+ghost use Rattle.quic_connection.specs.Ends.{world_of, policies_of, held_of};
 ghost use Rattle.quic_connection.specs.Settled.{Talks, Leads, asks, quiet, polled_on, IsPolled, IsHandled, IsHalfHandled, IsHalfPolled, IsCutOff, IsSilent, AreSilent, AreOpen, AreAtRest, HasClosed, Settles, end_wakes, wakes};
 ghost use Rattle.quic_connection.specs.declared.running.Given.{Given};
 
@@ -41,6 +41,7 @@ pub fn settle<H: HeaderKey + Drop, K: PacketKey + Drop, R: Rng + Drop>(
 ) -> Result<Option<Instant>, AllocError>
     ensures settles { Settles (policies_of H.masks H.hides H.unmasks H.reveals K.sealed K.opened ends.old) now (world_of ends.old given.old) result (world_of ends.new given.new) }
     ensures keys { policies_of H.masks H.hides H.unmasks H.reveals K.sealed K.opened ends.new ≡ policies_of H.masks H.hides H.unmasks H.reveals K.sealed K.opened ends.old }
+    ensures held { held_of ends.new ≡ held_of ends.old }
     ensures rest { IfOk result (λ moment. IfSome moment (λ _. AreAtRest (world_of ends.new given.new))) }
     ensures later { IfOk result (λ moment. IfSome moment (λ moment. now ≤ moment)) }
 {
@@ -70,6 +71,7 @@ fn talk<H: HeaderKey + Drop, K: PacketKey + Drop, R: Rng + Drop>(
     ensures stops { result ≡ Ok false → Leads (policies_of H.masks H.hides H.unmasks H.reveals K.sealed K.opened ends.old) now now (asks Client false) left.old left.new (world_of ends.old given.old) (world_of ends.new given.new) }
     ensures cut { OnErr result (IsCutOff (policies_of H.masks H.hides H.unmasks H.reveals K.sealed K.opened ends.old) now (asks Client false) left.old (world_of ends.old given.old) (world_of ends.new given.new)) }
     ensures keys { policies_of H.masks H.hides H.unmasks H.reveals K.sealed K.opened ends.new ≡ policies_of H.masks H.hides H.unmasks H.reveals K.sealed K.opened ends.old }
+    ensures held { held_of ends.new ≡ held_of ends.old }
     ensures less { result ≡ Ok true → left.new < left.old }
     ensures opened { result ≡ Ok true → AreOpen (world_of ends.new given.new) }
     ensures silent { result ≡ Ok true → AreSilent (world_of ends.new given.new) }
@@ -97,6 +99,7 @@ fn round<H: HeaderKey + Drop, K: PacketKey + Drop, R: Rng + Drop>(
     ensures stops { IfOk result (λ gave. IfNone gave (Leads (policies_of H.masks H.hides H.unmasks H.reveals K.sealed K.opened ends.old) now now (asks Client false) left.old left.new (world_of ends.old given.old) (world_of ends.new given.new))) }
     ensures cut { OnErr result (IsCutOff (policies_of H.masks H.hides H.unmasks H.reveals K.sealed K.opened ends.old) now (asks Client false) left.old (world_of ends.old given.old) (world_of ends.new given.new)) }
     ensures keys { policies_of H.masks H.hides H.unmasks H.reveals K.sealed K.opened ends.new ≡ policies_of H.masks H.hides H.unmasks H.reveals K.sealed K.opened ends.old }
+    ensures held { held_of ends.new ≡ held_of ends.old }
     ensures less { IfOk result (λ gave. IfSome gave (λ _. left.new < left.old)) }
     ensures silent { IfOk result (λ gave. IfSome gave (λ gave. gave ≡ false → AreOpen (world_of ends.new given.new) → AreSilent (world_of ends.new given.new))) }
     ensures gave_up { IfOk result (λ gave. IfNone gave (HasClosed (world_of ends.new given.new) ⊎ (left.new ≡ 0))) }
@@ -124,6 +127,7 @@ fn poll_all<H: HeaderKey + Drop, K: PacketKey + Drop, R: Rng + Drop>(
     ensures stops { IfOk result (λ gave. IfNone gave ((before : Bool) → Leads (policies_of H.masks H.hides H.unmasks H.reveals K.sealed K.opened ends.old) now now (asks side before) left.old left.new (world_of ends.old given.old) (world_of ends.new given.new))) }
     ensures cut { OnErr result ((before : Bool) → IsCutOff (policies_of H.masks H.hides H.unmasks H.reveals K.sealed K.opened ends.old) now (asks side before) left.old (world_of ends.old given.old) (world_of ends.new given.new)) }
     ensures keys { policies_of H.masks H.hides H.unmasks H.reveals K.sealed K.opened ends.new ≡ policies_of H.masks H.hides H.unmasks H.reveals K.sealed K.opened ends.old }
+    ensures held { held_of ends.new ≡ held_of ends.old }
     ensures less { IfOk result (λ gave. IfSome gave (λ _. left.new < left.old)) }
     ensures silent { IfOk result (λ gave. IfSome gave (λ _. (end_at side (world_of ends.new given.new)).closing.state ≡ states.Open → IsSilent (end_at side (world_of ends.new given.new)))) }
     ensures other { IfOk result (λ gave. IfSome gave (λ gave. gave ≡ false → end_at (other_side side) (world_of ends.new given.new) ≡ end_at (other_side side) (world_of ends.old given.old))) }
@@ -153,6 +157,7 @@ fn poll_once<H: HeaderKey + Drop, K: PacketKey + Drop, R: Rng + Drop>(
     ensures polled { IfOk result (λ gave. IsPolled (policies_of H.masks H.hides H.unmasks H.reveals K.sealed K.opened ends.old) side now gave (world_of ends.old given.old) (world_of ends.new given.new)) }
     ensures cut { OnErr result ((world_of ends.new given.new ≡ world_of ends.old given.old) ⊎ IsHalfPolled (policies_of H.masks H.hides H.unmasks H.reveals K.sealed K.opened ends.old) side now (world_of ends.old given.old) (world_of ends.new given.new)) }
     ensures keys { policies_of H.masks H.hides H.unmasks H.reveals K.sealed K.opened ends.new ≡ policies_of H.masks H.hides H.unmasks H.reveals K.sealed K.opened ends.old }
+    ensures held { held_of ends.new ≡ held_of ends.old }
     ensures less { IfOk result (λ _. left.new + 1 ≡ left.old) }
     ensures silent { IfOk result (λ gave. gave ≡ false → (end_at side (world_of ends.new given.new)).closing.state ≡ states.Open → IsSilent (end_at side (world_of ends.new given.new))) }
     ensures other { IfOk result (λ gave. gave ≡ false → end_at (other_side side) (world_of ends.new given.new) ≡ end_at (other_side side) (world_of ends.old given.old)) }
@@ -197,6 +202,7 @@ fn time_out<H: HeaderKey + Drop, K: PacketKey + Drop, R: Rng + Drop>(
     ensures handled { OnOk result (IsHandled (policies_of H.masks H.hides H.unmasks H.reveals K.sealed K.opened ends.old) now (world_of ends.old given.old) (world_of ends.new given.new)) }
     ensures cut { OnErr result ((world_of ends.new given.new ≡ world_of ends.old given.old) ⊎ IsHalfHandled (policies_of H.masks H.hides H.unmasks H.reveals K.sealed K.opened ends.old) now (world_of ends.old given.old) (world_of ends.new given.new)) }
     ensures keys { policies_of H.masks H.hides H.unmasks H.reveals K.sealed K.opened ends.new ≡ policies_of H.masks H.hides H.unmasks H.reveals K.sealed K.opened ends.old }
+    ensures held { held_of ends.new ≡ held_of ends.old }
 {
     let client = RunEvent {
         side: Side::Client,

@@ -217,6 +217,11 @@ fn buffered(alloc: Global, mebibytes: u32, tally: &mut Tally) -> Result<(), Allo
         write_frame(&mut buffer)?;
     }
     let ends = send_all(alloc, &mut buffer, tally)?;
+    ack_all(&mut buffer, ends)
+}
+
+// Acknowledges frame by frame, each of which ends where the next one begins.
+fn ack_all(buffer: &mut SendBuffer, ends: Vec<u64>) -> Result<(), AllocError> {
     let mut start = 0;
     for end in ends {
         buffer.ack(start..end)?;

@@ -1,4 +1,4 @@
-use Rattle.std.proofs.Common.{rules, ◌≡◌, length, Some, arith, refl}
+use Rattle.std.proofs.Common.{rules, ◌≡◌, length, Some, arith, refl, ◌∙◌}
 use Rattle.std.specs.Prelude.{slice_get}
 use Rattle.std.proofs.lemmas.Option.{slice_get_read}
 use Rattle.std.proofs.lemmas.Grind.{common_steps}
@@ -23,6 +23,7 @@ loop-event-preserved g c =
       count = grind (arith, common_steps);
       goes_on = inv.goes_on;
       keys = search rules;
+      held = c.step.ensures.held ∙ inv.held;
     }
 
 pub returns-clause-stopped : goal.returns-clause-stopped

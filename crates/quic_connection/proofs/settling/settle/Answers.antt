@@ -4,7 +4,7 @@ use Rattle.quic_connection.proofs.Talking.{talks_none, talks_on, leads_on, waite
 use Rattle.quic_connection.proofs.settling.settle.Goals as goal
 
 pub loop-ends-init : goal.loop-ends-init
-loop-ends-init g c = record { talks = talks_none _ _ _ _ _; keys = refl; later = omega arith }
+loop-ends-init g c = record { talks = talks_none _ _ _ _ _; keys = refl; held = refl; later = omega arith }
 
 pub returns-in_err-talk-clause-settles : goal.returns-in_err-talk-clause-settles
 returns-in_err-talk-clause-settles g c =
@@ -49,5 +49,6 @@ loop-ends-preserved g c =
     record {
       talks = waited_on _ _ _ _ _ _ _ _ _ _ _ _ keys talked (c.in_ok-talk.ensures.opened done) (c.in_ok-talk.ensures.silent done) (sym (c.wakes.ensures c.talk.new.given) ∙ c.in-Some.is) c.later-moment.ensures c.in_ok-time_out.ensures.handled;
       keys = c.time_out.ensures.keys ∙ keys;
+      held = c.time_out.ensures.held ∙ (c.talk.ensures.held ∙ inv.held);
       later = later;
     }

@@ -4,7 +4,7 @@ use Rattle.quic_connection.proofs.Talking.{talks_none, talks_on, leads_on, on_er
 use Rattle.quic_connection.proofs.settling.talk.Goals as goal
 
 pub loop-ends-init : goal.loop-ends-init
-loop-ends-init g c = record { talks = talks_none _ _ _ _ _; keys = refl }
+loop-ends-init g c = record { talks = talks_none _ _ _ _ _; keys = refl; held = refl }
 
 pub returns-in_err-round-clause-cut : goal.returns-in_err-round-clause-cut
 returns-in_err-round-clause-cut g c =
@@ -23,6 +23,7 @@ loop-ends-preserved g c =
     record {
       talks = talks_on _ _ _ _ _ _ _ _ _ _ _ _ _ _ inv.keys inv.talks (rw c.in-Some-true.field-0-test at round);
       keys = c.round.ensures.keys ∙ inv.keys;
+      held = c.round.ensures.held ∙ inv.held;
     }
 
 pub returns-in-Some-false-clause-talks : goal.returns-in-Some-false-clause-talks
