@@ -18,10 +18,10 @@ use Rattle.quic_connection_core.specs.Policy.{Policy}
 use Rattle.quic_connection_core.specs.End.{End, with_closing, with_ping}
 use Rattle.quic_connection_core.specs.Closing.{ticked}
 use Rattle.quic_connection_core.specs.Numbers.{can_number}
-use Rattle.quic_connection_core.specs.Poll.{waits, probed, sends, polled_if, polled_in, polled}
+use Rattle.quic_connection_core.specs.Poll.{waits, probed, sends, polled_if, polled_in, polled, IsSilent}
 use Rattle.quic_connection_core.specs.Runs.{gave}
 use Rattle.quic_connection_core.specs.Machine.{end_at, given_by, policy_at, changed, gives, World, Policies, IsAnswer, IsLeft, IsStep, fails}
-use Rattle.quic_connection.specs.Settled.{Round, asks, quiet, polled_on, Turn, polls, awaits, polls_in, poll_event, delivery_event, timeout_event, IsPassedOn, IsPolled, IsHandled, IsWaited, IsTalk, Talks, Leads, IsHalfHandled, IsCut, IsCutOff, EndsAs, IsSilent, IsAtRest, AreAtRest, AreOpen, AreSilent, HasClosed, Settles, most_polls, end_wakes, wakes}
+use Rattle.quic_connection.specs.Settled.{Round, asks, quiet, polled_on, Turn, polls, awaits, polls_in, poll_event, delivery_event, timeout_event, IsPassedOn, IsPolled, IsHandled, IsWaited, IsTalk, Talks, Leads, IsHalfHandled, IsCut, IsCutOff, EndsAs, IsAtRest, AreAtRest, AreOpen, AreSilent, HasClosed, Settles, most_polls, end_wakes, wakes}
 
 -- ---- turns
 

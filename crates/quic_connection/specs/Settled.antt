@@ -9,16 +9,11 @@ use Rattle.quic_connection_core.specs.declared.run.Call.TheVariants as calls
 use Rattle.quic_connection_core.specs.declared.run.Answer.{Answer}
 use Rattle.quic_connection_core.specs.declared.run.RunEvent.{RunEvent}
 use Rattle.quic_connection_core.specs.End.{End}
-use Rattle.quic_connection_core.specs.Poll.{waits}
+use Rattle.quic_connection_core.specs.Poll.{IsSilent}
 use Rattle.quic_connection_core.specs.Runs.{gave}
 use Rattle.quic_connection_core.specs.Machine.{World, Policies, IsStep, given_by}
 
 -- ---- ends and timers
-
--- An end has nothing to send, and no probe waits.
-pub record IsSilent (e : End) : Type 0 where
-  pub nothing_waits : waits e ≡ false
-  pub no_probe : e.tracking.probes ≡ 0
 
 -- An end is open, has nothing to send at any moment before it hears something, and waits for no moment of its own.
 pub record IsAtRest (e : End) : Type 0 where

@@ -9,10 +9,9 @@ ghost use Rattle.quic_connection_core.specs.Headline.{IsInRange, AreStarted, Are
 ghost use Rattle.quic_connection_core.specs.declared.answers.ConfigError.TheVariants as config_errors;
 ghost use Rattle.quic_connection.specs.Ends.{first_world, policies_of, keys_policy, in_order, IsRefused};
 
-use crate::config::Config;
-use crate::connection::Connection;
 use crate::running::Ends;
 use quic_connection_core::{ConfigError, Instant};
+use quic_end::{Config, Connection};
 use quic_packet::crypto::{HeaderKey, Keys, PacketKey};
 use quic_wire_core::{ConnectionId, Side};
 use rand_core::Rng;

@@ -12,12 +12,11 @@ ghost use Rattle.quic_connection_core.specs.InFlight.{TracksInFlight};
 ghost use Rattle.quic_connection.specs.Ends.{world_of, first_world, policies_of, held_of, run_of};
 ghost use Rattle.quic_connection.specs.declared.running.Given.{Given};
 
-use crate::connection::Connection;
-use crate::handles::Chunks;
 use quic_connection_core::{
     Answer, Call, Datagram, Delivery, EndView, Injection, Instant, LostReason, Nexts, ReadCall,
     ReadError, RunEvent, Timer, View,
 };
+use quic_end::{Chunks, Connection};
 use quic_packet::crypto::{HeaderKey, PacketKey};
 use quic_streams_core::Chunk;
 use quic_wire_core::{Side, StreamId};

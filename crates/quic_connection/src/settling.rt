@@ -8,12 +8,13 @@ ghost use Rattle.quic_connection_core.specs.End.{End};
 ghost use Rattle.quic_connection_core.specs.Machine.{end_at, given_by};
 ghost use Rattle.quic_connection_core.specs.Runs.{gave};
 ghost use Rattle.quic_connection.specs.Ends.{world_of, policies_of, held_of};
-ghost use Rattle.quic_connection.specs.Settled.{Talks, Leads, asks, quiet, polled_on, IsPolled, IsHandled, IsHalfHandled, IsHalfPolled, IsCutOff, IsSilent, AreSilent, AreOpen, AreAtRest, HasClosed, Settles, end_wakes, wakes};
+ghost use Rattle.quic_connection_core.specs.Poll.{IsSilent};
+ghost use Rattle.quic_connection.specs.Settled.{Talks, Leads, asks, quiet, polled_on, IsPolled, IsHandled, IsHalfHandled, IsHalfPolled, IsCutOff, AreSilent, AreOpen, AreAtRest, HasClosed, Settles, end_wakes, wakes};
 ghost use Rattle.quic_connection.specs.declared.running.Given.{Given};
 
-use crate::connection::Connection;
 use crate::running::{Ends, Given, step};
 use quic_connection_core::{Answer, Call, Delivery, Instant, RunEvent, Timer};
+use quic_end::Connection;
 use quic_packet::crypto::{HeaderKey, PacketKey};
 use quic_wire_core::Side;
 use rand_core::Rng;

@@ -197,6 +197,11 @@ probed e = if nat_lt 0 e.tracking.probes then with_ping e true else e
 abbrev pub waits : End → Bool
 waits e = can_send e.acknowledging || (e.waiting.ping || is_some (first_pending e.sending.halves))
 
+-- An end has nothing to send, and no probe waits.
+pub record IsSilent (e : End) : Type 0 where
+  pub nothing_waits : waits e ≡ false
+  pub no_probe : e.tracking.probes ≡ 0
+
 -- something waits: where the numbers are used up, the end closes and gives nothing
 abbrev pub sends : Bool → Policy → End → Polled
 sends true p e = gives_datagram (datagram_of p (composed e)) (after_given (composed e))

@@ -108,17 +108,58 @@ fn unordered_reads_give_each_byte_once(rt: HostRuntime) -> Result<(), Fail> {
     run(&rt, &steps)
 }
 
+// One-byte frames come in order.
+fn insert_in_order(rt: &impl Abort, assembler: &mut Assembler, count: u64) -> Result<(), Fail> {
+    for offset in 0..count {
+        make(rt, assembler, Insert(offset, b"x"))?;
+    }
+    make(rt, assembler, Count(0, 1))
+}
+
 #[test]
 fn small_frames_in_order_are_one_run(rt: HostRuntime) -> Result<(), Fail> {
     let mut assembler = Assembler::new(rt.alloc());
-    for offset in 0..100_000u64 {
-        make(&rt, &mut assembler, Insert(offset, b"x"))?;
-    }
-    make(&rt, &mut assembler, Count(0, 1))?;
+    insert_in_order(&rt, &mut assembler, 100_000)?;
     for _ in 0..2048 {
         let _ = assembler.read(100_000)?;
     }
     make(&rt, &mut assembler, Count(100_000, 0))
+}
+
+// So many allocations are made before frames come in order, until some are joined. Where the program's allocation 6441 fails, an
+// earlier one of the assembler's does for each of these: among them all of that join.
+fn join_behind<R: Abort + AllocGlobal>(rt: &R, allocations: u64) -> Result<(), Fail> {
+    for _ in 0..allocations {
+        let mut other: Vec<u8> = Vec::new(rt.alloc());
+        let _ = other.reserve(1);
+    }
+    let mut assembler = Assembler::new(rt.alloc());
+    insert_in_order(rt, &mut assembler, 7000)
+}
+
+#[test]
+fn first_join_behind_one_allocation(rt: HostRuntime) -> Result<(), Fail> {
+    join_behind(&rt, 1)
+}
+
+#[test]
+fn first_join_behind_two_allocations(rt: HostRuntime) -> Result<(), Fail> {
+    join_behind(&rt, 2)
+}
+
+#[test]
+fn first_join_behind_three_allocations(rt: HostRuntime) -> Result<(), Fail> {
+    join_behind(&rt, 3)
+}
+
+#[test]
+fn first_join_behind_four_allocations(rt: HostRuntime) -> Result<(), Fail> {
+    join_behind(&rt, 4)
+}
+
+#[test]
+fn first_join_behind_five_allocations(rt: HostRuntime) -> Result<(), Fail> {
+    join_behind(&rt, 5)
 }
 
 // What waits is dropped, and may come again; what was read stays so.

@@ -1,0 +1,8 @@
+pub mod Tracked
+pub mod Payloads
+pub mod Headers
+pub mod AckSize
+pub mod Greatest
+pub mod Plain
+pub mod Sent
+mod Lost
