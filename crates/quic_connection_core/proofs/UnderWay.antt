@@ -13,7 +13,7 @@ use Rattle.quic_wire_core.specs.declared.stream_id.Dir.TheVariants.{Bi, Uni}
 use Rattle.quic_wire.specs.Value.{FrameValue, AckValue, ack, stream, new_token, handshake_done, ping, asks}
 use Rattle.quic_recovery_core.specs.PendingAcks.{can_send}
 use Rattle.quic_streams_core.specs.Offsets.{is_within}
-use Rattle.quic_streams_core.specs.Buffered.{IsBuffered, is_in_flight, is_acknowledged, is_lost, nothing_written, next_start, sent_end}
+use Rattle.quic_streams_core.specs.Buffered.{IsBuffered, is_fully_acked, after_ack, after_loss, is_in_flight, is_acknowledged, is_lost, nothing_written, next_start, sent_end}
 use Rattle.quic_streams_core.specs.declared.stream_meta.StreamMeta.{StreamMeta}
 use Rattle.quic_streams_core.proofs.Buffered.{ack_lawful, loss_lawful, sent_from}
 use Rattle.quic_streams_core.proofs.Offsets.{within_from, within_is}
@@ -116,16 +116,16 @@ module _ (F G : StreamMeta → Type 0) where
           let was = and_parts (is_in_flight h.buffer o) (not (is_within m.offsets.start m.offsets.end o)) (sym (ack_in_flight h.buffer m.offsets.start m.offsets.end o lawful) ∙ flies) in
           let out : is_within m.offsets.start m.offsets.end o ≡ false = not-true (is_within m.offsets.start m.offsets.end o) was.1 in
           offset_else m.id o (λ same low high. both_ways (is_within m.offsets.start m.offsets.end o) out (within_from m.offsets.start m.offsets.end o low high)) (i.bytes o was.0);
-      end = λ over. end h.end_waits h.end_acked m.fin refl (i.end over);
+      end = λ over. end h.end_waits h.end_acked m.fin (is_fully_acked (after_ack h.buffer m.offsets.start m.offsets.end)) refl (i.end over);
     }
       where
-        end : (waits acked fin : Bool) → m.fin ≡ fin → EndIs F m.id waits acked → EndIs G m.id (waits && not fin) (acked || fin)
-        end waits true fin is e = inr (inr refl)
-        end waits false true is e = inr (inr refl)
-        end true false false is e = inl refl
-        end false false false is (inl e) = cc
-        end false false false is (inr (inl s)) = inr (inl (end_else m.id (λ same on. both_ways m.fin is on) s))
-        end false false false is (inr (inr e)) = cc
+        end : (waits acked fin full : Bool) → m.fin ≡ fin → EndIs F m.id waits acked → EndIs G m.id (waits && not ((acked || fin) && full)) (acked || fin)
+        end waits true fin full is e = inr (inr refl)
+        end waits false true full is e = inr (inr refl)
+        end true false false full is e = inl refl
+        end false false false full is (inl e) = cc
+        end false false false full is (inr (inl s)) = inr (inl (end_else m.id (λ same on. both_ways m.fin is on) s))
+        end false false false full is (inr (inr e)) = cc
 
     -- or was lost
     lost_flies : (h : SendHalf) → IsBuffered h.buffer → HalfFlies F m.id h → HalfFlies G m.id (half_lost h m)
@@ -134,16 +134,16 @@ module _ (F G : StreamMeta → Type 0) where
           let was = and_parts (is_in_flight h.buffer o) (not (is_within m.offsets.start m.offsets.end o)) (sym (loss_in_flight h.buffer m.offsets.start m.offsets.end o lawful) ∙ flies) in
           let out : is_within m.offsets.start m.offsets.end o ≡ false = not-true (is_within m.offsets.start m.offsets.end o) was.1 in
           offset_else m.id o (λ same low high. both_ways (is_within m.offsets.start m.offsets.end o) out (within_from m.offsets.start m.offsets.end o low high)) (i.bytes o was.0);
-      end = λ over. end h.end_waits h.end_acked m.fin refl (i.end over);
+      end = λ over. end h.end_waits h.end_acked m.fin (is_fully_acked (after_loss h.buffer m.offsets.start m.offsets.end)) refl (i.end over);
     }
       where
-        end : (waits acked fin : Bool) → m.fin ≡ fin → EndIs F m.id waits acked → EndIs G m.id (waits || (fin && not acked)) acked
-        end waits true fin is e = inr (inr refl)
-        end true false fin is e = inl refl
-        end false false true is e = inl refl
-        end false false false is (inl e) = cc
-        end false false false is (inr (inl s)) = inr (inl (end_else m.id (λ same on. both_ways m.fin is on) s))
-        end false false false is (inr (inr e)) = cc
+        end : (waits acked fin full : Bool) → m.fin ≡ fin → EndIs F m.id waits acked → EndIs G m.id ((waits || fin) && not (acked && full)) acked
+        end waits true fin full is e = inr (inr refl)
+        end true false fin full is e = inl refl
+        end false false true full is e = inl refl
+        end false false false full is (inl e) = cc
+        end false false false full is (inr (inl s)) = inr (inl (end_else m.id (λ same on. both_ways m.fin is on) s))
+        end false false false full is (inr (inr e)) = cc
 
 -- ---- frames that are acknowledged or lost
 

@@ -160,13 +160,17 @@ after_finish s id = record s { halves = ended_at (at s.halves id) s.halves id }
 abbrev pub is_acked : SendHalf → Bool
 is_acked h = h.end_acked && is_fully_acked h.buffer
 
--- the half after a frame of it was acknowledged
-abbrev pub half_acked : SendHalf → StreamMeta → SendHalf
-half_acked h m = record h { buffer = after_ack h.buffer m.offsets.start m.offsets.end; end_waits = h.end_waits && not m.fin; end_acked = h.end_acked || m.fin }
+-- the half, whose end no longer waits where all of it is acknowledged
+abbrev pub waiting_on : SendHalf → SendHalf
+waiting_on h = record h { end_waits = h.end_waits && not (is_acked h) }
 
--- the half after a frame of it was lost: what isn't acknowledged goes again
+-- the half after a frame of it was acknowledged: an end that waits goes all the same, unless nothing is left to acknowledge
+abbrev pub half_acked : SendHalf → StreamMeta → SendHalf
+half_acked h m = waiting_on (record h { buffer = after_ack h.buffer m.offsets.start m.offsets.end; end_acked = h.end_acked || m.fin })
+
+-- the half after a frame of it was lost: what isn't acknowledged goes again, and its end too, unless nothing is left to acknowledge
 abbrev pub half_lost : SendHalf → StreamMeta → SendHalf
-half_lost h m = record h { buffer = after_loss h.buffer m.offsets.start m.offsets.end; end_waits = h.end_waits || (m.fin && not h.end_acked) }
+half_lost h m = waiting_on (record h { buffer = after_loss h.buffer m.offsets.start m.offsets.end; end_waits = h.end_waits || m.fin })
 
 -- the halves after a frame of one was acknowledged
 abbrev pub acked_at : Option SendHalf → Table SendHalf → StreamMeta → Table SendHalf

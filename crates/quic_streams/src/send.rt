@@ -114,21 +114,21 @@ impl Send {
         self.fin_acked && self.pending.is_fully_acked()
     }
 
-    // A frame of it was acknowledged, which never goes again. An `Err` (want of memory) changes
-    // nothing.
+    // A frame of it was acknowledged: its bytes never go again. An end that waits goes all the same, unless nothing is left to
+    // acknowledge. An `Err` (want of memory) changes nothing.
     pub(crate) fn ack(&mut self, frame: &StreamMeta) -> Result<(), AllocError>
         ensures ok { OnOk result (self.new ≡ half_acked self.old frame.now) }
         ensures err { OnErr result (self.new ≡ self.old) }
         ensures lacking { OnErr result (HasSent (Some self.old) frame.now) }
     {
         self.pending.ack(frame.offsets.start..frame.offsets.end)?;
-        self.fin_pending = self.fin_pending && !frame.fin;
         self.fin_acked = self.fin_acked || frame.fin;
+        self.fin_pending = self.fin_pending && !self.is_acked();
         Ok(())
     }
 
-    // A frame of it was lost: what isn't acknowledged of it goes again (RFC 9000, section 13.3).
-    // An `Err` (want of memory) changes nothing.
+    // A frame of it was lost: what isn't acknowledged of it goes again (RFC 9000, section 13.3), and its end even where another
+    // frame brought it, unless nothing is left to acknowledge. An `Err` (want of memory) changes nothing.
     pub(crate) fn retransmit(&mut self, frame: &StreamMeta) -> Result<(), AllocError>
         ensures ok { OnOk result (self.new ≡ half_lost self.old frame.now) }
         ensures err { OnErr result (self.new ≡ self.old) }
@@ -136,7 +136,7 @@ impl Send {
     {
         self.pending
             .retransmit(frame.offsets.start..frame.offsets.end)?;
-        self.fin_pending = self.fin_pending || (frame.fin && !self.fin_acked);
+        self.fin_pending = (self.fin_pending || frame.fin) && !self.is_acked();
         Ok(())
     }
 

@@ -47,8 +47,8 @@ impl<H: HeaderKey + Drop, K: PacketKey + Drop, R: Rng + Drop> Connection<H, K, R
         Ok(())
     }
 
-    /// A packet is acknowledged: the numbers that its ACK frame named need no more acknowledgement, and what it carried of a
-    /// stream never goes again.
+    /// A packet is acknowledged: the numbers that its ACK frame named need no more acknowledgement, and the bytes that it carried of
+    /// a stream never go again.
     fn on_packet_acked(&mut self, packet: &SentPacket) -> Result<(), AllocError>
         ensures ok { OnOk result (self.new ≡ with_end self.old (packet_acked packet.now self.old.end)) }
         ensures others { self.new ≡ with_end self.old self.new.end }
