@@ -17,8 +17,12 @@ enum Step<'a> {
     Count(u64, usize),
 }
 
-fn seen(assembler: &Assembler) -> (u64, usize) {
+fn counts(assembler: &Assembler) -> (u64, usize) {
     (assembler.bytes_read(), assembler.runs())
+}
+
+fn seen(assembler: &Assembler) -> ((u64, usize), bool) {
+    (counts(assembler), assembler.has_next())
 }
 
 fn is_chunk(rt: &impl Abort, chunk: Option<Chunk>, offset: u64, bytes: &[u8]) {
@@ -33,7 +37,10 @@ fn take(rt: &impl Abort, assembler: &mut Assembler, step: Step) -> Result<(), Al
             assert!(rt; offset < 100_000 && bytes.len() < 100);
             assembler.insert(offset, bytes)?;
         }
-        Read(max, offset, bytes) => is_chunk(rt, assembler.read(max)?, offset, bytes),
+        Read(max, offset, bytes) => {
+            assert!(rt; assembler.has_next());
+            is_chunk(rt, assembler.read(max)?, offset, bytes);
+        }
         Wait => {
             assert!(rt; !assembler.has_next());
             assert!(rt; assembler.read(32)?.is_none());
@@ -41,7 +48,7 @@ fn take(rt: &impl Abort, assembler: &mut Assembler, step: Step) -> Result<(), Al
         Begin(ordered, may) => {
             assert_eq!(rt; assembler.ensure_ordering(ordered).is_ok(), may);
         }
-        Count(bytes_read, runs) => assert_eq!(rt; seen(assembler), (bytes_read, runs)),
+        Count(bytes_read, runs) => assert_eq!(rt; counts(assembler), (bytes_read, runs)),
     }
     Ok(())
 }

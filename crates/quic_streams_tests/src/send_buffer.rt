@@ -42,14 +42,19 @@ fn take(rt: &impl Abort, buffer: &mut SendBuffer, step: Step) -> Result<(), Allo
 }
 
 // Where memory lacks, nothing has changed, and the step is made again.
+fn make(rt: &impl Abort, buffer: &mut SendBuffer, step: Step) -> Result<(), Fail> {
+    let before = seen(buffer);
+    if take(rt, buffer, step).is_err() {
+        assert_eq!(rt; seen(buffer), before);
+        take(rt, buffer, step)?;
+    }
+    Ok(())
+}
+
 fn run<R: Abort + AllocGlobal>(rt: &R, steps: &[Step]) -> Result<(), Fail> {
     let mut buffer = SendBuffer::new(rt.alloc());
     for step in steps {
-        let before = seen(&buffer);
-        if take(rt, &mut buffer, *step).is_err() {
-            assert_eq!(rt; seen(&buffer), before);
-            take(rt, &mut buffer, *step)?;
-        }
+        make(rt, &mut buffer, *step)?;
     }
     Ok(())
 }
@@ -121,6 +126,24 @@ fn runs_are_cut_and_joined(rt: HostRuntime) -> Result<(), Fail> {
         Keep(0),
     ];
     run(&rt, &steps)
+}
+
+// Every second byte is acknowledged: more runs than a node of a map holds. What is left of them is lost and goes again, and in the
+// end one run has all.
+#[test]
+fn many_runs_come_to_be_one(rt: HostRuntime) -> Result<(), Fail> {
+    let mut buffer = SendBuffer::new(rt.alloc());
+    make(&rt, &mut buffer, Write(&[b'x'; 90]))?;
+    assert_eq!(rt; buffer.poll_transmit(200), (0..90, true));
+    for place in 0..44u64 {
+        make(&rt, &mut buffer, Ack(2 * place + 1, 2 * place + 2))?;
+    }
+    make(&rt, &mut buffer, Lose(0, 90))?;
+    make(&rt, &mut buffer, Send(0, 1, true))?;
+    make(&rt, &mut buffer, Send(2, 3, true))?;
+    make(&rt, &mut buffer, Keep(90))?;
+    make(&rt, &mut buffer, Ack(0, 90))?;
+    make(&rt, &mut buffer, Keep(0))
 }
 
 #[test]
