@@ -15,7 +15,7 @@ use Rattle.quic_connection_core.specs.declared.run.Call.TheVariants as calls
 use Rattle.quic_connection_core.specs.declared.run.Answer.TheVariants as answers
 use Rattle.quic_connection_core.specs.Table.{at, put, added}
 use Rattle.quic_connection_core.specs.Sending as sending
-use Rattle.quic_connection_core.specs.Sending.{Sending, SendHalf, written_on, opens, next_id, new_half, after_open, taken_by, written_to, write_answer, grown, after_written, finish_of, ended_at, after_finish}
+use Rattle.quic_connection_core.specs.Sending.{Sending, SendHalf, is_acked, written_on, opens, next_id, new_half, after_open, taken_by, written_to, write_answer, grown, after_written, finish_of, ended_at, after_finish}
 use Rattle.quic_connection_core.specs.Runs.{Told, written_by, written, ended_by, ended}
 use Rattle.quic_connection_core.proofs.Tables.{at-added, at-apart, at-put, at-put-apart, unknown-put, sorted-put, sorted-added}
 use Rattle.quic_connection_core.proofs.Told.{written_more, ended_more}
@@ -194,11 +194,12 @@ taken_few h room len n e = go h.finished (h.limit - written_on h == 0) refl e
 
 taken_to : (s : Sending) (o : Option SendHalf) (id room len n : ℕ) → at s.halves id ≡ o → written_to o room len ≡ Ok n → IsTaken s id len n
 taken_to s None id room len n found e = cc
-taken_to s (Some h) id room len n found e = go (room == 0) e
+taken_to s (Some h) id room len n found e = go (is_acked h) (room == 0) e
   where
-    go : (b : Bool) → (if b then Err write_errors.Blocked else taken_by h room len) ≡ Ok n → IsTaken s id len n
-    go true f = cc
-    go false f =
+    go : (done b : Bool) → (if done then Err write_errors.ClosedStream else (if b then Err write_errors.Blocked else taken_by h room len)) ≡ Ok n → IsTaken s id len n
+    go true b f = cc
+    go false true f = cc
+    go false false f =
         let few = taken_few h room len n f in
         record { half = h; found = found; unfinished = few.0; few = few.1 }
 

@@ -55,6 +55,10 @@ room s = min (s.limit - s.accepted) (s.window - buffered s)
 abbrev pub has_pending : SendHalf → Bool
 has_pending h = has_unsent h.buffer || h.end_waits
 
+-- whether a half is wholly acknowledged, its end too: it is done then
+abbrev pub is_acked : SendHalf → Bool
+is_acked h = h.end_acked && is_fully_acked h.buffer
+
 -- ---- opening (RFC 9000, section 4.6)
 
 abbrev pub opened_of : Dir → Sending → ℕ
@@ -107,10 +111,11 @@ taken_by h room len =
     else (if h.limit - written_on h == 0 then Err write_errors.Blocked
     else Ok (min len (min room (h.limit - written_on h))))
 
--- What a write is answered on an open end: an unknown stream, no room on the connection, a finished stream, no room on the stream; else as much as fits.
+-- What a write is answered on an open end: an unknown stream or one that is done, no room on the connection, a finished stream, no room on the stream; else as
+-- much as fits.
 abbrev pub written_to : Option SendHalf → ℕ → ℕ → Result ℕ WriteError
 written_to None room len = Err write_errors.ClosedStream
-written_to (Some h) room len = if room == 0 then Err write_errors.Blocked else taken_by h room len
+written_to (Some h) room len = if is_acked h then Err write_errors.ClosedStream else (if room == 0 then Err write_errors.Blocked else taken_by h room len)
 
 -- what a write answers
 abbrev pub write_answer : Bool → Sending → ℕ → ℕ → Result ℕ WriteError
@@ -155,10 +160,6 @@ abbrev pub after_finish : Sending → ℕ → Sending
 after_finish s id = record s { halves = ended_at (at s.halves id) s.halves id }
 
 -- ---- what was acknowledged or lost (RFC 9000, section 13.3)
-
--- whether a half is wholly acknowledged, its end too
-abbrev pub is_acked : SendHalf → Bool
-is_acked h = h.end_acked && is_fully_acked h.buffer
 
 -- the half, whose end no longer waits where all of it is acknowledged
 abbrev pub waiting_on : SendHalf → SendHalf

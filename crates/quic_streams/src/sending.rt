@@ -211,6 +211,7 @@ impl Sending {
         let room = self.room();
         match self.half(id) {
             None => Err(WriteError::ClosedStream),
+            Some(half) if half.is_acked() => Err(WriteError::ClosedStream),
             Some(_) if room == 0 => Err(WriteError::Blocked),
             Some(half) => taken_by(half, room, len),
         }
@@ -238,7 +239,9 @@ impl Sending {
     /// `SendStream::write`).
     ///
     /// [`WriteError::Blocked`] where the end isn't open, or a limit leaves no room; [`WriteError::ClosedStream`] where there is
-    /// no such stream, or it is finished; [`WriteError::Memory`] where bytes would be taken and memory lacked. An error changes nothing.
+    /// no such stream, or it is finished; [`WriteError::Memory`] where bytes would be taken and memory lacked. They are tested in this
+    /// order: the end, the stream, and whether all of it is acknowledged; the room that is left for all streams; whether it is finished;
+    /// its own limit. An error changes nothing.
     pub fn write(&mut self, is_open: bool, id: StreamId, bytes: &[u8]) -> Result<usize, WriteError>
         ensures answer { result ≢ Err write_errors.Memory → result ≡ write_answer is_open self.old id (length bytes.now) }
         ensures new { self.new ≡ after_written result self.old id bytes.now }
