@@ -20,6 +20,7 @@ pub mod Ranges
 pub mod Lawful
 pub mod Inserting
 pub mod Kept
+pub mod Gaps
 pub mod KeptWrites
 pub mod Joining
 pub mod Extent

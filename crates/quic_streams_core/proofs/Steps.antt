@@ -102,7 +102,7 @@ le_from_held at x b = ltb-false at (start x) (go (ltb at (start x)) b)
     go true e = sym e
     go false e = refl
 
-lt_from_free : (at : ℕ) (x : Part) → false ≡ not (ltb at (start x)) → at < start x
+pub lt_from_free : (at : ℕ) (x : Part) → false ≡ not (ltb at (start x)) → at < start x
 lt_from_free at x b = ltb-true at (start x) (go (ltb at (start x)) b)
   where
     go : (c : Bool) → false ≡ not c → c ≡ true

@@ -1,10 +1,11 @@
 -- Words of the steps by which the assembler puts in and takes out parts.
-use Rattle.std.specs.Prelude.{ℕ, ◌+◌, ◌-◌, ◌≤◌, ◌==◌, Bool, false, cond, ltb, min, not, List, [], ◌∷◌, length, take, Option, Some, None}
+use Rattle.std.specs.Prelude.{◌≡◌, ℕ, ◌+◌, ◌-◌, ◌<◌, ◌≤◌, ◌==◌, Bool, false, cond, ltb, min, not, List, [], ◌∷◌, length, take, Option, Some, None}
 use Rattle.std.specs.Option.{is_some}
 use Rattle.std.specs.Ordering.{nat_cmp}
 use Rattle.std.specs.BTreeMap.{is_at}
 use Rattle.std.specs.Map.{lookup, remove_entry}
-use Rattle.quic_streams_core.specs.Arrived.{Part, start}
+use Rattle.quic_streams_core.specs.Spans.{Span, in_spans}
+use Rattle.quic_streams_core.specs.Arrived.{Part, start, byte_at}
 
 -- the first part that ends behind an offset
 abbrev pub after : ℕ → List Part → Option Part
@@ -78,3 +79,18 @@ touching_at at (Some p) = cond (start p == at) (Some p) None
 abbrev pub from_after : ℕ → List Part → List Part
 from_after at [] = []
 from_after at (p ∷ ps) = cond (ltb at p.0) (p ∷ ps) (from_after at ps)
+
+-- at one of `len` offsets from `at` on no byte waits
+pub record HasGap (ps : List Part) (at len : ℕ) : Type 0 where
+  pub offset : ℕ
+  pub above : at ≤ offset
+  pub below : offset < at + len
+  pub dry : byte_at ps offset ≡ None
+
+-- one of `len` offsets from `at` on is not in some runs, and no byte waits at it
+pub record HasFree (given : List Span) (ps : List Part) (at len : ℕ) : Type 0 where
+  pub offset : ℕ
+  pub above : at ≤ offset
+  pub below : offset < at + len
+  pub outside : in_spans given offset ≡ false
+  pub dry : byte_at ps offset ≡ None

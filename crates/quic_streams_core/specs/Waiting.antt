@@ -17,6 +17,11 @@ begins_part (p ∷ ps) offset = start p == offset || begins_part ps offset
 abbrev pub is_new : Arrived → ℕ → List ℕ → ℕ → Bool
 is_new a at bytes offset = is_some (byte_from at bytes offset) && not (is_given a offset || waits a.parts offset)
 
+-- they bring some such byte
+pub record BringsNew (a : Arrived) (at : ℕ) (bytes : List ℕ) : Type 0 where
+  pub offset : ℕ
+  pub new : is_new a at bytes offset ≡ true
+
 -- whether such bytes begin at an offset: one is new there, and none right before it
 abbrev pub begins_new : Arrived → ℕ → List ℕ → ℕ → Bool
 begins_new a at bytes offset = is_new a at bytes offset && not (cond (offset == 0) false (is_new a at bytes (offset - 1)))

@@ -1,7 +1,7 @@
 // What has arrived of a stream and is not read yet, in parts.
-ghost use Rattle.std.specs.Prelude.{◌≡◌, ◌+◌, ◌<◌, ◌≤◌, ◌^◌, ◌&&◌, length, [], IfOk, IsOk, OnOk, OnErr, is_err, is_some, true, false};
-ghost use Rattle.quic_streams_core.specs.Arrived.{IsLawful, byte_at, bytes_read_of, runs_of, after_insert, is_next_in, given_in, given_by, after_read_in, after_read, after_ordering, cuts};
-ghost use Rattle.quic_streams_core.specs.Waiting.{IsInserted, IsRead, IsLeft};
+ghost use Rattle.std.specs.Prelude.{◌≡◌, ◌+◌, ◌<◌, ◌≤◌, ◌^◌, ◌&&◌, ◌⊎◌, length, [], IfOk, IsOk, OnOk, OnErr, is_err, is_some, true, false};
+ghost use Rattle.quic_streams_core.specs.Arrived.{IsLawful, byte_at, bytes_read_of, runs_of, is_crowded, after_insert, is_next_in, given_in, given_by, after_read_in, after_read, after_ordering, cuts};
+ghost use Rattle.quic_streams_core.specs.Waiting.{BringsNew, IsInserted, IsRead, IsLeft};
 
 mod parts;
 
@@ -156,12 +156,13 @@ impl Assembler {
     ///
     /// # Errors
     ///
-    /// [`AllocError`] where memory lacks; nothing changed.
+    /// [`AllocError`] where memory lacks; nothing changed. It lacks none where no byte is new and the parts needn't be joined.
     pub fn insert(&mut self, offset: u64, bytes: &[u8]) -> Result<(), AllocError>
         requires { offset + length bytes.now < 2 ^ 62 }
         ensures ok { OnOk result (self.new ≡ after_insert self.old offset bytes.now) }
         ensures inserted { OnOk result (IsInserted self.old offset bytes.now self.new) }
         ensures err { OnErr result (self.new ≡ self.old) }
+        ensures lacking { OnErr result (BringsNew self.old offset bytes.now ⊎ (is_crowded self.old.parts ≡ true)) }
     {
         let known = self.read.saturating_sub(offset).min(bytes.len() as u64);
         self.parts

@@ -1,12 +1,12 @@
 // The parts of a stream that wait to be read.
-ghost use Rattle.std.specs.Prelude.{◌≡◌, cond, drop, ◌+◌, ◌<◌, ◌≤◌, ◌∷◌, ◌^◌, length, [], take, true, false, None, IfOk, IsOk, OnOk, OnErr, is_some};
+ghost use Rattle.std.specs.Prelude.{◌≡◌, cond, drop, ◌+◌, ◌<◌, ◌≤◌, ◌∷◌, ◌^◌, ◌⊎◌, length, [], take, true, false, None, IfOk, IsOk, OnOk, OnErr, is_some};
 ghost use Rattle.std.specs.Option.{option_map};
 ghost use Rattle.std.specs.Map.{lookup, remove_entry};
 ghost use Rattle.std.specs.BTreeMap.{insert_entry, is_at};
 ghost use Rattle.std.specs.Ordering.{nat_cmp};
-ghost use Rattle.quic_streams_core.specs.Arrived.{AreApart, runs_of, with_gaps, with_free, is_next, is_some_part, first_given, left_front, in_front, joined, settled, is_crowded, last_end, extent, are_short};
+ghost use Rattle.quic_streams_core.specs.Arrived.{AreApart, runs_of, byte_at, with_gaps, with_free, is_next, is_some_part, first_given, left_front, in_front, joined, settled, is_crowded, last_end, extent, are_short};
 ghost use Rattle.quic_streams_core.specs.Spans.{AreSpans};
-ghost use Rattle.quic_streams_core.specs.PartSteps.{first_bytes, rest_of, front_of, cuts_front, after, span_of, is_held, held_at, gap_at, begins_at, Fits, undone, touching_at, from_after};
+ghost use Rattle.quic_streams_core.specs.PartSteps.{first_bytes, rest_of, front_of, cuts_front, after, span_of, is_held, held_at, gap_at, begins_at, Fits, undone, touching_at, from_after, HasGap, HasFree};
 
 use super::Chunk;
 use crate::connection::by_end::{keep, next_part};
@@ -317,6 +317,8 @@ impl Parts {
         ensures within { IfOk result (λ n. n ≤ length bytes.now) }
         ensures gaps { IfOk result (λ n. with_gaps self.old at bytes.now ≡ with_gaps self.new (at + n) (drop n bytes.now)) }
         ensures back { undone ends.new.items self.new ≡ undone ends.old.items self.old }
+        ensures same { OnOk result ((self.new ≡ self.old) ⊎ (byte_at self.old at ≡ None)) }
+        ensures lacking { OnErr result (byte_at self.old at ≡ None) }
     {
         let (held, count, joins) = span(&self.map, at, bytes.len() as u64);
         let len = count as usize;
@@ -332,6 +334,8 @@ impl Parts {
         requires { at + length bytes.now < 2 ^ 62 }
         ensures ok { OnOk result (self.new ≡ with_gaps self.old at bytes.now) }
         ensures back { undone ends.new.items self.new ≡ undone ends.old.items self.old }
+        ensures same { OnOk result ((self.new ≡ self.old) ⊎ HasGap self.old at (length bytes.now)) }
+        ensures lacking { OnErr result (HasGap self.old at (length bytes.now)) }
     {
         let mut taken = 0;
         while taken < bytes.len() {
@@ -356,6 +360,8 @@ impl Parts {
         ensures within { IfOk result (λ n. n ≤ length bytes.now) }
         ensures free { IfOk result (λ n. with_free given.now.entries self.old at bytes.now ≡ with_free given.now.entries self.new (at + n) (drop n bytes.now)) }
         ensures back { undone ends.new.items self.new ≡ undone ends.old.items self.old }
+        ensures same { OnOk result ((self.new ≡ self.old) ⊎ HasFree given.now.entries self.old at (length bytes.now)) }
+        ensures lacking { OnErr result (HasFree given.now.entries self.old at (length bytes.now)) }
     {
         let (held, count) = spans::look(given, at, bytes.len() as u64);
         let len = count as usize;
@@ -377,6 +383,8 @@ impl Parts {
         requires small { at + length bytes.now < 2 ^ 62 }
         ensures ok { OnOk result (self.new ≡ with_free given.now.entries self.old at bytes.now) }
         ensures back { undone ends.new.items self.new ≡ undone ends.old.items self.old }
+        ensures same { OnOk result ((self.new ≡ self.old) ⊎ HasFree given.now.entries self.old at (length bytes.now)) }
+        ensures lacking { OnErr result (HasFree given.now.entries self.old at (length bytes.now)) }
     {
         let mut taken = 0;
         while taken < bytes.len() {
@@ -416,6 +424,7 @@ impl Parts {
     fn settle(&mut self) -> Result<(), AllocError>
         ensures ok { OnOk result (self.new ≡ settled self.old) }
         ensures err { OnErr result (self.new ≡ self.old) }
+        ensures lacking { OnErr result (is_crowded self.old ≡ true) }
     {
         if self.is_crowded() {
             self.join()
@@ -436,6 +445,7 @@ impl Parts {
         requires small { at + length bytes.now < 2 ^ 62 }
         ensures ok { OnOk result (self.new ≡ settled (with_free given.now.entries self.old at bytes.now)) }
         ensures back { OnErr result (undone ends.new.items self.new ≡ undone ends.old.items self.old) }
+        ensures lacking { OnErr result (HasFree given.now.entries self.old at (length bytes.now) ⊎ (is_crowded self.old ≡ true)) }
     {
         self.fill_free(given, at, bytes, ends)?;
         self.settle()
@@ -457,6 +467,7 @@ impl Parts {
         requires small { at + length bytes.now < 2 ^ 62 }
         ensures ok { OnOk result (self.new ≡ settled (with_free given.now.entries self.old at bytes.now)) }
         ensures err { OnErr result (self.new ≡ self.old) }
+        ensures lacking { OnErr result (HasFree given.now.entries self.old at (length bytes.now) ⊎ (is_crowded self.old ≡ true)) }
     {
         let runs = self.runs();
         let mut ends = Vec::new(self.alloc);

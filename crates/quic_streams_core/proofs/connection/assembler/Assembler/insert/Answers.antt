@@ -1,6 +1,8 @@
 use Rattle.std.proofs.Common.{◌∙◌, ℕ, List, length, min, ap, sym, subst, arith}
+use Rattle.std.proofs.lemmas.Result.{on_err_weaker}
 use Rattle.quic_streams_core.specs.Arrived.{Arrived, Part, settled}
 use Rattle.quic_streams_core.specs.Waiting.{IsInserted}
+use Rattle.quic_streams_core.proofs.Gaps.{brings_new}
 use Rattle.quic_streams_core.proofs.Inserted.{is_inserted}
 use Rattle.quic_streams_core.proofs.Inserting.{on_ok, known_free}
 use Rattle.quic_streams_core.proofs.Kept.{seen, insert_kept}
@@ -37,3 +39,10 @@ returns-clause-inserted c =
     let same = known_free i.read a.offset c.min-known.result i.picked.entries i.parts a.bytes.now known in
     let all : List Part → Arrived = λ ps. seen i.read i.unordered i.picked.entries ps in
     on_ok c.insert.result c.insert.ensures.ok (λ e. rw (← c.self.view_is) (subst (λ (b : Arrived). IsInserted (all i.parts) a.offset a.bytes.now b) (sym (ap all (e ∙ ap settled same))) (is_inserted (all i.parts) a.offset a.bytes.now c.self.invariant.lawful c.requires)))
+
+pub returns-clause-lacking : goal.returns-clause-lacking
+returns-clause-lacking c =
+    let i = c.self.inside in
+    let a = c.args in
+    let known = c.min-known.ensures ∙ ap (λ (n : ℕ). min n (length a.bytes.now)) c.saturating_sub.ensures in
+    on_err_weaker c.insert.result (λ e. rw (← c.self.view_is) (brings_new i.read a.offset c.min-known.result i.unordered i.picked.entries i.parts a.bytes.now known e)) c.insert.ensures.lacking

@@ -1,5 +1,6 @@
 use Rattle.std.proofs.Common.{refl}
 use Rattle.quic_streams_core.proofs.Free.{look_some, given_skips, free_fills}
+use Rattle.quic_streams_core.proofs.Gaps.{free_here, of_error, on_second}
 use Rattle.quic_streams_core.proofs.connection.assembler.parts.Parts.put_free.Goals as goal
 
 pub returns-in_ok-fill-clause-some : goal.returns-in_ok-fill-clause-some
@@ -21,3 +22,15 @@ pub returns-in_ok-fill-clause-free : goal.returns-in_ok-fill-clause-free
 returns-in_ok-fill-clause-free c =
     let h = c.look-held.ensures in
     free_fills c.args.at _ _ c.args.given.now.entries _ _ c.args.bytes.now _ c.requires.spans c.if-not-held.true h.count refl c.in_ok-fill.ensures.ok
+
+pub returns-in_err-fill-clause-lacking : goal.returns-in_err-fill-clause-lacking
+returns-in_err-fill-clause-lacking c =
+    let h = c.look-held.ensures in
+    let some = look_some c.args.at _ _ c.args.given.now.entries _ c.requires.some h.held h.count in
+    of_error c.from_residual.result (free_here c.args.at _ _ c.args.given.now.entries _ c.args.bytes.now _ c.requires.spans c.if-not-held.true h.count some.1 c.in_err-fill.ensures.lacking)
+
+pub returns-in_ok-fill-clause-same : goal.returns-in_ok-fill-clause-same
+returns-in_ok-fill-clause-same c =
+    let h = c.look-held.ensures in
+    let some = look_some c.args.at _ _ c.args.given.now.entries _ c.requires.some h.held h.count in
+    on_second c.in_ok-fill.ensures.same (free_here c.args.at _ _ c.args.given.now.entries _ c.args.bytes.now _ c.requires.spans c.if-not-held.true h.count some.1)

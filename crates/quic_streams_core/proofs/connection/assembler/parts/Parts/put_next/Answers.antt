@@ -1,6 +1,7 @@
-use Rattle.std.proofs.Common.{refl}
+use Rattle.std.proofs.Common.{refl, inr}
 use Rattle.quic_streams_core.proofs.Steps.{some_taken, held_gaps, put_gaps}
 use Rattle.quic_streams_core.proofs.Undone.{put_back, put_none}
+use Rattle.quic_streams_core.proofs.Gaps.{dry_here, of_error}
 use Rattle.quic_streams_core.proofs.connection.assembler.parts.Parts.put_next.Goals as goal
 
 pub returns-else-not-held-clause-some : goal.returns-else-not-held-clause-some
@@ -27,3 +28,14 @@ pub returns-in_ok-fill_gap-clause-back : goal.returns-in_ok-fill_gap-clause-back
 returns-in_ok-fill_gap-clause-back c =
     let h = c.span-held.ensures in
     put_back c.args.at _ _ _ _ _ c.self.inside.map.entries _ c.args.bytes.now _ c.self.view_is c.self.invariant.apart c.requires.some h.held c.if-not-held.true h.count refl c.in_ok-push.ensures.items c.in_ok-fill_gap.ensures.ok
+
+pub returns-in_err-push-clause-lacking : goal.returns-in_err-push-clause-lacking
+returns-in_err-push-clause-lacking c =
+    of_error c.from_residual.result (dry_here c.args.at _ c.self.inside.map.entries _ c.self.view_is c.self.invariant.apart c.span-held.ensures.held c.if-not-held.true)
+
+pub returns-in_err-fill_gap-clause-lacking : goal.returns-in_err-fill_gap-clause-lacking
+returns-in_err-fill_gap-clause-lacking c =
+    of_error c.from_residual-in_err-fill_gap.result (dry_here c.args.at _ c.self.inside.map.entries _ c.self.view_is c.self.invariant.apart c.span-held.ensures.held c.if-not-held.true)
+
+pub returns-in_ok-fill_gap-clause-same : goal.returns-in_ok-fill_gap-clause-same
+returns-in_ok-fill_gap-clause-same c = inr (dry_here c.args.at _ c.self.inside.map.entries _ c.self.view_is c.self.invariant.apart c.span-held.ensures.held c.if-not-held.true)
