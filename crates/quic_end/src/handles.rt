@@ -63,7 +63,8 @@ impl<'a, H: HeaderKey + Drop, K: PacketKey + Drop, R: Rng + Drop> SendStream<'a,
     ///
     /// `Blocked`: the end isn't open, or there is no room on the connection, in the send window or on the stream.
     /// `ClosedStream`: there is no such stream, or it was finished. They are tested in this order: the end, the
-    /// stream, the connection's room, the finish, the stream's room. `Memory`: bytes would be accepted, and memory lacked.
+    /// stream and whether all of it is acknowledged, the connection's room, the finish, the stream's room. `Memory`: bytes would be
+    /// accepted, and memory lacked.
     /// An error changes nothing.
     pub fn write(&mut self, data: &[u8]) -> Result<usize, WriteError>
         ensures same_reference { self.new.connection.ghost_name ≡ self.old.connection.ghost_name }
