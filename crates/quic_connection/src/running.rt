@@ -122,13 +122,10 @@ fn at_end<H: HeaderKey + Drop, K: PacketKey + Drop, R: Rng + Drop>(
     match call {
         Call::Open(dir) => Ok(Answer::Open(end.streams().open(*dir))),
         Call::Accept(dir) => Ok(Answer::Accept(end.streams().accept(*dir))),
-        Call::Write(id, data) => Ok(Answer::Write(end.send_stream(*id).write(data.as_slice()))),
+        Call::Write(id, data) => Ok(write_at(end, *id, data.as_slice())),
         Call::Finish(id) => Ok(Answer::Finish(end.send_stream(*id).finish())),
         Call::Read(read) => read_at(alloc, end, read),
-        Call::Ping => {
-            end.ping();
-            Ok(Answer::Ping)
-        }
+        Call::Ping => Ok(ping_at(end)),
         Call::Poll(now) => poll_at(alloc, end, mine, *now),
         Call::Timeout(now) => Ok(Answer::Timeout(end.handle_timeout(*now))),
         Call::Deliver(delivery) => deliver_at(alloc, end, theirs, delivery),
@@ -137,6 +134,35 @@ fn at_end<H: HeaderKey + Drop, K: PacketKey + Drop, R: Rng + Drop>(
         Call::Timer(timer) => Ok(Answer::Timer(end.timer(*timer))),
         Call::NextTimeout => Ok(Answer::NextTimeout(end.poll_timeout())),
     }
+}
+
+/// Bytes are written.
+fn write_at<H: HeaderKey + Drop, K: PacketKey + Drop, R: Rng + Drop>(
+    end: &mut Connection<H, K, R>,
+    id: StreamId,
+    data: &[u8],
+) -> Answer
+    ensures answer { IsAnswer (policy_of H.masks H.hides H.unmasks H.reveals K.sealed K.opened end.old) end.old.end [] (Call.Write id data.now) result }
+    ensures lacking { LacksWhere (policy_of H.masks H.hides H.unmasks H.reveals K.sealed K.opened end.old) end.old.end [] (Call.Write id data.now) result }
+    ensures end { IsLeft (fails result) (policy_of H.masks H.hides H.unmasks H.reveals K.sealed K.opened end.old) end.old.end [] (Call.Write id data.now) result end.new.end }
+    ensures given { gives (policy_of H.masks H.hides H.unmasks H.reveals K.sealed K.opened end.old) end.old.end (Call.Write id data.now) result ≡ [] }
+    ensures keys { end.new ≡ with_end end.old end.new.end }
+{
+    Answer::Write(end.send_stream(id).write(data))
+}
+
+/// A PING is asked for.
+fn ping_at<H: HeaderKey + Drop, K: PacketKey + Drop, R: Rng + Drop>(
+    end: &mut Connection<H, K, R>,
+) -> Answer
+    ensures answer { IsAnswer (policy_of H.masks H.hides H.unmasks H.reveals K.sealed K.opened end.old) end.old.end [] Call.Ping result }
+    ensures lacking { LacksWhere (policy_of H.masks H.hides H.unmasks H.reveals K.sealed K.opened end.old) end.old.end [] Call.Ping result }
+    ensures end { IsLeft (fails result) (policy_of H.masks H.hides H.unmasks H.reveals K.sealed K.opened end.old) end.old.end [] Call.Ping result end.new.end }
+    ensures given { gives (policy_of H.masks H.hides H.unmasks H.reveals K.sealed K.opened end.old) end.old.end Call.Ping result ≡ [] }
+    ensures keys { end.new ≡ with_end end.old end.new.end }
+{
+    end.ping();
+    Answer::Ping
 }
 
 /// A poll, whose datagram is kept.
