@@ -38,12 +38,13 @@ use Rattle.quic_connection_core.specs.End.{End, with_closing, closed_by, with_nu
 use Rattle.quic_connection_core.specs.Opens.{own_id_length}
 use Rattle.quic_connection_core.specs.Acked.{without_known, stream_acked, streams_acked, packet_acked, packets_acked, stream_lost, streams_lost, packets_lost, after_named}
 use Rattle.quic_connection_core.specs.Receive.{Fault, violation, reason_of, Progress, take_frame, take_item, unless_fault, take_items, is_empty, take_payload, timers_after, asks_in, dropped, ends_as, processed, by_state, opened_to, opened_as, opening, headed, received_in}
-use Rattle.quic_connection_core.specs.Poll.{Polled, Draft, first_pending, no_frames, ping_if, with_ping_frame, stream_if, stream_of, with_ack, ack_fits, ack_if, with_asking, composed_if, composed, asking, tracked_if, polled}
+use Rattle.quic_connection_core.specs.Poll.{Polled, Draft, no_frames, ping_if, with_ping_frame, stream_if, with_ack, ack_fits, ack_if, with_asking, composed_if, composed, asking, tracked_if, polled}
 use Rattle.quic_connection_core.specs.Timeouts.{acks_expired, loss_expired, timed_out_in}
 use Rattle.quic_connection_core.specs.Calls.{can_open, after_open_if, end_after_event, end_after_next, after_nexts}
 use Rattle.quic_connection_core.specs.Machine.{World, Policies, IsLeft, IsStep, after_call, after_delivered, fails, Follows}
 use Rattle.quic_connection_core.specs.Runs.{Next}
 use Rattle.quic_connection_core.specs.Headline.{AckTimerFollows, AckTimersFollow}
+use Rattle.quic_connection_core.proofs.Drafts.{streams_keep}
 use Rattle.quic_connection_core.proofs.Stays.{named, ack_taken}
 use Rattle.quic_connection_core.proofs.Injected.{injected_leaves}
 use Rattle.quic_connection_core.proofs.Leaves.{by_event}
@@ -199,18 +200,12 @@ half_follows : (o : Option SendHalf) (d : Draft) (id : ℕ) → AckTimerFollows 
 half_follows None d id i = i
 half_follows (Some h) d id i = i
 
-stream_follows : (o : Option ℕ) (d : Draft) → AckTimerFollows d.end → AckTimerFollows (stream_of o d).end
-stream_follows None d i = i
-stream_follows (Some id) d i = half_follows (at d.end.sending.halves id) d id i
-
 ping_follows : (b : Bool) (d : Draft) → AckTimerFollows d.end → AckTimerFollows (ping_if b d).end
 ping_follows true d i = i
 ping_follows false d i = i
 
 asking_follows : (d : Draft) → AckTimerFollows d.end → AckTimerFollows (with_asking d).end
-asking_follows d i =
-    let pinged = with_ping_frame d in
-    stream_follows (first_pending pinged.end.sending.halves) pinged (ping_follows d.end.waiting.ping d i)
+asking_follows d i = streams_keep (λ x. AckTimerFollows x.end) (λ x id is f. half_follows (at x.end.sending.halves id) x id f) (with_ping_frame d) (ping_follows d.end.waiting.ping d i)
 
 -- a due ACK goes first, and another last
 composed_follows : (b : Bool) (e : End) → AckTimerFollows e → AckTimerFollows (composed_if b e).end

@@ -24,10 +24,11 @@ use Rattle.quic_connection_core.specs.Sending as sending
 use Rattle.quic_connection_core.specs.End.{End, with_closing}
 use Rattle.quic_connection_core.specs.Calls.{can_open, after_open_if, after_telling, end_after_next, after_nexts}
 use Rattle.quic_connection_core.specs.Timeouts.{acks_expired, loss_expired, timed_out_in}
-use Rattle.quic_connection_core.specs.Poll.{Polled, Draft, first_pending, half_after, stream_room, no_frames, ping_if, stream_if, stream_of, with_ack, ack_fits, ack_if, with_asking, composed_if, composed, asking, tracked_if, after_given, polled}
+use Rattle.quic_connection_core.specs.Poll.{Polled, Draft, half_after, stream_room, no_frames, ping_if, with_ping_frame, stream_if, with_ack, ack_fits, ack_if, with_asking, composed_if, composed, asking, tracked_if, after_given, polled}
 use Rattle.quic_connection_core.specs.Machine.{after_call}
 use Rattle.quic_connection_core.specs.Runs.{Told, Packet, Next, In, written, ended, WasTaken, HasArrived, EndHasArrived}
 use Rattle.quic_connection_core.specs.Headline.{AllArrived}
+use Rattle.quic_connection_core.proofs.Drafts.{streams_keep}
 use Rattle.quic_connection_core.proofs.Tables.{at-put, at-put-apart, at-added, at-apart}
 use Rattle.quic_connection_core.proofs.Invariant.{HalfArrived, Arrives}
 use Rattle.quic_connection_core.proofs.Growth.{AllGrow}
@@ -54,6 +55,16 @@ AcksNoMore before after = (id : ℕ) (k : SendHalf) → at after id ≡ Some k �
 -- nothing changed
 no_more_same : (halves : Table SendHalf) → AcksNoMore halves halves
 no_more_same halves id k e = inr (k, e, record { bytes = refl; end = refl })
+
+-- one change behind another
+no_more_then : (a b c : Table SendHalf) → AcksNoMore a b → AcksNoMore b c → AcksNoMore a c
+no_more_then a b c first second id k e = elim (second id k e) [
+  | inl none ↦ inl none
+  | inr (h, is, same) ↦ elim (first id h is) [
+    | inl none ↦ inl (record { bytes = same.bytes ∙ none.bytes; end = same.end ∙ none.end })
+    | inr (g, was, like) ↦ inr (g, was, record { bytes = same.bytes ∙ like.bytes; end = same.end ∙ like.end })
+  ]
+]
 
 -- one half is changed
 no_more_put : (halves : Table SendHalf) (id : ℕ) (h w : SendHalf) → at halves id ≡ Some h → IsAckedAs h w → AcksNoMore halves (put halves id w)
@@ -101,18 +112,15 @@ no_more_half : (o : Option SendHalf) (d : Draft) (id : ℕ) → at d.end.sending
 no_more_half None d id found = no_more_same d.end.sending.halves
 no_more_half (Some h) d id found = no_more_put d.end.sending.halves id h (half_after h (stream_room d id)) found (record { bytes = refl; end = refl })
 
--- the frame of a stream goes, where one has something to send
-no_more_stream : (o : Option ℕ) (d : Draft) → AcksNoMore d.end.sending.halves (stream_of o d).end.sending.halves
-no_more_stream None d = no_more_same d.end.sending.halves
-no_more_stream (Some id) d = no_more_half (at d.end.sending.halves id) d id refl
-
 -- what asks goes
 no_more_asking : (d : Draft) → AcksNoMore d.end.sending.halves (with_asking d).end.sending.halves
-no_more_asking d = go d.end.waiting.ping
+no_more_asking d =
+    streams_keep (λ x. AcksNoMore d.end.sending.halves x.end.sending.halves) (λ x id is before. no_more_then d.end.sending.halves x.end.sending.halves (stream_if (at x.end.sending.halves id) x id).end.sending.halves before (no_more_half (at x.end.sending.halves id) x id refl))
+    (with_ping_frame d) (pinged d.end.waiting.ping)
   where
-    go : (b : Bool) → AcksNoMore d.end.sending.halves (stream_of (first_pending (ping_if b d).end.sending.halves) (ping_if b d)).end.sending.halves
-    go true = no_more_stream (first_pending d.end.sending.halves) (ping_if true d)
-    go false = no_more_stream (first_pending d.end.sending.halves) d
+    pinged : (b : Bool) → AcksNoMore d.end.sending.halves (ping_if b d).end.sending.halves
+    pinged true = no_more_same d.end.sending.halves
+    pinged false = no_more_same d.end.sending.halves
 
 -- what goes acknowledges nothing
 no_more_composed : (e : End) → AcksNoMore e.sending.halves (composed e).end.sending.halves

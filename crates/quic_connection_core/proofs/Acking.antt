@@ -27,10 +27,11 @@ use Rattle.quic_connection_core.specs.Opens.{own_id_length}
 use Rattle.quic_connection_core.specs.Receive.{asks_in, received}
 use Rattle.quic_connection_core.specs.Timeouts.{acks_expired, loss_expired, timed_out_in}
 use Rattle.quic_connection_core.specs.Calls.{can_open, after_open_if, after_telling, end_after_next, after_nexts}
-use Rattle.quic_connection_core.specs.Poll.{Draft, first_pending, no_frames, ping_if, with_ping_frame, stream_if, stream_of, with_ack, ack_fits, ack_if, with_asking, composed_if, composed, asking, tracked_if, probed, waits, sends, polled_if, polled_in, polled}
+use Rattle.quic_connection_core.specs.Poll.{Draft, first_pending, no_frames, ping_if, with_ping_frame, stream_if, with_ack, ack_fits, ack_if, with_asking, composed_if, composed, asking, tracked_if, probed, waits, sends, polled_if, polled_in, polled}
 use Rattle.quic_connection_core.specs.Machine.{after_call}
 use Rattle.quic_connection_core.specs.Runs.{Told, Next, Packet, Intake}
 use Rattle.quic_connection_core.specs.Headline.{IsLawful}
+use Rattle.quic_connection_core.proofs.Drafts.{streams_keep}
 use Rattle.quic_connection_core.proofs.Invariant.{IsGiven, KnowsIn, AreTaken, Acks}
 use Rattle.quic_connection_core.proofs.Delivered.{Arrivals, begun, arrived, by_arrival}
 use Rattle.quic_connection_core.proofs.Stays.{Keeps, keeps_frames}
@@ -122,14 +123,9 @@ half_runs : (o : Option SendHalf) (d : Draft) (id : ℕ) → (stream_if o d id).
 half_runs None d id = refl
 half_runs (Some h) d id = refl
 
--- nor does a STREAM frame
-stream_runs : (o : Option ℕ) (d : Draft) → (stream_of o d).end.acknowledging.runs ≡ d.end.acknowledging.runs
-stream_runs None d = refl
-stream_runs (Some id) d = half_runs (at d.end.sending.halves id) d id
-
 -- what asks for an acknowledgement acknowledges nothing
 asking_runs : (d : Draft) → (with_asking d).end.acknowledging.runs ≡ d.end.acknowledging.runs
-asking_runs d = let pinged = with_ping_frame d in stream_runs (first_pending pinged.end.sending.halves) pinged ∙ ping_runs d.end.waiting.ping d
+asking_runs d = streams_keep (λ x. x.end.acknowledging.runs ≡ d.end.acknowledging.runs) (λ x id is same. half_runs (at x.end.sending.halves id) x id ∙ same) (with_ping_frame d) (ping_runs d.end.waiting.ping d)
 
 -- an acknowledgement that goes leaves the numbers: what it names may be lost
 ack_runs : (b : Bool) (d : Draft) → (ack_if b d).end.acknowledging.runs ≡ d.end.acknowledging.runs

@@ -10,7 +10,8 @@ mod Acts
 pub mod Whole
 mod Injected
 mod Steps
-mod Polls
+pub mod Drafts
+pub mod Polls
 mod Leaves
 pub mod LossTimers
 pub mod AckTimers
@@ -45,6 +46,7 @@ mod Stays
 mod Frames
 mod Writes
 mod Sends
+pub mod Filling
 mod Writer
 pub mod WorkedRun
 pub mod WorkedLacks

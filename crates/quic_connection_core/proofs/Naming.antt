@@ -20,8 +20,9 @@ use Rattle.quic_connection_core.specs.Table.{at}
 use Rattle.quic_connection_core.specs.Tracking.{names}
 use Rattle.quic_connection_core.specs.Sending.{SendHalf}
 use Rattle.quic_connection_core.specs.End.{End, with_closing, with_ping}
-use Rattle.quic_connection_core.specs.Poll.{Draft, frame_of, first_pending, no_frames, ping_if, with_ping_frame, stream_room, stream_if, stream_of, with_ack, ack_of, ack_fits, ack_if, with_asking, composed_if, composed}
+use Rattle.quic_connection_core.specs.Poll.{Draft, frame_of, no_frames, ping_if, with_ping_frame, stream_room, stream_if, with_ack, ack_of, ack_fits, ack_if, with_asking, composed_if, composed}
 use Rattle.quic_connection_core.specs.Runs.{Packet, Intake, In, gave}
+use Rattle.quic_connection_core.proofs.Drafts.{streams_keep}
 use Rattle.quic_connection_core.proofs.Invariant.{Sent, NameTaken, WereSent, AreTaken, Acks}
 use Rattle.quic_connection_core.proofs.Growth.{in_more, get_front, get_more}
 use Rattle.quic_connection_core.proofs.Polls.{ready_at, frames_at}
@@ -66,16 +67,9 @@ half_acknowledges : (runs : List Run) (o : Option SendHalf) (d : Draft) (id : �
 half_acknowledges runs None d id k = k
 half_acknowledges runs (Some h) d id k = record { frames = ack_more runs d.frames (stream (frame_of id h (stream_room d id))) k.frames (λ a is. cc); same = k.same }
 
--- nor has a STREAM frame
-stream_acknowledges : (runs : List Run) (o : Option ℕ) (d : Draft) → Acknowledges runs d → Acknowledges runs (stream_of o d)
-stream_acknowledges runs None d k = k
-stream_acknowledges runs (Some id) d k = half_acknowledges runs (at d.end.sending.halves id) d id k
-
 -- nor has what asks for an acknowledgement
 asking_acknowledges : (runs : List Run) (d : Draft) → Acknowledges runs d → Acknowledges runs (with_asking d)
-asking_acknowledges runs d k =
-    let pinged = with_ping_frame d in
-    stream_acknowledges runs (first_pending pinged.end.sending.halves) pinged (ping_acknowledges runs d.end.waiting.ping d k)
+asking_acknowledges runs d k = streams_keep (Acknowledges runs) (λ x id is a. half_acknowledges runs (at x.end.sending.halves id) x id a) (with_ping_frame d) (ping_acknowledges runs d.end.waiting.ping d k)
 
 -- an ACK frame that goes has them
 ack_acknowledges : (runs : List Run) (b : Bool) (d : Draft) → Acknowledges runs d → Acknowledges runs (ack_if b d)

@@ -20,9 +20,10 @@ use Rattle.quic_connection_core.specs.Table.{at}
 use Rattle.quic_connection_core.specs.Sending.{SendHalf}
 use Rattle.quic_connection_core.specs.Tracking.{Tracking}
 use Rattle.quic_connection_core.specs.End.{End, with_closing, closed_by, with_numbers, with_ping}
-use Rattle.quic_connection_core.specs.Poll.{Polled, Draft, first_pending, gives_nothing, gives_datagram, no_frames, ping_if, with_ping_frame, stream_if, stream_of, with_ack, ack_fits, ack_if, with_asking, composed_if, composed, datagram_of, asking, tracked_if, after_given, probed, waits, sends, polled_if, polled_open, polled_in, polled}
+use Rattle.quic_connection_core.specs.Poll.{Polled, Draft, gives_nothing, gives_datagram, no_frames, ping_if, with_ping_frame, stream_if, with_ack, ack_fits, ack_if, with_asking, composed_if, composed, datagram_of, asking, tracked_if, after_given, probed, waits, sends, polled_if, polled_open, polled_in, polled}
 use Rattle.quic_connection_core.specs.Machine.{gives}
 use Rattle.quic_connection_core.specs.Runs.{gave}
+use Rattle.quic_connection_core.proofs.Drafts.{streams_keep}
 
 -- an end that took a moment over, and PING waits at it or doesn't
 abbrev pub at_moment : End → ℕ → Bool → End
@@ -144,16 +145,12 @@ pub record Composes (e f : End) : Type 0 where
   pub loss : f.timers.loss_detection ≡ e.timers.loss_detection
   pub path : f.path ≡ e.path
 
-composes_on : (e f g : End) → Composes e f → Composes f g → Composes e g
+pub composes_on : (e f g : End) → Composes e f → Composes f g → Composes e g
 composes_on e f g s t = record { side = t.side ∙ s.side; ids = t.ids ∙ s.ids; numbers = t.numbers ∙ s.numbers; closing = t.closing ∙ s.closing; events = t.events ∙ s.events; tracking = t.tracking ∙ s.tracking; loss = t.loss ∙ s.loss; path = t.path ∙ s.path }
 
 half_composes : (o : Option SendHalf) (d : Draft) (id : ℕ) → Composes d.end (stream_if o d id).end
 half_composes None d id = record { side = refl; ids = refl; numbers = refl; closing = refl; events = refl; tracking = refl; loss = refl; path = refl }
 half_composes (Some h) d id = record { side = refl; ids = refl; numbers = refl; closing = refl; events = refl; tracking = refl; loss = refl; path = refl }
-
-stream_composes : (o : Option ℕ) (d : Draft) → Composes d.end (stream_of o d).end
-stream_composes None d = record { side = refl; ids = refl; numbers = refl; closing = refl; events = refl; tracking = refl; loss = refl; path = refl }
-stream_composes (Some id) d = half_composes (at d.end.sending.halves id) d id
 
 ping_composes : (b : Bool) (d : Draft) → Composes d.end (ping_if b d).end
 ping_composes true d = record { side = refl; ids = refl; numbers = refl; closing = refl; events = refl; tracking = refl; loss = refl; path = refl }
@@ -161,8 +158,7 @@ ping_composes false d = record { side = refl; ids = refl; numbers = refl; closin
 
 asking_composes : (d : Draft) → Composes d.end (with_asking d).end
 asking_composes d =
-    let pinged = with_ping_frame d in
-    composes_on d.end pinged.end (with_asking d).end (ping_composes d.end.waiting.ping d) (stream_composes (first_pending pinged.end.sending.halves) pinged)
+    streams_keep (λ x. Composes d.end x.end) (λ x id is c. composes_on d.end x.end (stream_if (at x.end.sending.halves id) x id).end c (half_composes (at x.end.sending.halves id) x id)) (with_ping_frame d) (ping_composes d.end.waiting.ping d)
 
 ack_composes : (b : Bool) (d : Draft) → Composes d.end (ack_if b d).end
 ack_composes true d = record { side = refl; ids = refl; numbers = refl; closing = refl; events = refl; tracking = refl; loss = refl; path = refl }

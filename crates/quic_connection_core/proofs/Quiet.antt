@@ -13,11 +13,12 @@ use Rattle.quic_connection_core.specs.Receiving.{Receiving}
 use Rattle.quic_connection_core.specs.Tracking.{Tracking}
 use Rattle.quic_connection_core.specs.End.{End}
 use Rattle.quic_connection_core.specs.Calls.{end_after_write, end_after_finish, end_after_ping, end_after_event}
-use Rattle.quic_connection_core.specs.Poll.{first_pending, Draft, no_frames, ping_if, with_ping_frame, stream_if, stream_of, with_ack, ack_fits, ack_if, with_asking, composed_if, composed, Polled, polled}
+use Rattle.quic_connection_core.specs.Poll.{Draft, no_frames, ping_if, with_ping_frame, stream_if, with_ack, ack_fits, ack_if, with_asking, composed_if, composed, Polled, polled}
 use Rattle.quic_connection_core.specs.Timeouts.{timed_out}
 use Rattle.quic_connection_core.specs.Opens.{would_open}
 use Rattle.quic_connection_core.specs.Machine.{after_injected_if}
 use Rattle.quic_connection_core.specs.Runs.{Told, Packet, nexts_by, nexts, accepts, written, ended}
+use Rattle.quic_connection_core.proofs.Drafts.{streams_keep}
 use Rattle.quic_connection_core.proofs.Invariant.{Content, IsReading, IsFresh, InOrder, Kept, Accepted}
 use Rattle.quic_connection_core.proofs.Injected.{injected_leaves}
 use Rattle.quic_connection_core.proofs.Leaves.{by_timeout, by_event}
@@ -119,9 +120,9 @@ quiet_half : (o : Option SendHalf) (d : Draft) (id : ℕ) → IsQuiet d.end (str
 quiet_half None d id = quiet_same d.end
 quiet_half (Some h) d id = record { receiving = refl; opens_same = halves_opens d.end.sending (stream_if (Some h) d id).end.sending.halves d.end.side; next_same = halves_next d.end.sending (stream_if (Some h) d id).end.sending.halves d.end.side }
 
-quiet_stream : (o : Option ℕ) (d : Draft) → IsQuiet d.end (stream_of o d).end
-quiet_stream None d = quiet_same d.end
-quiet_stream (Some id) d = quiet_half (at d.end.sending.halves id) d id
+half_side : (o : Option SendHalf) (d : Draft) (id : ℕ) → (stream_if o d id).end.side ≡ d.end.side
+half_side None d id = refl
+half_side (Some h) d id = refl
 
 quiet_pinged : (b : Bool) (d : Draft) → ((ping_if b d).end.side ≡ d.end.side) × IsQuiet d.end (ping_if b d).end
 quiet_pinged true d = (refl, record { receiving = refl; opens_same = λ dir. refl; next_same = λ dir. refl })
@@ -129,9 +130,8 @@ quiet_pinged false d = (refl, quiet_same d.end)
 
 quiet_asking : (d : Draft) → IsQuiet d.end (with_asking d).end
 quiet_asking d =
-    let pinged = with_ping_frame d in
-    let first = quiet_pinged d.end.waiting.ping d in
-    quiet_on d.end pinged.end (with_asking d).end first.0 first.1 (quiet_stream (first_pending pinged.end.sending.halves) pinged)
+    (streams_keep (λ x. (x.end.side ≡ d.end.side) × IsQuiet d.end x.end) (λ x id is before. (half_side (at x.end.sending.halves id) x id ∙ before.0, quiet_on d.end x.end (stream_if (at x.end.sending.halves id) x id).end before.0 before.1 (quiet_half (at x.end.sending.halves id) x id)))
+    (with_ping_frame d) (quiet_pinged d.end.waiting.ping d)).1
 
 quiet_acked : (b : Bool) (e : End) (d : Draft) → IsQuiet e d.end → IsQuiet e (ack_if b d).end
 quiet_acked true e d q = record { receiving = q.receiving; opens_same = q.opens_same; next_same = q.next_same }

@@ -4,7 +4,7 @@ use Rattle.std.specs.Prelude.{if◌then◌else◌, nat_le, ◌*◌, ◌/◌}
 use Rattle.std.specs.Option.{is_some}
 use Rattle.std.specs.Ordering.{nat_cmp}
 use Rattle.std.specs.BTreeMap.{is_at}
-use Rattle.std.proofs.lemmas.Bool.{ltb-true, leb-true, and_parts}
+use Rattle.std.proofs.lemmas.Bool.{ltb-true, leb-true, le-leb, and_parts}
 use Rattle.std.proofs.lemmas.List.{append-nil, append_assoc, length-append, map-append}
 use Rattle.quic_wire_core.specs.declared.stream_id.Side.{Side}
 use Rattle.quic_packet.specs.Number.{truncated, width_for}
@@ -30,14 +30,15 @@ use Rattle.quic_connection_core.specs.Policy.{Policy}
 use Rattle.quic_connection_core.specs.Table.{Table, at}
 use Rattle.quic_connection_core.specs.Sending.{Sending, SendHalf, has_pending}
 use Rattle.quic_connection_core.specs.End.{End}
-use Rattle.quic_connection_core.specs.Poll.{Polled, Draft, frame_of, half_after, first_pending, frame_room, no_frames, with_frame, ping_if, with_ping_frame, stream_room, end_after_frame, stream_if, stream_of, ack_of, with_ack, ack_fits, ack_if, with_asking, with_late_ack, composed_if, composed, payload_of, datagram_of, waits, polled}
+use Rattle.quic_connection_core.specs.Poll.{Polled, Draft, frame_of, half_after, first_pending, frame_room, no_frames, with_frame, ping_if, with_ping_frame, stream_room, end_after_frame, stream_if, least_stream_room, next_stream, frame_and_more, stream_frames, with_stream_frames, ack_of, with_ack, ack_fits, ack_if, with_asking, with_late_ack, composed_if, composed, payload_of, datagram_of, waits, polled}
 use Rattle.quic_connection_core.specs.Runs.{Told, written, ended, gave}
 use Rattle.quic_connection_core.proofs.Invariant.{IsHalf, Says, AllSay, IsGiven, Sent, IsSent, Streams, Gives, Acks}
 use Rattle.quic_connection_core.proofs.Polls.{at_moment, ready_at, frames_padded, frames_at, given_as, by_poll, composes}
+use Rattle.quic_connection_core.proofs.Drafts.{frames_keep, streams_keep, next_room}
 use Rattle.quic_connection_core.proofs.Growth.{AllGrow, all_grow, each_push}
 use Rattle.quic_connection_core.proofs.Frames.{unsized_fills, frame_written, frame_fits, half_left, zeros_padding, sized_spelled, unsized_spelled, ack_spelled, ping_spelled, id_narrow, padded_four}
 use Rattle.quic_connection_core.proofs.Tables.{at-first}
-use Rattle.quic_connection_core.proofs.Writes.{IsQuiet, quiet_written, quiet_ended, quiet_streams, half_at, half_moved, put_streams}
+use Rattle.quic_connection_core.proofs.Writes.{IsQuiet, quiet_written, quiet_ended, quiet_streams, half_at, set_streams}
 
 -- ---- the sending halves
 
@@ -45,14 +46,12 @@ use Rattle.quic_connection_core.proofs.Writes.{IsQuiet, quiet_written, quiet_end
 poll_quiet : (now : ℕ) (a : Answer) (state : State) (id : ℕ) → IsQuiet id (record { call = calls.Poll now; answer = a; state = state })
 poll_quiet now a state id = record { wrote = refl; ended = refl }
 
--- a draft's halves hold what was written
-stream_streams : (side : Side) (told : List Told) (t : Told) (id : ℕ) (o : Option SendHalf) (d : Draft) → at d.end.sending.halves id ≡ o → ((q : ℕ) → IsQuiet q t) → Streams side d.end.sending told → Streams side (stream_if o d id).end.sending (told ++ t ∷ [])
-stream_streams side told t id None d found quiet i = quiet_streams side d.end.sending told t quiet i
-stream_streams side told t id (Some h) d found quiet i =
+-- the halves that the frame of one leaves hold what was written
+pub half_streams : (side : Side) (told : List Told) (id : ℕ) (o : Option SendHalf) (d : Draft) → at d.end.sending.halves id ≡ o → Streams side d.end.sending told → Streams side (stream_if o d id).end.sending told
+half_streams side told id None d found i = i
+half_streams side told id (Some h) d found i =
     let room : ℕ = stream_room d id in
-    let left = half_left (written id told) (ended id told) id h room (half_at side d.end.sending told id h i found) in
-    put_streams side d.end.sending told t id d.end.sending.accepted h (half_after h room) i found (λ q ne. quiet q)
-    (half_moved (written id told) (written id (told ++ t ∷ [])) (ended id told) (ended id (told ++ t ∷ [])) (Some (half_after h room)) (quiet_written id told t (quiet id)) (quiet_ended id told t (quiet id)) left)
+    set_streams side d.end.sending told id h (half_after h room) i found (half_left (written id told) (ended id told) id h room (half_at side d.end.sending told id h i found))
 
 -- PING and ACK leave them
 pinged_sending : (b : Bool) (d : Draft) → (ping_if b d).end.sending ≡ d.end.sending
@@ -64,29 +63,21 @@ acked_sending true d = refl
 acked_sending false d = refl
 
 -- after what asks went, the halves hold what was written
-asking_streams : (side : Side) (d : Draft) (told : List Told) (t : Told) → ((q : ℕ) → IsQuiet q t) → Streams side d.end.sending told → Streams side (with_asking d).end.sending (told ++ t ∷ [])
-asking_streams side d told t quiet i = go (first_pending pinged.end.sending.halves)
-  where
-    pinged : Draft
-    pinged = with_ping_frame d
-
-    same : Streams side pinged.end.sending told
-    same = subst (λ (s : Sending). Streams side s told) (sym (pinged_sending d.end.waiting.ping d)) i
-
-    go : (o : Option ℕ) → Streams side (stream_of o pinged).end.sending (told ++ t ∷ [])
-    go None = quiet_streams side pinged.end.sending told t quiet same
-    go (Some id) = stream_streams side told t id (at pinged.end.sending.halves id) pinged refl quiet same
+asking_streams : (side : Side) (told : List Told) (d : Draft) → Streams side d.end.sending told → Streams side (with_asking d).end.sending told
+asking_streams side told d i =
+    streams_keep (λ x. Streams side x.end.sending told) (λ x id is s. half_streams side told id (at x.end.sending.halves id) x refl s)
+    (with_ping_frame d) (subst (λ (s : Sending). Streams side s told) (sym (pinged_sending d.end.waiting.ping d)) i)
 
 -- whether or not an ACK is due
-streams_if : (b : Bool) (side : Side) (e : End) (told : List Told) (t : Told) → ((q : ℕ) → IsQuiet q t) → Streams side e.sending told → Streams side (composed_if b e).end.sending (told ++ t ∷ [])
-streams_if true side e told t quiet i = asking_streams side (with_ack (no_frames e)) told t quiet i
-streams_if false side e told t quiet i =
+streams_if : (b : Bool) (side : Side) (told : List Told) (e : End) → Streams side e.sending told → Streams side (composed_if b e).end.sending told
+streams_if true side told e i = asking_streams side told (with_ack (no_frames e)) i
+streams_if false side told e i =
     let asking = with_asking (no_frames e) in
-    subst (λ (s : Sending). Streams side s (told ++ t ∷ [])) (sym (acked_sending (ack_fits asking) asking)) (asking_streams side (no_frames e) told t quiet i)
+    subst (λ (s : Sending). Streams side s told) (sym (acked_sending (ack_fits asking) asking)) (asking_streams side told (no_frames e) i)
 
 -- what is composed leaves halves that hold what was written
-composed_streams : (side : Side) (e : End) (told : List Told) (t : Told) → ((q : ℕ) → IsQuiet q t) → Streams side e.sending told → Streams side (composed e).end.sending (told ++ t ∷ [])
-composed_streams side e told t quiet i = streams_if (can_send e.acknowledging) side e told t quiet i
+composed_streams : (side : Side) (told : List Told) (e : End) → Streams side e.sending told → Streams side (composed e).end.sending told
+composed_streams side told e i = streams_if (can_send e.acknowledging) side told e i
 
 -- the halves hold what was written
 pub polled_streams : (side : Side) (p : Policy) (e : End) (now : ℕ) (a : Answer) (told : List Told) (state : State) → Streams side e.sending told
@@ -97,7 +88,7 @@ polled_streams side p e now a told state i =
       failed = same;
       idle = λ pings. same;
       used_up = λ pings. same;
-      gives = λ pings tracking timers is may some ready. composed_streams side (at_moment e now pings) told (record { call = calls.Poll now; answer = a; state = state }) (poll_quiet now a state) i;
+      gives = λ pings tracking timers is may some ready. quiet_streams side (composed (at_moment e now pings)).end.sending told (record { call = calls.Poll now; answer = a; state = state }) (poll_quiet now a state) (composed_streams side told (at_moment e now pings) i);
     })
   where
     same : Streams side e.sending (told ++ record { call = calls.Poll now; answer = a; state = state } ∷ [])
@@ -115,10 +106,6 @@ width_few n = go (nat_lt (2 * n) 256) (nat_lt (2 * n) 65536) (nat_lt (2 * n) 167
     go false false true = omega arith
     go false false false = omega arith
 
--- the most bytes that stand before a STREAM frame: the longest ACK frame, and PING
-abbrev most_before : ℕ
-most_before = 1066
-
 -- how many bytes a datagram has for frames at least
 room_most : (e : End) → length e.ids.active.id ≡ 8 → 1171 ≤ frame_room e
 room_most e eight =
@@ -126,9 +113,8 @@ room_most e eight =
     omega arith
 
 -- room for a frame is left behind its type and id
-room_some : (d : Draft) (id : ℕ) → length d.end.ids.active.id ≡ 8 → length d.bytes ≤ most_before → 17 ≤ stream_room d id
-room_some d id eight few =
-    let room = room_most d.end eight in
+room_some : (d : Draft) (id : ℕ) → 25 ≤ frame_room d.end - length d.bytes → 8 ≤ stream_room d id
+room_some d id room =
     let narrow = id_narrow id in
     omega arith
 
@@ -146,16 +132,6 @@ ack_form e acks filled = set_fits (delay_at e.acknowledging e.closing.clock) e.a
   where
     some : e.acknowledging.runs ≡ [] → ⊥
     some none = let off = ap is_filled none in cc
-
--- it is short: there are few runs
-ack_short : (e : End) → Acks e.acknowledging → is_filled e.acknowledging.runs ≡ true → length (spelling (ack (ack_of e))) < most_before
-ack_short e acks filled =
-    let fits = ack_form e acks filled in
-    let size = spelling_length (ack (ack_of e)) fits in
-    let most = ack_size_most (ack_of e) fits in
-    let ranges = set_length e.acknowledging.runs in
-    let few = acks.runs.few in
-    omega arith
 
 -- it has a byte at least
 ack_some : (e : End) → 1 ≤ frame_size (ack (ack_of e))
@@ -241,15 +217,10 @@ pinged_opens told false d o = o
 acked_opens : (told : List Told) (d : Draft) → Acks d.end.acknowledging → is_filled d.end.acknowledging.runs ≡ true → Opens told d → Opens told (with_ack d)
 acked_opens told d acks filled o = opens_more told d (ack (ack_of d.end)) (spelling (ack (ack_of d.end))) (with_ack d).end o tt (λ fs rest spells. ack_spelled (ack_of d.end) fs rest (ack_form d.end acks filled) spells)
 
--- PING takes a byte
-pinged_few : (b : Bool) (d : Draft) → length d.bytes < most_before → length (ping_if b d).bytes ≤ most_before
-pinged_few true d few = let one = length-append d.bytes (spelling ping) in omega arith
-pinged_few false d few = omega arith
-
 -- the frame of a half goes behind others, and takes the whole room where its length isn't written
-half_stands : (told : List Told) (id : ℕ) (h : SendHalf) (d : Draft) → length d.end.ids.active.id ≡ 8 → length d.bytes ≤ most_before → id < 2 ^ 62 → IsHalf (written id told) (ended id told) h → Opens told d
+half_stands : (told : List Told) (id : ℕ) (h : SendHalf) (d : Draft) → 25 ≤ frame_room d.end - length d.bytes → id < 2 ^ 62 → IsHalf (written id told) (ended id told) h → Opens told d
     → Stands told (stream_if (Some h) d id)
-half_stands told id h d eight few small half o = go (writes_length h.buffer (stream_room d id)) refl
+half_stands told id h d room small half o = go (writes_length h.buffer (stream_room d id)) refl
   where
     frame : StreamValue
     frame = frame_of id h (stream_room d id)
@@ -266,7 +237,7 @@ half_stands told id h d eight few small half o = go (writes_length h.buffer (str
     go : (sized : Bool) → writes_length h.buffer (stream_room d id) ≡ sized → Stands told (after sized)
     go true is = inl (opens_more told d (stream frame) (stream_spelling true frame) (end_after_frame d id h) o says (λ fs rest spells. sized_spelled frame fs rest fits spells))
     go false is =
-        let some = room_some d id eight few in
+        let some = room_some d id room in
         let long = unsized_fills (written id told) (ended id told) id h (stream_room d id) half (omega arith) is in
         let all = length-append d.bytes (stream_spelling false frame) in
         inr (record {
@@ -275,30 +246,21 @@ half_stands told id h d eight few small half o = go (writes_length h.buffer (str
           full = omega arith;
         })
 
+-- the frame of a stream leaves the ids
+half_ids : (o : Option SendHalf) (d : Draft) (id : ℕ) → (stream_if o d id).end.ids ≡ d.end.ids
+half_ids None d id = refl
+half_ids (Some h) d id = refl
+
 -- what asks goes behind others
-asking_stands : (side : Side) (told : List Told) (d : Draft) → length d.end.ids.active.id ≡ 8 → length d.bytes < most_before → Streams side d.end.sending told → Opens told d → Stands told (with_asking d)
-asking_stands side told d eight few i o = go (first_pending pinged.end.sending.halves)
+asking_stands : (side : Side) (told : List Told) (d : Draft) → Streams side d.end.sending told → Opens told d → Stands told (with_asking d)
+asking_stands side told d i o =
+    (streams_keep (λ x. Streams side x.end.sending told × Stands told x) (λ x id is b. (half_streams side told id (at x.end.sending.halves id) x refl b.0, behind x id (next_room x id is) b.0 b.1 (at x.end.sending.halves id) refl))
+    (with_ping_frame d) (subst (λ (s : Sending). Streams side s told) (sym (pinged_sending d.end.waiting.ping d)) i, inl (pinged_opens told d.end.waiting.ping d o))).1
   where
-    pinged : Draft
-    pinged = with_ping_frame d
-
-    same : Streams side pinged.end.sending told
-    same = subst (λ (s : Sending). Streams side s told) (sym (pinged_sending d.end.waiting.ping d)) i
-
-    opens : Opens told pinged
-    opens = pinged_opens told d.end.waiting.ping d o
-
-    id_eight : (b : Bool) → length (ping_if b d).end.ids.active.id ≡ 8
-    id_eight true = eight
-    id_eight false = eight
-
-    half_case : (id : ℕ) (o : Option SendHalf) → at pinged.end.sending.halves id ≡ o → Stands told (stream_if o pinged id)
-    half_case id None found = inl opens
-    half_case id (Some h) found = half_stands told id h pinged (id_eight d.end.waiting.ping) (pinged_few d.end.waiting.ping d few) (same.ids id h found) (half_at side pinged.end.sending told id h same found) opens
-
-    go : (o : Option ℕ) → Stands told (stream_of o pinged)
-    go None = inl opens
-    go (Some id) = half_case id (at pinged.end.sending.halves id) refl
+    behind : (x : Draft) (id : ℕ) → 25 ≤ frame_room x.end - length x.bytes → Streams side x.end.sending told → Stands told x → (o : Option SendHalf) → at x.end.sending.halves id ≡ o → Stands told (stream_if o x id)
+    behind x id room i before None found = before
+    behind x id room i (inl o) (Some h) found = half_stands told id h x room (i.ids id h found) (half_at side x.end.sending told id h i found) o
+    behind x id room i (inr f) (Some h) found = let full = f.full in absurd (omega arith)
 
 -- an ACK frame that fits has numbers, and the frames before it don't take the whole room
 ack_room : (d : Draft) → ack_fits d ≡ true → (is_filled d.end.acknowledging.runs ≡ true) × (length d.bytes < frame_room d.end)
@@ -319,41 +281,34 @@ late_stands told d acks before = go (ack_fits d) refl before
 
 -- what asks leaves what is to be acknowledged
 asking_acks : (d : Draft) → (with_asking d).end.acknowledging ≡ d.end.acknowledging
-asking_acks d = stream (first_pending pinged.end.sending.halves) ∙ ping d.end.waiting.ping
+asking_acks d = streams_keep (λ x. x.end.acknowledging ≡ d.end.acknowledging) (λ x id is same. half (at x.end.sending.halves id) x id ∙ same) (with_ping_frame d) (ping d.end.waiting.ping)
   where
-    pinged : Draft
-    pinged = with_ping_frame d
-
     ping : (b : Bool) → (ping_if b d).end.acknowledging ≡ d.end.acknowledging
     ping true = refl
     ping false = refl
 
-    half : (o : Option SendHalf) (id : ℕ) → (stream_if o pinged id).end.acknowledging ≡ pinged.end.acknowledging
-    half None id = refl
-    half (Some h) id = refl
-
-    stream : (o : Option ℕ) → (stream_of o pinged).end.acknowledging ≡ pinged.end.acknowledging
-    stream None = refl
-    stream (Some id) = half (at pinged.end.sending.halves id) id
+    half : (o : Option SendHalf) (x : Draft) (id : ℕ) → (stream_if o x id).end.acknowledging ≡ x.end.acknowledging
+    half None x id = refl
+    half (Some h) x id = refl
 
 -- so what is composed stands in a payload, whether or not an ACK is due
-stands_if : (b : Bool) (side : Side) (told : List Told) (e : End) → can_send e.acknowledging ≡ b → length e.ids.active.id ≡ 8 → Acks e.acknowledging → Streams side e.sending told → Stands told (composed_if b e)
-stands_if true side told e due eight acks i =
+stands_if : (b : Bool) (side : Side) (told : List Told) (e : End) → can_send e.acknowledging ≡ b → Acks e.acknowledging → Streams side e.sending told → Stands told (composed_if b e)
+stands_if true side told e due acks i =
     let filled = (and_parts e.acknowledging.due (is_filled e.acknowledging.runs) due).1 in
-    asking_stands side told (with_ack (no_frames e)) eight (ack_short e acks filled) i (acked_opens told (no_frames e) acks filled (none_opens told e))
-stands_if false side told e due eight acks i =
+    asking_stands side told (with_ack (no_frames e)) i (acked_opens told (no_frames e) acks filled (none_opens told e))
+stands_if false side told e due acks i =
     let asking = with_asking (no_frames e) in
-    late_stands told asking (subst Acks (sym (asking_acks (no_frames e))) acks) (asking_stands side told (no_frames e) eight (omega arith) i (none_opens told e))
+    late_stands told asking (subst Acks (sym (asking_acks (no_frames e))) acks) (asking_stands side told (no_frames e) i (none_opens told e))
 
 -- what waits fills the payload of the next datagram
 composed_fills : (side : Side) (told : List Told) (e : End) → length e.ids.active.id ≡ 8 → Acks e.acknowledging → Streams side e.sending told → Fills told (composed e)
 composed_fills side told e eight acks i =
-    stands_fills told (composed e) (ap (λ (x : Ids). length x.active.id) (composes e).ids ∙ eight) (stands_if (can_send e.acknowledging) side told e refl eight acks i)
+    stands_fills told (composed e) (ap (λ (x : Ids). length x.active.id) (composes e).ids ∙ eight) (stands_if (can_send e.acknowledging) side told e refl acks i)
 
 -- ---- a datagram has a frame
 
 -- the first stream with something to send is there
-pending_is : (t : Table SendHalf) (id : ℕ) → first_pending t ≡ Some id → is_some (at t id) ≡ true
+pub pending_is : (t : Table SendHalf) (id : ℕ) → first_pending t ≡ Some id → is_some (at t id) ≡ true
 pending_is [] id e = cc
 pending_is (x ∷ xs) id e = go (has_pending x.1) refl e (pending_is xs id)
   where
@@ -372,47 +327,54 @@ some_more [] f = omega arith
 some_more (g ∷ fs) f = omega arith
 
 -- the frame of a stream only adds
-stream_keeps : (o : Option ℕ) (d : Draft) → 0 < length d.frames → 0 < length (stream_of o d).frames
-stream_keeps None d some = some
-stream_keeps (Some id) d some = half (at d.end.sending.halves id)
-  where
-    half : (o : Option SendHalf) → 0 < length (stream_if o d id).frames
-    half None = some
-    half (Some h) = some_more d.frames (stream (frame_of id h (stream_room d id)))
+half_keeps : (o : Option SendHalf) (d : Draft) (id : ℕ) → 0 < length d.frames → 0 < length (stream_if o d id).frames
+half_keeps None d id some = some
+half_keeps (Some h) d id some = some_more d.frames (stream (frame_of id h (stream_room d id)))
+
+-- so do those of streams
+frames_only_add : (n : ℕ) (d : Draft) → 0 < length d.frames → 0 < length (stream_frames n d).frames
+frames_only_add n d some = frames_keep (λ x. 0 < length x.frames) (λ x id is more. half_keeps (at x.end.sending.halves id) x id more) n d some
 
 -- so does what asks
 asking_keeps : (d : Draft) → 0 < length d.frames → 0 < length (with_asking d).frames
-asking_keeps d some = stream_keeps (first_pending (with_ping_frame d).end.sending.halves) (with_ping_frame d) (pinged d.end.waiting.ping)
+asking_keeps d some = frames_only_add (frame_room (with_ping_frame d).end) (with_ping_frame d) (pinged d.end.waiting.ping)
   where
     pinged : (b : Bool) → 0 < length (ping_if b d).frames
     pinged true = some_more d.frames ping
     pinged false = some
 
--- what asks is a frame at least
-asking_some : (d : Draft) → (d.end.waiting.ping || is_some (first_pending d.end.sending.halves)) ≡ true → 0 < length (with_asking d).frames
-asking_some d w = by_ping d.end.waiting.ping refl
+-- where a stream has something to send and there is room, its frame goes
+stream_some : (n : ℕ) (d : Draft) (o : Option ℕ) → 0 < n → next_stream d ≡ o → is_some o ≡ true → first_pending d.end.sending.halves ≡ o → 0 < length (stream_frames n d).frames
+stream_some zero d o some next there first = absurd (omega arith)
+stream_some (suc n) d None some next there first = cc
+stream_some (suc n) d (Some id) some next there first =
+    subst (λ (o : Option ℕ). 0 < length (frame_and_more o (stream_frames n) d).frames) (sym next)
+    (frames_only_add n (stream_if (at d.end.sending.halves id) d id) (half (at d.end.sending.halves id) (pending_is d.end.sending.halves id first)))
   where
-    pinged : Draft
-    pinged = with_ping_frame d
+    half : (o : Option SendHalf) → is_some o ≡ true → 0 < length (stream_if o d id).frames
+    half None there = cc
+    half (Some h) there = some_more d.frames (stream (frame_of id h (stream_room d id)))
 
-    by_stream : (o : Option ℕ) → first_pending pinged.end.sending.halves ≡ o → is_some o ≡ true → 0 < length (stream_of o pinged).frames
-    by_stream None is there = cc
-    by_stream (Some id) is there = half (at pinged.end.sending.halves id) (pending_is pinged.end.sending.halves id is)
-      where
-        half : (o : Option SendHalf) → is_some o ≡ true → 0 < length (stream_if o pinged id).frames
-        half None there = cc
-        half (Some h) there = some_more pinged.frames (stream (frame_of id h (stream_room pinged id)))
+-- a datagram without frames has room
+room_next : (e : End) → length e.ids.active.id ≡ 8 → next_stream (no_frames e) ≡ first_pending e.sending.halves
+room_next e eight =
+    let room = room_most e eight in
+    let fits : nat_le least_stream_room (frame_room e - 0) ≡ true = le-leb least_stream_room (frame_room e - 0) (omega arith) in
+    rw fits refl
 
-    by_ping : (b : Bool) → d.end.waiting.ping ≡ b → 0 < length (with_asking d).frames
-    by_ping true is = stream_keeps (first_pending pinged.end.sending.halves) pinged (subst (λ (x : Bool). 0 < length (ping_if x d).frames) (sym is) (some_more d.frames ping))
-    by_ping false is =
-        let same : pinged.end.sending ≡ d.end.sending = pinged_sending d.end.waiting.ping d in
-        let there : is_some (first_pending d.end.sending.halves) ≡ true = subst (λ (x : Bool). (x || is_some (first_pending d.end.sending.halves)) ≡ true) is w in
-        by_stream (first_pending pinged.end.sending.halves) refl (subst (λ (s : Sending). is_some (first_pending s.halves) ≡ true) (sym same) there)
+-- what asks is a frame at least
+asking_some : (e : End) → length e.ids.active.id ≡ 8 → (e.waiting.ping || is_some (first_pending e.sending.halves)) ≡ true → 0 < length (with_asking (no_frames e)).frames
+asking_some e eight w = go e.waiting.ping w
+  where
+    go : (b : Bool) → (b || is_some (first_pending e.sending.halves)) ≡ true → 0 < length (with_stream_frames (ping_if b (no_frames e))).frames
+    go true w = frames_only_add (frame_room (ping_if true (no_frames e)).end) (ping_if true (no_frames e)) (some_more [] ping)
+    go false w =
+        let room = room_most e eight in
+        stream_some (frame_room e) (no_frames e) (first_pending e.sending.halves) (omega arith) (room_next e eight) w refl
 
 -- what waits is a frame at least
-composed_some : (e : End) → waits e ≡ true → 0 < length (composed e).frames
-composed_some e w = go (can_send e.acknowledging) w
+composed_some : (e : End) → length e.ids.active.id ≡ 8 → waits e ≡ true → 0 < length (composed e).frames
+composed_some e eight w = go (can_send e.acknowledging) w
   where
     late : (b : Bool) (d : Draft) → 0 < length d.frames → 0 < length (ack_if b d).frames
     late true d some = some_more d.frames (ack (ack_of d.end))
@@ -420,7 +382,7 @@ composed_some e w = go (can_send e.acknowledging) w
 
     go : (b : Bool) → (b || (e.waiting.ping || is_some (first_pending e.sending.halves))) ≡ true → 0 < length (composed_if b e).frames
     go true w = asking_keeps (with_ack (no_frames e)) (omega arith)
-    go false w = let asking = with_asking (no_frames e) in late (ack_fits asking) asking (asking_some (no_frames e) w)
+    go false w = let asking = with_asking (no_frames e) in late (ack_fits asking) asking (asking_some e eight w)
 
 -- what waits goes in a datagram of its number
 pub datagram_given : (side : Side) (p : Policy) (e : End) (told : List Told) → length e.ids.active.id ≡ 8 → can_number e.numbers ≡ true → waits e ≡ true → Acks e.acknowledging
@@ -429,7 +391,7 @@ datagram_given side p e told eight may waiting acks streams =
     let c = composes e in
     let d : Draft = composed e in
     let fills = composed_fills side told e eight acks streams in
-    let some = composed_some e waiting in
+    let some = composed_some e eight waiting in
     let count : ℕ = 4 - ((truncated d.end.numbers.next (cut_against d.end.numbers)).width + length d.bytes) in
     let long = length-append d.frames (replicate count padding) in
     let four = padded_four (truncated d.end.numbers.next (cut_against d.end.numbers)).width d.bytes in

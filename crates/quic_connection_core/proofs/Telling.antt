@@ -27,9 +27,10 @@ use Rattle.quic_connection_core.specs.Sending as sending
 use Rattle.quic_connection_core.specs.End.{End, with_closing}
 use Rattle.quic_connection_core.specs.Calls.{is_open, can_open, after_open_if, end_writes, tells_of, after_telling, end_after_event, end_after_next, after_nexts}
 use Rattle.quic_connection_core.specs.Timeouts.{acks_expired, loss_expired, timed_out_in}
-use Rattle.quic_connection_core.specs.Poll.{Polled, Draft, first_pending, half_after, stream_room, no_frames, ping_if, stream_if, stream_of, with_ack, ack_fits, ack_if, with_asking, composed_if, composed, asking, tracked_if, after_given, polled}
+use Rattle.quic_connection_core.specs.Poll.{Polled, Draft, half_after, stream_room, no_frames, ping_if, with_ping_frame, stream_if, with_ack, ack_fits, ack_if, with_asking, composed_if, composed, asking, tracked_if, after_given, polled}
 use Rattle.quic_connection_core.specs.Machine.{IsAnswer, after_call}
 use Rattle.quic_connection_core.specs.Runs.{Told, Next, Packet, finish_told_by, finishes_told}
+use Rattle.quic_connection_core.proofs.Drafts.{streams_keep}
 use Rattle.quic_connection_core.proofs.Tables.{at-added, at-apart}
 use Rattle.quic_connection_core.proofs.Invariant.{Streams, Arrives}
 use Rattle.quic_connection_core.proofs.Writes.{half_at, write_taken}
@@ -126,18 +127,14 @@ same_half : (o : Option SendHalf) (d : Draft) (id : ℕ) → at d.end.sending.ha
 same_half None d id found = λ q. refl
 same_half (Some h) d id found = same_put d.end.sending.halves id h (half_after h (stream_room d id)) found refl
 
--- the frame of a stream goes, where one has something to send
-same_stream : (o : Option ℕ) (d : Draft) → AckedSame d.end.sending.halves (stream_of o d).end.sending.halves
-same_stream None d = λ q. refl
-same_stream (Some id) d = same_half (at d.end.sending.halves id) d id refl
-
 -- what asks goes
 same_asking : (d : Draft) → AckedSame d.end.sending.halves (with_asking d).end.sending.halves
-same_asking d = go d.end.waiting.ping
+same_asking d =
+    streams_keep (λ x. AckedSame d.end.sending.halves x.end.sending.halves) (λ x id is before q. same_half (at x.end.sending.halves id) x id refl q ∙ before q) (with_ping_frame d) (pinged d.end.waiting.ping)
   where
-    go : (b : Bool) → AckedSame d.end.sending.halves (stream_of (first_pending (ping_if b d).end.sending.halves) (ping_if b d)).end.sending.halves
-    go true = same_stream (first_pending d.end.sending.halves) (ping_if true d)
-    go false = same_stream (first_pending d.end.sending.halves) d
+    pinged : (b : Bool) → AckedSame d.end.sending.halves (ping_if b d).end.sending.halves
+    pinged true = λ q. refl
+    pinged false = λ q. refl
 
 -- what goes acknowledges nothing
 same_composed : (e : End) → AckedSame e.sending.halves (composed e).end.sending.halves

@@ -39,9 +39,11 @@ use Rattle.quic_connection_core.specs.Acked.{without_known, stream_acked, stream
 use Rattle.quic_connection_core.specs.Receive.{Fault, take_frame, unless_fault, take_items}
 use Rattle.quic_connection_core.specs.Calls.{can_open, after_open_if, after_telling, end_after_next, after_nexts}
 use Rattle.quic_connection_core.specs.Timeouts.{acks_expired, loss_expired, timed_out_in}
-use Rattle.quic_connection_core.specs.Poll.{Polled, Draft, first_pending, reaches_end, frame_of, half_after, stream_room, no_frames, ping_if, stream_if, stream_of, ack_of, with_ack, ack_fits, ack_if, with_asking, composed_if, composed, asking, tracked_if, after_given, polled}
+use Rattle.quic_connection_core.specs.Poll.{Polled, Draft, reaches_end, frame_of, half_after, stream_room, no_frames, ping_if, with_ping_frame, stream_if, ack_of, with_ack, ack_fits, ack_if, with_asking, composed_if, composed, asking, tracked_if, after_given, polled}
 use Rattle.quic_connection_core.specs.Machine.{after_call}
 use Rattle.quic_connection_core.specs.Runs.{Told, Next, Intake, In, written, ended}
+use Rattle.quic_connection_core.proofs.Drafts.{streams_keep}
+use Rattle.quic_connection_core.proofs.Sends.{half_streams}
 use Rattle.quic_connection_core.proofs.Tables.{at-put, at-put-apart, at-added, at-apart}
 use Rattle.quic_connection_core.proofs.Invariant.{IsHalf, Streams, Sent, AreTracked, StandsIn, HasOffset, HasEnd, HalfFlies, AllHalves}
 use Rattle.quic_connection_core.proofs.Delivered.{Arrivals, begun, arrived}
@@ -376,18 +378,14 @@ half_drafted F side told (Some h) d id found streams i =
     (went_flies before after (written id told) (ended id told) id h room (half_at side d.end.sending told id h streams found) (more_drafted F d.frames own) (inr (in_behind d.frames own (meta_of (frame_of id h room)) (inl refl))) (i id h found))
     i
 
--- the frame of a stream goes, where one has something to send
-stream_drafted : (F : StreamMeta → Type 0) (side : Side) (told : List Told) (o : Option ℕ) (d : Draft) → Streams side d.end.sending told → IsDrafted F d → IsDrafted F (stream_of o d)
-stream_drafted F side told None d streams i = i
-stream_drafted F side told (Some id) d streams i = half_drafted F side told (at d.end.sending.halves id) d id refl streams i
-
 -- what asks goes
 asking_drafted : (F : StreamMeta → Type 0) (side : Side) (told : List Told) (d : Draft) → Streams side d.end.sending told → IsDrafted F d → IsDrafted F (with_asking d)
-asking_drafted F side told d streams i = go d.end.waiting.ping
+asking_drafted F side told d streams i =
+    (streams_keep (λ x. Streams side x.end.sending told × IsDrafted F x) (λ x id is b. (half_streams side told id (at x.end.sending.halves id) x refl b.0, half_drafted F side told (at x.end.sending.halves id) x id refl b.0 b.1)) (with_ping_frame d) (pinged d.end.waiting.ping)).1
   where
-    go : (b : Bool) → IsDrafted F (stream_of (first_pending (ping_if b d).end.sending.halves) (ping_if b d))
-    go true = stream_drafted F side told (first_pending d.end.sending.halves) (ping_if true d) streams (drafted_more F d.end.sending.halves d.frames (ping ∷ []) i)
-    go false = stream_drafted F side told (first_pending d.end.sending.halves) d streams i
+    pinged : (b : Bool) → Streams side (ping_if b d).end.sending told × IsDrafted F (ping_if b d)
+    pinged true = (streams, drafted_more F d.end.sending.halves d.frames (ping ∷ []) i)
+    pinged false = (streams, i)
 
 -- ACK goes along
 ack_drafted : (F : StreamMeta → Type 0) (b : Bool) (d : Draft) → IsDrafted F d → IsDrafted F (ack_if b d)

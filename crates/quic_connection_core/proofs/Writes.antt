@@ -95,6 +95,35 @@ put_streams side s told t id accepted h w i found quiet now = record {
     new Bi e = unknown-put s.halves id w (next_id side Bi s) (i.new Bi e)
     new Uni e = unknown-put s.halves id w (next_id side Uni s) (i.new Uni e)
 
+-- one half is changed, and nothing is written
+pub set_streams : (side : Side) (s : Sending) (told : List Told) (id : ℕ) (h w : SendHalf) → Streams side s told → at s.halves id ≡ Some h → IsHalf (written id told) (ended id told) w → Streams side (record s { halves = put s.halves id w }) told
+set_streams side s told id h w i found now = record {
+  sorted = sorted-put s.halves id w i.sorted;
+  halves = halves;
+  ids = ids;
+  new = new;
+  first_bi = i.first_bi;
+  first_uni = i.first_uni;
+}
+  where
+    halves : (q : ℕ) → HalfIs (written q told) (ended q told) (at (put s.halves id w) q)
+    halves q =
+        elim (cases_eq q id) [
+          | inl same ↦ rw (same, at-put s.halves id h w found) now
+          | inr ne ↦ rw (at-put-apart s.halves id w q ne) (i.halves q)
+        ]
+
+    ids : (q : ℕ) (k : SendHalf) → at (put s.halves id w) q ≡ Some k → q < 2 ^ 62
+    ids q k e =
+        elim (cases_eq q id) [
+          | inl same ↦ rw same (i.ids id h found)
+          | inr ne ↦ i.ids q k (sym (at-put-apart s.halves id w q ne) ∙ e)
+        ]
+
+    new : (dir : Dir) → opens side dir (record s { halves = put s.halves id w }) ≡ true → at (put s.halves id w) (next_id side dir (record s { halves = put s.halves id w })) ≡ None
+    new Bi e = unknown-put s.halves id w (next_id side Bi s) (i.new Bi e)
+    new Uni e = unknown-put s.halves id w (next_id side Uni s) (i.new Uni e)
+
 -- ---- open
 
 -- nothing was written

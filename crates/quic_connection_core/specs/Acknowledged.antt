@@ -1,5 +1,5 @@
 -- How the worked run goes on: the server acknowledges the datagram once 25 ms have passed, and the client takes the acknowledgement; or the datagram is lost.
-use Rattle.std.specs.Prelude.{ℕ, Bool, true, false, List, [], ◌∷◌, Some, None}
+use Rattle.std.specs.Prelude.{ℕ, Bool, true, false, List, [], ◌∷◌, ◌++◌, Some, None}
 use Rattle.quic_packet.specs.Datagram.{sent}
 use Rattle.quic_connection_core.specs.declared.answers.LostReason.{LostReason}
 use Rattle.quic_connection_core.specs.declared.answers.State.TheVariants as states
@@ -101,6 +101,16 @@ client_lost = record client_pinged {
   tracking = record client_pinged.tracking { packets = (1, pinging) ∷ (2, pinging) ∷ [] };
   sending = record client_pinged.sending { halves = (0, half_missing) ∷ [] };
 }
+
+-- the client, of whose `hello` the first two bytes are lost, and which wrote as many more
+abbrev pub client_mixed : End
+client_mixed = record client_sent {
+  sending = record client_sent.sending { halves = (0, record (half_with hello (5 ∷ []) 5 false false) { buffer = record { base = 0; kept = hello ++ 0x68 ∷ 0x69 ∷ []; pieces = 5 ∷ 7 ∷ []; unsent = 5; acked = []; lost = record { start = 0; end = 2 } ∷ [] } }) ∷ [] };
+}
+
+-- what it gives: STREAM with the lost bytes, and behind it STREAM with the new ones
+abbrev pub two_ranges : List ℕ
+two_ranges = 0x0a ∷ 0x00 ∷ 0x02 ∷ 0x68 ∷ 0x65 ∷ 0x0e ∷ 0x00 ∷ 0x05 ∷ 0x02 ∷ 0x68 ∷ 0x69 ∷ []
 
 -- the client, after its datagram wasn't acknowledged for 1024 ms: two probes wait
 abbrev pub client_timed_out : End

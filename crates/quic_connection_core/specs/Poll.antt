@@ -1,5 +1,5 @@
 -- What an end gives when it is polled (RFC 9000, sections 12.2, 13.3 and 14.1).
-use Rattle.std.specs.Prelude.{ℕ, ◌+◌, ◌-◌, ◌≡◌, Bool, true, false, ◌==◌, ◌&&◌, ◌||◌, not, nat_le, nat_lt, if◌then◌else◌, List, [], ◌∷◌, ◌++◌, length, replicate, slice_range, Option, Some, None, Result, Ok, Err}
+use Rattle.std.specs.Prelude.{ℕ, zero, suc, ◌+◌, ◌-◌, ◌≡◌, Bool, true, false, ◌==◌, ◌&&◌, ◌||◌, not, nat_le, nat_lt, if◌then◌else◌, List, [], ◌∷◌, ◌++◌, length, replicate, slice_range, Option, Some, None, Result, Ok, Err}
 use Rattle.std.specs.List.{list_any}
 use Rattle.std.specs.Option.{is_some}
 use Rattle.quic_wire_core.specs.declared.shared.EcnCodepoint.TheVariants.{Ect0}
@@ -121,14 +121,31 @@ abbrev pub stream_if : Option SendHalf → Draft → ℕ → Draft
 stream_if None d id = d
 stream_if (Some h) d id = with_frame d (stream (frame_of id h (stream_room d id))) (stream_spelling (writes_length h.buffer (stream_room d id)) (frame_of id h (stream_room d id))) (end_after_frame d id h)
 
--- the frame of a stream goes, if one has something to send
-abbrev pub stream_of : Option ℕ → Draft → Draft
-stream_of None d = d
-stream_of (Some id) d = stream_if (at d.end.sending.halves id) d id
+-- how many bytes have to be left of a datagram at least, so that a frame of a stream goes: its type, id, offset and length, and a byte
+abbrev pub least_stream_room : ℕ
+least_stream_room = 25
 
--- the frame of the first stream with something to send goes
-abbrev pub with_stream_frame : Draft → Draft
-with_stream_frame d = stream_of (first_pending d.end.sending.halves) d
+-- the first stream with something to send, where there is room for a frame of it behind so many bytes
+abbrev pub next_behind : End → ℕ → Option ℕ
+next_behind e used = if nat_le least_stream_room (frame_room e - used) then first_pending e.sending.halves else None
+
+-- the same, behind the frames of a draft
+abbrev pub next_stream : Draft → Option ℕ
+next_stream d = next_behind d.end (length d.bytes)
+
+-- the frame of a stream goes, if there is one, and more behind it
+abbrev pub frame_and_more : Option ℕ → (Draft → Draft) → Draft → Draft
+frame_and_more None more d = d
+frame_and_more (Some id) more d = more (stream_if (at d.end.sending.halves id) d id)
+
+-- frames of streams go while one has something to send and there is room, so many at most
+abbrev pub stream_frames : ℕ → Draft → Draft
+stream_frames zero d = d
+stream_frames (suc n) d = frame_and_more (next_stream d) (stream_frames n) d
+
+-- frames of streams go while one has something to send and there is room: each takes a byte at least
+abbrev pub with_stream_frames : Draft → Draft
+with_stream_frames d = stream_frames (frame_room d.end) d
 
 -- what an ACK frame says at the moment of the end (RFC 9000, section 19.3)
 abbrev pub ack_of : End → AckValue
@@ -153,7 +170,7 @@ ack_if false d = d
 
 -- what asks for an acknowledgement goes
 abbrev pub with_asking : Draft → Draft
-with_asking d = with_stream_frame (with_ping_frame d)
+with_asking d = with_stream_frames (with_ping_frame d)
 
 -- an ACK that isn't due goes behind what asks, where it fits
 abbrev pub with_late_ack : Draft → Draft

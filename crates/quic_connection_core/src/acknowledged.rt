@@ -22,7 +22,7 @@ ghost use Rattle.quic_connection_core.specs.Poll.{polled, composed};
 ghost use Rattle.quic_connection_core.specs.Receive.{received};
 ghost use Rattle.quic_connection_core.specs.Timeouts.{timed_out};
 ghost use Rattle.quic_connection_core.specs.Worked.{worked_policies, client_made, client_ended, client_sent, server_made, server_took, server_read, hello_payload, hello_datagram};
-ghost use Rattle.quic_connection_core.specs.Acknowledged.{at_clock, lost_for, server_due, server_acked, ack_payload, ack_and_ping, ping_and_ack, ack_of_unsent, from_server, client_datagram, client_acked, client_pinged, ack_of_third, client_lost, client_timed_out};
+ghost use Rattle.quic_connection_core.specs.Acknowledged.{at_clock, lost_for, server_due, server_acked, ack_payload, ack_and_ping, ping_and_ack, ack_of_unsent, from_server, client_datagram, client_acked, client_pinged, ack_of_third, client_lost, client_mixed, two_ranges, client_timed_out};
 
 /// A packet that asks is acknowledged after 25 ms: nothing is given before the timer expires, and then an ACK frame alone.
 /// Where something else goes before, the acknowledgement goes along.
@@ -54,10 +54,11 @@ pub fn acknowledgements_are_taken()
 {}
 
 /// Where three later datagrams went before the one that is acknowledged, one counts as lost, and goes again under a number of its
-/// own; one that is acknowledged twice changes nothing more.
+/// own, and new bytes behind it; one that is acknowledged twice changes nothing more.
 #[tactic(auto, unfolding(quic_wire::specs::Items::items, quic_wire::specs::Items::items_within, quic_wire::specs::Items::frame_at, quic_wire::specs::Reading::body_at, quic_wire::specs::FrameTypes::kind_of, quic_wire::specs::AckReading::ack_at, quic_wire::specs::AckReading::ranges_at, quic_wire::specs::AckReading::range_at, quic_wire::specs::AckReading::some_ecn_at, quic_streams_core::specs::Offsets::with_offsets, quic_streams_core::specs::Offsets::without_offsets, quic_streams_core::specs::Offsets::parts_from, quic_sets::specs::Pieces::pieces, quic_sets::specs::Pieces::joining, quic_sets::specs::Pieces::joined, quic_sets::specs::Pieces::with_range, quic_wire::specs::Writing::stream_spelling))]
 pub fn lost_bytes_go_again()
     ensures lost { (received worked_policies.client client_pinged 0 (from_server 0 ack_of_third)).end ≡ client_lost }
+    ensures beside { (composed client_mixed).bytes ≡ two_ranges }
     ensures again { (polled worked_policies.client client_lost 0).datagram ≡ Some (client_datagram 4 3 (hello_payload ++ 0x02 ∷ 0x00 ∷ 0x00 ∷ 0x00 ∷ 0x00 ∷ [])) }
     ensures same { after_acked (record { largest = 3; delay = 0; ranges = (3, 3) ∷ []; ecn = None }) client_lost ≡ client_lost }
 {}

@@ -148,7 +148,7 @@ pub fn broken_rules_are_found()
 {}
 
 /// What application calls are answered where there is nothing to do, and what they accept within limits.
-#[tactic(auto, unfolding(quic_wire::specs::Writing::stream_spelling, quic_parameters::specs::ParametersRead::parameters_at, quic_parameters::specs::ParametersRead::judged, quic_parameters::specs::ParametersRead::values_met, quic_parameters::specs::ParametersRead::met_in, quic_parameters::specs::ParametersRead::met_within, quic_parameters::specs::ParametersRead::met_after, quic_parameters::specs::ParametersRead::whole_at, quic_parameters::specs::ParametersRead::entry_at))]
+#[tactic(auto, unfolding(quic_wire::specs::Writing::stream_spelling, quic_streams_core::specs::Offsets::without_offsets, quic_streams_core::specs::Offsets::parts_from, quic_sets::specs::Pieces::pieces, quic_parameters::specs::ParametersRead::parameters_at, quic_parameters::specs::ParametersRead::judged, quic_parameters::specs::ParametersRead::values_met, quic_parameters::specs::ParametersRead::met_in, quic_parameters::specs::ParametersRead::met_within, quic_parameters::specs::ParametersRead::met_after, quic_parameters::specs::ParametersRead::whole_at, quic_parameters::specs::ParametersRead::entry_at))]
 pub fn calls_are_bounded()
     ensures second_open { open_answer Bi client_opened ≡ None }
     ensures one_way { open_answer Uni client_made ≡ None }

@@ -4,5 +4,6 @@ pub mod Headers
 pub mod AckSize
 pub mod Greatest
 pub mod Plain
-pub mod Sent
+pub mod Asking
+pub mod Composed
 mod Lost

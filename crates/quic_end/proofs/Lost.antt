@@ -1,5 +1,5 @@
 -- Packets that are acknowledged or lost, one after another, and what is tracked beside them.
-use Rattle.std.proofs.Common.{◌≡◌, ℕ, Bool, true, false, cond, not, List, [], ◌∷◌, length, reverse, Option, Some, None, refl, sym, ap, ◌∙◌, arith}
+use Rattle.std.proofs.Common.{◌≡◌, ◌≤◌, ℕ, suc, Bool, true, false, cond, not, List, [], ◌∷◌, length, reverse, Option, Some, None, refl, sym, ap, ◌∙◌, arith}
 use Rattle.std.proofs.lemmas.List.{reverse-reverse}
 use Rattle.quic_wire.specs.Value.{AckValue}
 use Rattle.quic_streams_core.specs.declared.stream_meta.StreamMeta.{StreamMeta}
@@ -62,6 +62,13 @@ lost_step greatest packet e f new pops is =
     ∙ ap (λ (x : End). with_tracked x (record new { packets = kept_above greatest new.packets })) (packets_lost_beside (lost_below greatest new.packets) behind new)
     ∙ ap (λ (t : Tracking). with_tracked (packets_lost (lost_below greatest new.packets) behind) t) (left_as greatest packet e.tracking new pops)
     ∙ ap (λ (ps : Table TrackedPacket). with_tracked (packets_lost ps e) (record e.tracking { packets = kept_above greatest e.tracking.packets })) (sym (lost_first greatest packet e.tracking new pops))
+
+-- a packet that was taken out is gone, whatever its streams send again
+pub lost_smaller : (greatest : ℕ) (packet : TrackedPacket) (e f : End) (new : Tracking) → PopsLost greatest packet e.tracking new → f ≡ streams_lost packet.carried.streams (with_tracked e new) → suc (length f.tracking.packets) ≤ length e.tracking.packets
+lost_smaller greatest packet e f new pops is =
+    let left : length f.tracking.packets ≡ length new.packets = ap (λ (x : End). length x.tracking.packets) (is ∙ streams_lost_beside packet.carried.streams e new) in
+    let first : length e.tracking.packets ≡ suc (length new.packets) = ap length pops.first in
+    omega (arith, left, first)
 
 -- ---- an ACK frame
 

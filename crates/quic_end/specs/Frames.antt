@@ -1,29 +1,33 @@
 -- What the frames that are sent say, and which bytes stand behind so many others.
-use Rattle.std.specs.Prelude.{ℕ, ◌+◌, Bool, true, false, ◌&&◌, ◌||◌, nat_le, List, [], ◌++◌, length, Option, Some, None}
-use Rattle.std.specs.Option.{is_some, option_map}
-use Rattle.quic_wire.specs.Value.{AckValue, StreamValue, ack, ping}
+use Rattle.std.specs.Prelude.{ℕ, ◌+◌, Bool, true, false, ◌&&◌, nat_le, List, [], Option, Some, None}
+use Rattle.std.specs.Option.{option_map, option_to_list}
+use Rattle.quic_wire.specs.Value.{AckValue, ack, ping}
 use Rattle.quic_wire.specs.AckSet.{ack_of_set}
 use Rattle.quic_wire.specs.Writing.{spelling, frame_size}
 use Rattle.quic_recovery_core.specs.PendingAcks.{Pending, is_filled}
 use Rattle.quic_streams_core.specs.declared.stream_meta.StreamMeta.{StreamMeta}
 use Rattle.quic_connection_core.specs.Acknowledging.{delay_at}
 use Rattle.quic_connection_core.specs.Tracking.{Carried, meta_of, after_sent}
-use Rattle.quic_connection_core.specs.Poll.{first_pending, room_for, frame_room, ack_of, after_ack}
+use Rattle.quic_connection_core.specs.Poll.{Draft, room_for, frame_room, ack_of, after_ack}
 use Rattle.quic_connection_core.specs.Table.{at}
 use Rattle.quic_connection_core.specs.End.{End, with_tracking, with_sending, with_ping}
 use Rattle.quic_streams.specs.Frames.{polled_at, half_bytes, half_frame}
 
--- how the next frame of a stream is written, if one has something to send, where so many bytes are used
-abbrev pub stream_bytes : Option ℕ → End → ℕ → List ℕ
-stream_bytes None e used = []
-stream_bytes (Some id) e used = half_bytes (at e.sending.halves id) id (room_for e used id)
+-- a payload that is written so far, and the end that its frames left: which they are doesn't matter to what goes behind them
+abbrev pub payload_at : End → List ℕ → Draft
+payload_at e bytes = record { frames = []; bytes = bytes; end = e }
+
+-- how the next frame of a stream is written, where so many bytes are used
+abbrev pub stream_bytes : ℕ → End → ℕ → List ℕ
+stream_bytes id e used = half_bytes (at e.sending.halves id) id (room_for e used id)
 
 -- the end after that frame went
-abbrev pub end_after_stream : Option ℕ → End → ℕ → End
-end_after_stream None e used = e
-end_after_stream (Some id) e used = with_sending e (record e.sending { halves = polled_at (at e.sending.halves id) e.sending.halves id (room_for e used id) })
+abbrev pub end_after_stream : ℕ → End → ℕ → End
+end_after_stream id e used = with_sending e (record e.sending { halves = polled_at (at e.sending.halves id) e.sending.halves id (room_for e used id) })
 
--- ---- PING, and behind it the frame of a stream
+-- what that frame carries
+abbrev pub stream_metas : ℕ → End → ℕ → List StreamMeta
+stream_metas id e used = option_to_list (option_map meta_of (half_frame (at e.sending.halves id) id (room_for e used id)))
 
 -- how PING is written, where it waits
 abbrev pub ping_bytes : Bool → List ℕ
@@ -38,14 +42,6 @@ end_after_ping_if false e = e
 -- the end after PING went if it waits
 abbrev pub pinged : End → End
 pinged e = end_after_ping_if e.waiting.ping e
-
--- how what asks for an acknowledgement is written, where so many bytes are used
-abbrev pub asking_bytes : End → ℕ → List ℕ
-asking_bytes e used = ping_bytes e.waiting.ping ++ stream_bytes (first_pending (pinged e).sending.halves) (pinged e) (used + length (ping_bytes e.waiting.ping))
-
--- the end after that went
-abbrev pub end_after_asking : End → ℕ → End
-end_after_asking e used = end_after_stream (first_pending (pinged e).sending.halves) (pinged e) (used + length (ping_bytes e.waiting.ping))
 
 -- ---- ACK
 
@@ -72,23 +68,6 @@ end_after_ack_if true e = after_ack e
 end_after_ack_if false e = e
 
 -- ---- what went, to be known when it is acknowledged or lost
-
--- the next frame of a stream, if one has something to send, where so many bytes are used
-abbrev pub stream_frame : Option ℕ → End → ℕ → Option StreamValue
-stream_frame None e used = None
-stream_frame (Some id) e used = half_frame (at e.sending.halves id) id (room_for e used id)
-
--- that frame behind PING, where PING waits
-abbrev pub asking_frame : End → ℕ → Option StreamValue
-asking_frame e used = stream_frame (first_pending (pinged e).sending.halves) (pinged e) (used + length (ping_bytes e.waiting.ping))
-
--- whether PING or the frame of a stream goes, where so many bytes are used
-abbrev pub asks_behind : End → ℕ → Bool
-asks_behind e used = e.waiting.ping || is_some (asking_frame e used)
-
--- what the frame of a stream that goes then carries
-abbrev pub asking_meta : End → ℕ → Option StreamMeta
-asking_meta e used = option_map meta_of (asking_frame e used)
 
 -- the greatest number of an ACK frame, where it goes
 abbrev pub acked_if : Bool → End → Option ℕ

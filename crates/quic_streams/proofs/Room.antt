@@ -55,7 +55,7 @@ by_need true left room count some le =
 by_need false left room count some le = omega arith
 
 -- so the frame fits the room behind its type and id
-fits_behind : (h : SendHalf) (id room count : ℕ) → 17 ≤ room → count ≤ buffered.sent_end h.buffer room - (buffered.next_start h.buffer)
+fits_behind : (h : SendHalf) (id room count : ℕ) → 16 ≤ room → count ≤ buffered.sent_end h.buffer room - (buffered.next_start h.buffer)
     → wire.stream_header_size id (buffered.next_start h.buffer) (wire.some_if (buffered.writes_length h.buffer room) count) + count ≤ 1 + wire.width_of id + room
 fits_behind h id room count some le =
     let off : wire.offset_width (buffered.next_start h.buffer) ≡ buffered.offset_width (buffered.next_start h.buffer) = offset_widths (buffered.next_start h.buffer) in
@@ -68,7 +68,7 @@ fits_behind h id room count some le =
     omega arith
 
 -- what stands before the bytes, and they themselves
-pub fits : (h : SendHalf) (id room : ℕ) (meta : FrameMeta) → HasFrame h room → 17 ≤ room → meta ≡ frame_meta h room
+pub fits : (h : SendHalf) (id room : ℕ) (meta : FrameMeta) → HasFrame h room → 16 ≤ room → meta ≡ frame_meta h room
     → wire.stream_header_size id meta.offsets.start (wire.some_if meta.has_length (meta.offsets.end - meta.offsets.start)) + (meta.offsets.end - meta.offsets.start) ≤ 1 + wire.width_of id + room
 fits h id room meta f some m =
     rw m (fits_behind h id room (buffered.sent_end h.buffer room - buffered.next_start h.buffer) some (omega arith))

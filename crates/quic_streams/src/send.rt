@@ -165,7 +165,7 @@ impl Send {
         max_len: usize,
         out: &mut Vec<u8>,
     ) -> StreamMeta
-        requires some { 17 ≤ max_len }
+        requires some { 16 ≤ max_len }
         requires room { vec_len out.old + (1 + width_of id) + max_len ≤ vec_capacity out.old }
         ensures items { out.new.items ≡ out.old.items ++ stream_spelling (writes_length self.old.buffer max_len) (frame_of id self.old max_len) }
         ensures len { vec_len out.new ≤ vec_len out.old + (1 + width_of id) + max_len }

@@ -313,7 +313,7 @@ impl Sending {
         max_len: usize,
         out: &mut Vec<u8>,
     ) -> Option<StreamMeta>
-        requires some { 17 ≤ max_len }
+        requires some { 16 ≤ max_len }
         requires room { vec_len out.old + (1 + width_of id) + max_len ≤ vec_capacity out.old }
         ensures items { IfSome (at self.old.halves id) (λ h. out.new.items ≡ out.old.items ++ stream_spelling (writes_length h.buffer max_len) (frame_of id h max_len)) }
         ensures len { vec_len out.new ≤ vec_len out.old + (1 + width_of id) + max_len }

@@ -48,7 +48,7 @@ impl<H: HeaderKey + Drop, K: PacketKey + Drop, R: Rng + Drop> Connection<H, K, R
     }
 
     /// A packet is acknowledged: the numbers that its ACK frame named need no more acknowledgement, and the bytes that it carried of
-    /// a stream never go again.
+    /// streams never go again.
     fn on_packet_acked(&mut self, packet: &SentPacket) -> Result<(), AllocError>
         ensures ok { OnOk result (self.new ≡ with_end self.old (packet_acked packet.now self.old.end)) }
         ensures others { self.new ≡ with_end self.old self.new.end }
@@ -56,10 +56,18 @@ impl<H: HeaderKey + Drop, K: PacketKey + Drop, R: Rng + Drop> Connection<H, K, R
         if let Some(largest) = packet.carried.largest_acked {
             self.acknowledging.forget(largest);
         }
-        match &packet.carried.stream_frames {
-            Some(frame) => self.on_stream_acked(frame),
-            None => Ok(()),
+        self.on_streams_acked(packet.carried.stream_frames.as_slice())
+    }
+
+    /// The STREAM frames of a packet are acknowledged.
+    fn on_streams_acked(&mut self, frames: &[StreamMeta]) -> Result<(), AllocError>
+        ensures ok { OnOk result (self.new ≡ with_end self.old (streams_acked frames.now self.old.end)) }
+        ensures others { self.new ≡ with_end self.old self.new.end }
+    {
+        for frame in frames {
+            self.on_stream_acked(frame)?;
         }
+        Ok(())
     }
 
     /// A STREAM frame is acknowledged: where its stream is wholly acknowledged then, its end too, the application is told so.
@@ -87,15 +95,31 @@ impl<H: HeaderKey + Drop, K: PacketKey + Drop, R: Rng + Drop> Connection<H, K, R
         Ok(())
     }
 
-    /// A packet is lost: what it carried of a stream goes again. Its acknowledgement doesn't, since a later one says more.
+    /// A packet is lost: what it carried of streams goes again. Its acknowledgement doesn't, since a later one says more.
     fn on_packet_lost(&mut self, packet: &SentPacket) -> Result<(), AllocError>
         ensures ok { OnOk result (self.new ≡ with_end self.old (streams_lost packet.now.carried.streams self.old.end)) }
         ensures others { self.new ≡ with_end self.old self.new.end }
     {
-        match &packet.carried.stream_frames {
-            Some(frame) => self.sending.retransmit(frame),
-            None => Ok(()),
+        self.on_streams_lost(packet.carried.stream_frames.as_slice())
+    }
+
+    /// The STREAM frames of a packet are lost.
+    fn on_streams_lost(&mut self, frames: &[StreamMeta]) -> Result<(), AllocError>
+        ensures ok { OnOk result (self.new ≡ with_end self.old (streams_lost frames.now self.old.end)) }
+        ensures others { self.new ≡ with_end self.old self.new.end }
+    {
+        for frame in frames {
+            self.on_stream_lost(frame)?;
         }
+        Ok(())
+    }
+
+    /// A STREAM frame is lost: what it carried goes again.
+    fn on_stream_lost(&mut self, frame: &StreamMeta) -> Result<(), AllocError>
+        ensures ok { OnOk result (self.new ≡ with_end self.old (stream_lost frame.now self.old.end)) }
+        ensures others { self.new ≡ with_end self.old self.new.end }
+    {
+        self.sending.retransmit(frame)
     }
 
     /// Sets the loss timer to where what is tracked puts it, or stops it.

@@ -1,6 +1,5 @@
 //! Giving a datagram (RFC 9000, sections 12.2, 13.2, 13.3 and 14.1).
-ghost use Rattle.std.specs.Option.{option_map, option_to_list};
-ghost use Rattle.std.specs.Prelude.{◌≡◌, ◌≢◌, ◌+◌, ◌-◌, ◌≤◌, ◌++◌, length, replicate, take, drop, IfOk, OnOk, OnErr, Ok, Some, None, true, vec_len, vec_capacity};
+ghost use Rattle.std.specs.Prelude.{◌≡◌, ◌≢◌, ◌+◌, ◌-◌, ◌<◌, ◌≤◌, ◌++◌, length, replicate, take, drop, IfOk, IfSome, IsSome, OnOk, OnErr, Ok, Some, None, true, vec_len, vec_capacity};
 ghost use Rattle.quic_packet.specs.Number.{truncated};
 ghost use Rattle.quic_packet.specs.Header.{header_bytes};
 ghost use Rattle.quic_packet.specs.Datagram.{protected};
@@ -12,26 +11,31 @@ ghost use Rattle.quic_recovery_core.specs.PendingAcks.{can_send, is_filled};
 ghost use Rattle.quic_time.specs.Timers.{no_timers};
 ghost use Rattle.quic_connection_core.specs.End.{with_end, with_numbers, policy_of, HasFailed};
 ghost use Rattle.quic_connection_core.specs.Numbers.{can_number, cut_against, number_given};
-ghost use Rattle.quic_connection_core.specs.Tracking.{carried_in, meta_of};
-ghost use Rattle.quic_connection_core.specs.Poll.{IsSilent, polled, first_pending, composed, frame_room, payload_of, datagram_of, after_given, asking, probed, ack_of, after_ack};
-ghost use Rattle.quic_end.specs.Frames.{stream_bytes, end_after_stream, stream_frame, ping_bytes, pinged, asking_bytes, end_after_asking, asks_behind, asking_meta, most_ack_bytes, fits_behind, ack_bytes_if, acked_if, end_after_ack_if, tracked_as};
+ghost use Rattle.quic_connection_core.specs.Tracking.{carried_in, streams_in};
+ghost use Rattle.quic_connection_core.specs.Table.{at};
+ghost use Rattle.quic_connection_core.specs.Poll.{IsSilent, polled, composed, frame_room, least_stream_room, next_behind, with_stream_frames, with_asking, payload_of, datagram_of, after_given, asking, tracked_if, probed, ack_of, after_ack};
+ghost use Rattle.quic_end.specs.Frames.{payload_at, stream_bytes, end_after_stream, stream_metas, ping_bytes, pinged, most_ack_bytes, fits_behind, ack_bytes_if, acked_if, end_after_ack_if, tracked_as};
 ghost use Rattle.quic_end.specs.Given.{given_bytes};
 ghost use Rattle.quic_connection_core.specs.Lacking.{GivesOrHasFailed};
 
 use crate::connection::Connection;
-use crate::connection::tracking::{Carried, SentPacket};
+use crate::connection::tracking::{Carried, SentPacket, StreamMetas};
 use quic_connection_core::{Failed, Instant, LostReason, State, Timer, Transmit};
 use quic_packet::crypto::{HeaderKey, PacketKey, TAG_LEN};
 use quic_packet::{ShortHeader, seal_reserved};
-use quic_streams_core::StreamMeta;
 use quic_wire::frame::{Ack, Frame, Stream, put_frame};
-use quic_wire_core::EcnCodepoint;
 use quic_wire_core::reserved::{append_zeros, varint_size};
+use quic_wire_core::{EcnCodepoint, StreamId};
 use rand_core::Rng;
+use smallvec::SmallVec;
 use std::alloc::AllocError;
 
 /// The most bytes of a datagram (RFC 9000, section 14.1).
 const CURRENT_MTU: usize = 1200;
+
+/// How many bytes have to be left of a datagram so that a frame of a stream goes: its type, and its id, offset and length in
+/// eight bytes each.
+const LEAST_STREAM_ROOM: usize = 25;
 
 /// What went into a datagram (quinn-proto's `SentFrames`).
 #[derive(Drop)]
@@ -42,10 +46,10 @@ struct SentFrames {
 }
 
 impl SentFrames {
-    /// Frames that ask or don't, an ACK frame that names numbers up to this one, and the frame of a stream.
-    fn new(asks: bool, largest_acked: Option<u64>, stream_frames: Option<StreamMeta>) -> Self
+    /// Frames that ask or don't, an ACK frame that names numbers up to this one, and the frames of streams.
+    fn new(asks: bool, largest_acked: Option<u64>, stream_frames: StreamMetas) -> Self
         ensures asks { result.asks ≡ asks }
-        ensures carried { result.carried ≡ record { acked = largest_acked; streams = option_to_list stream_frames } }
+        ensures carried { result.carried ≡ record { acked = largest_acked; streams = stream_frames.items } }
     {
         SentFrames {
             asks,
@@ -121,7 +125,7 @@ impl<H: HeaderKey + Drop, K: PacketKey + Drop, R: Rng + Drop> Connection<H, K, R
     }
 
     /// Appends the datagram of what waits, for which there is room, tracks it where it asks for an acknowledgement, and
-    /// counts it as given: its size. Where memory lacks to track it, nothing is appended, and the end fails for good.
+    /// counts it as given: its size. Where memory lacks, nothing is appended, and the end fails for good.
     fn give(&mut self, out: &mut Vec<u8>) -> Result<usize, Failed>
         requires number { can_number self.old.end.numbers ≡ true }
         requires room { vec_len out.old + 1200 ≤ vec_capacity out.old }
@@ -133,8 +137,7 @@ impl<H: HeaderKey + Drop, K: PacketKey + Drop, R: Rng + Drop> Connection<H, K, R
         ensures nothing { OnErr result (out.new.items ≡ out.old.items) }
     {
         let start = out.len();
-        let sent = self.put_plain(out);
-        if self.track(sent).is_err() {
+        if self.put_tracked(out).is_err() {
             out.truncate(start);
             self.fail();
             return Err(Failed);
@@ -142,6 +145,27 @@ impl<H: HeaderKey + Drop, K: PacketKey + Drop, R: Rng + Drop> Connection<H, K, R
         self.seal(start, out);
         self.count_given();
         Ok(out.len() - start)
+    }
+
+    /// Appends the packet of what waits, for which there is room, unsealed, and tracks it where it asks for an
+    /// acknowledgement. An error is want of memory; the end is of no more use then, and some of the packet may stand in `out`.
+    fn put_tracked(&mut self, out: &mut Vec<u8>) -> Result<(), AllocError>
+        requires number { can_number self.old.end.numbers ≡ true }
+        requires room { vec_len out.old + 1200 ≤ vec_capacity out.old }
+        ensures items { OnOk result (out.new.items ≡ out.old.items ++ (header_bytes self.old.end.ids.active.id (truncated self.old.end.numbers.next (cut_against self.old.end.numbers)) ++ payload_of (composed self.old.end))) }
+        ensures four { OnOk result (vec_len out.old + 1 + length self.old.end.ids.active.id + 4 ≤ vec_len out.new) }
+        ensures within { OnOk result (vec_len out.new + 16 ≤ vec_len out.old + 1200) }
+        ensures capacity { vec_capacity out.old ≤ vec_capacity out.new }
+        ensures end { OnOk result (self.new ≡ with_end self.old (tracked_if (asking (composed self.old.end).frames) (composed self.old.end))) }
+        ensures numbers { OnOk result (self.new.end.numbers ≡ self.old.end.numbers) }
+        ensures ids { OnOk result (self.new.end.ids ≡ self.old.end.ids) }
+        ensures keys { self.new.keys ≡ self.old.keys }
+        ensures front { take (vec_len out.old) out.new.items ≡ out.old.items }
+        ensures grows { vec_len out.old ≤ vec_len out.new }
+        ensures others { self.new ≡ with_end self.old self.new.end }
+    {
+        let sent = self.put_plain(out)?;
+        self.track(sent)
     }
 
     /// The next datagram has these frames: where they ask for an acknowledgement, it is tracked, and the loss timer set
@@ -164,50 +188,57 @@ impl<H: HeaderKey + Drop, K: PacketKey + Drop, R: Rng + Drop> Connection<H, K, R
         Ok(())
     }
 
-    /// Appends the packet of what waits, for which there is room, unsealed; its frames are taken: what went.
-    fn put_plain(&mut self, out: &mut Vec<u8>) -> SentFrames
+    /// Appends the packet of what waits, for which there is room, unsealed; its frames are taken: what went. An error is want
+    /// of memory; the end is of no more use then, and some of the packet may stand in `out`.
+    fn put_plain(&mut self, out: &mut Vec<u8>) -> Result<SentFrames, AllocError>
         requires number { can_number self.old.end.numbers ≡ true }
         requires room { vec_len out.old + 1200 ≤ vec_capacity out.old }
-        ensures items { out.new.items ≡ out.old.items ++ (header_bytes self.old.end.ids.active.id (truncated self.old.end.numbers.next (cut_against self.old.end.numbers)) ++ payload_of (composed self.old.end)) }
-        ensures four { vec_len out.old + 1 + length self.old.end.ids.active.id + 4 ≤ vec_len out.new }
-        ensures within { vec_len out.new + 16 ≤ vec_len out.old + 1200 }
+        ensures items { OnOk result (out.new.items ≡ out.old.items ++ (header_bytes self.old.end.ids.active.id (truncated self.old.end.numbers.next (cut_against self.old.end.numbers)) ++ payload_of (composed self.old.end))) }
+        ensures four { OnOk result (vec_len out.old + 1 + length self.old.end.ids.active.id + 4 ≤ vec_len out.new) }
+        ensures within { OnOk result (vec_len out.new + 16 ≤ vec_len out.old + 1200) }
         ensures capacity { vec_capacity out.old ≤ vec_capacity out.new }
-        ensures end { self.new ≡ with_end self.old (composed self.old.end).end }
-        ensures numbers { self.new.end.numbers ≡ self.old.end.numbers }
-        ensures ids { self.new.end.ids ≡ self.old.end.ids }
+        ensures end { OnOk result (self.new ≡ with_end self.old (composed self.old.end).end) }
+        ensures numbers { OnOk result (self.new.end.numbers ≡ self.old.end.numbers) }
+        ensures ids { OnOk result (self.new.end.ids ≡ self.old.end.ids) }
         ensures keys { self.new.keys ≡ self.old.keys }
-        ensures asks { result.asks ≡ asking (composed self.old.end).frames }
-        ensures carried { result.carried ≡ carried_in (composed self.old.end).frames }
+        ensures asks { IfOk result (λ sent. sent.asks ≡ asking (composed self.old.end).frames) }
+        ensures carried { IfOk result (λ sent. sent.carried ≡ carried_in (composed self.old.end).frames) }
+        ensures front { take (vec_len out.old) out.new.items ≡ out.old.items }
+        ensures grows { vec_len out.old ≤ vec_len out.new }
+        ensures others { self.new ≡ with_end self.old self.new.end }
     {
         let width = self.put_header(out);
         let body = out.len();
-        let sent = self.put_frames(out);
+        let sent = self.put_frames(out)?;
         pad(out, width, body);
-        sent
+        Ok(sent)
     }
 
     /// Appends the frames of what waits as a payload, for which there is room. A due ACK goes first, so that it always
     /// fits; one that isn't due goes last, where it fits, so that it takes no room from what waits. This answers what went.
-    fn put_frames(&mut self, out: &mut Vec<u8>) -> SentFrames
+    /// An error is want of memory; the end is of no more use then, and some of the frames may stand in `out`.
+    fn put_frames(&mut self, out: &mut Vec<u8>) -> Result<SentFrames, AllocError>
         requires some { 1159 ≤ frame_room self.old.end }
         requires room { vec_len out.old + frame_room self.old.end ≤ vec_capacity out.old }
-        ensures items { out.new.items ≡ out.old.items ++ (composed self.old.end).bytes }
+        ensures items { OnOk result (out.new.items ≡ out.old.items ++ (composed self.old.end).bytes) }
         ensures within { vec_len out.new ≤ vec_len out.old + frame_room self.old.end }
         ensures grows { vec_len out.old ≤ vec_len out.new }
         ensures capacity { vec_capacity out.old ≤ vec_capacity out.new }
-        ensures end { self.new ≡ with_end self.old (composed self.old.end).end }
-        ensures asks { result.asks ≡ asking (composed self.old.end).frames }
-        ensures carried { result.carried ≡ carried_in (composed self.old.end).frames }
+        ensures end { OnOk result (self.new ≡ with_end self.old (composed self.old.end).end) }
+        ensures asks { IfOk result (λ sent. sent.asks ≡ asking (composed self.old.end).frames) }
+        ensures carried { IfOk result (λ sent. sent.carried ≡ carried_in (composed self.old.end).frames) }
+        ensures front { take (vec_len out.old) out.new.items ≡ out.old.items }
+        ensures others { self.new ≡ with_end self.old self.new.end }
     {
         let body = out.len();
         if self.is_ack_due() {
             let largest = self.put_ack(out);
-            let (asks, stream_frames) = self.put_asking(body, out);
-            SentFrames::new(asks, Some(largest), stream_frames)
+            let (asks, stream_frames) = self.put_asking(body, out)?;
+            Ok(SentFrames::new(asks, Some(largest), stream_frames))
         } else {
-            let (asks, stream_frames) = self.put_asking(body, out);
+            let (asks, stream_frames) = self.put_asking(body, out)?;
             let largest = self.put_late_ack(body, out);
-            SentFrames::new(asks, largest, stream_frames)
+            Ok(SentFrames::new(asks, largest, stream_frames))
         }
     }
 
@@ -265,25 +296,31 @@ impl<H: HeaderKey + Drop, K: PacketKey + Drop, R: Rng + Drop> Connection<H, K, R
         largest
     }
 
-    /// Appends what asks for an acknowledgement, PING and the frame of a stream, behind the frames of the packet whose
-    /// payload begins at `body`: none, or an ACK. There is room for the whole payload. This answers whether something went,
-    /// and what the frame of a stream carries.
-    fn put_asking(&mut self, body: usize, out: &mut Vec<u8>) -> (bool, Option<StreamMeta>)
+    /// Appends what asks for an acknowledgement, PING and frames of streams, behind the frames of the packet whose payload
+    /// begins at `body`: none, or an ACK. There is room for the whole payload. This answers whether something went, and what
+    /// the frames of streams carry. An error is want of memory; the end is of no more use then.
+    fn put_asking(
+        &mut self,
+        body: usize,
+        out: &mut Vec<u8>,
+    ) -> Result<(bool, StreamMetas), AllocError>
         requires body { body ≤ vec_len out.old }
         requires few { vec_len out.old ≤ body + most_ack_bytes }
         requires some { 1159 ≤ frame_room self.old.end }
         requires room { body + frame_room self.old.end ≤ vec_capacity out.old }
-        ensures items { out.new.items ≡ out.old.items ++ asking_bytes self.old.end (vec_len out.old - body) }
+        ensures items { OnOk result (out.new.items ≡ take body out.old.items ++ (with_asking (payload_at self.old.end (drop body out.old.items))).bytes) }
         ensures within { vec_len out.new ≤ body + frame_room self.old.end }
         ensures grows { vec_len out.old ≤ vec_len out.new }
         ensures capacity { vec_capacity out.old ≤ vec_capacity out.new }
-        ensures end { self.new ≡ with_end self.old (end_after_asking self.old.end (vec_len out.old - body)) }
-        ensures asks { result.0 ≡ asks_behind self.old.end (vec_len out.old - body) }
-        ensures meta { result.1 ≡ asking_meta self.old.end (vec_len out.old - body) }
+        ensures end { OnOk result (self.new ≡ with_end self.old (with_asking (payload_at self.old.end (drop body out.old.items))).end) }
+        ensures asks { IfOk result (λ sent. sent.0 ≡ asking (with_asking (payload_at self.old.end (drop body out.old.items))).frames) }
+        ensures streams { IfOk result (λ sent. sent.1.items ≡ streams_in (with_asking (payload_at self.old.end (drop body out.old.items))).frames) }
+        ensures front { take body out.new.items ≡ take body out.old.items }
+        ensures others { self.new ≡ with_end self.old self.new.end }
     {
         let pinged = self.put_ping(out);
-        let stream_frames = self.put_stream(body, out);
-        (pinged || stream_frames.is_some(), stream_frames)
+        let stream_frames = self.put_streams(body, out)?;
+        Ok((pinged || !stream_frames.is_empty(), stream_frames))
     }
 
     /// Appends PING if it waits, for which there is room: whether it does.
@@ -303,24 +340,70 @@ impl<H: HeaderKey + Drop, K: PacketKey + Drop, R: Rng + Drop> Connection<H, K, R
         waited
     }
 
-    /// Appends the next frame of the first stream with something to send, behind the frames of the packet whose payload
-    /// begins at `body`; there is room for the whole payload. This answers what the frame carries.
-    fn put_stream(&mut self, body: usize, out: &mut Vec<u8>) -> Option<StreamMeta>
+    /// Appends frames of streams behind the frames of the packet whose payload begins at `body`, while a stream has something
+    /// to send and there is room for a frame of it; there is room for the whole payload. This answers what they carry. An
+    /// error is want of memory; the end is of no more use then.
+    fn put_streams(&mut self, body: usize, out: &mut Vec<u8>) -> Result<StreamMetas, AllocError>
         requires body { body ≤ vec_len out.old }
-        requires few { vec_len out.old ≤ body + (most_ack_bytes + 1) }
+        requires within { vec_len out.old ≤ body + frame_room self.old.end }
         requires room { body + frame_room self.old.end ≤ vec_capacity out.old }
-        ensures items { out.new.items ≡ out.old.items ++ stream_bytes (first_pending self.old.end.sending.halves) self.old.end (vec_len out.old - body) }
+        ensures items { OnOk result (out.new.items ≡ take body out.old.items ++ (with_stream_frames (payload_at self.old.end (drop body out.old.items))).bytes) }
         ensures within { vec_len out.new ≤ body + frame_room self.old.end }
         ensures grows { vec_len out.old ≤ vec_len out.new }
         ensures capacity { vec_capacity out.old ≤ vec_capacity out.new }
-        ensures end { self.new ≡ with_end self.old (end_after_stream (first_pending self.old.end.sending.halves) self.old.end (vec_len out.old - body)) }
-        ensures meta { result ≡ option_map meta_of (stream_frame (first_pending self.old.end.sending.halves) self.old.end (vec_len out.old - body)) }
+        ensures end { OnOk result (self.new ≡ with_end self.old (with_stream_frames (payload_at self.old.end (drop body out.old.items))).end) }
+        ensures streams { IfOk result (λ sent. sent.items ≡ streams_in (with_stream_frames (payload_at self.old.end (drop body out.old.items))).frames) }
+        ensures front { take body out.new.items ≡ take body out.old.items }
+        ensures others { self.new ≡ with_end self.old self.new.end }
     {
+        let mut sent = SmallVec::new(self.alloc);
+        while let Some(id) = self.next_stream(out.len() - body) {
+            self.put_stream(id, body, out, &mut sent)?;
+        }
+        Ok(sent)
+    }
+
+    /// The first stream with something to send, where there is room for a frame of it behind so many bytes of a payload.
+    fn next_stream(&self, used: usize) -> Option<StreamId>
+        requires { used ≤ frame_room self.now.end }
+        ensures id { result ≡ next_behind self.now.end used }
+        ensures half { IfSome result (λ id. IsSome (at self.now.end.sending.halves id)) }
+        ensures room { IsSome result → least_stream_room ≤ frame_room self.now.end - used }
+    {
+        if self.frame_room() - used < LEAST_STREAM_ROOM {
+            return None;
+        }
+        self.pending()
+    }
+
+    /// Appends the next frame of a stream behind the frames of the packet whose payload begins at `body`, and notes what it
+    /// carries; there is room for the whole payload. An error is want of memory, and nothing has changed.
+    fn put_stream(
+        &mut self,
+        id: StreamId,
+        body: usize,
+        out: &mut Vec<u8>,
+        sent: &mut StreamMetas,
+    ) -> Result<(), AllocError>
+        requires body { body ≤ vec_len out.old }
+        requires some { vec_len out.old + least_stream_room ≤ body + frame_room self.old.end }
+        requires room { body + frame_room self.old.end ≤ vec_capacity out.old }
+        requires half { IsSome (at self.old.end.sending.halves id) }
+        ensures items { OnOk result (out.new.items ≡ out.old.items ++ stream_bytes id self.old.end (vec_len out.old - body)) }
+        ensures grows { OnOk result (vec_len out.old < vec_len out.new) }
+        ensures within { vec_len out.new ≤ body + frame_room self.old.end }
+        ensures capacity { vec_capacity out.old ≤ vec_capacity out.new }
+        ensures end { OnOk result (self.new ≡ with_end self.old (end_after_stream id self.old.end (vec_len out.old - body))) }
+        ensures streams { OnOk result (sent.new.items ≡ sent.old.items ++ stream_metas id self.old.end (vec_len out.old - body)) }
+        ensures nothing { OnErr result ((out.new ≡ out.old) × (self.new ≡ self.old)) }
+    {
+        sent.reserve(1)?;
         let used = out.len() - body;
-        let room = self.frame_room() - used;
-        let id = self.pending()?;
-        let room = room - (1 + varint_size(id.into()));
-        self.sending.put_frame(id, room, out)
+        let room = self.frame_room() - used - (1 + varint_size(id.into()));
+        if let Some(frame) = self.sending.put_frame(id, room, out) {
+            sent.push_reserved(frame);
+        }
+        Ok(())
     }
 
     /// How many bytes are left for frames in the next datagram.

@@ -6,6 +6,7 @@ ghost use Rattle.quic_end.specs.Tracked.{Ascends, packets_in, within, outside, a
 use quic_streams_core::StreamMeta;
 use quic_time::Instant;
 use quic_wire::frame::{Ack, AckIter};
+use smallvec::SmallVec;
 use std::alloc::{AllocError, Global};
 use std::collections::BTreeMap;
 use std::marker::Model;
@@ -20,22 +21,24 @@ const MOST_DOUBLINGS: u64 = 16;
 /// How far below the greatest acknowledged number a packet counts as lost (RFC 9002, section 6.1.1).
 const PACKET_THRESHOLD: u64 = 3;
 
+/// What the STREAM frames of a datagram carried, in their order (quinn-proto's `StreamMetaVec`): one stands in place.
+pub(crate) type StreamMetas = SmallVec<StreamMeta, 1>;
+
 /// What a datagram carried that matters once it is acknowledged or lost.
 #[derive(Drop)]
 pub(crate) struct Carried {
     /// The greatest number that its ACK frame named, if it had one.
     pub(crate) largest_acked: Option<u64>,
-    /// The offsets and the end of its STREAM frame, if it had one.
-    pub(crate) stream_frames: Option<StreamMeta>,
+    /// The offsets and the ends of its STREAM frames.
+    pub(crate) stream_frames: StreamMetas,
 }
 
 impl Model for Carried {
-    ghost use Rattle.std.specs.Option.{option_to_list};
     ghost use Rattle.quic_connection_core.specs.Tracking as words;
 
     ghost Value = { words.Carried };
 
-    ghost view = { λ c. record { acked = c.largest_acked; streams = option_to_list c.stream_frames } };
+    ghost view = { λ c. record { acked = c.largest_acked; streams = c.stream_frames.items } };
 }
 
 /// A datagram that was sent and asks for an acknowledgement (quinn-proto's `SentPacket`).

@@ -8,6 +8,6 @@ use Rattle.quic_end.proofs.connection.Connection.give.Goals as goal
 pub returns-clause-items : goal.returns-clause-items
 returns-clause-items g c =
     let e = c.args.self.now.end in
-    sealed_of (g.H.HeaderKey.masks c.args.self.now.keys.header.local) (g.H.HeaderKey.hides c.args.self.now.keys.header.local) (g.K.PacketKey.sealed c.args.self.now.keys.packet.local) (λ s bytes. g.met.H.HeaderKey.keeps_length _ s bytes) e.numbers.next (cut_against e.numbers) c.args.out.now.items e.ids.active.id c.put_plain-sent.new.out.items c.seal.new.out.items (payload_of (composed e))
-    (search rules) c.put_plain-sent.ensures.items (search rules)
+    sealed_of (g.H.HeaderKey.masks c.args.self.now.keys.header.local) (g.H.HeaderKey.hides c.args.self.now.keys.header.local) (g.K.PacketKey.sealed c.args.self.now.keys.packet.local) (λ s bytes. g.met.H.HeaderKey.keeps_length _ s bytes) e.numbers.next (cut_against e.numbers) c.args.out.now.items e.ids.active.id c.put_tracked.new.out.items c.seal.new.out.items (payload_of (composed e))
+    (search rules) (search rules) (search rules)
     ∙ ap (λ (z : List ℕ). c.args.out.now.items ++ z) (sent_of (policy_of g.H.HeaderKey.masks g.H.HeaderKey.hides g.H.HeaderKey.unmasks g.H.HeaderKey.reveals g.K.PacketKey.sealed g.K.PacketKey.opened c.args.self.now) e)
