@@ -1,6 +1,6 @@
 -- What is composed: a due ACK and what asks behind it, or what asks and an ACK behind it.
 use Rattle.std.proofs.Common.{◌≡◌, ℕ, ◌+◌, ◌-◌, ◌++◌, ◌||◌, Bool, true, false, List, [], ◌∷◌, length, take, drop, Option, Some, None, refl, sym, ap, ◌∙◌, arith}
-use Rattle.std.proofs.lemmas.List.{append_assoc, append-nil, length-append}
+use Rattle.std.proofs.lemmas.List.{append_assoc, append-nil, length-append, take_at, drop_at}
 use Rattle.quic_wire.specs.Value.{FrameValue, AckValue, ack, stream, asks}
 use Rattle.quic_wire.specs.Writing.{spelling}
 use Rattle.quic_recovery_core.specs.PendingAcks.{can_send}
@@ -65,23 +65,15 @@ late_says false d none = (refl, rw none refl)
 
 -- ---- what stands in a buffer
 
-take_all : (xs ys : List ℕ) → take (length xs) (xs ++ ys) ≡ xs
-take_all [] ys = refl
-take_all (x ∷ xs) ys = ap (λ (zs : List ℕ). x ∷ zs) (take_all xs ys)
-
-drop_all_of : (xs ys : List ℕ) → drop (length xs) (xs ++ ys) ≡ ys
-drop_all_of [] ys = refl
-drop_all_of (x ∷ xs) ys = drop_all_of xs ys
-
 -- behind a due ACK
 pub due_front : (before mid : List ℕ) (body : ℕ) (bytes : List ℕ) → body ≡ length before → mid ≡ before ++ bytes → take body mid ≡ before
-due_front before mid body bytes n put = ap (λ (k : ℕ). take k mid) n ∙ ap (λ (z : List ℕ). take (length before) z) put ∙ take_all before bytes
+due_front before mid body bytes n put = ap (λ (z : List ℕ). take body z) put ∙ take_at before bytes body (sym n)
 
 pub due_payload : (e x : End) (before mid : List ℕ) (body : ℕ) → body ≡ length before → mid ≡ before ++ spelling (ack (ack_of e)) → x ≡ after_ack e
     → payload_at x (drop body mid) ≡ payload_at (after_ack e) (spelling (ack (ack_of e)))
 due_payload e x before mid body n put left =
     ap (λ (y : End). payload_at y (drop body mid)) left
-    ∙ ap (λ (z : List ℕ). payload_at (after_ack e) z) (ap (λ (k : ℕ). drop k mid) n ∙ ap (λ (z : List ℕ). drop (length before) z) put ∙ drop_all_of before (spelling (ack (ack_of e))))
+    ∙ ap (λ (z : List ℕ). payload_at (after_ack e) z) (ap (λ (z : List ℕ). drop body z) put ∙ drop_at before (spelling (ack (ack_of e))) body (sym n))
 
 pub due_bytes : (e x : End) (before mid final : List ℕ) (body : ℕ) → can_send e.acknowledging ≡ true → body ≡ length before → mid ≡ before ++ spelling (ack (ack_of e)) → x ≡ after_ack e
     → final ≡ take body mid ++ (with_asking (payload_at x (drop body mid))).bytes → final ≡ before ++ (composed e).bytes
@@ -109,7 +101,7 @@ pub late_front : (before : List ℕ) (body : ℕ) → body ≡ length before →
 late_front before body n = due_front before before body [] n (sym (append-nil before))
 
 pub late_payload : (e : End) (before : List ℕ) (body : ℕ) → body ≡ length before → payload_at e (drop body before) ≡ payload_at e []
-late_payload e before body n = ap (λ (z : List ℕ). payload_at e z) (ap (λ (k : ℕ). drop k before) n ∙ ap (λ (z : List ℕ). drop (length before) z) (sym (append-nil before)) ∙ drop_all_of before [])
+late_payload e before body n = ap (λ (z : List ℕ). payload_at e z) (ap (λ (z : List ℕ). drop body z) (sym (append-nil before)) ∙ drop_at before [] body (sym n))
 
 -- and an ACK behind it
 pub late_used : (e x : End) (before mid : List ℕ) (body used : ℕ) → body ≡ length before → mid ≡ take body before ++ (with_asking (payload_at e (drop body before))).bytes → x ≡ (with_asking (payload_at e (drop body before))).end → used ≡ length mid - body

@@ -1,6 +1,6 @@
 -- What the parts of a packet say of the frames that it carries.
-use Rattle.std.proofs.Common.{◌≡◌, ℕ, ◌+◌, ◌-◌, ◌<◌, ◌^◌, ◌++◌, ◌≤◌, List, [], ◌∷◌, length, replicate, take, drop, refl, sym, ap, ◌∙◌, arith}
-use Rattle.std.proofs.lemmas.List.{length-append, append_assoc, take-take}
+use Rattle.std.proofs.Common.{◌≡◌, ℕ, ◌+◌, ◌-◌, ◌<◌, ◌^◌, ◌++◌, ◌≤◌, List, length, replicate, take, drop, sym, ap, ◌∙◌, arith}
+use Rattle.std.proofs.lemmas.List.{length-append, append_assoc, take-take, take_at}
 use Rattle.quic_packet.specs.Number.{truncated}
 use Rattle.quic_packet.specs.Header.{header_bytes}
 use Rattle.quic_packet.specs.Keys.{OfFirst, OfNumber, Seal}
@@ -35,11 +35,7 @@ payload_is e = ap (λ (n : Numbers). (composed e).bytes ++ replicate (4 - ((trun
 -- what stood before some bytes stands before more of them
 pub front_of : (front before all added : List ℕ) (n m : ℕ) → n ≡ length front → n ≤ m → before ≡ front ++ added → take m all ≡ before → take n all ≡ front
 front_of front before all added n m long few put same =
-    sym (take-take n m all few) ∙ ap (λ (z : List ℕ). take n z) (same ∙ put) ∙ ap (λ (k : ℕ). take k (front ++ added)) long ∙ take_all front added
-  where
-    take_all : (xs ys : List ℕ) → take (length xs) (xs ++ ys) ≡ xs
-    take_all [] ys = refl
-    take_all (x ∷ xs) ys = ap (λ (zs : List ℕ). x ∷ zs) (take_all xs ys)
+    sym (take-take n m all few) ∙ ap (λ (z : List ℕ). take n z) (same ∙ put) ∙ take_at front added n (sym long)
 
 -- header, frames and padding are a packet with their payload
 pub plain_of : (front before header whole padded bytes : List ℕ) (width wide len body : ℕ)
