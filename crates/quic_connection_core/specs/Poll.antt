@@ -121,7 +121,7 @@ abbrev pub stream_if : Option SendHalf → Draft → ℕ → Draft
 stream_if None d id = d
 stream_if (Some h) d id = with_frame d (stream (frame_of id h (stream_room d id))) (stream_spelling (writes_length h.buffer (stream_room d id)) (frame_of id h (stream_room d id))) (end_after_frame d id h)
 
--- how many bytes have to be left of a datagram at least, so that a frame of a stream goes: its type, id, offset and length, and a byte
+-- how many bytes have to be left of a datagram at least, so that a frame of a stream goes: its type, and its id, offset and length in eight bytes each
 abbrev pub least_stream_room : ℕ
 least_stream_room = 25
 

@@ -63,7 +63,7 @@ impl SentFrames {
 
 impl<H: HeaderKey + Drop, K: PacketKey + Drop, R: Rng + Drop> Connection<H, K, R> {
     /// Appends the next datagram to `out`, if there is something to send at this moment: a due acknowledgement, PING, or
-    /// bytes of a stream (RFC 9000, sections 13.2 and 13.3). An acknowledgement that isn't due goes along where it fits, and
+    /// bytes of streams (RFC 9000, sections 13.2 and 13.3). An acknowledgement that isn't due goes along where it fits, and
     /// where a probe waits, a PING does (RFC 9002, section 6.2.4). A datagram that asks for an acknowledgement is tracked
     /// until it is acknowledged or lost, and sets the loss timer anew.
     ///
