@@ -1,14 +1,15 @@
 -- An insert in words of sets: how many parts there are, and where they begin once they are joined.
-use Rattle.std.proofs.Common.{◌≡◌, ℕ, ◌+◌, ◌-◌, ◌^◌, ◌<◌, ◌≤◌, ◌==◌, length, List, [], ◌∷◌, ◌++◌, drop, Bool, true, false, not, ◌||◌, cond, refl, sym, ap, ◌∙◌, arith, max, length-append, length-drop, ◌⊎◌, inl, inr}
-use Rattle.std.proofs.lemmas.Bool.{eqb-true, eq-eqb, ne_eqb, cases_eq}
-use Rattle.quic_streams_core.specs.Arrived.{Arrived, Part, start, AreApart, IsLawful, in_front, joined, settled, is_crowded, last_end, extent, runs_of, begins_run, count_to, with_free, after_insert}
+use Rattle.std.proofs.Common.{◌≡◌, ℕ, ◌+◌, ◌-◌, ◌^◌, ◌<◌, ◌≤◌, ◌==◌, length, List, [], ◌∷◌, ◌++◌, drop, Bool, true, false, not, ◌||◌, cond, refl, sym, ap, ◌∙◌, arith, max, length-drop, ◌⊎◌, inl, inr}
+use Rattle.std.proofs.lemmas.Bool.{eq-eqb, ne_eqb, cases_eq}
+use Rattle.quic_streams_core.specs.Arrived.{Arrived, Part, start, AreApart, IsLawful, in_front, joined, settled, is_crowded, waits, runs_of, begins_run, count_to, with_free, after_insert}
 use Rattle.quic_streams_core.specs.Waiting.{begins_part, begins_then, are_too_many, IsInserted}
 use Rattle.quic_streams_core.proofs.Begins.{insert_begins}
 use Rattle.quic_streams_core.proofs.Filled.{low_small}
 use Rattle.quic_streams_core.proofs.Free.{free_apart}
-use Rattle.quic_streams_core.proofs.Joining.{touch, joined_apart, joined_runs}
+use Rattle.quic_streams_core.proofs.Joining.{joined_apart, joined_runs}
 use Rattle.quic_streams_core.proofs.Lawful.{insert_bytes, insert_lawful}
 use Rattle.quic_streams_core.proofs.Runs.{begins, count_none, count_same, count_but, same_runs, at_start}
+use Rattle.quic_streams_core.proofs.WaitingBytes.{bytes_counted, joined_bytes}
 
 -- ---- there are as many parts as offsets at which one begins
 pub begins_above : (low o : ℕ) (ps : List Part) → AreApart low ps → o < low → begins_part ps o ≡ false
@@ -29,36 +30,6 @@ parts_counted low n (p ∷ ps) h m =
     let own : begins_part (p ∷ ps) (start p) ≡ true = ap (λ b. b || begins_part ps (start p)) (eq-eqb (start p) (start p) refl) in
     let one : length (p ∷ ps) ≡ 1 + length ps = omega arith in
     one ∙ ap (λ k. 1 + k) rest ∙ sym (but ∙ ap (λ b. cond b 1 0 + count_to (begins_part ps) n) own)
-
--- ---- joined: as many offsets from the first to the last
-in_front_last : (e : ℕ) (p : Part) (ps : List Part) → last_end e (in_front p ps) ≡ last_end p.0 ps
-in_front_last e p [] = refl
-in_front_last e p (q ∷ qs) = go (start q == p.0)
-  where
-    go : (b : Bool) → last_end e (cond b ((q.0, p.1 ++ q.1) ∷ qs) (p ∷ q ∷ qs)) ≡ last_end q.0 qs
-    go true = refl
-    go false = refl
-
-joined_last : (e : ℕ) (ps : List Part) → last_end e (joined ps) ≡ last_end e ps
-joined_last e [] = refl
-joined_last e (p ∷ ps) = in_front_last e p (joined ps) ∙ joined_last p.0 ps
-
-in_front_extent : (low : ℕ) (p : Part) (ps : List Part) → AreApart low (p ∷ ps) → extent (in_front p ps) ≡ last_end p.0 ps - start p
-in_front_extent low p [] h = refl
-in_front_extent low p (q ∷ qs) h = go (start q == p.0) refl
-  where
-    go : (b : Bool) → (start q == p.0) ≡ b → extent (cond b ((q.0, p.1 ++ q.1) ∷ qs) (p ∷ q ∷ qs)) ≡ last_end q.0 qs - start p
-    go true e =
-        let a = h.0 in
-        let t = touch p q qs h.2 (eqb-true (start q) p.0 e) in
-        let l = length-append p.1 q.1 in
-        let s : q.0 - length (p.1 ++ q.1) ≡ start p = omega arith in
-        ap (λ n. last_end q.0 qs - n) s
-    go false e = refl
-
-joined_extent : (low : ℕ) (ps : List Part) → AreApart low ps → extent (joined ps) ≡ extent ps
-joined_extent low [] h = refl
-joined_extent low (p ∷ ps) h = in_front_extent low p (joined ps) (h.0, h.1, joined_apart p.0 ps h.2) ∙ ap (λ n. n - start p) (joined_last p.0 ps)
 
 -- ---- joined: a part begins where a run begins
 
@@ -110,33 +81,36 @@ runs_begin low o (p ∷ ps) h l = go (cases_eq o (start p))
 
 -- ---- joined only where they are too many
 abbrev SettledBegins : List Part → ℕ → ℕ → Type 0
-SettledBegins ps n o = begins_part (settled ps) o ≡ cond (are_too_many (count_to (begins_part ps) n) (runs_of (settled ps)) (extent (settled ps))) (begins_run (settled ps) o) (begins_part ps o)
+SettledBegins ps n o = begins_part (settled ps) o ≡ cond (are_too_many (count_to (begins_part ps) n) (runs_of (settled ps)) (count_to (waits (settled ps)) n)) (begins_run (settled ps) o) (begins_part ps o)
 
 settled_begins : (low n o : ℕ) (ps : List Part) → AreApart low ps → 2 ^ 62 ≤ n → SettledBegins ps n o
 settled_begins low n o ps h m = go (is_crowded ps) refl
   where
-    go : (b : Bool) → is_crowded ps ≡ b → begins_part (cond b (joined ps) ps) o ≡ cond (are_too_many (count_to (begins_part ps) n) (runs_of (cond b (joined ps) ps)) (extent (cond b (joined ps) ps))) (begins_run (cond b (joined ps) ps) o) (begins_part ps o)
+    go : (b : Bool) → is_crowded ps ≡ b → begins_part (cond b (joined ps) ps) o ≡ cond (are_too_many (count_to (begins_part ps) n) (runs_of (cond b (joined ps) ps)) (count_to (waits (cond b (joined ps) ps)) n)) (begins_run (cond b (joined ps) ps) o) (begins_part ps o)
     go true q =
-        let t : are_too_many (count_to (begins_part ps) n) (runs_of (joined ps)) (extent (joined ps)) ≡ true =
-        ap (λ k. are_too_many k (runs_of (joined ps)) (extent (joined ps))) (sym (parts_counted low n ps h m))
-        ∙ ap (λ k. are_too_many (length ps) k (extent (joined ps))) (joined_runs low ps h)
-        ∙ ap (λ k. are_too_many (length ps) (runs_of ps) k) (joined_extent low ps h)
+        let t : are_too_many (count_to (begins_part ps) n) (runs_of (joined ps)) (count_to (waits (joined ps)) n) ≡ true =
+        ap (λ k. are_too_many k (runs_of (joined ps)) (count_to (waits (joined ps)) n)) (sym (parts_counted low n ps h m))
+        ∙ ap (λ k. are_too_many (length ps) k (count_to (waits (joined ps)) n)) (joined_runs low ps h)
+        ∙ ap (λ k. are_too_many (length ps) (runs_of ps) k) (sym (bytes_counted low (joined ps) n (joined_apart low ps h) m) ∙ joined_bytes ps)
         ∙ q in
         runs_begin low o (joined ps) (joined_apart low ps h) (joined_loose ps) ∙ sym (ap (λ b. cond b (begins_run (joined ps) o) (begins_part ps o)) t)
     go false q =
-        let t : are_too_many (count_to (begins_part ps) n) (runs_of ps) (extent ps) ≡ false = ap (λ k. are_too_many k (runs_of ps) (extent ps)) (sym (parts_counted low n ps h m)) ∙ q in
+        let t : are_too_many (count_to (begins_part ps) n) (runs_of ps) (count_to (waits ps) n) ≡ false =
+        ap (λ k. are_too_many k (runs_of ps) (count_to (waits ps) n)) (sym (parts_counted low n ps h m))
+        ∙ ap (λ k. are_too_many (length ps) (runs_of ps) k) (sym (bytes_counted low ps n h m))
+        ∙ q in
         sym (ap (λ b. cond b (begins_run ps o) (begins_part ps o)) t)
 
 -- ---- as the call says it
 inserted_begins : (a : Arrived) (at : ℕ) (bytes : List ℕ) (n o : ℕ) → IsLawful a → at + length bytes < 2 ^ 62 → 2 ^ 62 ≤ n
-    → begins_part (after_insert a at bytes).parts o ≡ cond (are_too_many (count_to (begins_then a at bytes) n) (runs_of (after_insert a at bytes).parts) (extent (after_insert a at bytes).parts)) (begins_run (after_insert a at bytes).parts o) (begins_then a at bytes o)
+    → begins_part (after_insert a at bytes).parts o ≡ cond (are_too_many (count_to (begins_then a at bytes) n) (runs_of (after_insert a at bytes).parts) (count_to (waits (after_insert a at bytes).parts) n)) (begins_run (after_insert a at bytes).parts o) (begins_then a at bytes o)
 inserted_begins a at bytes n o h s m =
     let d = length-drop (a.read - at) bytes in
     let ps = with_free a.picked a.parts (max a.read at) (drop (a.read - at) bytes) in
     let apart = free_apart a.read (max a.read at) a.read a.picked a.parts (drop (a.read - at) bytes) h.spans h.apart (omega arith) (λ l. omega arith) in
     settled_begins a.read n o ps apart m
-    ∙ ap (λ k. cond (are_too_many k (runs_of (settled ps)) (extent (settled ps))) (begins_run (settled ps) o) (begins_part ps o)) (count_same (begins_part ps) (begins_then a at bytes) n (λ i l. insert_begins a at bytes i h s))
-    ∙ ap (λ b. cond (are_too_many (count_to (begins_then a at bytes) n) (runs_of (settled ps)) (extent (settled ps))) (begins_run (settled ps) o) b) (insert_begins a at bytes o h s)
+    ∙ ap (λ k. cond (are_too_many k (runs_of (settled ps)) (count_to (waits (settled ps)) n)) (begins_run (settled ps) o) (begins_part ps o)) (count_same (begins_part ps) (begins_then a at bytes) n (λ i l. insert_begins a at bytes i h s))
+    ∙ ap (λ b. cond (are_too_many (count_to (begins_then a at bytes) n) (runs_of (settled ps)) (count_to (waits (settled ps)) n)) (begins_run (settled ps) o) b) (insert_begins a at bytes o h s)
 
 pub is_inserted : (a : Arrived) (at : ℕ) (bytes : List ℕ) → IsLawful a → at + length bytes < 2 ^ 62 → IsInserted a at bytes (after_insert a at bytes)
 is_inserted a at bytes h s = record {

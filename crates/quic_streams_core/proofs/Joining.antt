@@ -9,7 +9,7 @@ use Rattle.std.proofs.lemmas.Bool.{ltb-true, ltb-false, leb-false, lt-ltb, le-lt
 use Rattle.std.proofs.Math.ListN.{get_or-append}
 use Rattle.std.proofs.Math.Seq.{get_or-append_right}
 use Rattle.quic_streams_core.specs.declared.connection.assembler.parts.TheConstants.{MOST_PARTS, SHORT_PART}
-use Rattle.quic_streams_core.specs.Arrived.{Part, start, AreApart, byte_from, byte_at, runs_of, runs_behind, in_front, joined, extent, is_crowded, settled}
+use Rattle.quic_streams_core.specs.Arrived.{Part, start, AreApart, byte_from, byte_at, runs_of, runs_behind, in_front, joined, waiting_bytes, is_crowded, settled}
 use Rattle.quic_streams_core.specs.PartSteps.{after, touching_at, from_after}
 use Rattle.quic_streams_core.proofs.Bytes.{from_below, from_behind, from_within}
 use Rattle.quic_streams_core.proofs.Filled.{low_small}
@@ -155,13 +155,13 @@ settled_byte low ps o h = go (is_crowded ps)
     go true = joined_byte low ps o h
     go false = refl
 
--- then no more than MOST_PARTS are left, or two for each run, or one for each 64 offsets
-pub settled_few : (low : ℕ) (ps : List Part) → AreApart low ps → length (settled ps) ≤ max (max MOST_PARTS (2 * runs_of (settled ps))) (extent (settled ps) / SHORT_PART)
-settled_few low ps h = go (ltb MOST_PARTS (length ps)) refl (ltb (runs_of ps) (length ps - runs_of ps)) refl (leb (extent ps) (SHORT_PART * length ps)) refl
+-- then no more than MOST_PARTS are left, or two for each run, or one for each 64 bytes
+pub settled_few : (low : ℕ) (ps : List Part) → AreApart low ps → length (settled ps) ≤ max (max MOST_PARTS (2 * runs_of (settled ps))) (waiting_bytes (settled ps) / SHORT_PART)
+settled_few low ps h = go (ltb MOST_PARTS (length ps)) refl (ltb (runs_of ps) (length ps - runs_of ps)) refl (leb (waiting_bytes ps) (SHORT_PART * length ps)) refl
   where
-    go : (b : Bool) → ltb MOST_PARTS (length ps) ≡ b → (c : Bool) → ltb (runs_of ps) (length ps - runs_of ps) ≡ c → (d : Bool) → leb (extent ps) (SHORT_PART * length ps) ≡ d → length (cond (b && (c && d)) (joined ps) ps) ≤ max (max MOST_PARTS (2 * runs_of (cond (b && (c && d)) (joined ps) ps))) (extent (cond (b && (c && d)) (joined ps) ps) / SHORT_PART)
+    go : (b : Bool) → ltb MOST_PARTS (length ps) ≡ b → (c : Bool) → ltb (runs_of ps) (length ps - runs_of ps) ≡ c → (d : Bool) → leb (waiting_bytes ps) (SHORT_PART * length ps) ≡ d → length (cond (b && (c && d)) (joined ps) ps) ≤ max (max MOST_PARTS (2 * runs_of (cond (b && (c && d)) (joined ps) ps))) (waiting_bytes (cond (b && (c && d)) (joined ps) ps) / SHORT_PART)
     go true e true f true g = let l = joined_length ps in omega arith
-    go true e true f false g = let k = leb-false (extent ps) (SHORT_PART * length ps) g in omega arith
+    go true e true f false g = let k = leb-false (waiting_bytes ps) (SHORT_PART * length ps) g in omega arith
     go true e false f d g = let k = ltb-false (runs_of ps) (length ps - runs_of ps) f in omega arith
     go false e c f d g = let k = ltb-false MOST_PARTS (length ps) e in omega arith
 

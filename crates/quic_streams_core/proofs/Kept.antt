@@ -1,5 +1,5 @@
 -- What is true of the fields, after each call that changes them.
-use Rattle.std.proofs.Common.{◌≡◌, ℕ, ◌+◌, ◌-◌, ◌^◌, ◌<◌, ◌≤◌, length, List, [], ◌∷◌, take, drop, Bool, true, false, not, ◌||◌, Some, None, Option, sym, ap, ◌∙◌, subst, arith, min, length-take}
+use Rattle.std.proofs.Common.{◌≡◌, ℕ, ◌+◌, ◌-◌, ◌^◌, ◌<◌, ◌≤◌, length, List, [], ◌∷◌, take, drop, Bool, true, false, not, ◌||◌, Some, None, Option, refl, sym, ap, ◌∙◌, subst, arith, min, length-take}
 use Rattle.std.specs.Result.{OnOk, OnErr}
 use Rattle.std.specs.declared.result.Result.{Result}
 use Rattle.quic_streams_core.specs.declared.connection.assembler.Chunk.{Chunk}
@@ -9,7 +9,7 @@ use Rattle.quic_streams_core.specs.Arrived.{Arrived, Part, start, AreApart, IsLa
 use Rattle.quic_streams_core.proofs.Filled.{low_small}
 use Rattle.quic_streams_core.proofs.Inserting.{on_both, known_free}
 use Rattle.quic_streams_core.proofs.Lawful.{insert_lawful}
-use Rattle.quic_streams_core.proofs.Picking.{pick_lawful, pick_width}
+use Rattle.quic_streams_core.proofs.Picking.{part_clear, pick_lawful, pick_width}
 use Rattle.quic_streams_core.proofs.Reading.{read_apart}
 use Rattle.quic_streams_core.proofs.Spans.{width_small}
 
@@ -49,6 +49,18 @@ chunk_small low most (p ∷ ps) chunk h e =
     let t = length-take most p.1 in
     let s = low_small p.0 ps h.2 in
     subst (λ (c : Chunk). c.offset + length c.bytes < 2 ^ 62) (sym same) (omega arith)
+
+-- no read gave the offsets of the chunk
+pub chunk_clear : (read most : ℕ) (u : Bool) (gs : List Span) (ps : List Part) (chunk : Chunk) → IsLawful (seen read u gs ps) → Some chunk ≡ first_given ps most → (o : ℕ) → chunk.offset ≤ o → o < chunk.offset + length chunk.bytes → in_spans gs o ≡ false
+chunk_clear read most u gs ps chunk h e = go ps h.apart h.others e
+  where
+    go : (ps : List Part) → AreApart read ps → ((o : ℕ) → in_spans gs o ≡ true → byte_at ps o ≡ None) → Some chunk ≡ first_given ps most → (o : ℕ) → chunk.offset ≤ o → o < chunk.offset + length chunk.bytes → in_spans gs o ≡ false
+    go [] l f e = cc
+    go (p ∷ ps) l f e =
+        let same : chunk ≡ record { offset = start p; bytes = take most p.1 } = cc in
+        let t = length-take most p.1 in
+        subst (λ (c : Chunk). (o : ℕ) → c.offset ≤ o → o < c.offset + length c.bytes → in_spans gs o ≡ false) (sym same)
+        (part_clear read (start p) (length (take most p.1)) p ps gs l f refl (omega arith))
 
 pub pick_kept : (read most : ℕ) (u : Bool) (gs fs : List Span) (ps ns : List Part) (chunk : Chunk) → IsLawful (seen read u gs ps) → u ≡ true → Some chunk ≡ first_given ps most → fs ≡ with_run chunk.offset (length chunk.bytes) gs → ns ≡ left_front ps most → IsLawful (seen read u fs ns)
 pick_kept read most u gs fs ps ns chunk h is e f left =

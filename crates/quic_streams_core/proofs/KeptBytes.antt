@@ -1,5 +1,5 @@
 -- The bytes that are kept of a stream, by the pieces that they stand in.
-use Rattle.std.proofs.Common.{◌≡◌, ℕ, ◌+◌, ◌-◌, ◌^◌, ◌<◌, ◌≤◌, ◌++◌, ltb, leb, cond, length, take, drop, List, [], ◌∷◌, Bool, true, false, Some, None, Option, min, length-take, length-drop, refl, sym, ap, ◌∙◌, subst, arith, length-append, inl, inr, ◌==◌}
+use Rattle.std.proofs.Common.{◌≡◌, ℕ, ◌+◌, ◌-◌, ◌<◌, ◌≤◌, ◌++◌, ltb, leb, cond, length, take, drop, List, [], ◌∷◌, Bool, true, false, Some, None, min, length-take, length-drop, refl, sym, ap, ◌∙◌, subst, arith, length-append, inl, inr, ◌==◌}
 use Rattle.std.specs.Prelude.{slice_range}
 use Rattle.std.specs.Ordering.{nat_cmp}
 use Rattle.std.specs.Cmp.{nat_cmp_is}
@@ -11,7 +11,7 @@ use Rattle.std.proofs.Math.Seq.{drop-append-add}
 use Rattle.quic_streams_core.specs.Arrived.{Part, start}
 use Rattle.quic_streams_core.specs.PartSteps.{after}
 use Rattle.quic_streams_core.specs.Buffered.{passed, pieces_behind, piece_of, piece_end}
-use Rattle.quic_streams_core.specs.KeptBytes.{KeptBytes, AreInTurn, bytes_of, lengths_of, with_piece, passed_to, released_to, first_end, behind, base_behind}
+use Rattle.quic_streams_core.specs.KeptBytes.{KeptBytes, AreInTurn, bytes_of, lengths_of, with_piece, released_to, behind, base_behind}
 use Rattle.quic_streams_core.proofs.Parts.{within_first, within_second}
 
 -- pieces as they are seen

@@ -2,12 +2,12 @@
 use Rattle.std.proofs.Common.{◌≡◌, ℕ, ◌+◌, ◌-◌, ◌*◌, ◌/◌, ◌^◌, ◌<◌, ◌≤◌, ◌==◌, ltb, length, List, [], ◌∷◌, take, drop, Bool, true, false, not, ◌&&◌, ◌||◌, cond, Some, None, Option, refl, sym, ap, ◌∙◌, subst, arith, max, length-take, length-drop}
 use Rattle.std.specs.Option.{option_or, IfSome}
 use Rattle.std.specs.List.{slice_get}
-use Rattle.std.proofs.lemmas.Bool.{ltb-true, ltb-false, lt-ltb, eqb-true}
+use Rattle.std.proofs.lemmas.Bool.{ltb-true, ltb-false, lt-ltb, le-ltb, eqb-true}
 use Rattle.std.proofs.lemmas.Option.{slice_get-get_or}
 use Rattle.quic_streams_core.specs.declared.connection.assembler.Chunk.{Chunk}
 use Rattle.quic_streams_core.specs.declared.connection.assembler.parts.TheConstants.{MOST_PARTS, SHORT_PART}
 use Rattle.quic_streams_core.specs.Spans.{in_spans, width_of}
-use Rattle.quic_streams_core.specs.Arrived.{Arrived, Part, start, AreApart, IsLawful, is_given, byte_from, byte_at, given, behind, left_by, left_front, shortened, first_given, with_free, after_insert, given_in, after_read_in, given_by, after_read, in_chunk, bytes_read_of, length_of, runs_of, extent}
+use Rattle.quic_streams_core.specs.Arrived.{Arrived, Part, start, AreApart, IsLawful, is_crowded, is_given, byte_from, byte_at, given, behind, left_by, left_front, shortened, first_given, with_free, after_insert, given_in, after_read_in, given_by, after_read, in_chunk, bytes_read_of, length_of, runs_of, waiting_bytes}
 use Rattle.quic_streams_core.proofs.Bytes.{from_below, from_back, from_within, at_below, get-take}
 use Rattle.quic_streams_core.proofs.Claims.{read_bytes, leaves, leaves_first}
 use Rattle.quic_streams_core.proofs.Filled.{low_small}
@@ -53,10 +53,13 @@ insert_lawful a offset bytes h s =
         both true = refl
         both false = refl
 
-pub few_parts : (a : Arrived) (offset : ℕ) (bytes : List ℕ) (ps : List Part) → IsLawful a → offset + length bytes < 2 ^ 62 → ps ≡ (after_insert a offset bytes).parts → length ps ≤ max (max MOST_PARTS (2 * runs_of ps)) (extent ps / SHORT_PART)
+pub few_stay : (ps : List Part) → length ps ≤ MOST_PARTS → is_crowded ps ≡ false
+few_stay ps l = rw (le-ltb MOST_PARTS (length ps) l) refl
+
+pub few_parts : (a : Arrived) (offset : ℕ) (bytes : List ℕ) (ps : List Part) → IsLawful a → offset + length bytes < 2 ^ 62 → ps ≡ (after_insert a offset bytes).parts → length ps ≤ max (max MOST_PARTS (2 * runs_of ps)) (waiting_bytes ps / SHORT_PART)
 few_parts a offset bytes ps h s e =
     let d = length-drop (a.read - offset) bytes in
-    subst (λ (qs : List Part). length qs ≤ max (max MOST_PARTS (2 * runs_of qs)) (extent qs / SHORT_PART)) (sym e) (settled_few a.read (with_free a.picked a.parts (max a.read offset) (drop (a.read - offset) bytes)) (free_apart a.read (max a.read offset) a.read a.picked a.parts (drop (a.read - offset) bytes) h.spans h.apart (omega arith) (λ l. omega arith)))
+    subst (λ (qs : List Part). length qs ≤ max (max MOST_PARTS (2 * runs_of qs)) (waiting_bytes qs / SHORT_PART)) (sym e) (settled_few a.read (with_free a.picked a.parts (max a.read offset) (drop (a.read - offset) bytes)) (free_apart a.read (max a.read offset) a.read a.picked a.parts (drop (a.read - offset) bytes) h.spans h.apart (omega arith) (λ l. omega arith)))
 
 -- ---- a read
 next_apart : (read most : ℕ) (ps : List Part) → AreApart read ps → AreApart (behind (given ps read most) read) (left_by ps read most)

@@ -23,7 +23,7 @@ pub mod Kept
 pub mod Gaps
 pub mod KeptWrites
 pub mod Joining
-pub mod Extent
+pub mod WaitingBytes
 pub mod Copying
 pub mod Begins
 pub mod Inserted

@@ -1,14 +1,14 @@
--- Runs that may touch: what they have, and one more or less at an offset.
-use Rattle.std.proofs.Common.{◌≡◌, ℕ, ◌+◌, ◌<◌, ◌≤◌, ◌==◌, ltb, List, [], ◌∷◌, ◌++◌, Bool, true, false, not, ◌&&◌, ◌||◌, cond, Some, None, Option, refl, sym, ap, ◌∙◌, arith, ◌⊎◌, inl, inr, ◌↔◌}
+-- Runs: what they have, and one more or less at an offset.
+use Rattle.std.proofs.Common.{◌≡◌, ℕ, ◌+◌, ◌<◌, ◌≤◌, ◌==◌, ltb, List, [], ◌∷◌, ◌++◌, Bool, true, false, not, ◌&&◌, ◌||◌, Some, None, Option, map, refl, sym, ap, ◌∙◌, subst, arith, inl, inr, ◌↔◌}
 use Rattle.std.specs.Ordering.{nat_cmp}
 use Rattle.std.specs.Cmp.{nat_cmp_is}
 use Rattle.std.specs.declared.cmp.Ordering.TheVariants.{Less, Greater}
 use Rattle.std.specs.Map.{lookup, remove_entry, set_value}
 use Rattle.std.specs.BTreeMap.{insert_entry, is_at}
-use Rattle.std.proofs.lemmas.Bool.{ltb-true, ltb-false, lt-ltb, le-ltb, eqb-true, eqb-false, cases_lt, or_cases, or_left, or_right, and_parts, and_from, not-true, not_from_false, both_ways}
-use Rattle.quic_sets.specs.Runs.{Run, Has, AreRunsFrom}
+use Rattle.std.proofs.lemmas.Bool.{ltb-true, ltb-false, lt-ltb, le-ltb, eqb-false, or_cases, or_left, or_right, and_parts, and_from, not-true, not_from_false, both_ways, or_parts, eq-eqb}
+use Rattle.quic_sets.specs.Runs.{Has, AreRuns, AreRunsFrom}
 use Rattle.quic_streams_core.specs.Spans.{Span, in_span, in_spans, next_span}
-use Rattle.quic_streams_core.specs.Loose.{LieWithin, run_before, maximal}
+use Rattle.quic_streams_core.specs.Loose.{LieWithin, greatest, begins_first, touches, AreMaximal, as_run}
 use Rattle.quic_streams_core.proofs.Filled.{not_at}
 use Rattle.quic_streams_core.proofs.First.{at_itself}
 
@@ -123,40 +123,23 @@ out_below low high o (x ∷ xs) h l =
     let t = lt-ltb o x.1 (omega arith) in
     rw (t, out_below x.0 high o xs h.2 (omega arith)) refl
 
--- ---- the maximal runs
-before_runs : (low : ℕ) (g : Span) (rs : List Run) → low ≤ g.1 → g.1 < g.0 → AreRunsFrom g.0 rs → AreRunsFrom low (run_before g rs)
-before_runs low g [] l m h = (l, m, tt)
-before_runs low g (r ∷ rs) l m h = go (r.start == g.0) refl
+-- ---- the runs of the map as a list of runs
+-- where the first run doesn't begin at an offset, all lie behind it
+past_first : (at : ℕ) (gs : List Span) → begins_first at gs ≡ false → AreRunsFrom at (map as_run gs) → AreRunsFrom (at + 1) (map as_run gs)
+past_first at [] e h = tt
+past_first at (g ∷ gs) e h = (more g.1 at h.0 (eqb-false g.1 at e), h.1, h.2)
   where
     more : (a b : ℕ) → b ≤ a → (a ≡ b → ⊥) → b + 1 ≤ a
     more a b j n = omega arith
 
-    go : (b : Bool) → (r.start == g.0) ≡ b → AreRunsFrom low (cond b (record { start = g.1; end = r.end } ∷ rs) (record { start = g.1; end = g.0 } ∷ r ∷ rs))
-    go true q = let e = eqb-true r.start g.0 q in let a = h.0 in let b = h.1 in (l, omega arith, h.2)
-    go false q = (l, m, (more r.start g.0 h.0 (eqb-false r.start g.0 q), h.1, h.2))
+runs_from : (low high : ℕ) (es : List Span) → LieWithin low es high → ((o : ℕ) → touches o es ≡ false) → AreRunsFrom low (map as_run es)
+runs_from low high [] h t = tt
+runs_from low high (g ∷ gs) h t =
+    let apart : begins_first g.0 gs ≡ false = subst (λ (b : Bool). (b && begins_first g.0 gs) ≡ false) (eq-eqb g.0 g.0 refl) (or_parts (g.0 == g.0 && begins_first g.0 gs) (touches g.0 gs) (t g.0)).0 in
+    (h.0, h.1, past_first g.0 gs apart (runs_from g.0 high gs h.2 (λ o. (or_parts (g.0 == o && begins_first o gs) (touches o gs) (t o)).1)))
 
-pub maximal_runs : (low high : ℕ) (es : List Span) → LieWithin low es high → AreRunsFrom low (maximal es)
-maximal_runs low high [] h = tt
-maximal_runs low high (g ∷ gs) h = before_runs low g (maximal gs) h.0 h.1 (maximal_runs g.0 high gs h.2)
-
-before_has : (g : Span) (rs : List Run) (k : ℕ) → g.1 < g.0 → AreRunsFrom g.0 rs → Has (run_before g rs) k ↔ (((g.1 ≤ k) × (k < g.0)) ⊎ Has rs k)
-before_has g [] k m h = (λ x. x, λ x. x)
-before_has g (r ∷ rs) k m h = go (r.start == g.0) refl
-  where
-    go : (b : Bool) → (r.start == g.0) ≡ b → Has (cond b (record { start = g.1; end = r.end } ∷ rs) (record { start = g.1; end = g.0 } ∷ r ∷ rs)) k ↔ (((g.1 ≤ k) × (k < g.0)) ⊎ (((r.start ≤ k) × (k < r.end)) ⊎ Has rs k))
-    go true q =
-        let e = eqb-true r.start g.0 q in
-        let b = h.1 in (
-          λ x. elim x [
-            | inl i ↦ elim (cases_lt k g.0) [ inl lt ↦ inl (i.0, lt) | inr ge ↦ inr (inl (omega (arith, e, ge), i.1)) ]
-            | inr i ↦ inr (inr i)
-          ],
-          λ x. elim x [
-            | inl i ↦ inl (i.0, omega (arith, i.1, e, b))
-            | inr y ↦ elim y [ inl i ↦ inl (omega (arith, i.0, e, m), i.1) | inr i ↦ inr i ]
-          ],
-        )
-    go false q = (λ x. x, λ x. x)
+pub runs_are : (es : List Span) → AreMaximal es → AreRuns (map as_run es)
+runs_are es m = runs_from 0 greatest es m.loose m.apart
 
 pub span_is : (k : ℕ) (g : Span) → in_span k g ≡ true → (g.1 ≤ k) × (k < g.0)
 span_is k g e = let p = and_parts (not (ltb k g.1)) (ltb k g.0) e in (ltb-false k g.1 (not-true (ltb k g.1) p.0), ltb-true k g.0 p.1)
@@ -164,17 +147,16 @@ span_is k g e = let p = and_parts (not (ltb k g.1)) (ltb k g.0) e in (ltb-false 
 pub span_from : (k : ℕ) (g : Span) → g.1 ≤ k → k < g.0 → in_span k g ≡ true
 span_from k g le lt = and_from (not (ltb k g.1)) (ltb k g.0) (not_from_false (ltb k g.1) (le-ltb k g.1 le)) (lt-ltb k g.0 lt)
 
-pub maximal_has : (low high k : ℕ) (es : List Span) → LieWithin low es high → Has (maximal es) k ↔ (in_spans es k ≡ true)
-maximal_has low high k [] h = (λ x. absurd x, λ e. absurd (both_ways false refl e))
-maximal_has low high k (g ∷ gs) h =
-    let b = before_has g (maximal gs) k h.1 (maximal_runs g.0 high gs h.2) in
-    let ih = maximal_has g.0 high k gs h.2 in (
-      λ x. elim (b.0 x) [
+pub runs_have : (k : ℕ) (es : List Span) → Has (map as_run es) k ↔ (in_spans es k ≡ true)
+runs_have k [] = (λ x. absurd x, λ e. absurd (both_ways false refl e))
+runs_have k (g ∷ gs) =
+    let ih = runs_have k gs in (
+      λ x. elim x [
         | inl i ↦ or_left (in_span k g) (in_spans gs k) (span_from k g i.0 i.1)
         | inr i ↦ or_right (in_span k g) (in_spans gs k) (ih.0 i)
       ],
-      λ e. b.1 (elim (or_cases (in_span k g) (in_spans gs k) e) [
+      λ e. elim (or_cases (in_span k g) (in_spans gs k) e) [
         | inl i ↦ inl (span_is k g i)
         | inr i ↦ inr (ih.1 i)
-      ]),
+      ],
     )

@@ -1,12 +1,15 @@
 -- Steps on runs that may touch: one is put in, cut in two, taken out, or joined with the next.
 use Rattle.std.proofs.Common.{◌≡◌, ℕ, ◌+◌, ◌^◌, ◌<◌, ◌≤◌, ◌==◌, ltb, List, [], ◌∷◌, ◌++◌, length, length-append, Bool, true, false, not, ◌&&◌, ◌||◌, cond, Some, None, Option, refl, sym, ap, ◌∙◌, subst, arith, ◌⊎◌, inl, inr}
-use Rattle.std.specs.Ordering.{nat_cmp}
+use Rattle.std.specs.Ordering.{nat_cmp, match_ordering}
+use Rattle.std.specs.declared.cmp.Ordering.{Ordering}
+use Rattle.std.specs.declared.cmp.Ordering.TheVariants.{Less, Equal, Greater}
+use Rattle.std.specs.Cmp.{unsigned_tied}
 use Rattle.std.specs.Option.{unwrap_or, option_map}
 use Rattle.std.specs.Map.{lookup, remove_entry, set_value}
 use Rattle.std.specs.BTreeMap.{insert_entry, is_at}
-use Rattle.std.proofs.lemmas.Bool.{ltb-true, ltb-false, lt-ltb, le-ltb, eqb-true, ne_eqb, or_cases, or_left, or_right, and_parts, cases_lt, cases_order, not-true, not-false}
+use Rattle.std.proofs.lemmas.Bool.{ltb-true, ltb-false, lt-ltb, le-ltb, eqb-true, ne_eqb, or_cases, or_left, or_right, and_parts, and_from, both_ways, cases_lt, cases_order, not-true, not-false}
 use Rattle.quic_streams_core.specs.Spans.{Span, in_span, in_spans, next_span, is_spanned, spanned_at, free_at, first_from, end_from}
-use Rattle.quic_streams_core.specs.Loose.{LieWithin, greatest, AreLoose, IsCut, begins_first, touches, FitsRun}
+use Rattle.quic_streams_core.specs.Loose.{LieWithin, greatest, AreLoose, IsCut, begins_first, touches, TouchWithin, FitsRun}
 use Rattle.quic_streams_core.proofs.Filled.{not_at}
 use Rattle.quic_streams_core.proofs.First.{at_itself}
 use Rattle.quic_streams_core.proofs.Spans.{next_past, join}
@@ -93,6 +96,7 @@ pub record Cut (at : ℕ) (g : Span) (es : List Span) : Type 0 where
   pub loose : AreLoose (set_value (is_at (nat_cmp g.0)) (insert_entry nat_cmp es at g.1) at)
   pub has : (o : ℕ) → in_spans (set_value (is_at (nat_cmp g.0)) (insert_entry nat_cmp es at g.1) at) o ≡ in_spans es o
   pub cut : IsCut at (next_span at (set_value (is_at (nat_cmp g.0)) (insert_entry nat_cmp es at g.1) at))
+  pub touch : TouchWithin es (set_value (is_at (nat_cmp g.0)) (insert_entry nat_cmp es at g.1) at) at at
 
 set_on : (low mid k w : ℕ) (xs zs : List Span) → LieWithin low xs mid → mid < k → set_value (is_at (nat_cmp k)) (xs ++ zs) w ≡ xs ++ set_value (is_at (nat_cmp k)) zs w
 set_on low mid k w [] zs h l = refl
@@ -123,7 +127,22 @@ cut_between at mid xs gs g h r p l =
       loose = rw new (lie_on 0 mid greatest xs two h (r.0, l, (omega arith, p, r.2)));
       has = λ o. rw new (spans_on o xs two ∙ ap (λ b. in_spans xs o || b) (sym (join o g.1 at g.0 (in_spans gs o) (omega arith) (omega arith))) ∙ sym (spans_on o xs (g ∷ gs)));
       cut = rw (new, next) (omega arith);
+      touch = λ o t. touch o xs (subst (λ (gs : List Span). touches o gs ≡ true) new t);
     }
+  where
+    begins : (o : ℕ) (zs : List Span) → begins_first o (zs ++ (at, g.1) ∷ (g.0, at) ∷ gs) ≡ begins_first o (zs ++ g ∷ gs)
+    begins o [] = refl
+    begins o (z ∷ zs) = refl
+
+    touch : (o : ℕ) (zs : List Span) → touches o (zs ++ (at, g.1) ∷ (g.0, at) ∷ gs) ≡ true → (touches o (zs ++ g ∷ gs) ≡ true) ⊎ ((at ≤ o) × (o ≤ at))
+    touch o [] t = elim (or_cases (at == o && at == o) ((g.0 == o && begins_first o gs) || touches o gs) t) [
+      | inl i ↦ (let same = eqb-true at o (and_parts (at == o) (at == o) i).0 in inr (omega (arith, same), omega (arith, same)))
+      | inr i ↦ inl i
+    ]
+    touch o (z ∷ zs) t = elim (or_cases (z.0 == o && begins_first o (zs ++ (at, g.1) ∷ (g.0, at) ∷ gs)) (touches o (zs ++ (at, g.1) ∷ (g.0, at) ∷ gs)) t) [
+      | inl i ↦ inl (or_left (z.0 == o && begins_first o (zs ++ g ∷ gs)) (touches o (zs ++ g ∷ gs)) (ap (λ b. z.0 == o && b) (sym (begins o zs)) ∙ i))
+      | inr i ↦ elim (touch o zs i) [ inl j ↦ inl (or_right (z.0 == o && begins_first o (zs ++ g ∷ gs)) (touches o (zs ++ g ∷ gs)) j) | inr j ↦ inr j ]
+    ]
 
 some_same : (g : Span) (ys : List Span) → Some g ≡ first_span ys → (gs : List Span) × (ys ≡ g ∷ gs)
 some_same g [] e = cc
@@ -344,3 +363,142 @@ touch_is low high o (g ∷ gs) h e = elim (or_cases (g.0 == o && begins_first o 
     | inr ge ↦ (let none = touch_none g.0 high o gs h.2 ge in cc)
   ]
 ]
+
+-- the next run behind an offset ends no later than the next place where runs touch
+pub touch_next : (low high at o : ℕ) (es : List Span) → LieWithin low es high → touches o es ≡ true → at < o → (g : Span) × (next_span at es ≡ Some g) × (g.0 ≤ o)
+touch_next low high at o [] h e l = cc
+touch_next low high at o (g ∷ gs) h e l = go (ltb at g.0) refl (touch_next g.0 high at o gs h.2)
+  where
+    past : o < g.0 → ⊥
+    past m = elim (or_cases (g.0 == o && begins_first o gs) (touches o gs) e) [
+      | inl i ↦ (let same = eqb-true g.0 o (and_parts (g.0 == o) (begins_first o gs) i).0 in omega (arith, m, same))
+      | inr i ↦ both_ways (touches o gs) (touch_none g.0 high o gs h.2 (omega (arith, m))) i
+    ]
+
+    behind : g.0 ≤ at → touches o gs ≡ true
+    behind m = elim (or_cases (g.0 == o && begins_first o gs) (touches o gs) e) [
+      | inl i ↦ (let same = eqb-true g.0 o (and_parts (g.0 == o) (begins_first o gs) i).0 in absurd (omega (arith, m, l, same)))
+      | inr i ↦ i
+    ]
+
+    go : (b : Bool) → ltb at g.0 ≡ b → (touches o gs ≡ true → at < o → (x : Span) × (next_span at gs ≡ Some x) × (x.0 ≤ o)) → (x : Span) × (cond b (Some g) (next_span at gs) ≡ Some x) × (x.0 ≤ o)
+    go true q ih = (g, refl, elim (cases_lt o g.0) [ inl m ↦ absurd (past m) | inr m ↦ m ])
+    go false q ih = ih (behind (ltb-false at g.0 q)) l
+
+-- where runs touch, the set has the offset
+pub touch_has : (low high o : ℕ) (es : List Span) → LieWithin low es high → touches o es ≡ true → in_spans es o ≡ true
+touch_has low high o [] h e = e
+touch_has low high o (g ∷ gs) h e = or_right (in_span o g) (in_spans gs o) (elim (or_cases (g.0 == o && begins_first o gs) (touches o gs) e) [
+  | inl i ↦ begun gs h.2 (and_parts (g.0 == o) (begins_first o gs) i).1
+  | inr i ↦ touch_has g.0 high o gs h.2 i
+])
+  where
+    begun : (zs : List Span) → LieWithin g.0 zs high → begins_first o zs ≡ true → in_spans zs o ≡ true
+    begun [] r b = b
+    begun (z ∷ zs) r b =
+        let same = eqb-true z.1 o b in
+        let full = r.1 in
+        or_left (in_span o z) (in_spans zs o) (span_from o z (omega (arith, same)) (omega (arith, same, full)))
+
+-- ---- where runs touch after a step: a run that is put in touches at its ends
+put_begins : (k v o : ℕ) (es : List Span) → begins_first o (insert_entry nat_cmp es k v) ≡ true → (begins_first o es ≡ true) ⊎ (o ≡ v)
+put_begins k v o [] e = inr (sym (eqb-true v o e))
+put_begins k v o (g ∷ gs) e = go (nat_cmp k g.0) e
+  where
+    go : (r : Ordering) → begins_first o (match_ordering r ((k, v) ∷ g ∷ gs) ((g.0, v) ∷ gs) (g ∷ insert_entry nat_cmp gs k v)) ≡ true → ((g.1 == o) ≡ true) ⊎ (o ≡ v)
+    go Less e = inr (sym (eqb-true v o e))
+    go Equal e = inr (sym (eqb-true v o e))
+    go Greater e = inl e
+
+pub put_touch : (k v o : ℕ) (es : List Span) → touches o (insert_entry nat_cmp es k v) ≡ true → (touches o es ≡ true) ⊎ ((o ≡ v) ⊎ (o ≡ k))
+put_touch k v o [] e = absurd (alone (k == o) e)
+  where
+    alone : (b : Bool) → ((b && false) || false) ≡ true → ⊥
+    alone true e = cc
+    alone false e = cc
+put_touch k v o (g ∷ gs) e = go (nat_cmp k g.0) e (put_touch k v o gs)
+  where
+    go : (r : Ordering) → touches o (match_ordering r ((k, v) ∷ g ∷ gs) ((g.0, v) ∷ gs) (g ∷ insert_entry nat_cmp gs k v)) ≡ true → (touches o (insert_entry nat_cmp gs k v) ≡ true → (touches o gs ≡ true) ⊎ ((o ≡ v) ⊎ (o ≡ k))) → (touches o (g ∷ gs) ≡ true) ⊎ ((o ≡ v) ⊎ (o ≡ k))
+    go Less e ih = elim (or_cases (k == o && g.1 == o) (touches o (g ∷ gs)) e) [
+      | inl i ↦ inr (inr (sym (eqb-true k o (and_parts (k == o) (g.1 == o) i).0)))
+      | inr i ↦ inl i
+    ]
+    go Equal e ih = inl e
+    go Greater e ih = elim (or_cases (g.0 == o && begins_first o (insert_entry nat_cmp gs k v)) (touches o (insert_entry nat_cmp gs k v)) e) [
+      | inl i ↦ (
+          let p = and_parts (g.0 == o) (begins_first o (insert_entry nat_cmp gs k v)) i in
+          elim (put_begins k v o gs p.1) [
+            | inl b ↦ inl (or_left (g.0 == o && begins_first o gs) (touches o gs) (and_from (g.0 == o) (begins_first o gs) p.0 b))
+            | inr b ↦ inr (inl b)
+          ])
+      | inr i ↦ elim (ih i) [ inl t ↦ inl (or_right (g.0 == o && begins_first o gs) (touches o gs) t) | inr t ↦ inr t ]
+    ]
+
+-- without a run, or without the front of one, none touch that didn't
+drop_begins : (high k o : ℕ) (es : List Span) → LieWithin o es high → begins_first o (remove_entry (is_at (nat_cmp k)) es) ≡ true → begins_first o es ≡ true
+drop_begins high k o [] h e = e
+drop_begins high k o (g ∷ gs) h e = go (is_at (nat_cmp k) g.0) e
+  where
+    behind : (zs : List Span) → LieWithin g.0 zs high → begins_first o zs ≡ true → (g.1 == o) ≡ true
+    behind [] r b = cc
+    behind (z ∷ zs) r b =
+        let low = h.0 in
+        let full = h.1 in
+        let past = r.0 in
+        let same = eqb-true z.1 o b in
+        absurd (omega (arith, low, full, past, same))
+
+    go : (b : Bool) → begins_first o (cond b gs (g ∷ remove_entry (is_at (nat_cmp k)) gs)) ≡ true → (g.1 == o) ≡ true
+    go true e = behind gs h.2 e
+    go false e = e
+
+pub drop_touch : (low high k o : ℕ) (es : List Span) → LieWithin low es high → touches o (remove_entry (is_at (nat_cmp k)) es) ≡ true → touches o es ≡ true
+drop_touch low high k o [] h e = e
+drop_touch low high k o (g ∷ gs) h e = go (is_at (nat_cmp k) g.0) e (drop_touch g.0 high k o gs h.2)
+  where
+    go : (b : Bool) → touches o (cond b gs (g ∷ remove_entry (is_at (nat_cmp k)) gs)) ≡ true → (touches o (remove_entry (is_at (nat_cmp k)) gs) ≡ true → touches o gs ≡ true) → touches o (g ∷ gs) ≡ true
+    go true e ih = or_right (g.0 == o && begins_first o gs) (touches o gs) e
+    go false e ih = elim (or_cases (g.0 == o && begins_first o (remove_entry (is_at (nat_cmp k)) gs)) (touches o (remove_entry (is_at (nat_cmp k)) gs)) e) [
+      | inl i ↦ (
+          let p = and_parts (g.0 == o) (begins_first o (remove_entry (is_at (nat_cmp k)) gs)) i in
+          let from = subst (λ n. LieWithin n gs high) (eqb-true g.0 o p.0) h.2 in
+          or_left (g.0 == o && begins_first o gs) (touches o gs) (and_from (g.0 == o) (begins_first o gs) p.0 (drop_begins high k o gs from p.1)))
+      | inr i ↦ or_right (g.0 == o && begins_first o gs) (touches o gs) (ih i)
+    ]
+
+front_begins : (high at w o : ℕ) (g : Span) (es : List Span) → LieWithin o es high → next_span at es ≡ Some g → g.1 < w → begins_first o (set_value (is_at (nat_cmp g.0)) es w) ≡ true → begins_first o es ≡ true
+front_begins high at w o g [] h n l e = e
+front_begins high at w o g (x ∷ xs) h n l e = go (is_at (nat_cmp g.0) x.0) refl e
+  where
+    go : (b : Bool) → is_at (nat_cmp g.0) x.0 ≡ b → begins_first o (cond b ((x.0, w) ∷ xs) (x ∷ set_value (is_at (nat_cmp g.0)) xs w)) ≡ true → (x.1 == o) ≡ true
+    go true q e =
+        let key : g.0 ≡ x.0 = eqb-true g.0 x.0 (sym (unsigned_tied g.0 x.0) ∙ q) in
+        let past = next_past at (x ∷ xs) g n in
+        let t = lt-ltb at x.0 (omega (arith, key, past)) in
+        let is : Some x ≡ Some g = subst (λ (b : Bool). cond b (Some x) (next_span at xs) ≡ Some g) t n in
+        let same : x.1 ≡ g.1 = ap (λ (y : Option Span). unwrap_or (option_map (λ (z : Span). z.1) y) 0) is in
+        let low = h.0 in
+        let from = eqb-true w o e in
+        absurd (omega (arith, same, low, from, l))
+    go false q e = e
+
+pub front_touch : (low high at w o : ℕ) (g : Span) (es : List Span) → LieWithin low es high → next_span at es ≡ Some g → g.1 < w → touches o (set_value (is_at (nat_cmp g.0)) es w) ≡ true → touches o es ≡ true
+front_touch low high at w o g [] h n l e = e
+front_touch low high at w o g (x ∷ xs) h n l e = go (is_at (nat_cmp g.0) x.0) refl e (front_touch x.0 high at w o g xs h.2)
+  where
+    next : is_at (nat_cmp g.0) x.0 ≡ false → next_span at xs ≡ Some g
+    next q = pick (ltb at x.0) n
+      where
+        pick : (b : Bool) → cond b (Some x) (next_span at xs) ≡ Some g → next_span at xs ≡ Some g
+        pick true e = let key : g.0 ≡ x.0 = sym (ap (λ (y : Option Span). unwrap_or (option_map (λ (z : Span). z.0) y) 0) e) in absurd (both_ways (is_at (nat_cmp g.0) x.0) q (ap (λ k. is_at (nat_cmp g.0) k) (sym key) ∙ at_itself g.0))
+        pick false e = e
+
+    go : (b : Bool) → is_at (nat_cmp g.0) x.0 ≡ b → touches o (cond b ((x.0, w) ∷ xs) (x ∷ set_value (is_at (nat_cmp g.0)) xs w)) ≡ true → (next_span at xs ≡ Some g → g.1 < w → touches o (set_value (is_at (nat_cmp g.0)) xs w) ≡ true → touches o xs ≡ true) → touches o (x ∷ xs) ≡ true
+    go true q e ih = e
+    go false q e ih = elim (or_cases (x.0 == o && begins_first o (set_value (is_at (nat_cmp g.0)) xs w)) (touches o (set_value (is_at (nat_cmp g.0)) xs w)) e) [
+      | inl i ↦ (
+          let p = and_parts (x.0 == o) (begins_first o (set_value (is_at (nat_cmp g.0)) xs w)) i in
+          let from = subst (λ n. LieWithin n xs high) (eqb-true x.0 o p.0) h.2 in
+          or_left (x.0 == o && begins_first o xs) (touches o xs) (and_from (x.0 == o) (begins_first o xs) p.0 (front_begins high at w o g xs from (next q) l p.1)))
+      | inr i ↦ or_right (x.0 == o && begins_first o xs) (touches o xs) (ih (next q) l i)
+    ]

@@ -1,20 +1,20 @@
 -- A set of offsets as the calls of its map leave it.
 use Rattle.std.proofs.Common.{◌≡◌, ℕ, ◌+◌, ◌^◌, ◌<◌, ◌≤◌, ◌==◌, leb, List, [], ◌∷◌, ◌++◌, length, Bool, true, false, not, ◌&&◌, ◌||◌, cond, Some, None, Option, refl, sym, ap, ◌∙◌, subst, arith, ◌⊎◌, inl, inr}
 use Rattle.std.specs.Ordering.{nat_cmp}
-use Rattle.std.specs.Cmp.{unsigned_tied}
 use Rattle.std.specs.Option.{unwrap_or, option_map}
 use Rattle.std.specs.Result.{OnOk, OnErr}
 use Rattle.std.specs.declared.result.Result.{Result}
 use Rattle.std.specs.declared.result.Result.TheVariants.{Ok, Err}
 use Rattle.std.specs.Map.{lookup, remove_entry, set_value}
 use Rattle.std.specs.BTreeMap.{insert_entry, is_at}
-use Rattle.std.proofs.lemmas.Bool.{or_parts, false_from_ne_true, both_ways, eqb-true, leb-true, leb-false}
+use Rattle.std.proofs.lemmas.Bool.{or_parts, false_from_ne_true, both_ways, cases_order, eqb-true, leb-true, leb-false}
 use Rattle.quic_streams_core.specs.Spans.{Span, in_span, in_spans, next_span, ends_of, is_spanned, spanned_at, free_at, first_from, end_from}
-use Rattle.quic_streams_core.specs.Loose.{LieWithin, greatest, AreLoose, IsCut, FitsRun, inside_at, touches, AreApartAt}
+use Rattle.quic_streams_core.specs.Loose.{greatest, AreLoose, AreMaximal, IsCut, FitsRun, inside_at, touches, TouchWithin}
 use Rattle.quic_streams_core.specs.PartSteps.{undone}
 use Rattle.quic_streams_core.proofs.Free.{look_some}
-use Rattle.quic_streams_core.proofs.Loose.{lie_up, span_is}
-use Rattle.quic_streams_core.proofs.LooseSteps.{and_true, and_false, look_as, put_free, taken_at, front_at, BeginsPast, none_from, Joined, joined, touch_is}
+use Rattle.quic_streams_core.proofs.Spans.{next_past}
+use Rattle.quic_streams_core.proofs.Loose.{span_is, span_from}
+use Rattle.quic_streams_core.proofs.LooseSteps.{and_true, and_false, look_as, put_free, taken_at, front_at, BeginsPast, none_from, Joined, joined, touch_is, touch_next, touch_has, put_touch, drop_touch, front_touch}
 use Rattle.quic_streams_core.proofs.Undone.{undone_last, absent, taken_out}
 
 -- ---- one entry
@@ -110,17 +110,6 @@ join_is at first last es h f e l m =
     let b : next_span at es ≡ Some (last, at) = next_at at (next_span at es) (subst (λ n. at < n) e m) ∙ ap (λ (n : ℕ). Some (n, at)) (sym e) in
     joined 0 greatest at first last es h a b
 
-ends_small : (low high k v : ℕ) (es : List Span) → LieWithin low es high → lookup (is_at (nat_cmp k)) es ≡ Some v → k ≤ high
-ends_small low high k v [] h e = cc
-ends_small low high k v (g ∷ gs) h e = go (is_at (nat_cmp k) g.0) refl e (ends_small g.0 high k v gs h.2)
-  where
-    go : (b : Bool) → is_at (nat_cmp k) g.0 ≡ b → cond b (Some g.1) (lookup (is_at (nat_cmp k)) gs) ≡ Some v → (lookup (is_at (nat_cmp k)) gs ≡ Some v → k ≤ high) → k ≤ high
-    go true q e ih = let same = eqb-true k g.0 (sym (unsigned_tied k g.0) ∙ q) in let up = lie_up g.0 high gs h.2 in omega (arith, same, up)
-    go false q e ih = ih e
-
-pub run_small : (end : ℕ) (es : List Span) → AreLoose es → first_from end es < end → end < 2 ^ 62
-run_small end es h l = let k = ends_small 0 greatest end (first_from end es) es h (some_at end (lookup (is_at (nat_cmp end)) es) l) in omega (arith, k)
-
 -- ---- the next run
 pub next_is : (s e : ℕ) (x : Option Span) → Some (s, e) ≡ option_map ends_of x → x ≡ Some (e, s)
 next_is s e None q = cc
@@ -129,7 +118,7 @@ next_is s e (Some g) q =
     let b : e ≡ g.0 = ap (λ (o : Option (ℕ × ℕ)). unwrap_or (option_map (λ (p : ℕ × ℕ). p.1) o) 0) q in
     rw (a, b) refl
 
-inside_is : (end last : ℕ) (x : Option Span) → Some last ≡ inside_at end x → (g : Span) × (x ≡ Some g) × (g.0 ≡ last) × (g.0 ≤ end)
+pub inside_is : (end last : ℕ) (x : Option Span) → Some last ≡ inside_at end x → (g : Span) × (x ≡ Some g) × (g.0 ≡ last) × (g.0 ≤ end)
 inside_is end last None e = cc
 inside_is end last (Some g) e = go (leb g.0 end) refl e
   where
@@ -149,6 +138,7 @@ pub record Dropped (start end : ℕ) (es ns : List Span) : Type 0 where
   pub loose : AreLoose ns
   pub out : (o : ℕ) → in_span o (end, start) ≡ false → in_spans ns o ≡ in_spans es o
   pub cut : IsCut start (next_span start ns)
+  pub touch : (o : ℕ) → touches o ns ≡ true → touches o es ≡ true
   pub less : length ns < length es
 
 pub drop_step : (start end last : ℕ) (es ns : List Span) → AreLoose es → IsCut start (next_span start es) → Some last ≡ inside_at end (next_span start es) → ns ≡ remove_entry (is_at (nat_cmp last)) es → Dropped start end es ns
@@ -157,12 +147,13 @@ drop_step start end last es ns h c e is =
     let g = f.0 in
     let t = taken_at start end g es h f.1 (subst (IsCut start) f.1 c) f.3 in
     let same : ns ≡ remove_entry (is_at (nat_cmp g.0)) es = is ∙ ap (λ (k : ℕ). remove_entry (is_at (nat_cmp k)) es) (sym f.2) in
-    subst (λ (gs : List Span). Dropped start end es gs) (sym same) (record { loose = t.loose; out = t.out; cut = t.cut; less = t.less })
+    subst (λ (gs : List Span). Dropped start end es gs) (sym same) (record { loose = t.loose; out = t.out; cut = t.cut; touch = λ o. drop_touch 0 greatest g.0 o es h; less = t.less })
 
 pub record Emptied (start end : ℕ) (os es : List Span) : Type 0 where
   pub loose : AreLoose es
   pub cut : IsCut start (next_span start es)
   pub out : (o : ℕ) → in_span o (end, start) ≡ false → in_spans es o ≡ in_spans os o
+  pub touch : (o : ℕ) → touches o es ≡ true → touches o os ≡ true
   pub none_inside : inside_at end (next_span start es) ≡ None
 
 take_rest : (start end : ℕ) (os es : List Span) → Emptied start end os es → BeginsPast end (next_span start es) → (o : ℕ) → in_spans es o ≡ (in_spans os o && not (in_span o (end, start)))
@@ -182,11 +173,11 @@ take_none start end os es m e = take_rest start end os es m (go (next_span start
 pub take_past : (start end first last : ℕ) (os es : List Span) → Emptied start end os es → Some (first, last) ≡ option_map ends_of (next_span start es) → end ≤ first → (o : ℕ) → in_spans es o ≡ (in_spans os o && not (in_span o (end, start)))
 take_past start end first last os es m e l = take_rest start end os es m (subst (BeginsPast end) (sym (next_is first last (next_span start es) e)) l)
 
-pub take_front : (start end first last : ℕ) (os es ns : List Span) → Emptied start end os es → Some (first, last) ≡ option_map ends_of (next_span start es) → first < end → ns ≡ set_value (is_at (nat_cmp last)) es end → AreLoose ns × ((o : ℕ) → in_spans ns o ≡ (in_spans os o && not (in_span o (end, start))))
+pub take_front : (start end first last : ℕ) (os es ns : List Span) → Emptied start end os es → Some (first, last) ≡ option_map ends_of (next_span start es) → first < end → ns ≡ set_value (is_at (nat_cmp last)) es end → AreLoose ns × ((o : ℕ) → in_spans ns o ≡ (in_spans os o && not (in_span o (end, start)))) × ((o : ℕ) → touches o ns ≡ true → touches o os ≡ true)
 take_front start end first last os es ns m e l is =
     let n = next_is first last (next_span start es) e in
     let f = front_at start end (last, first) es m.loose n (subst (IsCut start) n m.cut) l (inside_not end (last, first) (sym (ap (inside_at end) n) ∙ m.none_inside)) in
-    (rw is f.loose, λ o. ap (λ (gs : List Span). in_spans gs o) is ∙ f.has o ∙ go o (in_span o (end, start)) refl)
+    (rw is f.loose, λ o. ap (λ (gs : List Span). in_spans gs o) is ∙ f.has o ∙ go o (in_span o (end, start)) refl, λ o t. m.touch o (front_touch 0 greatest start end o (last, first) es m.loose n l (subst (λ (gs : List Span). touches o gs ≡ true) is t)))
   where
     go : (o : ℕ) (c : Bool) → in_span o (end, start) ≡ c → (in_spans es o && not c) ≡ (in_spans os o && not c)
     go o true q = and_false (in_spans es o) ∙ sym (and_false (in_spans os o))
@@ -202,6 +193,71 @@ apart_before o es h l = false_from_ne_true (touches o es) (λ t. let p = (touch_
 pub apart_behind : (o : ℕ) (es : List Span) → AreLoose es → end_from o (next_span o es) ≤ o → touches o es ≡ false
 apart_behind o es h l = false_from_ne_true (touches o es) (λ t. let p = (touch_is 0 greatest o es h t).1 in omega (arith, l, p))
 
-pub apart_more : (os : List ℕ) (o : ℕ) (gs : List Span) → AreApartAt os gs → touches o gs ≡ false → AreApartAt (os ++ o ∷ []) gs
-apart_more [] o gs h e = (e, tt)
-apart_more (x ∷ os) o gs h e = (h.0, apart_more os o gs h.1 e)
+-- ---- the walk over a range: runs touch only behind where it stands
+pub walk_past : (at end : ℕ) (old new : List Span) → ((o : ℕ) → touches o new ≡ true → touches o old ≡ true) → touches at new ≡ false → ((o : ℕ) → touches o old ≡ true → (at ≤ o) × (o ≤ end)) → (o : ℕ) → touches o new ≡ true → (at < o) × (o ≤ end)
+walk_past at end old new less apart h o t =
+    let p = h o (less o t) in
+    elim (cases_order o at) [
+      | inl q ↦ absurd (both_ways (touches o new) (ap (λ n. touches n new) q ∙ apart) t)
+      | inr q ↦ elim q [ inl lt ↦ absurd (let low = p.0 in omega (arith, lt, low)) | inr gt ↦ (gt, p.1) ]
+    ]
+
+pub walk_on : (at end next : ℕ) (es : List Span) → Some next ≡ inside_at end (next_span at es) → (at < next) × (next ≤ end)
+walk_on at end next es e =
+    let f = inside_is end next (next_span at es) e in
+    let past = next_past at es f.0 f.1 in
+    let same = f.2 in
+    let within = f.3 in
+    (omega (arith, past, same), omega (arith, within, same))
+
+pub walk_next : (at end next : ℕ) (es : List Span) → AreLoose es → Some next ≡ inside_at end (next_span at es) → ((o : ℕ) → touches o es ≡ true → (at < o) × (o ≤ end)) → (o : ℕ) → touches o es ≡ true → (next ≤ o) × (o ≤ end)
+walk_next at end next es h e k o t =
+    let f = inside_is end next (next_span at es) e in
+    let p = k o t in
+    let g = touch_next 0 greatest at o es h t p.0 in
+    let same : f.0.0 ≡ g.0.0 = ap (λ (x : Option Span). unwrap_or (option_map (λ (z : Span). z.0) x) 0) (sym f.1 ∙ g.1) in
+    let is = f.2 in
+    let up = g.2 in
+    (omega (arith, same, is, up), p.1)
+
+pub walk_done : (at end : ℕ) (es : List Span) → AreLoose es → None ≡ inside_at end (next_span at es) → ((o : ℕ) → touches o es ≡ true → (at < o) × (o ≤ end)) → AreMaximal es
+walk_done at end es h e k = record {
+  loose = h;
+  apart = λ o. false_from_ne_true (touches o es) (λ t.
+      let p = k o t in
+      let g = touch_next 0 greatest at o es h t p.0 in
+      let past = inside_not end g.0 (ap (inside_at end) (sym g.1) ∙ sym e) in
+      let up = g.2 in
+      let within = p.1 in
+      omega (arith, past, up, within));
+}
+
+-- ---- where runs touch after a call
+pub touch_put : (at end : ℕ) (es ns : List Span) → at ≤ end → ns ≡ insert_entry nat_cmp es end at → TouchWithin es ns at end
+touch_put at end es ns l is o t = elim (put_touch end at o es (subst (λ (gs : List Span). touches o gs ≡ true) is t)) [
+  | inl i ↦ inl i
+  | inr i ↦ inr (elim i [ inl e ↦ (omega (arith, e), omega (arith, e, l)) | inr e ↦ (omega (arith, e, l), omega (arith, e)) ])
+]
+
+pub touch_only : (a b : ℕ) (es ns : List Span) → AreMaximal es → TouchWithin es ns a b → (o : ℕ) → touches o ns ≡ true → (a ≤ o) × (o ≤ b)
+touch_only a b es ns m h o t = elim (h o t) [ inl i ↦ absurd (both_ways (touches o es) (m.apart o) i) | inr i ↦ i ]
+
+pub apart_all : (es ns : List Span) → AreMaximal es → AreLoose ns → ((o : ℕ) → touches o ns ≡ true → touches o es ≡ true) → AreMaximal ns
+apart_all es ns m h less = record { loose = h; apart = λ o. apart_stays o ns es less (m.apart o) }
+
+-- a run was cut in two, and then either the part behind was taken out or the two were joined again
+pub apart_again : (at : ℕ) (es cs ns : List Span) → AreMaximal es → TouchWithin es cs at at → AreLoose ns → ((o : ℕ) → touches o ns ≡ true → touches o cs ≡ true) → touches at ns ≡ false → AreMaximal ns
+apart_again at es cs ns m h loose less apart = record {
+  loose = loose;
+  apart = λ o. false_from_ne_true (touches o ns) (λ t.
+      let p = touch_only at at es cs m h o (less o t) in
+      let low = p.0 in
+      let up = p.1 in
+      let same : o ≡ at = omega (arith, low, up) in
+      both_ways (touches o ns) (ap (λ n. touches n ns) same ∙ apart) t);
+}
+
+pub apart_out : (a z : ℕ) (es ns : List Span) → a < z → AreLoose ns → ((o : ℕ) → in_spans ns o ≡ (in_spans es o && not (in_span o (z, a)))) → touches a ns ≡ false
+apart_out a z es ns l h has = false_from_ne_true (touches a ns) (λ t.
+    let out : in_spans ns a ≡ false = has a ∙ ap (λ b. in_spans es a && not b) (span_from a (z, a) (omega arith) l) ∙ and_false (in_spans es a) in
+    both_ways (in_spans ns a) out (touch_has 0 greatest a ns h t))

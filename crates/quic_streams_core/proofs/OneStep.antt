@@ -6,14 +6,13 @@ use Rattle.std.proofs.lemmas.List.{same_lists}
 use Rattle.std.proofs.lemmas.Option.{slice_get-get_or}
 use Rattle.quic_streams_core.specs.declared.connection.assembler.Chunk.{Chunk}
 use Rattle.quic_streams_core.specs.Spans.{Span, AreSpans, in_spans}
-use Rattle.quic_streams_core.specs.Arrived.{Arrived, Part, start, AreApart, IsLawful, byte_at, waits, is_given, last_end, extent, runs_of, begins_run, count_to}
+use Rattle.quic_streams_core.specs.Arrived.{Arrived, Part, start, AreApart, IsLawful, byte_at, waits, is_given, runs_of, begins_run, count_to}
 use Rattle.quic_streams_core.specs.Waiting.{begins_part, begins_then, are_too_many, end_of, IsInserted, IsChunk, IsPlace, IsDry, IsRead, IsTaken, IsLeft}
 use Rattle.quic_streams_core.proofs.Bytes.{from_behind, from_within, at_below}
 use Rattle.quic_streams_core.proofs.Free.{in_below}
 use Rattle.quic_streams_core.proofs.Inserted.{begins_above}
 use Rattle.quic_streams_core.proofs.Taken.{waits_begins}
-use Rattle.quic_streams_core.proofs.Runs.{count_same, runs_counted, in_part, in_past, none_yet}
-use Rattle.quic_streams_core.proofs.Runs as runs
+use Rattle.quic_streams_core.proofs.Runs.{count_same, runs_counted, in_part, in_past}
 
 -- ---- parts with the same bytes that begin at the same offsets
 abbrev SameBytes : List Part → List Part → Type 0
@@ -121,77 +120,21 @@ parts_are_their_bytes low below (p ∷ ps) (q ∷ qs) h k w s =
     let rest = parts_are_their_bytes p.0 q.0 ps qs h.2 k.2 (rest_bytes low below p q ps qs h k w r) (rest_begins low below p q ps qs h k s r) in
     cc
 
--- ---- the runs and the extent are those of the offsets that wait
+-- ---- the runs are those of the offsets that wait
 same_runs : (low below n : ℕ) (ps qs : List Part) → AreApart low ps → AreApart below qs → SameBytes ps qs → 2 ^ 62 ≤ n → runs_of ps ≡ runs_of qs
 same_runs low below n ps qs h k w m =
     runs_counted low ps n h m
     ∙ count_same (begins_run ps) (begins_run qs) n (λ i l. rw (w i, w (i - 1)) refl)
     ∙ sym (runs_counted below qs n k m)
 
-end_past : (low end : ℕ) (ps : List Part) → AreApart low ps → end ≤ low → end ≤ last_end end ps
-end_past low end [] h l = omega arith
-end_past low end (p ∷ ps) h l =
-    let big = h.0 in
-    let next = end_past p.0 p.0 ps h.2 (omega arith) in
-    omega arith
-
-last_waits : (low : ℕ) (p : Part) (ps : List Part) → AreApart low (p ∷ ps) → waits (p ∷ ps) (last_end p.0 ps - 1) ≡ true
-last_waits low p [] h =
-    let big = h.0 in
-    let full = h.1 in
-    in_part low p [] (p.0 - 1) h (omega arith) (omega arith)
-last_waits low p (q ∷ qs) h =
-    let past = end_past q.0 q.0 qs h.2.2 (omega arith) in
-    let big = h.2.0 in
-    let full = h.2.1 in
-    in_past low p (q ∷ qs) (last_end q.0 qs - 1) h (omega arith) ∙ last_waits p.0 q qs h.2
-
-none_behind : (low end o : ℕ) (ps : List Part) → AreApart low ps → end ≤ low → last_end end ps ≤ o → waits ps o ≡ false
-none_behind low end o [] h l m = refl
-none_behind low end o (p ∷ ps) h l m =
-    let past = end_past p.0 p.0 ps h.2 (omega arith) in
-    in_past low p ps o h (omega arith) ∙ none_behind p.0 p.0 o ps h.2 (omega arith) m
-
-first_waits : (low : ℕ) (p : Part) (ps : List Part) → AreApart low (p ∷ ps) → waits (p ∷ ps) (start p) ≡ true
-first_waits low p ps h =
-    let big = h.0 in
-    let full = h.1 in
-    in_part low p ps (start p) h (omega arith) (omega arith)
-
-first_below : (low below : ℕ) (p q : Part) (ps qs : List Part) → AreApart low (p ∷ ps) → AreApart below (q ∷ qs) → SameBytes (p ∷ ps) (q ∷ qs) → start p < start q → ⊥
-first_below low below p q ps qs h k w l = both_ways (waits (q ∷ qs) (start p)) (runs.in_below below q qs (start p) k l) (sym (ap is_some (w (start p))) ∙ first_waits low p ps h)
-
-last_below : (low below : ℕ) (p q : Part) (ps qs : List Part) → AreApart low (p ∷ ps) → AreApart below (q ∷ qs) → SameBytes (p ∷ ps) (q ∷ qs) → last_end p.0 ps < last_end q.0 qs → ⊥
-last_below low below p q ps qs h k w l =
-    let big = h.0 in
-    let none = none_behind low low (last_end q.0 qs - 1) (p ∷ ps) h (omega arith) (omega arith) in
-    both_ways (waits (p ∷ ps) (last_end q.0 qs - 1)) none (ap is_some (w (last_end q.0 qs - 1)) ∙ last_waits below q qs k)
-
-same_extent : (low below : ℕ) (ps qs : List Part) → AreApart low ps → AreApart below qs → SameBytes ps qs → extent ps ≡ extent qs
-same_extent low below [] [] h k w = refl
-same_extent low below [] (q ∷ qs) h k w = absurd (both_ways (waits (q ∷ qs) (start q)) (sym (ap is_some (w (start q)))) (first_waits below q qs k))
-same_extent low below (p ∷ ps) [] h k w = absurd (both_ways (waits (p ∷ ps) (start p)) (ap is_some (w (start p))) (first_waits low p ps h))
-same_extent low below (p ∷ ps) (q ∷ qs) h k w =
-    let first : start p ≡ start q = elim (cases_order (start p) (start q)) [
-      | inl e ↦ e
-      | inr (inl l) ↦ absurd (first_below low below p q ps qs h k w l)
-      | inr (inr l) ↦ absurd (first_below below low q p qs ps k h (λ o. sym (w o)) l)
-    ] in
-    let last : last_end p.0 ps ≡ last_end q.0 qs = elim (cases_order (last_end p.0 ps) (last_end q.0 qs)) [
-      | inl e ↦ e
-      | inr (inl l) ↦ absurd (last_below low below p q ps qs h k w l)
-      | inr (inr l) ↦ absurd (last_below below low q p qs ps k h (λ o. sym (w o)) l)
-    ] in
-    ap (λ n. n - start p) last ∙ ap (λ n. last_end q.0 qs - n) first
-
 -- ---- an insert
 one_begins : (a b c : Arrived) (at n o : ℕ) (bytes : List ℕ) → IsInserted a at bytes b → IsInserted a at bytes c → SameBytes b.parts c.parts → 2 ^ 62 ≤ n → begins_part b.parts o ≡ begins_part c.parts o
 one_begins a b c at n o bytes h k w m =
     let count = count_to (begins_then a at bytes) n in
     h.begins n o m
-    ∙ ap (λ r. cond (are_too_many count r (extent b.parts)) (begins_run b.parts o) (begins_then a at bytes o)) (same_runs b.read c.read n b.parts c.parts h.lawful.apart k.lawful.apart w m)
-    ∙ ap (λ r. cond (are_too_many count (runs_of c.parts) r) (begins_run b.parts o) (begins_then a at bytes o)) (same_extent b.read c.read b.parts c.parts h.lawful.apart k.lawful.apart w)
-    ∙ ap (λ r. cond (are_too_many count (runs_of c.parts) (extent c.parts)) r (begins_then a at bytes o)) same
+    ∙ ap (λ r. cond (are_too_many count r (count_to (waits b.parts) n)) (begins_run b.parts o) (begins_then a at bytes o)) (same_runs b.read c.read n b.parts c.parts h.lawful.apart k.lawful.apart w m)
+    ∙ ap (λ r. cond (are_too_many count (runs_of c.parts) r) (begins_run b.parts o) (begins_then a at bytes o)) (count_same (waits b.parts) (waits c.parts) n (λ i l. ap is_some (w i)))
+    ∙ ap (λ r. cond (are_too_many count (runs_of c.parts) (count_to (waits c.parts) n)) r (begins_then a at bytes o)) same
     ∙ sym (k.begins n o m)
   where
     same : begins_run b.parts o ≡ begins_run c.parts o

@@ -27,24 +27,24 @@ shorter_apart low most p ps h = go (ltb most (length p.1)) refl
     go false q = let a = h.0 in parts_lower p.0 low ps h.2 (omega arith)
 
 -- the offsets of a part were not given
-part_free : (low below at len : ℕ) (p : Part) (ps : List Part) (gs : List Span) → AreApart low (p ∷ ps) → AreSpans below gs → ((o : ℕ) → in_spans gs o ≡ true → byte_at (p ∷ ps) o ≡ None) → at ≡ start p → len ≤ length p.1 → 0 < len → IsFree (at + len) (next_span at gs)
-part_free low below at len p ps gs h g f s l w = free_of below at (at + len) gs (omega arith) g clear
+pub part_clear : (low at len : ℕ) (p : Part) (ps : List Part) (gs : List Span) → AreApart low (p ∷ ps) → ((o : ℕ) → in_spans gs o ≡ true → byte_at (p ∷ ps) o ≡ None) → at ≡ start p → len ≤ length p.1 → (o : ℕ) → at ≤ o → o < at + len → in_spans gs o ≡ false
+part_clear low at len p ps gs h f s l o j k = go (in_spans gs o) (f o)
   where
-    clear : (o : ℕ) → at ≤ o → o < at + len → in_spans gs o ≡ false
-    clear o j k = go (in_spans gs o) (f o)
-      where
-        big : low + length p.1 ≤ p.0
-        big = h.0
+    big : low + length p.1 ≤ p.0
+    big = h.0
 
-        go : (b : Bool) → (b ≡ true → byte_at (p ∷ ps) o ≡ None) → b ≡ false
-        go false e = refl
-        go true e =
-            let b = big in
-            let w = from_within (start p) p.1 o (omega arith) (omega arith) in
-            let yes : byte_at (p ∷ ps) o ≡ Some (get_or p.1 (o - start p) 0) = rw w refl in
-            let none : byte_at (p ∷ ps) o ≡ None = e refl in
-            let both : Some (get_or p.1 (o - start p) 0) ≡ None = sym yes ∙ none in
-            cc
+    go : (b : Bool) → (b ≡ true → byte_at (p ∷ ps) o ≡ None) → b ≡ false
+    go false e = refl
+    go true e =
+        let b = big in
+        let w = from_within (start p) p.1 o (omega arith) (omega arith) in
+        let yes : byte_at (p ∷ ps) o ≡ Some (get_or p.1 (o - start p) 0) = rw w refl in
+        let none : byte_at (p ∷ ps) o ≡ None = e refl in
+        let both : Some (get_or p.1 (o - start p) 0) ≡ None = sym yes ∙ none in
+        cc
+
+part_free : (low below at len : ℕ) (p : Part) (ps : List Part) (gs : List Span) → AreApart low (p ∷ ps) → AreSpans below gs → ((o : ℕ) → in_spans gs o ≡ true → byte_at (p ∷ ps) o ≡ None) → at ≡ start p → len ≤ length p.1 → 0 < len → IsFree (at + len) (next_span at gs)
+part_free low below at len p ps gs h g f s l w = free_of below at (at + len) gs (omega arith) g (part_clear low at len p ps gs h f s l)
 
 -- ---- by its parts
 front_spans : (low most : ℕ) (p : Part) (ps : List Part) (gs : List Span) → AreApart low (p ∷ ps) → AreSpans low gs → ((o : ℕ) → in_spans gs o ≡ true → byte_at (p ∷ ps) o ≡ None) → AreSpans low (with_run (start p) (length (take most p.1)) gs)

@@ -7,7 +7,7 @@ use Rattle.std.specs.declared.cmp.Ordering.TheVariants.{Less, Equal, Greater}
 use Rattle.std.specs.Map.{lookup, remove_entry}
 use Rattle.std.specs.BTreeMap.{insert_entry, is_at}
 use Rattle.std.proofs.lemmas.Bool.{ltb-true, ltb-false, lt-ltb, le-ltb, eqb-true, eqb-false, cases_order}
-use Rattle.quic_streams_core.specs.Spans.{Span, AreSpans, in_span, in_spans, width_of, next_span, IsFree, end_from, with_span, with_run}
+use Rattle.quic_streams_core.specs.Spans.{Span, AreSpans, in_span, in_spans, width_of, next_span, IsFree, first_from, end_from, ended_before, begun_behind, with_span, with_run}
 use Rattle.quic_streams_core.proofs.Filled.{not_at}
 use Rattle.quic_streams_core.proofs.First.{at_itself}
 use Rattle.quic_streams_core.proofs.Undone.{absent}
@@ -100,9 +100,87 @@ onto_none start from end (g ∷ gs) h l = go (g.1 == end) h.0 h.1
         let other : is_at (nat_cmp start) g.0 ≡ false = not_at start g.0 (λ e. omega arith) in
         rw (first, other) (none_ends start (g.0 + 1) gs h.2 (omega arith))
 
+-- the runs before it and behind it
+none_before : (start low : ℕ) (gs : List Span) → AreSpans low gs → start ≤ low → ended_before start gs ≡ []
+none_before start low [] h l = refl
+none_before start low (g ∷ gs) h l =
+    let a = h.0 in
+    let b = h.1 in
+    let t = le-ltb g.0 start (omega arith) in
+    rw t (none_before start (g.0 + 1) gs h.2 (omega arith))
+
+all_behind : (end low : ℕ) (gs : List Span) → AreSpans low gs → end < low → begun_behind end gs ≡ gs
+all_behind end low [] h l = refl
+all_behind end low (g ∷ gs) h l =
+    let a = h.0 in
+    let b = h.1 in
+    let t = lt-ltb end g.1 (omega arith) in
+    rw t (ap (λ (es : List Span). g ∷ es) (all_behind end (g.0 + 1) gs h.2 (omega arith)))
+
+more : (a b : ℕ) → b ≤ a → (a ≡ b → ⊥) → b < a
+more a b j n = omega arith
+
+behind_onto : (from end : ℕ) (gs : List Span) → AreSpans end gs → ((end_from end (next_span end gs), from) ∷ begun_behind end gs) ≡ onto from end gs
+behind_onto from end [] h = refl
+behind_onto from end (g ∷ gs) h =
+    let a = h.0 in
+    let b = h.1 in
+    let t = lt-ltb end g.0 (omega arith) in
+    let rest = all_behind end (g.0 + 1) gs h.2 (omega arith) in
+    rw (t, rest) (go (g.1 == end) refl a)
+  where
+    go : (b : Bool) → (g.1 == end) ≡ b → end ≤ g.1 → ((cond b g.0 end, from) ∷ cond (ltb end g.1) (g ∷ gs) gs) ≡ cond b ((g.0, from) ∷ gs) ((end, from) ∷ g ∷ gs)
+    go true q k =
+        let same = eqb-true g.1 end q in
+        let t = le-ltb end g.1 (omega arith) in
+        rw t refl
+    go false q k =
+        let t = lt-ltb end g.1 (more g.1 end k (eqb-false g.1 end q)) in
+        rw t refl
+
 -- ---- where the new run lies: before all, behind the first, or right behind it
 with_before : (start end : ℕ) (gs : List Span) → AreSpans end gs → start < end → with_span start end gs ≡ onto start end gs
 with_before start end gs h l =
+    let before = none_before start end gs h (omega arith) in
+    let none = none_ends start end gs h (omega arith) in
+    rw (before, none) (behind_onto start end gs h)
+
+with_behind : (start end : ℕ) (g : Span) (gs : List Span) → g.1 < g.0 → g.0 < start → start < end → with_span start end (g ∷ gs) ≡ g ∷ with_span start end gs
+with_behind start end g gs k l m =
+    let before = lt-ltb g.0 start l in
+    let other : is_at (nat_cmp start) g.0 ≡ false = not_at start g.0 (λ e. omega arith) in
+    let t = le-ltb end g.0 (omega arith) in
+    let u = le-ltb end g.1 (omega arith) in
+    rw (before, other, t, u) refl
+
+with_at : (end : ℕ) (g : Span) (gs : List Span) → g.1 < g.0 → g.0 < end → AreSpans end gs → with_span g.0 end (g ∷ gs) ≡ onto g.1 end gs
+with_at end g gs k l h =
+    let first = le-ltb g.0 g.0 (omega arith) in
+    let before = none_before g.0 end gs h (omega arith) in
+    let same = at_itself g.0 in
+    let t = le-ltb end g.0 (omega arith) in
+    let u = le-ltb end g.1 (omega arith) in
+    rw (same, first, before, t, u) (behind_onto g.1 end gs h)
+
+with_at_start : (start end : ℕ) (g : Span) (gs : List Span) → g.1 < g.0 → g.0 ≡ start → start < end → AreSpans end gs → with_span start end (g ∷ gs) ≡ onto g.1 end gs
+with_at_start start end g gs k q l h = subst (λ (s : ℕ). with_span s end (g ∷ gs) ≡ onto g.1 end gs) q (with_at end g gs k (omega arith) h)
+
+-- no run of those behind an offset begins before `end`
+free_past : (start end : ℕ) (gs : List Span) → AreSpans (start + 1) gs → end ≤ 2 ^ 62 → IsFree end (next_span start gs) → AreSpans end gs
+free_past start end [] h m f = m
+free_past start end (g ∷ gs) h m f =
+    let a = h.0 in
+    let b = h.1 in
+    let t = lt-ltb start g.0 (omega arith) in
+    let k : end ≤ g.1 = subst (λ (b : Bool). IsFree end (cond b (Some g) (next_span start gs))) t f in
+    (k, h.1, h.2)
+
+-- ---- by a map: the run goes in where the last of those that it touches ends, and the one that ends where it begins goes out
+abbrev put_span : ℕ → ℕ → List Span → List Span
+put_span start end gs = remove_entry (is_at (nat_cmp start)) (insert_entry nat_cmp gs (end_from end (next_span end gs)) (first_from start gs))
+
+put_before : (start end : ℕ) (gs : List Span) → AreSpans end gs → start < end → put_span start end gs ≡ onto start end gs
+put_before start end gs h l =
     let none = none_ends start end gs h (omega arith) in
     rw none (ap (λ (es : List Span). remove_entry (is_at (nat_cmp start)) es) (insert_before start end gs h) ∙ absent (is_at (nat_cmp start)) (onto start end gs) (onto_none start start end gs h l))
 
@@ -117,34 +195,43 @@ end_past end gs = go (next_span end gs) refl
     go None e = omega arith
     go (Some g) e = pick (g.1 == end) g.0 (next_past end gs g e)
 
-with_behind : (start end : ℕ) (g : Span) (gs : List Span) → g.0 < start → start < end → with_span start end (g ∷ gs) ≡ g ∷ with_span start end gs
-with_behind start end g gs l m =
+put_behind : (start end : ℕ) (g : Span) (gs : List Span) → g.0 < start → start < end → put_span start end (g ∷ gs) ≡ g ∷ put_span start end gs
+put_behind start end g gs l m =
     let other : is_at (nat_cmp start) g.0 ≡ false = not_at start g.0 (λ e. omega arith) in
     let t = le-ltb end g.0 (omega arith) in
     let past = end_past end gs in
     let c : nat_cmp (end_from end (next_span end gs)) g.0 ≡ Greater = sym (nat_cmp_is (end_from end (next_span end gs)) g.0 Greater (omega arith)) in
     rw (other, t, c) (rw other refl)
 
-with_at : (end : ℕ) (g : Span) (gs : List Span) → g.0 < end → AreSpans end gs → with_span g.0 end (g ∷ gs) ≡ onto g.1 end gs
-with_at end g gs l h =
+put_at : (end : ℕ) (g : Span) (gs : List Span) → g.0 < end → AreSpans end gs → put_span g.0 end (g ∷ gs) ≡ onto g.1 end gs
+put_at end g gs l h =
     let same = at_itself g.0 in
     let t = le-ltb end g.0 (omega arith) in
     let past = end_past end gs in
     let c : nat_cmp (end_from end (next_span end gs)) g.0 ≡ Greater = sym (nat_cmp_is (end_from end (next_span end gs)) g.0 Greater (omega arith)) in
     rw (same, t, c) (rw same (insert_before g.1 end gs h))
 
-with_at_start : (start end : ℕ) (g : Span) (gs : List Span) → g.0 ≡ start → start < end → AreSpans end gs → with_span start end (g ∷ gs) ≡ onto g.1 end gs
-with_at_start start end g gs q l h = subst (λ (s : ℕ). with_span s end (g ∷ gs) ≡ onto g.1 end gs) q (with_at end g gs (omega arith) h)
+put_at_start : (start end : ℕ) (g : Span) (gs : List Span) → g.0 ≡ start → start < end → AreSpans end gs → put_span start end (g ∷ gs) ≡ onto g.1 end gs
+put_at_start start end g gs q l h = subst (λ (s : ℕ). put_span s end (g ∷ gs) ≡ onto g.1 end gs) q (put_at end g gs (omega arith) h)
 
--- no run of those behind an offset begins before `end`
-free_past : (start end : ℕ) (gs : List Span) → AreSpans (start + 1) gs → end ≤ 2 ^ 62 → IsFree end (next_span start gs) → AreSpans end gs
-free_past start end [] h m f = m
-free_past start end (g ∷ gs) h m f =
-    let a = h.0 in
-    let b = h.1 in
-    let t = lt-ltb start g.0 (omega arith) in
-    let k : end ≤ g.1 = subst (λ (b : Bool). IsFree end (cond b (Some g) (next_span start gs))) t f in
-    (k, h.1, h.2)
+pub put_is : (low start end : ℕ) (gs : List Span) → AreSpans low gs → start < end → end ≤ 2 ^ 62 → IsFree end (next_span start gs) → put_span start end gs ≡ with_span start end gs
+put_is low start end [] h l m f = put_before start end [] m l ∙ sym (with_before start end [] m l)
+put_is low start end (g ∷ gs) h l m f = go (cases_order g.0 start) h.1 h.2 (put_is (g.0 + 1) start end gs h.2 l m)
+  where
+    go : (g.0 ≡ start) ⊎ ((g.0 < start) ⊎ (start < g.0)) → g.1 < g.0 → AreSpans (g.0 + 1) gs → (IsFree end (next_span start gs) → put_span start end gs ≡ with_span start end gs) → put_span start end (g ∷ gs) ≡ with_span start end (g ∷ gs)
+    go (inl q) k r ih =
+        let t = le-ltb start g.0 (omega arith) in
+        let free : IsFree end (next_span start gs) = subst (λ (b : Bool). IsFree end (cond b (Some g) (next_span start gs))) t f in
+        let past : AreSpans end gs = free_past start end gs (subst (λ n. AreSpans (n + 1) gs) q r) m free in
+        put_at_start start end g gs q l past ∙ sym (with_at_start start end g gs k q l past)
+    go (inr (inl q)) k r ih =
+        let t = le-ltb start g.0 (omega arith) in
+        let free : IsFree end (next_span start gs) = subst (λ (b : Bool). IsFree end (cond b (Some g) (next_span start gs))) t f in
+        put_behind start end g gs q l ∙ ap (λ (es : List Span). g ∷ es) (ih free) ∙ sym (with_behind start end g gs k q l)
+    go (inr (inr q)) k r ih =
+        let t = lt-ltb start g.0 q in
+        let free : end ≤ g.1 = subst (λ (b : Bool). IsFree end (cond b (Some g) (next_span start gs))) t f in
+        put_before start end (g ∷ gs) (free, k, r) l ∙ sym (with_before start end (g ∷ gs) (free, k, r) l)
 
 -- ---- what the run adds
 or_swap : (u v x : Bool) → (u || (v || x)) ≡ (v || (u || x))
@@ -186,11 +273,8 @@ onto_spans low from end (g ∷ gs) h l m s = go (g.1 == end) refl h.0 h.1
     go : (b : Bool) → (g.1 == end) ≡ b → end ≤ g.1 → g.1 < g.0 → AreSpans low (cond b ((g.0, from) ∷ gs) ((end, from) ∷ g ∷ gs))
     go true q j k = (l, omega arith, h.2)
     go false q j k =
-        let other = eqb-false g.1 end q in
-        (l, m, (more g.1 end j other, h.1, h.2))
-      where
-        more : (a b : ℕ) → b ≤ a → (a ≡ b → ⊥) → b + 1 ≤ a
-        more a b j n = omega arith
+        let other = more g.1 end j (eqb-false g.1 end q) in
+        (l, m, (omega arith, h.1, h.2))
 
 onto_width : (from end : ℕ) (gs : List Span) → AreSpans end gs → from < end → width_of (onto from end gs) ≡ (end - from) + width_of gs
 onto_width from end [] h l = refl
@@ -210,18 +294,18 @@ with_in low start end o (g ∷ gs) h l m f = go (cases_order g.0 start) h.1 h.2 
         let t = le-ltb start g.0 (omega arith) in
         let free : IsFree end (next_span start gs) = subst (λ (b : Bool). IsFree end (cond b (Some g) (next_span start gs))) t f in
         let past : AreSpans end gs = free_past start end gs (subst (λ n. AreSpans (n + 1) gs) q r) m free in
-        ap (λ (es : List Span). in_spans es o) (with_at_start start end g gs q l past) ∙ onto_in g.1 end o gs past (omega arith) ∙ join o g.1 start end (in_spans gs o) (omega arith) (omega arith) ∙ or_swap (in_span o (start, g.1)) (in_span o (end, start)) (in_spans gs o) ∙ ap (λ (n : ℕ). in_span o (end, start) || (in_span o (n, g.1) || in_spans gs o)) (sym q)
+        ap (λ (es : List Span). in_spans es o) (with_at_start start end g gs k q l past) ∙ onto_in g.1 end o gs past (omega arith) ∙ join o g.1 start end (in_spans gs o) (omega arith) (omega arith) ∙ or_swap (in_span o (start, g.1)) (in_span o (end, start)) (in_spans gs o) ∙ ap (λ (n : ℕ). in_span o (end, start) || (in_span o (n, g.1) || in_spans gs o)) (sym q)
     go (inr (inl q)) k r ih =
         let t = le-ltb start g.0 (omega arith) in
         let free : IsFree end (next_span start gs) = subst (λ (b : Bool). IsFree end (cond b (Some g) (next_span start gs))) t f in
-        ap (λ (es : List Span). in_spans es o) (with_behind start end g gs q l) ∙ ap (λ b. in_span o g || b) (ih free) ∙ or_swap (in_span o g) (in_span o (end, start)) (in_spans gs o)
+        ap (λ (es : List Span). in_spans es o) (with_behind start end g gs k q l) ∙ ap (λ b. in_span o g || b) (ih free) ∙ or_swap (in_span o g) (in_span o (end, start)) (in_spans gs o)
     go (inr (inr q)) k r ih =
         let t = lt-ltb start g.0 q in
         let free : end ≤ g.1 = subst (λ (b : Bool). IsFree end (cond b (Some g) (next_span start gs))) t f in
         ap (λ (es : List Span). in_spans es o) (with_before start end (g ∷ gs) (free, k, r) l) ∙ onto_in start end o (g ∷ gs) (free, k, r) l
 
 pub with_spans : (low start end : ℕ) (gs : List Span) → AreSpans low gs → low ≤ start → start < end → end < 2 ^ 62 → IsFree end (next_span start gs) → AreSpans low (with_span start end gs)
-with_spans low start end [] h w l m f = let small : end ≤ 2 ^ 62 = omega arith in rw (with_before start end [] small l) (onto_spans low start end [] small w l m)
+with_spans low start end [] h w l m f = let small : end ≤ 2 ^ 62 = omega arith in subst (λ (es : List Span). AreSpans low es) (sym (with_before start end [] small l)) (onto_spans low start end [] small w l m)
 with_spans low start end (g ∷ gs) h w l m f = go (cases_order g.0 start) h.0 h.1 h.2 (with_spans (g.0 + 1) start end gs h.2)
   where
     go : (g.0 ≡ start) ⊎ ((g.0 < start) ⊎ (start < g.0)) → low ≤ g.1 → g.1 < g.0 → AreSpans (g.0 + 1) gs → (g.0 + 1 ≤ start → start < end → end < 2 ^ 62 → IsFree end (next_span start gs) → AreSpans (g.0 + 1) (with_span start end gs)) → AreSpans low (with_span start end (g ∷ gs))
@@ -229,11 +313,11 @@ with_spans low start end (g ∷ gs) h w l m f = go (cases_order g.0 start) h.0 h
         let t = le-ltb start g.0 (omega arith) in
         let free : IsFree end (next_span start gs) = subst (λ (b : Bool). IsFree end (cond b (Some g) (next_span start gs))) t f in
         let past : AreSpans end gs = free_past start end gs (subst (λ n. AreSpans (n + 1) gs) q r) (omega arith) free in
-        subst (λ (es : List Span). AreSpans low es) (sym (with_at_start start end g gs q l past)) (onto_spans low g.1 end gs past j (omega arith) m)
+        subst (λ (es : List Span). AreSpans low es) (sym (with_at_start start end g gs k q l past)) (onto_spans low g.1 end gs past j (omega arith) m)
     go (inr (inl q)) j k r ih =
         let t = le-ltb start g.0 (omega arith) in
         let free : IsFree end (next_span start gs) = subst (λ (b : Bool). IsFree end (cond b (Some g) (next_span start gs))) t f in
-        subst (λ (es : List Span). AreSpans low es) (sym (with_behind start end g gs q l)) (j, k, ih (omega arith) l m free)
+        subst (λ (es : List Span). AreSpans low es) (sym (with_behind start end g gs k q l)) (j, k, ih (omega arith) l m free)
     go (inr (inr q)) j k r ih =
         let t = lt-ltb start g.0 q in
         let free : end ≤ g.1 = subst (λ (b : Bool). IsFree end (cond b (Some g) (next_span start gs))) t f in
@@ -248,12 +332,12 @@ with_width low start end (g ∷ gs) h l m f = go (cases_order g.0 start) h.1 h.2
         let t = le-ltb start g.0 (omega arith) in
         let free : IsFree end (next_span start gs) = subst (λ (b : Bool). IsFree end (cond b (Some g) (next_span start gs))) t f in
         let past : AreSpans end gs = free_past start end gs (subst (λ n. AreSpans (n + 1) gs) q r) m free in
-        ap width_of (with_at_start start end g gs q l past) ∙ onto_width g.1 end gs past (omega arith) ∙ omega arith
+        ap width_of (with_at_start start end g gs k q l past) ∙ onto_width g.1 end gs past (omega arith) ∙ omega arith
     go (inr (inl q)) k r ih =
         let t = le-ltb start g.0 (omega arith) in
         let free : IsFree end (next_span start gs) = subst (λ (b : Bool). IsFree end (cond b (Some g) (next_span start gs))) t f in
         let i = ih free in
-        ap width_of (with_behind start end g gs q l) ∙ omega arith
+        ap width_of (with_behind start end g gs k q l) ∙ omega arith
     go (inr (inr q)) k r ih =
         let t = lt-ltb start g.0 q in
         let free : end ≤ g.1 = subst (λ (b : Bool). IsFree end (cond b (Some g) (next_span start gs))) t f in

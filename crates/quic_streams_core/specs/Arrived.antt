@@ -118,19 +118,14 @@ abbrev pub joined : List Part → List Part
 joined [] = []
 joined (p ∷ ps) = in_front p (joined ps)
 
--- where the last part ends, or else an offset
-abbrev pub last_end : ℕ → List Part → ℕ
-last_end end [] = end
-last_end end (p ∷ ps) = last_end p.0 ps
-
--- how many offsets there are from the first that waits to the last, gaps between them too
-abbrev pub extent : List Part → ℕ
-extent [] = 0
-extent (p ∷ ps) = last_end p.0 ps - start p
+-- how many bytes wait
+abbrev pub waiting_bytes : List Part → ℕ
+waiting_bytes [] = 0
+waiting_bytes (p ∷ ps) = length p.1 + waiting_bytes ps
 
 -- whether there are at most 64 of them for each part
 abbrev pub are_short : List Part → Bool
-are_short ps = leb (extent ps) (SHORT_PART * length ps)
+are_short ps = leb (waiting_bytes ps) (SHORT_PART * length ps)
 
 -- whether there are more than MOST_PARTS parts, more of them touch the one before than there are runs, and they are short: then
 -- more than half of them go where they are joined, and at most 64 bytes are copied for each of them; so the copies of any
@@ -173,10 +168,10 @@ abbrev pub behind : Option Chunk → ℕ → ℕ
 behind None read = read
 behind (Some chunk) read = chunk.offset + length chunk.bytes
 
--- whether a read of at most so many bytes cuts the first part
+-- whether a read of at most so many bytes cuts the first part: one of none doesn't
 abbrev pub cuts : List Part → ℕ → ℕ → Bool
 cuts [] read most = false
-cuts (p ∷ ps) read most = cond (start p == read) (ltb most (length p.1)) false
+cuts (p ∷ ps) read most = cond (start p == read) (ltb 0 most && ltb most (length p.1)) false
 
 -- ---- an unordered read of at most `max` bytes
 

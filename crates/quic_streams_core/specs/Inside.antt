@@ -1,14 +1,15 @@
 -- What is true of the fields of an assembler, and of its parts.
 use Rattle.std.specs.Prelude.{◌≡◌, ◌+◌}
-use Rattle.quic_streams_core.specs.Arrived.{AreApart, IsLawful, runs_of}
+use Rattle.quic_streams_core.specs.Arrived.{AreApart, IsLawful, runs_of, waiting_bytes}
 use Rattle.quic_streams_core.specs.Spans.{width_of}
 use Rattle.quic_streams_core.specs.declared.connection.assembler.Assembler.TheInside as assembler
 use Rattle.quic_streams_core.specs.declared.connection.assembler.parts.Parts.TheInside as parts
 
--- the parts lie apart, and their runs are counted
+-- the parts lie apart, and their runs and their bytes are counted
 pub record Counted (a : parts.Inside) : Type 0 where
   pub apart : AreApart 0 a.map.entries
   pub counted : a.runs ≡ runs_of a.map.entries
+  pub bytes : a.bytes ≡ waiting_bytes a.map.entries
 
 -- what waits and what was given are lawful, and the bytes that were read are counted
 pub record Arranged (a : assembler.Inside) : Type 0 where

@@ -1,5 +1,5 @@
 -- The bytes of a stream that are kept, in the pieces that they were written in.
-use Rattle.std.specs.Prelude.{◌≡◌, ℕ, ◌+◌, ◌-◌, ◌^◌, ◌<◌, Bool, cond, leb, List, [], ◌∷◌, ◌++◌, length, drop, Option, Some, None}
+use Rattle.std.specs.Prelude.{◌≡◌, ℕ, ◌+◌, ◌-◌, ◌<◌, cond, leb, List, [], ◌∷◌, ◌++◌, length, drop, Option, Some, None}
 use Rattle.quic_streams_core.specs.Arrived.{Part}
 use Rattle.quic_streams_core.specs.Buffered.{passed, pieces_behind, piece_of}
 

@@ -1,5 +1,5 @@
--- A set of offsets as runs that may touch, in ascending order, and the maximal runs that it has.
-use Rattle.std.specs.Prelude.{◌≡◌, ℕ, true, false, leb, Bool, ◌&&◌, ◌||◌, ◌-◌, ◌^◌, ◌<◌, ◌≤◌, ◌==◌, cond, List, [], ◌∷◌, Option, Some, None}
+-- A set of offsets as runs in ascending order: those that may touch inside a call, and the maximal ones between calls.
+use Rattle.std.specs.Prelude.{◌≡◌, ℕ, true, false, leb, Bool, ◌&&◌, ◌||◌, ◌-◌, ◌^◌, ◌<◌, ◌≤◌, ◌==◌, ◌⊎◌, cond, List, [], ◌∷◌, Option, Some, None}
 use Rattle.std.specs.Ordering.{nat_cmp}
 use Rattle.std.specs.Map.{lookup}
 use Rattle.std.specs.BTreeMap.{insert_entry, is_at}
@@ -19,16 +19,6 @@ greatest = 2 ^ 62 - 1
 abbrev pub AreLoose : List Span → Type 0
 AreLoose gs = LieWithin 0 gs greatest
 
--- a run before others, joined with the first of them where they touch
-abbrev pub run_before : Span → List Run → List Run
-run_before g [] = record { start = g.1; end = g.0 } ∷ []
-run_before g (r ∷ rs) = cond (r.start == g.0) (record { start = g.1; end = r.end } ∷ rs) (record { start = g.1; end = g.0 } ∷ r ∷ rs)
-
--- the runs, those that touch joined into one
-abbrev pub maximal : List Span → List Run
-maximal [] = []
-maximal (g ∷ gs) = run_before g (maximal gs)
-
 -- no run has offsets on both sides of an offset
 abbrev pub IsCut : ℕ → Option Span → Type 0
 IsCut at None = Unit {0}
@@ -45,17 +35,6 @@ abbrev pub inside_at : ℕ → Option Span → Option ℕ
 inside_at end None = None
 inside_at end (Some g) = cond (leb g.0 end) (Some g.0) None
 
--- where the run ends, if it begins up to an offset
-abbrev pub held_end : ℕ → Option Span → Option ℕ
-held_end at None = None
-held_end at (Some g) = cond (leb g.1 at) (Some g.0) None
-
--- the offsets from one up to another are in the set, which lacks the other
-pub record IsReach (gs : List Span) (at end : ℕ) : Type 0 where
-  pub above : at ≤ end
-  pub held : (o : ℕ) → at ≤ o → o < end → in_spans gs o ≡ true
-  pub lacks : in_spans gs end ≡ false
-
 -- whether the first of some runs begins at an offset
 abbrev pub begins_first : ℕ → List Span → Bool
 begins_first o [] = false
@@ -66,7 +45,15 @@ abbrev pub touches : ℕ → List Span → Bool
 touches o [] = false
 touches o (g ∷ gs) = (g.0 == o && begins_first o gs) || touches o gs
 
--- no runs touch at some offsets
-abbrev pub AreApartAt : List ℕ → List Span → Type 0
-AreApartAt [] gs = Unit {0}
-AreApartAt (o ∷ os) gs = (touches o gs ≡ false) × AreApartAt os gs
+-- such runs, of which no two touch
+pub record AreMaximal (gs : List Span) : Type 0 where
+  pub loose : AreLoose gs
+  pub apart : (o : ℕ) → touches o gs ≡ false
+
+-- a run of the map as a run
+abbrev pub as_run : Span → Run
+as_run g = record { start = g.1; end = g.0 }
+
+-- the runs touch only where they did, or from one offset up to another
+abbrev pub TouchWithin : List Span → List Span → ℕ → ℕ → Type 0
+TouchWithin old new a b = (o : ℕ) → touches o new ≡ true → (touches o old ≡ true) ⊎ ((a ≤ o) × (o ≤ b))

@@ -1,9 +1,10 @@
 -- A set of offsets as its maximal runs, in ascending order.
-use Rattle.std.specs.Prelude.{ℕ, ◌+◌, ◌-◌, ◌^◌, ◌<◌, ◌≤◌, ◌==◌, Bool, false, cond, ltb, min, not, ◌&&◌, ◌||◌, List, [], ◌∷◌, Option, Some, None}
+use Rattle.std.specs.Prelude.{ℕ, ◌+◌, ◌-◌, ◌^◌, ◌<◌, ◌≤◌, ◌==◌, Bool, false, cond, ltb, min, not, ◌&&◌, ◌||◌, List, [], ◌∷◌, ◌++◌, Option, Some, None}
+use Rattle.std.specs.List.{filter}
 use Rattle.std.specs.Option.{unwrap_or}
 use Rattle.std.specs.Ordering.{nat_cmp}
-use Rattle.std.specs.BTreeMap.{insert_entry, is_at}
-use Rattle.std.specs.Map.{lookup, remove_entry}
+use Rattle.std.specs.BTreeMap.{is_at}
+use Rattle.std.specs.Map.{lookup}
 
 -- a run: the offset behind its last, and its first
 abbrev pub Span : Type 0
@@ -51,9 +52,18 @@ abbrev pub end_from : ℕ → Option Span → ℕ
 end_from end None = end
 end_from end (Some g) = cond (g.1 == end) g.0 end
 
--- the set with the offsets from `start` up to `end`, of which it has none: the runs that touch them join with them
+-- the runs that end before an offset
+abbrev pub ended_before : ℕ → List Span → List Span
+ended_before start gs = filter (λ g. ltb g.0 start) gs
+
+-- the runs that begin behind an offset
+abbrev pub begun_behind : ℕ → List Span → List Span
+begun_behind end gs = filter (λ g. ltb end g.1) gs
+
+-- the set with the offsets from `start` up to `end`, of which it has none: the runs before these, the run that they make with
+-- those that touch them, and the runs behind
 abbrev pub with_span : ℕ → ℕ → List Span → List Span
-with_span start end gs = remove_entry (is_at (nat_cmp start)) (insert_entry nat_cmp gs (end_from end (next_span end gs)) (first_from start gs))
+with_span start end gs = ended_before start gs ++ ((end_from end (next_span end gs), first_from start gs) ∷ begun_behind end gs)
 
 -- the set with `len` offsets from `at` on
 abbrev pub with_run : ℕ → ℕ → List Span → List Span

@@ -4,7 +4,7 @@ use Rattle.std.specs.Option.{option_or, is_some}
 use Rattle.std.specs.List.{slice_get}
 use Rattle.quic_streams_core.specs.declared.connection.assembler.Chunk.{Chunk}
 use Rattle.quic_streams_core.specs.declared.connection.assembler.parts.TheConstants.{MOST_PARTS, SHORT_PART}
-use Rattle.quic_streams_core.specs.Arrived.{Arrived, Part, IsLawful, start, byte_from, byte_at, waits, is_given, runs_of, extent, begins_run, count_to, in_chunk}
+use Rattle.quic_streams_core.specs.Arrived.{Arrived, Part, IsLawful, start, byte_from, byte_at, waits, is_given, runs_of, begins_run, count_to, in_chunk}
 
 -- whether a part begins at an offset
 abbrev pub begins_part : List Part → ℕ → Bool
@@ -30,16 +30,16 @@ begins_new a at bytes offset = is_new a at bytes offset && not (cond (offset == 
 abbrev pub begins_then : Arrived → ℕ → List ℕ → ℕ → Bool
 begins_then a at bytes offset = begins_part a.parts offset || begins_new a at bytes offset
 
--- whether so many parts, in so many runs and over so many offsets, are too many
+-- whether so many parts, in so many runs and with so many offsets that wait, are too many
 abbrev pub are_too_many : ℕ → ℕ → ℕ → Bool
 are_too_many parts runs offsets = ltb MOST_PARTS parts && (ltb runs (parts - runs) && leb offsets (SHORT_PART * parts))
 
 -- the same bytes, once they came: where an offset waits its byte stands; at another that wasn't given the byte that came, if
 -- one did. A part begins where one did and where new bytes begin; or, where these would be too many, where a run begins.
--- Nothing else changes. They are counted below any bound `n` that no offset reaches
+-- Nothing else changes. Parts and offsets are counted below any bound `n` that no offset reaches
 pub record IsInserted (a : Arrived) (at : ℕ) (bytes : List ℕ) (b : Arrived) : Type 0 where
   pub waiting : (o : ℕ) → byte_at b.parts o ≡ cond (is_given a o) None (option_or (byte_at a.parts o) (byte_from at bytes o))
-  pub begins : (n o : ℕ) → 2 ^ 62 ≤ n → begins_part b.parts o ≡ cond (are_too_many (count_to (begins_then a at bytes) n) (runs_of b.parts) (extent b.parts)) (begins_run b.parts o) (begins_then a at bytes o)
+  pub begins : (n o : ℕ) → 2 ^ 62 ≤ n → begins_part b.parts o ≡ cond (are_too_many (count_to (begins_then a at bytes) n) (runs_of b.parts) (count_to (waits b.parts) n)) (begins_run b.parts o) (begins_then a at bytes o)
   pub others : b ≡ record a { parts = b.parts }
   pub lawful : IsLawful b
 

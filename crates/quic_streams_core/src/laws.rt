@@ -2,7 +2,7 @@
 ghost use Rattle.std.specs.Prelude.{◌≡◌, ℕ, ◌+◌, ◌<◌, ◌≤◌, ◌^◌, ◌-◌, ◌*◌, ◌/◌, List, Bool, ◌||◌, [], None, Some, true, false, cond, ltb, max, length, count_by, sum_by, All, IfSome, IsSome, is_some, Option};
 ghost use Rattle.std.specs.List.{slice_get};
 ghost use Rattle.std.specs.Option.{option_or};
-ghost use Rattle.quic_streams_core.specs.Arrived.{Arrived, Part, IsLawful, runs_of, extent, is_crowded, joined, begins_run, count_to, byte_from, byte_at, holds, is_given, after_insert, given_in, given_by, after_read, after_ordering, in_chunk, length_of, bytes_read_of};
+ghost use Rattle.quic_streams_core.specs.Arrived.{Arrived, Part, IsLawful, runs_of, waits, waiting_bytes, is_crowded, joined, begins_run, count_to, byte_from, byte_at, holds, is_given, after_insert, given_in, given_by, after_read, after_ordering, in_chunk, length_of, bytes_read_of};
 ghost use Rattle.quic_streams_core.specs.Waiting.{IsInserted, IsChunk, IsRead, IsLeft};
 ghost use Rattle.quic_streams_core.specs.declared.connection.assembler.Chunk.{Chunk};
 ghost use Rattle.quic_streams_core.specs.declared.connection.assembler.TheConstants.{MOST_PIECES};
@@ -24,6 +24,11 @@ pub fn runs_are_maximal()
     ensures { (a : Arrived) (n : ℕ) → IsLawful a → 2 ^ 62 ≤ n → runs_of a.parts ≡ count_to (begins_run a.parts) n }
 {}
 
+/// The bytes that wait are as many as the offsets at which one does.
+pub fn waiting_bytes_are_counted()
+    ensures { (a : Arrived) (n : ℕ) → IsLawful a → 2 ^ 62 ≤ n → waiting_bytes a.parts ≡ count_to (waits a.parts) n }
+{}
+
 /// After bytes came, an offset that was not given waits with the byte that waited there, or else
 /// with the byte that came. One that was given waits never again.
 pub fn first_bytes_stand()
@@ -38,10 +43,10 @@ pub fn insertion_is_one()
     ensures { (a b c : Arrived) (at : ℕ) (bytes : List ℕ) → IsInserted a at bytes b → IsInserted a at bytes c → b ≡ c }
 {}
 
-/// No more than 2048 parts are kept, or two for each run, or one for each 64 offsets from the
-/// first that waits to the last.
+/// No more than 2048 parts are kept, or two for each run, or one for each 64 bytes that wait. Up to 2048 are never joined.
 pub fn few_parts_are_kept()
-    ensures { (a : Arrived) (offset : ℕ) (bytes : List ℕ) (ps : List Part) → IsLawful a → offset + length bytes < 2 ^ 62 → ps ≡ (after_insert a offset bytes).parts → length ps ≤ max (max 2048 (2 * runs_of ps)) (extent ps / 64) }
+    ensures most { (a : Arrived) (offset : ℕ) (bytes : List ℕ) (ps : List Part) → IsLawful a → offset + length bytes < 2 ^ 62 → ps ≡ (after_insert a offset bytes).parts → length ps ≤ max (max 2048 (2 * runs_of ps)) (waiting_bytes ps / 64) }
+    ensures apart { (ps : List Part) → length ps ≤ 2048 → is_crowded ps ≡ false }
 {}
 
 /// Where parts are joined, all of them together have no more than 128 bytes for each part that goes.

@@ -64,7 +64,8 @@ impl Model for Assembler {
 impl Assembler {
     /// Nothing has arrived, and nothing is read.
     pub fn new(alloc: Global) -> Self
-        ensures { result ≡ record { read = 0; unordered = false; picked = []; parts = [] } }
+        ensures value { result ≡ record { read = 0; unordered = false; picked = []; parts = [] } }
+        ensures lawful { IsLawful result }
     {
         Assembler {
             parts: Parts::new(alloc),
@@ -88,14 +89,16 @@ impl Assembler {
 
     /// The number of maximal runs of offsets that wait. Parts that touch are one run.
     pub fn runs(&self) -> usize
-        ensures { result ≡ runs_of self.now.parts }
+        ensures value { result ≡ runs_of self.now.parts }
+        ensures lawful { IsLawful self.now }
     {
         self.parts.runs()
     }
 
     // Whether an unordered read was made.
     fn is_unordered(&self) -> bool
-        ensures { result ≡ self.now.unordered }
+        ensures value { result ≡ self.now.unordered }
+        ensures lawful { IsLawful self.now }
     {
         self.unordered
     }
@@ -119,6 +122,7 @@ impl Assembler {
     pub fn has_next(&self) -> bool
         ensures next { result ≡ is_next_in self.now.unordered self.now }
         ensures byte { self.now.unordered ≡ false → result ≡ is_some (byte_at self.now.parts self.now.read) }
+        ensures lawful { IsLawful self.now }
     {
         if self.is_unordered() {
             self.has_any()
@@ -136,6 +140,7 @@ impl Assembler {
         ensures refused { is_err result ≡ (ordered && self.old.unordered) }
         ensures new { self.new ≡ after_ordering self.old ordered }
         ensures err { OnErr result (self.new ≡ self.old) }
+        ensures lawful { IsLawful self.new }
     {
         if !ordered {
             self.unordered = true;
@@ -150,9 +155,8 @@ impl Assembler {
 
     /// Puts in bytes that came at an offset (RFC 9000, 19.8): those that were not read and do not
     /// wait yet. They end at 2^62 - 1 at most. Parts that touch are joined where there are more
-    /// than 2048, more than two for each run, and no fewer than one for each 64 offsets from the
-    /// first that waits to the last. So joining copies no more than 128 bytes for each part that
-    /// goes, each byte once.
+    /// than 2048, more than two for each run, and no fewer than one for each 64 bytes that wait. So
+    /// joining copies no more than 128 bytes for each part that goes, each byte once.
     ///
     /// # Errors
     ///
@@ -163,6 +167,7 @@ impl Assembler {
         ensures inserted { OnOk result (IsInserted self.old offset bytes.now self.new) }
         ensures err { OnErr result (self.new ≡ self.old) }
         ensures lacking { OnErr result (BringsNew self.old offset bytes.now ⊎ (is_crowded self.old.parts ≡ true)) }
+        ensures lawful { IsLawful self.new }
     {
         let known = self.read.saturating_sub(offset).min(bytes.len() as u64);
         self.parts
@@ -201,6 +206,7 @@ impl Assembler {
         ensures new { OnOk result (self.new ≡ after_read_in true self.old max) }
         ensures err { OnErr result (self.new ≡ self.old) }
         ensures some { OnErr result (is_next_in true self.old ≡ true) }
+        ensures asked { OnErr result (0 < max) }
     {
         match self.parts.front(max)? {
             Some(chunk) => {
@@ -223,7 +229,7 @@ impl Assembler {
     /// # Errors
     ///
     /// [`AllocError`] where memory lacks; nothing changed. An ordered read fails only where it cuts a part, and an unordered
-    /// one only where a byte waits.
+    /// one only where a byte waits. A read of no bytes never does.
     pub fn read(&mut self, max: usize) -> Result<Option<Chunk>, AllocError>
         ensures ok { IfOk result (λ chunk. chunk ≡ given_by self.old max) }
         ensures new { OnOk result (self.new ≡ after_read self.old max) }
@@ -232,6 +238,8 @@ impl Assembler {
         ensures taken { IfOk result (λ chunk. IsLeft self.old chunk self.new) }
         ensures whole { self.old.unordered ≡ false → cuts self.old.parts self.old.read max ≡ false → IsOk result }
         ensures some { self.old.unordered ≡ true → OnErr result (is_next_in true self.old ≡ true) }
+        ensures asked { OnErr result (0 < max) }
+        ensures lawful { IsLawful self.new }
     {
         if self.is_unordered() {
             self.read_any(max)
@@ -242,7 +250,8 @@ impl Assembler {
 
     /// Drops what waits.
     pub fn clear(&mut self)
-        ensures { self.new ≡ record self.old { parts = [] } }
+        ensures value { self.new ≡ record self.old { parts = [] } }
+        ensures lawful { IsLawful self.new }
     {
         self.parts.clear();
     }

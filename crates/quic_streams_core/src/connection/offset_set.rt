@@ -1,13 +1,13 @@
 // A set of offsets as runs in an ordered map, from the offset behind a run to its first: so the run that holds an offset,
 // and those that touch one, are found by one look-up each.
-ghost use Rattle.std.specs.Prelude.{◌≡◌, ℕ, ◌+◌, ◌<◌, ◌≤◌, ◌^◌, [], length, not, ◌&&◌, ◌||◌, ◌↔◌, None, true, false, IsTrue, IfOk, IfSome, OnOk, OnErr, slice_get};
+ghost use Rattle.std.specs.Prelude.{◌≡◌, ℕ, ◌+◌, ◌<◌, ◌≤◌, ◌^◌, [], not, ◌&&◌, ◌||◌, ◌↔◌, None, true, false, IsTrue, IfOk, OnOk, OnErr, map, slice_get};
 ghost use Rattle.std.specs.Map.{set_value};
 ghost use Rattle.std.specs.BTreeMap.{is_at};
 ghost use Rattle.std.specs.Ordering.{nat_cmp};
 ghost use Rattle.quic_sets.specs.Runs.{Has, AreRuns, Adds, Drops};
 ghost use Rattle.quic_streams_core.specs.Lacking.{AddsLacking};
-ghost use Rattle.quic_streams_core.specs.Spans.{in_span, in_spans, next_span, first_from};
-ghost use Rattle.quic_streams_core.specs.Loose.{AreLoose, IsCut, FitsRun, inside_at, held_end, IsReach, maximal, touches, AreApartAt};
+ghost use Rattle.quic_streams_core.specs.Spans.{in_span, in_spans, next_span};
+ghost use Rattle.quic_streams_core.specs.Loose.{AreLoose, AreMaximal, IsCut, FitsRun, TouchWithin, inside_at, as_run, touches};
 ghost use Rattle.quic_streams_core.specs.PartSteps.{undone};
 
 use super::spans::{begin_of, finish_of, keep, look, next_after, remove};
@@ -19,22 +19,22 @@ use std::ops::Range;
 /// A set of offsets of a stream. Contracts see the list of its maximal runs.
 #[derive(Drop)]
 pub(crate) struct OffsetSet {
-    // Runs are joined by the call that makes them touch, and one that was cut in two before memory lacked is joined again. The
-    // invariant lets runs touch all the same: contracts see them joined.
-    map: BTreeMap<u64, u64>,
+    // Runs are joined by the call that makes them touch, and one that was cut in two before memory lacked is joined again. So
+    // no two touch between calls.
+    spans: BTreeMap<u64, u64>,
     alloc: Global,
 }
 
 impl Model for OffsetSet {
-    ghost use Rattle.std.specs.Prelude.{List};
+    ghost use Rattle.std.specs.Prelude.{List, map};
     ghost use Rattle.quic_sets.specs.Runs.{Run};
-    ghost use Rattle.quic_streams_core.specs.Loose.{AreLoose, maximal};
+    ghost use Rattle.quic_streams_core.specs.Loose.{AreMaximal, as_run};
 
     ghost Value = { List Run };
 
-    ghost view = { λ s. maximal s.map.entries };
+    ghost view = { λ s. map as_run s.spans.entries };
 
-    ghost invariant = { λ s. AreLoose s.map.entries };
+    ghost invariant = { λ s. AreMaximal s.spans.entries };
 }
 
 // Lets the run that ends at `end` begin at `start`.
@@ -53,9 +53,11 @@ fn put_run(
     end: u64,
     ends: &mut Vec<u64>,
 ) -> Result<(), AllocError>
-    requires { FitsRun at end spans.old.entries }
+    requires fits { FitsRun at end spans.old.entries }
+    requires ordered { at ≤ end }
     ensures loose { OnOk result (AreLoose spans.new.entries) }
     ensures offsets { OnOk result ((o : ℕ) → in_spans spans.new.entries o ≡ in_spans spans.old.entries o || in_span o (end, at)) }
+    ensures touch { OnOk result (TouchWithin spans.old.entries spans.new.entries at end) }
     ensures back { undone ends.new.items spans.new.entries ≡ undone ends.old.items spans.old.entries }
 {
     ends.push(end)?;
@@ -78,6 +80,7 @@ fn put_lacking(
     ensures within { IfOk result (λ n. n ≤ len) }
     ensures loose { IfOk result (λ n. AreLoose spans.new.entries) }
     ensures offsets { IfOk result (λ n. (o : ℕ) → in_spans spans.new.entries o ≡ in_spans spans.old.entries o || (in_span o (at + n, at) && not (in_spans others.now.entries o))) }
+    ensures touch { IfOk result (λ n. TouchWithin spans.old.entries spans.new.entries at (at + n)) }
     ensures back { undone ends.new.items spans.new.entries ≡ undone ends.old.items spans.old.entries }
 {
     let (other, most) = look(others, at, len);
@@ -102,6 +105,7 @@ fn fill_lacking(
     requires small { end < 2 ^ 62 }
     ensures loose { OnOk result (AreLoose spans.new.entries) }
     ensures offsets { OnOk result ((o : ℕ) → in_spans spans.new.entries o ≡ in_spans spans.old.entries o || (in_span o (end, start) && not (in_spans others.now.entries o))) }
+    ensures touch { OnOk result (TouchWithin spans.old.entries spans.new.entries start end) }
     ensures back { undone ends.new.items spans.new.entries ≡ undone ends.old.items spans.old.entries }
 {
     let mut at = start;
@@ -137,31 +141,31 @@ fn join_at(spans: &mut BTreeMap<u64, u64>, at: u64)
     }
 }
 
-// Joins the run that ends at an offset with those that it touches.
-fn join_run(spans: &mut BTreeMap<u64, u64>, end: u64)
-    requires { AreLoose spans.old.entries }
-    ensures loose { AreLoose spans.new.entries }
-    ensures offsets { (o : ℕ) → in_spans spans.new.entries o ≡ in_spans spans.old.entries o }
-    ensures touch { (o : ℕ) → touches o spans.new.entries ≡ true → touches o spans.old.entries ≡ true }
-    ensures before { first_from end spans.old.entries < end → touches (first_from end spans.old.entries) spans.new.entries ≡ false }
-    ensures behind { touches end spans.new.entries ≡ false }
+// Where the next run behind an offset ends, if it ends up to `end`.
+fn next_inside(spans: &BTreeMap<u64, u64>, start: u64, end: u64) -> Option<u64>
+    requires { start < 2 ^ 62 }
+    ensures { result ≡ inside_at end (next_span start spans.now.entries) }
 {
-    let start = begin_of(spans, end);
-    if start < end {
-        join_at(spans, start);
-        join_at(spans, end);
+    match next_after(spans, start) {
+        Some((_, last)) => { if last <= end { Some(last) } else { None } }
+        None => None,
     }
 }
 
-// Joins the runs that end at some offsets with those that they touch.
-fn join_all(spans: &mut BTreeMap<u64, u64>, ends: &mut Vec<u64>)
-    requires { AreLoose spans.old.entries }
-    ensures loose { AreLoose spans.new.entries }
+// Joins the runs that touch, where these do so only from `start` up to `end`.
+fn join_between(spans: &mut BTreeMap<u64, u64>, start: u64, end: u64)
+    requires loose { AreLoose spans.old.entries }
+    requires ordered { start ≤ end }
+    requires small { end < 2 ^ 62 }
+    requires touch { (o : ℕ) → touches o spans.old.entries ≡ true → (start ≤ o) × (o ≤ end) }
+    ensures maximal { AreMaximal spans.new.entries }
     ensures offsets { (o : ℕ) → in_spans spans.new.entries o ≡ in_spans spans.old.entries o }
-    ensures apart { AreApartAt ends.old.items spans.new.entries }
 {
-    while let Some(end) = ends.pop() {
-        join_run(spans, end);
+    join_at(spans, start);
+    let mut at = start;
+    while let Some(next) = next_inside(spans, at, end) {
+        join_at(spans, next);
+        at = next;
     }
 }
 
@@ -173,18 +177,18 @@ fn add_lacking(
     end: u64,
     alloc: Global,
 ) -> Result<(), AllocError>
-    requires loose { AreLoose spans.old.entries }
+    requires maximal { AreMaximal spans.old.entries }
     requires others { AreLoose others.now.entries }
     requires ordered { start ≤ end }
     requires small { end < 2 ^ 62 }
-    ensures loose { AreLoose spans.new.entries }
+    ensures maximal { AreMaximal spans.new.entries }
     ensures ok { OnOk result ((o : ℕ) → in_spans spans.new.entries o ≡ in_spans spans.old.entries o || (in_span o (end, start) && not (in_spans others.now.entries o))) }
     ensures err { OnErr result (spans.new.entries ≡ spans.old.entries) }
 {
     let mut ends = Vec::new(alloc);
     let outcome = fill_lacking(spans, others, start, end, &mut ends);
     if outcome.is_ok() {
-        join_all(spans, &mut ends);
+        join_between(spans, start, end);
     } else {
         remove_all(spans, &mut ends);
     }
@@ -197,7 +201,9 @@ fn split(spans: &mut BTreeMap<u64, u64>, at: u64) -> Result<(), AllocError>
     requires small { at < 2 ^ 62 }
     ensures loose { AreLoose spans.new.entries }
     ensures offsets { (o : ℕ) → in_spans spans.new.entries o ≡ in_spans spans.old.entries o }
+    ensures touch { TouchWithin spans.old.entries spans.new.entries at at }
     ensures cut { OnOk result (IsCut at (next_span at spans.new.entries)) }
+    ensures err { OnErr result (spans.new.entries ≡ spans.old.entries) }
 {
     if let Some((start, end)) = next_after(spans, at) {
         if start < at {
@@ -208,17 +214,6 @@ fn split(spans: &mut BTreeMap<u64, u64>, at: u64) -> Result<(), AllocError>
     Ok(())
 }
 
-// Where the next run behind an offset ends, if it ends up to `end`.
-fn next_inside(spans: &BTreeMap<u64, u64>, start: u64, end: u64) -> Option<u64>
-    requires { start < 2 ^ 62 }
-    ensures { result ≡ inside_at end (next_span start spans.now.entries) }
-{
-    match next_after(spans, start) {
-        Some((_, last)) => { if last <= end { Some(last) } else { None } }
-        None => None,
-    }
-}
-
 // Takes out the runs of a range, where none has offsets on both sides of its first.
 fn drop_inside(spans: &mut BTreeMap<u64, u64>, start: u64, end: u64)
     requires loose { AreLoose spans.old.entries }
@@ -227,6 +222,7 @@ fn drop_inside(spans: &mut BTreeMap<u64, u64>, start: u64, end: u64)
     ensures loose { AreLoose spans.new.entries }
     ensures cut { IsCut start (next_span start spans.new.entries) }
     ensures out { (o : ℕ) → in_span o (end, start) ≡ false → in_spans spans.new.entries o ≡ in_spans spans.old.entries o }
+    ensures touch { (o : ℕ) → touches o spans.new.entries ≡ true → touches o spans.old.entries ≡ true }
     ensures none_inside { inside_at end (next_span start spans.new.entries) ≡ None }
 {
     while let Some(last) = next_inside(spans, start, end) {
@@ -241,6 +237,7 @@ fn take_out(spans: &mut BTreeMap<u64, u64>, start: u64, end: u64)
     requires small { start < 2 ^ 62 }
     ensures loose { AreLoose spans.new.entries }
     ensures offsets { (o : ℕ) → in_spans spans.new.entries o ≡ in_spans spans.old.entries o && not (in_span o (end, start)) }
+    ensures touch { (o : ℕ) → touches o spans.new.entries ≡ true → touches o spans.old.entries ≡ true }
 {
     drop_inside(spans, start, end);
     if let Some((first, last)) = next_after(spans, start) {
@@ -250,23 +247,23 @@ fn take_out(spans: &mut BTreeMap<u64, u64>, start: u64, end: u64)
     }
 }
 
-// Puts in the offsets of a range, and takes them out of another set. The memory for both is taken first. Where it lacks, the
-// run that was cut is joined again, which needs none.
+// Puts in the offsets of a range, and takes them out of another set. Where memory lacks, what was begun is undone, which needs
+// none.
 fn insert_from(
     spans: &mut BTreeMap<u64, u64>,
     x: Range<u64>,
     others: &mut BTreeMap<u64, u64>,
     alloc: Global,
 ) -> Result<(), AllocError>
-    requires loose { AreLoose spans.old.entries }
-    requires others { AreLoose others.old.entries }
+    requires maximal { AreMaximal spans.old.entries }
+    requires others { AreMaximal others.old.entries }
     requires small { x.end < 2 ^ 62 }
-    ensures loose { AreLoose spans.new.entries }
-    ensures others_loose { AreLoose others.new.entries }
-    ensures ok { OnOk result (Adds (maximal spans.old.entries) (maximal spans.new.entries) x.start x.end) }
-    ensures others { OnOk result (Drops (maximal others.old.entries) (maximal others.new.entries) x.start x.end) }
-    ensures err { OnErr result (maximal spans.new.entries ≡ maximal spans.old.entries) }
-    ensures others_err { OnErr result (maximal others.new.entries ≡ maximal others.old.entries) }
+    ensures maximal { AreMaximal spans.new.entries }
+    ensures others_maximal { AreMaximal others.new.entries }
+    ensures ok { OnOk result (Adds (map as_run spans.old.entries) (map as_run spans.new.entries) x.start x.end) }
+    ensures others { OnOk result (Drops (map as_run others.old.entries) (map as_run others.new.entries) x.start x.end) }
+    ensures err { OnErr result (map as_run spans.new.entries ≡ map as_run spans.old.entries) }
+    ensures others_err { OnErr result (map as_run others.new.entries ≡ map as_run others.old.entries) }
     ensures lacking { OnErr result (x.start < x.end) }
 {
     if x.end <= x.start {
@@ -293,12 +290,12 @@ fn insert_lacking(
     others: &BTreeMap<u64, u64>,
     alloc: Global,
 ) -> Result<(), AllocError>
-    requires loose { AreLoose spans.old.entries }
-    requires others { AreLoose others.now.entries }
+    requires maximal { AreMaximal spans.old.entries }
+    requires others { AreMaximal others.now.entries }
     requires small { x.end < 2 ^ 62 }
-    ensures loose { AreLoose spans.new.entries }
-    ensures ok { OnOk result (AddsLacking (maximal spans.old.entries) (maximal others.now.entries) (maximal spans.new.entries) x.start x.end) }
-    ensures err { OnErr result (maximal spans.new.entries ≡ maximal spans.old.entries) }
+    ensures maximal { AreMaximal spans.new.entries }
+    ensures ok { OnOk result (AddsLacking (map as_run spans.old.entries) (map as_run others.now.entries) (map as_run spans.new.entries) x.start x.end) }
+    ensures err { OnErr result (map as_run spans.new.entries ≡ map as_run spans.old.entries) }
     ensures lacking { OnErr result (x.start < x.end) }
 {
     if x.end <= x.start {
@@ -307,48 +304,13 @@ fn insert_lacking(
     add_lacking(spans, others, x.start, x.end, alloc)
 }
 
-// Where the run ends that an offset is in.
-fn held_end(spans: &BTreeMap<u64, u64>, at: u64) -> Option<u64>
-    requires { at < 2 ^ 62 }
-    ensures { result ≡ held_end at (next_span at spans.now.entries) }
-{
-    match next_after(spans, at) {
-        Some((start, end)) => { if start <= at { Some(end) } else { None } }
-        None => None,
-    }
-}
-
-// The first offset from `at` on that isn't in the set.
-fn reach(spans: &BTreeMap<u64, u64>, at: u64) -> u64
-    requires loose { AreLoose spans.now.entries }
-    requires small { at < 2 ^ 62 }
-    ensures { IsReach spans.now.entries at result }
-{
-    let mut end = at;
-    while let Some(next) = held_end(spans, end) {
-        end = next;
-    }
-    end
-}
-
-// The maximal run of the least offset.
-fn first(spans: &BTreeMap<u64, u64>) -> Option<Range<u64>>
-    requires { AreLoose spans.now.entries }
-    ensures { result ≡ slice_get (maximal spans.now.entries) 0 }
-{
-    match spans.first_key_value() {
-        Some((end, start)) => Some(*start..reach(spans, *end)),
-        None => None,
-    }
-}
-
 impl OffsetSet {
     /// The empty set.
     pub(crate) fn new(alloc: Global) -> Self
         ensures { result ≡ [] }
     {
         OffsetSet {
-            map: BTreeMap::new(alloc),
+            spans: BTreeMap::new(alloc),
             alloc,
         }
     }
@@ -357,14 +319,17 @@ impl OffsetSet {
     pub(crate) fn is_empty(&self) -> bool
         ensures { IsTrue result ↔ self.now ≡ [] }
     {
-        self.map.is_empty()
+        self.spans.is_empty()
     }
 
     /// The run of the least offset.
     pub(crate) fn first(&self) -> Option<Range<u64>>
         ensures { result ≡ slice_get self.now 0 }
     {
-        first(&self.map)
+        match self.spans.first_key_value() {
+            Some((end, start)) => Some(*start..*end),
+            None => None,
+        }
     }
 
     /// Puts in the offsets of a range, and takes them out of another set. An empty or a reversed range changes nothing, and
@@ -387,7 +352,7 @@ impl OffsetSet {
         ensures other_err { OnErr result (other.new ≡ other.old) }
         ensures lacking { OnErr result (x.start < x.end) }
     {
-        insert_from(&mut self.map, x, &mut other.map, self.alloc)
+        insert_from(&mut self.spans, x, &mut other.spans, self.alloc)
     }
 
     /// Puts in the offsets of a range that another set lacks. An empty or a reversed range changes nothing, and needs no
@@ -407,7 +372,7 @@ impl OffsetSet {
         ensures err { OnErr result (self.new ≡ self.old) }
         ensures lacking { OnErr result (x.start < x.end) }
     {
-        insert_lacking(&mut self.map, x, &other.map, self.alloc)
+        insert_lacking(&mut self.spans, x, &other.spans, self.alloc)
     }
 
     /// Takes out the offsets of a range, where none is below it. This needs no memory.
@@ -417,6 +382,6 @@ impl OffsetSet {
         ensures ok { Drops self.old self.new x.start x.end }
         ensures runs { AreRuns self.new }
     {
-        take_out(&mut self.map, x.start, x.end);
+        take_out(&mut self.spans, x.start, x.end);
     }
 }

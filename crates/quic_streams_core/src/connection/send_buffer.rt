@@ -64,7 +64,8 @@ fn offset_size(offset: u64) -> usize
 impl SendBuffer {
     /// Nothing is written.
     pub fn new(alloc: Global) -> Self
-        ensures { result ≡ nothing_written }
+        ensures value { result ≡ nothing_written }
+        ensures lawful { IsBuffered result }
     {
         SendBuffer {
             pieces: Pieces::new(alloc),
@@ -85,6 +86,7 @@ impl SendBuffer {
         ensures ok { OnOk result (self.new ≡ after_write self.old bytes.now) }
         ensures err { OnErr result (self.new ≡ self.old) }
         ensures lacking { OnErr result (0 < length bytes.now) }
+        ensures lawful { IsBuffered self.new }
     {
         self.pieces.push(bytes)
     }
@@ -99,28 +101,32 @@ impl SendBuffer {
 
     /// The first offset that was never sent.
     pub fn unsent(&self) -> u64
-        ensures { result ≡ self.now.unsent }
+        ensures value { result ≡ self.now.unsent }
+        ensures lawful { IsBuffered self.now }
     {
         self.unsent
     }
 
     /// How many bytes are kept: those of each piece until its last offset lies below the first that isn't acknowledged.
     pub fn buffered(&self) -> usize
-        ensures { result ≡ length self.now.kept }
+        ensures value { result ≡ length self.now.kept }
+        ensures lawful { IsBuffered self.now }
     {
         self.pieces.len()
     }
 
     /// Whether each byte that was written is acknowledged.
     pub fn is_fully_acked(&self) -> bool
-        ensures { result ≡ is_fully_acked self.now }
+        ensures value { result ≡ is_fully_acked self.now }
+        ensures lawful { IsBuffered self.now }
     {
         first_lacking_of(&self.acked) == self.offset()
     }
 
     /// Whether there are bytes to send: lost ones, or some that were never sent.
     pub fn has_unsent_data(&self) -> bool
-        ensures { result ≡ has_unsent self.now }
+        ensures value { result ≡ has_unsent self.now }
+        ensures lawful { IsBuffered self.now }
     {
         !self.lost.is_empty() || self.unsent < self.offset()
     }
@@ -135,6 +141,7 @@ impl SendBuffer {
         ensures ok { OnOk result (self.new ≡ after_ack self.old range.start range.end) }
         ensures err { OnErr result (self.new ≡ self.old) }
         ensures lacking { OnErr result (range.start < min range.end self.old.unsent) }
+        ensures lawful { IsBuffered self.new }
     {
         let sent = range.start..range.end.min(self.unsent);
         self.acked.insert_from(sent, &mut self.lost)?;
@@ -152,6 +159,7 @@ impl SendBuffer {
         ensures ok { OnOk result (self.new ≡ after_loss self.old range.start range.end) }
         ensures err { OnErr result (self.new ≡ self.old) }
         ensures lacking { OnErr result (range.start < min range.end self.old.unsent) }
+        ensures lawful { IsBuffered self.new }
     {
         let sent = range.start..range.end.min(self.unsent);
         self.lost.insert_lacking(sent, &self.acked)
@@ -192,6 +200,7 @@ impl SendBuffer {
         ensures ordered { result.0.start ≤ result.0.end }
         ensures bounded { result.0.end ≤ written self.old }
         ensures first_time { self.old.lost ≡ [] → self.new ≡ record self.old { unsent = sent_end self.old max_len } }
+        ensures lawful { IsBuffered self.new }
     {
         let next = self.next_range();
         let left = next.end - next.start;
@@ -208,7 +217,8 @@ impl SendBuffer {
     }
 
     /// The bytes at these offsets from the first on, up to the last or the end of the piece that the first was written in
-    /// (quinn-proto's `SendBuffer::get`).
+    /// (quinn-proto's `SendBuffer::get`). The range isn't reversed, begins at the first offset that is kept or behind it, and
+    /// ends at `offset()` at most. One that a poll gave is such a range until its first offset is acknowledged.
     pub fn get(&self, offsets: Range<u64>) -> &[u8]
         requires kept { self.now.base ≤ offsets.start }
         requires ordered { offsets.start ≤ offsets.end }
@@ -218,11 +228,13 @@ impl SendBuffer {
         ensures end { offsets.start + length result.now ≡ min offsets.end (piece_end self.now.base self.now.pieces offsets.start) }
         ensures within { offsets.start + length result.now ≤ offsets.end }
         ensures some { offsets.start < offsets.end → 0 < length result.now }
+        ensures lawful { IsBuffered self.now }
     {
         self.pieces.get(offsets)
     }
 
-    /// Appends the bytes at these offsets, for which there is room.
+    /// Appends the bytes at these offsets, for which there is room. The range is one that `get` takes: it isn't reversed, and
+    /// lies from the first offset that is kept up to `offset()`.
     pub fn put(&self, offsets: Range<u64>, out: &mut Vec<u8>)
         requires kept { self.now.base ≤ offsets.start }
         requires ordered { offsets.start ≤ offsets.end }
@@ -231,7 +243,9 @@ impl SendBuffer {
         ensures items { out.new.items ≡ out.old.items ++ slice_range self.now.kept (offsets.start - self.now.base) (offsets.end - self.now.base) }
         ensures len { vec_len out.new ≡ vec_len out.old + (offsets.end - offsets.start) }
         ensures capacity { vec_capacity out.old ≤ vec_capacity out.new }
+        ensures lawful { IsBuffered self.now }
     {
+        let _ = &self.pieces;
         let mut at = offsets.start;
         while at < offsets.end {
             let bytes = self.get(at..offsets.end);

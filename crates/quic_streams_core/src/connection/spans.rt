@@ -1,11 +1,11 @@
 // A set of offsets as its maximal runs: a map from the offset behind a run's last to its first. So
 // the run that holds an offset, and those that touch a new one, are found by one look-up each.
-ghost use Rattle.std.specs.Prelude.{◌≡◌, cond, ◌+◌, ◌<◌, ◌^◌, OnOk, OnErr};
+ghost use Rattle.std.specs.Prelude.{◌≡◌, ℕ, false, cond, ◌+◌, ◌<◌, ◌≤◌, ◌^◌, OnOk, OnErr};
 ghost use Rattle.std.specs.Option.{option_map};
 ghost use Rattle.std.specs.Map.{remove_entry};
 ghost use Rattle.std.specs.BTreeMap.{insert_entry, is_at};
 ghost use Rattle.std.specs.Ordering.{nat_cmp};
-ghost use Rattle.quic_streams_core.specs.Spans.{next_span, ends_of, is_spanned, spanned_at, free_at, first_from, end_from, with_span, with_run};
+ghost use Rattle.quic_streams_core.specs.Spans.{AreSpans, in_spans, next_span, ends_of, is_spanned, spanned_at, free_at, first_from, end_from, with_span, with_run};
 
 use std::alloc::AllocError;
 use std::collections::BTreeMap;
@@ -79,7 +79,10 @@ pub(super) fn remove(spans: &mut BTreeMap<u64, u64>, end: u64)
 
 // Puts in a run, joined with those that it touches.
 fn add_run(spans: &mut BTreeMap<u64, u64>, start: u64, end: u64) -> Result<(), AllocError>
-    requires { end < 2 ^ 62 }
+    requires some { start < end }
+    requires small { end < 2 ^ 62 }
+    requires spans { AreSpans 0 spans.old.entries }
+    requires free { (o : ℕ) → start ≤ o → o < end → in_spans spans.old.entries o ≡ false }
     ensures ok { OnOk result (spans.new.entries ≡ with_span start end spans.old.entries) }
     ensures err { OnErr result (spans.new.entries ≡ spans.old.entries) }
 {
@@ -96,8 +99,11 @@ fn add_run(spans: &mut BTreeMap<u64, u64>, start: u64, end: u64) -> Result<(), A
 ///
 /// [`AllocError`] where memory lacks; nothing changed.
 pub(super) fn add(spans: &mut BTreeMap<u64, u64>, at: u64, len: u64) -> Result<(), AllocError>
-    requires { at + len < 2 ^ 62 }
+    requires small { at + len < 2 ^ 62 }
+    requires spans { AreSpans 0 spans.old.entries }
+    requires free { (o : ℕ) → at ≤ o → o < at + len → in_spans spans.old.entries o ≡ false }
     ensures ok { OnOk result (spans.new.entries ≡ with_run at len spans.old.entries) }
+    ensures lacking { OnErr result (0 < len) }
     ensures err { OnErr result (spans.new.entries ≡ spans.old.entries) }
 {
     if len == 0 {

@@ -1,10 +1,10 @@
 // The parts of a stream that wait to be read.
-ghost use Rattle.std.specs.Prelude.{◌≡◌, cond, drop, ◌+◌, ◌<◌, ◌≤◌, ◌∷◌, ◌^◌, ◌⊎◌, length, [], take, true, false, None, IfOk, IsOk, OnOk, OnErr, is_some};
+ghost use Rattle.std.specs.Prelude.{◌≡◌, cond, drop, leb, ◌+◌, ◌*◌, ◌<◌, ◌≤◌, ◌∷◌, ◌^◌, ◌⊎◌, length, [], take, true, false, None, IfOk, IsOk, OnOk, OnErr, is_some};
 ghost use Rattle.std.specs.Option.{option_map};
 ghost use Rattle.std.specs.Map.{lookup, remove_entry};
 ghost use Rattle.std.specs.BTreeMap.{insert_entry, is_at};
 ghost use Rattle.std.specs.Ordering.{nat_cmp};
-ghost use Rattle.quic_streams_core.specs.Arrived.{AreApart, runs_of, byte_at, with_gaps, with_free, is_next, is_some_part, first_given, left_front, in_front, joined, settled, is_crowded, last_end, extent, are_short};
+ghost use Rattle.quic_streams_core.specs.Arrived.{AreApart, runs_of, byte_at, with_gaps, with_free, is_next, is_some_part, first_given, left_front, in_front, joined, settled, is_crowded, waiting_bytes};
 ghost use Rattle.quic_streams_core.specs.Spans.{AreSpans};
 ghost use Rattle.quic_streams_core.specs.PartSteps.{first_bytes, rest_of, front_of, cuts_front, after, span_of, is_held, held_at, gap_at, begins_at, Fits, undone, touching_at, from_after, HasGap, HasFree};
 
@@ -19,11 +19,10 @@ use std::marker::Model;
 // Parts that touch are joined only where there are more parts than this.
 const MOST_PARTS: usize = 2048;
 
-// Parts are short where there are at most so many offsets for each, from the first that waits to the last: so joining them
-// copies no more bytes for each.
+// Parts are short where they have at most so many bytes for each: so joining them copies no more for each.
 const SHORT_PART: usize = 64;
 
-/// Parts of a stream that do not overlap, in the order of their offsets, and the number of their runs.
+/// Parts of a stream that do not overlap, in the order of their offsets, and the numbers of their runs and of their bytes.
 #[derive(Drop)]
 pub(crate) struct Parts {
     // By the offset behind a part's last byte: so the part that holds an offset is found by one
@@ -31,6 +30,8 @@ pub(crate) struct Parts {
     map: BTreeMap<u64, Bytes>,
     // The number of runs, kept so that no insert has to count it.
     runs: usize,
+    // The number of bytes that wait, kept so that no insert has to count them.
+    bytes: u64,
     alloc: Global,
 }
 
@@ -211,7 +212,7 @@ fn remove_all(parts: &mut BTreeMap<u64, Bytes>, ends: &mut Vec<u64>)
     }
 }
 
-// Whether the first part begins at an offset.
+// As `Parts::starts_at`, of the map alone: `pop` asks this while the counts don't fit the map yet.
 fn starts_at(parts: &BTreeMap<u64, Bytes>, at: u64) -> bool
     ensures { result ≡ is_next parts.now.entries at }
 {
@@ -221,40 +222,18 @@ fn starts_at(parts: &BTreeMap<u64, Bytes>, at: u64) -> bool
     }
 }
 
-// Where the last part ends, or else 0.
-fn last_end(parts: &BTreeMap<u64, Bytes>) -> u64
-    ensures { result ≡ last_end 0 parts.now.entries }
+// Whether so many parts have few bytes for each.
+fn are_short(parts: usize, bytes: u64) -> bool
+    ensures { result ≡ leb bytes (SHORT_PART * parts) }
 {
-    match parts.last_key_value() {
-        Some((end, _)) => *end,
-        None => 0,
-    }
-}
-
-// How many offsets there are from the first that waits to the last.
-fn extent(parts: &BTreeMap<u64, Bytes>) -> u64
-    ensures { result ≡ extent parts.now.entries }
-{
-    match parts.first_key_value() {
-        Some((end, bytes)) => {
-            let start = end.saturating_sub(bytes.len() as u64);
-            last_end(parts).saturating_sub(start)
-        }
-        None => 0,
-    }
-}
-
-// Whether there are few offsets for each part.
-fn are_short(parts: &BTreeMap<u64, Bytes>) -> bool
-    requires { AreApart 0 parts.now.entries }
-    ensures { result ≡ are_short parts.now.entries }
-{
-    extent(parts) <= SHORT_PART.saturating_mul(parts.len()) as u64
+    bytes <= SHORT_PART.saturating_mul(parts) as u64
 }
 
 // At most `max` bytes from the beginning on.
 fn front(bytes: &Bytes, max: usize) -> Result<Bytes, AllocError>
-    ensures { IfOk result (λ front. front ≡ take max bytes.now) }
+    requires { 0 < length bytes.now }
+    ensures ok { IfOk result (λ front. front ≡ take max bytes.now) }
+    ensures asked { OnErr result (0 < max) }
 {
     if bytes.len() <= max {
         bytes.clone()
@@ -271,6 +250,7 @@ impl Parts {
         Parts {
             map: BTreeMap::new(alloc),
             runs: 0,
+            bytes: 0,
             alloc,
         }
     }
@@ -281,6 +261,13 @@ impl Parts {
         ensures apart { AreApart 0 self.now }
     {
         self.runs
+    }
+
+    // The number of bytes that wait.
+    fn waiting(&self) -> u64
+        ensures { result ≡ waiting_bytes self.now }
+    {
+        self.bytes
     }
 
     /// Whether the first part begins at an offset.
@@ -305,6 +292,7 @@ impl Parts {
         let part = Bytes::copy_from_slice(self.alloc, bytes)?;
         keep(&mut self.map, end, part)?;
         self.runs = self.runs + 1 - touching;
+        self.bytes += bytes.len() as u64;
         Ok(())
     }
 
@@ -393,14 +381,16 @@ impl Parts {
         Ok(())
     }
 
-    // Takes out parts again that were put in, so that `runs` runs are left.
-    fn take_back(&mut self, ends: &mut Vec<u64>, runs: usize)
+    // Takes out parts again that were put in, so that `runs` runs and `bytes` bytes are left.
+    fn take_back(&mut self, ends: &mut Vec<u64>, runs: usize, bytes: u64)
         requires apart { AreApart 0 (undone ends.old.items self.old) }
         requires counted { runs ≡ runs_of (undone ends.old.items self.old) }
+        requires bytes { bytes ≡ waiting_bytes (undone ends.old.items self.old) }
         ensures { self.new ≡ undone ends.old.items self.old }
     {
         remove_all(&mut self.map, ends);
         self.runs = runs;
+        self.bytes = bytes;
     }
 
     // Whether the parts have to be joined.
@@ -408,7 +398,7 @@ impl Parts {
         ensures { result ≡ is_crowded self.now }
     {
         let len = self.map.len();
-        len > MOST_PARTS && self.runs < len.saturating_sub(self.runs) && are_short(&self.map)
+        len > MOST_PARTS && self.runs < len.saturating_sub(self.runs) && are_short(len, self.bytes)
     }
 
     // Joins the parts that touch. All memory is taken before anything changes.
@@ -470,10 +460,11 @@ impl Parts {
         ensures lacking { OnErr result (HasFree given.now.entries self.old at (length bytes.now) ⊎ (is_crowded self.old ≡ true)) }
     {
         let runs = self.runs();
+        let waiting = self.waiting();
         let mut ends = Vec::new(self.alloc);
         let outcome = self.fill_and_settle(given, at, bytes, &mut ends);
         if outcome.is_err() {
-            self.take_back(&mut ends, runs);
+            self.take_back(&mut ends, runs, waiting);
         }
         outcome
     }
@@ -487,6 +478,7 @@ impl Parts {
         if !starts_at(&self.map, end) {
             self.runs -= 1;
         }
+        self.bytes -= bytes.len() as u64;
         Some(bytes)
     }
 
@@ -509,7 +501,11 @@ impl Parts {
             return Ok(self.pop());
         }
         match self.map.get_mut(&end) {
-            Some(bytes) => Ok(Some(bytes.split_to(max)?)),
+            Some(bytes) => {
+                let front = bytes.split_to(max)?;
+                self.bytes -= max as u64;
+                Ok(Some(front))
+            }
             None => Ok(None),
         }
     }
@@ -522,6 +518,7 @@ impl Parts {
     pub(crate) fn front(&self, max: usize) -> Result<Option<Chunk>, AllocError>
         ensures ok { IfOk result (λ chunk. chunk ≡ first_given self.now max) }
         ensures some { OnErr result (is_some_part self.now ≡ true) }
+        ensures asked { OnErr result (0 < max) }
     {
         match self.map.first_key_value() {
             Some((end, bytes)) => {
@@ -545,6 +542,7 @@ impl Parts {
             let _ = self.pop();
         } else if let Some(bytes) = self.map.get_mut(&end) {
             bytes.advance(max);
+            self.bytes -= max as u64;
         }
     }
 
@@ -561,5 +559,6 @@ impl Parts {
     {
         self.map.clear();
         self.runs = 0;
+        self.bytes = 0;
     }
 }

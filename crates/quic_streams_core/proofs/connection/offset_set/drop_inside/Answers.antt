@@ -14,5 +14,6 @@ loop-last-preserved c =
     record {
       loose = d.loose;
       cut = d.cut;
+      touch = λ o t. i.touch o (d.touch o t);
       out = λ o e. d.out o e ∙ i.out o e;
     }

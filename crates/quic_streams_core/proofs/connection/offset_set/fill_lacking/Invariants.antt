@@ -1,7 +1,7 @@
 use Rattle.std.proofs.Common.{◌≡◌, ◌≤◌, ◌-◌, ◌&&◌, ◌||◌, not, ℕ}
 use Rattle.quic_streams_core.specs.PartSteps.{undone}
 use Rattle.quic_streams_core.specs.Spans.{in_span, in_spans}
-use Rattle.quic_streams_core.specs.Loose.{AreLoose}
+use Rattle.quic_streams_core.specs.Loose.{AreLoose, TouchWithin}
 use Rattle.quic_streams_core.proofs.connection.offset_set.fill_lacking.Given as goal
 
 abbrev pub invariant-loop-at : goal.invariant-loop-at
@@ -10,6 +10,7 @@ invariant-loop-at l = record {
   within : l.at ≤ l.end;
   loose : AreLoose l.spans.entries;
   offsets : (o : ℕ) → in_spans l.spans.entries o ≡ (in_spans l.fn.spans.entries o || (in_span o (l.at, l.start) && not (in_spans l.others.entries o)));
+  touch : TouchWithin l.fn.spans.entries l.spans.entries l.start l.at;
   back : undone l.ends.items l.spans.entries ≡ undone l.fn.ends.items l.fn.spans.entries;
 }
 

@@ -5,4 +5,4 @@ use Rattle.quic_streams_core.proofs.connection.offset_set.insert_lacking.Goals a
 pub returns-clause-ok : goal.returns-clause-ok
 returns-clause-ok c =
     let a = c.args in
-    on_ok_weaker c.add_lacking.result (lacking_made a.x.start a.x.end a.spans.now.entries c.add_lacking.new.spans.entries a.others.now.entries c.requires.loose c.add_lacking.ensures.loose c.requires.others) c.add_lacking.ensures.ok
+    on_ok_weaker c.add_lacking.result (lacking_made a.x.start a.x.end a.spans.now.entries c.add_lacking.new.spans.entries a.others.now.entries) c.add_lacking.ensures.ok

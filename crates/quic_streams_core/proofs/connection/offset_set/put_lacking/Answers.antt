@@ -1,8 +1,8 @@
 use Rattle.quic_streams_core.proofs.OffsetSet.{Looked, counts, fits, put_has, skip_has}
 use Rattle.quic_streams_core.proofs.connection.offset_set.put_lacking.Goals as goal
 
-pub put_run-requires : goal.put_run-requires
-put_run-requires c =
+pub put_run-requires-clause-fits : goal.put_run-requires-clause-fits
+put_run-requires-clause-fits c =
     let a = c.args in
     let m : Looked a.at a.len a.others.now.entries a.spans.now.entries c.look-other.result.0 c.look-other.result.1 c.look-held.result.0 c.look-held.result.1 = record {
       others = c.requires.others;

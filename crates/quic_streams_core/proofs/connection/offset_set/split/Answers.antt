@@ -23,3 +23,10 @@ returns-in_ok-keep-clause-cut c =
     let g = next_is c.in-Some.start c.in-Some.end (next_span a.at a.spans.now.entries) c.in-Some.ensures in
     let k = cut_at a.at (c.in-Some.end, c.in-Some.start) a.spans.now.entries c.requires.loose g c.if-start-at.true in
     rw (c.set_start.ensures, c.in_ok-keep.ensures.ok) k.cut
+
+pub returns-in_ok-keep-clause-touch : goal.returns-in_ok-keep-clause-touch
+returns-in_ok-keep-clause-touch c =
+    let a = c.args in
+    let g = next_is c.in-Some.start c.in-Some.end (next_span a.at a.spans.now.entries) c.in-Some.ensures in
+    let k = cut_at a.at (c.in-Some.end, c.in-Some.start) a.spans.now.entries c.requires.loose g c.if-start-at.true in
+    rw (c.set_start.ensures, c.in_ok-keep.ensures.ok) k.touch

@@ -9,3 +9,8 @@ invariant_of-self c =
       lawful = rw c.clear.ensures (record { apart = low_small c.self.inside.read c.self.inside.parts h.apart; spans = h.spans; others = λ o e. refl; order = h.order });
       total = c.self.invariant.total;
     }
+
+pub returns-clause-lawful : goal.returns-clause-lawful
+returns-clause-lawful c =
+    let h = c.self.invariant.lawful in
+    rw c.clear.ensures (record { apart = low_small c.self.inside.read c.self.inside.parts h.apart; spans = h.spans; others = λ o e. refl; order = h.order })

@@ -46,3 +46,10 @@ returns-clause-lacking c =
     let a = c.args in
     let known = c.min-known.ensures ∙ ap (λ (n : ℕ). min n (length a.bytes.now)) c.saturating_sub.ensures in
     on_err_weaker c.insert.result (λ e. rw (← c.self.view_is) (brings_new i.read a.offset c.min-known.result i.unordered i.picked.entries i.parts a.bytes.now known e)) c.insert.ensures.lacking
+
+pub returns-clause-lawful : goal.returns-clause-lawful
+returns-clause-lawful c =
+    let i = c.self.inside in
+    let a = c.args in
+    let known = c.min-known.ensures ∙ ap (λ (n : ℕ). min n (length a.bytes.now)) c.saturating_sub.ensures in
+    insert_kept c.insert.result i.read a.offset c.min-known.result i.unordered i.picked.entries i.parts _ a.bytes.now known c.self.invariant.lawful c.requires c.insert.ensures.ok c.insert.ensures.err

@@ -1,14 +1,23 @@
-use Rattle.std.proofs.Common.{sym, ap, ◌∙◌, ℕ, arith}
+use Rattle.std.proofs.Common.{◌≡◌, ◌+◌, ◌<◌, ◌≤◌, ℕ, false, sym, ap, ◌∙◌, subst, arith}
 use Rattle.quic_streams_core.specs.Arrived.{Arrived}
-use Rattle.quic_streams_core.specs.Spans.{with_run}
-use Rattle.quic_streams_core.proofs.Kept.{chunk_small, pick_kept, pick_counted, total_small}
+use Rattle.quic_streams_core.specs.Spans.{in_spans, with_run}
+use Rattle.quic_streams_core.proofs.Kept.{chunk_small, chunk_clear, pick_kept, pick_counted, total_small}
+use Rattle.quic_streams_core.proofs.Spans.{lower}
 use Rattle.quic_streams_core.proofs.connection.assembler.Assembler.read_any.Goals as goal
 
 pub add-requires : goal.add-requires
 add-requires c =
-    let k = chunk_small c.self.inside.read c.args.max c.self.inside.parts c.in-Some.chunk c.self.invariant.lawful.apart (sym c.in-Some.is ∙ c.in_ok-chunk.ensures.ok) in
+    let i = c.self.inside in
+    let chunk = c.in-Some.chunk in
+    let h = c.self.invariant.lawful in
+    let e = sym c.in-Some.is ∙ c.in_ok-chunk.ensures.ok in
+    let k = chunk_small i.read c.args.max i.parts chunk h.apart e in
     let l = c.len-len.ensures.value in
-    omega arith
+    record {
+      small = omega arith;
+      spans = lower i.read 0 i.picked.entries h.spans (omega arith);
+      free = subst (λ (n : ℕ). (o : ℕ) → chunk.offset ≤ o → o < chunk.offset + n → in_spans i.picked.entries o ≡ false) (sym l) (chunk_clear i.read c.args.max i.unordered i.picked.entries i.parts chunk h e);
+    }
 
 pub overflow_add-self : goal.overflow_add-self
 overflow_add-self c =

@@ -29,3 +29,6 @@ returns-clause-ok c =
     } in
     let same = ack_made c.first_lacking_of.result c.release.new.self c.self.invariant made c.first_lacking_of.ensures c.release.ensures in
     same ∙ ap (λ (b : Buffered). after_ack b c.args.range.start c.args.range.end) c.self.view_is
+
+pub returns-clause-lawful : goal.returns-clause-lawful
+returns-clause-lawful c = subst IsBuffered (sym (returns-clause-ok c)) (ack_lawful c.args.self.now c.args.range.start c.args.range.end (subst IsBuffered c.self.view_is c.self.invariant))

@@ -1,7 +1,7 @@
 use Rattle.std.proofs.Common.{◌≡◌, ◌≤◌, ◌∙◌, refl, sym, ap, subst, rules, arith}
 use Rattle.quic_sets.specs.Runs.{Run}
-use Rattle.quic_streams_core.specs.Buffered.{written, after_poll}
-use Rattle.quic_streams_core.proofs.Buffered.{next_kept, next_ordered, next_bounded, start_small, first_time}
+use Rattle.quic_streams_core.specs.Buffered.{IsBuffered, written, after_poll}
+use Rattle.quic_streams_core.proofs.Buffered.{next_kept, next_ordered, next_bounded, start_small, first_time, poll_lawful}
 use Rattle.quic_streams_core.proofs.connection.send_buffer.SendBuffer.poll_transmit.Goals as goal
 
 pub offset_size-requires : goal.offset_size-requires
@@ -38,3 +38,8 @@ pub returns-clause-first_time : goal.returns-clause-first_time
 returns-clause-first_time c = λ none_lost.
     let made : c.mark_sent.new.self ≡ after_poll c.args.self.now c.args.max_len = search rules in
     made ∙ first_time c.args.self.now c.args.max_len none_lost
+
+pub returns-clause-lawful : goal.returns-clause-lawful
+returns-clause-lawful c =
+    let made : c.mark_sent.new.self ≡ after_poll c.args.self.now c.args.max_len = search rules in
+    subst IsBuffered (sym made) (poll_lawful c.args.self.now c.args.max_len c.next_range-next.ensures.lawful)

@@ -8,3 +8,8 @@ pub invariant_of-self : goal.invariant_of-self
 invariant_of-self c =
     let small = subst (λ (b : Buffered). written b + length c.args.bytes.now < 2 ^ 62) (sym c.self.view_is) c.requires in
     write_either c.push.result (the_view c.self.inside) c.args.bytes.now c.push.new.self c.self.invariant small c.push.ensures.ok c.push.ensures.err
+
+pub returns-clause-lawful : goal.returns-clause-lawful
+returns-clause-lawful c =
+    let small = subst (λ (b : Buffered). written b + length c.args.bytes.now < 2 ^ 62) (sym c.self.view_is) c.requires in
+    write_either c.push.result (the_view c.self.inside) c.args.bytes.now c.push.new.self c.self.invariant small c.push.ensures.ok c.push.ensures.err

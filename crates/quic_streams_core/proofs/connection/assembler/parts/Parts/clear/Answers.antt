@@ -5,4 +5,5 @@ pub invariant_of-self : goal.invariant_of-self
 invariant_of-self c = record {
   apart = rw c.clear.ensures.empty (lit< tt);
   counted = rw c.clear.ensures.empty refl;
+  bytes = rw c.clear.ensures.empty refl;
 }

@@ -1,5 +1,6 @@
 use Rattle.std.proofs.Common.{rules, arith}
 use Rattle.quic_streams_core.proofs.Filled.{put_apart, put_runs, runs_fit}
+use Rattle.quic_streams_core.proofs.WaitingBytes.{put_bytes, bytes_small}
 use Rattle.quic_streams_core.proofs.connection.assembler.parts.Parts.fill_gap.Goals as goal
 
 pub overflow_add-self : goal.overflow_add-self
@@ -8,6 +9,13 @@ overflow_add-self c =
     let e = c.self.invariant.counted in
     search (rules, arith, k, e)
 
+pub overflow_add-self-2 : goal.overflow_add-self-2
+overflow_add-self-2 c =
+    let k = bytes_small c.self.inside.map.entries c.self.invariant.apart in
+    let e = c.self.invariant.bytes in
+    let s = c.requires.small in
+    omega arith
+
 pub invariant_of-self-2 : goal.invariant_of-self-2
 invariant_of-self-2 c =
     let a = c.args in
@@ -15,6 +23,7 @@ invariant_of-self-2 c =
     record {
       apart = put_apart 0 a.at _ i.map.entries _ a.bytes.now _ c.self.view_is c.self.invariant.apart (omega arith) c.requires.some c.requires.small c.requires.fits c.in_ok-part.ensures c.in_ok-keep.ensures.ok;
       counted = put_runs 0 a.at i.runs _ a.joins _ i.map.entries _ a.bytes.now _ c.self.view_is c.self.invariant.apart (omega arith) c.requires.some c.requires.fits c.requires.joins c.self.invariant.counted c.touches-touching.ensures c.in_ok-part.ensures c.in_ok-keep.ensures.ok;
+      bytes = put_bytes a.at i.bytes _ i.map.entries _ a.bytes.now _ c.self.view_is c.self.invariant.apart c.requires.some c.requires.fits c.self.invariant.bytes c.in_ok-part.ensures c.in_ok-keep.ensures.ok;
     }
 
 pub returns-clause-apart : goal.returns-clause-apart

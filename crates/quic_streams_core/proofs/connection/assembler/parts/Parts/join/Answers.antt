@@ -1,5 +1,6 @@
 use Rattle.std.proofs.Common.{◌∙◌, sym}
 use Rattle.quic_streams_core.proofs.Joining.{joined_apart, joined_runs}
+use Rattle.quic_streams_core.proofs.WaitingBytes.{joined_bytes}
 use Rattle.quic_streams_core.proofs.connection.assembler.parts.Parts.join.Goals as goal
 
 pub invariant_of-self : goal.invariant_of-self
@@ -9,4 +10,5 @@ invariant_of-self c =
     record {
       apart = rw e (joined_apart 0 c.self.inside.map.entries i.apart);
       counted = rw e (i.counted ∙ sym (joined_runs 0 c.self.inside.map.entries i.apart));
+      bytes = rw e (i.bytes ∙ sym (joined_bytes c.self.inside.map.entries));
     }

@@ -1,4 +1,4 @@
-use Rattle.std.proofs.Common.{◌≡◌, ◌+◌, ◌-◌, ◌<◌, ◌≤◌, ap, sym, subst, ◌∙◌, arith, rules, length, min, take, drop, List, ℕ}
+use Rattle.std.proofs.Common.{◌≡◌, ◌+◌, ◌-◌, ◌<◌, ◌≤◌, ap, sym, subst, ◌∙◌, arith, length, min, take, drop, List, ℕ}
 use Rattle.std.specs.Prelude.{slice_range}
 use Rattle.quic_streams_core.specs.Arrived.{Part, start}
 use Rattle.quic_streams_core.specs.KeptBytes.{KeptBytes, bytes_of, lengths_of}
