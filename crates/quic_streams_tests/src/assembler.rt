@@ -1,3 +1,4 @@
+use super::spent::spend;
 use Step::{Begin, Count, Insert, Read, Wait};
 use quic_streams_core::{Assembler, Chunk, MOST_PIECES};
 use std::alloc::AllocError;
@@ -136,10 +137,7 @@ fn small_frames_in_order_are_one_run(rt: HostRuntime) -> Result<(), Fail> {
 // So many allocations are made before frames come in order, until some are joined. Where the program's allocation 6441 fails, an
 // earlier one of the assembler's does for each of these: among them all of that join.
 fn join_behind<R: Abort + AllocGlobal>(rt: &R, allocations: u64) -> Result<(), Fail> {
-    for _ in 0..allocations {
-        let mut other: Vec<u8> = Vec::new(rt.alloc());
-        let _ = other.reserve(1);
-    }
+    spend(rt, allocations);
     let mut assembler = Assembler::new(rt.alloc());
     insert_in_order(rt, &mut assembler, 7000)
 }
@@ -167,6 +165,66 @@ fn first_join_behind_four_allocations(rt: HostRuntime) -> Result<(), Fail> {
 #[test]
 fn first_join_behind_five_allocations(rt: HostRuntime) -> Result<(), Fail> {
     join_behind(&rt, 5)
+}
+
+// Fills the gaps up to an offset, and says with which byte. Where memory lacked it is another one, since the first bytes stand:
+// none may be of those that were put in before.
+fn fill_gaps(rt: &impl Abort, assembler: &mut Assembler) -> Result<u8, Fail> {
+    let before = seen(assembler);
+    if assembler.insert(0, &[b'x'; 29]).is_ok() {
+        return Ok(b'x');
+    }
+    assert_eq!(rt; seen(assembler), before);
+    assembler.insert(0, &[b'y'; 29])?;
+    Ok(b'y')
+}
+
+// Bytes fill 15 gaps among 14 parts: with the second of these a full node is split, which takes the allocations 49 and 50.
+#[test]
+fn a_node_is_full_at_an_insert(rt: HostRuntime) -> Result<(), Fail> {
+    let mut assembler = Assembler::new(rt.alloc());
+    for place in 0..14u64 {
+        make(&rt, &mut assembler, Insert(2 * place + 1, b"a"))?;
+    }
+    let byte = fill_gaps(&rt, &mut assembler)?;
+    for place in 0..14u64 {
+        make(&rt, &mut assembler, Read(9, 2 * place, &[byte]))?;
+        make(&rt, &mut assembler, Read(9, 2 * place + 1, b"a"))?;
+    }
+    make(&rt, &mut assembler, Read(9, 28, &[byte]))?;
+    make(&rt, &mut assembler, Count(29, 0))
+}
+
+// The byte that waits at an offset is read. Where memory lacks, it wasn't given: another may come in its place.
+fn read_or_bring(rt: &impl Abort, assembler: &mut Assembler, offset: u64) -> Result<(), Fail> {
+    let before = seen(assembler);
+    match assembler.read(9) {
+        Ok(chunk) => is_chunk(rt, chunk, offset, b"a"),
+        Err(_) => {
+            assert_eq!(rt; seen(assembler), before);
+            assembler.clear();
+            make(rt, assembler, Insert(offset, b"b"))?;
+            make(rt, assembler, Read(9, offset, b"b"))?;
+        }
+    }
+    Ok(())
+}
+
+// Each second byte is read out of order: with the 16th a full node is split, which takes the allocations 51 and 52. None comes again.
+#[test]
+fn a_node_is_full_at_a_read(rt: HostRuntime) -> Result<(), Fail> {
+    let mut assembler = Assembler::new(rt.alloc());
+    make(&rt, &mut assembler, Begin(false, true))?;
+    for place in 0..16u64 {
+        make(&rt, &mut assembler, Insert(2 * place, b"a"))?;
+        read_or_bring(&rt, &mut assembler, 2 * place)?;
+    }
+    make(&rt, &mut assembler, Insert(0, &[b'x'; 32]))?;
+    make(&rt, &mut assembler, Count(16, 16))?;
+    for place in 0..16u64 {
+        make(&rt, &mut assembler, Read(9, 2 * place + 1, b"x"))?;
+    }
+    make(&rt, &mut assembler, Count(32, 0))
 }
 
 // What waits is dropped, and may come again; what was read stays so.

@@ -8,4 +8,6 @@ mod bytes_source;
 #[cfg(test)]
 mod send_buffer;
 #[cfg(test)]
+mod spent;
+#[cfg(test)]
 mod stream_meta;

@@ -1,4 +1,5 @@
-use Step::{Ack, Keep, Lose, Send, Write};
+use super::spent::spend;
+use Step::{Ack, Keep, Lose, Send, Tell, Write};
 use quic_streams_core::SendBuffer;
 use std::alloc::AllocError;
 use std::process::Abort;
@@ -13,6 +14,8 @@ enum Step<'a> {
     Lose(u64, u64),
     // So many bytes are kept.
     Keep(usize),
+    // Whether each byte is acknowledged, and whether there are bytes to send.
+    Tell(bool, bool),
 }
 
 fn seen(buffer: &SendBuffer) -> (u64, u64, usize, bool, bool) {
@@ -37,6 +40,12 @@ fn take(rt: &impl Abort, buffer: &mut SendBuffer, step: Step) -> Result<(), Allo
         Ack(start, end) => buffer.ack(start..end)?,
         Lose(start, end) => buffer.retransmit(start..end)?,
         Keep(count) => assert_eq!(rt; buffer.buffered(), count),
+        Tell(acked, unsent) => {
+            assert_eq!(rt;
+                (buffer.is_fully_acked(), buffer.has_unsent_data()),
+                (acked, unsent)
+            );
+        }
     }
     Ok(())
 }
@@ -79,19 +88,25 @@ fn lost_bytes_go_again(rt: HostRuntime) -> Result<(), Fail> {
 #[test]
 fn whole_pieces_are_dropped(rt: HostRuntime) -> Result<(), Fail> {
     let steps = [
+        Tell(true, false),
         Write(b"Hello, "),
         Write(b"world..."),
         Send(0, 8, true),
+        Tell(false, true),
         Send(8, 15, true),
+        Tell(false, false),
         Ack(8, 12),
         Keep(15),
         Ack(0, 7),
         Keep(8),
         Ack(7, 14),
         Lose(0, 64),
+        Tell(false, true),
         Send(14, 15, true),
+        Tell(false, false),
         Ack(14, 64),
         Keep(0),
+        Tell(true, false),
     ];
     run(&rt, &steps)
 }
@@ -144,6 +159,79 @@ fn many_runs_come_to_be_one(rt: HostRuntime) -> Result<(), Fail> {
     make(&rt, &mut buffer, Keep(90))?;
     make(&rt, &mut buffer, Ack(0, 90))?;
     make(&rt, &mut buffer, Keep(0))
+}
+
+// These bytes are in flight, and of every two the second is acknowledged, until so many are. Before, so many allocations are made
+// that those with which the test's next call splits a node are among 49 to 52: ./test makes each of these fail.
+fn acked_apart<R: Abort + AllocGlobal>(
+    rt: &R,
+    allocations: u64,
+    bytes: &[u8],
+    acks: u64,
+) -> Result<SendBuffer, Fail> {
+    assert!(rt; acks < 50);
+    spend(rt, allocations);
+    let mut buffer = SendBuffer::new(rt.alloc());
+    make(rt, &mut buffer, Write(bytes))?;
+    assert_eq!(rt; buffer.poll_transmit(100), (0..bytes.len() as u64, true));
+    for place in 0..acks {
+        make(rt, &mut buffer, Ack(2 * place + 1, 2 * place + 2))?;
+    }
+    Ok(buffer)
+}
+
+// So many times the first byte of two goes, then what lies behind them up to `end`, and then nothing.
+fn go(rt: &impl Abort, buffer: &mut SendBuffer, count: u64, end: u64) {
+    assert!(rt; count < 50);
+    for place in 0..count {
+        assert_eq!(rt; buffer.poll_transmit(100), (2 * place..2 * place + 1, true));
+    }
+    assert_eq!(rt; buffer.poll_transmit(100), (2 * count..end, true));
+    assert!(rt; !buffer.has_unsent_data());
+}
+
+// The 16th run of those that are acknowledged is put into a full node. Where memory lacks for that, its byte goes again as one that
+// isn't acknowledged.
+#[test]
+fn a_node_is_full_at_an_ack(rt: HostRuntime) -> Result<(), Fail> {
+    let mut buffer = acked_apart(&rt, 29, &[b'x'; 33], 15)?;
+    if buffer.ack(31..32).is_err() {
+        make(&rt, &mut buffer, Lose(0, 33))?;
+        go(&rt, &mut buffer, 15, 33);
+        buffer.ack(31..32)?;
+    }
+    make(&rt, &mut buffer, Lose(0, 33))?;
+    go(&rt, &mut buffer, 16, 33);
+    Ok(())
+}
+
+// A loss brings 17 runs beside one that was lost before. Where memory lacks behind some of them, that one alone goes again.
+#[test]
+fn a_node_is_full_at_a_loss(rt: HostRuntime) -> Result<(), Fail> {
+    let mut buffer = acked_apart(&rt, 21, &[b'x'; 35], 17)?;
+    make(&rt, &mut buffer, Lose(2, 3))?;
+    if buffer.retransmit(0..35).is_err() {
+        assert_eq!(rt; buffer.poll_transmit(100), (2..3, true));
+        assert!(rt; !buffer.has_unsent_data());
+        buffer.retransmit(0..35)?;
+    }
+    go(&rt, &mut buffer, 17, 35);
+    Ok(())
+}
+
+// An acknowledgement cuts the last of 15 lost runs in two, in a full node. Where memory lacks, also behind the cut, that run goes
+// again as one.
+#[test]
+fn a_node_is_full_at_a_cut(rt: HostRuntime) -> Result<(), Fail> {
+    let mut buffer = acked_apart(&rt, 27, &[b'x'; 32], 14)?;
+    make(&rt, &mut buffer, Lose(0, 32))?;
+    if buffer.ack(29..30).is_err() {
+        go(&rt, &mut buffer, 14, 32);
+        make(&rt, &mut buffer, Lose(0, 32))?;
+        buffer.ack(29..30)?;
+    }
+    go(&rt, &mut buffer, 15, 32);
+    Ok(())
 }
 
 #[test]
