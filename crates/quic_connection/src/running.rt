@@ -70,8 +70,8 @@ pub struct Outcome<H, K, R> {
 }
 
 /// Makes the call of one event, and appends a datagram that it gives. The call answers want of memory only where it takes
-/// some. An error is want of memory of its own, with no call made and nothing changed: it takes some where it keeps a datagram
-/// that is given, the answers of a read, or a copy of what comes.
+/// some. An error is want of memory of its own, with no call made and nothing changed: it takes some at each poll, whether that gives a
+/// datagram or not, where it keeps the answers of a read, and where it copies what comes.
 pub fn step<H: HeaderKey + Drop, K: PacketKey + Drop, R: Rng + Drop>(
     alloc: Global,
     ends: &mut Ends<H, K, R>,

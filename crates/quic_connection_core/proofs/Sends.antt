@@ -373,7 +373,7 @@ asking_some e eight w = go e.waiting.ping w
         stream_some (frame_room e) (no_frames e) (first_pending e.sending.halves) (omega arith) (room_next e eight) w refl
 
 -- what waits is a frame at least
-composed_some : (e : End) → length e.ids.active.id ≡ 8 → waits e ≡ true → 0 < length (composed e).frames
+pub composed_some : (e : End) → length e.ids.active.id ≡ 8 → waits e ≡ true → 0 < length (composed e).frames
 composed_some e eight w = go (can_send e.acknowledging) w
   where
     late : (b : Bool) (d : Draft) → 0 < length d.frames → 0 < length (ack_if b d).frames

@@ -281,8 +281,8 @@ impl Receiving {
     /// `StreamsState::received`). A frame of a stream whose end was read changes nothing. `side` is this end's own.
     ///
     /// [`ReceivedError::Breach`] names the first rule that the frame breaks: a stream on which the peer may not send, too many
-    /// streams, an offset of 2^62 or more, a final size that can't be, too many bytes, and, once the frame was taken, more than
-    /// 2048 pieces that wait. [`ReceivedError::Memory`]: memory lacked, where no rule is broken before the frame is taken, and its
+    /// streams, bytes that end at 2^62 or behind it, a final size that can't be, too many bytes, and, once the frame was taken, more
+    /// than 2048 runs that wait. [`ReceivedError::Memory`]: memory lacked, where no rule is broken before the frame is taken, and its
     /// stream isn't read to its end.
     pub fn received(&mut self, side: Side, frame: &Stream<'_>) -> Result<(), ReceivedError>
         ensures answer { AnswersBreach result (stream_breach side self.old (stream_view frame.now)) }

@@ -34,7 +34,7 @@ impl Model for Recv {
     ghost invariant = { λ h. (h.end < 2 ^ 62) × (h.assembler.unordered ≡ false) };
 }
 
-// Whether a frame's last byte lies behind the greatest offset (RFC 9000, section 4.5: 2^62 - 1).
+// Whether a frame ends behind the greatest offset that a stream may have (RFC 9000, section 19.8: 2^62 - 1).
 pub(crate) fn is_too_far(frame: &Stream<'_>) -> bool
     ensures { result ≡ nat_le (2 ^ 62) (end_of (stream_view frame.now)) }
 {

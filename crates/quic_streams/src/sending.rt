@@ -305,8 +305,8 @@ impl Sending {
         }
     }
 
-    /// Appends the next STREAM frame of a stream (RFC 9000, section 19.8), with `max_len` bytes of room behind its type and id,
-    /// and takes it: what it carries. `None`, and nothing is appended, where there is no such stream.
+    /// Appends the next STREAM frame of a stream (RFC 9000, section 19.8), with `max_len` bytes of room, 16 at least, behind its
+    /// type and id, and takes it: what it carries. `None`, and nothing is appended, where there is no such stream.
     pub fn put_frame(
         &mut self,
         id: StreamId,
@@ -316,6 +316,7 @@ impl Sending {
         requires some { 16 ≤ max_len }
         requires room { vec_len out.old + (1 + width_of id) + max_len ≤ vec_capacity out.old }
         ensures items { IfSome (at self.old.halves id) (λ h. out.new.items ≡ out.old.items ++ stream_spelling (writes_length h.buffer max_len) (frame_of id h max_len)) }
+        ensures nothing { at self.old.halves id ≡ None → out.new.items ≡ out.old.items }
         ensures len { vec_len out.new ≤ vec_len out.old + (1 + width_of id) + max_len }
         ensures grows { vec_len out.old ≤ vec_len out.new }
         ensures capacity { vec_capacity out.old ≤ vec_capacity out.new }
