@@ -133,7 +133,8 @@ impl Model for TransportConfig {
 }
 
 impl TransportConfig {
-    /// How many bytes the peer may send on all streams before any is read (RFC 9000, section 4.1).
+    /// How many bytes the peer may send on all streams before any is read (RFC 9000, section 4.1). An end that never raises its
+    /// limits takes no more in all.
     pub fn receive_window(&mut self, value: VarInt) -> &mut Self
         ensures same_reference { result.ghost_name ≡ self.entry.ghost_name }
         ensures value { result.now ≡ record self.old { receive_window = value } }
@@ -142,7 +143,8 @@ impl TransportConfig {
         self
     }
 
-    /// How many bytes the peer may send on one stream before any is read (RFC 9000, section 4.1).
+    /// How many bytes the peer may send on one stream before any is read (RFC 9000, section 4.1). An end that never raises its
+    /// limits takes no more on it in all.
     pub fn stream_receive_window(&mut self, value: VarInt) -> &mut Self
         ensures same_reference { result.ghost_name ≡ self.entry.ghost_name }
         ensures value { result.now ≡ record self.old { stream_receive_window = value } }

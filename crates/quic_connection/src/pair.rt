@@ -27,7 +27,7 @@ pub struct Making<H, K, R> {
     pub config: Config,
     /// The first id of the end, of eight bytes.
     pub id: ConnectionId,
-    /// Its keys.
+    /// Its keys: what the `local` ones seal, the other end's `remote` ones open, and the other way round.
     pub keys: Keys<H, K>,
     /// Its random source.
     pub random: R,

@@ -322,10 +322,11 @@ fn view<H: HeaderKey + Drop, K: PacketKey + Drop, R: Rng + Drop>(ends: &Ends<H, 
 /// Makes each event's call in turn, once: one answer and one view for each, until memory lacks in the run itself.
 ///
 /// Where a client and a server were made for one another, with keys that are mates, and applications use their own
-/// streams (`IsHonest`), it holds at each place up to which no delivery, poll or timeout met want of memory: what is read of
-/// a stream is a prefix of what was written on it, no byte comes twice, the end comes only behind all, a stream is told to be
-/// finished only where the other end took all of it, an acknowledgement that came names only what the other end took, and
-/// packet numbers rise. Behind the last answer, where nothing is left to tell, each stream was told to be finished once if all of
+/// streams (`IsHonest`), it holds at each place up to which no delivery and no poll met want of memory: what is read of
+/// a stream is a prefix of what was written on it, each chunk at its offset, no byte comes twice, the end comes only behind all,
+/// a read is blocked only where the next byte stood in no packet that was taken, each stream that stood in one is there to be
+/// accepted, a stream is told to be finished only where the other end took all of it, an acknowledgement that came names only
+/// what the other end took, and packet numbers rise. Behind the last answer, where nothing is left to tell, each stream was told to be finished once if all of
 /// it is acknowledged, and never otherwise; all that was written waits to go, is under way, or arrived; and an open end waits for
 /// exactly the datagrams that are in flight. Where memory lacks too, and with any keys, an end that is open then has its loss timer
 /// set exactly where a datagram that asks is waited for, and its timer of acknowledgements only where a packet that asks came since

@@ -103,7 +103,7 @@ pub record IsHonest (r : Run) : Type 0 where
 abbrev pub IsPrefixOf : List ℕ → List ℕ → Type 0
 IsPrefixOf xs ys = (rest : List ℕ) × (xs ++ rest ≡ ys)
 
--- Each clause speaks of the end at `side`, and of a place before which no delivery, poll or timeout met want of memory.
+-- Each clause speaks of the end at `side`, and of a place before which no delivery and no poll met want of memory.
 
 -- the bytes read are a prefix of the bytes that the other end wrote
 abbrev pub OrderedPrefix : Run → Type 0

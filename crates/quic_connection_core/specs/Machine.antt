@@ -91,7 +91,7 @@ abbrev pub gives : Policy → End → Call → Answer → List (List ℕ)
 gives p e (calls.Poll now) (answers.Poll (Ok (Some transmit))) = option_to_list (polled p e now).datagram
 gives p e call a = []
 
--- a poll, a timeout or a delivery lacked memory: the end fails
+-- a poll or a delivery lacked memory, and the end fails; or a poll or a timeout came to an end that had failed
 abbrev pub fails : Answer → Bool
 fails (answers.Poll (Err failed)) = true
 fails (answers.Timeout (Err failed)) = true

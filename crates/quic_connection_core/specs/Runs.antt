@@ -79,7 +79,7 @@ told_at side state (event ∷ events) (a ∷ answers) (v ∷ views) = told_by si
 abbrev pub until : Run → Side → ℕ → List Told
 until r side i = told_at side (end_at side r.start).closing.state r.events (take i r.answers) r.views
 
--- among the first so many answers, no delivery, poll or timeout met want of memory
+-- among the first so many answers no delivery and no poll met want of memory; then no end has failed, and each timeout was served
 abbrev pub AreServed : Run → ℕ → Type 0
 AreServed r i = list_any fails (take i r.answers) ≡ false
 

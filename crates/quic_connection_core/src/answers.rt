@@ -9,24 +9,24 @@ use thiserror::Error;
 pub enum State {
     /// It sends and receives.
     Open,
-    /// It only repeats its close.
+    /// It only repeats its close. No call gives it yet: an end that closes is drained at once.
     Closing,
     /// It sends nothing more, and drops what comes.
     Drained,
-    /// It met want of memory where it could not say so, and is of no more use.
+    /// It met want of memory where a datagram was taken or given, and is of no more use.
     Failed,
 }
 
 /// Why an end is no longer open (quinn-proto's `ConnectionError`).
 #[derive(Debug, Drop)]
 pub enum LostReason {
-    /// The application closed it.
+    /// The application closed it. No call gives it yet.
     Application,
     /// More than 2048 separate pieces of a stream waited to be read.
     Pieces,
-    /// Nothing was heard for the idle timeout.
+    /// Nothing was heard for the idle timeout. No call gives it yet.
     Idle,
-    /// A limit of the key was reached.
+    /// A limit of the key was reached. No call gives it yet.
     KeyLimit,
     /// The packet numbers were used up.
     NumberLimit,
@@ -84,7 +84,7 @@ pub enum DropReason {
     KeyPhase,
     /// Its number came before, or is too old to tell (RFC 9000, section 12.3).
     Duplicate,
-    /// The end is closing.
+    /// The end is closing. No call gives it yet.
     Closing,
     /// The end is drained.
     Drained,
@@ -125,7 +125,7 @@ pub enum WriteError {
     /// A limit leaves no room, or the end isn't open.
     #[error("unable to accept further writes")]
     Blocked,
-    /// The peer asked that nothing more be sent, with this code (RFC 9000, section 3.5).
+    /// The peer asked that nothing more be sent, with this code (RFC 9000, section 3.5). No call gives it yet.
     #[error("stopped by peer")]
     Stopped(VarInt),
     /// There is no such stream, or it was finished or reset.
@@ -139,7 +139,7 @@ pub enum WriteError {
 /// Why a stream was not finished (quinn-proto's `FinishError`).
 #[derive(Clone, Copy, Debug, PartialEq, Eq, Error)]
 pub enum FinishError {
-    /// The peer asked that nothing more be sent, with this code (RFC 9000, section 3.5).
+    /// The peer asked that nothing more be sent, with this code (RFC 9000, section 3.5). No call gives it yet.
     #[error("stopped by peer")]
     Stopped(VarInt),
     /// There is no such stream, or it was finished or reset.
@@ -164,7 +164,7 @@ pub enum ReadError {
     /// The next byte hasn't arrived.
     #[error("blocked")]
     Blocked,
-    /// The peer reset the stream, with this code (RFC 9000, section 3.2).
+    /// The peer reset the stream, with this code (RFC 9000, section 3.2). No call gives it yet.
     #[error("reset by peer")]
     Reset(VarInt),
     /// Memory lacked; nothing has changed.

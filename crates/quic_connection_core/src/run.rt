@@ -24,31 +24,31 @@ pub struct RunEvent {
 /// What may come to an end.
 #[derive(Debug, Drop)]
 pub enum Call {
-    /// Opens a stream of this kind.
+    /// Opens a stream of this kind (`Streams::open`).
     Open(Dir),
-    /// Accepts a stream of this kind that the peer opened.
+    /// Accepts a stream of this kind that the peer opened (`Streams::accept`).
     Accept(Dir),
-    /// Writes on a stream.
+    /// Writes on a stream (`SendStream::write`).
     Write(StreamId, Bytes),
-    /// Finishes a stream.
+    /// Finishes a stream (`SendStream::finish`).
     Finish(StreamId),
-    /// Reads a stream in order: the bounds of each `next`, then `finalize` or a drop.
+    /// Reads a stream in order (`RecvStream::read`): the bounds of each `Chunks::next`, then `Chunks::finalize` or a drop.
     Read(ReadCall),
-    /// Asks for a PING.
+    /// Asks for a PING (`Connection::ping`).
     Ping,
-    /// Asks for a datagram at this moment.
+    /// Asks for a datagram at this moment (`Connection::poll_transmit`).
     Poll(Instant),
-    /// Lets timers expire that are set up to this moment.
+    /// Lets timers expire that are set up to this moment (`Connection::handle_timeout`).
     Timeout(Instant),
-    /// A datagram of the other end arrives.
+    /// A datagram of the other end arrives (`Connection::receive`).
     Deliver(Delivery),
-    /// Bytes arrive that the other end gave out or didn't.
+    /// Bytes arrive that the other end gave out or didn't (`Connection::receive`, unless `Connection::would_open`).
     Inject(Injection),
-    /// Asks what the application is to be told.
+    /// Asks what the application is to be told (`Connection::poll`).
     Event,
-    /// Asks when a timer expires.
+    /// Asks when a timer expires (`Connection::timer`).
     Timer(Timer),
-    /// Asks when the next timer expires.
+    /// Asks when the next timer expires (`Connection::poll_timeout`).
     NextTimeout,
 }
 
@@ -161,7 +161,7 @@ pub struct EndView {
     pub reason: Option<LostReason>,
     /// Whether the path to the peer is validated (RFC 9000, section 8).
     pub validated: bool,
-    /// The nine timers.
+    /// When each timer expires, if it is set, in the order of [`Timer`]'s variants.
     pub timers: [Option<Instant>; 9],
     /// The congestion window, in bytes.
     pub window: Option<u64>,

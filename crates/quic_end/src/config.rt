@@ -12,6 +12,10 @@ use std::alloc::{AllocError, Global};
 use std::marker::Model;
 
 /// The configuration of an end. Contracts see its settings.
+///
+/// At this stage an end acts on the windows for what it receives (which it never raises), on the send window and on the peer's
+/// counts of streams. It tells the peer of the other settings that have a transport parameter, and doesn't act on them yet:
+/// it has no idle timeout, takes no messages, and an ACK_FREQUENCY frame changes nothing.
 #[derive(Clone, Copy, Debug)]
 pub struct Config {
     transport: TransportConfig,

@@ -103,8 +103,10 @@ impl<H, K, R> Model for Connection<H, K, R> {
 
 impl<H: HeaderKey + Drop, K: PacketKey + Drop, R: Rng + Drop> Connection<H, K, R> {
     /// An end that was made at a moment: its limits are the peer's transport parameters, as the peer's
-    /// `Config::write_parameters` wrote them. Both ids were exchanged before. `validated` says whether the peer's address is
-    /// validated already (RFC 9000, section 8); `random` is the end's random source, which no call draws from yet.
+    /// `Config::write_parameters` wrote them. Both ids were exchanged before. What `keys.header.local` and `keys.packet.local`
+    /// seal, the peer's `remote` ones open, and the other way round. `validated` says whether the peer's address is
+    /// validated already (RFC 9000, section 8): `is_validated` tells it, and nothing is held back for want of it yet. `random` is
+    /// the end's random source, which no call draws from yet.
     ///
     /// The errors are tested in the order in which [`ConfigError`] lists them. Memory never lacks: none is taken.
     pub fn new(
@@ -165,7 +167,7 @@ impl<H: HeaderKey + Drop, K: PacketKey + Drop, R: Rng + Drop> Connection<H, K, R
         self.closing.state() == State::Drained
     }
 
-    /// Whether the end met want of memory where it could not say so.
+    /// Whether the end met want of memory where a datagram was taken or given.
     pub fn is_failed(&self) -> bool
         ensures { IsTrue result ↔ (self.now.end.closing.state ≡ states.Failed) }
     {
@@ -179,7 +181,7 @@ impl<H: HeaderKey + Drop, K: PacketKey + Drop, R: Rng + Drop> Connection<H, K, R
         self.validated
     }
 
-    /// Why the end isn't open: none at an open end, and at a failed one.
+    /// Why the end isn't open: what closed it, or none where nothing did. A failed end has no reason.
     pub fn lost(&self) -> Option<&LostReason>
         ensures { option_copied result ≡ self.now.end.closing.reason }
     {

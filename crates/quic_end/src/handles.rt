@@ -27,8 +27,8 @@ pub struct Streams<'a, H, K, R> {
 
 impl<'a, H: HeaderKey + Drop, K: PacketKey + Drop, R: Rng + Drop> Streams<'a, H, K, R> {
     /// Opens a stream of this kind: its id, or none where the end isn't open or may open no more of them
-    /// (RFC 9000, section 4.6). At this stage a client opens one two-way stream. An error is want of memory, and
-    /// nothing has changed.
+    /// (RFC 9000, section 4.6). At this stage a client opens one two-way stream, and a server none. An error is want of
+    /// memory, and nothing has changed.
     pub fn open(&mut self, dir: Dir) -> Result<Option<StreamId>, AllocError>
         ensures same_reference { self.new.connection.ghost_name ≡ self.old.connection.ghost_name }
         ensures answer { IfOk result (λ id. id ≡ open_answer dir self.old.connection.now.end) }
@@ -39,7 +39,8 @@ impl<'a, H: HeaderKey + Drop, K: PacketKey + Drop, R: Rng + Drop> Streams<'a, H,
         self.connection.open(dir)
     }
 
-    /// The first stream of this kind that the peer opened and that wasn't accepted, or none.
+    /// The first stream of this kind that the peer opened and that wasn't accepted, or none. At this stage an accepted
+    /// stream can be read alone: nothing can be written on it yet.
     pub fn accept(&mut self, dir: Dir) -> Option<StreamId>
         ensures same_reference { self.new.connection.ghost_name ≡ self.old.connection.ghost_name }
         ensures answer { result ≡ end_accepts dir self.old.connection.now.end }
@@ -65,7 +66,8 @@ impl<'a, H: HeaderKey + Drop, K: PacketKey + Drop, R: Rng + Drop> SendStream<'a,
     /// `ClosedStream`: there is no such stream, or it was finished. They are tested in this order: the end, the
     /// stream and whether all of it is acknowledged, the connection's room, the finish, the stream's room. `Memory`: bytes would be
     /// accepted, and memory lacked.
-    /// An error changes nothing.
+    /// An error changes nothing. Room in the send window comes back as the peer acknowledges, which no event tells; the
+    /// peer's limits on the stream and the connection aren't raised at this stage.
     pub fn write(&mut self, data: &[u8]) -> Result<usize, WriteError>
         ensures same_reference { self.new.connection.ghost_name ≡ self.old.connection.ghost_name }
         ensures same_stream { self.new.id ≡ self.old.id }
@@ -133,7 +135,8 @@ pub struct Chunks<'a, H, K, R> {
 impl<'a, H: HeaderKey + Drop, K: PacketKey + Drop, R: Rng + Drop> Chunks<'a, H, K, R> {
     /// The next bytes, at most so many, or none at the end of the stream and from then on.
     ///
-    /// `Blocked`: the next byte hasn't arrived. `Memory`: memory lacked. An error changes nothing.
+    /// `Blocked`: the next byte hasn't arrived; it may be there behind a `receive`. `Memory`: memory lacked. An error changes
+    /// nothing.
     pub fn next(&mut self, max_length: usize) -> Result<Option<Chunk>, ReadError>
         ensures same_reference { self.new.connection.ghost_name ≡ self.old.connection.ghost_name }
         ensures same_stream { self.new.id ≡ self.old.id }

@@ -202,7 +202,7 @@ impl Receiving {
         id.index() < self.opened_bi
     }
 
-    // Whether the peer may open a stream (RFC 9000, section 4.6).
+    // Whether a stream lies beyond those that the peer may open (RFC 9000, section 4.6).
     fn is_beyond_count(&self, id: StreamId) -> bool
         ensures { result ≡ nat_le self.now.count_bi (index_of id) }
     {

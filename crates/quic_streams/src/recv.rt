@@ -130,7 +130,7 @@ impl Recv {
         self.assembler.read(max)
     }
 
-    // Reads on; only want of memory changes nothing and answers nothing.
+    // Reads on. An error, and an answer without bytes, change nothing.
     pub(crate) fn next(&mut self, max: usize) -> Result<Option<Chunk>, ReadError>
         ensures answer { result ≢ Err read_errors.Memory → result ≡ next_chunk (given self.old.arrived.parts self.old.arrived.read max) self.old }
         ensures new { self.new ≡ half_after_next result self.old max }

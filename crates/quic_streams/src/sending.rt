@@ -87,7 +87,7 @@ fn taken_by(half: &Send, room: u64, len: usize) -> Result<usize, WriteError>
 }
 
 // The first stream with something to send. This looks at each stream before it: at this stage an
-// end has one at most, and where it has many, those that wait stand in a queue of their own.
+// end has one at most.
 fn first_pending(halves: &BTreeMap<u64, Send>) -> Option<u64>
     ensures { result ≡ first_pending halves.now.entries }
 {

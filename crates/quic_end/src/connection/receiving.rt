@@ -81,7 +81,7 @@ fn drop_reason(error: HeaderError) -> DropReason
 impl<H: HeaderKey + Drop, K: PacketKey + Drop, R: Rng + Drop> Connection<H, K, R> {
     /// Takes a datagram that came at this moment with this mark, opening it in place (RFC 9000, sections 5.2 and 12).
     ///
-    /// A datagram that is dropped changes nothing but, where its packet opened, the numbers that count as duplicates.
+    /// A datagram that is dropped changes nothing, but that the new number of one that a closing end opened counts as seen.
     /// Where it breaks a rule, the end closes; the frames before keep their effect, and its number isn't taken.
     /// Where memory lacks, the end fails for good. Its number is to be acknowledged once all its frames were taken. Marks
     /// are not read yet. The datagram's bytes may be changed; to what isn't said.
