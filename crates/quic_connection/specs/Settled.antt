@@ -15,7 +15,7 @@ use Rattle.quic_connection_core.specs.Machine.{World, Policies, IsStep, given_by
 
 -- ---- ends and timers
 
--- An end is open, has nothing to send at any moment before it hears something, and waits for no moment of its own.
+-- An end is open, has nothing to send at any moment before it hears something, and waits for no moment of loss, of acknowledgements or of pacing.
 pub record IsAtRest (e : End) : Type 0 where
   pub is_open : e.closing.state ≡ states.Open
   pub silent : IsSilent e

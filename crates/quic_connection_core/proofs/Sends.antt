@@ -107,8 +107,8 @@ width_few n = go (nat_lt (2 * n) 256) (nat_lt (2 * n) 65536) (nat_lt (2 * n) 167
     go false false false = omega arith
 
 -- how many bytes a datagram has for frames at least
-room_most : (e : End) → length e.ids.active.id ≡ 8 → 1171 ≤ frame_room e
-room_most e eight =
+room_most : (e : End) → length e.ids.active.id ≤ 20 → 1159 ≤ frame_room e
+room_most e short =
     let width = width_few (e.numbers.next - cut_against e.numbers) in
     omega arith
 
@@ -174,7 +174,7 @@ opens_fills told d o =
 -- behind frames that do there are none
 full_fills : (told : List Told) (d : Draft) → length d.end.ids.active.id ≡ 8 → Full told d → Fills told d
 full_fills told d eight f =
-    let room = room_most d.end eight in
+    let room = room_most d.end (omega arith) in
     let full = f.full in
     let none : 4 - ((truncated d.end.numbers.next (cut_against d.end.numbers)).width + length d.bytes) ≡ 0 = omega arith in
     record { says = f.says; spells = rw (none, append-nil d.frames, append-nil d.bytes) f.spells }
@@ -356,25 +356,25 @@ stream_some (suc n) d (Some id) some next there first =
     half (Some h) there = some_more d.frames (stream (frame_of id h (stream_room d id)))
 
 -- a datagram without frames has room
-room_next : (e : End) → length e.ids.active.id ≡ 8 → next_stream (no_frames e) ≡ first_pending e.sending.halves
-room_next e eight =
-    let room = room_most e eight in
+room_next : (e : End) → length e.ids.active.id ≤ 20 → next_stream (no_frames e) ≡ first_pending e.sending.halves
+room_next e short =
+    let room = room_most e short in
     let fits : nat_le least_stream_room (frame_room e - 0) ≡ true = le-leb least_stream_room (frame_room e - 0) (omega arith) in
     rw fits refl
 
 -- what asks is a frame at least
-asking_some : (e : End) → length e.ids.active.id ≡ 8 → (e.waiting.ping || is_some (first_pending e.sending.halves)) ≡ true → 0 < length (with_asking (no_frames e)).frames
-asking_some e eight w = go e.waiting.ping w
+asking_some : (e : End) → length e.ids.active.id ≤ 20 → (e.waiting.ping || is_some (first_pending e.sending.halves)) ≡ true → 0 < length (with_asking (no_frames e)).frames
+asking_some e short w = go e.waiting.ping w
   where
     go : (b : Bool) → (b || is_some (first_pending e.sending.halves)) ≡ true → 0 < length (with_stream_frames (ping_if b (no_frames e))).frames
     go true w = frames_only_add (frame_room (ping_if true (no_frames e)).end) (ping_if true (no_frames e)) (some_more [] ping)
     go false w =
-        let room = room_most e eight in
-        stream_some (frame_room e) (no_frames e) (first_pending e.sending.halves) (omega arith) (room_next e eight) w refl
+        let room = room_most e short in
+        stream_some (frame_room e) (no_frames e) (first_pending e.sending.halves) (omega arith) (room_next e short) w refl
 
 -- what waits is a frame at least
-pub composed_some : (e : End) → length e.ids.active.id ≡ 8 → waits e ≡ true → 0 < length (composed e).frames
-composed_some e eight w = go (can_send e.acknowledging) w
+pub composed_some : (e : End) → length e.ids.active.id ≤ 20 → waits e ≡ true → 0 < length (composed e).frames
+composed_some e short w = go (can_send e.acknowledging) w
   where
     late : (b : Bool) (d : Draft) → 0 < length d.frames → 0 < length (ack_if b d).frames
     late true d some = some_more d.frames (ack (ack_of d.end))
@@ -382,7 +382,7 @@ composed_some e eight w = go (can_send e.acknowledging) w
 
     go : (b : Bool) → (b || (e.waiting.ping || is_some (first_pending e.sending.halves))) ≡ true → 0 < length (composed_if b e).frames
     go true w = asking_keeps (with_ack (no_frames e)) (omega arith)
-    go false w = let asking = with_asking (no_frames e) in late (ack_fits asking) asking (asking_some e eight w)
+    go false w = let asking = with_asking (no_frames e) in late (ack_fits asking) asking (asking_some e short w)
 
 -- what waits goes in a datagram of its number
 pub datagram_given : (side : Side) (p : Policy) (e : End) (told : List Told) → length e.ids.active.id ≡ 8 → can_number e.numbers ≡ true → waits e ≡ true → Acks e.acknowledging
@@ -391,7 +391,7 @@ datagram_given side p e told eight may waiting acks streams =
     let c = composes e in
     let d : Draft = composed e in
     let fills = composed_fills side told e eight acks streams in
-    let some = composed_some e eight waiting in
+    let some = composed_some e (omega arith) waiting in
     let count : ℕ = 4 - ((truncated d.end.numbers.next (cut_against d.end.numbers)).width + length d.bytes) in
     let long = length-append d.frames (replicate count padding) in
     let four = padded_four (truncated d.end.numbers.next (cut_against d.end.numbers)).width d.bytes in

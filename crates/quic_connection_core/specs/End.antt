@@ -145,7 +145,8 @@ with_receiving e r = record e { receiving = r }
 abbrev pub with_ping : End → Bool → End
 with_ping e waits = record e { waiting = record e.waiting { ping = waits } }
 
--- an end that met want of memory where it can't say so: it is failed for good, and nothing else is said of it
+-- an end that met want of memory where a datagram was taken or given: it is failed for good, for no reason, and
+-- keeps its keys and its random source. What else stands in it isn't said
 pub record HasFailed {H K R : Type 0} (old new : Whole H K R) : Type 0 where
   pub state : new.end.closing.state ≡ states.Failed
   pub reason : new.end.closing.reason ≡ None

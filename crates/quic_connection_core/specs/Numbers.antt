@@ -18,7 +18,7 @@ pub record Numbers : Type 0 where
 abbrev pub no_numbers : Numbers
 no_numbers = record { next = 0; acknowledged = None; opened = []; taken = None }
 
--- the number that a packet is expected to have: one above the greatest taken (RFC 9000, A.3)
+-- one above the greatest of some numbers, if there is one
 abbrev pub after_greatest : Option ℕ → ℕ
 after_greatest None = 0
 after_greatest (Some n) = n + 1

@@ -1,4 +1,4 @@
--- The parts of an end that this stage leaves empty: each has its place, so that what comes adds fields and moves none.
+-- Parts of an end of which this stage uses little: each has its place, so that what comes adds fields and moves none.
 use Rattle.std.specs.Prelude.{ℕ, Bool, false, List, []}
 use Rattle.quic_wire.specs.Value.{FrameValue}
 

@@ -1,13 +1,12 @@
 //! The definitions computed on an acknowledgement: the server takes `hello`, and acknowledges it. Each function does
 //! nothing: its contract is the law.
-ghost use Rattle.std.specs.Prelude.{◌≡◌, ◌-◌, ◌^◌, ◌∷◌, ◌++◌, [], true, false, length, Some, None, Ok};
+ghost use Rattle.std.specs.Prelude.{◌≡◌, ◌-◌, ◌^◌, ◌∷◌, ◌++◌, [], true, false, Some, None, Ok};
 ghost use Rattle.quic_wire_core.specs.TransportError.{plain_error};
 ghost use Rattle.quic_wire_core.specs.declared.shared.EcnCodepoint.TheVariants.{Ect0};
-ghost use Rattle.quic_wire.specs.Value.{ack, ping};
 ghost use Rattle.quic_time.specs.Timers.{timer_at, next_timer};
 ghost use Rattle.quic_time.specs.declared.timer.Timer.TheVariants.{MaxAckDelay, LossDetection};
 ghost use Rattle.quic_connection_core.specs.declared.answers.Event.TheVariants as events;
-ghost use Rattle.quic_connection_core.specs.declared.answers.LostReason.TheVariants.{NumberLimit, Transport};
+ghost use Rattle.quic_connection_core.specs.declared.answers.LostReason.TheVariants.{NumberLimit};
 ghost use Rattle.quic_connection_core.specs.declared.answers.Received.TheVariants as receives;
 ghost use Rattle.quic_connection_core.specs.declared.answers.DropReason.TheVariants as drops;
 ghost use Rattle.quic_connection_core.specs.declared.run.Answer.TheVariants as answers;
@@ -21,7 +20,7 @@ ghost use Rattle.quic_connection_core.specs.Opens.{would_open};
 ghost use Rattle.quic_connection_core.specs.Poll.{polled, composed};
 ghost use Rattle.quic_connection_core.specs.Receive.{received};
 ghost use Rattle.quic_connection_core.specs.Timeouts.{timed_out};
-ghost use Rattle.quic_connection_core.specs.Worked.{worked_policies, client_made, client_ended, client_sent, server_made, server_took, server_read, hello_payload, hello_datagram};
+ghost use Rattle.quic_connection_core.specs.Worked.{worked_policies, client_made, client_sent, server_made, server_took, server_read, hello_payload, hello_datagram};
 ghost use Rattle.quic_connection_core.specs.Acknowledged.{at_clock, lost_for, server_due, server_acked, ack_payload, ack_and_ping, ping_and_ack, ack_of_unsent, from_server, client_datagram, client_acked, client_pinged, ack_of_third, client_lost, client_mixed, two_ranges, client_timed_out};
 
 /// A packet that asks is acknowledged after 25 ms: nothing is given before the timer expires, and then an ACK frame alone.

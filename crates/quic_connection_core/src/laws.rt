@@ -20,9 +20,9 @@ pub fn each_answer_has_a_view()
     ensures events { (k : Policies) (w end : World) (events : List RunEvent) (told : List Answer) (views : List View) → Follows k w events told views end → length told ≤ length events }
 {}
 
-/// A datagram that is given has a frame (RFC 9000, section 12.4), with an id of the peer's of eight bytes.
+/// A datagram that is given has a frame (RFC 9000, section 12.4), with any id of the peer's, which has 20 bytes at most.
 pub fn datagrams_have_a_frame()
-    ensures { (e : End) → length e.ids.active.id ≡ 8 → waits e ≡ true → 0 < length (composed e).frames }
+    ensures { (e : End) → length e.ids.active.id ≤ 20 → waits e ≡ true → 0 < length (composed e).frames }
 {}
 
 /// Behind what asks for an acknowledgement no stream has something to send that the datagram has room for: frames of streams go

@@ -144,6 +144,7 @@ pub fn broken_rules_are_found()
     ensures above_all { at_server server_made (from_client 0 (0x0c ∷ 0x00 ∷ 0xff ∷ 0xff ∷ 0xff ∷ 0xff ∷ 0xff ∷ 0xff ∷ 0xff ∷ 0xff ∷ 0x61 ∷ [])) ≡ Closed (plain_error 3) }
     ensures behind_end { at_server server_took (from_client 1 (0x0c ∷ 0x00 ∷ 0x05 ∷ 0x61 ∷ [])) ≡ Closed (plain_error 6) }
     ensures other_end { at_server server_took (from_client 1 (0x09 ∷ 0x00 ∷ 0x61 ∷ [])) ≡ Closed (plain_error 6) }
+    ensures beyond_count { at_server (record server_made { receiving = record server_made.receiving { count_bi = 0 } }) hello_datagram ≡ Closed (plain_error 4) }
     ensures none { at_server server_made (from_client 0 (0x40 ∷ 0x00 ∷ 0x01 ∷ [])) ≡ Taken }
 {}
 
@@ -152,6 +153,7 @@ pub fn broken_rules_are_found()
 pub fn calls_are_bounded()
     ensures second_open { open_answer Bi client_opened ≡ None }
     ensures one_way { open_answer Uni client_made ≡ None }
+    ensures no_count { open_answer Bi (record client_made { sending = record client_made.sending { count_bi = 0 } }) ≡ None }
     ensures server_open { open_answer Bi server_made ≡ None }
     ensures not_opened { end_writes client_made 0 5 ≡ Err write_errors.ClosedStream }
     ensures ended { end_writes client_ended 0 5 ≡ Err write_errors.ClosedStream }
@@ -167,6 +169,7 @@ pub fn calls_are_bounded()
     ensures a_part { end_next server_took 0 2 ≡ Ok (Some (record { offset = 0; bytes = 0x68 ∷ 0x65 ∷ [] })) }
     ensures nothing_to_give { (polled worked_policies.client client_sent 0).answer ≡ Ok None }
     ensures numbers_used { (polled worked_policies.client (record client_ended { numbers = record client_made.numbers { next = 2 ^ 31 - 16 } }) 0).end.closing ≡ record { clock = 0; state = states.Drained; reason = Some NumberLimit; told = false } }
+    ensures no_number_left { (polled worked_policies.client (record client_ended { numbers = record client_made.numbers { next = 2 ^ 31 - 16 } }) 0).answer ≡ Ok None }
     ensures last_number { (polled worked_policies.client (record client_ended { numbers = record client_made.numbers { next = 2 ^ 31 - 17 } }) 0).answer ≡ Ok (Some (record { size = 37; ecn = Some Ect0 })) }
     ensures bad_parameters { refusal_of (parameters_at (0x04 ∷ 0x01 ∷ [])) client_id server_id ≡ Some Parameters }
     ensures short_id { refusal_of (parameters_at worked_parameters) (take 7 client_id) server_id ≡ Some IdLength }

@@ -1,5 +1,5 @@
 //! One end of a connection (RFC 9000).
-ghost use Rattle.std.specs.Prelude.{◌≡◌, ◌≢◌, ◌+◌, ◌≤◌, ◌<◌, ◌^◌, ◌++◌, ◌↔◌, length, Ok, Err, Some, None, IfOk, OnOk, OnErr, IfErr, IsTrue, option_copied, if◌then◌else◌, true, false, IfSome, IsSome, MatchResult};
+ghost use Rattle.std.specs.Prelude.{◌≡◌, ◌≢◌, ◌+◌, ◌<◌, ◌^◌, ◌↔◌, length, Ok, Err, Some, None, IfOk, OnOk, OnErr, IfErr, IsTrue, option_copied, if◌then◌else◌, true, false, IfSome, IsSome, MatchResult};
 ghost use Rattle.quic_parameters.specs.ParametersRead.{parameters_at};
 ghost use Rattle.quic_connection_core.specs.declared.answers.State.TheVariants as states;
 ghost use Rattle.quic_connection_core.specs.End.{MadeFrom, refusal_of, with_end, with_closing, closed_by, with_numbers, with_ping, HasFailed};
@@ -22,7 +22,7 @@ mod acknowledging;
 mod closing;
 mod ids;
 mod numbers;
-pub(crate) mod receiving;
+mod receiving;
 mod sending;
 mod timeouts;
 mod tracking;
@@ -197,14 +197,14 @@ impl<H: HeaderKey + Drop, K: PacketKey + Drop, R: Rng + Drop> Connection<H, K, R
     }
 
     /// Takes a moment over.
-    pub(crate) fn tick(&mut self, now: Instant)
+    fn tick(&mut self, now: Instant)
         ensures { self.new ≡ with_end self.old (with_closing self.old.end (ticked self.old.end.closing now)) }
     {
         self.closing.tick(now);
     }
 
     /// A packet of this number opened: whether it came before, which changes nothing.
-    pub(crate) fn open_number(&mut self, number: u64) -> bool
+    fn open_number(&mut self, number: u64) -> bool
         requires { number < 2 ^ 62 }
         ensures answer { result ≡ is_duplicate self.old.end.numbers.opened number }
         ensures next { self.new ≡ with_end self.old (with_numbers self.old.end (if is_duplicate self.old.end.numbers.opened number then self.old.end.numbers else number_opened self.old.end.numbers number)) }
@@ -214,7 +214,7 @@ impl<H: HeaderKey + Drop, K: PacketKey + Drop, R: Rng + Drop> Connection<H, K, R
 
     /// The whole payload of a packet of this number was taken, which asks for an acknowledgement or doesn't: its number is to
     /// be acknowledged. An error is want of memory, and nothing has changed.
-    pub(crate) fn take_number(&mut self, number: u64, asks: bool) -> Result<(), AllocError>
+    fn take_number(&mut self, number: u64, asks: bool) -> Result<(), AllocError>
         requires { number < 2 ^ 62 }
         ensures ok { OnOk result (self.new ≡ with_end self.old (after_taken number asks self.old.end)) }
         ensures err { OnErr result (self.new ≡ self.old) }
@@ -360,7 +360,7 @@ impl<H: HeaderKey + Drop, K: PacketKey + Drop, R: Rng + Drop> Connection<H, K, R
     }
 
     /// Closes for a reason: no timer is set any more.
-    pub(crate) fn close_by(&mut self, reason: LostReason)
+    fn close_by(&mut self, reason: LostReason)
         ensures { self.new ≡ with_end self.old (closed_by reason self.old.end) }
     {
         self.closing.close(reason);
@@ -368,7 +368,7 @@ impl<H: HeaderKey + Drop, K: PacketKey + Drop, R: Rng + Drop> Connection<H, K, R
     }
 
     /// Fails for good: no timer is set any more.
-    pub(crate) fn fail(&mut self)
+    fn fail(&mut self)
         ensures failed { HasFailed self.old self.new }
         ensures stopped { self.new.end.timers ≡ no_timers }
     {
@@ -384,21 +384,21 @@ impl<H: HeaderKey + Drop, K: PacketKey + Drop, R: Rng + Drop> Connection<H, K, R
     }
 
     /// Whether an ordinary datagram may still be numbered.
-    pub(crate) fn can_number(&self) -> bool
+    fn can_number(&self) -> bool
         ensures { result ≡ can_number self.now.end.numbers }
     {
         self.numbers.can_number()
     }
 
     /// Whether anything waits to be sent.
-    pub(crate) fn has_waiting(&self) -> bool
+    fn has_waiting(&self) -> bool
         ensures { result ≡ waits self.now.end }
     {
         self.acknowledging.is_due() || self.ping_pending || self.pending().is_some()
     }
 
     /// A PING that waits is taken: whether one did.
-    pub(crate) fn take_ping(&mut self) -> bool
+    fn take_ping(&mut self) -> bool
         ensures waited { result ≡ self.old.end.waiting.ping }
         ensures end { self.new ≡ with_end self.old (with_ping self.old.end false) }
     {
@@ -408,7 +408,7 @@ impl<H: HeaderKey + Drop, K: PacketKey + Drop, R: Rng + Drop> Connection<H, K, R
     }
 
     /// The first stream with something to send.
-    pub(crate) fn pending(&self) -> Option<StreamId>
+    fn pending(&self) -> Option<StreamId>
         ensures id { result ≡ first_pending self.now.end.sending.halves }
         ensures half { IfSome result (λ id. IsSome (at self.now.end.sending.halves id)) }
     {

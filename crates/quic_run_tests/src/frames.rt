@@ -45,7 +45,7 @@ fn new_end(alloc: Global, side: Side) -> Result<End, ConfigError> {
     )
 }
 
-/// What an end answers to a payload: none where it is taken, else the code that it closes with.
+/// What an end answers to a payload: none where it is taken, else the code and the reason that it closes with.
 fn answered<R: Abort + AllocGlobal>(
     rt: &R,
     side: Side,

@@ -81,6 +81,7 @@ impl Send {
         ensures err { OnErr result (self.new ≡ self.old) }
         ensures lacking { OnErr result (0 < length bytes.now) }
     {
+        // The proof reads that both are below 2^62.
         let _bounds = (self.pending.offset(), self.max_data.into_inner());
         self.pending.write(bytes)
     }
@@ -146,6 +147,7 @@ impl Send {
         ensures within { HasFrame self.old max_len }
         ensures new { self.new ≡ half_after self.old max_len }
     {
+        // The proof reads that it is below 2^62.
         let _written = self.pending.offset();
         let (offsets, has_length) = self.pending.poll_transmit(max_len);
         let fin = self.finished && offsets.end == self.pending.offset();

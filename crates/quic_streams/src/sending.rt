@@ -282,7 +282,7 @@ impl Sending {
     }
 
     /// Finishes a stream: its end has to go behind its bytes (quinn-proto's `SendStream::finish`).
-    /// [`FinishError::ClosedStream`] where there is none, or it is finished.
+    /// [`FinishError::ClosedStream`] where there is none, or it is finished; an error changes nothing.
     pub fn finish(&mut self, id: StreamId) -> Result<(), FinishError>
         ensures answer { result ≡ finish_answer self.old id }
         ensures new { self.new ≡ after_finish self.old id }

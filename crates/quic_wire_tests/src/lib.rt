@@ -1,4 +1,4 @@
-//! Tests of `quic_wire_core` and `quic_wire`, through their public items: values from outside, texts that no clause says,
+//! Tests of `quic_wire` and the four crates below it, through their public items: values from outside, texts that no clause says,
 //! and each call that takes memory where memory lacks (`lacking`).
 #![tactic(auto)]
 

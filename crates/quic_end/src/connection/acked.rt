@@ -1,10 +1,10 @@
 //! What an ACK frame makes of an end: packets are acknowledged, and others lost (RFC 9000, section 13.1; RFC 9002,
 //! section 6.1).
-ghost use Rattle.std.specs.Prelude.{◌≡◌, map, reverse, OnOk};
+ghost use Rattle.std.specs.Prelude.{◌≡◌, reverse, OnOk};
 ghost use Rattle.quic_connection_core.specs.End.{with_end, with_tracking};
 ghost use Rattle.quic_connection_core.specs.Numbers.{cut_against};
-ghost use Rattle.quic_connection_core.specs.Tracking.{Tracking, loss_moment, acked_by, not_acked_by, lost_below, kept_above, after_answered};
-ghost use Rattle.quic_connection_core.specs.Acked.{without_known, stream_acked, streams_acked, packet_acked, stream_lost, streams_lost, packets_lost, after_acked};
+ghost use Rattle.quic_connection_core.specs.Tracking.{lost_below, kept_above};
+ghost use Rattle.quic_connection_core.specs.Acked.{stream_acked, streams_acked, packet_acked, stream_lost, streams_lost, packets_lost, after_acked};
 ghost use Rattle.quic_end.specs.Tracked.{all_acked, with_tracked};
 
 use crate::connection::Connection;

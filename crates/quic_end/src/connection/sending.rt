@@ -88,6 +88,7 @@ impl<H: HeaderKey + Drop, K: PacketKey + Drop, R: Rng + Drop> Connection<H, K, R
         ensures nothing { OnErr result (out.new.items ≡ out.old.items) }
         ensures lacking { OnErr result (GivesOrHasFailed (polled (policy_of H.masks H.hides H.unmasks H.reveals K.sealed K.opened self.old) self.old.end now).answer) }
         ensures still { self.old.end.closing.state ≡ State.Failed → self.new ≡ self.old }
+        ensures size { IfOk result (λ given. IfSome given (λ transmit. transmit.size ≤ 1200)) }
         ensures silent { result ≡ Ok None → self.new.end.closing.state ≡ State.Open → IsSilent self.new.end }
     {
         match self.state() {
@@ -131,6 +132,7 @@ impl<H: HeaderKey + Drop, K: PacketKey + Drop, R: Rng + Drop> Connection<H, K, R
         requires room { vec_len out.old + 1200 ≤ vec_capacity out.old }
         ensures items { OnOk result (out.new.items ≡ out.old.items ++ datagram_of (policy_of H.masks H.hides H.unmasks H.reveals K.sealed K.opened self.old) (composed self.old.end)) }
         ensures size { IfOk result (λ size. vec_len out.new ≡ vec_len out.old + size) }
+        ensures most { IfOk result (λ size. size ≤ 1200) }
         ensures end { OnOk result (self.new ≡ with_end self.old (after_given (composed self.old.end))) }
         ensures failed { OnErr result (HasFailed self.old self.new) }
         ensures stopped { OnErr result (self.new.end.timers ≡ no_timers) }

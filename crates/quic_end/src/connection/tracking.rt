@@ -216,6 +216,7 @@ impl Tracking {
         ensures left { OnOk result (self.new ≡ record self.old { packets = not_acked_by frame.now self.old.packets }) }
         ensures acked { OnOk result (map (λ p. p.1) (acked_by frame.now self.old.packets) ≡ reverse acked.new.items) }
     {
+        // The proof reads that the frame's ranges descend.
         let _largest = frame.largest();
         take_ranges(&mut self.packets, frame.iter(), acked)
     }
