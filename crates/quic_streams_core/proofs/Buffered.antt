@@ -1,13 +1,13 @@
 -- What each call leaves is again a buffer: the sets are runs and lie apart, and the pieces are those that are needed.
 use Rattle.std.proofs.Common.{◌≡◌, ℕ, ◌+◌, ◌-◌, ◌^◌, ◌≤◌, ◌<◌, ◌⊎◌, ◌↔◌, ◌==◌, min, max, List, [], ◌∷◌, ◌++◌, length, refl, sym, ap, subst, inl, inr, arith, ◌∙◌, length-append, length-drop}
-use Rattle.std.proofs.lemmas.Bool.{cases_lt, cases_Bool, le-leb, lt-leb, eqb-true, eqb-false}
+use Rattle.std.proofs.lemmas.Bool.{cases_lt, cases_Bool, lt-ltb, le-leb, lt-leb, eqb-true, eqb-false}
 use Rattle.std.specs.Prelude.{Result, Ok, Err, OnOk, OnErr}
 use Rattle.quic_sets.specs.Runs.{Run, Has, AreRuns, Adds, Drops}
-use Rattle.quic_streams_core.specs.Lacking.{AddsLacking}
+use Rattle.quic_streams_core.specs.Lacking.{AddsLacking, HasLacking, HasMoving}
 use Rattle.quic_streams_core.specs.Offsets.{first_or, first_lacking, with_offsets, without_offsets, with_all, lacking}
-use Rattle.quic_streams_core.specs.Buffered.{Buffered, IsBuffered, AreFilled, ReachPast, bytes_in, written, first_unacknowledged, piece_of, after_write, passed, pieces_behind, done, trimmed, acknowledged, after_ack, after_loss, sent_count, room_behind, next_range, next_start, next_count, sent_end, after_poll}
+use Rattle.quic_streams_core.specs.Buffered.{Buffered, IsBuffered, HasUnacked, HasInFlight, AreFilled, ReachPast, bytes_in, written, first_unacknowledged, piece_of, after_write, passed, pieces_behind, done, trimmed, acknowledged, after_ack, after_loss, sent_count, room_behind, next_range, next_start, next_count, sent_end, after_poll}
 use Rattle.quic_streams_core.specs.KeptBytes.{KeptBytes, with_piece, released_to}
-use Rattle.quic_streams_core.proofs.Offsets.{with_runs, with_is, with_only, without_runs, without_is, without_only, without_none, lost_runs, lost_is, lost_only, first_is_least, below_first, first_by, first_rises}
+use Rattle.quic_streams_core.proofs.Offsets.{has_not, with_runs, with_is, with_only, without_runs, without_is, without_only, without_none, lost_runs, lost_is, lost_only, first_is_least, below_first, first_by, first_rises}
 
 -- ---- pieces
 
@@ -333,3 +333,33 @@ ack_made {v} {a} {z} {end} {acked} {lost} first k h m at made =
     ap (λ (x : KeptBytes). with_pieces x (record v { acked = acked; lost = lost })) (made ∙ ap (λ n. released_to n (pieces_in v)) at)
     ∙ ap (λ (rs : List Run). with_pieces (released_to (first_lacking rs) (pieces_in v)) (record v { acked = rs; lost = lost })) (acked_set h m)
     ∙ ap (λ (rs : List Run). with_pieces (released_to (first_unacknowledged (acknowledged v a z)) (pieces_in v)) (record v { acked = with_offsets a (min z v.unsent) v.acked; lost = rs })) (lost_set h m)
+
+-- ---- where memory lacks for the sets
+
+-- what an acknowledgement puts in isn't acknowledged, nor is what it takes out, which is lost
+pub unacked_found : (v b : Buffered) → v ≡ b → IsBuffered v → (a z end : ℕ) → end ≡ min z v.unsent → HasMoving v.acked v.lost a end → HasUnacked b a z
+unacked_found v b e h a z end cut m =
+    let below = m.below in
+    subst (λ (w : Buffered). HasUnacked w a z) e (record {
+      offset = m.number;
+      above = m.above;
+      below = omega (arith, cut, below);
+      sent = omega (arith, cut, below);
+      lacks = has_not v.acked m.number (λ i. elim m.moves [ inl j ↦ j i | inr j ↦ h.apart m.number i j ]);
+    })
+
+-- what a loss puts in is neither acknowledged nor lost
+pub flight_found : (v b : Buffered) → v ≡ b → (a z end : ℕ) → end ≡ min z v.unsent → HasLacking v.lost v.acked a end → HasInFlight b a z
+flight_found v b e a z end cut m =
+    let k = m.lacking in
+    let below = k.1 in
+    subst (λ (w : Buffered). HasInFlight w a z) e (record {
+      offset = m.number;
+      above = k.0;
+      below = omega (arith, cut, below);
+      flight =
+          let sent = lt-ltb m.number v.unsent (omega (arith, cut, below)) in
+          let acked = has_not v.acked m.number k.2 in
+          let lost = has_not v.lost m.number m.new in
+          rw (sent, acked, lost) refl;
+    })

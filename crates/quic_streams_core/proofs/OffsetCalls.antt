@@ -2,10 +2,10 @@
 use Rattle.std.proofs.Common.{◌≡◌, ℕ, ◌<◌, ◌≤◌, ltb, List, [], ◌∷◌, map, Bool, true, false, not, ◌&&◌, ◌||◌, cond, Some, None, Option, refl, sym, ap, ◌∙◌, subst, arith, inl, inr}
 use Rattle.std.proofs.lemmas.Bool.{or_cases, or_left, or_right, and_parts, and_from, not-true, not_from_false, false_from_ne_true, both_ways}
 use Rattle.quic_sets.specs.Runs.{Has, Adds, Drops}
-use Rattle.quic_streams_core.specs.Lacking.{AddsLacking}
+use Rattle.quic_streams_core.specs.Lacking.{AddsLacking, HasLacking, HasMoving}
 use Rattle.quic_sets.proofs.RunLists.{same_list}
 use Rattle.quic_streams_core.specs.Spans.{Span, in_span, in_spans, next_span}
-use Rattle.quic_streams_core.specs.Loose.{LieWithin, greatest, AreLoose, AreMaximal, as_run, IsCut}
+use Rattle.quic_streams_core.specs.Loose.{LieWithin, greatest, AreLoose, AreMaximal, BothLack, as_run, IsCut}
 use Rattle.quic_streams_core.proofs.Spans.{next_in}
 use Rattle.quic_streams_core.proofs.Loose.{lie_up, span_is, span_from, runs_are, runs_have}
 
@@ -44,6 +44,23 @@ same_made es ns h n has = same_list 0 0 (map as_run ns) (map as_run es) (runs_ar
     let old = runs_have k es in
     let new = runs_have k ns in
     (λ y. old.1 (sym (has k) ∙ new.0 y), λ y. new.1 (has k ∙ old.0 y)))
+
+-- ---- where memory lacks
+outside : (k : ℕ) (es : List Span) → in_spans es k ≡ false → Has (map as_run es) k → ⊥
+outside k es e h = both_ways (in_spans es k) e ((runs_have k es).0 h)
+
+pub lacks_made : (a z : ℕ) (es os : List Span) → BothLack es os a z → HasLacking (map as_run es) (map as_run os) a z
+lacks_made a z es os f = record {
+  number = f.offset;
+  lacking = (f.above, f.below, outside f.offset os f.other);
+  new = outside f.offset es f.free;
+}
+
+pub moves_in : (a z : ℕ) (es os ns : List Span) → BothLack es ns a z → HasMoving (map as_run es) (map as_run os) a z
+moves_in a z es os ns f = record { number = f.offset; above = f.above; below = f.below; moves = inl (outside f.offset es f.free) }
+
+pub moves_out : (a z : ℕ) (es os : List Span) → a < z → in_spans os a ≡ true → HasMoving (map as_run es) (map as_run os) a z
+moves_out a z es os l e = record { number = a; above = omega arith; below = l; moves = inr ((runs_have a os).1 e) }
 
 -- ---- none is below a range
 own : (at : ℕ) (es : List Span) (g : Span) → (low high : ℕ) → LieWithin low es high → next_span at es ≡ Some g → (g.1 < g.0) × (g.0 ≤ high)

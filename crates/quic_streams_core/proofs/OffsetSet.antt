@@ -9,10 +9,10 @@ use Rattle.std.specs.Map.{lookup, remove_entry, set_value}
 use Rattle.std.specs.BTreeMap.{insert_entry, is_at}
 use Rattle.std.proofs.lemmas.Bool.{or_parts, false_from_ne_true, both_ways, cases_order, eqb-true, leb-true, leb-false}
 use Rattle.quic_streams_core.specs.Spans.{Span, in_span, in_spans, next_span, ends_of, is_spanned, spanned_at, free_at, first_from, end_from}
-use Rattle.quic_streams_core.specs.Loose.{greatest, AreLoose, AreMaximal, IsCut, FitsRun, inside_at, touches, TouchWithin}
+use Rattle.quic_streams_core.specs.Loose.{greatest, AreLoose, AreMaximal, BothLack, IsCut, FitsRun, inside_at, touches, TouchWithin}
 use Rattle.quic_streams_core.specs.PartSteps.{undone}
 use Rattle.quic_streams_core.proofs.Free.{look_some}
-use Rattle.quic_streams_core.proofs.Spans.{next_past}
+use Rattle.quic_streams_core.proofs.Spans.{next_in, next_past}
 use Rattle.quic_streams_core.proofs.Loose.{span_is, span_from}
 use Rattle.quic_streams_core.proofs.LooseSteps.{and_true, and_false, look_as, put_free, taken_at, front_at, BeginsPast, none_from, Joined, joined, touch_is, touch_next, touch_has, put_touch, drop_touch, front_touch}
 use Rattle.quic_streams_core.proofs.Undone.{undone_last, absent, taken_out}
@@ -91,6 +91,19 @@ skip_has {at} {len} {os} {es} {other} {most} {held} {n} m e o = go (in_span o (a
         whole (in_spans es o) (in_spans os o) (elim (either other held e) [ inl x ↦ inl (same ∙ x) | inr x ↦ inr (own ∙ x) ])
     go false q = none (in_spans es o)
 
+-- a run is put in only where both sets lack its first offset
+pub lack_here : {at len : ℕ} {os es : List Span} {other : Bool} {most : ℕ} {held : Bool} {n : ℕ} → Looked at len os es other most held n → (other || held) ≡ false → BothLack es os at (at + len)
+lack_here {at} {len} {os} {es} {other} {most} {held} {n} m e =
+    let k = counts m in
+    let none = or_parts other held e in
+    record {
+      offset = at;
+      above = omega arith;
+      below = let some = m.some in omega arith;
+      free = look_as at most n at es held m.loose m.held_is m.count_is (omega arith) (omega (arith, k.0)) ∙ none.1;
+      other = look_as at len most at os other m.others m.other_is m.most_is (omega arith) (omega (arith, k.0, k.1)) ∙ none.0;
+    }
+
 -- ---- runs that touch
 some_at : (at : ℕ) (x : Option ℕ) → unwrap_or x at < at → x ≡ Some (unwrap_or x at)
 some_at at None l = absurd (omega (arith, l))
@@ -117,6 +130,12 @@ next_is s e (Some g) q =
     let a : s ≡ g.1 = ap (λ (o : Option (ℕ × ℕ)). unwrap_or (option_map (λ (p : ℕ × ℕ). p.0) o) 0) q in
     let b : e ≡ g.0 = ap (λ (o : Option (ℕ × ℕ)). unwrap_or (option_map (λ (p : ℕ × ℕ). p.1) o) 0) q in
     rw (a, b) refl
+
+-- a run that begins before an offset, and ends behind it, has it
+pub cut_has : (at s e : ℕ) (es : List Span) → Some (s, e) ≡ option_map ends_of (next_span at es) → s < at → in_spans es at ≡ true
+cut_has at s e es q l =
+    let n = next_is s e (next_span at es) q in
+    next_in at at es (e, s) n (span_from at (e, s) (omega (arith, l)) (next_past at es (e, s) n))
 
 pub inside_is : (end last : ℕ) (x : Option Span) → Some last ≡ inside_at end x → (g : Span) × (x ≡ Some g) × (g.0 ≡ last) × (g.0 ≤ end)
 inside_is end last None e = cc

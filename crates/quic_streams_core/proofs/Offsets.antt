@@ -167,10 +167,6 @@ with_all_is (o ∷ others) rs h k =
       ]),
     )
 
-pub without_all_runs : (others rs : List Run) → AreRuns rs → AreRuns (without_all others rs)
-without_all_runs [] rs h = h
-without_all_runs (o ∷ others) rs h = without_all_runs others (without_offsets o.start o.end rs) (without_runs o.start o.end rs h)
-
 pub without_all_is : (others rs : List Run) → IsDifference rs others (without_all others rs)
 without_all_is [] rs k = (λ x. (x, λ none. none), λ x. x.0)
 without_all_is (o ∷ others) rs k =

@@ -155,10 +155,6 @@ free_fits at len n (Some x) held b t e =
     let n_is : n ≡ min (start x - at) len = e ∙ ap (λ h. cond h (held_at at len (Some x)) (gap_at at len (Some x))) t in
     omega arith
 
-gap_fits : (at n : ℕ) (o : Option Part) → Fits (at + n) o → n ≡ gap_at at n o
-gap_fits at n None f = refl
-gap_fits at n (Some x) f = omega arith
-
 -- a gap that is filled with the first n bytes, as the call says it
 pub put_gaps : (low at len n : ℕ) (a ps ns : List Part) (bs : List ℕ) (held : Bool) → ps ≡ a → AreApart low ps → 0 < length bs → held ≡ is_held at (after at ps) → held ≡ false → n ≡ cond held (held_at at len (after at ps)) (gap_at at len (after at ps)) → len ≡ length bs → ns ≡ insert_entry nat_cmp a (at + length (take n bs)) (take n bs) → with_gaps ps at bs ≡ with_gaps ns (at + n) (drop n bs)
 put_gaps low at len n a ps ns bs held seen h l b t e v is =

@@ -1,5 +1,5 @@
 -- What was written to a stream and may have to be sent (RFC 9000, 2.2 and 13.3).
-use Rattle.std.specs.Prelude.{◌≡◌, ℕ, ◌+◌, ◌-◌, ◌^◌, ◌<◌, ◌≤◌, ◌==◌, Bool, cond, ltb, leb, not, ◌&&◌, ◌||◌, min, max, List, [], ◌∷◌, ◌++◌, length, drop, Option}
+use Rattle.std.specs.Prelude.{◌≡◌, ℕ, ◌+◌, ◌-◌, ◌^◌, ◌<◌, ◌≤◌, ◌==◌, Bool, true, false, cond, ltb, leb, not, ◌&&◌, ◌||◌, min, max, List, [], ◌∷◌, ◌++◌, length, drop, Option}
 use Rattle.quic_sets.specs.Runs.{Run, Has, AreRuns}
 use Rattle.quic_wire_core.specs.Varint.{varint_size}
 use Rattle.quic_streams_core.specs.Offsets.{has, has_any, first_or, first_lacking, with_offsets, without_offsets, with_all, lacking}
@@ -64,6 +64,21 @@ pub record AreSamePlaces (b c : Buffered) (o : ℕ) : Type 0 where
   pub lost : is_lost b o ≡ is_lost c o
   pub unsent : is_unsent b o ≡ is_unsent c o
   pub in_flight : is_in_flight b o ≡ is_in_flight c o
+
+-- some offset of a range was sent and isn't acknowledged
+pub record HasUnacked (b : Buffered) (start end : ℕ) : Type 0 where
+  pub offset : ℕ
+  pub above : start ≤ offset
+  pub below : offset < end
+  pub sent : offset < b.unsent
+  pub lacks : is_acknowledged b offset ≡ false
+
+-- some offset of a range is in flight
+pub record HasInFlight (b : Buffered) (start end : ℕ) : Type 0 where
+  pub offset : ℕ
+  pub above : start ≤ offset
+  pub below : offset < end
+  pub flight : is_in_flight b offset ≡ true
 
 -- ---- what is true of them all
 

@@ -54,6 +54,14 @@ pub record AreMaximal (gs : List Span) : Type 0 where
 abbrev pub as_run : Span → Run
 as_run g = record { start = g.1; end = g.0 }
 
+-- both sets lack some offset of a range
+pub record BothLack (gs others : List Span) (start end : ℕ) : Type 0 where
+  pub offset : ℕ
+  pub above : start ≤ offset
+  pub below : offset < end
+  pub free : in_spans gs offset ≡ false
+  pub other : in_spans others offset ≡ false
+
 -- the runs touch only where they did, or from one offset up to another
 abbrev pub TouchWithin : List Span → List Span → ℕ → ℕ → Type 0
 TouchWithin old new a b = (o : ℕ) → touches o new ≡ true → (touches o old ≡ true) ⊎ ((a ≤ o) × (o ≤ b))

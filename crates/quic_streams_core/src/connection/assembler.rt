@@ -83,6 +83,7 @@ impl Assembler {
         ensures small { result ≤ 2 ^ 62 }
         ensures lawful { IsLawful self.now }
     {
+        // The proof reads the invariant here.
         let _ = &self.parts;
         self.total
     }

@@ -5,9 +5,9 @@ ghost use Rattle.std.specs.Map.{set_value};
 ghost use Rattle.std.specs.BTreeMap.{is_at};
 ghost use Rattle.std.specs.Ordering.{nat_cmp};
 ghost use Rattle.quic_sets.specs.Runs.{Has, AreRuns, Adds, Drops};
-ghost use Rattle.quic_streams_core.specs.Lacking.{AddsLacking};
+ghost use Rattle.quic_streams_core.specs.Lacking.{AddsLacking, HasLacking, HasMoving};
 ghost use Rattle.quic_streams_core.specs.Spans.{in_span, in_spans, next_span};
-ghost use Rattle.quic_streams_core.specs.Loose.{AreLoose, AreMaximal, IsCut, FitsRun, TouchWithin, inside_at, as_run, touches};
+ghost use Rattle.quic_streams_core.specs.Loose.{AreLoose, AreMaximal, BothLack, IsCut, FitsRun, TouchWithin, inside_at, as_run, touches};
 ghost use Rattle.quic_streams_core.specs.PartSteps.{undone};
 
 use super::spans::{begin_of, finish_of, keep, look, next_after, remove};
@@ -82,6 +82,7 @@ fn put_lacking(
     ensures offsets { IfOk result (λ n. (o : ℕ) → in_spans spans.new.entries o ≡ in_spans spans.old.entries o || (in_span o (at + n, at) && not (in_spans others.now.entries o))) }
     ensures touch { IfOk result (λ n. TouchWithin spans.old.entries spans.new.entries at (at + n)) }
     ensures back { undone ends.new.items spans.new.entries ≡ undone ends.old.items spans.old.entries }
+    ensures free { OnErr result (BothLack spans.old.entries others.now.entries at (at + len)) }
 {
     let (other, most) = look(others, at, len);
     let (held, count) = look(spans, at, most);
@@ -107,6 +108,7 @@ fn fill_lacking(
     ensures offsets { OnOk result ((o : ℕ) → in_spans spans.new.entries o ≡ in_spans spans.old.entries o || (in_span o (end, start) && not (in_spans others.now.entries o))) }
     ensures touch { OnOk result (TouchWithin spans.old.entries spans.new.entries start end) }
     ensures back { undone ends.new.items spans.new.entries ≡ undone ends.old.items spans.old.entries }
+    ensures free { OnErr result (BothLack spans.old.entries others.now.entries start end) }
 {
     let mut at = start;
     while at < end {
@@ -184,6 +186,7 @@ fn add_lacking(
     ensures maximal { AreMaximal spans.new.entries }
     ensures ok { OnOk result ((o : ℕ) → in_spans spans.new.entries o ≡ in_spans spans.old.entries o || (in_span o (end, start) && not (in_spans others.now.entries o))) }
     ensures err { OnErr result (spans.new.entries ≡ spans.old.entries) }
+    ensures free { OnErr result (BothLack spans.old.entries others.now.entries start end) }
 {
     let mut ends = Vec::new(alloc);
     let outcome = fill_lacking(spans, others, start, end, &mut ends);
@@ -204,6 +207,7 @@ fn split(spans: &mut BTreeMap<u64, u64>, at: u64) -> Result<(), AllocError>
     ensures touch { TouchWithin spans.old.entries spans.new.entries at at }
     ensures cut { OnOk result (IsCut at (next_span at spans.new.entries)) }
     ensures err { OnErr result (spans.new.entries ≡ spans.old.entries) }
+    ensures held { OnErr result (in_spans spans.old.entries at ≡ true) }
 {
     if let Some((start, end)) = next_after(spans, at) {
         if start < at {
@@ -265,6 +269,7 @@ fn insert_from(
     ensures err { OnErr result (map as_run spans.new.entries ≡ map as_run spans.old.entries) }
     ensures others_err { OnErr result (map as_run others.new.entries ≡ map as_run others.old.entries) }
     ensures lacking { OnErr result (x.start < x.end) }
+    ensures moving { OnErr result (HasMoving (map as_run spans.old.entries) (map as_run others.old.entries) x.start x.end) }
 {
     if x.end <= x.start {
         return Ok(());
@@ -297,6 +302,7 @@ fn insert_lacking(
     ensures ok { OnOk result (AddsLacking (map as_run spans.old.entries) (map as_run others.now.entries) (map as_run spans.new.entries) x.start x.end) }
     ensures err { OnErr result (map as_run spans.new.entries ≡ map as_run spans.old.entries) }
     ensures lacking { OnErr result (x.start < x.end) }
+    ensures free { OnErr result (HasLacking (map as_run spans.old.entries) (map as_run others.now.entries) x.start x.end) }
 {
     if x.end <= x.start {
         return Ok(());
@@ -337,7 +343,7 @@ impl OffsetSet {
     ///
     /// # Errors
     ///
-    /// [`AllocError`] where memory lacks for the runs; both sets stay.
+    /// [`AllocError`] where memory lacks, and some offset of the range isn't in the set or is in the other; both sets stay.
     pub(crate) fn insert_from(
         &mut self,
         x: Range<u64>,
@@ -351,6 +357,7 @@ impl OffsetSet {
         ensures err { OnErr result (self.new ≡ self.old) }
         ensures other_err { OnErr result (other.new ≡ other.old) }
         ensures lacking { OnErr result (x.start < x.end) }
+        ensures moving { OnErr result (HasMoving self.old other.old x.start x.end) }
     {
         insert_from(&mut self.spans, x, &mut other.spans, self.alloc)
     }
@@ -360,7 +367,7 @@ impl OffsetSet {
     ///
     /// # Errors
     ///
-    /// [`AllocError`] where memory lacks for the runs; the set stays.
+    /// [`AllocError`] where memory lacks, and some offset of the range is in neither set; the set stays.
     pub(crate) fn insert_lacking(
         &mut self,
         x: Range<u64>,
@@ -371,6 +378,7 @@ impl OffsetSet {
         ensures runs { AreRuns self.new }
         ensures err { OnErr result (self.new ≡ self.old) }
         ensures lacking { OnErr result (x.start < x.end) }
+        ensures free { OnErr result (HasLacking self.old other.now x.start x.end) }
     {
         insert_lacking(&mut self.spans, x, &other.spans, self.alloc)
     }

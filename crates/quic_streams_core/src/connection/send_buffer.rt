@@ -1,7 +1,7 @@
 // What was written to a stream and may have to be sent.
 ghost use Rattle.std.specs.Prelude.{◌≡◌, ℕ, ◌+◌, ◌-◌, ◌≤◌, ◌<◌, ◌^◌, ◌++◌, [], length, min, max, slice_get, slice_range, OnOk, OnErr, vec_len, vec_capacity};
 ghost use Rattle.quic_streams_core.specs.Offsets.{first_lacking, without_offsets};
-ghost use Rattle.quic_streams_core.specs.Buffered.{Buffered, IsBuffered, nothing_written, written, kept_byte, is_fully_acked, has_unsent, after_write, after_ack, after_loss, after_poll, offset_width, next_range, next_start, writes_length, sent_end, piece_end};
+ghost use Rattle.quic_streams_core.specs.Buffered.{Buffered, IsBuffered, HasUnacked, HasInFlight, nothing_written, written, kept_byte, is_fully_acked, has_unsent, after_write, after_ack, after_loss, after_poll, offset_width, next_range, next_start, writes_length, sent_end, piece_end};
 
 mod pieces;
 
@@ -136,11 +136,12 @@ impl SendBuffer {
     ///
     /// # Errors
     ///
-    /// [`AllocError`] where memory lacks for the sets of offsets; nothing has changed.
+    /// [`AllocError`] where memory lacks, and some offset of the range was sent and isn't acknowledged; nothing has changed.
     pub fn ack(&mut self, range: Range<u64>) -> Result<(), AllocError>
         ensures ok { OnOk result (self.new ≡ after_ack self.old range.start range.end) }
         ensures err { OnErr result (self.new ≡ self.old) }
         ensures lacking { OnErr result (range.start < min range.end self.old.unsent) }
+        ensures unacked { OnErr result (HasUnacked self.old range.start range.end) }
         ensures lawful { IsBuffered self.new }
     {
         let sent = range.start..range.end.min(self.unsent);
@@ -154,11 +155,12 @@ impl SendBuffer {
     ///
     /// # Errors
     ///
-    /// [`AllocError`] where memory lacks for the set of lost offsets; nothing has changed.
+    /// [`AllocError`] where memory lacks, and some offset of the range is in flight; nothing has changed.
     pub fn retransmit(&mut self, range: Range<u64>) -> Result<(), AllocError>
         ensures ok { OnOk result (self.new ≡ after_loss self.old range.start range.end) }
         ensures err { OnErr result (self.new ≡ self.old) }
         ensures lacking { OnErr result (range.start < min range.end self.old.unsent) }
+        ensures in_flight { OnErr result (HasInFlight self.old range.start range.end) }
         ensures lawful { IsBuffered self.new }
     {
         let sent = range.start..range.end.min(self.unsent);
@@ -245,6 +247,7 @@ impl SendBuffer {
         ensures capacity { vec_capacity out.old ≤ vec_capacity out.new }
         ensures lawful { IsBuffered self.now }
     {
+        // The proof reads the invariant here.
         let _ = &self.pieces;
         let mut at = offsets.start;
         while at < offsets.end {

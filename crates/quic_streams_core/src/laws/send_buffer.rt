@@ -1,7 +1,7 @@
 //! Where the offsets of a stream are that were written, and what each call of [`SendBuffer`] moves.
 //!
 //! [`SendBuffer`]: crate::SendBuffer
-ghost use Rattle.std.specs.Prelude.{◌≡◌, ℕ, ◌+◌, ◌-◌, ◌<◌, ◌≤◌, ◌^◌, List, [], Bool, true, false, cond, ltb, not, ◌&&◌, ◌||◌, length, ◌++◌, ◌∷◌, drop, slice_range, IsSome};
+ghost use Rattle.std.specs.Prelude.{◌≡◌, ℕ, ◌+◌, ◌-◌, ◌<◌, ◌≤◌, ◌^◌, List, [], true, false, cond, ltb, not, ◌&&◌, ◌||◌, length, ◌++◌, ◌∷◌, drop, slice_range, IsSome};
 ghost use Rattle.quic_streams_core.specs.Buffered.{Buffered, IsBuffered, bytes_in, written, nothing_written, kept_byte, is_fully_acked, has_unsent, places, AreSamePlaces, is_acknowledged, is_lost, is_unsent, is_in_flight, after_write, after_ack, after_loss, after_poll, width, offset_width, next_start, writes_length, sent_end};
 ghost use Rattle.quic_streams_core.specs.Arrived.{byte_from};
 ghost use Rattle.quic_streams_core.specs.declared.connection.send_buffer.TheConstants.{LENGTH_ROOM};

@@ -53,9 +53,8 @@ fn first_after(parts: &BTreeMap<u64, Bytes>, at: u64) -> Option<(u64, u64)>
     requires { at < 2 ^ 62 }
     ensures { result ≡ option_map span_of (after at parts.now.entries) }
 {
-    let first = at + 1;
-    match parts.range(first..).next() {
-        Some((end, bytes)) => Some((end.saturating_sub(bytes.len() as u64), *end)),
+    match next_part(parts, at) {
+        Some((end, bytes)) => Some((end.saturating_sub(bytes.len() as u64), end)),
         None => None,
     }
 }

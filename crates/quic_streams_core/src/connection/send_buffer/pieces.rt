@@ -118,6 +118,7 @@ impl Pieces {
         ensures within { offsets.start + length result.now ≤ offsets.end }
         ensures some { offsets.start < offsets.end → 0 < length result.now }
     {
+        // The proof reads the invariant here.
         let _kept = self.end();
         match next_part(&self.map, offsets.start) {
             Some((end, piece)) => {

@@ -1,7 +1,8 @@
 use Rattle.std.proofs.Common.{ap, ◌∙◌, ◌&&◌, not}
 use Rattle.quic_streams_core.specs.Spans.{in_span}
 use Rattle.quic_streams_core.proofs.OffsetSet.{apart_again, apart_out}
-use Rattle.quic_streams_core.proofs.OffsetCalls.{adds_made, drops_made, same_made}
+use Rattle.quic_streams_core.proofs.OffsetCalls.{adds_made, drops_made, same_made, moves_in, moves_out}
+use Rattle.quic_streams_core.proofs.Gaps.{of_error}
 use Rattle.quic_streams_core.proofs.connection.offset_set.insert_from.Goals as goal
 
 pub returns-clause-others_err : goal.returns-clause-others_err
@@ -33,3 +34,13 @@ returns-clause-others_maximal c =
     let a = c.args in
     let j = c.join_at.ensures in
     apart_again a.x.start a.others.now.entries c.split.new.spans.entries c.join_at.new.spans.entries c.requires.others c.split.ensures.touch j.loose j.touch j.apart
+
+pub returns-in_err-split-clause-moving : goal.returns-in_err-split-clause-moving
+returns-in_err-split-clause-moving c =
+    let a = c.args in
+    of_error c.from_residual.result (moves_out a.x.start a.x.end a.spans.now.entries a.others.now.entries c.if-x.false c.in_err-split.ensures.held)
+
+pub returns-clause-moving : goal.returns-clause-moving
+returns-clause-moving c =
+    let a = c.args in
+    moves_in a.x.start a.x.end a.spans.now.entries a.others.now.entries c.new-nothing.result.entries c.in-Err.ensures.free

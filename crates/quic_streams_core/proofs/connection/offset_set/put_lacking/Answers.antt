@@ -1,4 +1,5 @@
-use Rattle.quic_streams_core.proofs.OffsetSet.{Looked, counts, fits, put_has, skip_has}
+use Rattle.quic_streams_core.proofs.OffsetSet.{Looked, counts, fits, put_has, skip_has, lack_here}
+use Rattle.quic_streams_core.proofs.Gaps.{of_error}
 use Rattle.quic_streams_core.proofs.connection.offset_set.put_lacking.Goals as goal
 
 pub put_run-requires-clause-fits : goal.put_run-requires-clause-fits
@@ -60,3 +61,18 @@ returns-else-not-other-held-clause-offsets c =
       count_is = c.look-held.ensures.count;
     } in
     skip_has m c.if-not-other-held.false
+
+pub returns-in_err-put_run-clause-free : goal.returns-in_err-put_run-clause-free
+returns-in_err-put_run-clause-free c =
+    let a = c.args in
+    let m : Looked a.at a.len a.others.now.entries a.spans.now.entries c.look-other.result.0 c.look-other.result.1 c.look-held.result.0 c.look-held.result.1 = record {
+      others = c.requires.others;
+      loose = c.requires.loose;
+      some = c.requires.some;
+      small = c.requires.small;
+      other_is = c.look-other.ensures.held;
+      most_is = c.look-other.ensures.count;
+      held_is = c.look-held.ensures.held;
+      count_is = c.look-held.ensures.count;
+    } in
+    of_error c.from_residual.result (lack_here m c.if-not-other-held.true)

@@ -1,4 +1,5 @@
-use Rattle.quic_streams_core.proofs.OffsetSet.{next_is}
+use Rattle.quic_streams_core.proofs.OffsetSet.{next_is, cut_has}
+use Rattle.quic_streams_core.proofs.Gaps.{of_error}
 use Rattle.quic_streams_core.proofs.LooseSteps.{cut_at}
 use Rattle.quic_streams_core.specs.Spans.{next_span}
 use Rattle.quic_streams_core.proofs.connection.offset_set.split.Goals as goal
@@ -30,3 +31,8 @@ returns-in_ok-keep-clause-touch c =
     let g = next_is c.in-Some.start c.in-Some.end (next_span a.at a.spans.now.entries) c.in-Some.ensures in
     let k = cut_at a.at (c.in-Some.end, c.in-Some.start) a.spans.now.entries c.requires.loose g c.if-start-at.true in
     rw (c.set_start.ensures, c.in_ok-keep.ensures.ok) k.touch
+
+pub returns-in_err-keep-clause-held : goal.returns-in_err-keep-clause-held
+returns-in_err-keep-clause-held c =
+    let a = c.args in
+    of_error c.from_residual.result (cut_has a.at c.in-Some.start c.in-Some.end a.spans.now.entries c.in-Some.ensures c.if-start-at.true)

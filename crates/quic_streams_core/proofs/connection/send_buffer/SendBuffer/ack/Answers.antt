@@ -1,7 +1,8 @@
 use Rattle.std.proofs.Common.{sym, ap, subst, ◌∙◌}
 use Rattle.quic_streams_core.specs.Buffered.{Buffered, IsBuffered, after_ack}
 use Rattle.quic_streams_core.specs.contracts.connection.send_buffer.SendBuffer.{the_view}
-use Rattle.quic_streams_core.proofs.Buffered.{IsAcked, ack_made, ack_lawful}
+use Rattle.quic_streams_core.proofs.Buffered.{IsAcked, ack_made, ack_lawful, unacked_found}
+use Rattle.quic_streams_core.proofs.Gaps.{of_error}
 use Rattle.quic_streams_core.proofs.connection.send_buffer.SendBuffer.ack.Goals as goal
 
 pub invariant_of-self-2 : goal.invariant_of-self-2
@@ -32,3 +33,8 @@ returns-clause-ok c =
 
 pub returns-clause-lawful : goal.returns-clause-lawful
 returns-clause-lawful c = subst IsBuffered (sym (returns-clause-ok c)) (ack_lawful c.args.self.now c.args.range.start c.args.range.end (subst IsBuffered c.self.view_is c.self.invariant))
+
+pub returns-in_err-insert_from-clause-unacked : goal.returns-in_err-insert_from-clause-unacked
+returns-in_err-insert_from-clause-unacked c =
+    let a = c.args in
+    of_error c.from_residual.result (unacked_found (the_view c.self.inside) a.self.now c.self.view_is c.self.invariant a.range.start a.range.end c.min.result c.min.ensures c.in_err-insert_from.ensures.moving)
