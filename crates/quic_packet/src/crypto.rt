@@ -15,7 +15,7 @@ pub const SAMPLE_SIZE: usize = 16;
 #[error("the packet does not open")]
 pub struct NotOpened;
 
-/// The key for what this end sends and the key for what it receives, as in quinn.
+/// The key for what this end sends and the key for what it receives, as in quinn-proto.
 #[derive(Drop)]
 pub struct KeyPair<T> {
     /// For packets that this end sends.
@@ -24,7 +24,7 @@ pub struct KeyPair<T> {
     pub remote: T,
 }
 
-/// The keys of one end, as in quinn.
+/// The keys of one end, as in quinn-proto.
 #[derive(Drop)]
 pub struct Keys<H, K> {
     /// The keys that protect headers.
@@ -34,7 +34,7 @@ pub struct Keys<H, K> {
 }
 
 /// A key that hides a packet's number and the low five bits of its first byte (RFC 9001, 5.4),
-/// as in quinn.
+/// as in quinn-proto.
 pub trait HeaderKey {
     // What hiding by a sample makes of the first byte and of the number's bytes.
     ghost masks: { Self → List ℕ → ℕ → ℕ };
@@ -75,7 +75,7 @@ pub trait HeaderKey {
     ghost shows_length: { (k : Self) (s bytes : List ℕ) → length (reveals k s bytes) ≡ length bytes };
 }
 
-/// A key that seals payloads, or opens them (RFC 9001, 5.3), as in quinn.
+/// A key that seals payloads, or opens them (RFC 9001, 5.3), as in quinn-proto.
 pub trait PacketKey {
     // What sealing under a number and a header makes of a payload.
     ghost sealed: { Self → ℕ → List ℕ → List ℕ → List ℕ };

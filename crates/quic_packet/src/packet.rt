@@ -157,7 +157,7 @@ impl PacketNumber {
 pub struct TooShort;
 
 /// What finds the destination id of a short header, which does not say how long it is (RFC
-/// 9000, 17.3.1), as in quinn.
+/// 9000, 17.3.1), as in quinn-proto.
 pub trait ConnectionIdParser {
     // The id that the bytes behind the first byte begin with, or none where they are too few.
     ghost parsed: { Self → List ℕ → Option (List ℕ) };
@@ -172,7 +172,7 @@ pub trait ConnectionIdParser {
     ghost takes_front: { (p : Self) (bytes id : List ℕ) → parsed p bytes ≡ Some id → id ≡ take (length id) bytes };
 }
 
-/// A parser of ids that all have one length, as in quinn. Contracts see the length.
+/// A parser of ids that all have one length, as in quinn-proto. Contracts see the length.
 #[derive(Clone, Copy, Debug, PartialEq, Eq)]
 pub struct FixedLengthConnectionIdParser {
     expected_len: usize,

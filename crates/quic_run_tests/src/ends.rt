@@ -8,8 +8,8 @@ ghost use Rattle.quic_run_core.specs.Policies.{policies_in};
 
 use bytes::Bytes;
 use quic_connection::{
-    Answer, Call, Config, ConfigError, Connection, Delivery, Ends, Given, Instant, Making, ReadCall, Received,
-    RunEvent, TransportConfig, run, step,
+    Answer, Call, Config, ConfigError, Connection, Delivery, Ends, Given, Instant, Making,
+    ReadCall, Received, RunEvent, TransportConfig, run, step,
 };
 use quic_run_core::Words;
 use quic_run_core::key::{PlainHeaderKey, PlainKey, keys_for};

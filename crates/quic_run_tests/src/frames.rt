@@ -3,7 +3,7 @@ use quic_connection::{Config, ConfigError, Connection, Instant, Received, Transp
 use quic_packet::seal_packet;
 use quic_run_core::Words;
 use quic_run_core::key::{PlainHeaderKey, PlainKey, keys_for};
-use quic_wire_core::{Code, ConnectionId, Side};
+use quic_wire_core::{Code, ConnectionId, Reason, Side, VarInt};
 use std::alloc::{AllocError, Global};
 use std::process::Abort;
 use std::test::Fail;
@@ -18,10 +18,10 @@ fn id_of(side: Side) -> [u8; 8] {
     }
 }
 
-/// A datagram for this end under the number 0, which has four bytes, as its peer seals it.
-fn sealed_for(alloc: Global, side: Side, payload: &[u8]) -> Result<Vec<u8>, AllocError> {
+/// A datagram for this end with this first byte under the number 0, which has four bytes, as its peer seals it.
+fn sealed_for(alloc: Global, side: Side, first: u8, payload: &[u8]) -> Result<Vec<u8>, AllocError> {
     let mut out = Vec::new(alloc);
-    out.push(0x43)?;
+    out.push(first)?;
     out.extend_from_slice(&id_of(side))?;
     out.extend_from_slice(&[0, 0, 0, 0])?;
     out.extend_from_slice(payload)?;
@@ -30,11 +30,11 @@ fn sealed_for(alloc: Global, side: Side, payload: &[u8]) -> Result<Vec<u8>, Allo
     Ok(out)
 }
 
-fn new_end(alloc: Global, side: Side) -> Result<End, ConfigError> {
+fn new_end(alloc: Global, side: Side, transport: TransportConfig) -> Result<End, ConfigError> {
     Connection::new(
         alloc,
         side,
-        &Config::new(TransportConfig::default()),
+        &Config::new(transport),
         &[],
         ConnectionId::new(&id_of(side)),
         ConnectionId::new(&id_of(!side)),
@@ -50,12 +50,21 @@ fn answered<R: Abort + AllocGlobal>(
     rt: &R,
     side: Side,
     payload: &[u8],
-) -> Result<Option<Code>, Fail> {
-    let mut datagram = sealed_for(rt.alloc(), side, payload)?;
-    let received = new_end(rt.alloc(), side)?.receive(Instant::from_nanos(0), None, &mut datagram);
-    match received {
+) -> Result<Option<(Code, Reason)>, Fail> {
+    let mut datagram = sealed_for(rt.alloc(), side, 0x43, payload)?;
+    let end = new_end(rt.alloc(), side, TransportConfig::default())?;
+    answered_by(rt, end, &mut datagram)
+}
+
+/// The same of this end and a datagram for it.
+fn answered_by<R: Abort>(
+    rt: &R,
+    mut end: End,
+    datagram: &mut [u8],
+) -> Result<Option<(Code, Reason)>, Fail> {
+    match end.receive(Instant::from_nanos(0), None, datagram) {
         Received::Taken => Ok(None),
-        Received::Closed(error) => Ok(Some(error.code())),
+        Received::Closed(error) => Ok(Some((error.code(), error.reason()))),
         Received::Dropped(reason) => panic!(rt; "dropped: {reason:?}"),
         Received::Failed => panic!(rt; "failed"),
     }
@@ -66,7 +75,7 @@ fn answered<R: Abort + AllocGlobal>(
 fn a_number_that_was_never_given_closes(rt: HostRuntime) -> Result<(), Fail> {
     for side in [Side::Client, Side::Server] {
         let never = answered(&rt, side, &[0x02, 0x00, 0x00, 0x00, 0x00])?;
-        assert_eq!(rt; never, Some(Code::PROTOCOL_VIOLATION));
+        assert_eq!(rt; never, Some((Code::PROTOCOL_VIOLATION, Reason::NeverSent)));
     }
     Ok(())
 }
@@ -78,7 +87,10 @@ fn servers_refuse_what_only_servers_send(rt: HostRuntime) -> Result<(), Fail> {
     for frame in frames {
         assert_eq!(rt; answered(&rt, Side::Client, frame)?, None);
         let refused = answered(&rt, Side::Server, frame)?;
-        assert_eq!(rt; refused, Some(Code::PROTOCOL_VIOLATION));
+        assert_eq!(rt;
+            refused,
+            Some((Code::PROTOCOL_VIOLATION, Reason::OfServers))
+        );
     }
     Ok(())
 }
@@ -88,9 +100,12 @@ fn servers_refuse_what_only_servers_send(rt: HostRuntime) -> Result<(), Fail> {
 #[test]
 fn payloads_are_judged(rt: HostRuntime) -> Result<(), Fail> {
     let none = answered(&rt, Side::Server, &[])?;
-    assert_eq!(rt; none, Some(Code::PROTOCOL_VIOLATION));
+    assert_eq!(rt; none, Some((Code::PROTOCOL_VIOLATION, Reason::NoFrame)));
     let cut = answered(&rt, Side::Server, &[0x0a, 0x00, 0x05, 0x68, 0x69])?;
-    assert_eq!(rt; cut, Some(Code::FRAME_ENCODING_ERROR));
+    assert_eq!(rt;
+        cut,
+        Some((Code::FRAME_ENCODING_ERROR, Reason::UnexpectedEnd))
+    );
     let padded = answered(&rt, Side::Server, &[0x40, 0x00, 0x01])?;
     assert_eq!(rt; padded, None);
     Ok(())
@@ -102,12 +117,37 @@ fn payloads_are_judged(rt: HostRuntime) -> Result<(), Fail> {
 fn streams_keep_to_their_limits(rt: HostRuntime) -> Result<(), Fail> {
     let beyond = [0x0e, 0x00, 0x80, 0x13, 0x12, 0xd0, 0x01, 0x78];
     let window = answered(&rt, Side::Server, &beyond)?;
-    assert_eq!(rt; window, Some(Code::FLOW_CONTROL_ERROR));
+    assert_eq!(rt;
+        window,
+        Some((Code::FLOW_CONTROL_ERROR, Reason::TooManyBytes))
+    );
     let behind = [0x0b, 0x00, 0x01, 0x78, 0x0e, 0x00, 0x01, 0x01, 0x78];
     let size = answered(&rt, Side::Server, &behind)?;
-    assert_eq!(rt; size, Some(Code::FINAL_SIZE_ERROR));
+    assert_eq!(rt; size, Some((Code::FINAL_SIZE_ERROR, Reason::FinalSize)));
     let own = answered(&rt, Side::Client, &[0x0a, 0x00, 0x01, 0x78])?;
-    assert_eq!(rt; own, Some(Code::STREAM_STATE_ERROR));
+    assert_eq!(rt; own, Some((Code::STREAM_STATE_ERROR, Reason::NotSendable)));
+    Ok(())
+}
+
+// RFC 9000, sections 4.6 and 17.3.1: the first stream where none may be opened, and reserved bits that aren't 0.
+#[test]
+fn counts_and_reserved_bits_are_kept(rt: HostRuntime) -> Result<(), Fail> {
+    let mut no_streams = TransportConfig::default();
+    no_streams.max_concurrent_bidi_streams(VarInt::from_u32(0));
+    let mut first = sealed_for(rt.alloc(), Side::Server, 0x43, &[0x0a, 0x00, 0x01, 0x78])?;
+    let end = new_end(rt.alloc(), Side::Server, no_streams)?;
+    let beyond = answered_by(&rt, end, &mut first)?;
+    assert_eq!(rt;
+        beyond,
+        Some((Code::STREAM_LIMIT_ERROR, Reason::TooManyStreams))
+    );
+    let mut reserved = sealed_for(rt.alloc(), Side::Server, 0x4b, &[0x01])?;
+    let end = new_end(rt.alloc(), Side::Server, TransportConfig::default())?;
+    let refused = answered_by(&rt, end, &mut reserved)?;
+    assert_eq!(rt;
+        refused,
+        Some((Code::PROTOCOL_VIOLATION, Reason::ReservedBits))
+    );
     Ok(())
 }
 
@@ -128,6 +168,6 @@ fn at_most_2048_pieces_wait(rt: HostRuntime) -> Result<(), Fail> {
     assert_eq!(rt; answered(&rt, Side::Server, &payload)?, None);
     payload.extend_from_slice(&[0x0e, 0x00, 0x50, 0x01, 0x01, 0x78])?;
     let more = answered(&rt, Side::Server, &payload)?;
-    assert_eq!(rt; more, Some(Code::INTERNAL_ERROR));
+    assert_eq!(rt; more, Some((Code::INTERNAL_ERROR, Reason::TooManyPieces)));
     Ok(())
 }

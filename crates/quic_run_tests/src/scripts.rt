@@ -6,15 +6,17 @@ use std::io;
 use std::io::{ErrorKind, Read, Write};
 use std::test::Fail;
 
-/// Gives its text a byte at a time, then fails, or gives no end at all.
+/// Gives its text a byte at a time, then fails, or gives no end at all; and counts its calls.
 #[derive(Drop)]
 struct Failing<'a> {
     text: &'a [u8],
     endless: bool,
+    calls: &'a Cell<u64>,
 }
 
 impl Read for Failing<'_> {
     fn read(&mut self, buf: &mut [u8]) -> io::Result<usize> {
+        self.calls.set(self.calls.get().wrapping_add(1));
         match (self.text.split_first(), buf.first_mut()) {
             (Some((byte, rest)), Some(place)) => {
                 *place = *byte;
@@ -102,18 +104,29 @@ impl Write for Answering<'_> {
     }
 }
 
-/// How a script ends whose reader fails behind this text or has no end, and what it prints.
-fn ended(alloc: Global, text: &[u8], endless: bool) -> (Result<(), ScriptError>, Vec<u8>) {
+/// How a script ends whose reader fails behind this text or has no end and is called 100 times at most, what it prints, and how
+/// often the reader is called.
+fn ended(alloc: Global, text: &[u8], endless: bool) -> (Result<(), ScriptError>, Vec<u8>, u64) {
     let mut out = Vec::new(alloc);
-    let ended = run_script_within(alloc, Failing { text, endless }, &mut out, 100);
-    (ended, out)
+    let calls = Cell::new(0);
+    let reader = Failing {
+        text,
+        endless,
+        calls: &calls,
+    };
+    let ended = run_script_within(alloc, reader, &mut out, 100);
+    (ended, out, calls.get())
 }
 
 #[test]
 fn a_reader_that_fails_or_has_no_end_is_a_read_fault(rt: HostRuntime) {
-    let texts: [(&[u8], bool); 2] = [(b"c open bi\nc wri", false), (b"c open bi\n", true)];
-    for (text, endless) in texts {
-        let (ended, out) = ended(rt.alloc(), text, endless);
+    let texts: [(&[u8], bool, u64); 2] = [
+        (b"c open bi\nc wri", false, 16),
+        (b"c open bi\n", true, 100),
+    ];
+    for (text, endless, wanted) in texts {
+        let (ended, out, calls) = ended(rt.alloc(), text, endless);
+        assert_eq!(rt; calls, wanted);
         assert_eq!(rt; ended, Err(ScriptError::ReadFault));
         assert!(rt; out.as_slice() == b"c open 0\n".as_slice());
     }

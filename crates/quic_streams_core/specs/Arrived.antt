@@ -138,7 +138,8 @@ abbrev pub settled : List Part → List Part
 settled ps = cond (is_crowded ps) (joined ps) ps
 
 -- after bytes came at an offset: those that were given are dropped, the first bytes to come at an offset stand, and the
--- parts are joined where they are too many
+-- parts are joined where they are too many. It is the one value that `Waiting.IsInserted` tells offset by offset, part by part as
+-- the definitions of ends reckon with it
 abbrev pub after_insert : Arrived → ℕ → List ℕ → Arrived
 after_insert a offset bytes = record a { parts = settled (with_free a.picked a.parts (max a.read offset) (drop (a.read - offset) bytes)) }
 

@@ -179,13 +179,19 @@ fn fill_gaps(rt: &impl Abort, assembler: &mut Assembler) -> Result<u8, Fail> {
     Ok(b'y')
 }
 
+// A byte waits at each second offset, from 1 on.
+fn insert_apart(rt: &impl Abort, assembler: &mut Assembler, count: u32) -> Result<(), Fail> {
+    for place in 0..count {
+        make(rt, assembler, Insert(2 * u64::from(place) + 1, b"a"))?;
+    }
+    Ok(())
+}
+
 // Bytes fill 15 gaps among 14 parts: with the second of these a full node is split, which takes the allocations 49 and 50.
 #[test]
 fn a_node_is_full_at_an_insert(rt: HostRuntime) -> Result<(), Fail> {
     let mut assembler = Assembler::new(rt.alloc());
-    for place in 0..14u64 {
-        make(&rt, &mut assembler, Insert(2 * place + 1, b"a"))?;
-    }
+    insert_apart(&rt, &mut assembler, 14)?;
     let byte = fill_gaps(&rt, &mut assembler)?;
     for place in 0..14u64 {
         make(&rt, &mut assembler, Read(9, 2 * place, &[byte]))?;
@@ -210,15 +216,21 @@ fn read_or_bring(rt: &impl Abort, assembler: &mut Assembler, offset: u64) -> Res
     Ok(())
 }
 
+// A byte comes for each second offset, and is read.
+fn read_apart(rt: &impl Abort, assembler: &mut Assembler, count: u32) -> Result<(), Fail> {
+    for place in 0..count {
+        make(rt, assembler, Insert(2 * u64::from(place), b"a"))?;
+        read_or_bring(rt, assembler, 2 * u64::from(place))?;
+    }
+    Ok(())
+}
+
 // Each second byte is read out of order: with the 16th a full node is split, which takes the allocations 51 and 52. None comes again.
 #[test]
 fn a_node_is_full_at_a_read(rt: HostRuntime) -> Result<(), Fail> {
     let mut assembler = Assembler::new(rt.alloc());
     make(&rt, &mut assembler, Begin(false, true))?;
-    for place in 0..16u64 {
-        make(&rt, &mut assembler, Insert(2 * place, b"a"))?;
-        read_or_bring(&rt, &mut assembler, 2 * place)?;
-    }
+    read_apart(&rt, &mut assembler, 16)?;
     make(&rt, &mut assembler, Insert(0, &[b'x'; 32]))?;
     make(&rt, &mut assembler, Count(16, 16))?;
     for place in 0..16u64 {
@@ -241,21 +253,19 @@ fn cleared_bytes_are_gone(rt: HostRuntime) -> Result<(), Fail> {
     make(&rt, &mut assembler, Read(9, 2, b"yz"))
 }
 
-// More runs than should wait are kept all the same: who calls refuses them.
+// More runs than should wait are kept all the same: who calls refuses them, as an end does.
 #[test]
 fn runs_are_counted(rt: HostRuntime) -> Result<(), Fail> {
     let mut assembler = Assembler::new(rt.alloc());
-    for place in 0..2048u64 {
-        make(&rt, &mut assembler, Insert(2 * place + 1, b"x"))?;
-    }
+    insert_apart(&rt, &mut assembler, 2048)?;
     make(&rt, &mut assembler, Count(0, 2048))?;
     assert_eq!(rt; assembler.runs(), MOST_PIECES);
-    make(&rt, &mut assembler, Insert(4097, b"x"))?;
+    make(&rt, &mut assembler, Insert(4097, b"a"))?;
     make(&rt, &mut assembler, Count(0, 2049))?;
     assert!(rt; assembler.runs() > MOST_PIECES);
     make(&rt, &mut assembler, Begin(false, true))?;
     for place in 0..2049u64 {
-        make(&rt, &mut assembler, Read(9, 2 * place + 1, b"x"))?;
+        make(&rt, &mut assembler, Read(9, 2 * place + 1, b"a"))?;
     }
     make(&rt, &mut assembler, Count(2049, 0))
 }

@@ -26,7 +26,7 @@ pub fn append_zeros(out: &mut Vec<u8>, count: usize)
 }
 
 /// How many bytes a number takes as a variable-length integer: 1, 2, 4 or 8 (RFC 9000, 16;
-/// quinn's `VarInt::size`).
+/// quinn-proto's `VarInt::size`).
 pub fn varint_size(n: VarInt) -> usize
     ensures size { result ≡ length (shortest n) }
     ensures some { 1 ≤ result }

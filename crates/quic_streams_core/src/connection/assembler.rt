@@ -76,7 +76,7 @@ impl Assembler {
         }
     }
 
-    /// The number of bytes that were read. While no read was unordered, it is the offset up to
+    /// The number of bytes that were read (quinn-proto's `Assembler::bytes_read`). While no read was unordered, it is the offset up to
     /// which they have come.
     pub fn bytes_read(&self) -> u64
         ensures value { result ≡ bytes_read_of self.now }
@@ -132,7 +132,7 @@ impl Assembler {
         }
     }
 
-    /// Begins a read: after an unordered one all are unordered.
+    /// Begins a read: after an unordered one all are unordered (quinn-proto's `Assembler::ensure_ordering`).
     ///
     /// # Errors
     ///
@@ -157,7 +157,8 @@ impl Assembler {
     /// Puts in bytes that came at an offset (RFC 9000, 19.8): those that were not read and do not
     /// wait yet. They end at 2^62 - 1 at most. Parts that touch are joined where there are more
     /// than 2048, more than two for each run, and no fewer than one for each 64 bytes that wait. So
-    /// joining copies no more than 128 bytes for each part that goes, each byte once.
+    /// joining copies no more than 128 bytes for each part that goes, each byte once. The one insert that joins looks each part
+    /// up, and holds both maps until it ends. quinn-proto's `Assembler::insert`.
     ///
     /// # Errors
     ///
@@ -249,7 +250,7 @@ impl Assembler {
         }
     }
 
-    /// Drops what waits.
+    /// Drops what waits (quinn-proto's `Assembler::clear`).
     pub fn clear(&mut self)
         ensures value { self.new ≡ record self.old { parts = [] } }
         ensures lawful { IsLawful self.new }

@@ -192,7 +192,8 @@ impl SendBuffer {
     /// The least lost run goes first, cut to the room; bytes that were never sent go where nothing is lost. The offset
     /// takes its width of the room, unless it is 0. Where what is left to go fills the room, the frame ends with it and has
     /// no length. Else it has one, and 8 bytes are kept for it. With fewer than 16 bytes of room a frame may not fit it: its
-    /// offset and length are written all the same.
+    /// offset and length are written all the same. With fewer than 17 no byte may go, although some wait; where nothing waits the
+    /// range is empty (quinn-proto's `SendBuffer::poll_transmit`).
     pub fn poll_transmit(&mut self, max_len: usize) -> (Range<u64>, bool)
         ensures start { result.0.start ≡ next_start self.old }
         ensures end { result.0.end ≡ sent_end self.old max_len }
@@ -219,8 +220,8 @@ impl SendBuffer {
     }
 
     /// The bytes at these offsets from the first on, up to the last or the end of the piece that the first was written in
-    /// (quinn-proto's `SendBuffer::get`). The range isn't reversed, begins at the first offset that is kept or behind it, and
-    /// ends at `offset()` at most. One that a poll gave is such a range until its first offset is acknowledged.
+    /// (quinn-proto's `SendBuffer::get`). The range isn't reversed, begins at the first offset that is kept, which is
+    /// `offset() - buffered()`, or behind it, and ends at `offset()` at most. One that a poll gave is such a range until its first offset is acknowledged.
     pub fn get(&self, offsets: Range<u64>) -> &[u8]
         requires kept { self.now.base ≤ offsets.start }
         requires ordered { offsets.start ≤ offsets.end }
