@@ -8,8 +8,8 @@ ghost use Rattle.quic_run_core.specs.Policies.{policies_in};
 
 use bytes::Bytes;
 use quic_connection::{
-    Answer, Call, Config, ConfigError, Connection, Delivery, Ends, Given, Instant, Making,
-    ReadCall, Received, RunEvent, TransportConfig, run, step,
+    Answer, Call, Config, ConfigError, Delivery, Ends, Given, Instant, Making, ReadCall, Received,
+    RunEvent, TransportConfig, run, step,
 };
 use quic_run_core::Words;
 use quic_run_core::key::{PlainHeaderKey, PlainKey, keys_for};
@@ -20,10 +20,7 @@ use std::alloc::{AllocError, Global};
 /// The order in which transport parameters are written: that of their ids.
 pub(crate) const ORDER: [u8; 13] = [0, 1, 2, 3, 4, 5, 6, 7, 8, 9, 10, 11, 12];
 
-/// An end with the keys of scripts.
-pub(crate) type End = Connection<PlainHeaderKey, PlainKey, Words>;
-
-pub(crate) type BothEnds = Ends<PlainHeaderKey, PlainKey, Words>;
+type BothEnds = Ends<PlainHeaderKey, PlainKey, Words>;
 
 /// The first id of an end.
 fn id_of(side: Side) -> ConnectionId {
