@@ -1,4 +1,4 @@
--- The calls of one end: what each answers, and what it leaves.
+-- The calls of the application at one end (RFC 9000, section 2.4): what each answers, and what it leaves.
 use Rattle.std.specs.Prelude.{ℕ, ◌≡◌, ◌⊎◌, Bool, true, false, List, [], ◌∷◌, Option, Some, None, Result, Err}
 use Rattle.quic_wire_core.specs.declared.stream_id.Dir.{Dir}
 use Rattle.quic_wire_core.specs.declared.stream_id.Dir.TheVariants.{Bi, Uni}
@@ -26,7 +26,7 @@ is_open states.Closing = false
 is_open states.Drained = false
 is_open states.Failed = false
 
--- ---- open
+-- ---- open (sections 2.1 and 4.6)
 
 abbrev pub open_if : Bool → Dir → End → Option ℕ
 open_if true dir e = Some (next_id e.side dir e.sending)
@@ -57,7 +57,7 @@ after_open_if false dir e = e
 abbrev pub after_open : Dir → End → End
 after_open dir e = after_open_if (can_open e.closing.state dir e) dir e
 
--- ---- accept
+-- ---- accept (section 2.1)
 
 abbrev pub end_accepts : Dir → End → Option ℕ
 end_accepts dir e = accept_answer e.side dir e.receiving
@@ -66,7 +66,7 @@ end_accepts dir e = accept_answer e.side dir e.receiving
 abbrev pub end_after_accept : Dir → End → End
 end_after_accept dir e = with_receiving e (after_accept dir e.receiving)
 
--- ---- write and finish
+-- ---- write and finish (sections 2.2, 3.1 and 4.1)
 
 abbrev pub end_writes : End → ℕ → ℕ → Result ℕ WriteError
 end_writes e id len = write_answer (is_open e.closing.state) e.sending id len
@@ -79,13 +79,13 @@ end_after_write answer e id bytes = with_sending e (after_written answer e.sendi
 abbrev pub end_after_finish : End → ℕ → End
 end_after_finish e id = with_sending e (sending.after_finish e.sending id)
 
--- ---- ping
+-- ---- ping (section 19.2)
 
 -- the end after a call that asks for a PING: two before it goes are one
 abbrev pub end_after_ping : End → End
 end_after_ping e = with_ping e true
 
--- ---- events
+-- ---- events (sections 2.4 and 10)
 
 -- what the application is told: what happened to streams, and then that the end is lost, once, and why
 abbrev pub tells_of : List StreamEvent → Closing → Option Event
@@ -105,7 +105,7 @@ after_telling (event ∷ more) e = record e { events = more }
 abbrev pub end_after_event : End → End
 end_after_event e = after_telling e.events e
 
--- ---- read
+-- ---- read (section 2.2)
 
 -- what a `next` leaves, by its answer
 abbrev pub end_after_next : Result (Option Chunk) ReadError → End → ℕ → ℕ → End

@@ -1,4 +1,4 @@
--- One end: a record of parts, one for each concern, and beside it the keys and the random source.
+-- One end of a connection (RFC 9000, section 5): a record of parts, one for each concern, and beside it the keys and the random source.
 use Rattle.std.specs.Prelude.{◌≡◌, ℕ, Bool, ◌==◌, ◌||◌, not, if◌then◌else◌, List, [], length, false, Option, Some, None, Result, Ok, Err}
 use Rattle.quic_wire_core.specs.declared.stream_id.Side.{Side}
 use Rattle.quic_packet.specs.Keys.{OfFirst, OfNumber, Seal, Open}
@@ -26,15 +26,21 @@ use Rattle.quic_connection_core.specs.Policy.{Policy}
 -- one end of a connection
 pub record End : Type 0 where
   pub side : Side
+  -- its clock, and whether it is open (section 10)
   pub closing : Closing
+  -- connection ids (section 5.1), packet numbers (section 12.3), and what is to be acknowledged (section 13.2)
   pub ids : Ids
   pub numbers : Numbers
   pub acknowledging : Pending
+  -- when timers expire, and the datagrams in flight (RFC 9002, sections 2 and 6)
   pub timers : Timers
   pub tracking : Tracking
+  -- the path to the peer (section 8)
   pub path : Path
+  -- the halves of streams (sections 3.1 and 3.2)
   pub sending : Sending
   pub receiving : Receiving
+  -- messages (RFC 9221), and frames of control that wait to go (section 13.3)
   pub messages : Messages
   pub waiting : Waiting
   -- what the application is to be told of streams, in its order

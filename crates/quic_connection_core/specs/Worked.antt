@@ -1,4 +1,4 @@
--- A worked run: the client opens stream 0, writes `hello`, ends it, and gives one datagram; the server takes it twice, and reads the stream.
+-- A worked run: the client opens stream 0, writes `hello`, ends it, and gives one datagram; it comes to the server twice, which takes it once and reads the stream.
 use Rattle.std.specs.Prelude.{ℕ, ◌-◌, ◌%◌, Bool, true, false, nat_le, nat_eq, ◌&&◌, if◌then◌else◌, List, [], ◌∷◌, ◌++◌, length, take, drop, replicate, slice_index, bit_xor, Option, Some, None, Ok}
 use Rattle.std.specs.Int.{w64, to_be_bytes}
 use Rattle.std.specs.Cmp.Lexicographic.{pointwise}

@@ -1,5 +1,5 @@
-//! Runs of machines with a bug, computed: each breaks a clause of the headline, and the reference machine runs none of
-//! them. Each function does nothing: its contract is the law.
+//! Runs of machines with a bug, computed: each breaks a clause of the headline, or is none that the reference machine makes.
+//! Each function does nothing: its contract is the law.
 ghost use Rattle.std.specs.Prelude.{◌≡◌, List, [], ◌∷◌, Ok, Err, true, alloc_error};
 ghost use Rattle.quic_wire_core.specs.declared.stream_id.Side.TheVariants.{Client, Server};
 ghost use Rattle.quic_wire_core.specs.declared.stream_id.Dir.TheVariants.{Bi};

@@ -8,7 +8,7 @@ use Rattle.quic_run_core.specs.declared.script.LineError.{LineError}
 use Rattle.quic_run_core.specs.declared.script.LineError.TheVariants.{BadCommand, OutOfMemory}
 use Rattle.quic_run_core.specs.Language.{said}
 use Rattle.quic_run_core.specs.Scripts.{Stage, first_stage, Does, IsRefused, IsRun, lines_of}
-use Rattle.quic_run_core.specs.Reading.{IsNextLine, IsOver, BeginsTooLong, IsReadFault}
+use Rattle.quic_run_core.specs.Reading.{IsNextLine, IsOver, BeginsTooLong, IsUnread}
 use Rattle.quic_run_core.specs.Outcomes.{HasRun, Begins, RanAll, RanSome, StopsAt, Stopped}
 
 -- ---- lines
@@ -144,7 +144,7 @@ running-bad script old number stage left new line rest r taken refused =
     (r.done, stage, bad.0, r.ran, bad.1, r.count, bad.2)
 
 -- a fault of the reader, or want of memory, stops the script somewhere
-pub stopped_fault : (e : ScriptError) (script old new : Option (List ℕ)) → IsReadFault e → RanSome script old new → Stopped e script old new
+pub stopped_fault : (e : ScriptError) (script old new : Option (List ℕ)) → IsUnread e → RanSome script old new → Stopped e script old new
 stopped_fault e script old new fault some =
     elim fault [
       | inl is ↦ rw is some

@@ -51,5 +51,5 @@ IsOver None = Unit {0}
 IsOver (Some bytes) = lines_of bytes ≡ []
 
 -- why no line was read: the reader failed, or memory lacked
-abbrev pub IsReadFault : ScriptError → Type 0
-IsReadFault e = (e ≡ ReadFault) ⊎ (e ≡ OutOfMemory)
+abbrev pub IsUnread : ScriptError → Type 0
+IsUnread e = (e ≡ ReadFault) ⊎ (e ≡ OutOfMemory)

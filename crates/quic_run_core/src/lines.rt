@@ -27,7 +27,7 @@ pub(crate) struct Lines<R: Drop> {
 
 impl<R: Read + Drop> Lines<R> {
     ghost use Rattle.std.specs.Io.KnownBytes.{Keeps, IsAtEnd};
-    ghost use Rattle.quic_run_core.specs.Reading.{unread_of, left_of, KnowsEnd, Moves, IsNextLine, IsOver, IsReadFault};
+    ghost use Rattle.quic_run_core.specs.Reading.{unread_of, left_of, KnowsEnd, Moves, IsNextLine, IsOver, IsUnread};
 
     /// The lines that a reader gives in so many calls.
     pub(crate) fn new(alloc: Global, reader: R, turns: u64) -> Result<Self, AllocError>
@@ -54,7 +54,7 @@ impl<R: Read + Drop> Lines<R> {
         requires { KnowsEnd R.remaining self.old }
         ensures known { KnowsEnd R.remaining self.new }
         ensures line { IfOk result (λ more. MatchBool more (IsNextLine (left_of R.remaining self.old) line.new.items (left_of R.remaining self.new)) (IsOver (left_of R.remaining self.old))) }
-        ensures fault { IfErr result IsReadFault }
+        ensures fault { IfErr result IsUnread }
     {
         line.clear();
         for _ in 0..u64::MAX {
@@ -102,7 +102,7 @@ impl<R: Read + Drop> Lines<R> {
         ensures end { IfOk result (λ more. more ≡ false → IsAtEnd (left_of R.remaining self.old)) }
         ensures turns { self.old.ended ≡ false → self.new.turns ≡ self.old.turns - 1 }
         ensures exhausted { self.old.ended ≡ false → self.old.turns ≡ 0 → result ≡ Err ScriptError.ReadFault }
-        ensures fault { IfErr result IsReadFault }
+        ensures fault { IfErr result IsUnread }
     {
         if self.ended {
             return Ok(false);

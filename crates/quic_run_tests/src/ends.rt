@@ -87,7 +87,7 @@ pub(crate) fn stream() -> StreamId {
     StreamId::new(Side::Client, Dir::Bi, 0)
 }
 
-fn event(side: Side, call: Call) -> RunEvent {
+pub(crate) fn event(side: Side, call: Call) -> RunEvent {
     RunEvent { side, call }
 }
 
@@ -100,14 +100,19 @@ pub(crate) fn read_call(alloc: Global, bounds: &[usize]) -> Result<Call, AllocEr
     }))
 }
 
-/// The client writes `hello` on its stream and ends it, and the server reads it to its end.
-pub(crate) fn hello(alloc: Global) -> Result<[RunEvent; 6], AllocError> {
-    let now = Instant::from_nanos(0);
+/// The client's datagram of this index arrives.
+pub(crate) fn delivery(index: usize) -> RunEvent {
     let delivery = Delivery {
-        now,
+        now: Instant::from_nanos(0),
         ecn: Some(EcnCodepoint::Ect0),
-        index: 0,
+        index,
     };
+    event(Side::Server, Call::Deliver(delivery))
+}
+
+/// The client writes `hello` on its stream and ends it, and the server accepts the stream and reads it to its end.
+pub(crate) fn hello(alloc: Global) -> Result<[RunEvent; 7], AllocError> {
+    let now = Instant::from_nanos(0);
     let bytes = Bytes::from_static(b"hello");
     let read = read_call(alloc, &[32, 32])?;
     Ok([
@@ -115,9 +120,21 @@ pub(crate) fn hello(alloc: Global) -> Result<[RunEvent; 6], AllocError> {
         event(Side::Client, Call::Write(stream(), bytes)),
         event(Side::Client, Call::Finish(stream())),
         event(Side::Client, Call::Poll(now)),
-        event(Side::Server, Call::Deliver(delivery)),
+        delivery(0),
+        event(Side::Server, Call::Accept(Dir::Bi)),
         event(Side::Server, read),
     ])
+}
+
+/// Whether a read gave `hello`, and then the end.
+pub(crate) fn is_hello(answer: &Answer) -> bool {
+    match answer {
+        Answer::Read(Ok(nexts)) => match nexts.as_slice() {
+            [Ok(Some(chunk)), Ok(None)] => chunk.bytes.as_slice() == b"hello".as_slice(),
+            _ => false,
+        },
+        _ => false,
+    }
 }
 
 /// Whether the event of this index of `hello` is answered as where memory serves.
@@ -127,10 +144,8 @@ pub(crate) fn is_served(index: usize, answer: &Answer) -> bool {
         (1, Answer::Write(Ok(5))) | (2, Answer::Finish(Ok(()))) => true,
         (3, Answer::Poll(Ok(Some(transmit)))) => transmit.size == 34,
         (4, Answer::Deliver(Received::Taken)) => true,
-        (5, Answer::Read(Ok(nexts))) => match nexts.as_slice() {
-            [Ok(Some(chunk)), Ok(None)] => chunk.bytes.as_slice() == b"hello".as_slice(),
-            _ => false,
-        },
+        (5, Answer::Accept(Some(id))) => *id == stream(),
+        (6, read) => is_hello(read),
         _ => false,
     }
 }

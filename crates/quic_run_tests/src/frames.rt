@@ -8,7 +8,7 @@ use std::alloc::{AllocError, Global};
 use std::process::Abort;
 use std::test::Fail;
 
-type End = Connection<PlainHeaderKey, PlainKey, Words>;
+pub(crate) type End = Connection<PlainHeaderKey, PlainKey, Words>;
 
 /// The first id of an end.
 fn id_of(side: Side) -> [u8; 8] {
@@ -30,7 +30,12 @@ fn sealed_for(alloc: Global, side: Side, first: u8, payload: &[u8]) -> Result<Ve
     Ok(out)
 }
 
-fn new_end(alloc: Global, side: Side, transport: TransportConfig) -> Result<End, ConfigError> {
+/// An end of this side, whose peer has the default parameters.
+pub(crate) fn new_end(
+    alloc: Global,
+    side: Side,
+    transport: TransportConfig,
+) -> Result<End, ConfigError> {
     Connection::new(
         alloc,
         side,

@@ -106,7 +106,7 @@ fn a_run(rt: HostRuntime) -> Result<(), Fail> {
     for _ in 0..3 {
         let (answers, cut_short) = ran(rt.alloc(), &events)?;
         assert!(rt; are_right(&answers, cut_short));
-        assert!(rt; cut_short != (answers.len() == 6));
+        assert!(rt; cut_short != (answers.len() == 7));
     }
     Ok(())
 }

@@ -6,7 +6,7 @@ use std::test::Fail;
 
 /// The datagram of `hello` with the end of its stream: a short header, a STREAM frame, the number 0
 /// and the client's mark.
-const SEALED: [u8; 34] = [
+pub(crate) const SEALED: [u8; 34] = [
     0x48, 0x50, 0x50, 0x50, 0x50, 0x50, 0x50, 0x50, 0x50, 0x65, 0x0b, 0x00, 0x05, 0x68, 0x65, 0x6c,
     0x6c, 0x6f, 0, 0, 0, 0, 0, 0, 0, 0, 0x63, 0x63, 0x63, 0x63, 0x63, 0x63, 0x63, 0x63,
 ];
@@ -14,7 +14,7 @@ const SEALED: [u8; 34] = [
 #[test]
 fn five_bytes_arrive(rt: HostRuntime) -> Result<(), Fail> {
     let (answers, cut_short) = ran(rt.alloc(), &hello(rt.alloc())?)?;
-    assert!(rt; answers.len() == 6 && !cut_short);
+    assert!(rt; answers.len() == 7 && !cut_short);
     for (index, answer) in answers.iter().enumerate() {
         assert!(rt; is_served(index, answer), "event {index}");
     }

@@ -54,7 +54,7 @@ pub fn joins_copy_little()
     ensures { (a : Arrived) → IsLawful a → is_crowded a.parts ≡ true → length (bytes_of a.parts) ≤ 128 * (length a.parts - length (joined a.parts)) }
 {}
 
-/// 2048 runs of a stream should wait at most (RFC 9000, 21.7).
+/// 2048 runs of a stream should wait at most: our choice, as RFC 9000, 21.7 names no number.
 pub fn few_runs_should_wait()
     ensures { MOST_PIECES ≡ 2048 }
 {}

@@ -134,12 +134,26 @@ fn small_frames_in_order_are_one_run(rt: HostRuntime) -> Result<(), Fail> {
     make(&rt, &mut assembler, Count(100_000, 0))
 }
 
-// So many allocations are made before frames come in order, until some are joined. Where the program's allocation 6441 fails, an
-// earlier one of the assembler's does for each of these: among them all of that join.
+// Two runs of one-byte frames, 2049 in all: the last one makes them too many, and each run is joined.
+fn insert_two_runs(rt: &impl Abort, assembler: &mut Assembler) -> Result<(), Fail> {
+    for offset in 5000..6025u64 {
+        make(rt, assembler, Insert(offset, b"y"))?;
+    }
+    for offset in 0..1024u64 {
+        make(rt, assembler, Insert(offset, b"x"))?;
+    }
+    make(rt, assembler, Count(0, 2))
+}
+
+// So many allocations are made before two runs come and are joined. Where the program's allocation 6442 fails, an earlier one of
+// the assembler's does for each of these: among them all of that join. What waits is in two parts then.
 fn join_behind<R: Abort + AllocGlobal>(rt: &R, allocations: u64) -> Result<(), Fail> {
     spend(rt, allocations);
     let mut assembler = Assembler::new(rt.alloc());
-    insert_in_order(rt, &mut assembler, 7000)
+    insert_two_runs(rt, &mut assembler)?;
+    make(rt, &mut assembler, Read(9999, 0, &[b'x'; 1024]))?;
+    make(rt, &mut assembler, Begin(false, true))?;
+    make(rt, &mut assembler, Read(9999, 5000, &[b'y'; 1025]))
 }
 
 #[test]

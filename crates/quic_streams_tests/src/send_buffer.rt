@@ -205,6 +205,34 @@ fn a_node_is_full_at_an_ack(rt: HostRuntime) -> Result<(), Fail> {
     Ok(())
 }
 
+// An acknowledgement fills seven gaps: where memory lacks behind some of them, as the list of what was put in grows, none is filled.
+#[test]
+fn an_ack_fills_all_gaps_or_none(rt: HostRuntime) -> Result<(), Fail> {
+    let mut buffer = acked_apart(&rt, 38, &[b'x'; 13], 6)?;
+    if buffer.ack(0..13).is_err() {
+        make(&rt, &mut buffer, Lose(0, 13))?;
+        go(&rt, &mut buffer, 6, 13);
+        buffer.ack(0..13)?;
+    }
+    make(&rt, &mut buffer, Tell(true, false))?;
+    make(&rt, &mut buffer, Keep(0))
+}
+
+// The 16th piece is put into a full node of the map of pieces. Where memory lacks for that, it was not written.
+#[test]
+fn a_node_is_full_at_a_write(rt: HostRuntime) -> Result<(), Fail> {
+    spend(&rt, 17);
+    let mut buffer = SendBuffer::new(rt.alloc());
+    for _ in 0..15 {
+        make(&rt, &mut buffer, Write(b"x"))?;
+    }
+    make(&rt, &mut buffer, Write(b"yz"))?;
+    assert_eq!(rt; buffer.poll_transmit(100), (0..17, true));
+    assert_eq!(rt; buffer.get(14..17), b"x".as_slice());
+    assert_eq!(rt; buffer.get(15..17), b"yz".as_slice());
+    Ok(())
+}
+
 // A loss brings 17 runs beside one that was lost before. Where memory lacks behind some of them, that one alone goes again.
 #[test]
 fn a_node_is_full_at_a_loss(rt: HostRuntime) -> Result<(), Fail> {
