@@ -5,6 +5,8 @@
 //!   a shuffled order, and are read.
 //! - `in_order MIB`: so many MiB arrive in frames of 1200 bytes, and each frame is read when it has come.
 //! - `unread COUNT`: so many frames of one byte arrive in order, and are read once all have come.
+//! - `known ROUNDS`: 1200 frames of one byte wait, and then a frame of 1200 bytes comes so many times, of which each byte waits
+//!   already; then all are read.
 //! - `send MIB`: so many MiB are written in pieces of 1200 bytes; each frame is acknowledged when it has gone.
 //! - `buffered MIB`: so many MiB are written, then all sent, and then all acknowledged.
 #![tactic(auto)]
@@ -140,6 +142,19 @@ fn unread(alloc: Global, count: u32, tally: &mut Tally) -> Result<(), AllocError
     read_parts(&mut assembler, count, tally)
 }
 
+// How many bytes a frame has, each of which may be a frame of its own.
+const FRAME_BYTES: u32 = 1200;
+
+// The bytes of a frame wait one by one, and the frame comes so many times: it brings nothing that is new.
+fn known(alloc: Global, rounds: u32, tally: &mut Tally) -> Result<(), AllocError> {
+    let mut assembler = Assembler::new(alloc);
+    insert_unread(&mut assembler, FRAME_BYTES)?;
+    for _ in 0..rounds {
+        assembler.insert(0, &FRAME)?;
+    }
+    read_parts(&mut assembler, FRAME_BYTES, tally)
+}
+
 // The least offset that nothing is written at.
 const LIMIT: u64 = 1 << 61;
 
@@ -251,6 +266,7 @@ fn work(alloc: Global, line: &str) -> Result<Tally> {
         "pieces" => pieces(alloc, size, count, &mut tally)?,
         "in_order" => in_order(alloc, size, &mut tally)?,
         "unread" => unread(alloc, size, &mut tally)?,
+        "known" => known(alloc, size, &mut tally)?,
         "send" => send(alloc, size, &mut tally)?,
         "buffered" => buffered(alloc, size, &mut tally)?,
         _ => bail!("no such work"),
