@@ -11,7 +11,7 @@ use Rattle.quic_streams_core.proofs.Claims.{gaps_apart}
 use Rattle.quic_streams_core.proofs.Spans.{next_past}
 
 -- runs that end before the bytes begin do not matter
-behind_span : (at : ℕ) (g : Span) (gs : List Span) (ps : List Part) (bs : List ℕ) → g.1 < g.0 → g.0 ≤ at → with_free (g ∷ gs) ps at bs ≡ with_free gs ps at bs
+pub behind_span : (at : ℕ) (g : Span) (gs : List Span) (ps : List Part) (bs : List ℕ) → g.1 < g.0 → g.0 ≤ at → with_free (g ∷ gs) ps at bs ≡ with_free gs ps at bs
 behind_span at g gs ps bs k l =
     let e1 : g.1 - at ≡ 0 = omega arith in
     let e2 : max at g.0 ≡ at = omega arith in

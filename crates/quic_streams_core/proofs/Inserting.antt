@@ -14,10 +14,6 @@ pub on_both : {A E P Q R : Type 0} (r : Result A E) → OnOk r P → OnErr r Q �
 on_both (Ok x) p q f g = f p
 on_both (Err e) p q f g = g q
 
-pub on_ok : {A E P Q : Type 0} (r : Result A E) → OnOk r P → (P → Q) → OnOk r Q
-on_ok (Ok x) p f = f p
-on_ok (Err e) p f = tt
-
 pub all_behind : (k : ℕ) (bs : List ℕ) → take (length bs - k) (drop k bs) ≡ drop k bs
 all_behind k bs = let d = length-drop k bs in take_all (length bs - k) (drop k bs) (omega arith)
 

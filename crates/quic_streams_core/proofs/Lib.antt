@@ -21,6 +21,7 @@ pub mod Lawful
 pub mod Inserting
 pub mod Kept
 pub mod Gaps
+pub mod Skipped
 pub mod KeptWrites
 pub mod Joining
 pub mod WaitingBytes

@@ -1,13 +1,13 @@
 -- What the calls of a set of offsets do to its runs.
-use Rattle.std.proofs.Common.{◌≡◌, ℕ, ◌<◌, ◌≤◌, ltb, List, [], ◌∷◌, map, Bool, true, false, not, ◌&&◌, ◌||◌, cond, Some, None, Option, refl, sym, ap, ◌∙◌, subst, arith, inl, inr}
-use Rattle.std.proofs.lemmas.Bool.{or_cases, or_left, or_right, and_parts, and_from, not-true, not_from_false, false_from_ne_true, both_ways}
+use Rattle.std.proofs.Common.{◌≡◌, ℕ, ◌+◌, ◌<◌, ◌≤◌, ◌==◌, ltb, List, [], ◌∷◌, map, Bool, true, false, not, ◌&&◌, ◌||◌, cond, Some, None, Option, refl, sym, ap, ◌∙◌, subst, arith, inl, inr}
+use Rattle.std.proofs.lemmas.Bool.{or_cases, or_left, or_right, and_parts, and_from, not-true, not_from_false, false_from_ne_true, both_ways, ltb-true, ltb-false, le-ltb, eqb-false, eq-eqb, or_parts, not-false}
 use Rattle.quic_sets.specs.Runs.{Has, Adds, Drops}
 use Rattle.quic_streams_core.specs.Lacking.{AddsLacking, HasLacking, HasMoving}
 use Rattle.quic_sets.proofs.RunLists.{same_list}
-use Rattle.quic_streams_core.specs.Spans.{Span, in_span, in_spans, next_span}
-use Rattle.quic_streams_core.specs.Loose.{LieWithin, greatest, AreLoose, AreMaximal, BothLack, as_run, IsCut}
-use Rattle.quic_streams_core.proofs.Spans.{next_in}
-use Rattle.quic_streams_core.proofs.Loose.{lie_up, span_is, span_from, runs_are, runs_have}
+use Rattle.quic_streams_core.specs.Spans.{Span, in_span, in_spans, next_span, is_spanned, spanned_at, free_at}
+use Rattle.quic_streams_core.specs.Loose.{LieWithin, greatest, AreLoose, AreMaximal, BothLack, as_run, IsCut, begins_first, touches}
+use Rattle.quic_streams_core.proofs.Spans.{next_in, next_past}
+use Rattle.quic_streams_core.proofs.Loose.{lie_up, out_below, span_is, span_from, runs_are, runs_have}
 
 -- ---- offsets more or less
 pub lacking_made : (a z : ℕ) (es ns os : List Span) → ((o : ℕ) → in_spans ns o ≡ (in_spans es o || (in_span o (z, a) && not (in_spans os o)))) → AddsLacking (map as_run es) (map as_run os) (map as_run ns) a z
@@ -79,3 +79,50 @@ cut_least a es h least = go (next_span a es) refl
     go (Some g) e =
         let full = own a es g 0 greatest h e in
         least g.1 ((runs_have g.1 es).1 (next_in a g.1 es g e (span_from g.1 g (omega arith) full.0)))
+
+-- ---- a look: the offset behind those that are alike isn't
+-- the set has no offset where a run ends
+end_out : (low high at : ℕ) (es : List Span) (g : Span) → LieWithin low es high → ((o : ℕ) → touches o es ≡ false) → next_span at es ≡ Some g → in_spans es g.0 ≡ false
+end_out low high at [] g h t e = cc
+end_out low high at (x ∷ xs) g h t e = go (ltb at x.0) refl e (end_out x.0 high at xs g h.2 (λ o. (or_parts (x.0 == o && begins_first o xs) (touches o xs) (t o)).1))
+  where
+    no_more : (b : Bool) → ((b && false) || false) ≡ false
+    no_more true = refl
+    no_more false = refl
+
+    behind : (ys : List Span) → begins_first x.0 ys ≡ false → LieWithin x.0 ys high → in_spans ys x.0 ≡ false
+    behind [] b l = refl
+    behind (y ∷ ys) b l = out_below y.1 high x.0 (y ∷ ys) (omega arith, l.1, l.2) (more y.1 x.0 l.0 (eqb-false y.1 x.0 b))
+      where
+        more : (a b : ℕ) → b ≤ a → (a ≡ b → ⊥) → b < a
+        more a b j n = omega arith
+
+    self : in_spans (x ∷ xs) x.0 ≡ false
+    self =
+        let apart : begins_first x.0 xs ≡ false = subst (λ (b : Bool). (b && begins_first x.0 xs) ≡ false) (eq-eqb x.0 x.0 refl) (or_parts (x.0 == x.0 && begins_first x.0 xs) (touches x.0 xs) (t x.0)).0 in
+        let out = le-ltb x.0 x.0 (omega arith) in
+        let rest = behind xs apart h.2 in
+        rw (out, rest) (no_more (not (ltb x.0 x.1)))
+
+    go : (b : Bool) → ltb at x.0 ≡ b → cond b (Some x) (next_span at xs) ≡ Some g → (next_span at xs ≡ Some g → in_spans xs g.0 ≡ false) → in_spans (x ∷ xs) g.0 ≡ false
+    go true q e ih = let same : x ≡ g = cc in subst (λ (y : Span). in_spans (x ∷ xs) y.0 ≡ false) same self
+    go false q e ih =
+        let past = next_past at xs g e in
+        let below = ltb-false at x.0 q in
+        let out = le-ltb g.0 x.0 (omega arith) in
+        let rest = ih e in
+        rw (out, rest) (no_more (not (ltb g.0 x.1)))
+
+pub look_most : (at len n : ℕ) (es : List Span) (held : Bool) → AreMaximal es → held ≡ is_spanned at (next_span at es) → n ≡ cond held (spanned_at at len (next_span at es)) (free_at at len (next_span at es)) → n < len → in_spans es (at + n) ≡ not held
+look_most at len n es held m b e l = go (next_span at es) refl held b e
+  where
+    go : (x : Option Span) → next_span at es ≡ x → (held : Bool) → held ≡ is_spanned at x → n ≡ cond held (spanned_at at len x) (free_at at len x) → in_spans es (at + n) ≡ not held
+    go None q true b e = cc
+    go None q false b e = absurd (omega arith)
+    go (Some g) q true b e =
+        let past = next_past at es g q in
+        ap (in_spans es) (omega arith) ∙ end_out 0 greatest at es g m.loose m.apart q
+    go (Some g) q false b e =
+        let out = ltb-true at g.1 (not-false (ltb at g.1) (sym b)) in
+        let full = own at es g 0 greatest m.loose q in
+        ap (in_spans es) (omega arith) ∙ next_in at g.1 es g q (span_from g.1 g (omega arith) full.0)

@@ -29,7 +29,7 @@ part_of at [] ps l = absurd (omega arith)
 part_of at (b ∷ bs) ps l = refl
 
 -- the first part stays where bytes come behind it
-behind_first : (at : ℕ) (p : Part) (ps : List Part) (bs : List ℕ) → p.0 ≤ at → with_gaps (p ∷ ps) at bs ≡ p ∷ with_gaps ps at bs
+pub behind_first : (at : ℕ) (p : Part) (ps : List Part) (bs : List ℕ) → p.0 ≤ at → with_gaps (p ∷ ps) at bs ≡ p ∷ with_gaps ps at bs
 behind_first at p ps bs l =
     let e1 : start p - at ≡ 0 = omega arith in
     let e2 : max at p.0 ≡ at = omega arith in
@@ -123,6 +123,14 @@ step_held at n ps bs b e = go (after at ps) refl b e
     go : (o : Option Part) → after at ps ≡ o → is_held at o ≡ true → n ≡ held_at at (length bs) o → with_gaps ps at bs ≡ with_gaps ps (at + n) (drop n bs)
     go None q b e = cc
     go (Some x) q b e = let past = after_past at ps x q in let l = le_from_held at x b in skips at n ps bs x q l (omega arith)
+
+-- one byte that waits already
+pub one_held : (at : ℕ) (ps : List Part) (b : ℕ) (bs : List ℕ) → is_held at (after at ps) ≡ true → with_gaps ps at (b ∷ bs) ≡ with_gaps ps (at + 1) bs
+one_held at ps b bs e = go (after at ps) refl e
+  where
+    go : (o : Option Part) → after at ps ≡ o → is_held at o ≡ true → with_gaps ps at (b ∷ bs) ≡ with_gaps ps (at + 1) bs
+    go None q e = cc
+    go (Some x) q e = let past = after_past at ps x q in skips at 1 ps (b ∷ bs) x q (le_from_held at x e) (omega arith)
 
 -- some step is taken, and none past the end
 step_some : (at n len : ℕ) (ps : List Part) (held : Bool) → 0 < len → held ≡ is_held at (after at ps) → n ≡ cond held (held_at at len (after at ps)) (gap_at at len (after at ps)) → (0 < n) × (n ≤ len)

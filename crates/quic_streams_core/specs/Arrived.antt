@@ -2,6 +2,7 @@
 use Rattle.std.specs.Prelude.{◌≡◌, ℕ, ◌+◌, ◌-◌, ◌*◌, ◌^◌, ◌<◌, ◌≤◌, ◌==◌, Bool, true, false, cond, ltb, leb, max, not, ◌&&◌, ◌||◌, zero, suc, List, [], ◌∷◌, ◌++◌, length, take, drop, Option, Some, None}
 use Rattle.std.specs.Option.{option_or, is_some}
 use Rattle.std.specs.List.{slice_get}
+use Rattle.quic_sets.specs.Runs.{Run, Has}
 use Rattle.quic_streams_core.specs.Spans.{Span, AreSpans, in_spans, in_span, width_of, with_run}
 use Rattle.quic_streams_core.specs.declared.connection.assembler.Chunk.{Chunk}
 use Rattle.quic_streams_core.specs.declared.connection.assembler.parts.TheConstants.{MOST_PARTS, SHORT_PART}
@@ -62,6 +63,14 @@ pub record IsLawful (a : Arrived) : Type 0 where
   pub others : (offset : ℕ) → in_spans a.picked offset ≡ true → byte_at a.parts offset ≡ None
   pub order : a.unordered ≡ false → a.picked ≡ []
 
+-- whether a byte waits at an offset
+abbrev pub waits : List Part → ℕ → Bool
+waits ps offset = is_some (byte_at ps offset)
+
+-- each offset of a set was given, or a byte waits at it
+abbrev pub HaveArrived : List Run → Arrived → Type 0
+HaveArrived set a = (offset : ℕ) → Has set offset → (is_given a offset || waits a.parts offset) ≡ true
+
 -- ---- runs: offsets that wait one behind the other
 
 -- the runs of parts that stand behind an offset: a part that begins there goes on with the run before
@@ -73,10 +82,6 @@ runs_behind end (p ∷ ps) = cond (start p == end) 0 1 + runs_behind p.0 ps
 abbrev pub runs_of : List Part → ℕ
 runs_of [] = 0
 runs_of (p ∷ ps) = 1 + runs_behind p.0 ps
-
--- whether a byte waits at an offset
-abbrev pub waits : List Part → ℕ → Bool
-waits ps offset = is_some (byte_at ps offset)
 
 -- whether a byte waits right before an offset
 abbrev pub waits_before : List Part → ℕ → Bool

@@ -1,6 +1,6 @@
 -- What is true of the fields of an assembler, and of its parts.
 use Rattle.std.specs.Prelude.{◌≡◌, ◌+◌}
-use Rattle.quic_streams_core.specs.Arrived.{AreApart, IsLawful, runs_of, waiting_bytes}
+use Rattle.quic_streams_core.specs.Arrived.{Arrived, AreApart, IsLawful, HaveArrived, runs_of, waiting_bytes}
 use Rattle.quic_streams_core.specs.Spans.{width_of}
 use Rattle.quic_streams_core.specs.declared.connection.assembler.Assembler.TheInside as assembler
 use Rattle.quic_streams_core.specs.declared.connection.assembler.parts.Parts.TheInside as parts
@@ -11,7 +11,13 @@ pub record Counted (a : parts.Inside) : Type 0 where
   pub counted : a.runs ≡ runs_of a.map.entries
   pub bytes : a.bytes ≡ waiting_bytes a.map.entries
 
--- what waits and what was given are lawful, and the bytes that were read are counted
+-- what is seen of an assembler
+abbrev pub seen_of : assembler.Inside → Arrived
+seen_of a = record { read = a.read; unordered = a.unordered; picked = a.picked.entries; parts = a.parts }
+
+-- what waits and what was given are lawful, the offsets that are known to have arrived were given or wait, and the bytes that
+-- were read are counted
 pub record Arranged (a : assembler.Inside) : Type 0 where
-  pub lawful : IsLawful (record { read = a.read; unordered = a.unordered; picked = a.picked.entries; parts = a.parts })
+  pub lawful : IsLawful (seen_of a)
+  pub known : HaveArrived a.arrived (seen_of a)
   pub total : a.total ≡ a.read + width_of a.picked.entries

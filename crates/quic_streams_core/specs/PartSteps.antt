@@ -1,11 +1,12 @@
 -- Words of the steps by which the assembler puts in and takes out parts.
-use Rattle.std.specs.Prelude.{◌≡◌, ℕ, ◌+◌, ◌-◌, ◌<◌, ◌≤◌, ◌==◌, Bool, false, cond, ltb, min, not, ◌&&◌, List, [], ◌∷◌, length, take, Option, Some, None}
+use Rattle.std.specs.Prelude.{◌≡◌, ℕ, ◌+◌, ◌-◌, ◌<◌, ◌≤◌, ◌==◌, Bool, true, false, cond, ltb, min, not, ◌&&◌, ◌||◌, List, [], ◌∷◌, length, take, Option, Some, None}
 use Rattle.std.specs.Option.{is_some}
 use Rattle.std.specs.Ordering.{nat_cmp}
 use Rattle.std.specs.BTreeMap.{is_at}
 use Rattle.std.specs.Map.{lookup, remove_entry}
+use Rattle.quic_sets.specs.Runs.{Run, Has}
 use Rattle.quic_streams_core.specs.Spans.{Span, in_spans}
-use Rattle.quic_streams_core.specs.Arrived.{Part, start, byte_at}
+use Rattle.quic_streams_core.specs.Arrived.{Part, start, byte_at, waits}
 
 -- the first part that ends behind an offset
 abbrev pub after : ℕ → List Part → Option Part
@@ -94,3 +95,7 @@ pub record HasFree (given : List Span) (ps : List Part) (at len : ℕ) : Type 0 
   pub below : offset < at + len
   pub outside : in_spans given offset ≡ false
   pub dry : byte_at ps offset ≡ None
+
+-- of a set's offsets each that is one of `len` from `at` on is in some runs, or a byte waits at it
+abbrev pub AreHere : List Span → List Part → List Run → ℕ → ℕ → Type 0
+AreHere given ps set at len = (o : ℕ) → at ≤ o → o < at + len → Has set o → (in_spans given o || waits ps o) ≡ true

@@ -5,6 +5,7 @@ ghost use Rattle.quic_streams_core.specs.Waiting.{BringsNew, IsInserted, IsRead,
 
 mod parts;
 
+use super::offset_set::OffsetSet;
 use super::spans;
 use bytes::Bytes;
 use parts::Parts;
@@ -45,6 +46,9 @@ pub struct Assembler {
     unordered: bool,
     // The offsets that unordered reads gave.
     picked: BTreeMap<u64, u64>,
+    // Offsets from `read` on that are known to have arrived: they wait, or were picked. An insert skips them a run at a time,
+    // and needn't look each part up. Some lack where memory did, or once parts were cleared: that costs time, and nothing else.
+    arrived: OffsetSet,
     // The number of bytes that were read, kept so that none has to be counted.
     total: u64,
 }
@@ -72,6 +76,7 @@ impl Assembler {
             read: 0,
             unordered: false,
             picked: BTreeMap::new(alloc),
+            arrived: OffsetSet::new(alloc),
             total: 0,
         }
     }
@@ -158,7 +163,8 @@ impl Assembler {
     /// wait yet. They end at 2^62 - 1 at most. Parts that touch are joined where there are more
     /// than 2048, more than two for each run, and no fewer than one for each 64 bytes that wait. So
     /// joining copies no more than 128 bytes for each part that goes, each byte once. The one insert that joins looks each part
-    /// up, and holds both maps until it ends. quinn-proto's `Assembler::insert`.
+    /// up, and holds both maps until it ends. Each other takes a few look-ups for each gap that it fills: what has arrived is
+    /// skipped a run at a time, in however many parts it waits or was given. quinn-proto's `Assembler::insert`.
     ///
     /// # Errors
     ///
@@ -172,8 +178,12 @@ impl Assembler {
         ensures lawful { IsLawful self.new }
     {
         let known = self.read.saturating_sub(offset).min(bytes.len() as u64);
+        let at = offset + known;
         self.parts
-            .insert(&self.picked, offset + known, &bytes[known as usize..])
+            .insert(&self.picked, &self.arrived, at, &bytes[known as usize..])?;
+        // Without memory for this, later inserts are as right.
+        let _ = self.arrived.insert(at..offset + bytes.len() as u64);
+        Ok(())
     }
 
     // An ordered read.
@@ -194,6 +204,7 @@ impl Assembler {
                 let len = bytes.len() as u64;
                 self.read += len;
                 self.total += len;
+                self.arrived.remove_first(0..self.read);
                 Ok(Some(Chunk { offset, bytes }))
             }
             None => Ok(None),
@@ -256,5 +267,6 @@ impl Assembler {
         ensures lawful { IsLawful self.new }
     {
         self.parts.clear();
+        self.arrived.clear();
     }
 }

@@ -383,6 +383,35 @@ impl OffsetSet {
         insert_lacking(&mut self.spans, x, &other.spans, self.alloc)
     }
 
+    /// Puts in the offsets of a range. An empty or a reversed range changes nothing, and needs no memory.
+    ///
+    /// # Errors
+    ///
+    /// [`AllocError`] where memory lacks, and some offset of the range isn't in the set; the set stays.
+    pub(crate) fn insert(&mut self, x: Range<u64>) -> Result<(), AllocError>
+        requires { x.end < 2 ^ 62 }
+        ensures ok { OnOk result (Adds self.old self.new x.start x.end) }
+        ensures runs { AreRuns self.new }
+        ensures err { OnErr result (self.new ≡ self.old) }
+        ensures lacking { OnErr result (x.start < x.end) }
+        ensures free { OnErr result (HasLacking self.old [] x.start x.end) }
+    {
+        let nothing = BTreeMap::new(self.alloc);
+        insert_lacking(&mut self.spans, x, &nothing, self.alloc)
+    }
+
+    /// Whether an offset is in the set, and how many of `len` offsets from it on are as it is.
+    pub(crate) fn look(&self, at: u64, len: u64) -> (bool, u64)
+        requires some { 0 < len }
+        requires small { at + len < 2 ^ 62 }
+        ensures some { 0 < result.1 }
+        ensures within { result.1 ≤ len }
+        ensures alike { (o : ℕ) → at ≤ o → o < at + result.1 → (Has self.now o ↔ IsTrue result.0) }
+        ensures most { result.1 < len → (Has self.now (at + result.1) ↔ IsTrue (not result.0)) }
+    {
+        look(&self.spans, at, len)
+    }
+
     /// Takes out the offsets of a range, where none is below it. This needs no memory.
     pub(crate) fn remove_first(&mut self, x: Range<u64>)
         requires least { (k : ℕ) → Has self.old k → x.start ≤ k }
@@ -391,5 +420,12 @@ impl OffsetSet {
         ensures runs { AreRuns self.new }
     {
         take_out(&mut self.spans, x.start, x.end);
+    }
+
+    /// Takes out all offsets.
+    pub(crate) fn clear(&mut self)
+        ensures { self.new ≡ [] }
+    {
+        self.spans.clear();
     }
 }

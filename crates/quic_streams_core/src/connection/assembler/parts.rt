@@ -1,15 +1,16 @@
 // The parts of a stream that wait to be read.
-ghost use Rattle.std.specs.Prelude.{◌≡◌, cond, drop, leb, ◌+◌, ◌*◌, ◌<◌, ◌≤◌, ◌∷◌, ◌^◌, ◌⊎◌, length, [], take, true, false, None, IfOk, IsOk, OnOk, OnErr, is_some};
+ghost use Rattle.std.specs.Prelude.{◌≡◌, ℕ, cond, drop, leb, ◌+◌, ◌*◌, ◌<◌, ◌≤◌, ◌∷◌, ◌^◌, ◌⊎◌, length, [], take, true, false, None, IfOk, IsOk, OnOk, OnErr, is_some};
 ghost use Rattle.std.specs.Option.{option_map};
 ghost use Rattle.std.specs.Map.{lookup, remove_entry};
 ghost use Rattle.std.specs.BTreeMap.{insert_entry, is_at};
 ghost use Rattle.std.specs.Ordering.{nat_cmp};
-ghost use Rattle.quic_streams_core.specs.Arrived.{AreApart, runs_of, byte_at, with_gaps, with_free, is_next, is_some_part, first_given, left_front, in_front, joined, settled, is_crowded, waiting_bytes};
+ghost use Rattle.quic_streams_core.specs.Arrived.{AreApart, runs_of, byte_at, with_gaps, with_free, is_next, is_some_part, first_given, left_front, in_front, joined, settled, is_crowded, waiting_bytes, waits};
 ghost use Rattle.quic_streams_core.specs.Spans.{AreSpans};
-ghost use Rattle.quic_streams_core.specs.PartSteps.{first_bytes, rest_of, front_of, cuts_front, after, span_of, is_held, held_at, gap_at, begins_at, Fits, undone, touching_at, from_after, HasGap, HasFree};
+ghost use Rattle.quic_streams_core.specs.PartSteps.{first_bytes, rest_of, front_of, cuts_front, after, span_of, is_held, held_at, gap_at, begins_at, Fits, undone, touching_at, from_after, HasGap, HasFree, AreHere};
 
 use super::Chunk;
 use crate::connection::by_end::{keep, next_part};
+use crate::connection::offset_set::OffsetSet;
 use crate::connection::spans;
 use bytes::Bytes;
 use std::alloc::{AllocError, Global};
@@ -380,6 +381,63 @@ impl Parts {
         Ok(())
     }
 
+    // Skips what has arrived at an offset, or else fills the gaps up to what has behind it, and says
+    // how many bytes that were.
+    fn put_new(
+        &mut self,
+        given: &BTreeMap<u64, u64>,
+        arrived: &OffsetSet,
+        at: u64,
+        bytes: &[u8],
+        ends: &mut Vec<u64>,
+    ) -> Result<usize, AllocError>
+        requires spans { AreSpans 0 given.now.entries }
+        requires some { 0 < length bytes.now }
+        requires small { at + length bytes.now < 2 ^ 62 }
+        requires here { AreHere given.now.entries self.old arrived.now at (length bytes.now) }
+        ensures some { IfOk result (λ n. 0 < n) }
+        ensures within { IfOk result (λ n. n ≤ length bytes.now) }
+        ensures free { IfOk result (λ n. with_free given.now.entries self.old at bytes.now ≡ with_free given.now.entries self.new (at + n) (drop n bytes.now)) }
+        ensures kept { OnOk result ((o : ℕ) → waits self.old o ≡ true → waits self.new o ≡ true) }
+        ensures back { undone ends.new.items self.new ≡ undone ends.old.items self.old }
+        ensures same { OnOk result ((self.new ≡ self.old) ⊎ HasFree given.now.entries self.old at (length bytes.now)) }
+        ensures lacking { OnErr result (HasFree given.now.entries self.old at (length bytes.now)) }
+    {
+        // The proof reads here that the parts lie apart.
+        let _ = &self.map;
+        let (held, count) = arrived.look(at, bytes.len() as u64);
+        let len = count as usize;
+        if !held {
+            self.fill_free(given, at, &bytes[..len], ends)?;
+        }
+        Ok(len)
+    }
+
+    // Fills the gaps of a frame that were not given, and notes where the new parts end. What has arrived is skipped a run at
+    // a time, however many parts of it wait or were given one by one.
+    fn fill_new(
+        &mut self,
+        given: &BTreeMap<u64, u64>,
+        arrived: &OffsetSet,
+        at: u64,
+        bytes: &[u8],
+        ends: &mut Vec<u64>,
+    ) -> Result<(), AllocError>
+        requires spans { AreSpans 0 given.now.entries }
+        requires small { at + length bytes.now < 2 ^ 62 }
+        requires here { AreHere given.now.entries self.old arrived.now at (length bytes.now) }
+        ensures ok { OnOk result (self.new ≡ with_free given.now.entries self.old at bytes.now) }
+        ensures back { undone ends.new.items self.new ≡ undone ends.old.items self.old }
+        ensures same { OnOk result ((self.new ≡ self.old) ⊎ HasFree given.now.entries self.old at (length bytes.now)) }
+        ensures lacking { OnErr result (HasFree given.now.entries self.old at (length bytes.now)) }
+    {
+        let mut taken = 0;
+        while taken < bytes.len() {
+            taken += self.put_new(given, arrived, at + taken as u64, &bytes[taken..], ends)?;
+        }
+        Ok(())
+    }
+
     // Takes out parts again that were put in, so that `runs` runs and `bytes` bytes are left.
     fn take_back(&mut self, ends: &mut Vec<u64>, runs: usize, bytes: u64)
         requires apart { AreApart 0 (undone ends.old.items self.old) }
@@ -426,22 +484,25 @@ impl Parts {
     fn fill_and_settle(
         &mut self,
         given: &BTreeMap<u64, u64>,
+        arrived: &OffsetSet,
         at: u64,
         bytes: &[u8],
         ends: &mut Vec<u64>,
     ) -> Result<(), AllocError>
         requires spans { AreSpans 0 given.now.entries }
         requires small { at + length bytes.now < 2 ^ 62 }
+        requires here { AreHere given.now.entries self.old arrived.now at (length bytes.now) }
         ensures ok { OnOk result (self.new ≡ settled (with_free given.now.entries self.old at bytes.now)) }
         ensures back { OnErr result (undone ends.new.items self.new ≡ undone ends.old.items self.old) }
         ensures lacking { OnErr result (HasFree given.now.entries self.old at (length bytes.now) ⊎ (is_crowded self.old ≡ true)) }
     {
-        self.fill_free(given, at, bytes, ends)?;
+        self.fill_new(given, arrived, at, bytes, ends)?;
         self.settle()
     }
 
     /// Puts in the bytes of a frame that were not given and do not wait yet, each gap as one more part. Parts
-    /// that touch are joined where there are too many and they are short.
+    /// that touch are joined where there are too many and they are short. What is known to have arrived, as it waits or was
+    /// given, is skipped a run at a time.
     ///
     /// # Errors
     ///
@@ -449,11 +510,13 @@ impl Parts {
     pub(crate) fn insert(
         &mut self,
         given: &BTreeMap<u64, u64>,
+        arrived: &OffsetSet,
         at: u64,
         bytes: &[u8],
     ) -> Result<(), AllocError>
         requires spans { AreSpans 0 given.now.entries }
         requires small { at + length bytes.now < 2 ^ 62 }
+        requires here { AreHere given.now.entries self.old arrived.now at (length bytes.now) }
         ensures ok { OnOk result (self.new ≡ settled (with_free given.now.entries self.old at bytes.now)) }
         ensures err { OnErr result (self.new ≡ self.old) }
         ensures lacking { OnErr result (HasFree given.now.entries self.old at (length bytes.now) ⊎ (is_crowded self.old ≡ true)) }
@@ -461,7 +524,7 @@ impl Parts {
         let runs = self.runs();
         let waiting = self.waiting();
         let mut ends = Vec::new(self.alloc);
-        let outcome = self.fill_and_settle(given, at, bytes, &mut ends);
+        let outcome = self.fill_and_settle(given, arrived, at, bytes, &mut ends);
         if outcome.is_err() {
             self.take_back(&mut ends, runs, waiting);
         }

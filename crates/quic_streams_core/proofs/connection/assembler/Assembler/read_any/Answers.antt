@@ -1,7 +1,7 @@
 use Rattle.std.proofs.Common.{◌≡◌, ◌+◌, ◌<◌, ◌≤◌, ℕ, false, sym, ap, ◌∙◌, subst, arith}
 use Rattle.quic_streams_core.specs.Arrived.{Arrived}
 use Rattle.quic_streams_core.specs.Spans.{in_spans, with_run}
-use Rattle.quic_streams_core.proofs.Kept.{chunk_small, chunk_clear, pick_kept, pick_counted, total_small}
+use Rattle.quic_streams_core.proofs.Kept.{chunk_small, chunk_clear, pick_kept, pick_known, pick_counted, total_small}
 use Rattle.quic_streams_core.proofs.Spans.{lower}
 use Rattle.quic_streams_core.proofs.connection.assembler.Assembler.read_any.Goals as goal
 
@@ -37,5 +37,6 @@ invariant_of-self-in-Some c =
     let added = c.in_ok-add-in-Some.ensures.ok ∙ ap (λ (n : ℕ). with_run chunk.offset n i.picked.entries) l in
     record {
       lawful = pick_kept i.read c.args.max i.unordered i.picked.entries _ i.parts _ chunk c.self.invariant.lawful u e added c.skip_front.ensures;
+      known = pick_known i.read c.args.max i.unordered i.picked.entries _ i.parts _ chunk i.arrived c.self.invariant.lawful u e added c.skip_front.ensures c.self.invariant.known;
       total = rw l (pick_counted i.read c.args.max i.total i.unordered i.picked.entries _ i.parts chunk c.self.invariant.lawful e added c.self.invariant.total);
     }

@@ -1,7 +1,8 @@
-use Rattle.std.proofs.Common.{sym, ap, ◌∙◌, arith}
+use Rattle.std.proofs.Common.{ℕ, ◌+◌, sym, ap, ◌∙◌, subst, arith}
+use Rattle.quic_sets.specs.Runs.{Drops}
 use Rattle.quic_streams_core.specs.Arrived.{Arrived}
 use Rattle.quic_streams_core.proofs.Reading.{read_small}
-use Rattle.quic_streams_core.proofs.Kept.{next_kept, total_small}
+use Rattle.quic_streams_core.proofs.Kept.{next_kept, next_known, total_small}
 use Rattle.quic_streams_core.proofs.connection.assembler.Assembler.read_next.Goals as goal
 
 pub overflow_add-self : goal.overflow_add-self
@@ -28,5 +29,6 @@ invariant_of-self-in-Some c =
     let l = c.len-len.ensures.value in
     record {
       lawful = rw l (next_kept i.read c.args.max i.unordered i.picked.entries i.parts _ c.in-Some.bytes c.self.invariant.lawful u next (sym c.in-Some.is ∙ c.in_ok-bytes.ensures.ok) c.in_ok-bytes.ensures.new);
+      known = rw l (next_known i.read c.args.max i.unordered i.picked.entries i.parts _ c.in-Some.bytes i.arrived _ c.self.invariant.lawful u next (sym c.in-Some.is ∙ c.in_ok-bytes.ensures.ok) c.in_ok-bytes.ensures.new c.self.invariant.known (subst (λ (n : ℕ). Drops i.arrived c.remove_first.new.self 0 (i.read + n)) l c.remove_first.ensures.ok));
       total = omega arith;
     }
