@@ -139,8 +139,8 @@ gaps_split low at n (p ∷ ps) bs h w s = go (ltb (at + n) p.0) refl (gaps_split
         let inner : with_gaps (p ∷ ps) at (take n bs) ≡ with_part at (take (start p - at) bs) (p ∷ with_gaps ps (max at p.0) (take (n - (p.0 - at)) (drop (p.0 - at) bs))) = rw (front, e2) refl in
         ap (λ (qs : List Part). with_part at (take (start p - at) bs) (p ∷ qs)) (same ∙ rw (e1, e3) refl)
         ∙ sym (ap (λ (qs : List Part). with_gaps qs (at + n) (drop n bs)) inner
-            ∙ behind_part at (at + n) (take (start p - at) bs) (drop n bs) (p ∷ with_gaps ps (max at p.0) (take (n - (p.0 - at)) (drop (p.0 - at) bs))) short
-            ∙ ap (λ (qs : List Part). with_part at (take (start p - at) bs) qs) (behind_first (at + n) p _ (drop n bs) k))
+        ∙ behind_part at (at + n) (take (start p - at) bs) (drop n bs) (p ∷ with_gaps ps (max at p.0) (take (n - (p.0 - at)) (drop (p.0 - at) bs))) short
+        ∙ ap (λ (qs : List Part). with_part at (take (start p - at) bs) qs) (behind_first (at + n) p _ (drop n bs) k))
 
 free_split : (low at n : ℕ) (gs : List Span) (ps : List Part) (bs : List ℕ) → AreSpans low gs → AreApart 0 ps → (0 < length bs → at + length bs < 2 ^ 62) → here gs ps (at + n) ≡ true → n ≤ length bs → with_free gs ps at bs ≡ with_free gs (with_free gs ps at (take n bs)) (at + n) (drop n bs)
 free_split low at n [] ps bs h a m w s = gaps_split 0 at n ps bs a w s

@@ -10,8 +10,8 @@ returns-in_ok-fill_free-clause-free c =
     let some = h.some in
     let apart = subst (λ (ps : List Part). AreApart 0 ps) c.self.view_is c.self.invariant.apart in
     new_fills a.at _ a.given.now.entries a.self.now _ a.bytes.now c.requires.spans apart c.requires.small h.within
-      (λ l. c.requires.here _ (omega arith) (omega arith) ((h.most l).1 (ap not c.if-not-held.true)))
-      c.in_ok-fill_free.ensures.ok
+    (λ l. c.requires.here _ (omega arith) (omega arith) ((h.most l).1 (ap not c.if-not-held.true)))
+    c.in_ok-fill_free.ensures.ok
 
 pub returns-in_ok-fill_free-clause-kept : goal.returns-in_ok-fill_free-clause-kept
 returns-in_ok-fill_free-clause-kept c = λ o w.
