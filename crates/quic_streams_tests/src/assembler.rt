@@ -145,7 +145,7 @@ fn insert_two_runs(rt: &impl Abort, assembler: &mut Assembler) -> Result<(), Fai
     make(rt, assembler, Count(0, 2))
 }
 
-// So many allocations are made before two runs come and are joined. Where the program's allocation 6442 fails, an earlier one of
+// So many allocations are made before two runs come and are joined. Where the program's allocation 8491 fails, an earlier one of
 // the assembler's does for each of these: among them all of that join. What waits is in two parts then.
 fn join_behind<R: Abort + AllocGlobal>(rt: &R, allocations: u64) -> Result<(), Fail> {
     spend(rt, allocations);
@@ -201,9 +201,10 @@ fn insert_apart(rt: &impl Abort, assembler: &mut Assembler, count: u32) -> Resul
     Ok(())
 }
 
-// Bytes fill 15 gaps among 14 parts: with the second of these a full node is split, which takes the allocations 49 and 50.
+// Bytes fill 15 gaps among 14 parts: with the second of these a full node is split, which takes the allocations 68 and 69.
 #[test]
 fn a_node_is_full_at_an_insert(rt: HostRuntime) -> Result<(), Fail> {
+    spend(&rt, 4);
     let mut assembler = Assembler::new(rt.alloc());
     insert_apart(&rt, &mut assembler, 14)?;
     let byte = fill_gaps(&rt, &mut assembler)?;
@@ -239,7 +240,7 @@ fn read_apart(rt: &impl Abort, assembler: &mut Assembler, count: u32) -> Result<
     Ok(())
 }
 
-// Each second byte is read out of order: with the 16th a full node is split, which takes the allocations 51 and 52. None comes again.
+// Each second byte is read out of order: with the 16th a full node is split, which takes the allocations 70 and 71. None comes again.
 #[test]
 fn a_node_is_full_at_a_read(rt: HostRuntime) -> Result<(), Fail> {
     let mut assembler = Assembler::new(rt.alloc());

@@ -162,7 +162,7 @@ fn many_runs_come_to_be_one(rt: HostRuntime) -> Result<(), Fail> {
 }
 
 // These bytes are in flight, and of every two the second is acknowledged, until so many are. Before, so many allocations are made
-// that those with which the test's next call splits a node are among 49 to 52: ./test makes each of these fail.
+// that those with which the test's next call splits a node are among 68 to 71: ./test makes each of these fail.
 fn acked_apart<R: Abort + AllocGlobal>(
     rt: &R,
     allocations: u64,
@@ -194,7 +194,7 @@ fn go(rt: &impl Abort, buffer: &mut SendBuffer, count: u64, end: u64) {
 // isn't acknowledged.
 #[test]
 fn a_node_is_full_at_an_ack(rt: HostRuntime) -> Result<(), Fail> {
-    let mut buffer = acked_apart(&rt, 29, &[b'x'; 33], 15)?;
+    let mut buffer = acked_apart(&rt, 48, &[b'x'; 33], 15)?;
     if buffer.ack(31..32).is_err() {
         make(&rt, &mut buffer, Lose(0, 33))?;
         go(&rt, &mut buffer, 15, 33);
@@ -208,7 +208,7 @@ fn a_node_is_full_at_an_ack(rt: HostRuntime) -> Result<(), Fail> {
 // An acknowledgement fills seven gaps: where memory lacks behind some of them, as the list of what was put in grows, none is filled.
 #[test]
 fn an_ack_fills_all_gaps_or_none(rt: HostRuntime) -> Result<(), Fail> {
-    let mut buffer = acked_apart(&rt, 38, &[b'x'; 13], 6)?;
+    let mut buffer = acked_apart(&rt, 57, &[b'x'; 13], 6)?;
     if buffer.ack(0..13).is_err() {
         make(&rt, &mut buffer, Lose(0, 13))?;
         go(&rt, &mut buffer, 6, 13);
@@ -221,7 +221,7 @@ fn an_ack_fills_all_gaps_or_none(rt: HostRuntime) -> Result<(), Fail> {
 // The 16th piece is put into a full node of the map of pieces. Where memory lacks for that, it was not written.
 #[test]
 fn a_node_is_full_at_a_write(rt: HostRuntime) -> Result<(), Fail> {
-    spend(&rt, 17);
+    spend(&rt, 36);
     let mut buffer = SendBuffer::new(rt.alloc());
     for _ in 0..15 {
         make(&rt, &mut buffer, Write(b"x"))?;
@@ -236,7 +236,7 @@ fn a_node_is_full_at_a_write(rt: HostRuntime) -> Result<(), Fail> {
 // A loss brings 17 runs beside one that was lost before. Where memory lacks behind some of them, that one alone goes again.
 #[test]
 fn a_node_is_full_at_a_loss(rt: HostRuntime) -> Result<(), Fail> {
-    let mut buffer = acked_apart(&rt, 21, &[b'x'; 35], 17)?;
+    let mut buffer = acked_apart(&rt, 40, &[b'x'; 35], 17)?;
     make(&rt, &mut buffer, Lose(2, 3))?;
     if buffer.retransmit(0..35).is_err() {
         assert_eq!(rt; buffer.poll_transmit(100), (2..3, true));
@@ -251,7 +251,7 @@ fn a_node_is_full_at_a_loss(rt: HostRuntime) -> Result<(), Fail> {
 // again as one.
 #[test]
 fn a_node_is_full_at_a_cut(rt: HostRuntime) -> Result<(), Fail> {
-    let mut buffer = acked_apart(&rt, 27, &[b'x'; 32], 14)?;
+    let mut buffer = acked_apart(&rt, 46, &[b'x'; 32], 14)?;
     make(&rt, &mut buffer, Lose(0, 32))?;
     if buffer.ack(29..30).is_err() {
         go(&rt, &mut buffer, 14, 32);
