@@ -6,3 +6,6 @@ pub mod Joining
 mod JoinSteps
 pub mod PieceSteps
 mod PieceExamples
+pub mod Offsets
+pub mod Parts
+pub mod Outcomes

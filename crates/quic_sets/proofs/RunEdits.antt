@@ -39,7 +39,8 @@ edited_short rs (edits.Remove p) h = simp (length-append, length-take, length-dr
 
 -- ---- adding
 
--- the run from s to e has the numbers from a to b, others only where the set has them, and all of the runs that give way
+-- the run from s to e has the numbers from a to b, others only where the set has them, and all of
+-- the runs that give way
 pub record Widens (rs : List Run) (i t a b s e : ℕ) : Type 0 where
   pub ascend : i ≤ t
   pub starts : s ≤ a
@@ -217,7 +218,8 @@ merges rs a b i t runs ab met it past = record {
 
 -- ---- taking out
 
--- the runs that come in have the numbers of those that give way but for those from a to b, and the other runs have none of these
+-- the runs that come in have the numbers of those that give way but for those from a to b, and the
+-- other runs have none of these
 pub record Narrows (rs mid : List Run) (i t a b : ℕ) : Type 0 where
   pub ascend : i ≤ t
   pub only : (k : ℕ) → Has mid k → Has rs k × ((a ≤ k) × (k < b) → ⊥)

@@ -3,3 +3,8 @@ pub mod RunEdits
 pub mod Elements
 pub mod Pieces
 pub mod Replacing
+pub mod Lacking
+pub mod Loose
+pub mod Offsets
+pub mod Spans
+pub mod Parts

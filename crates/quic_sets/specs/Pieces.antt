@@ -41,6 +41,7 @@ count_started b rs = prefix_len (λ r. nat_le r.start b) rs
 abbrev pub count_met : ℕ → ℕ → List Run → ℕ
 count_met a b rs = count_started b (drop (count_below a rs) rs)
 
--- the runs with the range joined to those that it meets or touches; where it is empty or there is none, as they were
+-- the runs with the range joined to those that it meets or touches; where it is empty or there is
+-- none, as they were
 unfoldable pub joined : ℕ → ℕ → List Run → List Run
 joined a b rs = if nat_lt a b && nat_lt 0 (count_met a b rs) then with_range a b rs else rs

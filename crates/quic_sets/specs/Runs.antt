@@ -15,7 +15,8 @@ abbrev pub Has : List Run → ℕ → Type 0
 Has [] n = ⊥
 Has (r ∷ rs) n = In n r ⊎ Has rs n
 
--- the runs begin at the number or above it, are not empty, ascend, and do not touch: between two of them a number lacks
+-- the runs begin at the number or above it, are not empty, ascend, and do not touch: between two of
+-- them a number lacks
 abbrev pub AreRunsFrom : ℕ → List Run → Type 0
 AreRunsFrom n [] = Unit {0}
 AreRunsFrom n (r ∷ rs) = (n ≤ r.start) × (r.start < r.end) × AreRunsFrom (r.end + 1) rs
@@ -57,11 +58,13 @@ IsLeast rs n = Has rs n × ((k : ℕ) → Has rs k → n ≤ k)
 abbrev pub IsGreatest : List Run → ℕ → Type 0
 IsGreatest rs n = Has rs n × ((k : ℕ) → Has rs k → k ≤ n)
 
--- no number from a up to b is in the set, nor one that stands beside them: they'd be a run of their own
+-- no number from a up to b is in the set, nor one that stands beside them: they'd be a run of their
+-- own
 abbrev pub IsApart : List Run → ℕ → ℕ → Type 0
 IsApart rs a b = (a < b) × ((k : ℕ) → Has rs k → (k + 1 < a) ⊎ (b < k))
 
--- the numbers from a up to b are in the set, and those beside them, below and above: without them a run would be two
+-- the numbers from a up to b are in the set, and those beside them, below and above: without them a
+-- run would be two
 abbrev pub IsInside : List Run → ℕ → ℕ → Type 0
 IsInside rs a b = (0 < a) × (a < b) × ((k : ℕ) → a ≤ k + 1 → k ≤ b → Has rs k)
 

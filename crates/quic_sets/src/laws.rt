@@ -1,4 +1,5 @@
-//! What the definitions of this crate say together. Each function does nothing: its contract is the law.
+//! What the definitions of this crate say together. Each function does nothing: its contract is the
+//! law.
 ghost use Rattle.std.specs.Prelude.{◌≡◌, List};
 ghost use Rattle.std.specs.List.{Contains};
 ghost use Rattle.quic_sets.specs.Runs.{Run, AreRuns, AreSame, IsMaximal};

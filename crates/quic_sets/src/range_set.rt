@@ -1,4 +1,5 @@
-//! Finite sets of numbers, kept as their maximal runs in ascending order (quinn-proto's `range_set`).
+//! Finite sets of numbers, kept as their maximal runs in ascending order (quinn-proto's
+//! `range_set`).
 ghost use Rattle.std.specs.Prelude.{◌≡◌, ◌≢◌, ℕ, ◌+◌, ◌≤◌, ◌<◌, [], ◌∷◌, length, IsTrue, ◌↔◌, OnOk, OnErr, IsOk, IfOk, MatchOption, slice_get, vec_len};
 ghost use Rattle.std.specs.Vec.{vec_capacity};
 ghost use Rattle.quic_sets.specs.Runs.{Has, AreRuns, Adds, Drops, IsUnion, IsDifference, TellsChange, IsLeast, IsGreatest, IsApart, IsInside};
@@ -19,8 +20,8 @@ use std::alloc::{AllocError, Global};
 use std::marker::Model;
 use std::ops::Range;
 
-/// A finite set of numbers, as one vector of its maximal runs (quinn-proto's `RangeSet`). Contracts see the list of the
-/// runs: they ascend, none is empty, and no two touch.
+/// A finite set of numbers, as one vector of its maximal runs (quinn-proto's `RangeSet`). Contracts
+/// see the list of the runs: they ascend, none is empty, and no two touch.
 #[derive(Drop)]
 pub struct RangeSet {
     runs: Vec<Range<u64>>,
@@ -69,13 +70,13 @@ impl RangeSet {
         runs::contains(&self.runs, x)
     }
 
-    /// Adds the numbers of a range, and tells whether one of them is new. An empty or a reversed range changes nothing. The
-    /// runs behind the place move up or down once.
+    /// Adds the numbers of a range, and tells whether one of them is new. An empty or a reversed
+    /// range changes nothing. The runs behind the place move up or down once.
     ///
     /// # Errors
     ///
-    /// [`AllocError`] where the numbers are a run of their own, which no run of the set meets or touches, and memory lacks;
-    /// the set stays.
+    /// [`AllocError`] where the numbers are a run of their own, which no run of the set meets or
+    /// touches, and memory lacks; the set stays.
     pub fn insert(&mut self, x: Range<u64>) -> Result<bool, AllocError>
         ensures ok { OnOk result (Adds self.old self.new x.start x.end) }
         ensures runs { AreRuns self.new }
@@ -102,13 +103,13 @@ impl RangeSet {
         insert(&mut self.runs, x..x + 1)
     }
 
-    /// Takes the numbers of a range out, and tells whether one of them was in the set. An empty or a reversed range changes
-    /// nothing. The runs behind the place move up or down once.
+    /// Takes the numbers of a range out, and tells whether one of them was in the set. An empty or
+    /// a reversed range changes nothing. The runs behind the place move up or down once.
     ///
     /// # Errors
     ///
-    /// [`AllocError`] where a run goes on at both ends of the range, so that it comes to be two, and memory lacks; the set
-    /// stays.
+    /// [`AllocError`] where a run goes on at both ends of the range, so that it comes to be two,
+    /// and memory lacks; the set stays.
     pub fn remove(&mut self, x: Range<u64>) -> Result<bool, AllocError>
         ensures ok { OnOk result (Drops self.old self.new x.start x.end) }
         ensures runs { AreRuns self.new }
@@ -123,7 +124,8 @@ impl RangeSet {
     ///
     /// # Errors
     ///
-    /// [`AllocError`] where the other set isn't empty and there is no memory for as many runs more as it has; the set stays.
+    /// [`AllocError`] where the other set isn't empty and there is no memory for as many runs more
+    /// as it has; the set stays.
     pub fn subtract(&mut self, other: &RangeSet) -> Result<(), AllocError>
         ensures ok { OnOk result (IsDifference self.old other.now self.new) }
         ensures runs { AreRuns self.new }
@@ -137,7 +139,8 @@ impl RangeSet {
     ///
     /// # Errors
     ///
-    /// [`AllocError`] where the other set isn't empty and there is no memory for as many runs more as it has; the set stays.
+    /// [`AllocError`] where the other set isn't empty and there is no memory for as many runs more
+    /// as it has; the set stays.
     pub fn add(&mut self, other: &RangeSet) -> Result<(), AllocError>
         ensures ok { OnOk result (IsUnion self.old other.now self.new) }
         ensures runs { AreRuns self.new }
@@ -168,7 +171,8 @@ impl RangeSet {
         runs::first(&self.runs)
     }
 
-    /// Takes the run of the least number out. The others move down by one place, so this takes time for each of them.
+    /// Takes the run of the least number out. The others move down by one place, so this takes time
+    /// for each of them.
     pub fn pop_min(&mut self) -> Option<Range<u64>>
         ensures taken { MatchOption result ((self.old ≡ []) × (self.new ≡ [])) (λ run. self.old ≡ run ∷ self.new) }
         ensures runs { AreRuns self.new }

@@ -14,7 +14,8 @@
 ghost use Rattle.std.specs.Prelude.{◌<◌, ◌^◌};
 
 use anyhow::{Context, Result, bail};
-use quic_streams_core::{Assembler, SendBuffer};
+use quic_assembler::Assembler;
+use quic_send_buffer::SendBuffer;
 use std::alloc::{AllocError, Global};
 use std::fmt;
 use std::ops::Range;

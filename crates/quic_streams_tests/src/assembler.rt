@@ -1,6 +1,6 @@
 use super::spent::spend;
 use Step::{Begin, Count, Insert, Read, Wait};
-use quic_streams_core::{Assembler, Chunk, MOST_PIECES};
+use quic_assembler::{Assembler, Chunk, MOST_PIECES};
 use std::alloc::AllocError;
 use std::process::Abort;
 use std::test::Fail;

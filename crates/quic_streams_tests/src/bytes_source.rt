@@ -1,5 +1,5 @@
 use bytes::Bytes;
-use quic_streams_core::{ByteSlice, BytesArray, BytesSource};
+use quic_send_buffer::{ByteSlice, BytesArray, BytesSource};
 use std::process::Abort;
 
 // At most two bytes are asked for: this piece comes, and so many buffers are used up.

@@ -1,4 +1,5 @@
-//! Tests of the two buffers of a stream, and of what goes with them: worked rows, and each call that takes memory, made where an allocation fails.
+//! Tests of the two buffers of a stream, and of what goes with them: worked rows, and each call
+//! that takes memory, made where an allocation fails.
 #![tactic(auto)]
 
 #[cfg(test)]

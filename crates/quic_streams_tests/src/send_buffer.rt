@@ -1,6 +1,6 @@
 use super::spent::spend;
 use Step::{Ack, Keep, Lose, Send, Tell, Write};
-use quic_streams_core::SendBuffer;
+use quic_send_buffer::SendBuffer;
 use std::alloc::AllocError;
 use std::process::Abort;
 use std::test::Fail;

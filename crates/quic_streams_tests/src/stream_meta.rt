@@ -1,4 +1,4 @@
-use quic_streams_core::{ShouldTransmit, StreamMeta};
+use quic_send_buffer::{ShouldTransmit, StreamMeta};
 
 #[test]
 fn a_default_has_no_offsets(rt: HostRuntime) {

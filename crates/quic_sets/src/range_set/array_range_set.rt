@@ -10,14 +10,15 @@ use std::alloc::{AllocError, Global};
 use std::marker::Model;
 use std::ops::Range;
 
-/// How many runs stand in place, without memory of their own (quinn-proto's `ARRAY_RANGE_SET_INLINE_CAPACITY`).
+/// How many runs stand in place, without memory of their own (quinn-proto's
+/// `ARRAY_RANGE_SET_INLINE_CAPACITY`).
 pub const ARRAY_RANGE_SET_INLINE_CAPACITY: usize = 2;
 
 /// The runs, as they are stored.
 type Stored = SmallVec<Range<u64>, ARRAY_RANGE_SET_INLINE_CAPACITY>;
 
-/// A finite set of numbers, of which two runs stand in place (quinn-proto's `ArrayRangeSet`). Contracts see the list of
-/// its maximal runs: they ascend, none is empty, and no two touch.
+/// A finite set of numbers, of which two runs stand in place (quinn-proto's `ArrayRangeSet`).
+/// Contracts see the list of its maximal runs: they ascend, none is empty, and no two touch.
 #[derive(Drop)]
 pub struct ArrayRangeSet {
     runs: Stored,
@@ -66,19 +67,20 @@ impl ArrayRangeSet {
         runs::contains(&self.runs, x)
     }
 
-    /// Adds the numbers of a range, and tells whether one of them is new. An empty or a reversed range changes nothing. The
-    /// runs behind the place move up or down once.
+    /// Adds the numbers of a range, and tells whether one of them is new. An empty or a reversed
+    /// range changes nothing. The runs behind the place move up or down once.
     ///
     /// # Errors
     ///
-    /// [`AllocError`] where the numbers are a run of their own, which no run of the set meets or touches, and memory lacks;
-    /// the set stays.
+    /// [`AllocError`] where the numbers are a run of their own, which no run of the set meets or
+    /// touches, there are two runs or more, and memory lacks; the set stays.
     pub fn insert(&mut self, x: Range<u64>) -> Result<bool, AllocError>
         ensures ok { OnOk result (Adds self.old self.new x.start x.end) }
         ensures runs { AreRuns self.new }
         ensures changed { IfOk result (λ changed. TellsChange changed self.old self.new) }
         ensures err { OnErr result (self.new ≡ self.old) }
         ensures lacking { OnErr result (IsApart self.old x.start x.end) }
+        ensures inline { length self.old < 2 → IsOk result }
     {
         insert(&mut self.runs, x)
     }
@@ -87,7 +89,8 @@ impl ArrayRangeSet {
     ///
     /// # Errors
     ///
-    /// [`AllocError`] where the number is a run of its own and memory lacks; the set stays.
+    /// [`AllocError`] where the number is a run of its own, there are two runs or more, and memory
+    /// lacks; the set stays.
     pub fn insert_one(&mut self, x: u64) -> Result<bool, AllocError>
         requires { x < u64.MAX }
         ensures ok { OnOk result (Adds self.old self.new x (x + 1)) }
@@ -95,23 +98,25 @@ impl ArrayRangeSet {
         ensures changed { IfOk result (λ changed. TellsChange changed self.old self.new) }
         ensures err { OnErr result (self.new ≡ self.old) }
         ensures lacking { OnErr result (IsApart self.old x (x + 1)) }
+        ensures inline { length self.old < 2 → IsOk result }
     {
         insert(&mut self.runs, x..x + 1)
     }
 
-    /// Takes the numbers of a range out, and tells whether one of them was in the set. An empty or a reversed range changes
-    /// nothing. The runs behind the place move up or down once.
+    /// Takes the numbers of a range out, and tells whether one of them was in the set. An empty or
+    /// a reversed range changes nothing. The runs behind the place move up or down once.
     ///
     /// # Errors
     ///
-    /// [`AllocError`] where a run goes on at both ends of the range, so that it comes to be two, and memory lacks; the set
-    /// stays.
+    /// [`AllocError`] where a run goes on at both ends of the range, so that it comes to be two,
+    /// there are two runs or more, and memory lacks; the set stays.
     pub fn remove(&mut self, x: Range<u64>) -> Result<bool, AllocError>
         ensures ok { OnOk result (Drops self.old self.new x.start x.end) }
         ensures runs { AreRuns self.new }
         ensures changed { IfOk result (λ changed. TellsChange changed self.old self.new) }
         ensures err { OnErr result (self.new ≡ self.old) }
         ensures lacking { OnErr result (IsInside self.old x.start x.end) }
+        ensures inline { length self.old < 2 → IsOk result }
     {
         remove(&mut self.runs, x)
     }
@@ -120,7 +125,8 @@ impl ArrayRangeSet {
     ///
     /// # Errors
     ///
-    /// [`AllocError`] where the other set isn't empty and there is no memory for as many runs more as it has; the set stays.
+    /// [`AllocError`] where the other set isn't empty and there is no memory for as many runs more
+    /// as it has; the set stays.
     pub fn subtract(&mut self, other: &ArrayRangeSet) -> Result<(), AllocError>
         ensures ok { OnOk result (IsDifference self.old other.now self.new) }
         ensures runs { AreRuns self.new }
@@ -144,7 +150,8 @@ impl ArrayRangeSet {
         runs::greatest(&self.runs)
     }
 
-    /// Takes the run of the least number out. The others move down by one place, so this takes time for each of them.
+    /// Takes the run of the least number out. The others move down by one place, so this takes time
+    /// for each of them.
     pub fn pop_min(&mut self) -> Option<Range<u64>>
         ensures taken { MatchOption result ((self.old ≡ []) × (self.new ≡ [])) (λ run. self.old ≡ run ∷ self.new) }
         ensures runs { AreRuns self.new }
@@ -185,8 +192,11 @@ fn apply(runs: &mut Stored, edit: Edit) -> Result<(), AllocError>
     ensures err { OnErr result (runs.new.items ≡ runs.old.items) }
     ensures lacking { OnErr result (Grows edit) }
     ensures room { HasRoomFor runs.old 1 → IsOk result }
+    ensures inline { small_vec_len runs.old < 2 → IsOk result }
     ensures capacity { runs.old.capacity ≤ runs.new.capacity }
 {
+    // Its contract says that room never falls below the two places inline.
+    let _ = runs.spilled();
     match edit {
         Edit::Insert { place, run } => runs.insert(place, run)?,
         Edit::Split {
@@ -226,6 +236,7 @@ fn insert(runs: &mut Stored, x: Range<u64>) -> Result<bool, AllocError>
     ensures err { OnErr result (runs.new.items ≡ runs.old.items) }
     ensures lacking { OnErr result (IsApart runs.old.items x.start x.end) }
     ensures room { HasRoomFor runs.old 1 → IsOk result }
+    ensures inline { small_vec_len runs.old < 2 → IsOk result }
     ensures len { small_vec_len runs.new ≤ small_vec_len runs.old + 1 }
     ensures capacity { runs.old.capacity ≤ runs.new.capacity }
 {
@@ -247,6 +258,7 @@ fn remove(runs: &mut Stored, x: Range<u64>) -> Result<bool, AllocError>
     ensures err { OnErr result (runs.new.items ≡ runs.old.items) }
     ensures lacking { OnErr result (IsInside runs.old.items x.start x.end) }
     ensures room { HasRoomFor runs.old 1 → IsOk result }
+    ensures inline { small_vec_len runs.old < 2 → IsOk result }
     ensures len { small_vec_len runs.new ≤ small_vec_len runs.old + 1 }
     ensures capacity { runs.old.capacity ≤ runs.new.capacity }
 {

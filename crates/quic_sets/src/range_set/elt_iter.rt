@@ -8,8 +8,9 @@ use super::{ArrayRangeSet, Iter, RangeSet};
 use std::marker::Model;
 use std::ops::Range;
 
-/// The numbers of a set, ascending, each once, from both ends (quinn-proto's `range_set::EltIter`). Contracts see the
-/// list of those that are left. Where both ends are taken in turn the order stays.
+/// The numbers of a set, ascending, each once, from both ends (quinn-proto's `range_set::EltIter`).
+/// Contracts see the list of those that are left. Where both ends are taken in turn the order
+/// stays.
 #[derive(Drop)]
 pub struct EltIter<'a> {
     front: Range<u64>,

@@ -8,8 +8,8 @@ use std::marker::Model;
 use std::ops::Range;
 use std::slice;
 
-/// The runs of a set, ascending, from both ends (quinn-proto's `range_set::Iter`). Contracts see the list of those that
-/// are left.
+/// The runs of a set, ascending, from both ends (quinn-proto's `range_set::Iter`). Contracts see
+/// the list of those that are left.
 #[derive(Drop)]
 pub struct Iter<'a> {
     runs: slice::Iter<'a, Range<u64>>,

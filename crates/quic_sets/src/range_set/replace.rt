@@ -8,12 +8,12 @@ use super::RangeSet;
 use std::alloc::AllocError;
 use std::ops::Range;
 
-/// The pieces of a set that stood in a range, ascending; the set has the range once this is dropped (quinn-proto's
-/// `range_set::Replace`).
+/// The pieces of a set that stood in a range, ascending; the set has the range once this is dropped
+/// (quinn-proto's `range_set::Replace`).
 pub struct Replace<'a> {
     set: &'a mut RangeSet,
-    // What the drop joins to the runs that it meets or touches. It is empty where the range was empty, or met no run and
-    // was put in at once: so the drop needs no memory.
+    // What the drop joins to the runs that it meets or touches. It is empty where the range was
+    // empty, or met no run and was put in at once: so the drop needs no memory.
     range: Range<u64>,
     // The place of the run that is cut next.
     at: usize,
@@ -55,12 +55,13 @@ impl RangeSet {
     ghost use Rattle.quic_sets.specs.contracts.range_set.RangeSet.{the_row as set_row};
     ghost use Rattle.quic_sets.specs.Replacing.{lender, left, to_come};
 
-    /// Adds the numbers of a range, and gives the pieces of the set that stood in it: each run cut to the range,
-    /// ascending (quinn-proto's `RangeSet::replace`). The range is in the set once the result is dropped, however early.
-    /// Runs that only touch the range are joined to it and give no piece. An empty or reversed range gives nothing and
-    /// adds nothing.
+    /// Adds the numbers of a range, and gives the pieces of the set that stood in it: each run cut
+    /// to the range, ascending (quinn-proto's `RangeSet::replace`). The range is in the set once
+    /// the result is dropped, however early. Runs that only touch the range are joined to it and
+    /// give no piece. An empty or reversed range gives nothing and adds nothing.
     ///
-    /// `AllocError`: memory lacked for one more run. The set has not changed. An empty or reversed range needs no memory.
+    /// `AllocError`: memory lacked for one more run. The set has not changed. An empty or reversed
+    /// range needs no memory.
     pub fn replace(&mut self, range: Range<u64>) -> Result<Replace<'_>, AllocError>
         ensures* unchanged_at_error { sem 𝓛 (follows_if set_row set_row self.entry.ghost_name (name_if_ok lender result) (λ set. set) self.old) }
         ensures same_reference { IfOk result (λ replace. lender replace ≡ self.entry.ghost_name) }
@@ -84,7 +85,8 @@ impl RangeSet {
         }
     }
 
-    /// Makes room for one more run, and puts the range in where it meets and touches no run. Gives what is left to join.
+    /// Makes room for one more run, and puts the range in where it meets and touches no run. Gives
+    /// what is left to join.
     fn begin(&mut self, range: Range<u64>) -> Result<Range<u64>, AllocError>
         ensures pieces { IfOk result (λ rest. pieces rest.start rest.end self.new ≡ pieces range.start range.end self.old) }
         ensures rest { IfOk result (λ rest. (rest.start < rest.end) ⊎ (rest.end ≡ 0)) }
@@ -113,7 +115,8 @@ impl RangeSet {
         ended_up_to(&self.runs, a)
     }
 
-    /// Joins a range with the runs that it meets or touches. Where there is none, or the range is empty, the set stays.
+    /// Joins a range with the runs that it meets or touches. Where there is none, or the range is
+    /// empty, the set stays.
     fn join(&mut self, range: Range<u64>)
         ensures { self.new ≡ joined range.start range.end self.old }
     {
@@ -151,7 +154,8 @@ fn started(runs: &[Range<u64>], front: usize, b: u64) -> usize
     runs[front..].partition_point(|run| run.start <= b)
 }
 
-/// Puts the range in as a run of its own where it meets and touches no run, in a place that there is: whether it did.
+/// Puts the range in as a run of its own where it meets and touches no run, in a place that there
+/// is: whether it did.
 fn put_apart(runs: &mut Vec<Range<u64>>, range: &Range<u64>) -> bool
     requires runs { AreRuns runs.old.items }
     requires range { range.now.start < range.now.end }

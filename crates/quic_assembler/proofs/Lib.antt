@@ -1,0 +1,3 @@
+pub mod Arrived
+pub mod Parts
+pub mod Calls

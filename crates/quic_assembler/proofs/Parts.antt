@@ -1,0 +1,9 @@
+-- Parts that wait, step by step.
+pub mod Steps
+pub mod Filled
+pub mod Gaps
+pub mod Skipped
+pub mod Free
+pub mod Undone
+pub mod Joining
+pub mod Copying

@@ -1,0 +1,34 @@
+use Rattle.std.proofs.Common.{ℕ, ◌+◌, sym, ap, ◌∙◌, subst, arith}
+use Rattle.quic_sets.specs.Runs.{Drops}
+use Rattle.quic_assembler.specs.Arrived.{Arrived}
+use Rattle.quic_assembler.proofs.Calls.Reading.{read_small}
+use Rattle.quic_assembler.proofs.Calls.Kept.{next_kept, next_known, total_small}
+use Rattle.quic_assembler.proofs.assembler.Assembler.read_next.Goals as goal
+
+pub overflow_add-self : goal.overflow_add-self
+overflow_add-self c =
+    let next = sym c.starts_at.ensures ∙ c.if-not-starts_at.false in
+    let k = read_small c.self.inside.read c.args.max c.self.inside.parts c.in-Some.bytes c.self.invariant.lawful.apart next (sym c.in-Some.is ∙ c.in_ok-bytes.ensures.ok) in
+    let l = c.len-len.ensures.value in
+    omega arith
+
+pub overflow_add-self-in-Some : goal.overflow_add-self-in-Some
+overflow_add-self-in-Some c =
+    let i = c.self.inside in
+    let k = total_small i.read i.unordered i.picked.entries i.parts c.self.invariant.lawful in
+    let t = c.self.invariant.total in
+    let l = c.len-len.ensures.bound in
+    omega arith
+
+pub invariant_of-self-in-Some : goal.invariant_of-self-in-Some
+invariant_of-self-in-Some c =
+    let i = c.self.inside in
+    let next = sym c.starts_at.ensures ∙ c.if-not-starts_at.false in
+    let u = ap (λ (a : Arrived). a.unordered) c.self.view_is ∙ c.requires in
+    let t = c.self.invariant.total in
+    let l = c.len-len.ensures.value in
+    record {
+      lawful = rw l (next_kept i.read c.args.max i.unordered i.picked.entries i.parts _ c.in-Some.bytes c.self.invariant.lawful u next (sym c.in-Some.is ∙ c.in_ok-bytes.ensures.ok) c.in_ok-bytes.ensures.new);
+      known = rw l (next_known i.read c.args.max i.unordered i.picked.entries i.parts _ c.in-Some.bytes i.arrived _ c.self.invariant.lawful u next (sym c.in-Some.is ∙ c.in_ok-bytes.ensures.ok) c.in_ok-bytes.ensures.new c.self.invariant.known (subst (λ (n : ℕ). Drops i.arrived c.remove_first.new.self 0 (i.read + n)) l c.remove_first.ensures.ok));
+      total = omega arith;
+    }

@@ -1,0 +1,3 @@
+-- The bytes that are kept, piece by piece.
+pub mod Pieces
+pub mod Ranges

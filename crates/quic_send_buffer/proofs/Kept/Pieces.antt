@@ -1,0 +1,190 @@
+-- The bytes that are kept of a stream, by the pieces that they stand in.
+use Rattle.std.proofs.Common.{◌≡◌, ℕ, ◌+◌, ◌-◌, ◌<◌, ◌≤◌, ◌++◌, ltb, leb, cond, length, take, drop, List, [], ◌∷◌, Bool, true, false, Some, None, min, length-take, length-drop, refl, sym, ap, ◌∙◌, subst, arith, length-append, inl, inr, ◌==◌}
+use Rattle.std.specs.Prelude.{slice_range}
+use Rattle.std.specs.Ordering.{nat_cmp}
+use Rattle.std.specs.Cmp.{nat_cmp_is}
+use Rattle.std.specs.declared.cmp.Ordering.TheVariants.{Greater}
+use Rattle.std.specs.BTreeMap.{insert_entry}
+use Rattle.std.proofs.lemmas.Bool.{cases_lt, cases_Bool, le-leb, lt-leb, lt-ltb, le-ltb, ltb-true, ltb-false, eqb-true}
+use Rattle.std.proofs.lemmas.List.{append_assoc, append-nil}
+use Rattle.std.proofs.Math.Seq.{drop-append-add}
+use Rattle.quic_sets.specs.Parts.{Part, start, after, bytes_of}
+use Rattle.quic_send_buffer.specs.Buffered.{passed, pieces_behind, piece_of, piece_end}
+use Rattle.quic_send_buffer.specs.KeptBytes.{KeptBytes, AreInTurn, lengths_of, with_piece, released_to, behind, base_behind}
+use Rattle.quic_send_buffer.proofs.Kept.Ranges.{within_first, within_second}
+
+-- pieces as they are seen
+abbrev pub seen_from : ℕ → List Part → KeptBytes
+seen_from at ps = record { base = at; bytes = bytes_of ps; lengths = lengths_of ps }
+
+-- ---- where they end
+
+pub end_is : (at end : ℕ) (ps : List Part) → AreInTurn at ps end → at + length (bytes_of ps) ≡ end
+end_is at end [] h = omega (arith, h)
+end_is at end (p ∷ ps) h =
+    let rest = end_is p.0 end ps h.2 in
+    let len = length-append p.1 (bytes_of ps) in
+    let here = h.0 in
+    omega (arith, rest, len, here)
+
+-- ---- one more piece
+
+pub put_behind : (at end : ℕ) (ps : List Part) (bytes : List ℕ) → AreInTurn at ps end → 0 < length bytes → insert_entry nat_cmp ps (end + length bytes) bytes ≡ ps ++ ((end + length bytes, bytes) ∷ [])
+put_behind at end [] bytes h some = refl
+put_behind at end (p ∷ ps) bytes h some =
+    let last = end_is p.0 end ps h.2 in
+    let c : nat_cmp (end + length bytes) p.0 ≡ Greater = sym (nat_cmp_is (end + length bytes) p.0 Greater (omega (arith, last, some))) in
+    rw c (ap (λ (qs : List Part). p ∷ qs) (put_behind p.0 end ps bytes h.2 some))
+
+pub more_in_turn : (at end : ℕ) (ps : List Part) (bytes : List ℕ) → AreInTurn at ps end → 0 < length bytes → AreInTurn at (ps ++ ((end + length bytes, bytes) ∷ [])) (end + length bytes)
+more_in_turn at end [] bytes h some = (omega (arith, h), some, refl)
+more_in_turn at end (p ∷ ps) bytes h some = (h.0, h.1, more_in_turn p.0 end ps bytes h.2 some)
+
+more_bytes : (ps : List Part) (q : Part) → bytes_of (ps ++ (q ∷ [])) ≡ bytes_of ps ++ q.1
+more_bytes [] q = append-nil q.1
+more_bytes (p ∷ ps) q = ap (λ (z : List ℕ). p.1 ++ z) (more_bytes ps q) ∙ sym (append_assoc p.1 (bytes_of ps) q.1)
+
+more_lengths : (ps : List Part) (q : Part) → lengths_of (ps ++ (q ∷ [])) ≡ lengths_of ps ++ (length q.1 ∷ [])
+more_lengths [] q = refl
+more_lengths (p ∷ ps) q = ap (λ (z : List ℕ). length p.1 ∷ z) (more_lengths ps q)
+
+one_piece : (n : ℕ) → 0 < n → n ∷ [] ≡ piece_of n
+one_piece n some = elim (cases_Bool (n == 0)) [
+  | inl is ↦ (let none = eqb-true n 0 is in absurd (omega (arith, none, some)))
+  | inr isnt ↦ rw isnt refl
+]
+
+pub push_turn : (at end next : ℕ) (ps ns : List Part) (bytes : List ℕ) → AreInTurn at ps end → 0 < length bytes → next ≡ end + length bytes → ns ≡ insert_entry nat_cmp ps next bytes → AreInTurn at ns next
+push_turn at end next ps ns bytes h some e f =
+    subst (λ (n : ℕ). ns ≡ insert_entry nat_cmp ps n bytes → AreInTurn at ns n) (sym e) (λ g. rw (g ∙ put_behind at end ps bytes h some) (more_in_turn at end ps bytes h some)) f
+
+pub push_seen : (at end next : ℕ) (ps ns : List Part) (bytes : List ℕ) → AreInTurn at ps end → 0 < length bytes → next ≡ end + length bytes → ns ≡ insert_entry nat_cmp ps next bytes → seen_from at ns ≡ with_piece bytes (seen_from at ps)
+push_seen at end next ps ns bytes h some e f =
+    let q : Part = (end + length bytes, bytes) in
+    ap (λ (qs : List Part). seen_from at qs) (f ∙ ap (λ (n : ℕ). insert_entry nat_cmp ps n bytes) e ∙ put_behind at end ps bytes h some)
+    ∙ ap (λ (bs : List ℕ). let x : KeptBytes = record { base = at; bytes = bs; lengths = lengths_of (ps ++ (q ∷ [])) } in x) (more_bytes ps q)
+    ∙ ap (λ (ls : List ℕ). let x : KeptBytes = record { base = at; bytes = bytes_of ps ++ bytes; lengths = ls } in x) (more_lengths ps q ∙ ap (λ (ls : List ℕ). lengths_of ps ++ ls) (one_piece (length bytes) some))
+
+-- ---- pieces go
+
+-- how the release of pieces shows
+abbrev IsReleased : ℕ → ℕ → ℕ → List Part → Type 0
+IsReleased at end o ps =
+    AreInTurn (base_behind o at ps) (behind o ps) end
+    × (base_behind o at ps ≡ at + passed (lengths_of ps) (o - at))
+    × (bytes_of (behind o ps) ≡ drop (passed (lengths_of ps) (o - at)) (bytes_of ps))
+    × (lengths_of (behind o ps) ≡ pieces_behind (lengths_of ps) (o - at))
+
+released : (at end o : ℕ) (ps : List Part) → AreInTurn at ps end → IsReleased at end o ps
+released at end o [] h = (h, omega arith, refl, refl)
+released at end o (p ∷ ps) h =
+    let here = h.0 in
+    let some = h.1 in
+    elim (cases_lt o p.0) [
+      | inl lt ↦
+          let stays : leb p.0 o ≡ false = lt-leb p.0 o lt in
+          let long : leb (length p.1) (o - at) ≡ false = lt-leb (length p.1) (o - at) (omega (arith, here, lt, some)) in
+          rw (stays, long) (h, omega arith, refl, refl)
+      | inr le ↦
+          let goes : leb p.0 o ≡ true = le-leb p.0 o le in
+          let short : leb (length p.1) (o - at) ≡ true = le-leb (length p.1) (o - at) (omega (arith, here, le)) in
+          let left : o - at - length p.1 ≡ o - p.0 = omega (arith, here) in
+          let rest = released p.0 end o ps h.2 in
+          let base = rest.1 in
+          rw (goes, short, left) (rest.0, omega (arith, base, here), rest.2 ∙ sym (drop-append-add p.1 (bytes_of ps) (passed (lengths_of ps) (o - p.0))), rest.3)
+    ]
+
+pub release_turn : (at end o from : ℕ) (ps ns : List Part) → AreInTurn at ps end → from ≡ base_behind o at ps → ns ≡ behind o ps → AreInTurn from ns end
+release_turn at end o from ps ns h e f = rw (e, f) (released at end o ps h).0
+
+pub release_seen : (at end o from : ℕ) (ps ns : List Part) → AreInTurn at ps end → from ≡ base_behind o at ps → ns ≡ behind o ps → seen_from from ns ≡ released_to o (seen_from at ps)
+release_seen at end o from ps ns h e f =
+    let all = released at end o ps h in
+    let gone = passed (lengths_of ps) (o - at) in
+    ap (λ (n : ℕ). seen_from n ns) (e ∙ all.1)
+    ∙ ap (λ (qs : List Part). seen_from (at + gone) qs) f
+    ∙ ap (λ (bs : List ℕ). let x : KeptBytes = record { base = at + gone; bytes = bs; lengths = lengths_of (behind o ps) } in x) all.2
+    ∙ ap (λ (ls : List ℕ). let x : KeptBytes = record { base = at + gone; bytes = drop gone (bytes_of ps); lengths = ls } in x) all.3
+
+-- ---- the piece that has an offset
+
+pub record Holds (at end o : ℕ) (ps : List Part) (p : Part) : Type 0 where
+  pub whole : start p + length p.1 ≡ p.0
+  pub from : start p ≤ o
+  pub above : o < p.0
+  pub within : p.0 ≤ end
+  pub ends : p.0 ≡ piece_end at (lengths_of ps) o
+  pub same : (e : ℕ) → o ≤ e → e ≤ p.0 → slice_range p.1 (o - start p) (e - start p) ≡ slice_range (bytes_of ps) (o - at) (e - at)
+
+pub held : (at end o : ℕ) (ps : List Part) (p : Part) → AreInTurn at ps end → at ≤ o → after o ps ≡ Some p → Holds at end o ps p
+held at end o [] p h le e = cc
+held at end o (q ∷ ps) p h le e = go (ltb o q.0) refl e (λ k. held q.0 end o ps p h.2 k)
+  where
+    go : (b : Bool) → ltb o q.0 ≡ b → cond b (Some q) (after o ps) ≡ Some p → (q.0 ≤ o → after o ps ≡ Some p → Holds q.0 end o ps p) → Holds at end o (q ∷ ps) p
+    go true t e ih =
+        let same : q ≡ p = cc in
+        let here = h.0 in
+        let last = end_is q.0 end ps h.2 in
+        let above = ltb-true o q.0 t in
+        let first : start q ≡ at = omega (arith, here) in
+        let in_piece : ltb o (at + length q.1) ≡ true = lt-ltb o (at + length q.1) (omega (arith, above, here)) in
+        subst (λ (x : Part). Holds at end o (q ∷ ps) x) same (record {
+          whole = omega (arith, here);
+          from = omega (arith, here, le);
+          above = above;
+          within = omega (arith, last);
+          ends = sym here ∙ sym (ap (λ (b : Bool). cond b (at + length q.1) (piece_end (at + length q.1) (lengths_of ps) o)) in_piece);
+          same = λ e oe el. ap (λ (n : ℕ). slice_range q.1 (o - n) (e - n)) first ∙ within_first q.1 (bytes_of ps) (o - at) (e - at) (omega (arith, oe)) (omega (arith, el, here));
+        })
+    go false t e ih =
+        let above = ltb-false o q.0 t in
+        let here = h.0 in
+        let rest = ih above e in
+        let lower : o - q.0 ≡ o - at - length q.1 = omega (arith, here) in
+        record {
+          whole = rest.whole;
+          from = rest.from;
+          above = rest.above;
+          within = rest.within;
+          ends = rest.ends ∙ ap (λ (n : ℕ). piece_end n (lengths_of ps) o) (sym here) ∙ sym (ap (λ (b : Bool). cond b (at + length q.1) (piece_end (at + length q.1) (lengths_of ps) o)) (le-ltb o (at + length q.1) (omega (arith, above, here))));
+          same = λ e oe el. (let upper : e - q.0 ≡ e - at - length q.1 = omega (arith, here) in
+              rest.same e oe el ∙ ap (λ (n : ℕ). slice_range (bytes_of ps) n (e - q.0)) lower ∙ ap (λ (n : ℕ). slice_range (bytes_of ps) (o - at - length q.1) n) upper
+              ∙ within_second q.1 (bytes_of ps) (o - at) (e - at) (omega (arith, here, above)) (omega (arith, oe)));
+        }
+
+pub held_none : (at end o : ℕ) (ps : List Part) → AreInTurn at ps end → at ≤ o → after o ps ≡ None → end ≤ o
+held_none at end o [] h le e = omega (arith, h, le)
+held_none at end o (q ∷ ps) h le e = go (ltb o q.0) refl e (λ k. held_none q.0 end o ps h.2 k)
+  where
+    go : (b : Bool) → ltb o q.0 ≡ b → cond b (Some q) (after o ps) ≡ None → (q.0 ≤ o → after o ps ≡ None → end ≤ o) → end ≤ o
+    go true t e ih = cc
+    go false t e ih = ih (ltb-false o q.0 t) e
+
+-- what is given of that piece
+pub got_count : (at end o e from to : ℕ) (ps : List Part) (p : Part) → Holds at end o ps p → from ≡ o - start p → to ≡ min e p.0 - start p → length (take (to - from) (drop from p.1)) ≡ min e p.0 - o
+got_count at end o e from to ps p h f t =
+    let taken = length-take (to - from) (drop from p.1) in
+    let left = length-drop from p.1 in
+    let whole = h.whole in
+    let below = h.from in
+    let above = h.above in
+    omega (arith, taken, left, whole, below, above, f, t)
+
+pub got_bytes : (at end o e from to : ℕ) (ps : List Part) (p : Part) → Holds at end o ps p → o ≤ e → from ≡ o - start p → to ≡ min e p.0 - start p
+    → take (to - from) (drop from p.1) ≡ slice_range (bytes_of ps) (o - at) (o + length (take (to - from) (drop from p.1)) - at)
+got_bytes at end o e from to ps p h oe f t =
+    let last = min e p.0 in
+    let above = h.above in
+    let count = got_count at end o e from to ps p h f t in
+    let ends : o + length (take (to - from) (drop from p.1)) ≡ last = omega (arith, count, oe, above) in
+    ap (λ (n : ℕ). take (to - n) (drop n p.1)) f ∙ ap (λ (n : ℕ). take (n - (o - start p)) (drop (o - start p) p.1)) t
+    ∙ h.same last (omega (arith, oe, above)) (omega arith)
+    ∙ ap (λ (n : ℕ). slice_range (bytes_of ps) (o - at) (n - at)) (sym ends)
+
+pub past_end : (at end o : ℕ) (ps : List Part) → AreInTurn at ps end → end ≤ o → piece_end at (lengths_of ps) o ≡ o
+past_end at end o [] h le = refl
+past_end at end o (p ∷ ps) h le =
+    let here = h.0 in
+    let last = end_is p.0 end ps h.2 in
+    let past : ltb o (at + length p.1) ≡ false = le-ltb o (at + length p.1) (omega (arith, here, last, le)) in
+    ap (λ (b : Bool). cond b (at + length p.1) (piece_end (at + length p.1) (lengths_of ps) o)) past ∙ ap (λ (n : ℕ). piece_end n (lengths_of ps) o) here ∙ past_end p.0 end o ps h.2 le

@@ -1,0 +1,4 @@
+pub mod Buffered
+pub mod BufferedHistory
+pub mod KeptBytes
+pub mod Source

@@ -1,0 +1,4 @@
+//! What the definitions of this crate say together. Each function does nothing: its contract is the
+//! law.
+pub mod bytes_source;
+pub mod send_buffer;

@@ -1,0 +1,8 @@
+-- Sets of offsets: as runs in an ordered map, and as lists of runs.
+pub mod Spans
+pub mod Loose
+pub mod LooseSteps
+pub mod OffsetSet
+pub mod OffsetCalls
+pub mod Edits
+pub mod Undone

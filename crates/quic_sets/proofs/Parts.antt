@@ -1,0 +1,3 @@
+-- Parts of a stream, and their bytes.
+pub mod First
+pub mod Bytes

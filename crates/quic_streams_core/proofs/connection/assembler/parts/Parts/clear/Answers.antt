@@ -1,9 +1,0 @@
-use Rattle.std.proofs.Common.{refl, lit<}
-use Rattle.quic_streams_core.proofs.connection.assembler.parts.Parts.clear.Goals as goal
-
-pub invariant_of-self : goal.invariant_of-self
-invariant_of-self c = record {
-  apart = rw c.clear.ensures.empty (lit< tt);
-  counted = rw c.clear.ensures.empty refl;
-  bytes = rw c.clear.ensures.empty refl;
-}

@@ -1,7 +1,0 @@
-use Rattle.std.proofs.Common.{◌*◌}
-use Rattle.quic_streams_core.specs.declared.connection.assembler.parts.TheConstants.{SHORT_PART}
-use Rattle.quic_streams_core.proofs.WaitingBytes.{short_cut}
-use Rattle.quic_streams_core.proofs.connection.assembler.parts.are_short.Goals as goal
-
-pub returns : goal.returns
-returns c = rw c.saturating_mul.ensures (short_cut c.args.bytes (SHORT_PART * c.args.parts) c.ranges.bytes.fits)

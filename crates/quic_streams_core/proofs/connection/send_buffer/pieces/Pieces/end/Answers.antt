@@ -1,9 +1,0 @@
-use Rattle.std.proofs.Common.{◌≡◌, ◌+◌, sym, subst, length}
-use Rattle.quic_streams_core.specs.KeptBytes.{KeptBytes}
-use Rattle.quic_streams_core.proofs.KeptBytes.{end_is}
-use Rattle.quic_streams_core.proofs.connection.send_buffer.pieces.Pieces.end.Goals as goal
-
-pub returns-clause-value : goal.returns-clause-value
-returns-clause-value c =
-    let v = c.self.inside in
-    subst (λ (k : KeptBytes). v.end ≡ k.base + length k.bytes) c.self.view_is (sym (end_is v.base v.end v.map.entries c.self.invariant.0))

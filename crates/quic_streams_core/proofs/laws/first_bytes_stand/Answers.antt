@@ -1,8 +1,0 @@
-use Rattle.quic_streams_core.proofs.Lawful.{insert_bytes, insert_lawful}
-use Rattle.quic_streams_core.proofs.laws.first_bytes_stand.Goals as goal
-
-pub returns-clause-bytes : goal.returns-clause-bytes
-returns-clause-bytes c = insert_bytes
-
-pub returns-clause-lawful : goal.returns-clause-lawful
-returns-clause-lawful c = insert_lawful

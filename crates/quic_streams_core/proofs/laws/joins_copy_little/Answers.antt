@@ -1,5 +1,0 @@
-use Rattle.quic_streams_core.proofs.Copying.{copies_little}
-use Rattle.quic_streams_core.proofs.laws.joins_copy_little.Goals as goal
-
-pub returns : goal.returns
-returns c = λ a h crowded. copies_little a.read a.parts h.apart crowded

@@ -1,5 +1,0 @@
-use Rattle.quic_streams_core.proofs.Runs.{runs_counted}
-use Rattle.quic_streams_core.proofs.laws.runs_are_maximal.Goals as goal
-
-pub returns : goal.returns
-returns c = λ a n h m. runs_counted a.read a.parts n h.apart m

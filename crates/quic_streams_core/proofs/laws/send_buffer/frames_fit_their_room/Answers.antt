@@ -1,5 +1,0 @@
-use Rattle.quic_wire_core.specs.Law.{varint_size_le}
-use Rattle.quic_streams_core.proofs.laws.send_buffer.frames_fit_their_room.Goals as goal
-
-pub returns-clause-length : goal.returns-clause-length
-returns-clause-length c = varint_size_le

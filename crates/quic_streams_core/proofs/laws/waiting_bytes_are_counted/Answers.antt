@@ -1,5 +1,0 @@
-use Rattle.quic_streams_core.proofs.WaitingBytes.{bytes_counted}
-use Rattle.quic_streams_core.proofs.laws.waiting_bytes_are_counted.Goals as goal
-
-pub returns : goal.returns
-returns c = λ a n h m. bytes_counted a.read a.parts n h.apart m
