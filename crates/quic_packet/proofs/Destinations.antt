@@ -24,17 +24,17 @@ fixed_length_finds id rest =
 
 -- what was sent is decoded to its id
 pub sent_is_decoded : SentIsDecoded
-sent_is_decoded mask hide seal form keeps adds parsed known n acked id p finds near four =
+sent_is_decoded protection aead form keeps adds parsed known n acked id p finds near four =
     let t = truncated n acked in
     let few = fewest (n - acked) near in
     let y = number_bytes t in
     let first = first_byte t.width in
-    let body = seal n (first ∷ (id ++ y)) p in
+    let body = aead.seal n (first ∷ (id ++ y)) p in
     let s = take 16 (drop (4 - length y) body) in
-    let rest = id ++ (hide s y ++ body) in
+    let rest = id ++ (protection.hide s y ++ body) in
     let width : length y ≡ t.width = length_of_bytes n acked near in
-    let long : length id + 20 ≤ length rest = omega (arith, length-append id (hide s y ++ body), length-append (hide s y) body, keeps s y, adds n (first ∷ (id ++ y)) p, four, width) in
-    let kept : mask s first / 32 ≡ (64 + (t.width - 1)) / 32 = form s first in
-    let low : 64 ≤ mask s first = omega (arith, few.some, few.four) in
-    let high : mask s first < 128 = omega (arith, few.some, few.four) in
-    ap (accepted known (mask s first) rest) (finds (hide s y ++ body)) ∙ rw (le-ltb (length rest) (length id + 20) long, lt-leb 128 (mask s first) high, le-ltb (mask s first) 64 low) refl
+    let long : length id + 20 ≤ length rest = omega (arith, length-append id (protection.hide s y ++ body), length-append (protection.hide s y) body, keeps s y, adds n (first ∷ (id ++ y)) p, four, width) in
+    let kept : protection.mask s first / 32 ≡ (64 + (t.width - 1)) / 32 = form s first in
+    let low : 64 ≤ protection.mask s first = omega (arith, few.some, few.four) in
+    let high : protection.mask s first < 128 = omega (arith, few.some, few.four) in
+    ap (accepted known (protection.mask s first) rest) (finds (protection.hide s y ++ body)) ∙ rw (le-ltb (length rest) (length id + 20) long, lt-leb 128 (protection.mask s first) high, le-ltb (protection.mask s first) 64 low) refl

@@ -4,7 +4,7 @@ use Rattle.std.specs.Prelude.{slice_index}
 use Rattle.std.proofs.lemmas.List.{length-drop, length-append, take-take, get_or-take, drop-take, drop-drop, take_at, drop_at, take_rest}
 use borrow.Rule.Slice.PartMut.{put_mid}
 use Rattle.std.proofs.Math.ListN.{drop_of_length-le}
-use Rattle.quic_packet.specs.Keys.{OfFirst, OfNumber, Seal, width_in, sample, with_header, shielded}
+use Rattle.quic_packet.specs.Keys.{Protection, Aead, width_in, sample, with_header, shielded}
 use Rattle.quic_packet.specs.Datagram.{protected}
 
 -- nothing appended
@@ -13,8 +13,8 @@ append_none [] = refl
 append_none (x ∷ xs) = ap (λ (t : List ℕ). x ∷ t) (append_none xs)
 
 -- sealing and then hiding the header is the protected packet
-pub protects : (mask : OfFirst) (hide : OfNumber) (seal : Seal) (at n h : ℕ) (packet sealed whole : List ℕ) → whole ≡ shielded mask hide at sealed → sealed ≡ take h packet ++ seal n (take h packet) (take (length packet - h - 16) (drop h packet)) → h ≡ at + width_in (slice_index packet 0) → at + 20 ≤ length packet → whole ≡ protected mask hide seal at n (take (length packet - 16) packet)
-protects mask hide seal at n h packet sealed whole e es eh room =
+pub protects : (protection : Protection) (aead : Aead) (at n h : ℕ) (packet sealed whole : List ℕ) → whole ≡ shielded protection at sealed → sealed ≡ take h packet ++ aead.seal n (take h packet) (take (length packet - h - 16) (drop h packet)) → h ≡ at + width_in (slice_index packet 0) → at + 20 ≤ length packet → whole ≡ protected protection aead at n (take (length packet - 16) packet)
+protects protection aead at n h packet sealed whole e es eh room =
     let m = length packet - 16 in
     let first : slice_index (take m packet) 0 ≡ slice_index packet 0 = get_or-take m packet 0 0 (omega arith) in
     let width : width_in (slice_index packet 0) ≤ 4 = omega arith in
@@ -79,11 +79,11 @@ with_header_parts first g id y z t at e same =
     rw (before, take_at id (y ++ t) (length id) refl, drop_behind first id (y ++ t) (length z) at e, drop_at y t (length z) (sym same)) refl
 
 -- the parts with the header protected
-pub shielded_parts : (mask : OfFirst) (hide : OfNumber) (first : ℕ) (id y t : List ℕ) (at : ℕ) → at ≡ length id + 1 → width_in first ≡ length y → ((s b : List ℕ) → length (hide s b) ≡ length b) → shielded mask hide at (first ∷ (id ++ (y ++ t))) ≡ mask (take 16 (drop (4 - length y) t)) first ∷ (id ++ (hide (take 16 (drop (4 - length y) t)) y ++ t))
-shielded_parts mask hide first id y t at e w len =
+pub shielded_parts : (protection : Protection) (first : ℕ) (id y t : List ℕ) (at : ℕ) → at ≡ length id + 1 → width_in first ≡ length y → ((s b : List ℕ) → length (protection.hide s b) ≡ length b) → shielded protection at (first ∷ (id ++ (y ++ t))) ≡ protection.mask (take 16 (drop (4 - length y) t)) first ∷ (id ++ (protection.hide (take 16 (drop (4 - length y) t)) y ++ t))
+shielded_parts protection first id y t at e w len =
     let s = take 16 (drop (4 - length y) t) in
     let le : length y ≤ 4 = omega arith in
-    rw (sample_of first id y t at e le, number_in first id y t at (width_in first) e w) (with_header_parts first (mask s first) id y (hide s y) t at e (len s y))
+    rw (sample_of first id y t at e le, number_in first id y t at (width_in first) e w) (with_header_parts first (protection.mask s first) id y (protection.hide s y) t at e (len s y))
 
 -- the header of the parts
 pub header_of : (first : ℕ) (id y t : List ℕ) (n : ℕ) → n ≡ length id + 1 + length y → take n (first ∷ (id ++ (y ++ t))) ≡ first ∷ (id ++ y)

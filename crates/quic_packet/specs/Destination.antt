@@ -1,5 +1,5 @@
 -- Which id a datagram is sent to, or why it is refused (RFC 9000, sections 5.2 and 17.3.1).
-use Rattle.std.proofs.Common.{◌≡◌, ℕ, ◌+◌, ◌-◌, ◌/◌, ◌^◌, ◌<◌, ◌≤◌, List, [], ◌∷◌, ◌++◌, length, take, Option, Some, None, Bool, true, false, refl, arith, cond}
+use Rattle.std.proofs.Common.{◌≡◌, ℕ, ◌+◌, ◌-◌, ◌^◌, ◌<◌, ◌≤◌, List, [], ◌∷◌, ◌++◌, length, take, Option, Some, None, Bool, true, false, refl, arith, cond}
 use Rattle.std.specs.Prelude.{nat_eq, nat_lt, nat_le, if◌then◌else◌, Result, Ok, Err, IsTrue, ◌↔◌}
 use Rattle.std.specs.List.{list_any, Contains}
 use Rattle.std.specs.Cmp.Lexicographic.{pointwise}
@@ -8,7 +8,7 @@ use Rattle.std.proofs.lemmas.Bool.{leb-true}
 use Rattle.quic_packet.specs.declared.packet.HeaderError.{HeaderError}
 use Rattle.quic_packet.specs.declared.packet.HeaderError.TheVariants.{TooShort, NotShort, FixedBit, UnknownId}
 use Rattle.quic_packet.specs.Number.{truncated}
-use Rattle.quic_packet.specs.Keys.{OfFirst, OfNumber, Seal}
+use Rattle.quic_packet.specs.Keys.{Protection, Aead, KeepsForm, KeepsLength, AddsTag}
 use Rattle.quic_packet.specs.Datagram.{sent}
 
 -- the id that bytes begin with, where each id has this length
@@ -52,7 +52,7 @@ decoded parsed known (first ∷ rest) = accepted known first rest (parsed rest)
 
 -- a datagram that was sent to an id is decoded to it by a parser that finds the id in front, or refused as unknown: no other refusal comes
 abbrev pub SentIsDecoded : Type 0
-SentIsDecoded = (mask : OfFirst) (hide : OfNumber) (seal : Seal) → ((s : List ℕ) (first : ℕ) → mask s first / 32 ≡ first / 32) → ((s bytes : List ℕ) → length (hide s bytes) ≡ length bytes) → ((n : ℕ) (h p : List ℕ) → length (seal n h p) ≡ length p + 16) → (parsed : List ℕ → Option (List ℕ)) (known : List (List ℕ)) (number acked : ℕ) (id payload : List ℕ) → ((rest : List ℕ) → parsed (id ++ rest) ≡ Some id) → number - acked < 2 ^ 31 → 4 ≤ (truncated number acked).width + length payload → decoded parsed known (sent mask hide seal number acked id payload) ≡ (if is_known id known then Ok id else Err UnknownId)
+SentIsDecoded = (protection : Protection) (aead : Aead) → KeepsForm protection.mask → KeepsLength protection.hide → AddsTag aead.seal → (parsed : List ℕ → Option (List ℕ)) (known : List (List ℕ)) (number acked : ℕ) (id payload : List ℕ) → ((rest : List ℕ) → parsed (id ++ rest) ≡ Some id) → number - acked < 2 ^ 31 → 4 ≤ (truncated number acked).width + length payload → decoded parsed known (sent protection aead number acked id payload) ≡ (if is_known id known then Ok id else Err UnknownId)
 
 -- the parser of one length finds ids of that length in front
 abbrev pub FixedLengthFinds : Type 0

@@ -1,6 +1,6 @@
 //! Keys that protect headers and seal payloads (RFC 9001, sections 5.3 and 5.4). Every call works in place and takes no memory.
-ghost use Rattle.std.specs.Prelude.{◌≡◌, ℕ, ◌+◌, ◌-◌, ◌/◌, ◌<◌, ◌≤◌, ◌^◌, List, ◌++◌, Option, Some, None, length, take, drop, MatchResult};
-ghost use Rattle.quic_packet.specs.Keys.{shielded, unshielded};
+ghost use Rattle.std.specs.Prelude.{◌≡◌, ℕ, ◌+◌, ◌-◌, ◌/◌, ◌<◌, ◌≤◌, ◌^◌, List, ◌++◌, Some, None, length, take, drop, MatchResult};
+ghost use Rattle.quic_packet.specs.Keys.{Protection, Aead, KeepsForm, KeepsLength, AddsTag, shielded, unshielded};
 
 use thiserror::Error;
 
@@ -36,27 +36,20 @@ pub struct Keys<H, K> {
 /// A key that hides a packet's number and the low five bits of its first byte (RFC 9001, 5.4),
 /// as in quinn-proto.
 pub trait HeaderKey {
-    // What hiding by a sample makes of the first byte and of the number's bytes.
-    ghost masks: { Self → List ℕ → ℕ → ℕ };
-
-    ghost hides: { Self → List ℕ → List ℕ → List ℕ };
-
-    // What showing by a sample makes of them.
-    ghost unmasks: { Self → List ℕ → ℕ → ℕ };
-
-    ghost reveals: { Self → List ℕ → List ℕ → List ℕ };
+    // What the key does by a sample to the first byte and to the number's bytes.
+    ghost protection: { Self → Protection };
 
     /// Hides the first byte and the number of the packet, whose number starts at `number_at`.
     fn encrypt(&self, number_at: usize, packet: &mut [u8])
         requires first { 1 ≤ number_at }
         requires room { number_at + 20 ≤ length packet.old }
-        ensures { packet.new ≡ shielded (masks self.now) (hides self.now) number_at packet.old };
+        ensures { packet.new ≡ shielded (protection self.now) number_at packet.old };
 
     /// Shows the first byte and the number of the packet, whose number starts at `number_at`.
     fn decrypt(&self, number_at: usize, packet: &mut [u8])
         requires first { 1 ≤ number_at }
         requires room { number_at + 20 ≤ length packet.old }
-        ensures { packet.new ≡ unshielded (unmasks self.now) (reveals self.now) number_at packet.old };
+        ensures { packet.new ≡ unshielded (protection self.now) number_at packet.old };
 
     /// How many bytes the key samples: 16.
     fn sample_size(&self) -> usize
@@ -66,22 +59,19 @@ pub trait HeaderKey {
     }
 
     // Hiding and showing keep the first byte's top three bits and how many bytes the number has.
-    ghost keeps_form: { (k : Self) (s : List ℕ) (first : ℕ) → masks k s first / 32 ≡ first / 32 };
+    ghost keeps_form: { (k : Self) → KeepsForm ((protection k).mask) };
 
-    ghost keeps_length: { (k : Self) (s bytes : List ℕ) → length (hides k s bytes) ≡ length bytes };
+    ghost keeps_length: { (k : Self) → KeepsLength ((protection k).hide) };
 
-    ghost shows_form: { (k : Self) (s : List ℕ) (first : ℕ) → unmasks k s first / 32 ≡ first / 32 };
+    ghost shows_form: { (k : Self) → KeepsForm ((protection k).unmask) };
 
-    ghost shows_length: { (k : Self) (s bytes : List ℕ) → length (reveals k s bytes) ≡ length bytes };
+    ghost shows_length: { (k : Self) → KeepsLength ((protection k).reveal) };
 }
 
 /// A key that seals payloads, or opens them (RFC 9001, 5.3), as in quinn-proto.
 pub trait PacketKey {
-    // What sealing under a number and a header makes of a payload.
-    ghost sealed: { Self → ℕ → List ℕ → List ℕ → List ℕ };
-
-    // The payload that bytes open to under a number and a header.
-    ghost opened: { Self → ℕ → List ℕ → List ℕ → Option (List ℕ) };
+    // What sealing under a number and a header makes of a payload, and the payload that bytes open to.
+    ghost aead: { Self → Aead };
 
     // How many packets the key may seal, and how many it may fail to open.
     ghost seal_limit: { Self → ℕ };
@@ -93,7 +83,7 @@ pub trait PacketKey {
     fn encrypt(&self, number: u64, packet: &mut [u8], header: usize)
         requires number { number < 2 ^ 62 }
         requires room { header + 16 ≤ length packet.old }
-        ensures { packet.new ≡ take header packet.old ++ sealed self.now number (take header packet.old) (take (length packet.old - header - 16) (drop header packet.old)) };
+        ensures { packet.new ≡ take header packet.old ++ (aead self.now).seal number (take header packet.old) (take (length packet.old - header - 16) (drop header packet.old)) };
 
     /// Opens the bytes of `payload`: how many bytes the opened payload has, which then
     /// stands at the front.
@@ -102,8 +92,8 @@ pub trait PacketKey {
     fn decrypt(&self, number: u64, header: &[u8], payload: &mut [u8]) -> Result<usize, NotOpened>
         requires { number < 2 ^ 62 }
         ensures { MatchResult result
-            (λ n. (n ≤ length payload.new) × (opened self.now number header.now payload.old ≡ Some (take n payload.new)))
-            (λ _. opened self.now number header.now payload.old ≡ None) };
+            (λ n. (n ≤ length payload.new) × ((aead self.now).unseal number header.now payload.old ≡ Some (take n payload.new)))
+            (λ _. (aead self.now).unseal number header.now payload.old ≡ None) };
 
     /// How many bytes sealing adds: 16.
     fn tag_len(&self) -> usize
@@ -121,5 +111,5 @@ pub trait PacketKey {
         ensures { result ≡ refusal_limit self.now };
 
     // Sealing adds the tag.
-    ghost adds_tag: { (k : Self) (n : ℕ) (h p : List ℕ) → length (sealed k n h p) ≡ length p + 16 };
+    ghost adds_tag: { (k : Self) → AddsTag ((aead k).seal) };
 }

@@ -1,7 +1,10 @@
 //! What the definitions say together, for the crates above.
+ghost use Rattle.std.specs.Prelude.{◌≡◌};
 ghost use Rattle.quic_packet.specs.Number.{TakesFewest, NewestOpens, LateOpens};
 ghost use Rattle.quic_packet.specs.Datagram.{MatesOpen, SealedIsSent, SentLength};
 ghost use Rattle.quic_packet.specs.Destination.{KnownIsMember, SentIsDecoded, FixedLengthFinds};
+
+use crate::crypto::{SAMPLE_SIZE, TAG_LEN};
 
 /// What one end sealed opens at its mate to the number and the payload where the number's bytes
 /// expand to the number, and to nothing else.
@@ -51,4 +54,10 @@ pub fn sent_is_decoded()
 /// The parser of one length finds ids of that length in front.
 pub fn fixed_length_finds()
     ensures { FixedLengthFinds }
+{}
+
+/// How many bytes sealing adds (RFC 9001, 5.3), and how many a header key samples (5.4.2).
+pub fn constants_are_these()
+    ensures tag { TAG_LEN ≡ 16 }
+    ensures sample { SAMPLE_SIZE ≡ 16 }
 {}

@@ -28,7 +28,7 @@ fn protect<H: HeaderKey, K: PacketKey>(
     requires number { number < 2 ^ 62 }
     requires first { 1 ≤ number_at }
     requires room { number_at + 20 ≤ length packet.old }
-    ensures { packet.new ≡ protected (H.masks header_key.now) (H.hides header_key.now) (K.sealed packet_key.now) number_at number (take (length packet.old - 16) packet.old) }
+    ensures { packet.new ≡ protected (H.protection header_key.now) (K.aead packet_key.now) number_at number (take (length packet.old - 16) packet.old) }
 {
     let header = number_at + width_in(packet[0]);
     packet_key.encrypt(number, packet, header);
@@ -47,7 +47,7 @@ fn protect_behind<H: HeaderKey, K: PacketKey>(
     requires number { number < 2 ^ 62 }
     requires first { 1 ≤ number_at }
     requires room { start + number_at + 20 ≤ length bytes.old }
-    ensures { bytes.new ≡ take start bytes.old ++ protected (H.masks header_key.now) (H.hides header_key.now) (K.sealed packet_key.now) number_at number (drop start (take (length bytes.old - 16) bytes.old)) }
+    ensures { bytes.new ≡ take start bytes.old ++ protected (H.protection header_key.now) (K.aead packet_key.now) number_at number (drop start (take (length bytes.old - 16) bytes.old)) }
 {
     protect(
         &mut bytes[start..],
@@ -74,7 +74,7 @@ pub fn seal_packet<H: HeaderKey, K: PacketKey>(
     requires number { number < 2 ^ 62 }
     requires first { 1 ≤ number_at }
     requires start { start + number_at + 4 ≤ vec_len out.old }
-    ensures ok { OnOk result (out.new.items ≡ take start out.old.items ++ protected (H.masks header_key.now) (H.hides header_key.now) (K.sealed packet_key.now) number_at number (drop start out.old.items)) }
+    ensures ok { OnOk result (out.new.items ≡ take start out.old.items ++ protected (H.protection header_key.now) (K.aead packet_key.now) number_at number (drop start out.old.items)) }
     ensures err { OnErr result (out.new.items ≡ out.old.items) }
     ensures full { OnErr result (vec_capacity out.old < vec_len out.old + 16) }
 {
@@ -97,7 +97,7 @@ pub fn seal_reserved<H: HeaderKey, K: PacketKey>(
     requires first { 1 ≤ number_at }
     requires start { start + number_at + 4 ≤ vec_len out.old }
     requires room { vec_len out.old + 16 ≤ vec_capacity out.old }
-    ensures items { out.new.items ≡ take start out.old.items ++ protected (H.masks header_key.now) (H.hides header_key.now) (K.sealed packet_key.now) number_at number (drop start out.old.items) }
+    ensures items { out.new.items ≡ take start out.old.items ++ protected (H.protection header_key.now) (K.aead packet_key.now) number_at number (drop start out.old.items) }
     ensures len { vec_len out.new ≡ vec_len out.old + 16 }
     ensures capacity { vec_capacity out.old ≤ vec_capacity out.new }
 {
@@ -147,8 +147,8 @@ fn open_plain<K: PacketKey>(
     requires expected { expected ≤ 2 ^ 62 }
     requires room { number_at + 20 ≤ length packet.old }
     ensures opened { MatchResult result
-        (λ o. opened_plain (K.opened packet_key.now) number_at expected packet.old ≡ Some (record { first = o.first; number = o.number; payload = slice_range packet.new o.start o.end }))
-        (λ _. opened_plain (K.opened packet_key.now) number_at expected packet.old ≡ None) }
+        (λ o. opened_plain (K.aead packet_key.now) number_at expected packet.old ≡ Some (record { first = o.first; number = o.number; payload = slice_range packet.new o.start o.end }))
+        (λ _. opened_plain (K.aead packet_key.now) number_at expected packet.old ≡ None) }
     ensures number { IfOk result (λ o. o.number < 2 ^ 62) }
     ensures start { IfOk result (λ o. o.start ≤ o.end) }
     ensures end { IfOk result (λ o. o.end ≤ length packet.new) }
@@ -185,8 +185,8 @@ pub fn open_packet<H: HeaderKey, K: PacketKey>(
     requires first { 1 ≤ number_at }
     requires room { number_at + 20 ≤ length datagram.old }
     ensures opened { MatchResult result
-        (λ o. opened_packet (H.unmasks header_key.now) (H.reveals header_key.now) (K.opened packet_key.now) number_at expected datagram.old ≡ Some (record { first = o.first; number = o.number; payload = slice_range datagram.new o.start o.end }))
-        (λ _. opened_packet (H.unmasks header_key.now) (H.reveals header_key.now) (K.opened packet_key.now) number_at expected datagram.old ≡ None) }
+        (λ o. opened_packet (H.protection header_key.now) (K.aead packet_key.now) number_at expected datagram.old ≡ Some (record { first = o.first; number = o.number; payload = slice_range datagram.new o.start o.end }))
+        (λ _. opened_packet (H.protection header_key.now) (K.aead packet_key.now) number_at expected datagram.old ≡ None) }
     ensures number { IfOk result (λ o. o.number < 2 ^ 62) }
     ensures start { IfOk result (λ o. o.start ≤ o.end) }
     ensures end { IfOk result (λ o. o.end ≤ length datagram.new) }

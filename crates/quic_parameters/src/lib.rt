@@ -1,4 +1,5 @@
-//! Transport parameters of QUIC: the limits that two ends tell each other as a connection begins.
+//! Transport parameters of QUIC: the limits, those of flow control among them, that two endpoints
+//! tell each other as a connection begins.
 #![tactic(auto)]
 
 pub mod transport_parameters;

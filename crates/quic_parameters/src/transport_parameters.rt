@@ -113,6 +113,9 @@ impl TransportParameters {
     ghost use Rattle.quic_parameters.specs.ParametersRead.{values_met, judged, parameters_at};
     ghost use Rattle.quic_parameters.specs.ParametersWritten.{IsWriteOrder, parameter_of_place, written_place, written_parameters};
 
+    /// The order of the places in which the ids ascend, for [`write`](Self::write).
+    pub const ORDER: [u8; 13] = [0, 1, 2, 3, 4, 5, 6, 7, 8, 9, 10, 11, 12];
+
     #[tactic(auto, unfolding(crate::specs::ParametersRead::values_met))]
     fn of_met(met: &[Option<VarInt>; PLACES]) -> Self
         ensures { result ≡ values_met met.now }

@@ -11,8 +11,8 @@ use Rattle.quic_packet.proofs.Opening.{mates_open}
 
 -- the payload that was sealed is the one that opens, and what was written in it is read
 pub frames_arrive : FramesArrive
-frames_arrive mask hide seal unmask reveal unseal mates number acked expected id fs zeros near fits above below fit =
+frames_arrive protection aead protection' aead' mates number acked expected id fs zeros near fits above below fit =
     let payload = spelled_all fs ++ replicate zeros 0 in
     let same = late_opens number acked expected near above below in
     let told : (expanded (truncated number acked) expected == number) ≡ true = eq-eqb _ _ same in
-    record { payload = payload; opens = mates_open mask hide seal unmask reveal unseal mates number acked expected id payload near fits ∙ rw told refl; reads = padded_read fs zeros fit }
+    record { payload = payload; opens = mates_open protection aead protection' aead' mates number acked expected id payload near fits ∙ rw told refl; reads = padded_read fs zeros fit }

@@ -16,3 +16,28 @@ pub mod Writing
 pub mod Worked
 pub mod Close
 pub mod Arriving
+-- integers, ids and errors
+pub use Rattle.quic_wire_core.specs.Coding
+pub use Rattle.quic_wire_core.specs.Varint
+pub use Rattle.quic_wire_core.specs.ConnectionId
+pub use Rattle.quic_wire_core.specs.StreamId
+pub use Rattle.quic_wire_core.specs.Text
+pub use Rattle.quic_wire_core.specs.FrameType
+pub use Rattle.quic_wire_core.specs.Reason
+pub use Rattle.quic_wire_core.specs.TransportError
+pub use Rattle.quic_wire_core.specs.Ecn
+-- packets and keys
+pub use Rattle.quic_packet.specs.Number
+pub use Rattle.quic_packet.specs.Keys
+pub use Rattle.quic_packet.specs.Header
+pub use Rattle.quic_packet.specs.Datagram
+pub use Rattle.quic_packet.specs.Destination
+-- transport parameters
+pub use Rattle.quic_parameters.specs.Parameters
+pub use Rattle.quic_parameters.specs.ParametersRead
+pub use Rattle.quic_parameters.specs.ParametersWritten
+-- sets of numbers
+pub use Rattle.quic_sets.specs.Runs
+pub use Rattle.quic_sets.specs.Elements
+pub use Rattle.quic_sets.specs.Pieces
+pub use Rattle.quic_sets.specs.Replacing

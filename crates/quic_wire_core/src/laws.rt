@@ -5,6 +5,7 @@ ghost use Rattle.std.specs.Int.{w8, w16, w32, w64};
 ghost use Rattle.std.specs.declared.cmp.Ordering.TheVariants.{Equal};
 ghost use Rattle.quic_wire_core.specs.Coding.{IsBytes, fixed_at, BeginsWith};
 ghost use Rattle.quic_wire_core.specs.ConnectionId.{id_cmp};
+ghost use Rattle.quic_wire_core.specs.Ecn.{ecn_of};
 ghost use Rattle.quic_wire_core.specs.StreamId.{stream_id, initiator_of, dir_of, index_of};
 ghost use Rattle.quic_wire_core.specs.StreamIdLaw.{AreSameParts};
 ghost use Rattle.quic_wire_core.specs.TransportError.{ErrorValue, same_error};
@@ -14,7 +15,9 @@ ghost use Rattle.quic_wire_core.specs.declared.stream_id.Dir.{Dir};
 
 use crate::coding::Codec;
 use crate::frame_type::FrameType;
+use crate::shared::{EcnCodepoint, MAX_CID_SIZE};
 use crate::stream_id::StreamId;
+use crate::token::RESET_TOKEN_SIZE;
 use crate::transport_error::Code;
 use crate::varint::VarInt;
 
@@ -92,3 +95,21 @@ pub fn connection_ids_are_their_bytes()
 pub fn errors_are_code_and_frame()
     ensures { (a b : ErrorValue) → IsTrue (same_error a b) ↔ a ≡ b }
 {}
+
+/// The most bytes of a variable-length integer (RFC 9000, section 16) and of a connection id
+/// (section 17.2), and how many a reset token has (section 10.3). The greatest integer is what
+/// [`VarInt::max_value`] answers.
+pub fn constants_are_these()
+    ensures integer { VarInt.MAX_SIZE ≡ 8 }
+    ensures id { MAX_CID_SIZE ≡ 20 }
+    ensures token { RESET_TOKEN_SIZE ≡ 16 }
+{}
+
+/// The bits that `as u8` gives of a codepoint are those that [`EcnCodepoint::from_bits`] reads as
+/// it (RFC 3168, section 5).
+pub fn codepoints_are_their_bits(codepoint: EcnCodepoint) -> u8
+    ensures bits { result < 4 }
+    ensures read { ecn_of result ≡ Some codepoint }
+{
+    codepoint as u8
+}

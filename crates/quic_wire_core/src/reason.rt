@@ -31,7 +31,7 @@ pub enum Reason {
     NotSendable,
     /// The stream can't end there.
     FinalSize,
-    /// Too many separate pieces of a stream wait to be read.
+    /// Too many runs of a stream wait to be read.
     TooManyPieces,
 }
 

@@ -1,12 +1,13 @@
 -- Keys that leave all bytes as they are.
 use Rattle.std.proofs.Common.{◌≡◌, ℕ, zero, suc, ◌+◌, ◌-◌, ◌%◌, ◌≤◌, List, [], ◌∷◌, ◌++◌, length, take, drop, ap, sym, ◌∙◌, arith, append_assoc}
+use Rattle.std.specs.Prelude.{slice_index}
 use Rattle.std.proofs.lemmas.List.{append-nil, drop-drop, drop_all, length-drop, length-take-le, take-append-drop}
 use Rattle.std.proofs.Math.Seq.{take-add}
 use borrow.Rule.Slice.PartMut.{put_mid}
-use Rattle.quic_packet.specs.Keys.{shielded}
+use Rattle.quic_wire.specs.Keys.{width_in, with_header}
 
--- A header that is hidden by nothing is as it was.
-pub as_it_was : (at : ℕ) (packet : List ℕ) → 1 ≤ at → at + 20 ≤ length packet → packet ≡ shielded (λ _ first. first) (λ _ bytes. bytes) at packet
+-- A packet with its own first byte and number is as it was.
+pub as_it_was : (at : ℕ) (packet : List ℕ) → 1 ≤ at → at + 20 ≤ length packet → packet ≡ with_header at packet (slice_index packet 0) (take (width_in (slice_index packet 0)) (drop at packet))
 as_it_was zero packet a b = absurd (omega arith)
 as_it_was (suc n) [] a b = absurd (omega arith)
 as_it_was (suc n) (x ∷ xs) a b =

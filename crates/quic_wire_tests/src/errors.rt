@@ -1,10 +1,9 @@
 //! What errors print, and which reason they give: no clause says it.
-use quic_packet::crypto::NotOpened;
-use quic_packet::{HeaderError, TooShort};
-use quic_parameters::TransportParametersError;
+use quic_wire::crypto::NotOpened;
 use quic_wire::frame::{FrameError, InvalidFrame};
-use quic_wire_core::{
-    Code, FrameType, Reason, TransportError, UnexpectedEnd, VarIntBoundsExceeded,
+use quic_wire::{
+    Code, FrameType, HeaderError, Reason, TooShort, TransportError, TransportParametersError,
+    UnexpectedEnd, VarIntBoundsExceeded,
 };
 use std::alloc::AllocError;
 use std::fmt::Display;

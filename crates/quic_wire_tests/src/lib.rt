@@ -1,5 +1,5 @@
-//! Tests of `quic_wire` and the four crates below it, through their public items: values from outside, texts that no clause says,
-//! and each call that takes memory where memory lacks (`lacking`).
+//! Tests of the wire layer, by the names of `quic_wire` alone: values from outside, texts that no
+//! clause says, and each call that takes memory where memory lacks (`lacking`).
 #![tactic(auto)]
 
 #[cfg(test)]

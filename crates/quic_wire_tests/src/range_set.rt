@@ -1,5 +1,5 @@
 //! Both sets of numbers beside a plain list, which has a place for each number below 64.
-use quic_sets::{ArrayRangeSet, RangeSet};
+use quic_wire::{ArrayRangeSet, RangeSet};
 use std::alloc::{AllocError, Global};
 use std::ops::Range;
 use std::test::Fail;

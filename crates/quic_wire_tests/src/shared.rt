@@ -1,4 +1,4 @@
-use quic_wire_core::EcnCodepoint;
+use quic_wire::EcnCodepoint;
 
 // RFC 3168, figure 1.
 #[test]

@@ -1,4 +1,4 @@
-use quic_wire_core::{Dir, Side, StreamId};
+use quic_wire::{Dir, Side, StreamId};
 
 // The four kinds of RFC 9000, section 2.1, table 1, each at its first and its sixth stream.
 #[test]

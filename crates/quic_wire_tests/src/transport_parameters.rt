@@ -1,6 +1,5 @@
 //! Which lists of transport parameters are refused (RFC 9000, sections 7.4 and 18.2).
-use quic_parameters::{TransportParameters, TransportParametersError};
-use quic_wire_core::Side;
+use quic_wire::{Side, TransportParameters, TransportParametersError};
 
 fn is_malformed(bytes: &[u8]) -> bool {
     TransportParameters::read(Side::Client, bytes) == Err(TransportParametersError::Malformed)

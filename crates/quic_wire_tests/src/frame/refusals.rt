@@ -1,6 +1,6 @@
 //! Why bytes are no frame, and of which type: the first field that fails decides.
 use quic_wire::frame::{Frame, FrameError, InvalidFrame, Iter};
-use quic_wire_core::{FrameType, VarInt};
+use quic_wire::{FrameType, VarInt};
 
 /// Why no frame stands at the front of some bytes.
 fn refusal(bytes: &[u8]) -> Option<InvalidFrame> {

@@ -5,7 +5,7 @@ ghost use Rattle.quic_wire.specs.FrameView.{frame_view};
 ghost use Rattle.quic_wire.specs.Writing.{Fits};
 
 use quic_wire::frame::{Frame, Iter, NewConnectionId, size_of_frame, write_frame};
-use quic_wire_core::{ConnectionId, ResetToken};
+use quic_wire::{ConnectionId, ResetToken};
 use std::alloc::AllocError;
 use std::test::Fail;
 

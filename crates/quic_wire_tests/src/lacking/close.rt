@@ -1,6 +1,6 @@
 //! Closes and messages, which own their bytes.
 use quic_wire::frame::{ApplicationClose, Close, ConnectionClose, Datagram};
-use quic_wire_core::{Code, Reason, TransportError, VarInt};
+use quic_wire::{Code, Reason, TransportError, VarInt};
 use std::alloc::AllocError;
 use std::test::Fail;
 

@@ -1,5 +1,5 @@
 //! Integers, ids, types and codes to bytes.
-use quic_wire_core::{Code, Codec, FrameType, StreamId, VarInt};
+use quic_wire::{Code, Codec, FrameType, StreamId, VarInt};
 use std::alloc::AllocError;
 use std::test::Fail;
 

@@ -1,9 +1,8 @@
 //! Frames to bytes. Where memory lacked, a part of the frame may be written.
 use crate::frame::ack::{COUNTS, SAMPLE};
 use crate::lacking::range_set::few_of;
-use quic_sets::ArrayRangeSet;
 use quic_wire::frame::{Ack, Frame, Stream, write_frame};
-use quic_wire_core::{StreamId, VarInt};
+use quic_wire::{ArrayRangeSet, StreamId, VarInt};
 use std::alloc::AllocError;
 use std::test::Fail;
 

@@ -1,8 +1,7 @@
 //! Packet numbers and headers to bytes.
 ghost use Rattle.std.specs.Prelude.{◌<◌, ◌^◌};
 
-use quic_packet::{PacketNumber, ShortHeader};
-use quic_wire_core::ConnectionId;
+use quic_wire::{ConnectionId, PacketNumber, ShortHeader};
 use std::alloc::AllocError;
 use std::test::Fail;
 

@@ -1,9 +1,9 @@
 //! Sets of numbers.
 ghost use Rattle.std.specs.Prelude.{◌≡◌, OnOk, OnErr};
-ghost use Rattle.quic_sets.specs.Runs.{Adds};
+ghost use Rattle.quic_wire.specs.Runs.{Adds};
 
 use crate::range_set::{Numbers, are};
-use quic_sets::{ArrayRangeSet, RangeSet};
+use quic_wire::{ArrayRangeSet, RangeSet};
 use std::alloc::{AllocError, Global};
 use std::ops::Range;
 use std::test::Fail;

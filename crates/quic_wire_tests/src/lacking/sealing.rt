@@ -2,21 +2,20 @@
 ghost use Rattle.std.specs.Prelude.{◌++◌, None, refl, replicate};
 ghost use Rattle.std.proofs.lemmas.List.{length-append};
 
-use quic_packet::crypto::{HeaderKey, NotOpened, PacketKey};
-use quic_packet::seal_packet;
+use quic_wire::crypto::{HeaderKey, NotOpened, PacketKey};
+use quic_wire::seal_packet;
 use std::test::Fail;
 
 /// A key that hides nothing of a header, and seals with zeros alone.
 struct Clear;
 
 impl HeaderKey for Clear {
-    ghost masks = { λ _ _ first. first };
-
-    ghost hides = { λ _ _ bytes. bytes };
-
-    ghost unmasks = { λ _ _ first. first };
-
-    ghost reveals = { λ _ _ bytes. bytes };
+    ghost protection = { λ _. record {
+      mask = λ _ first. first;
+      hide = λ _ bytes. bytes;
+      unmask = λ _ first. first;
+      reveal = λ _ bytes. bytes;
+    } };
 
     #[tactic(auto, using(crate::proofs::Clear::as_it_was))]
     fn encrypt(&self, _number_at: usize, _packet: &mut [u8]) {}
@@ -34,9 +33,10 @@ impl HeaderKey for Clear {
 }
 
 impl PacketKey for Clear {
-    ghost sealed = { λ _ _ _ payload. payload ++ replicate 16 0 };
-
-    ghost opened = { λ _ _ _ _. None };
+    ghost aead = { λ _. record {
+      seal = λ _ _ payload. payload ++ replicate 16 0;
+      unseal = λ _ _ _. None;
+    } };
 
     ghost seal_limit = { λ _. 0 };
 

@@ -1,6 +1,5 @@
 //! Transport parameters to bytes.
-use quic_parameters::TransportParameters;
-use quic_wire_core::VarInt;
+use quic_wire::{TransportParameters, VarInt};
 use std::test::Fail;
 
 const ASCENDING: [u8; 13] = [0, 1, 2, 3, 4, 5, 6, 7, 8, 9, 10, 11, 12];

@@ -4,4 +4,4 @@ use Rattle.quic_packet.specs.Datagram.{protected}
 use Rattle.quic_packet.proofs.sealing.protect_behind.Goals as goal
 
 pub returns : goal.returns
-returns g c = behind_packet c.args.start c.args.bytes.now c.protect.new.packet (protected (g.H.HeaderKey.masks c.args.header_key.now) (g.H.HeaderKey.hides c.args.header_key.now) (g.K.PacketKey.sealed c.args.packet_key.now) c.args.number_at c.args.number) c.protect.ensures (omega arith)
+returns g c = behind_packet c.args.start c.args.bytes.now c.protect.new.packet (protected (g.H.HeaderKey.protection c.args.header_key.now) (g.K.PacketKey.aead c.args.packet_key.now) c.args.number_at c.args.number) c.protect.ensures (omega arith)
