@@ -192,3 +192,8 @@ parameters_of s = record {
   max_datagram_frame_size = told_frame_size s.datagram_receive_buffer_size;
   min_ack_delay = if s.ack_frequency_support then Some 1000 else None;
 }
+
+-- the settings of an end as it can be configured: windows are variable-length integers
+pub record IsInRange (s : Settings) : Type 0 where
+  pub receive_window : s.receive_window < 2 ^ 62
+  pub stream_receive_window : s.stream_receive_window < 2 ^ 62

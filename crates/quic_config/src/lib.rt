@@ -1,7 +1,9 @@
-//! What an end of a connection is configured with, and what its peer is told of it (RFC 9000, section 18.2).
+//! What an endpoint (an *end*) of a connection is configured with, and what its peer is told of it
+//! (RFC 9000, section 18.2).
 #![tactic(auto)]
 
 mod ack_frequency;
+pub mod laws;
 mod mtu_discovery;
 mod transport;
 

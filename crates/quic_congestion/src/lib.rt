@@ -1,4 +1,6 @@
-//! How much and how large an end sends: congestion control, pacing and the sizes of datagrams (RFC 9002, section 7; RFC 8899).
+//! How much an endpoint may have in flight, how fast it sends, and how large its datagrams are: the
+//! congestion window and what controls it, pacing, and the size search (RFC 9002, section 7; RFC
+//! 8899).
 #![tactic(auto)]
 
 mod congestion;

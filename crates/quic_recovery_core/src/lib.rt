@@ -1,5 +1,6 @@
-//! What an end keeps of packets and ids: the numbers that came, what is to be acknowledged, when the peer is asked to
-//! acknowledge, and the ids of both ends (RFC 9000, sections 5.1 and 13.2).
+//! What an endpoint (an *end*) keeps of a packet number space and of connection ids: the numbers
+//! that came, what is to be acknowledged, when the peer is asked to acknowledge ack-eliciting
+//! packets, and the ids of both ends (RFC 9000, sections 5.1 and 13.2).
 #![tactic(auto)]
 
 mod ack_frequency;

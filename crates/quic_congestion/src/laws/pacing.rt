@@ -1,5 +1,6 @@
 //! What the definitions of pacing say together.
 ghost use Rattle.std.specs.Prelude.{◌≡◌, ℕ, ◌+◌, ◌-◌, ◌*◌, ◌/◌, ◌<◌, ◌≤◌, ◌^◌, List, None, fold, is_none, IfSome};
+ghost use Rattle.quic_congestion.specs.declared.pacing.TheConstants.{BURST_INTERVAL_NANOS, MIN_BURST_SIZE, MAX_BURST_SIZE};
 ghost use Rattle.quic_congestion.specs.Pacer.{Pacing, IsPacing, capacity_of, new_pacing, after_datagram, tokens_after, after_delay, delay_of, goes_at_once, gained, time_for, Ask, Call, after_ask, answer_of, pacing_after, covered_bytes, AreAsked};
 
 /// Datagrams take as many tokens as they have bytes together, and all of them where they have more.
@@ -36,4 +37,12 @@ pub fn waits_are_for_what_lacks()
 pub fn bytes_go_at_five_quarters()
     ensures rate { (calls : List Call) (p : Pacing) (rtt window until : ℕ) → 0 < rtt → AreAsked calls rtt window p.refilled until → covered_bytes calls p + (pacing_after calls p).tokens ≤ p.tokens + gained rtt window (until - p.refilled) }
     ensures let_go { (p : Pacing) (ask : Ask) → 0 < ask.rtt → ask.window < 2 ^ 32 → answer_of p ask ≡ None → ask.bytes ≤ (after_ask p ask).tokens }
+{}
+
+/// A full pacer lets go what the window gives in 2 ms, but at least 10 datagrams and at most 256:
+/// our choice, as RFC 9002, section 7.7, names no numbers.
+pub fn constants_are_these()
+    ensures interval { BURST_INTERVAL_NANOS ≡ 2000000 }
+    ensures least { MIN_BURST_SIZE ≡ 10 }
+    ensures most { MAX_BURST_SIZE ≡ 256 }
 {}

@@ -1,10 +1,11 @@
 //! Laws of moments, timers and round-trip times.
 ghost use Rattle.std.specs.Prelude.{◌≡◌, ◌≢◌, ℕ, ◌+◌, ◌-◌, ◌<◌, ◌≤◌, ◌^◌, List, ◌∷◌, length, fold, reverse, All, Any, Contains, Option, Some, None, IfSome, IsSomeAnd};
-ghost use Rattle.quic_time.specs.Clocks.{saturated};
+ghost use Rattle.quic_time.specs.Clocks.{saturated, granularity};
 ghost use Rattle.quic_time.specs.Timers.{Timers, timer_at, with_timer, no_timers, all_timers, next_timer, timers_after, IsLast};
 ghost use Rattle.quic_time.specs.Rtt.{Sample, assumed_rtt, with_sample, least_over, smoothed_over, var_over, estimate_over};
 ghost use Rattle.quic_time.specs.declared.timer.Timer.{Timer};
 
+use crate::instant::{Duration, TIMER_GRANULARITY};
 use crate::timer::Timer;
 
 /// A sum fits 64 bits and isn't earlier than the moment that it was made of. Where nothing is cut, it is exactly so
@@ -70,3 +71,12 @@ pub fn smoothed_lies_among_samples()
     ensures varies { (n : ℕ) (s : Sample) (before : List Sample)
         → All (λ t. t.rtt ≤ n) (s ∷ before) → var_over s before ≤ n }
 {}
+
+/// [`TIMER_GRANULARITY`] is a millisecond (RFC 9002, section 6.1.2), and the definitions say the
+/// same.
+pub fn granularity_is_a_millisecond() -> Duration
+    ensures value { result ≡ 1000000 }
+    ensures in_definitions { granularity ≡ 1000000 }
+{
+    TIMER_GRANULARITY
+}

@@ -1,0 +1,16 @@
+//! Recovery of a QUIC connection (RFC 9002) under one name: moments, timers and the round-trip
+//! time; what an endpoint is configured with; the congestion window, pacing and the size search;
+//! duplicates, what is to be acknowledged and when, and connection ids.
+#![tactic(auto)]
+
+pub use quic_config::{
+    AckFrequencyConfig, IDS_KEPT, IdleTimeout, MtuDiscoveryConfig, TransportConfig,
+};
+pub use quic_congestion::{
+    Controller, ControllerFactory, ControllerMetrics, MtuDiscovery, NewReno, NewRenoConfig, Pacer,
+};
+pub use quic_recovery_core::{
+    AckFrequencyState, CidQueue, CidState, DUPLICATE_SPAN, Dedup, InsertError, LAZY_ACK_THRESHOLD,
+    MAX_ACK_RUNS, PendingAcks,
+};
+pub use quic_time::{Duration, Instant, RttEstimator, TIMER_GRANULARITY, Timer, TimerTable};
