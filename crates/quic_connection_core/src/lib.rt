@@ -1,22 +1,13 @@
-//! The reference machine of a QUIC connection: the values that its calls take and answer, what each
-//! call of one end answers and leaves, and runs of two ends over a network.
+//! One endpoint (an *end*) of a QUIC connection as a deterministic state machine: datagrams,
+//! moments and application calls in, datagrams and read bytes out. A packet or a frame that is
+//! ack-eliciting (RFC 9000, section 13.2) *asks* for an acknowledgement; its datagram is tracked
+//! while it is in flight (RFC 9002, section 2).
 #![tactic(auto)]
 
-pub mod acknowledged;
-mod answers;
-pub mod broken;
-pub mod headline;
-pub mod laws;
-pub mod reordered;
-mod run;
-pub mod worked;
+mod config;
+mod connection;
+mod handles;
 
-pub use answers::{
-    Breach, ConfigError, DropReason, Event, Failed, FinishError, LostReason, ReadError,
-    ReadableError, Received, State, StreamEvent, Transmit, WriteError,
-};
-pub use quic_config::{IdleTimeout, TransportConfig};
-pub use quic_time::{Instant, Timer};
-pub use run::{
-    Answer, Call, Datagram, Delivery, EndView, Injection, Nexts, ReadCall, RunEvent, View,
-};
+pub use config::Config;
+pub use connection::Connection;
+pub use handles::{Chunks, RecvStream, SendStream, Streams};

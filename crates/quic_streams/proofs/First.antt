@@ -5,10 +5,10 @@ use Rattle.std.specs.Ordering.{nat_cmp}
 use Rattle.std.specs.BTreeMap.{is_at}
 use Rattle.std.specs.Map.{keys_of}
 use Rattle.std.proofs.lemmas.Option.{IfSome_then}
-use Rattle.quic_connection_core.specs.Table.{Table, at}
-use Rattle.quic_connection_core.specs.Sending.{SendHalf, has_pending}
-use Rattle.quic_connection_core.specs.Poll.{first_pending}
-use Rattle.quic_connection_core.proofs.Tables.{nat_cmp-same}
+use Rattle.quic_streams.specs.Table.{Table, at}
+use Rattle.quic_streams.specs.Sending.{SendHalf, has_pending}
+use Rattle.quic_streams.specs.Frames.{first_pending}
+use Rattle.quic_streams.specs.TableLaws.{nat_cmp-same}
 
 -- a fact of each id holds of it
 pub first_id : (P : ℕ → Type 0) (es : Table SendHalf) → AllByRecursion P (keys_of es) → IfSome (first_pending es) P

@@ -15,12 +15,12 @@ use Rattle.quic_wire_core.specs.declared.stream_id.Side.TheVariants.{Client, Ser
 use Rattle.quic_wire_core.specs.declared.stream_id.Dir.{Dir}
 use Rattle.quic_wire_core.specs.declared.stream_id.Dir.TheVariants.{Bi, Uni}
 use Rattle.quic_wire_core.specs.StreamId.{stream_id, side_bit}
-use Rattle.quic_streams_core.specs.declared.stream_meta.StreamMeta.{StreamMeta}
-use Rattle.quic_streams_core.specs.Buffered.{done, acknowledged}
-use Rattle.quic_connection_core.specs.Table.{Table, at, put, without, added}
-use Rattle.quic_connection_core.specs.Sending.{SendHalf, Sending, opened_of, count_of, may_open, opens, next_id, new_half, one_more, after_open, half_acked}
+use Rattle.quic_send_buffer.specs.declared.stream_meta.StreamMeta.{StreamMeta}
+use Rattle.quic_send_buffer.specs.Buffered.{done, acknowledged}
+use Rattle.quic_streams.specs.Table.{Table, at, put, without, added}
+use Rattle.quic_streams.specs.Sending.{SendHalf, Sending, opened_of, count_of, may_open, opens, next_id, new_half, one_more, after_open, half_acked}
 use Rattle.quic_streams.specs.Bounds.{IsSending, IsLast}
-use Rattle.quic_connection_core.proofs.Tables.{at-added, at-apart, unknown-put, unknown-without, without-added, ids-added, ids-without}
+use Rattle.quic_streams.specs.TableLaws.{at-added, at-apart, unknown-put, unknown-without, without-added, ids-added, ids-without}
 
 bit : (side : Side) → side_bit side ≤ 1
 bit Client = omega arith

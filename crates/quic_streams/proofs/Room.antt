@@ -4,13 +4,11 @@ use Rattle.std.specs.Prelude.{slice_range}
 use Rattle.std.proofs.lemmas.Bool.{cases_lt, lt-ltb, le-ltb}
 use Rattle.std.proofs.lemmas.List.{length-take, length-drop}
 use Rattle.quic_wire.specs.Writing as wire
-use Rattle.quic_streams_core.specs.Buffered as buffered
-use Rattle.quic_connection_core.specs.Sending.{SendHalf}
-use Rattle.quic_connection_core.specs.Poll.{frame_of, reaches_end}
-use Rattle.quic_connection_core.specs.Receiving.{end_of}
-use Rattle.quic_connection_core.specs.Tracking.{meta_of}
-use Rattle.quic_streams_core.specs.declared.stream_meta.StreamMeta.{StreamMeta}
-use Rattle.quic_streams.specs.Frames.{frame_meta, HasFrame}
+use Rattle.quic_send_buffer.specs.Buffered as buffered
+use Rattle.quic_streams.specs.Sending.{SendHalf}
+use Rattle.quic_streams.specs.Frames.{frame_of, reaches_end, meta_of, frame_meta, HasFrame}
+use Rattle.quic_streams.specs.Receiving.{end_of}
+use Rattle.quic_send_buffer.specs.declared.stream_meta.StreamMeta.{StreamMeta}
 use Rattle.quic_streams.specs.declared.send.FrameMeta.{FrameMeta}
 
 -- both say how wide a number is

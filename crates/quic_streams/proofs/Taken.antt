@@ -10,13 +10,13 @@ use Rattle.std.proofs.lemmas.Map.Steps.{set_value_same}
 use Rattle.quic_wire_core.specs.declared.stream_id.Side.{Side}
 use Rattle.quic_wire_core.specs.StreamId.{index_of}
 use Rattle.quic_wire.specs.Value.{StreamValue}
-use Rattle.quic_connection_core.specs.declared.answers.ReadError.{ReadError}
-use Rattle.quic_connection_core.specs.declared.answers.Breach.{Breach}
-use Rattle.quic_connection_core.specs.declared.answers.Breach.TheVariants.{StreamLimit, StreamState, Pieces}
-use Rattle.quic_connection_core.specs.Table.{Table, at, put, without}
-use Rattle.quic_connection_core.specs.Receiving.{RecvHalf, Receiving, untouched, with_frame, may_receive, half_for, breach_on, breach_at, refusal, too_many, kept_at, stream_breach, after_stream, after_next}
+use Rattle.quic_streams.specs.declared.answers.ReadError.{ReadError}
+use Rattle.quic_streams.specs.declared.answers.Breach.{Breach}
+use Rattle.quic_streams.specs.declared.answers.Breach.TheVariants.{StreamLimit, StreamState, Pieces}
+use Rattle.quic_streams.specs.Table.{Table, at, put, without}
+use Rattle.quic_streams.specs.Receiving.{RecvHalf, Receiving, untouched, with_frame, may_receive, half_for, breach_on, breach_at, refusal, too_many, kept_at, stream_breach, after_stream, after_next}
 use Rattle.quic_streams.specs.Halves.{read_at, after_touch}
-use Rattle.quic_connection_core.proofs.Tables.{added-known, added-added, at-added, without-put, without-unknown}
+use Rattle.quic_streams.specs.TableLaws.{added-known, added-added, at-added, without-put, without-unknown}
 
 some_none : (b : Breach) → Some b ≡ None → ⊥
 some_none b e = cc

@@ -1,6 +1,6 @@
 -- What a STREAM frame is answered, where memory may lack.
 use Rattle.std.specs.Prelude.{◌≡◌, Option, Some, None, Result, Ok, Err}
-use Rattle.quic_connection_core.specs.declared.answers.Breach.{Breach}
+use Rattle.quic_streams.specs.declared.answers.Breach.{Breach}
 use Rattle.quic_streams.specs.declared.receiving.ReceivedError.{ReceivedError}
 use Rattle.quic_streams.specs.declared.receiving.ReceivedError.TheVariants as errors
 

@@ -8,9 +8,9 @@ use Rattle.quic_wire_core.specs.declared.stream_id.Side.{Side}
 use Rattle.quic_wire_core.specs.declared.stream_id.Dir.{Dir}
 use Rattle.quic_wire_core.specs.declared.stream_id.Dir.TheVariants.{Bi}
 use Rattle.quic_wire_core.specs.StreamId.{stream_id}
-use Rattle.quic_connection_core.specs.Table.{at}
-use Rattle.quic_connection_core.specs.Sending.{Sending, opened_of, buffered}
-use Rattle.quic_connection_core.specs.Receiving.{Receiving}
+use Rattle.quic_streams.specs.Table.{at}
+use Rattle.quic_streams.specs.Sending.{Sending, opened_of, buffered}
+use Rattle.quic_streams.specs.Receiving.{Receiving}
 
 -- what was accepted was opened, and a count of streams is at most 2 ^ 60 (RFC 9000, section 4.6); what has come is within its limit (section 4.1)
 pub record IsReceiving (r : Receiving) : Type 0 where

@@ -1,11 +1,11 @@
 -- Words of the halves of streams, and of what a call on them answers where memory may lack.
 use Rattle.std.specs.Prelude.{ℕ, Bool, true, false, Option, Some, None, Result, Ok, Err}
-use Rattle.quic_streams_core.specs.Arrived.{after_read_in}
-use Rattle.quic_streams_core.specs.declared.connection.assembler.Chunk.{Chunk}
-use Rattle.quic_connection_core.specs.declared.answers.ReadError.{ReadError}
-use Rattle.quic_connection_core.specs.Table.{put}
-use Rattle.quic_connection_core.specs.Sending.{SendHalf}
-use Rattle.quic_connection_core.specs.Receiving.{RecvHalf, Receiving, after_own_open}
+use Rattle.quic_assembler.specs.Arrived.{after_read_in}
+use Rattle.quic_assembler.specs.declared.assembler.Chunk.{Chunk}
+use Rattle.quic_streams.specs.declared.answers.ReadError.{ReadError}
+use Rattle.quic_streams.specs.Table.{put}
+use Rattle.quic_streams.specs.Sending.{SendHalf}
+use Rattle.quic_streams.specs.Receiving.{RecvHalf, Receiving, after_own_open}
 
 -- what a `next` leaves of a receiving half, by its answer
 abbrev pub half_after_next : Result (Option Chunk) ReadError → RecvHalf → ℕ → RecvHalf

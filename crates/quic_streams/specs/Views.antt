@@ -1,6 +1,6 @@
 -- What clauses see of the streams of one end.
-use Rattle.quic_connection_core.specs.Sending as core_sending
-use Rattle.quic_connection_core.specs.Receiving as core_receiving
+use Rattle.quic_streams.specs.Sending as core_sending
+use Rattle.quic_streams.specs.Receiving as core_receiving
 use Rattle.quic_streams.specs.declared.sending.Sending.TheInside as inside_sending
 use Rattle.quic_streams.specs.declared.receiving.Receiving.TheInside as inside_receiving
 

@@ -4,17 +4,16 @@ ghost use Rattle.std.specs.Option.{is_some, option_copied};
 ghost use Rattle.quic_wire_core.specs.StreamId.{index_of};
 ghost use Rattle.quic_wire.specs.FrameView.{stream_view};
 ghost use Rattle.quic_parameters.specs.Parameters.{AreInRange};
-ghost use Rattle.quic_connection_core.specs.Table.{at, without};
-ghost use Rattle.quic_connection_core.specs.Receiving.{untouched, end_of, opened_of, accepted_of, accept_answer, one_accepted, after_accept, after_own_open, may_receive, breaks_limit, breach_on, half_for, refusal, too_many, kept_at, stream_breach, after_stream, read_answer, next_answer, after_next};
-ghost use Rattle.quic_connection_core.specs.declared.answers.ReadError.TheVariants as read_errors;
+ghost use Rattle.quic_streams.specs.Table.{at, without};
+ghost use Rattle.quic_streams.specs.Receiving.{untouched, end_of, opened_of, accepted_of, accept_answer, one_accepted, after_accept, after_own_open, may_receive, breaks_limit, breach_on, half_for, refusal, too_many, kept_at, stream_breach, after_stream, read_answer, next_answer, after_next, CutsPiece};
+ghost use Rattle.quic_streams.specs.declared.answers.ReadError.TheVariants as read_errors;
 ghost use Rattle.quic_streams.specs.Halves.{read_at, after_touch};
 ghost use Rattle.quic_streams.specs.Answered.{AnswersBreach, UnlessMemory, OnMemory};
-ghost use Rattle.quic_connection_core.specs.Lacking.{CutsPiece};
 
+use crate::answers::{Breach, ReadError, ReadableError};
 use crate::recv::{Recv, end_of, is_too_far};
-use quic_connection_core::{Breach, ReadError, ReadableError};
+use quic_assembler::Chunk;
 use quic_parameters::TransportParameters;
-use quic_streams_core::Chunk;
 use quic_wire::frame::Stream;
 use quic_wire_core::{Dir, Side, StreamId};
 use std::alloc::{AllocError, Global};
@@ -56,7 +55,7 @@ pub struct Receiving {
 }
 
 impl Model for Receiving {
-    ghost use Rattle.quic_connection_core.specs.Receiving as receiving;
+    ghost use Rattle.quic_streams.specs.Receiving as receiving;
 
     ghost Value = { receiving.Receiving };
 
@@ -256,7 +255,7 @@ impl Receiving {
         }
     }
 
-    // Keeps a frame on its half, and says whether more pieces wait there than may.
+    // Keeps a frame on its half, and says whether more runs wait there than may.
     fn keep(&mut self, frame: &Stream<'_>) -> Result<bool, AllocError>
         requires found { IsSome (at self.old.halves frame.now.id) }
         requires counted { index_of frame.now.id < self.old.count_bi }

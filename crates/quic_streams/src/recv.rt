@@ -1,14 +1,14 @@
 //! What has come on one stream.
 ghost use Rattle.std.specs.Prelude.{◌≡◌, ◌≢◌, ◌<◌, ◌^◌, nat_le, nat_lt, true, false, IfOk, OnOk, OnErr, Ok, Err};
 ghost use Rattle.quic_wire.specs.FrameView.{stream_view};
-ghost use Rattle.quic_streams_core.specs.Arrived.{given, cuts, runs_of, after_read_in};
-ghost use Rattle.quic_connection_core.specs.Receiving.{untouched, end_of, breaks_final, with_frame, is_read, next_chunk};
-ghost use Rattle.quic_streams_core.specs.declared.connection.assembler.TheConstants.{MOST_PIECES};
-ghost use Rattle.quic_connection_core.specs.declared.answers.ReadError.TheVariants as read_errors;
+ghost use Rattle.quic_assembler.specs.Arrived.{given, cuts, runs_of, after_read_in};
+ghost use Rattle.quic_streams.specs.Receiving.{untouched, end_of, breaks_final, with_frame, is_read, next_chunk};
+ghost use Rattle.quic_assembler.specs.declared.assembler.TheConstants.{MOST_PIECES};
+ghost use Rattle.quic_streams.specs.declared.answers.ReadError.TheVariants as read_errors;
 ghost use Rattle.quic_streams.specs.Halves.{half_after_next};
 
-use quic_connection_core::ReadError;
-use quic_streams_core::{Assembler, Chunk, MOST_PIECES};
+use crate::answers::ReadError;
+use quic_assembler::{Assembler, Chunk, MOST_PIECES};
 use quic_wire::frame::Stream;
 use std::alloc::{AllocError, Global};
 use std::marker::Model;
@@ -24,7 +24,7 @@ pub(crate) struct Recv {
 
 impl Model for Recv {
     ghost use Rattle.std.specs.Prelude.{◌≡◌, ◌<◌, ◌^◌, false};
-    ghost use Rattle.quic_connection_core.specs.Receiving.{RecvHalf};
+    ghost use Rattle.quic_streams.specs.Receiving.{RecvHalf};
 
     ghost Value = { RecvHalf };
 
@@ -96,7 +96,7 @@ impl Recv {
         Ok(())
     }
 
-    // Whether more pieces wait than may.
+    // Whether more runs wait than may.
     pub(crate) fn has_too_many_pieces(&self) -> bool
         ensures { result ≡ nat_lt MOST_PIECES (runs_of self.now.arrived.parts) }
     {

@@ -1,13 +1,11 @@
 //! What was written on one stream.
 ghost use Rattle.std.specs.Prelude.{◌≡◌, ◌+◌, ◌<◌, ◌≤◌, ◌-◌, ◌++◌, length, Some, OnOk, OnErr, vec_len, vec_capacity};
 ghost use Rattle.quic_wire.specs.Writing.{stream_spelling, width_of};
-ghost use Rattle.quic_streams_core.specs.Buffered.{writes_length};
-ghost use Rattle.quic_connection_core.specs.Sending.{new_half, written_on, has_pending, grown, ended, is_acked, half_acked, half_lost};
-ghost use Rattle.quic_connection_core.specs.Poll.{frame_of, half_after};
-ghost use Rattle.quic_connection_core.specs.Tracking.{meta_of};
-ghost use Rattle.quic_streams.specs.Frames.{frame_meta, HasFrame, HasSent};
+ghost use Rattle.quic_send_buffer.specs.Buffered.{writes_length};
+ghost use Rattle.quic_streams.specs.Sending.{new_half, written_on, has_pending, grown, ended, is_acked, half_acked, half_lost};
+ghost use Rattle.quic_streams.specs.Frames.{frame_of, half_after, meta_of, frame_meta, HasFrame, HasSent};
 
-use quic_streams_core::{SendBuffer, StreamMeta};
+use quic_send_buffer::{SendBuffer, StreamMeta};
 use quic_wire::frame::{Stream, put_stream_header};
 use quic_wire_core::{StreamId, VarInt};
 use std::alloc::{AllocError, Global};
@@ -39,11 +37,11 @@ pub(crate) struct Send {
 }
 
 impl Model for Send {
-    ghost use Rattle.quic_connection_core.specs.Sending.{SendHalf};
+    ghost use Rattle.quic_streams.specs.Sending.{SendHalf};
 
     ghost Value = { SendHalf };
 
-    ghost view = { λ h. record { buffer = h.pending; finished = h.finished; end_waits = h.fin_pending; end_acked = h.fin_acked; limit = h.max_data } };
+    ghost view = { λ h. record { buffer = h.pending; finished = h.finished; fin_pending = h.fin_pending; fin_acked = h.fin_acked; max_data = h.max_data } };
 }
 
 impl Send {
@@ -68,7 +66,7 @@ impl Send {
 
     // How many bytes the peer still lets come.
     pub(crate) fn room(&self) -> u64
-        ensures { result ≡ self.now.limit - written_on self.now }
+        ensures { result ≡ self.now.max_data - written_on self.now }
     {
         let limit = self.max_data.into_inner();
         limit.saturating_sub(self.pending.offset())
@@ -76,7 +74,7 @@ impl Send {
 
     // Takes over bytes. An `Err` (want of memory) takes none.
     pub(crate) fn write(&mut self, bytes: &[u8]) -> Result<(), AllocError>
-        requires { length bytes.now ≤ self.old.limit - written_on self.old }
+        requires { length bytes.now ≤ self.old.max_data - written_on self.old }
         ensures ok { OnOk result (self.new ≡ grown self.old bytes.now) }
         ensures err { OnErr result (self.new ≡ self.old) }
         ensures lacking { OnErr result (0 < length bytes.now) }

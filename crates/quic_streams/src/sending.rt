@@ -3,22 +3,19 @@ ghost use Rattle.std.specs.Prelude.{◌≡◌, ◌≢◌, ◌<◌, ◌≤◌, �
 ghost use Rattle.std.specs.Option.{option_copied, option_map};
 ghost use Rattle.quic_parameters.specs.Parameters.{AreInRange};
 ghost use Rattle.quic_wire.specs.Writing.{stream_spelling, width_of};
-ghost use Rattle.quic_streams_core.specs.Buffered.{writes_length};
+ghost use Rattle.quic_send_buffer.specs.Buffered.{writes_length};
 ghost use Rattle.quic_wire_core.specs.declared.stream_id.Dir.TheVariants as dirs;
-ghost use Rattle.quic_connection_core.specs.Table.{at};
-ghost use Rattle.quic_connection_core.specs.Sending.{Sending, written_on, room, opened_of, count_of, may_open, opens, next_id, first_limit, after_open, taken_by, written_to, write_answer, grown_at, after_written, finish_answer, after_finish, after_stream_acked, after_stream_lost, finishes};
-ghost use Rattle.quic_connection_core.specs.Lacking.{TakesBytes};
-ghost use Rattle.quic_connection_core.specs.Poll.{first_pending, frame_of};
-ghost use Rattle.quic_connection_core.specs.Tracking.{meta_of};
-ghost use Rattle.quic_connection_core.specs.declared.answers.WriteError.TheVariants as write_errors;
-ghost use Rattle.quic_streams.specs.Frames.{polled_at, half_frame, HasSent};
+ghost use Rattle.quic_streams.specs.Table.{at};
+ghost use Rattle.quic_streams.specs.Sending.{Sending, written_on, room, opened_of, count_of, may_open, opens, next_id, first_limit, after_open, taken_by, written_to, write_answer, grown_at, after_written, finish_answer, after_finish, after_stream_acked, after_stream_lost, finishes, TakesBytes};
+ghost use Rattle.quic_streams.specs.Frames.{first_pending, frame_of, meta_of, polled_at, half_frame, HasSent};
+ghost use Rattle.quic_streams.specs.declared.answers.WriteError.TheVariants as write_errors;
 ghost use Rattle.quic_streams.specs.Bounds.{IsLast};
 ghost use Rattle.quic_streams.specs.Halves.{is_closed};
 
+use crate::answers::{FinishError, WriteError};
 use crate::send::Send;
-use quic_connection_core::{FinishError, WriteError};
 use quic_parameters::TransportParameters;
-use quic_streams_core::StreamMeta;
+use quic_send_buffer::StreamMeta;
 use quic_wire_core::{Dir, Side, StreamId, VarInt};
 use std::alloc::{AllocError, Global};
 use std::collections::BTreeMap;
@@ -50,7 +47,7 @@ pub struct Sending {
 }
 
 impl Model for Sending {
-    ghost use Rattle.quic_connection_core.specs.Sending as sending;
+    ghost use Rattle.quic_streams.specs.Sending as sending;
 
     ghost Value = { sending.Sending };
 
@@ -220,7 +217,7 @@ impl Sending {
     // Bytes go behind those that were written on a stream. An `Err` (want of memory) takes none; without a byte there is none.
     fn grow(&mut self, id: StreamId, bytes: &[u8]) -> Result<(), AllocError>
         requires found { IsSome (at self.old.halves id) }
-        requires half { IfSome (at self.old.halves id) (λ h. length bytes.now ≤ h.limit - written_on h) }
+        requires half { IfSome (at self.old.halves id) (λ h. length bytes.now ≤ h.max_data - written_on h) }
         requires room { length bytes.now ≤ room self.old }
         ensures ok { OnOk result (self.new ≡ record self.old { halves = grown_at (at self.old.halves id) self.old.halves id bytes.now; accepted = self.old.accepted + length bytes.now }) }
         ensures err { OnErr result (self.new ≡ self.old) }

@@ -1,5 +1,5 @@
 use Rattle.std.proofs.Common.{◌≡◌}
-use Rattle.quic_connection_core.specs.Poll.{first_pending}
+use Rattle.quic_streams.specs.Frames.{first_pending}
 use Rattle.quic_streams.proofs.sending.first_pending.Given as goal
 
 abbrev pub invariant-loop-id : goal.invariant-loop-id

@@ -1,6 +1,6 @@
 use Rattle.std.proofs.Common.{rules, ap, ◌∙◌, arith}
 use Rattle.quic_wire.specs.FrameView.{stream_view}
-use Rattle.quic_connection_core.specs.Table.{put}
+use Rattle.quic_streams.specs.Table.{put}
 use Rattle.quic_streams.proofs.Taken.{kept_is}
 use Rattle.quic_streams.proofs.receiving.Receiving.keep.Goals as goal
 

@@ -1,6 +1,6 @@
 use Rattle.std.proofs.Common.{◌∙◌, refl, ap}
-use Rattle.quic_connection_core.specs.Table.{at, without}
-use Rattle.quic_connection_core.specs.Receiving.{Receiving}
+use Rattle.quic_streams.specs.Table.{at, without}
+use Rattle.quic_streams.specs.Receiving.{Receiving}
 use Rattle.quic_streams.proofs.Taken.{after_end, after_refused}
 use Rattle.quic_streams.proofs.receiving.Receiving.next.Goals as goal
 

@@ -1,8 +1,8 @@
 use Rattle.std.proofs.Common.{◌≡◌, true, None, rules, refl, sym, ap, ◌∙◌}
 use Rattle.std.specs.Option.{is_some}
 use Rattle.quic_wire.specs.FrameView.{stream_view}
-use Rattle.quic_connection_core.specs.Table.{at}
-use Rattle.quic_connection_core.specs.Receiving.{Receiving, half_for, refusal, too_many, kept_at}
+use Rattle.quic_streams.specs.Table.{at}
+use Rattle.quic_streams.specs.Receiving.{Receiving, half_for, refusal, too_many, kept_at}
 use Rattle.quic_streams.specs.Halves.{after_touch}
 use Rattle.quic_streams.proofs.Taken.{not_refused, lawful_touched, found_touched, breach_touched, stream_kept}
 use Rattle.quic_streams.proofs.receiving.Receiving.received.Goals as goal

@@ -1,9 +1,9 @@
 use Rattle.std.proofs.Common.{◌≡◌, ◌-◌, ◌++◌, List, ℕ, ap, ◌∙◌, arith}
 use Rattle.std.specs.Prelude.{slice_range}
 use Rattle.std.proofs.lemmas.List.{append_assoc}
-use Rattle.quic_streams_core.specs.Buffered.{Buffered}
-use Rattle.quic_connection_core.specs.Sending.{SendHalf}
-use Rattle.quic_connection_core.specs.Poll.{half_after}
+use Rattle.quic_send_buffer.specs.Buffered.{Buffered}
+use Rattle.quic_streams.specs.Sending.{SendHalf}
+use Rattle.quic_streams.specs.Frames.{half_after}
 use Rattle.quic_streams.proofs.Room.{fits, spelled, carries}
 use Rattle.quic_streams.proofs.send.Send.put_frame.Goals as goal
 

@@ -1,6 +1,6 @@
 use Rattle.std.proofs.Common.{length, rules, ap, ◌∙◌, arith}
-use Rattle.quic_connection_core.specs.Table.{put}
-use Rattle.quic_connection_core.specs.Sending.{SendHalf}
+use Rattle.quic_streams.specs.Table.{put}
+use Rattle.quic_streams.specs.Sending.{SendHalf}
 use Rattle.quic_streams.proofs.Opened.{put_keeps}
 use Rattle.quic_streams.proofs.sending.Sending.end.Goals as goal
 

@@ -2,8 +2,8 @@ use Rattle.std.proofs.Common.{◌≤◌, ◌+◌, length, length-append, rules, 
 use Rattle.std.specs.Ordering.{nat_cmp}
 use Rattle.std.specs.BTreeMap.{is_at}
 use Rattle.std.proofs.lemmas.Map.Steps.{set_value_same}
-use Rattle.quic_connection_core.specs.Table.{put}
-use Rattle.quic_connection_core.specs.Sending.{SendHalf, Sending, room}
+use Rattle.quic_streams.specs.Table.{put}
+use Rattle.quic_streams.specs.Sending.{SendHalf, Sending, room}
 use Rattle.quic_streams.proofs.Opened.{put_keeps}
 use Rattle.quic_streams.proofs.sending.Sending.grow.Goals as goal
 

@@ -4,8 +4,8 @@ use Rattle.std.specs.Map.{keys_of, values_of}
 use Rattle.quic_wire_core.specs.StreamId.{stream_id}
 use Rattle.quic_parameters.specs.Parameters.{ParameterValues}
 use Rattle.quic_parameters.specs.declared.transport_parameters.id.TransportParameterId.TheVariants.{InitialMaxStreamsBidi, InitialMaxStreamsUni}
-use Rattle.quic_connection_core.specs.Table.{Table, at}
-use Rattle.quic_connection_core.specs.Sending.{SendHalf}
+use Rattle.quic_streams.specs.Table.{Table, at}
+use Rattle.quic_streams.specs.Sending.{SendHalf}
 use Rattle.quic_streams.proofs.sending.Sending.new.Goals as goal
 
 pub invariant_of-result : goal.invariant_of-result

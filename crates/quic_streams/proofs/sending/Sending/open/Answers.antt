@@ -1,6 +1,6 @@
 use Rattle.std.proofs.Common.{◌≡◌, rules, length, subst, ap, ◌∙◌}
 use Rattle.quic_wire_core.specs.declared.stream_id.Dir.TheVariants.{Bi, Uni}
-use Rattle.quic_connection_core.specs.Sending.{SendHalf, Sending, after_open}
+use Rattle.quic_streams.specs.Sending.{SendHalf, Sending, after_open}
 use Rattle.quic_streams.specs.Bounds.{IsSending}
 use Rattle.quic_streams.specs.Views.{sending_of}
 use Rattle.quic_streams.proofs.Opened.{opened_keeps, last_after}

@@ -1,5 +1,5 @@
 use Rattle.std.proofs.Common.{◌<◌, ◌^◌, ℕ, Option, IfSome, IsSome, sym, subst, ◌∙◌}
-use Rattle.quic_connection_core.specs.Table.{at}
+use Rattle.quic_streams.specs.Table.{at}
 use Rattle.quic_streams.proofs.First.{first_id, first_at}
 use Rattle.quic_streams.proofs.sending.Sending.pending.Goals as goal
 

@@ -1,6 +1,6 @@
 use Rattle.std.proofs.Common.{◌≡◌, length, rules, Option, Some, sym, ap, ◌∙◌, arith}
-use Rattle.quic_connection_core.specs.Table.{Table, at, put}
-use Rattle.quic_connection_core.specs.Sending.{SendHalf}
+use Rattle.quic_streams.specs.Table.{Table, at, put}
+use Rattle.quic_streams.specs.Sending.{SendHalf}
 use Rattle.quic_streams.specs.Views.{sending_of}
 use Rattle.quic_streams.specs.Frames.{polled_at}
 use Rattle.quic_streams.proofs.Opened.{put_keeps}

@@ -2,8 +2,8 @@ use Rattle.std.proofs.Common.{◌+◌, ◌-◌, length, rules, ap, ◌∙◌, ar
 use Rattle.std.specs.Ordering.{nat_cmp}
 use Rattle.std.specs.BTreeMap.{is_at}
 use Rattle.std.proofs.lemmas.Map.Steps.{set_value_same}
-use Rattle.quic_connection_core.specs.Table.{put}
-use Rattle.quic_connection_core.specs.Sending.{SendHalf}
+use Rattle.quic_streams.specs.Table.{put}
+use Rattle.quic_streams.specs.Sending.{SendHalf}
 use Rattle.quic_streams.specs.Views.{sending_of}
 use Rattle.quic_streams.proofs.Opened.{put_keeps, held_within, acked_shrinks}
 use Rattle.quic_streams.proofs.sending.Sending.received_ack_of.Goals as goal

@@ -2,9 +2,9 @@ use Rattle.std.proofs.Common.{◌≡◌, length, rules, ap, ◌∙◌, arith, Re
 use Rattle.std.specs.Ordering.{nat_cmp}
 use Rattle.std.specs.BTreeMap.{is_at}
 use Rattle.std.proofs.lemmas.Map.Steps.{set_value_same}
-use Rattle.quic_streams_core.specs.declared.stream_meta.StreamMeta.{StreamMeta}
-use Rattle.quic_connection_core.specs.Table.{put}
-use Rattle.quic_connection_core.specs.Sending.{SendHalf, half_lost}
+use Rattle.quic_send_buffer.specs.declared.stream_meta.StreamMeta.{StreamMeta}
+use Rattle.quic_streams.specs.Table.{put}
+use Rattle.quic_streams.specs.Sending.{SendHalf, half_lost}
 use Rattle.quic_streams.proofs.Opened.{put_keeps}
 use Rattle.quic_streams.proofs.sending.Sending.retransmit.Goals as goal
 

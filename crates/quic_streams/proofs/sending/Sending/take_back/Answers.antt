@@ -1,6 +1,6 @@
 use Rattle.std.proofs.Common.{◌≡◌, ◌-◌, None, sym, subst, ap, ◌∙◌, arith}
-use Rattle.quic_connection_core.specs.Table.{at, without}
-use Rattle.quic_connection_core.specs.Sending.{Sending}
+use Rattle.quic_streams.specs.Table.{at, without}
+use Rattle.quic_streams.specs.Sending.{Sending}
 use Rattle.quic_streams.specs.Bounds.{IsLast}
 use Rattle.quic_streams.proofs.Opened.{take_back_keeps, taken_back}
 use Rattle.quic_streams.proofs.sending.Sending.take_back.Goals as goal

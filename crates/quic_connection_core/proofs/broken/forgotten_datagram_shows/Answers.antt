@@ -1,5 +1,0 @@
-use Rattle.quic_connection_core.proofs.Forgotten.{flies_not, flies, flies_no_more, flies_never, forgets, never_forgets}
-use Rattle.quic_connection_core.proofs.broken.forgotten_datagram_shows.Goals as goal
-
-pub returns : goal.returns
-returns c = record { before = flies_not; given = flies; answered = flies_no_more; silent = flies_never; forgotten = forgets; machine = never_forgets }

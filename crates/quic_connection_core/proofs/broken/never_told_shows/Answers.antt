@@ -1,6 +1,0 @@
-use Rattle.quic_connection_core.proofs.BrokenClauses.{tells_never}
-use Rattle.quic_connection_core.proofs.BrokenRuns.{never_silent}
-use Rattle.quic_connection_core.proofs.broken.never_told_shows.Goals as goal
-
-pub returns : goal.returns
-returns c = record { once = tells_never; machine = never_silent }

@@ -1,0 +1,72 @@
+use Rattle.std.proofs.Common.{rules, ◌++◌, ℕ, List, ap, sym, ◌∙◌, arith}
+use Rattle.std.specs.Prelude.{vec_len}
+use Rattle.quic_packet.specs.Number.{truncated}
+use Rattle.quic_packet.specs.Header.{header_bytes}
+use Rattle.quic_machine.specs.Numbers.{cut_against}
+use Rattle.quic_machine.specs.Poll.{composed}
+use Rattle.quic_connection_core.proofs.Plain.{front_of, same_numbers, same_ids, payload_is, plain_of}
+use Rattle.quic_connection_core.proofs.connection.Connection.put_plain.Goals as goal
+
+pub put_frames-requires-clause-some : goal.put_frames-requires-clause-some
+put_frames-requires-clause-some g c =
+    let width = c.put_header-width.ensures.width in
+    let short = c.put_header-width.ensures.short in
+    omega arith
+
+pub put_frames-requires-clause-room : goal.put_frames-requires-clause-room
+put_frames-requires-clause-room g c =
+    let width = c.put_header-width.ensures.width in
+    let len = c.put_header-width.ensures.len in
+    let short = c.put_header-width.ensures.short in
+    let capacity = c.put_header-width.ensures.capacity in
+    let room = c.requires.room in
+    omega arith
+
+pub pad-requires-clause-room : goal.pad-requires-clause-room
+pad-requires-clause-room g c =
+    let within = c.in_ok-sent.ensures.within in
+    let grows = c.in_ok-sent.ensures.grows in
+    let width = c.put_header-width.ensures.width in
+    let len = c.put_header-width.ensures.len in
+    let short = c.put_header-width.ensures.short in
+    let body = c.len-body.ensures in
+    let one = c.put_header-width.ensures.capacity in
+    let two = c.in_ok-sent.ensures.capacity in
+    let room = c.requires.room in
+    omega arith
+
+pub returns-clause-items : goal.returns-clause-items
+returns-clause-items g c =
+    let e = c.args.self.now.end in
+    let t = truncated e.numbers.next (cut_against e.numbers) in
+    let before : List ℕ = c.put_header-width.new.out.items in
+    let whole : List ℕ = c.put_frames.new.out.items in
+    plain_of c.args.out.now.items before (header_bytes e.ids.active.id t) whole c.pad.new.out.items (composed e).bytes t.width c.put_header-width.result (vec_len c.put_frames.new.out) c.len-body.result
+    (search rules) (search rules) (search rules) (search rules) c.in_ok-sent.ensures.items c.pad.ensures.items
+    ∙ ap (λ (z : List ℕ). c.args.out.now.items ++ (header_bytes e.ids.active.id t ++ z)) (sym (payload_is e))
+
+pub returns-clause-within : goal.returns-clause-within
+returns-clause-within g c =
+    let within = c.in_ok-sent.ensures.within in
+    let grows = c.in_ok-sent.ensures.grows in
+    let width = c.put_header-width.ensures.width in
+    let len = c.put_header-width.ensures.len in
+    let short = c.put_header-width.ensures.short in
+    let body = c.len-body.ensures in
+    let padded = c.pad.ensures.len in
+    omega arith
+
+pub returns-clause-numbers : goal.returns-clause-numbers
+returns-clause-numbers g c = ap (λ w. w.end.numbers) c.in_ok-sent.ensures.end ∙ same_numbers c.args.self.now.end
+
+pub returns-clause-ids : goal.returns-clause-ids
+returns-clause-ids g c = ap (λ w. w.end.ids) c.in_ok-sent.ensures.end ∙ same_ids c.args.self.now.end
+
+pub returns-in_err-sent-clause-front : goal.returns-in_err-sent-clause-front
+returns-in_err-sent-clause-front g c =
+    let header : List ℕ = c.put_header-width.new.out.items in
+    let len = c.put_header-width.ensures.len in
+    let body = c.len-body.ensures in
+    let old = c.args.out.now.ok.0 in
+    let new = c.put_header-width.new.out.ok.0 in
+    front_of c.args.out.now.items header c.put_frames.new.out.items _ (vec_len c.args.out.now) (vec_len c.put_header-width.new.out) old (omega (arith, len)) c.put_header-width.ensures.items c.put_frames.ensures.front

@@ -1,0 +1,17 @@
+use Rattle.std.proofs.Common.{◌≡◌, ◌<◌, length, arith}
+use Rattle.std.proofs.lemmas.Grind.{common_steps}
+use Rattle.quic_packet.specs.Header.{reserved_bits}
+use Rattle.quic_connection_core.proofs.Payloads.{goes, stops_empty}
+use Rattle.quic_connection_core.proofs.connection.Connection.take_payload.Goals as goal
+
+pub returns-clause-takes : goal.returns-clause-takes
+returns-clause-takes g c =
+    let clear : reserved_bits c.args.opened.now.first ≡ 0 = omega (arith, c.reserved_bits.ensures) in
+    let long : 0 < length c.args.payload.now = grind (arith, common_steps) in
+    rw (goes c.args.opened.now.first c.args.payload.now c.args.self.now.end clear long) c.take_frames.ensures.takes
+
+pub returns-then-is_empty-clause-takes : goal.returns-then-is_empty-clause-takes
+returns-then-is_empty-clause-takes g c =
+    let clear : reserved_bits c.args.opened.now.first ≡ 0 = omega (arith, c.reserved_bits.ensures) in
+    let none : length c.args.payload.now ≡ 0 = grind (arith, common_steps) in
+    rw (c.violation-then-is_empty.ensures) (stops_empty c.args.opened.now.first c.args.payload.now c.args.self.now.end clear none)

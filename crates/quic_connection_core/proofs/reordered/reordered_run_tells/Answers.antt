@@ -1,5 +1,0 @@
-use Rattle.quic_connection_core.proofs.ReorderedRun.{took_both}
-use Rattle.quic_connection_core.proofs.reordered.reordered_run_tells.Goals as goal
-
-pub returns-clause-took : goal.returns-clause-took
-returns-clause-took c = took_both

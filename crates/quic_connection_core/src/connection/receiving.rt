@@ -1,0 +1,339 @@
+//! Taking a datagram (RFC 9000, sections 5.2, 12 and 13.1).
+ghost use Rattle.std.specs.Prelude.{◌≡◌, ◌≢◌, ◌+◌, ◌≤◌, ◌<◌, ◌^◌, length, slice_range, Some, None, IfSome, IfNone, IfOk, OnOk, MatchResult};
+ghost use Rattle.quic_wire.specs.Items.{items};
+ghost use Rattle.quic_packet.specs.Destination.{decoded, fixed_length_id};
+ghost use Rattle.quic_machine.specs.Ids.{known};
+ghost use Rattle.quic_time.specs.Timers.{no_timers};
+ghost use Rattle.quic_wire.specs.Value.{stream};
+ghost use Rattle.quic_wire.specs.FrameView.{stream_view, frame_view, item_view};
+ghost use Rattle.quic_machine.specs.End.{with_end, policy_of, closed_by, HasFailed};
+ghost use Rattle.quic_machine.specs.Opens.{own_id_length, would_open};
+ghost use Rattle.quic_machine.specs.Receive.{received, opened_to, processed, fault_of_breach, fault_at, plain_error, take_ack, take_frame, take_item, take_items, take_payload, item_asks, asks_in, opening, error_of, reason_of, drop_of, violation};
+ghost use Rattle.quic_connection_core.specs.Faults.{fault_view, TakesAs, TakesAllAs, TakesPacketAs};
+ghost use Rattle.quic_machine.specs.Lacking.{TakesFrames};
+
+use crate::connection::Connection;
+use crate::connection::ids::OWN_ID_LENGTH;
+use quic_machine::{DropReason, Instant, LostReason, Received, State};
+use quic_packet::crypto::{HeaderKey, NotOpened, PacketKey};
+use quic_packet::{HeaderError, Opened, open_packet};
+use quic_streams::{Breach, ReceivedError};
+use quic_wire::frame::{Ack, Frame, InvalidFrame, Iter, Stream};
+use quic_wire_core::{Code, ConnectionId, EcnCodepoint, Reason, Side, TransportError};
+use rand_core::Rng;
+use std::alloc::AllocError;
+
+/// Why the frames of a packet weren't all taken.
+#[derive(Debug, Drop)]
+pub(crate) enum Trouble {
+    /// A rule was broken.
+    Broke(TransportError),
+    /// Too many runs of a stream wait.
+    TooManyPieces,
+    /// Memory lacks.
+    Memory,
+}
+
+impl From<AllocError> for Trouble {
+    ghost use Rattle.std.specs.Prelude.{◌≡◌};
+    ghost use Rattle.quic_connection_core.specs.declared.connection.receiving.Trouble.TheVariants as troubles;
+
+    ghost from_gives = { λ error trouble. trouble ≡ troubles.Memory };
+
+    fn from(_: AllocError) -> Trouble {
+        Trouble::Memory
+    }
+}
+
+/// An error that names no frame.
+fn plain_error(code: Code, reason: Reason) -> TransportError
+    ensures { result ≡ plain_error code }
+{
+    TransportError::new(code, None, reason)
+}
+
+/// What a broken rule of streams comes to.
+fn trouble_of(breach: Breach) -> Trouble
+    ensures { fault_view result ≡ Some (fault_of_breach breach) }
+{
+    let error = match breach {
+        Breach::FlowControl => plain_error(Code::FLOW_CONTROL_ERROR, Reason::TooManyBytes),
+        Breach::StreamLimit => plain_error(Code::STREAM_LIMIT_ERROR, Reason::TooManyStreams),
+        Breach::StreamState => plain_error(Code::STREAM_STATE_ERROR, Reason::NotSendable),
+        Breach::FinalSize => plain_error(Code::FINAL_SIZE_ERROR, Reason::FinalSize),
+        Breach::Pieces => return Trouble::TooManyPieces,
+    };
+    Trouble::Broke(error)
+}
+
+/// Why a datagram with this header is dropped.
+fn drop_reason(error: HeaderError) -> DropReason
+    ensures { result ≡ drop_of error }
+{
+    match error {
+        HeaderError::TooShort => DropReason::TooShort,
+        HeaderError::NotShort => DropReason::NotShort,
+        HeaderError::FixedBit => DropReason::FixedBit,
+        HeaderError::UnknownId => DropReason::UnknownId,
+    }
+}
+
+impl<H: HeaderKey + Drop, K: PacketKey + Drop, R: Rng + Drop> Connection<H, K, R> {
+    /// Takes a datagram that came at this moment with this mark, opening it in place (RFC 9000, sections 5.2 and 12).
+    ///
+    /// A datagram that is dropped changes nothing, but that the new number of one that a closing end opened counts as seen.
+    /// Where it breaks a rule, the end closes; the frames before keep their effect, and its number isn't taken.
+    /// Where memory lacks, the end fails for good. Its number is to be acknowledged once all its frames were taken. Marks
+    /// are not read yet. The datagram's bytes may be changed; to what isn't said.
+    pub fn receive(
+        &mut self,
+        now: Instant,
+        ecn: Option<EcnCodepoint>,
+        datagram: &mut [u8],
+    ) -> Received
+        ensures answer { result ≢ Received.Failed → result ≡ (received (policy_of H.protection K.aead self.old) self.old.end now datagram.old).answer }
+        ensures end { result ≢ Received.Failed → self.new ≡ with_end self.old (received (policy_of H.protection K.aead self.old) self.old.end now datagram.old).end }
+        ensures failed { result ≡ Received.Failed → HasFailed self.old self.new }
+        ensures before { result ≡ Received.Failed → self.old.end.closing.state ≢ State.Failed }
+        ensures stopped { result ≡ Received.Failed → self.new.end.timers ≡ no_timers }
+        ensures lacking { result ≡ Received.Failed → TakesFrames (received (policy_of H.protection K.aead self.old) self.old.end now datagram.old).answer }
+    {
+        let _ = ecn;
+        match self.state() {
+            State::Failed => return Received::Dropped(DropReason::Failed),
+            State::Drained => return Received::Dropped(DropReason::Drained),
+            State::Open | State::Closing => {}
+        }
+        if let Err(error) = self.destination_of(datagram) {
+            return Received::Dropped(drop_reason(error));
+        }
+        let Ok(opened) = self.unprotect(datagram) else {
+            return Received::Dropped(DropReason::NotOpened);
+        };
+        self.take_opened(now, &opened, &datagram[opened.start..opened.end])
+    }
+
+    /// The own id that a datagram is for, or why it is for none.
+    fn destination_of(&self, datagram: &[u8]) -> Result<ConnectionId, HeaderError>
+        ensures decoded { result ≡ decoded (fixed_length_id own_id_length) (known self.now.end.ids) datagram.now }
+        ensures room { OnOk result (own_id_length + 21 ≤ length datagram.now) }
+    {
+        self.ids.decode(datagram)
+    }
+
+    /// Whether a datagram would open here, whatever the state of the end, and also where it came before: it has a short header
+    /// with an own id, its packet opens under its number, and its key phase is 0. It is opened in place, so `scratch` is
+    /// a copy of it, whose bytes may be changed; the end stays as it is.
+    pub fn would_open(&self, scratch: &mut [u8]) -> bool
+        ensures { result ≡ would_open (policy_of H.protection K.aead self.now) self.now.end scratch.old }
+    {
+        if self.destination_of(scratch).is_err() {
+            return false;
+        }
+        match self.unprotect(scratch) {
+            Ok(opened) => !opened.key_phase(),
+            Err(NotOpened) => false,
+        }
+    }
+
+    /// Opens a datagram in place, whose destination id is an own one.
+    fn unprotect(&self, datagram: &mut [u8]) -> Result<Opened, NotOpened>
+        requires { own_id_length + 21 ≤ length datagram.old }
+        ensures opened { MatchResult result
+            (λ o. opening (policy_of H.protection K.aead self.now) self.now.end datagram.old ≡ Some (record { first = o.first; number = o.number; payload = slice_range datagram.new o.start o.end }))
+            (λ _. opening (policy_of H.protection K.aead self.now) self.now.end datagram.old ≡ None) }
+        ensures number { IfOk result (λ o. o.number < 2 ^ 62) }
+        ensures start { IfOk result (λ o. o.start ≤ o.end) }
+        ensures end { IfOk result (λ o. o.end ≤ length datagram.new) }
+    {
+        let expected = self.numbers.expected();
+        open_packet(
+            datagram,
+            1 + OWN_ID_LENGTH,
+            expected,
+            &self.keys.header.remote,
+            &self.keys.packet.remote,
+        )
+    }
+
+    /// Takes a packet that opened.
+    fn take_opened(&mut self, now: Instant, opened: &Opened, payload: &[u8]) -> Received
+        requires { opened.now.number < 2 ^ 62 }
+        ensures answer { result ≢ Received.Failed → result ≡ (opened_to (record { first = opened.now.first; number = opened.now.number; payload = payload.now }) now self.old.end).answer }
+        ensures end { result ≢ Received.Failed → self.new ≡ with_end self.old (opened_to (record { first = opened.now.first; number = opened.now.number; payload = payload.now }) now self.old.end).end }
+        ensures failed { result ≡ Received.Failed → HasFailed self.old self.new }
+        ensures stopped { result ≡ Received.Failed → self.new.end.timers ≡ no_timers }
+        ensures lacking { result ≡ Received.Failed → TakesFrames (opened_to (record { first = opened.now.first; number = opened.now.number; payload = payload.now }) now self.old.end).answer }
+    {
+        if opened.key_phase() {
+            return Received::Dropped(DropReason::KeyPhase);
+        }
+        if self.open_number(opened.number) {
+            return Received::Dropped(DropReason::Duplicate);
+        }
+        match self.state() {
+            State::Open => self.process(now, opened, payload),
+            State::Closing => Received::Dropped(DropReason::Closing),
+            State::Drained => Received::Dropped(DropReason::Drained),
+            State::Failed => Received::Dropped(DropReason::Failed),
+        }
+    }
+
+    /// Takes the packet of a number that is new.
+    fn process(&mut self, now: Instant, opened: &Opened, payload: &[u8]) -> Received
+        requires { opened.now.number < 2 ^ 62 }
+        ensures answer { result ≢ Received.Failed → result ≡ (processed (record { first = opened.now.first; number = opened.now.number; payload = payload.now }) now self.old.end).answer }
+        ensures end { result ≢ Received.Failed → self.new ≡ with_end self.old (processed (record { first = opened.now.first; number = opened.now.number; payload = payload.now }) now self.old.end).end }
+        ensures failed { result ≡ Received.Failed → HasFailed self.old self.new }
+        ensures stopped { result ≡ Received.Failed → self.new.end.timers ≡ no_timers }
+        ensures lacking { result ≡ Received.Failed → TakesFrames (processed (record { first = opened.now.first; number = opened.now.number; payload = payload.now }) now self.old.end).answer }
+    {
+        self.tick(now);
+        match self.take_packet(opened, payload) {
+            Ok(()) => Received::Taken,
+            Err(trouble) => self.close_for(trouble),
+        }
+    }
+
+    /// Takes the frames of a packet, and then its number.
+    fn take_packet(&mut self, opened: &Opened, payload: &[u8]) -> Result<(), Trouble>
+        requires { opened.now.number < 2 ^ 62 }
+        ensures takes { TakesPacketAs result (take_payload opened.now.first (items payload.now) self.old.end) (asks_in (items payload.now)) opened.now.number self.new.end }
+        ensures others { self.new ≡ with_end self.old self.new.end }
+    {
+        let asks = self.take_payload(opened, payload)?;
+        self.take_number(opened.number, asks)?;
+        Ok(())
+    }
+
+    /// Takes the frames of a packet, one after another: whether one asks for an acknowledgement.
+    fn take_payload(&mut self, opened: &Opened, payload: &[u8]) -> Result<bool, Trouble>
+        ensures takes { TakesAllAs result (take_payload opened.now.first (items payload.now) self.old.end) (asks_in (items payload.now)) self.new.end }
+        ensures others { self.new ≡ with_end self.old self.new.end }
+    {
+        if opened.reserved_bits() != 0 {
+            return Err(violation(Reason::ReservedBits));
+        }
+        if payload.is_empty() {
+            return Err(violation(Reason::NoFrame));
+        }
+        self.take_frames(payload)
+    }
+
+    /// Takes frames up to the first that is at fault: whether one asks for an acknowledgement.
+    fn take_frames(&mut self, payload: &[u8]) -> Result<bool, Trouble>
+        ensures takes { TakesAllAs result (take_items (items payload.now) self.old.end) (asks_in (items payload.now)) self.new.end }
+        ensures others { self.new ≡ with_end self.old self.new.end }
+    {
+        let mut asks = false;
+        for item in Iter::new(payload) {
+            self.take_item(&item)?;
+            asks = asks || item_asks(&item);
+        }
+        Ok(asks)
+    }
+
+    /// Takes a frame, or what can't be read as one.
+    fn take_item(&mut self, item: &Result<Frame<'_>, InvalidFrame>) -> Result<(), Trouble>
+        ensures takes { TakesAs result (take_item (item_view item.now) self.old.end) self.new.end }
+        ensures others { self.new ≡ with_end self.old self.new.end }
+    {
+        match item {
+            Ok(frame) => self.take_frame(frame),
+            Err(invalid) => Err(Trouble::Broke(TransportError::from(*invalid))),
+        }
+    }
+
+    /// Takes a frame. Those of other kinds do nothing yet.
+    fn take_frame(&mut self, frame: &Frame<'_>) -> Result<(), Trouble>
+        ensures takes { TakesAs result (take_frame (frame_view frame.now) self.old.end) self.new.end }
+        ensures others { self.new ≡ with_end self.old self.new.end }
+    {
+        match frame {
+            Frame::Ack(frame) => self.take_ack(frame),
+            Frame::Stream(frame) => self.take_stream(frame),
+            Frame::NewToken { .. } | Frame::HandshakeDone => self.take_of_server(),
+            _ => Ok(()),
+        }
+    }
+
+    /// Takes a frame that only servers send, and does nothing with it: a server gets none (RFC 9000, sections 19.7 and
+    /// 19.20).
+    fn take_of_server(&self) -> Result<(), Trouble>
+        ensures { TakesAs result (record { end = self.now.end; fault = fault_at self.now.end.side }) self.now.end }
+    {
+        match self.side {
+            Side::Client => Ok(()),
+            Side::Server => Err(violation(Reason::OfServers)),
+        }
+    }
+
+    /// Takes an ACK frame: the greatest number that it names counts, and the tracked packets that it names are acknowledged.
+    /// A number that was never given breaks a rule (RFC 9000, section 13.1).
+    fn take_ack(&mut self, frame: &Ack<'_>) -> Result<(), Trouble>
+        ensures takes { TakesAs result (take_ack frame.now self.old.end) self.new.end }
+        ensures others { self.new ≡ with_end self.old self.new.end }
+    {
+        let largest = frame.largest();
+        if self.numbers.next() <= largest {
+            return Err(violation(Reason::NeverSent));
+        }
+        self.numbers.name(largest);
+        self.on_ack_received(frame)?;
+        Ok(())
+    }
+
+    /// Takes a STREAM frame.
+    fn take_stream(&mut self, frame: &Stream<'_>) -> Result<(), Trouble>
+        ensures takes { TakesAs result (take_frame (stream (stream_view frame.now)) self.old.end) self.new.end }
+        ensures others { self.new ≡ with_end self.old self.new.end }
+    {
+        match self.receiving.received(self.side, frame) {
+            Ok(()) => Ok(()),
+            Err(ReceivedError::Breach(breach)) => Err(trouble_of(breach)),
+            Err(ReceivedError::Memory) => Err(Trouble::Memory),
+        }
+    }
+
+    /// Closes for what was wrong with a packet, or fails.
+    fn close_for(&mut self, trouble: Trouble) -> Received
+        ensures answer { IfSome (fault_view trouble) (λ fault. result ≡ Received.Closed (error_of fault)) }
+        ensures end { IfSome (fault_view trouble) (λ fault. self.new ≡ with_end self.old (closed_by (reason_of fault) self.old.end)) }
+        ensures memory { IfNone (fault_view trouble) (result ≡ Received.Failed) }
+        ensures failed { IfNone (fault_view trouble) (HasFailed self.old self.new) }
+        ensures stopped { IfNone (fault_view trouble) (self.new.end.timers ≡ no_timers) }
+    {
+        match trouble {
+            Trouble::Broke(error) => {
+                let answer = Received::Closed(error.copied());
+                self.close_by(LostReason::Transport(error));
+                answer
+            }
+            Trouble::TooManyPieces => {
+                self.close_by(LostReason::Pieces);
+                Received::Closed(plain_error(Code::INTERNAL_ERROR, Reason::TooManyPieces))
+            }
+            Trouble::Memory => {
+                self.fail();
+                Received::Failed
+            }
+        }
+    }
+}
+
+/// Whether a frame asks for an acknowledgement; what can't be read as one doesn't.
+fn item_asks(item: &Result<Frame<'_>, InvalidFrame>) -> bool
+    ensures { result ≡ item_asks (item_view item.now) }
+{
+    match item {
+        Ok(frame) => frame.is_ack_eliciting(),
+        Err(_) => false,
+    }
+}
+
+/// PROTOCOL_VIOLATION.
+fn violation(reason: Reason) -> Trouble
+    ensures { fault_view result ≡ Some violation }
+{
+    Trouble::Broke(plain_error(Code::PROTOCOL_VIOLATION, reason))
+}

@@ -1,0 +1,489 @@
+//! Giving a datagram (RFC 9000, sections 12.2, 13.2, 13.3 and 14.1).
+ghost use Rattle.std.specs.Prelude.{◌≡◌, ◌≢◌, ◌+◌, ◌-◌, ◌<◌, ◌≤◌, ◌++◌, length, replicate, take, drop, IfOk, IfSome, IsSome, OnOk, OnErr, Ok, Some, None, true, vec_len, vec_capacity};
+ghost use Rattle.quic_packet.specs.Number.{truncated};
+ghost use Rattle.quic_packet.specs.Header.{header_bytes};
+ghost use Rattle.quic_packet.specs.Datagram.{protected};
+ghost use Rattle.quic_wire.specs.AckSet.{ranges_of_set, greatest};
+ghost use Rattle.quic_wire.specs.Value.{ack, ping};
+ghost use Rattle.quic_wire.specs.Writing.{spelling, frame_size};
+ghost use Rattle.quic_recovery_core.specs.declared.spaces.pending_acks.TheConstants.{MAX_ACK_RUNS};
+ghost use Rattle.quic_recovery_core.specs.PendingAcks.{can_send, is_filled};
+ghost use Rattle.quic_time.specs.Timers.{no_timers};
+ghost use Rattle.quic_machine.specs.End.{with_end, with_numbers, policy_of, HasFailed};
+ghost use Rattle.quic_machine.specs.Numbers.{can_number, cut_against, number_given};
+ghost use Rattle.quic_machine.specs.Tracking.{carried_in, streams_in};
+ghost use Rattle.quic_streams.specs.Table.{at};
+ghost use Rattle.quic_machine.specs.Poll.{IsSilent, polled, composed, frame_room, least_stream_room, next_behind, with_stream_frames, with_asking, payload_of, datagram_of, after_given, asking, tracked_if, probed, ack_of, after_ack};
+ghost use Rattle.quic_connection_core.specs.Frames.{payload_at, stream_bytes, end_after_stream, stream_metas, ping_bytes, pinged, most_ack_bytes, fits_behind, ack_bytes_if, acked_if, end_after_ack_if, tracked_as};
+ghost use Rattle.quic_connection_core.specs.Given.{given_bytes};
+ghost use Rattle.quic_machine.specs.Lacking.{GivesOrHasFailed};
+
+use crate::connection::Connection;
+use crate::connection::tracking::{Carried, SentPacket, StreamMetas};
+use quic_machine::{Failed, Instant, LostReason, State, Timer, Transmit};
+use quic_packet::crypto::{HeaderKey, PacketKey, TAG_LEN};
+use quic_packet::{ShortHeader, seal_reserved};
+use quic_wire::frame::{Ack, Frame, Stream, put_frame};
+use quic_wire_core::reserved::{append_zeros, varint_size};
+use quic_wire_core::{EcnCodepoint, StreamId};
+use rand_core::Rng;
+use smallvec::SmallVec;
+use std::alloc::AllocError;
+
+/// The most bytes of a datagram (RFC 9000, section 14.1).
+const CURRENT_MTU: usize = 1200;
+
+/// How many bytes have to be left of a datagram so that a frame of a stream goes: its type, and its id, offset and length in
+/// eight bytes each.
+const LEAST_STREAM_ROOM: usize = 25;
+
+/// What went into a datagram (quinn-proto's `SentFrames`).
+#[derive(Drop)]
+struct SentFrames {
+    // Whether it asks for an acknowledgement.
+    asks: bool,
+    carried: Carried,
+}
+
+impl SentFrames {
+    /// Frames that ask or don't, an ACK frame that names numbers up to this one, and the frames of streams.
+    fn new(asks: bool, largest_acked: Option<u64>, stream_frames: StreamMetas) -> Self
+        ensures asks { result.asks ≡ asks }
+        ensures carried { result.carried ≡ record { largest_acked = largest_acked; stream_frames = stream_frames.items } }
+    {
+        SentFrames {
+            asks,
+            carried: Carried {
+                largest_acked,
+                stream_frames,
+            },
+        }
+    }
+}
+
+impl<H: HeaderKey + Drop, K: PacketKey + Drop, R: Rng + Drop> Connection<H, K, R> {
+    /// Appends the next datagram to `out`, if there is something to send at this moment: a due acknowledgement, PING, or
+    /// bytes of streams (RFC 9000, sections 13.2 and 13.3). An acknowledgement that isn't due goes along where it fits, and
+    /// where a probe waits, a PING does (RFC 9002, section 6.2.4). A datagram that asks for an acknowledgement is tracked
+    /// until it is acknowledged or lost, and sets the loss timer anew.
+    ///
+    /// The datagram has at most 1200 bytes and is to be marked ECT(0). Where something waits and the packet numbers are
+    /// used up, the end closes, no timer of it is set any more, and nothing is given. An end that gives nothing and is open
+    /// has nothing left to send.
+    ///
+    /// # Errors
+    ///
+    /// [`Failed`] where memory lacks now, and the end fails for good and has no timer, or where it had failed before, and
+    /// nothing changes; `out` is as it was.
+    pub fn poll_transmit(
+        &mut self,
+        now: Instant,
+        out: &mut Vec<u8>,
+    ) -> Result<Option<Transmit>, Failed>
+        ensures answer { OnOk result (result ≡ (polled (policy_of H.protection K.aead self.old) self.old.end now).answer) }
+        ensures end { OnOk result (self.new ≡ with_end self.old (polled (policy_of H.protection K.aead self.old) self.old.end now).end) }
+        ensures datagram { OnOk result (out.new.items ≡ out.old.items ++ given_bytes (polled (policy_of H.protection K.aead self.old) self.old.end now).datagram) }
+        ensures failed { OnErr result (HasFailed self.old self.new) }
+        ensures stopped { self.old.end.closing.state ≢ State.Failed → OnErr result (self.new.end.timers ≡ no_timers) }
+        ensures nothing { OnErr result (out.new.items ≡ out.old.items) }
+        ensures lacking { OnErr result (GivesOrHasFailed (polled (policy_of H.protection K.aead self.old) self.old.end now).answer) }
+        ensures still { self.old.end.closing.state ≡ State.Failed → self.new ≡ self.old }
+        ensures size { IfOk result (λ given. IfSome given (λ transmit. transmit.size ≤ 1200)) }
+        ensures silent { result ≡ Ok None → self.new.end.closing.state ≡ State.Open → IsSilent self.new.end }
+    {
+        match self.state() {
+            State::Failed => return Err(Failed),
+            State::Closing | State::Drained => return Ok(None),
+            State::Open => {}
+        }
+        self.tick(now);
+        self.queue_probe();
+        if !self.has_waiting() {
+            return Ok(None);
+        }
+        if !self.can_number() {
+            self.close_by(LostReason::NumberLimit);
+            return Ok(None);
+        }
+        if out.reserve(CURRENT_MTU).is_err() {
+            self.fail();
+            return Err(Failed);
+        }
+        let size = self.give(out)?;
+        Ok(Some(Transmit {
+            size,
+            ecn: Some(EcnCodepoint::Ect0),
+        }))
+    }
+
+    /// Where a probe waits, a PING does.
+    fn queue_probe(&mut self)
+        ensures { self.new ≡ with_end self.old (probed self.old.end) }
+    {
+        if self.tracking.has_probes() {
+            self.ping();
+        }
+    }
+
+    /// Appends the datagram of what waits, for which there is room, tracks it where it asks for an acknowledgement, and
+    /// counts it as given: its size. Where memory lacks, nothing is appended, and the end fails for good.
+    fn give(&mut self, out: &mut Vec<u8>) -> Result<usize, Failed>
+        requires number { can_number self.old.end.numbers ≡ true }
+        requires room { vec_len out.old + 1200 ≤ vec_capacity out.old }
+        ensures items { OnOk result (out.new.items ≡ out.old.items ++ datagram_of (policy_of H.protection K.aead self.old) (composed self.old.end)) }
+        ensures size { IfOk result (λ size. vec_len out.new ≡ vec_len out.old + size) }
+        ensures most { IfOk result (λ size. size ≤ 1200) }
+        ensures end { OnOk result (self.new ≡ with_end self.old (after_given (composed self.old.end))) }
+        ensures failed { OnErr result (HasFailed self.old self.new) }
+        ensures stopped { OnErr result (self.new.end.timers ≡ no_timers) }
+        ensures nothing { OnErr result (out.new.items ≡ out.old.items) }
+    {
+        let start = out.len();
+        if self.put_tracked(out).is_err() {
+            out.truncate(start);
+            self.fail();
+            return Err(Failed);
+        }
+        self.seal(start, out);
+        self.count_given();
+        Ok(out.len() - start)
+    }
+
+    /// Appends the packet of what waits, for which there is room, unsealed, and tracks it where it asks for an
+    /// acknowledgement. An error is want of memory; the end is of no more use then, and some of the packet may stand in `out`.
+    fn put_tracked(&mut self, out: &mut Vec<u8>) -> Result<(), AllocError>
+        requires number { can_number self.old.end.numbers ≡ true }
+        requires room { vec_len out.old + 1200 ≤ vec_capacity out.old }
+        ensures items { OnOk result (out.new.items ≡ out.old.items ++ (header_bytes self.old.end.ids.active.id (truncated self.old.end.numbers.next (cut_against self.old.end.numbers)) ++ payload_of (composed self.old.end))) }
+        ensures four { OnOk result (vec_len out.old + 1 + length self.old.end.ids.active.id + 4 ≤ vec_len out.new) }
+        ensures within { OnOk result (vec_len out.new + 16 ≤ vec_len out.old + 1200) }
+        ensures capacity { vec_capacity out.old ≤ vec_capacity out.new }
+        ensures end { OnOk result (self.new ≡ with_end self.old (tracked_if (asking (composed self.old.end).frames) (composed self.old.end))) }
+        ensures numbers { OnOk result (self.new.end.numbers ≡ self.old.end.numbers) }
+        ensures ids { OnOk result (self.new.end.ids ≡ self.old.end.ids) }
+        ensures keys { self.new.keys ≡ self.old.keys }
+        ensures front { take (vec_len out.old) out.new.items ≡ out.old.items }
+        ensures grows { vec_len out.old ≤ vec_len out.new }
+        ensures others { self.new ≡ with_end self.old self.new.end }
+    {
+        let sent = self.put_plain(out)?;
+        self.track(sent)
+    }
+
+    /// The next datagram has these frames: where they ask for an acknowledgement, it is tracked, and the loss timer set
+    /// anew. An error is want of memory, and nothing has changed.
+    fn track(&mut self, sent: SentFrames) -> Result<(), AllocError>
+        ensures ok { OnOk result (self.new ≡ with_end self.old (tracked_as sent.asks sent.carried self.old.end)) }
+        ensures err { OnErr result (self.new ≡ self.old) }
+    {
+        if !sent.asks {
+            return Ok(());
+        }
+        let packet = SentPacket {
+            // There is one path, the first.
+            generation: 0,
+            time_sent: self.closing.clock(),
+            carried: sent.carried,
+        };
+        self.tracking.insert(self.numbers.next(), packet)?;
+        self.set_loss_timer();
+        Ok(())
+    }
+
+    /// Appends the packet of what waits, for which there is room, unsealed; its frames are taken: what went. An error is want
+    /// of memory; the end is of no more use then, and some of the packet may stand in `out`.
+    fn put_plain(&mut self, out: &mut Vec<u8>) -> Result<SentFrames, AllocError>
+        requires number { can_number self.old.end.numbers ≡ true }
+        requires room { vec_len out.old + 1200 ≤ vec_capacity out.old }
+        ensures items { OnOk result (out.new.items ≡ out.old.items ++ (header_bytes self.old.end.ids.active.id (truncated self.old.end.numbers.next (cut_against self.old.end.numbers)) ++ payload_of (composed self.old.end))) }
+        ensures four { OnOk result (vec_len out.old + 1 + length self.old.end.ids.active.id + 4 ≤ vec_len out.new) }
+        ensures within { OnOk result (vec_len out.new + 16 ≤ vec_len out.old + 1200) }
+        ensures capacity { vec_capacity out.old ≤ vec_capacity out.new }
+        ensures end { OnOk result (self.new ≡ with_end self.old (composed self.old.end).end) }
+        ensures numbers { OnOk result (self.new.end.numbers ≡ self.old.end.numbers) }
+        ensures ids { OnOk result (self.new.end.ids ≡ self.old.end.ids) }
+        ensures keys { self.new.keys ≡ self.old.keys }
+        ensures asks { IfOk result (λ sent. sent.asks ≡ asking (composed self.old.end).frames) }
+        ensures carried { IfOk result (λ sent. sent.carried ≡ carried_in (composed self.old.end).frames) }
+        ensures front { take (vec_len out.old) out.new.items ≡ out.old.items }
+        ensures grows { vec_len out.old ≤ vec_len out.new }
+        ensures others { self.new ≡ with_end self.old self.new.end }
+    {
+        let width = self.put_header(out);
+        let body = out.len();
+        let sent = self.put_frames(out)?;
+        pad(out, width, body);
+        Ok(sent)
+    }
+
+    /// Appends the frames of what waits as a payload, for which there is room. A due ACK goes first, so that it always
+    /// fits; one that isn't due goes last, where it fits, so that it takes no room from what waits. This answers what went.
+    /// An error is want of memory; the end is of no more use then, and some of the frames may stand in `out`.
+    fn put_frames(&mut self, out: &mut Vec<u8>) -> Result<SentFrames, AllocError>
+        requires some { 1159 ≤ frame_room self.old.end }
+        requires room { vec_len out.old + frame_room self.old.end ≤ vec_capacity out.old }
+        ensures items { OnOk result (out.new.items ≡ out.old.items ++ (composed self.old.end).bytes) }
+        ensures within { vec_len out.new ≤ vec_len out.old + frame_room self.old.end }
+        ensures grows { vec_len out.old ≤ vec_len out.new }
+        ensures capacity { vec_capacity out.old ≤ vec_capacity out.new }
+        ensures end { OnOk result (self.new ≡ with_end self.old (composed self.old.end).end) }
+        ensures asks { IfOk result (λ sent. sent.asks ≡ asking (composed self.old.end).frames) }
+        ensures carried { IfOk result (λ sent. sent.carried ≡ carried_in (composed self.old.end).frames) }
+        ensures front { take (vec_len out.old) out.new.items ≡ out.old.items }
+        ensures others { self.new ≡ with_end self.old self.new.end }
+    {
+        let body = out.len();
+        if self.is_ack_due() {
+            let largest = self.put_ack(out);
+            let (asks, stream_frames) = self.put_asking(body, out)?;
+            Ok(SentFrames::new(asks, Some(largest), stream_frames))
+        } else {
+            let (asks, stream_frames) = self.put_asking(body, out)?;
+            let largest = self.put_late_ack(body, out);
+            Ok(SentFrames::new(asks, largest, stream_frames))
+        }
+    }
+
+    /// Whether an acknowledgement is due.
+    fn is_ack_due(&self) -> bool
+        ensures { result ≡ can_send self.now.end.acknowledging }
+    {
+        self.acknowledging.is_due()
+    }
+
+    /// Appends an ACK where there is a number to acknowledge and its frame fits behind the frames of the packet whose
+    /// payload begins at `body`; there is room for the whole payload. This answers the greatest number that it names.
+    fn put_late_ack(&mut self, body: usize, out: &mut Vec<u8>) -> Option<u64>
+        requires body { body ≤ vec_len out.old }
+        requires within { vec_len out.old ≤ body + frame_room self.old.end }
+        requires room { body + frame_room self.old.end ≤ vec_capacity out.old }
+        ensures items { out.new.items ≡ out.old.items ++ ack_bytes_if (fits_behind self.old.end (vec_len out.old - body)) self.old.end }
+        ensures within { vec_len out.new ≤ body + frame_room self.old.end }
+        ensures grows { vec_len out.old ≤ vec_len out.new }
+        ensures capacity { vec_capacity out.old ≤ vec_capacity out.new }
+        ensures end { self.new ≡ with_end self.old (end_after_ack_if (fits_behind self.old.end (vec_len out.old - body)) self.old.end) }
+        ensures largest { result ≡ acked_if (fits_behind self.old.end (vec_len out.old - body)) self.old.end }
+    {
+        if self.ack_fits(out.len() - body) {
+            Some(self.put_ack(out))
+        } else {
+            None
+        }
+    }
+
+    /// Whether there is a number to acknowledge, and its frame fits behind so many bytes of a payload.
+    fn ack_fits(&self, used: usize) -> bool
+        requires { used ≤ frame_room self.now.end }
+        ensures { result ≡ fits_behind self.now.end used }
+    {
+        let room = self.frame_room() - used;
+        self.acknowledging.is_filled() && self.acknowledging.size(self.closing.clock()) <= room
+    }
+
+    /// Appends an ACK, for which there is room, and stops its timer: the greatest number that it names. There is a number to
+    /// acknowledge.
+    fn put_ack(&mut self, out: &mut Vec<u8>) -> u64
+        requires some { is_filled self.old.end.acknowledging.runs ≡ true }
+        requires room { length self.old.end.acknowledging.runs ≤ MAX_ACK_RUNS → vec_len out.old + frame_size (ack (ack_of self.old.end)) ≤ vec_capacity out.old }
+        ensures items { out.new.items ≡ out.old.items ++ spelling (ack (ack_of self.old.end)) }
+        ensures len { vec_len out.new ≡ vec_len out.old + frame_size (ack (ack_of self.old.end)) }
+        ensures few { frame_size (ack (ack_of self.old.end)) ≤ most_ack_bytes }
+        ensures capacity { vec_capacity out.old ≤ vec_capacity out.new }
+        ensures end { self.new ≡ with_end self.old (after_ack self.old.end) }
+        ensures largest { result ≡ greatest (ranges_of_set self.old.end.acknowledging.runs) }
+    {
+        let largest = self.acknowledging.largest();
+        self.acknowledging.put(self.closing.clock(), out);
+        self.timers.stop(Timer::MaxAckDelay);
+        largest
+    }
+
+    /// Appends what asks for an acknowledgement, PING and frames of streams, behind the frames of the packet whose payload
+    /// begins at `body`: none, or an ACK. There is room for the whole payload. This answers whether something went, and what
+    /// the frames of streams carry. An error is want of memory; the end is of no more use then.
+    fn put_asking(
+        &mut self,
+        body: usize,
+        out: &mut Vec<u8>,
+    ) -> Result<(bool, StreamMetas), AllocError>
+        requires body { body ≤ vec_len out.old }
+        requires few { vec_len out.old ≤ body + most_ack_bytes }
+        requires some { 1159 ≤ frame_room self.old.end }
+        requires room { body + frame_room self.old.end ≤ vec_capacity out.old }
+        ensures items { OnOk result (out.new.items ≡ take body out.old.items ++ (with_asking (payload_at self.old.end (drop body out.old.items))).bytes) }
+        ensures within { vec_len out.new ≤ body + frame_room self.old.end }
+        ensures grows { vec_len out.old ≤ vec_len out.new }
+        ensures capacity { vec_capacity out.old ≤ vec_capacity out.new }
+        ensures end { OnOk result (self.new ≡ with_end self.old (with_asking (payload_at self.old.end (drop body out.old.items))).end) }
+        ensures asks { IfOk result (λ sent. sent.0 ≡ asking (with_asking (payload_at self.old.end (drop body out.old.items))).frames) }
+        ensures streams { IfOk result (λ sent. sent.1.items ≡ streams_in (with_asking (payload_at self.old.end (drop body out.old.items))).frames) }
+        ensures front { take body out.new.items ≡ take body out.old.items }
+        ensures others { self.new ≡ with_end self.old self.new.end }
+    {
+        let pinged = self.put_ping(out);
+        let stream_frames = self.put_streams(body, out)?;
+        Ok((pinged || !stream_frames.is_empty(), stream_frames))
+    }
+
+    /// Appends PING if it waits, for which there is room: whether it does.
+    fn put_ping(&mut self, out: &mut Vec<u8>) -> bool
+        requires { vec_len out.old + 1 ≤ vec_capacity out.old }
+        ensures items { out.new.items ≡ out.old.items ++ ping_bytes self.old.end.waiting.ping }
+        ensures len { vec_len out.new ≡ vec_len out.old + length (ping_bytes self.old.end.waiting.ping) }
+        ensures few { length (ping_bytes self.old.end.waiting.ping) ≤ 1 }
+        ensures capacity { vec_capacity out.old ≤ vec_capacity out.new }
+        ensures end { self.new ≡ with_end self.old (pinged self.old.end) }
+        ensures waited { result ≡ self.old.end.waiting.ping }
+    {
+        let waited = self.take_ping();
+        if waited {
+            put_ping(out);
+        }
+        waited
+    }
+
+    /// Appends frames of streams behind the frames of the packet whose payload begins at `body`, while a stream has something
+    /// to send and there is room for a frame of it; there is room for the whole payload. This answers what they carry. An
+    /// error is want of memory; the end is of no more use then.
+    fn put_streams(&mut self, body: usize, out: &mut Vec<u8>) -> Result<StreamMetas, AllocError>
+        requires body { body ≤ vec_len out.old }
+        requires within { vec_len out.old ≤ body + frame_room self.old.end }
+        requires room { body + frame_room self.old.end ≤ vec_capacity out.old }
+        ensures items { OnOk result (out.new.items ≡ take body out.old.items ++ (with_stream_frames (payload_at self.old.end (drop body out.old.items))).bytes) }
+        ensures within { vec_len out.new ≤ body + frame_room self.old.end }
+        ensures grows { vec_len out.old ≤ vec_len out.new }
+        ensures capacity { vec_capacity out.old ≤ vec_capacity out.new }
+        ensures end { OnOk result (self.new ≡ with_end self.old (with_stream_frames (payload_at self.old.end (drop body out.old.items))).end) }
+        ensures streams { IfOk result (λ sent. sent.items ≡ streams_in (with_stream_frames (payload_at self.old.end (drop body out.old.items))).frames) }
+        ensures front { take body out.new.items ≡ take body out.old.items }
+        ensures others { self.new ≡ with_end self.old self.new.end }
+    {
+        let mut sent = SmallVec::new(self.alloc);
+        while let Some(id) = self.next_stream(out.len() - body) {
+            self.put_stream(id, body, out, &mut sent)?;
+        }
+        Ok(sent)
+    }
+
+    /// The first stream with something to send, where there is room for a frame of it behind so many bytes of a payload.
+    fn next_stream(&self, used: usize) -> Option<StreamId>
+        requires { used ≤ frame_room self.now.end }
+        ensures id { result ≡ next_behind self.now.end used }
+        ensures half { IfSome result (λ id. IsSome (at self.now.end.sending.halves id)) }
+        ensures room { IsSome result → least_stream_room ≤ frame_room self.now.end - used }
+    {
+        if self.frame_room() - used < LEAST_STREAM_ROOM {
+            return None;
+        }
+        self.pending()
+    }
+
+    /// Appends the next frame of a stream behind the frames of the packet whose payload begins at `body`, and notes what it
+    /// carries; there is room for the whole payload. An error is want of memory, and nothing has changed.
+    fn put_stream(
+        &mut self,
+        id: StreamId,
+        body: usize,
+        out: &mut Vec<u8>,
+        sent: &mut StreamMetas,
+    ) -> Result<(), AllocError>
+        requires body { body ≤ vec_len out.old }
+        requires some { vec_len out.old + least_stream_room ≤ body + frame_room self.old.end }
+        requires room { body + frame_room self.old.end ≤ vec_capacity out.old }
+        requires half { IsSome (at self.old.end.sending.halves id) }
+        ensures items { OnOk result (out.new.items ≡ out.old.items ++ stream_bytes id self.old.end (vec_len out.old - body)) }
+        ensures grows { OnOk result (vec_len out.old < vec_len out.new) }
+        ensures within { vec_len out.new ≤ body + frame_room self.old.end }
+        ensures capacity { vec_capacity out.old ≤ vec_capacity out.new }
+        ensures end { OnOk result (self.new ≡ with_end self.old (end_after_stream id self.old.end (vec_len out.old - body))) }
+        ensures streams { OnOk result (sent.new.items ≡ sent.old.items ++ stream_metas id self.old.end (vec_len out.old - body)) }
+        ensures nothing { OnErr result ((out.new ≡ out.old) × (self.new ≡ self.old)) }
+    {
+        sent.reserve(1)?;
+        let used = out.len() - body;
+        let room = self.frame_room() - used - (1 + varint_size(id.into()));
+        if let Some(frame) = self.sending.put_frame(id, room, out) {
+            sent.push_reserved(frame);
+        }
+        Ok(())
+    }
+
+    /// How many bytes are left for frames in the next datagram.
+    fn frame_room(&self) -> usize
+        ensures room { result ≡ frame_room self.now.end }
+        ensures some { 1159 ≤ result }
+        ensures whole { 1 + length self.now.end.ids.active.id + (truncated self.now.end.numbers.next (cut_against self.now.end.numbers)).width + result + 16 ≡ 1200 }
+    {
+        let header = 1 + self.ids.destination().len() + self.numbers.packet_number().len();
+        CURRENT_MTU - (header + TAG_LEN)
+    }
+
+    /// Appends the header of the next datagram, for which there is room: how many bytes its number takes.
+    fn put_header(&self, out: &mut Vec<u8>) -> usize
+        requires { vec_len out.old + 25 ≤ vec_capacity out.old }
+        ensures items { out.new.items ≡ out.old.items ++ header_bytes self.now.end.ids.active.id (truncated self.now.end.numbers.next (cut_against self.now.end.numbers)) }
+        ensures width { result ≡ (truncated self.now.end.numbers.next (cut_against self.now.end.numbers)).width }
+        ensures four { result ≤ 4 }
+        ensures short { 1 + length self.now.end.ids.active.id + result ≤ 25 }
+        ensures len { vec_len out.new ≡ vec_len out.old + (1 + length self.now.end.ids.active.id + result) }
+        ensures capacity { vec_capacity out.old ≤ vec_capacity out.new }
+    {
+        let header = ShortHeader {
+            destination: self.ids.destination(),
+            number: self.numbers.packet_number(),
+        };
+        header.put(out);
+        header.number.len()
+    }
+
+    /// Seals the packet that stands behind the first bytes.
+    fn seal(&self, start: usize, out: &mut Vec<u8>)
+        requires start { start + 1 + length self.now.end.ids.active.id + 4 ≤ vec_len out.old }
+        requires room { vec_len out.old + 16 ≤ vec_capacity out.old }
+        requires number { can_number self.now.end.numbers ≡ true }
+        ensures items { out.new.items ≡ take start out.old.items ++ protected (H.protection self.now.keys.header.local) (K.aead self.now.keys.packet.local) (length self.now.end.ids.active.id + 1) self.now.end.numbers.next (drop start out.old.items) }
+        ensures len { vec_len out.new ≡ vec_len out.old + 16 }
+    {
+        let number_at = self.ids.destination().len() + 1;
+        seal_reserved(
+            out,
+            start,
+            number_at,
+            self.numbers.next(),
+            &self.keys.header.local,
+            &self.keys.packet.local,
+        );
+    }
+
+    /// The next number is given.
+    fn count_given(&mut self)
+        requires { can_number self.old.end.numbers ≡ true }
+        ensures { self.new ≡ with_end self.old (with_numbers self.old.end (number_given self.old.end.numbers)) }
+    {
+        self.numbers.give();
+    }
+}
+
+/// Appends a PING frame, for which there is room.
+fn put_ping(out: &mut Vec<u8>)
+    requires { vec_len out.old + 1 ≤ vec_capacity out.old }
+    ensures items { out.new.items ≡ out.old.items ++ spelling ping }
+    ensures len { vec_len out.new ≡ vec_len out.old + 1 }
+    ensures capacity { vec_capacity out.old ≤ vec_capacity out.new }
+{
+    let _: Option<(Stream<'_>, Ack<'_>)> = None;
+    put_frame(out, &Frame::Ping);
+}
+
+/// Pads the payload that begins there, so that it has four bytes with its number (RFC 9001, section 5.4.2).
+fn pad(out: &mut Vec<u8>, width: usize, body: usize)
+    requires width { width ≤ 4 }
+    requires body { body ≤ vec_len out.old }
+    requires room { vec_len out.old + (4 - (width + (vec_len out.old - body))) ≤ vec_capacity out.old }
+    ensures items { out.new.items ≡ out.old.items ++ replicate (4 - (width + (vec_len out.old - body))) 0 }
+    ensures len { vec_len out.new ≡ vec_len out.old + (4 - (width + (vec_len out.old - body))) }
+    ensures capacity { vec_capacity out.old ≤ vec_capacity out.new }
+{
+    let zeros = 4usize.saturating_sub(width + (out.len() - body));
+    append_zeros(out, zeros);
+}

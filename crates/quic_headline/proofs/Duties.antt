@@ -1,0 +1,3 @@
+-- What has to arrive: it waits, is under way, or came.
+pub mod UnderWay
+pub mod Ledger

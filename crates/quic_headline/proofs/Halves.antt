@@ -1,0 +1,19 @@
+-- The halves of streams: what was written stands in those that send, what came stands in those that receive.
+pub mod Frames
+pub mod Writes
+pub mod Sends
+pub mod Writer
+pub mod Opened
+pub mod Quiet
+pub mod Next
+pub mod NextRuns
+pub mod Reading
+pub mod ReadStep
+pub mod Taking
+pub mod Passing
+pub mod Reader
+pub mod Losing
+pub mod Finishing
+pub mod AckedSteps
+pub mod Arriving
+pub mod Telling

@@ -1,0 +1,5 @@
+pub mod Packets
+pub mod Halves
+pub mod Duties
+pub mod Timers
+pub mod Places

@@ -1,0 +1,138 @@
+-- What calls but a delivery leave of the tracked packets: each was given, and carries what its frames say.
+use Rattle.std.proofs.Common.{◌≡◌, ℕ, ◌+◌, ◌-◌, Bool, true, false, List, [], ◌∷◌, ◌++◌, length, replicate, zero, suc, Some, refl, sym, ap, ◌∙◌, subst, ◌⊎◌, inl, inr}
+use Rattle.std.specs.Prelude.{slice_get}
+use Rattle.std.specs.Ordering.{nat_cmp, match_ordering}
+use Rattle.std.specs.declared.cmp.Ordering.{Ordering}
+use Rattle.std.specs.declared.cmp.Ordering.TheVariants.{Less, Equal, Greater}
+use Rattle.std.proofs.lemmas.Cmp.{ranked}
+use Rattle.quic_wire.specs.Value.{FrameValue, ack, padding, stream}
+use Rattle.quic_packet.specs.Number.{truncated}
+use Rattle.quic_send_buffer.specs.declared.stream_meta.StreamMeta.{StreamMeta}
+use Rattle.quic_machine.specs.Numbers.{Numbers, cut_against}
+use Rattle.quic_machine.specs.declared.run.Call.{Call}
+use Rattle.quic_machine.specs.declared.run.Call.TheVariants as calls
+use Rattle.quic_machine.specs.declared.run.Answer.{Answer}
+use Rattle.quic_machine.specs.declared.run.Answer.TheVariants as answers
+use Rattle.quic_machine.specs.Policy.{Policy}
+use Rattle.quic_streams.specs.Table.{Table, added}
+use Rattle.quic_machine.specs.Tracking.{Tracking, TrackedPacket, acked_in, streams_in, carried_in}
+use Rattle.quic_streams.specs.Frames.{meta_of}
+use Rattle.quic_machine.specs.End.{End}
+use Rattle.quic_machine.specs.Poll.{Polled, Draft, composed, asking, tracked_if, after_given, polled}
+use Rattle.quic_machine.specs.Machine.{IsAnswer, after_call, fails, gave}
+use Rattle.quic_headline.specs.Runs.{In}
+use Rattle.quic_headline.proofs.Places.Invariant.{Sent, AreTracked}
+use Rattle.quic_headline.proofs.Packets.Growth.{get_front}
+use Rattle.quic_machine.specs.PollCases.{at_moment, ready_at, frames_padded, frames_at, by_poll_to, composes}
+use Rattle.quic_headline.proofs.Halves.Sends.{sent_if}
+use Rattle.quic_machine.specs.LeaveCases.{by_expired}
+use Rattle.quic_machine.specs.CallCases.{is_delivery, is_poll, by_plain_call}
+use Rattle.quic_headline.proofs.Halves.Writer.{sents_by, poll_answer}
+
+-- ---- tables of packets
+
+-- what stands behind others stands at their count
+pub get_last : {X : Type 0} (xs : List X) (y : X) → slice_get (xs ++ y ∷ []) (length xs) ≡ Some y
+get_last [] y = refl
+get_last (x ∷ xs) y = get_last xs y
+
+-- what stands in a table to which a value was added was there before, or is that value
+in_added : (es : Table TrackedPacket) (id : ℕ) (v : TrackedPacket) (x : ℕ × TrackedPacket) → In x (added es id v) → In x es ⊎ (x ≡ (id, v))
+in_added [] id v x (inl is) = inr is
+in_added [] id v x (inr i) = absurd i
+in_added (e ∷ es) id v x i = go (nat_cmp id e.0) refl i (in_added es id v x)
+  where
+    go : (r : Ordering) → nat_cmp id e.0 ≡ r → In x (match_ordering r ((id, v) ∷ e ∷ es) ((e.0, v) ∷ es) (e ∷ added es id v)) → (In x (added es id v) → In x es ⊎ (x ≡ (id, v))) → In x (e ∷ es) ⊎ (x ≡ (id, v))
+    go Less is (inl here) later = inr here
+    go Less is (inr more) later = inl more
+    go Equal is (inl here) later = (let same : id ≡ e.0 = ranked id e.0 Equal (sym is) in inr (here ∙ ap (λ (n : ℕ). (n, v)) (sym same)))
+    go Equal is (inr more) later = inl (inr more)
+    go Greater is (inl here) later = inl (inl here)
+    go Greater is (inr more) later = elim (later more) [ inl old ↦ inl (inr old) | inr new ↦ inr new ]
+
+-- PADDING names no number
+acked_padded : (fs : List FrameValue) (count : ℕ) → acked_in (fs ++ replicate count padding) ≡ acked_in fs
+acked_padded [] zero = refl
+acked_padded [] (suc count) = acked_padded [] count
+acked_padded (ack a ∷ fs) count = refl
+acked_padded (f ∷ fs) count = acked_padded fs count
+
+-- nor has it bytes of streams
+streams_padded : (fs : List FrameValue) (count : ℕ) → streams_in (fs ++ replicate count padding) ≡ streams_in fs
+streams_padded [] zero = refl
+streams_padded [] (suc count) = streams_padded [] count
+streams_padded (stream f ∷ fs) count = ap (λ (ms : List StreamMeta). meta_of f ∷ ms) (streams_padded fs count)
+streams_padded (f ∷ fs) count = streams_padded fs count
+
+-- a datagram carries what its frames do before they are padded
+pub carried_padded : (fs : List FrameValue) (count : ℕ) → carried_in fs ≡ carried_in (fs ++ replicate count padding)
+carried_padded fs count = rw (acked_padded fs count, streams_padded fs count) refl
+
+-- ---- calls
+
+-- what is tracked was given, whatever is given behind it
+pub tracked_more : (sents more : List Sent) (packets : Table TrackedPacket) → AreTracked sents packets → AreTracked (sents ++ more) packets
+tracked_more sents more packets i n t is = let s = i n t is in (s.0, get_front sents more n s.0 s.1, s.2)
+
+-- a datagram that goes is tracked as it was given
+tracked_given : (b : Bool) (d : Draft) (sents : List Sent) (reference : ℕ) → d.end.numbers.next ≡ length sents → AreTracked sents d.end.tracking.packets → AreTracked (sents ++ (reference, frames_padded d) ∷ []) (tracked_if b d).tracking.packets
+tracked_given false d sents reference next i n t is = tracked_more sents ((reference, frames_padded d) ∷ []) d.end.tracking.packets i n t is
+tracked_given true d sents reference next i n t is = elim (in_added d.end.tracking.packets d.end.numbers.next packet (n, t) is) [
+  | inl old ↦ tracked_more sents ((reference, frames_padded d) ∷ []) d.end.tracking.packets i n t old
+  | inr new ↦ (
+      let number : n ≡ length sents = ap (λ (x : ℕ × TrackedPacket). x.0) new ∙ next in
+      let carried : t.carried ≡ carried_in d.frames = ap (λ (x : ℕ × TrackedPacket). x.1.carried) new in (
+        (reference, frames_padded d),
+        ap (λ (k : ℕ). slice_get (sents ++ (reference, frames_padded d) ∷ []) k) number ∙ get_last sents (reference, frames_padded d),
+        carried ∙ carried_padded d.frames (4 - ((truncated d.end.numbers.next (cut_against d.end.numbers)).width + length d.bytes)),
+      ))
+]
+  where
+    packet : TrackedPacket
+    packet = record { generation = d.end.path.generation; time_sent = d.end.closing.clock; carried = carried_in d.frames }
+
+-- after a poll
+tracked_polled : (p : Policy) (e : End) (now : ℕ) (sents : List Sent) (reference : ℕ) → e.numbers.next ≡ length sents → AreTracked sents e.tracking.packets
+    → AreTracked (sents ++ sent_if (gave (answers.Poll (polled p e now).answer)) reference (frames_at e now)) (polled p e now).end.tracking.packets
+tracked_polled p e now sents reference next i =
+    by_poll_to p e now (λ (q : Polled). AreTracked (sents ++ sent_if (gave (answers.Poll q.answer)) reference (frames_at e now)) q.end.tracking.packets) (record {
+      silent = tracked_more sents [] e.tracking.packets i;
+      failed = tracked_more sents [] e.tracking.packets i;
+      idle = λ pings. tracked_more sents [] e.tracking.packets i;
+      used_up = λ pings. tracked_more sents [] e.tracking.packets i;
+      gives = λ pings is may some ready. gives pings ready;
+    })
+  where
+    gives : (pings : Bool) → ready_at e now ≡ at_moment e now pings → AreTracked (sents ++ (reference, frames_at e now) ∷ []) (after_given (composed (at_moment e now pings))).tracking.packets
+    gives pings ready =
+        let before : End = at_moment e now pings in
+        let d : Draft = composed before in
+        let same = composes before in
+        let numbers : d.end.numbers.next ≡ length sents = ap (λ (x : Numbers). x.next) same.numbers ∙ next in
+        let packets : AreTracked sents d.end.tracking.packets = subst (λ (x : Tracking). AreTracked sents x.packets) (sym same.tracking) i in
+        let frames : frames_padded d ≡ frames_at e now = ap (λ (x : End). frames_padded (composed x)) (sym ready) in
+        subst (λ (fs : List FrameValue). AreTracked (sents ++ (reference, fs) ∷ []) (tracked_if (asking d.frames) d).tracking.packets) frames (tracked_given (asking d.frames) d sents reference numbers packets)
+
+-- a call that is neither a delivery nor a poll leaves the tracked packets
+packets_step : (p : Policy) (e : End) (theirs : List (List ℕ)) (call : Call) (a : Answer) → is_delivery call ≡ false → is_poll call ≡ false → (after_call p e theirs call a).tracking.packets ≡ e.tracking.packets
+packets_step p e theirs call a other silent = by_plain_call p e theirs (λ (f : End). f.tracking.packets ≡ e.tracking.packets) call a (record {
+  streams = λ s r. refl;
+  waits = λ w. refl;
+  heard = λ path same. refl;
+  times = λ now acks loss is. by_expired e now (λ (f : End). f.tracking.packets ≡ e.tracking.packets) (λ pending tracking timers runs packets. packets) acks loss;
+  polls = λ now is. cc;
+  hears = λ now d is. cc;
+  tells = λ told events. refl;
+})
+
+-- another call than a poll gives nothing that is tracked
+tracked_other : (p : Policy) (e : End) (theirs : List (List ℕ)) (call : Call) (a : Answer) (sents more : List Sent) → is_delivery call ≡ false → is_poll call ≡ false → AreTracked sents e.tracking.packets → AreTracked (sents ++ more) (after_call p e theirs call a).tracking.packets
+tracked_other p e theirs call a sents more other silent i =
+    tracked_more sents more (after_call p e theirs call a).tracking.packets (subst (λ (packets : Table TrackedPacket). AreTracked sents packets) (sym (packets_step p e theirs call a other silent)) i)
+
+-- after a call that is no delivery
+pub tracked_step : (p : Policy) (e : End) (theirs : List (List ℕ)) (call : Call) (a : Answer) (sents : List Sent) (reference : ℕ) → is_delivery call ≡ false → IsAnswer p e theirs call a → fails a ≡ false → e.numbers.next ≡ length sents
+    → AreTracked sents e.tracking.packets → AreTracked (sents ++ sents_by e call a reference) (after_call p e theirs call a).tracking.packets
+tracked_step p e theirs (calls.Poll now) a sents reference other is served next i =
+    subst (λ (x : Answer). AreTracked (sents ++ sent_if (gave x) reference (frames_at e now)) (polled p e now).end.tracking.packets) (sym (poll_answer p e now a is served)) (tracked_polled p e now sents reference next i)
+tracked_step p e theirs call a sents reference other is served next i = tracked_other p e theirs call a sents (sents_by e call a reference) other refl i

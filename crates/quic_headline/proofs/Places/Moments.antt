@@ -1,0 +1,85 @@
+-- What every step keeps holds at each place of a run.
+use Rattle.std.proofs.Common.{◌≡◌, ℕ, zero, suc, List, [], ◌∷◌, ◌++◌, take, drop, Bool, true, false, ◌||◌, refl, sym, ap, ◌∙◌}
+use Rattle.std.specs.List.{list_any}
+use Rattle.std.proofs.lemmas.List.{append_assoc, append-nil}
+use Rattle.quic_wire_core.specs.declared.stream_id.Side.{Side}
+use Rattle.quic_wire_core.specs.declared.stream_id.Side.TheVariants.{Client, Server}
+use Rattle.quic_machine.specs.declared.run.RunEvent.{RunEvent}
+use Rattle.quic_machine.specs.declared.run.Answer.{Answer}
+use Rattle.quic_machine.specs.declared.run.View.{View}
+use Rattle.quic_machine.specs.Machine.{World, Policies, IsStep, end_at, changed, gives, policy_at, fails, Follows}
+use Rattle.quic_headline.specs.Runs.{Told, told_by, told_at}
+
+-- what both ends gave, the first of all that they give
+pub record Grown (w end : World) : Type 0 where
+  pub client : (rest : List (List ℕ)) × (w.from_client ++ rest ≡ end.from_client)
+  pub server : (rest : List (List ℕ)) × (w.from_server ++ rest ≡ end.from_server)
+
+grown_same : (w end : World) → end ≡ w → Grown w end
+grown_same w end is = record { client = ([], append-nil w.from_client ∙ sym (ap (λ t. t.from_client) is)); server = ([], append-nil w.from_server ∙ sym (ap (λ t. t.from_server) is)) }
+
+grown_by : (side : Side) (w next end : World) (ds : List (List ℕ)) → next ≡ changed side w (end_at side next) ds → Grown next end → Grown w end
+grown_by Client w next end ds is g = record {
+  client = (ds ++ g.client.0, sym (append_assoc w.from_client ds g.client.0) ∙ ap (λ t. t ++ g.client.0) (sym (ap (λ t. t.from_client) is)) ∙ g.client.1);
+  server = (g.server.0, ap (λ t. t ++ g.server.0) (sym (ap (λ t. t.from_server) is)) ∙ g.server.1);
+}
+grown_by Server w next end ds is g = record {
+  client = (g.client.0, ap (λ t. t ++ g.client.0) (sym (ap (λ t. t.from_client) is)) ∙ g.client.1);
+  server = (ds ++ g.server.0, sym (append_assoc w.from_server ds g.server.0) ∙ ap (λ t. t ++ g.server.0) (sym (ap (λ t. t.from_server) is)) ∙ g.server.1);
+}
+
+-- what was given before stays given
+pub grown : (k : Policies) (w : World) (events : List RunEvent) (answers : List Answer) (views : List View) (end : World) → Follows k w events answers views end → Grown w end
+grown k w [] [] [] end f = grown_same w end f
+grown k w (e ∷ events) [] [] end f = grown_same w end f
+grown k w [] [] (v ∷ views) end f = absurd f
+grown k w (e ∷ events) [] (v ∷ views) end f = absurd f
+grown k w [] (a ∷ answers) views end f = absurd f
+grown k w (e ∷ events) (a ∷ answers) [] end f = absurd f
+grown k w (e ∷ events) (a ∷ answers) (v ∷ views) end f =
+    grown_by e.side w f.0 end (gives (policy_at e.side k) (end_at e.side w) e.call a) f.1.others (grown k f.0 events answers views end f.3)
+
+served_first : (a b : Bool) → (a || b) ≡ false → a ≡ false
+served_first true b q = q
+served_first false b q = refl
+
+served_rest : (a b : Bool) → (a || b) ≡ false → b ≡ false
+served_rest true b q = cc
+served_rest false b q = q
+
+told_none : (side : Side) (events : List RunEvent) (views : List View) (state : _) → told_at side state events [] views ≡ []
+told_none side [] views state = refl
+told_none side (e ∷ events) views state = refl
+
+module _ (k : Policies) (end : World) (P : World → List Told → List Told → Type 0)
+    (step : (w next : World) (event : RunEvent) (a : Answer) (client server : List Told) → P w client server → IsStep k w event a next → fails a ≡ false → Grown w end
+    → P next (client ++ told_by Client w.client.closing.state event a) (server ++ told_by Server w.server.closing.state event a)) where
+  -- the ends at a place, and how the run goes on from there
+  pub record Moment (client server : List Told) (events : List RunEvent) (answers : List Answer) (views : List View) : Type 0 where
+    pub world : World
+    pub holds : P world client server
+    pub goes_on : Follows k world events answers views end
+
+  pub moment : (i : ℕ) (w : World) (events : List RunEvent) (answers : List Answer) (views : List View) (client server : List Told) → P w client server → Follows k w events answers views end → list_any fails (take i answers) ≡ false
+      → Moment (client ++ told_at Client w.client.closing.state events (take i answers) views) (server ++ told_at Server w.server.closing.state events (take i answers) views) (drop i events) (drop i answers) (drop i views)
+  moment zero w events answers views client server h f q = record {
+    world = w;
+    holds = rw (told_none Client events views w.client.closing.state, told_none Server events views w.server.closing.state, append-nil client, append-nil server) h;
+    goes_on = f;
+  }
+  moment (suc i) w [] [] [] client server h f q = record { world = w; holds = rw (append-nil client, append-nil server) h; goes_on = f }
+  moment (suc i) w (e ∷ events) [] [] client server h f q = record { world = w; holds = rw (append-nil client, append-nil server) h; goes_on = f }
+  moment (suc i) w [] [] (v ∷ views) client server h f q = absurd f
+  moment (suc i) w (e ∷ events) [] (v ∷ views) client server h f q = absurd f
+  moment (suc i) w [] (a ∷ answers) views client server h f q = absurd f
+  moment (suc i) w (e ∷ events) (a ∷ answers) [] client server h f q = absurd f
+  moment (suc i) w (e ∷ events) (a ∷ answers) (v ∷ views) client server h f q =
+      let next = f.0 in
+      let behind = grown_by e.side w next end (gives (policy_at e.side k) (end_at e.side w) e.call a) f.1.others (grown k next events answers views end f.3) in
+      let holds = step w next e a client server h f.1 (served_first (fails a) _ q) behind in
+      let m = moment i next events answers views _ _ holds f.3 (served_rest (fails a) _ q) in
+      record {
+        world = m.world;
+        holds = rw (f.2, ← append_assoc client (told_by Client w.client.closing.state e a) _, ← append_assoc server (told_by Server w.server.closing.state e a) _) m.holds;
+        goes_on = m.goes_on;
+      }

@@ -1,0 +1,4 @@
+-- The timers of losses and of acknowledgements.
+pub mod BothEnds
+pub mod LossTimers
+pub mod AckTimers

@@ -1,0 +1,4 @@
+pub mod Runs
+pub mod Headline
+pub mod Duties
+pub mod InFlight

@@ -1,0 +1,106 @@
+//! What every run of two honest ends keeps. Each function does nothing: its contract is the law, of every run of the
+//! reference machine whose ends, keys and applications meet the premises.
+ghost use Rattle.std.specs.Prelude.{List};
+ghost use Rattle.quic_machine.specs.declared.run.RunEvent.{RunEvent};
+ghost use Rattle.quic_machine.specs.declared.run.Answer.{Answer};
+ghost use Rattle.quic_machine.specs.declared.run.View.{View};
+ghost use Rattle.quic_machine.specs.Machine.{World, Policies, Follows};
+ghost use Rattle.quic_headline.specs.Runs.{Run};
+ghost use Rattle.quic_headline.specs.Duties.{DutiesStand};
+ghost use Rattle.quic_headline.specs.InFlight.{TracksInFlight};
+ghost use Rattle.quic_machine.specs.Start.{AreStarted};
+ghost use Rattle.quic_headline.specs.Headline.{IsHonest, IsRun, OrderedPrefix, Slices, Once, EndAfterAll, BlockedOnlyWithoutBytes, AcceptsAll, FinishedMeansArrived, TellsOnce, AcknowledgedWereTaken, NamesWereTaken, OpensExactly, LossTimersFollow, AckTimersFollow, NumbersRise};
+
+/// The bytes read of a stream at one end are a prefix of those written on it at the other (RFC 9000, section 2.2).
+pub fn ordered_prefix()
+    ensures { (r : Run) (end : World) → IsHonest r → IsRun r end → OrderedPrefix r }
+{}
+
+/// Each chunk that is read is a slice of what was written, at its offset.
+pub fn slices()
+    ensures { (r : Run) (end : World) → IsHonest r → IsRun r end → Slices r }
+{}
+
+/// No offset of a stream is read twice.
+pub fn once()
+    ensures { (r : Run) (end : World) → IsHonest r → IsRun r end → Once r }
+{}
+
+/// The end of a stream is told only where the other end finished it, and every byte was read before.
+pub fn end_after_all()
+    ensures { (r : Run) (end : World) → IsHonest r → IsRun r end → EndAfterAll r }
+{}
+
+/// A read is blocked only where neither the next byte nor, with all read, the end has arrived.
+pub fn blocked_only_without_bytes()
+    ensures { (r : Run) (end : World) → IsHonest r → IsRun r end → BlockedOnlyWithoutBytes r }
+{}
+
+/// Nothing is accepted only where every stream of that kind that arrived was accepted.
+pub fn accepts_all()
+    ensures { (r : Run) (end : World) → IsHonest r → IsRun r end → AcceptsAll r }
+{}
+
+/// A stream is told to be finished only where it was ended, and all its bytes and its end are in what the other end took.
+pub fn finished_means_arrived()
+    ensures { (r : Run) (end : World) → IsHonest r → IsRun r end → FinishedMeansArrived r }
+{}
+
+/// Where nothing is left to tell behind the last answer, each stream was told to be finished once if all its bytes and its end
+/// are acknowledged, and never otherwise.
+pub fn told_once()
+    ensures { (r : Run) (end : World) → IsHonest r → IsRun r end → TellsOnce r end }
+{}
+
+/// An ACK frame that came names only packets that its end had taken whole (RFC 9000, section 13.1).
+pub fn acknowledged_were_taken()
+    ensures { (r : Run) (end : World) → IsHonest r → IsRun r end → AcknowledgedWereTaken r }
+{}
+
+/// An ACK frame in a datagram that was given names only packets that its giver had taken whole
+/// before (RFC 9000, section 13.1).
+pub fn names_were_taken()
+    ensures { (r : Run) (end : World) → IsHonest r → IsRun r end → NamesWereTaken r }
+{}
+
+/// An injection is answered `Opens` exactly where its bytes open by the run's lists: with the keys of
+/// its end, under an id that the end began with, and where one above the greatest number that it took
+/// is expected (RFC 9000, section 12.2). So it is at an end in any state.
+pub fn opens_exactly()
+    ensures { (r : Run) (end : World) → IsHonest r → IsRun r end → OpensExactly r }
+{}
+
+/// At an open end the loss timer is set exactly while a datagram that asks is waited for (RFC 9002, section 6.2.1), in
+/// each run that began so, and new ends begin so. It wants no premise, and holds where memory lacks too.
+pub fn loss_timers_follow()
+    ensures runs { (k : Policies) (w end : World) (events : List RunEvent) (answers : List Answer) (views : List View) → Follows k w events answers views end → LossTimersFollow w → LossTimersFollow end }
+    ensures starts { (w : World) → AreStarted w → LossTimersFollow w }
+{}
+
+/// At an open end the timer of acknowledgements is set only where a packet that asks came since the last acknowledgement went
+/// (RFC 9000, section 13.2.1), in each run that began so, and new ends begin so. It wants no premise, and holds where memory
+/// lacks too.
+pub fn ack_timers_follow()
+    ensures runs { (k : Policies) (w end : World) (events : List RunEvent) (answers : List Answer) (views : List View) → Follows k w events answers views end → AckTimersFollow w → AckTimersFollow end }
+    ensures starts { (w : World) → AreStarted w → AckTimersFollow w }
+{}
+
+/// Behind the last answer each offset that was written on a stream waits to go, and then its end has something to send; or
+/// it stands in a datagram that is neither acknowledged nor lost yet; or it arrived. So does the end of each stream that was
+/// finished (RFC 9000, section 13.3).
+pub fn duties_stand()
+    ensures { (r : Run) (end : World) → IsHonest r → IsRun r end → DutiesStand r end }
+{}
+
+/// An end that is open behind the last answer waits for exactly the datagrams that are in flight: those that an observer of
+/// the run's lists counts as given, asking for an acknowledgement, and neither acknowledged nor lost (RFC 9002, sections 2
+/// and 6.1.1).
+pub fn tracks_in_flight()
+    ensures { (r : Run) (end : World) → IsHonest r → IsRun r end → TracksInFlight r end }
+{}
+
+/// Each datagram given is the datagram of a number, the peer's id and stated frames, and its number is above all before
+/// (RFC 9000, section 12.3).
+pub fn numbers_rise()
+    ensures { (r : Run) (end : World) → IsHonest r → IsRun r end → NumbersRise r }
+{}

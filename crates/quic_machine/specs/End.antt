@@ -1,0 +1,168 @@
+-- One end of a connection (RFC 9000, section 5): a record of parts, one for each concern, and beside it the keys and the random source.
+use Rattle.std.specs.Prelude.{◌≡◌, ℕ, Bool, ◌==◌, ◌||◌, not, if◌then◌else◌, List, [], length, false, Option, Some, None, Result, Ok, Err}
+use Rattle.quic_wire_core.specs.declared.stream_id.Side.{Side}
+use Rattle.quic_packet.specs.Keys.{Protection, Aead}
+use Rattle.quic_packet.specs.declared.crypto.Keys.{Keys}
+use Rattle.quic_parameters.specs.Parameters.{ParameterValues}
+use Rattle.quic_parameters.specs.ParametersRead.{parameters_at}
+use Rattle.quic_machine.specs.declared.answers.State.TheVariants as states
+use Rattle.quic_machine.specs.declared.answers.ConfigError.{ConfigError}
+use Rattle.quic_machine.specs.declared.answers.ConfigError.TheVariants as config_errors
+use Rattle.quic_config.specs.Transport.{Settings}
+use Rattle.quic_recovery_core.specs.PendingAcks.{Pending}
+use Rattle.quic_time.specs.Timers.{Timers, no_timers}
+use Rattle.quic_machine.specs.declared.answers.LostReason.{LostReason}
+use Rattle.quic_machine.specs.Closing.{Closing, closed_for}
+use Rattle.quic_machine.specs.Acknowledging.{nothing_to_acknowledge, with_ack_timer}
+use Rattle.quic_machine.specs.Ids.{Ids, first_ids}
+use Rattle.quic_machine.specs.Numbers.{Numbers, no_numbers}
+use Rattle.quic_machine.specs.Tracking.{Tracking, nothing_tracked, loss_moment}
+use Rattle.quic_streams.specs.declared.answers.StreamEvent.{StreamEvent}
+use Rattle.quic_machine.specs.Parts.{Path, first_path, Messages, no_messages, Waiting, nothing_waits}
+use Rattle.quic_streams.specs.Sending.{Sending}
+use Rattle.quic_streams.specs.Receiving.{Receiving}
+use Rattle.quic_machine.specs.Policy.{Policy, keys_policy}
+
+-- one end of a connection
+pub record End : Type 0 where
+  pub side : Side
+  -- its clock, and whether it is open (section 10)
+  pub closing : Closing
+  -- connection ids (section 5.1), packet numbers (section 12.3), and what is to be acknowledged (section 13.2)
+  pub ids : Ids
+  pub numbers : Numbers
+  pub acknowledging : Pending
+  -- when timers expire, and the datagrams in flight (RFC 9002, sections 2 and 6)
+  pub timers : Timers
+  pub tracking : Tracking
+  -- the path to the peer (section 8)
+  pub path : Path
+  -- the halves of streams (sections 3.1 and 3.2)
+  pub sending : Sending
+  pub receiving : Receiving
+  -- messages (RFC 9221), and frames of control that wait to go (section 13.3)
+  pub messages : Messages
+  pub waiting : Waiting
+  -- what the application is to be told of streams, in its order
+  pub events : List StreamEvent
+
+-- an end with its keys and its random source
+pub record ConnectionValue (H K R : Type 0) : Type 0 where
+  pub keys : Keys H K
+  pub random : R
+  pub end : End
+
+-- the same keys and random source, and another end
+abbrev pub with_end : {H K R : Type 0} → ConnectionValue H K R → End → ConnectionValue H K R
+with_end w e = record w { end = e }
+
+-- what the keys of an end do: it protects with the local ones, and opens with the remote ones
+abbrev pub policy_of : {H K R : Type 0} → (H → Protection) → (K → Aead) → ConnectionValue H K R → Policy
+policy_of protection aead w = keys_policy protection aead w.keys
+
+-- nothing was sent yet: the peer's parameters are the limits
+abbrev pub first_sending : Settings → ParameterValues → Sending
+first_sending settings theirs = record {
+  halves = [];
+  opened_bi = 0;
+  opened_uni = 0;
+  count_bi = theirs.initial_max_streams_bidi;
+  count_uni = theirs.initial_max_streams_uni;
+  accepted = 0;
+  limit = theirs.initial_max_data;
+  window = settings.send_window;
+  first_limit_bi = theirs.initial_max_stream_data_bidi_remote;
+  first_limit_uni = theirs.initial_max_stream_data_uni;
+}
+
+-- nothing has come yet: the own settings are the limits
+abbrev pub first_receiving : Settings → Receiving
+first_receiving settings = record {
+  halves = [];
+  opened_bi = 0;
+  opened_uni = 0;
+  accepted_bi = 0;
+  accepted_uni = 0;
+  count_bi = settings.max_bidi;
+  count_uni = settings.max_uni;
+  seen = 0;
+  limit = settings.receive_window;
+  stream_limit = settings.stream_receive_window;
+}
+
+-- an end as it is made at a moment
+abbrev pub new_end : Side → Settings → ParameterValues → List ℕ → List ℕ → ℕ → Bool → End
+new_end side settings theirs own_id peer_id now validated = record {
+  side = side;
+  closing = record { clock = now; state = states.Open; reason = None; told = false };
+  ids = first_ids own_id peer_id;
+  numbers = no_numbers;
+  acknowledging = nothing_to_acknowledge;
+  timers = no_timers;
+  tracking = nothing_tracked;
+  path = first_path validated;
+  sending = first_sending settings theirs;
+  receiving = first_receiving settings;
+  messages = no_messages;
+  waiting = nothing_waits;
+  events = [];
+}
+
+-- the end with another clock, state and reason
+abbrev pub with_closing : End → Closing → End
+with_closing e c = record e { closing = c }
+
+-- the end closes for a reason: none of its timers is set any more
+abbrev pub closed_by : LostReason → End → End
+closed_by reason e = record e { closing = closed_for reason e.closing; timers = no_timers }
+
+-- the end with other packet numbers
+abbrev pub with_numbers : End → Numbers → End
+with_numbers e n = record e { numbers = n }
+
+-- the end with other packets to acknowledge
+abbrev pub with_acknowledging : End → Pending → End
+with_acknowledging e p = record e { acknowledging = p }
+
+-- the end with the timer of acknowledgements set or stopped
+abbrev pub with_ack_timer_at : End → Option ℕ → End
+with_ack_timer_at e moment = record e { timers = with_ack_timer e.timers moment }
+
+-- the end with other tracked packets: the loss timer follows them
+abbrev pub with_tracking : End → Tracking → End
+with_tracking e t = record e { tracking = t; timers = record e.timers { loss_detection = loss_moment t } }
+
+-- the end with other sending halves
+abbrev pub with_sending : End → Sending → End
+with_sending e s = record e { sending = s }
+
+-- the end with other receiving halves
+abbrev pub with_receiving : End → Receiving → End
+with_receiving e r = record e { receiving = r }
+
+-- the end with PING waiting or not
+abbrev pub with_ping : End → Bool → End
+with_ping e waits = record e { waiting = record e.waiting { ping = waits } }
+
+-- an end that met want of memory where a datagram was taken or given: it is failed for good, for no reason, and
+-- keeps its keys and its random source. What else stands in it isn't said
+pub record HasFailed {H K R : Type 0} (old new : ConnectionValue H K R) : Type 0 where
+  pub state : new.end.closing.state ≡ states.Failed
+  pub reason : new.end.closing.reason ≡ None
+  pub keys : new ≡ with_end old new.end
+
+-- ---- making an end
+
+-- why no end is made, want of memory aside, the first in this order: the peer's parameters can't be read; the own id hasn't eight bytes, or the peer's has none
+abbrev pub refusal_of : {E : Type 0} → Result ParameterValues E → List ℕ → List ℕ → Option ConfigError
+refusal_of (Err e) own_id peer_id = Some config_errors.Parameters
+refusal_of (Ok theirs) own_id peer_id = if not (length own_id == 8) || (length peer_id == 0) then Some config_errors.IdLength else None
+
+-- an end is made of what was read of the peer's parameters
+abbrev pub IsMade : {E : Type 0} → Side → Settings → Result ParameterValues E → List ℕ → List ℕ → ℕ → Bool → End → Type 0
+IsMade side settings (Ok theirs) own_id peer_id now validated e = e ≡ new_end side settings theirs own_id peer_id now validated
+IsMade side settings (Err error) own_id peer_id now validated e = ⊥
+
+-- an end is made of the peer's parameters as bytes
+abbrev pub MadeFrom : Side → Settings → List ℕ → List ℕ → List ℕ → ℕ → Bool → End → Type 0
+MadeFrom side settings bytes own_id peer_id now validated e = IsMade side settings (parameters_at bytes) own_id peer_id now validated e

@@ -1,0 +1,187 @@
+-- Each broken run breaks a clause of the headline.
+use Rattle.std.proofs.Common.{◌≡◌, ◌+◌, ◌<◌, ◌≤◌, ℕ, List, [], ◌∷◌, ◌++◌, Some, None, Result, Ok, Err, Bool, true, false, Option, refl, inl, ap, sym, ◌∙◌, subst, arith}
+use Rattle.std.specs.Prelude.{slice_index, ◌==◌, eqb, if◌then◌else◌}
+use Rattle.std.specs.List.{IsDistinct}
+use Rattle.quic_wire_core.specs.declared.stream_id.Side.TheVariants.{Client, Server}
+use Rattle.quic_wire_core.specs.declared.stream_id.Dir.TheVariants.{Bi}
+use Rattle.quic_wire.specs.Value.{ack}
+use Rattle.quic_streams.specs.Table.{at}
+use Rattle.quic_streams.specs.Sending.{SendHalf, is_acked}
+use Rattle.quic_machine.specs.Calls.{end_tells}
+use Rattle.quic_assembler.specs.declared.assembler.Chunk.{Chunk}
+use Rattle.quic_streams.specs.declared.answers.WriteError.{WriteError}
+use Rattle.quic_streams.specs.declared.answers.FinishError.{FinishError}
+use Rattle.quic_streams.specs.declared.answers.FinishError.TheVariants as finish_errors
+use Rattle.quic_machine.specs.declared.answers.Received.{Received}
+use Rattle.quic_machine.specs.declared.answers.Received.TheVariants as receives
+use Rattle.quic_machine.specs.declared.run.ReadCall.{ReadCall}
+use Rattle.quic_headline.specs.Runs.{Told, finishes_told, Packet, Next, In, IsNamed, until, nexts, chunks_of, reads, bytes_of, offsets_of, took, WasTaken, HasArrived}
+use Rattle.quic_headline.specs.Headline.{OrderedPrefix, Slices, Once, EndAfterAll, BlockedOnlyWithoutBytes, AcceptsAll, FinishedMeansArrived, ToldOnce, TellsOnce, AcknowledgedWereTaken, LossTimerFollows, LossTimersFollow, AckTimerFollows, AckTimersFollow, NumbersRise, IsNumbered}
+use Rattle.quic_worked.specs.Acknowledged.{client_acked, server_acked}
+use Rattle.quic_worked.specs.Worked.{NextAnswers, gives_chunk, all_nexts, once_sent, once_taken, worked_policies, server_id, hello, hello_frame, run_with}
+use Rattle.quic_worked.specs.Broken.{answers_with, duplicate, hellp, changed_nexts, repeated_nexts, early_nexts, changed_byte, repeated_bytes, unwritten_byte, early_end, unwritten_end, taken_twice, blocked_read, never_accepted, early_finish, all_told, told_twice, never_told, early_acknowledgement, never_timed, still_timed, empty_datagram, repeated_number}
+use Rattle.quic_worked.proofs.WorkedNumber.{only_number}
+use Rattle.quic_worked.proofs.WorkedRun.{hello_packet, frame_taken}
+
+-- what the nexts of the server answered: those of the read
+nexts_are : (read : ReadCall) (count : Result ℕ WriteError) (done : Result (Unit {0}) FinishError) (first second : Received) (id : Option ℕ) (said : NextAnswers) → read.id ≡ 0
+    → nexts 0 (until (run_with read (answers_with count done first second id said)) Server 8) ≡ said ++ []
+nexts_are read count done first second id said e = ap (λ (n : ℕ). (if n == 0 then said else []) ++ []) e
+
+-- of a run whose deliveries and accept went well
+nexts_of : (read : ReadCall) (count : Result ℕ WriteError) (done : Result (Unit {0}) FinishError) (said : NextAnswers) → read.id ≡ 0
+    → nexts 0 (until (run_with read (answers_with count done receives.Taken duplicate (Some 0) said)) Server 8) ≡ said ++ []
+nexts_of read count done said e = nexts_are read count done receives.Taken duplicate (Some 0) said e
+
+-- ---- ordered reads
+
+pub changed_prefix : (read : ReadCall) → read.id ≡ 0 → OrderedPrefix (run_with read changed_byte) → ⊥
+changed_prefix read e h =
+    let p = h Server 0 8 refl in
+    let whole : hellp ++ p.0 ≡ hello = ap (λ (ns : List Next). bytes_of (chunks_of ns) ++ p.0) (sym (nexts_of read (Ok 5) (Ok tt) changed_nexts e)) ∙ p.1 in
+    let fifth : ◌≡◌ {A = ℕ} 112 111 = ap (λ (xs : List ℕ). slice_index xs 4) whole in
+    omega arith
+
+pub changed_slice : (read : ReadCall) → read.id ≡ 0 → Slices (run_with read changed_byte) → ⊥
+changed_slice read e h =
+    let chunk : Chunk = record { offset = 0; bytes = hellp } in
+    let given : In chunk (reads 0 (until (run_with read changed_byte) Server 8)) = subst (λ (ns : List Next). In chunk (chunks_of ns)) (sym (nexts_of read (Ok 5) (Ok tt) changed_nexts e)) (inl refl) in
+    let slice : hello ≡ hellp = h Server 0 8 chunk refl given in
+    let fifth : ◌≡◌ {A = ℕ} 111 112 = ap (λ (xs : List ℕ). slice_index xs 4) slice in
+    omega arith
+
+pub repeated_prefix : (read : ReadCall) → read.id ≡ 0 → OrderedPrefix (run_with read repeated_bytes) → ⊥
+repeated_prefix read e h =
+    let p = h Server 0 8 refl in
+    let whole : (hello ++ hello) ++ p.0 ≡ hello = ap (λ (ns : List Next). bytes_of (chunks_of ns) ++ p.0) (sym (nexts_of read (Ok 5) (Ok tt) repeated_nexts e)) ∙ p.1 in
+    cc
+
+pub repeated_once : (read : ReadCall) → read.id ≡ 0 → Once (run_with read repeated_bytes) → ⊥
+unfolding IsDistinct
+repeated_once read e h =
+    let distinct : IsDistinct eqb (offsets_of (chunks_of repeated_nexts)) = subst (λ (ns : List Next). IsDistinct eqb (offsets_of (chunks_of ns))) (nexts_of read (Ok 5) (Ok tt) repeated_nexts e) (h Server 0 8 refl) in
+    let again : true ≡ false = distinct.0.1.1.1.1.0 in
+    cc
+
+pub unwritten_prefix : (read : ReadCall) → read.id ≡ 0 → OrderedPrefix (run_with read unwritten_byte) → ⊥
+unwritten_prefix read e h =
+    let p = h Server 0 8 refl in
+    let whole : hello ++ p.0 ≡ 104 ∷ 101 ∷ 108 ∷ 108 ∷ [] = ap (λ (ns : List Next). bytes_of (chunks_of ns) ++ p.0) (sym (nexts_of read (Ok 4) (Ok tt) all_nexts e)) ∙ p.1 in
+    cc
+
+pub early_last : (read : ReadCall) → read.id ≡ 0 → EndAfterAll (run_with read early_end) → ⊥
+early_last read e h =
+    let p = h Server 0 8 [] (Ok None ∷ []) refl (nexts_of read (Ok 5) (Ok tt) early_nexts e) in
+    let none : [] ≡ hello = p.1 in
+    cc
+
+pub unwritten_last : (read : ReadCall) → read.id ≡ 0 → EndAfterAll (run_with read unwritten_end) → ⊥
+unwritten_last read e h =
+    let p = h Server 0 8 (gives_chunk hello ∷ []) [] refl (nexts_of read (Ok 5) (Err finish_errors.ClosedStream) all_nexts e) in
+    let never : false ≡ true = p.0 in
+    cc
+
+-- ---- what came
+
+-- the packet that the server took before it was asked
+took_blocked : (read : ReadCall) → took (run_with read blocked_read) Server 7 ≡ hello_packet ∷ []
+unfolding once_taken
+took_blocked read = refl
+
+first_arrived : (id : ℕ) → id ≡ 0 → HasArrived (hello_packet ∷ []) id 0
+first_arrived id e = record { frame = hello_frame; taken = frame_taken; of_stream = sym e; from = omega arith; below = omega arith }
+
+pub blocked_blocks : (read : ReadCall) → read.id ≡ 0 → BlockedOnlyWithoutBytes (run_with read blocked_read) → ⊥
+blocked_blocks read e h =
+    (h Server 7 read [] [] refl (record { event = refl; answer = refl })).0 (subst (λ (ps : List Packet). HasArrived ps read.id 0) (sym (took_blocked read)) (first_arrived read.id e))
+
+pub took_once : (read : ReadCall) → took (run_with read taken_twice) Server 8 ≡ hello_packet ∷ []
+unfolding once_taken
+took_once read = refl
+
+took_unaccepted : (read : ReadCall) → took (run_with read never_accepted) Server 6 ≡ hello_packet ∷ []
+unfolding once_taken
+took_unaccepted read = refl
+
+pub never_accepts : (read : ReadCall) → AcceptsAll (run_with read never_accepted) → ⊥
+never_accepts read h =
+    let taken : WasTaken (took (run_with read never_accepted) Server 6) hello_frame = subst (λ (ps : List Packet). WasTaken ps hello_frame) (sym (took_unaccepted read)) frame_taken in
+    h Server 6 Bi hello_frame 0 0 refl (record { event = refl; answer = refl }) taken refl (omega arith)
+
+-- the one event of the run tells that the stream ended, of which nothing came
+pub finishes_early : FinishedMeansArrived early_finish → ⊥
+finishes_early h = (h Client 0 0 refl (record { event = refl; answer = refl })).end.taken.was_taken
+
+-- once nothing is left to tell, the client's sending half is wholly acknowledged
+record IsDone : Type 0 where
+  half : SendHalf
+  quiet : end_tells all_told.client ≡ None
+  is : at all_told.client.sending.halves 0 ≡ Some half
+  acked : is_acked half ≡ true
+
+is_done : IsDone
+unfolding client_acked
+is_done = record { half = _; quiet = refl; is = refl; acked = refl }
+
+-- the stream was told to be finished once then
+once_told : (told : List Told) → ToldOnce told all_told.client → finishes_told 0 told ≡ 1
+once_told told h = h is_done.quiet 0 is_done.half is_done.is ∙ ap (λ (b : Bool). if b then 1 else 0) is_done.acked
+
+-- once isn't twice
+pub tells_twice : TellsOnce told_twice all_told → ⊥
+tells_twice h = let twice : ◌≡◌ {A = ℕ} 2 1 = once_told (until told_twice Client 2) (h refl Client) in omega arith
+
+-- nor is it never
+pub tells_never : TellsOnce never_told all_told → ⊥
+tells_never h = let never : ◌≡◌ {A = ℕ} 0 1 = once_told (until never_told Client 1) (h refl Client) in omega arith
+
+-- ---- acknowledgements
+
+-- the one packet that the client took: ACK of number 0
+abbrev ack_packet : Packet
+ack_packet = record { number = 0; frames = ack (record { largest = 0; delay = 3125; ranges = (0, 0) ∷ []; ecn = None }) ∷ [] }
+
+took_ack : took early_acknowledgement Client 1 ≡ ack_packet ∷ []
+unfolding client_acked
+took_ack = refl
+
+-- the server took nothing
+pub acknowledges_early : AcknowledgedWereTaken early_acknowledgement → ⊥
+acknowledges_early h =
+    let named : IsNamed (ack_packet ∷ []) 0 = record { packet = ack_packet; was_taken = inl refl; frame = record { largest = 0; delay = 3125; ranges = (0, 0) ∷ []; ecn = None }; carried = inl refl; named = refl } in
+    (h Client 1 0 refl (subst (λ (ps : List Packet). IsNamed ps 0) (sym took_ack) named)).was_taken
+
+-- ---- timers
+
+-- a datagram that asks is tracked
+waits : LossTimerFollows never_timed.client → ⊥
+unfolding once_sent
+waits i = let clash : ◌≡◌ {A = Bool} false true = i refl in cc
+
+pub never_sets : LossTimersFollow never_timed → ⊥
+never_sets i = waits i.0
+
+-- no packet that asks came since the acknowledgement
+acknowledged : AckTimerFollows still_timed.server → ⊥
+unfolding server_acked
+acknowledged i = let none : 0 < 0 = i refl refl in omega (arith, none)
+
+pub never_stops : AckTimersFollow still_timed → ⊥
+never_stops i = acknowledged i.1
+
+-- ---- numbers
+
+no_number : (number : ℕ) → IsNumbered worked_policies.client 0 number server_id [] → ⊥
+no_number number n = let bytes = n.is.is in cc
+
+pub empty_numbers : (read : ReadCall) → NumbersRise (empty_datagram read) → ⊥
+empty_numbers read h = let p = h Client 4 refl in no_number p.0 p.2
+
+-- 0 isn't above 0
+repeats : (first second : ℕ) → first + 1 ≤ second → second ≡ 0 → ⊥
+repeats first second above e = omega (arith, above, e)
+
+pub repeated_numbers : NumbersRise repeated_number → ⊥
+repeated_numbers h =
+    let p = h Client 2 refl in
+    repeats p.0 p.3.0 p.3.1 (only_number p.3.0 p.3.2)

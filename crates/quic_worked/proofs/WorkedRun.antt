@@ -1,0 +1,195 @@
+-- The worked run, event by event: what each is answered, and what it leaves.
+use Rattle.std.proofs.Common.{◌≡◌, ◌<◌, ℕ, List, [], ◌∷◌, Some, Ok, true, false, refl, inl, subst, sym, lit<, arith}
+use Rattle.quic_wire_core.specs.declared.stream_id.Side.TheVariants.{Client, Server}
+use Rattle.quic_wire.specs.Value.{stream}
+use Rattle.quic_wire.specs.Grammar.{Numbers, Payload}
+use Rattle.quic_parameters.specs.ParametersRead.{entry_at, whole_at, met_after, met_within, met_in, values_met, judged, parameters_at}
+use Rattle.quic_machine.specs.declared.answers.Received.TheVariants as receives
+use Rattle.quic_machine.specs.declared.answers.DropReason.TheVariants as drops
+use Rattle.quic_machine.specs.declared.run.ReadCall.{ReadCall}
+use Rattle.quic_machine.specs.declared.run.Answer.TheVariants as answers
+use Rattle.quic_config.specs.Transport.{default_settings, parameters_of}
+use Rattle.quic_machine.specs.End.{MadeFrom, IsMade}
+use Rattle.quic_machine.specs.Machine.{IsRead, IsStep, Follows, changed, view_of}
+use Rattle.quic_machine.specs.Calls.{after_nexts}
+use Rattle.quic_machine.specs.Lacking.{NextsLack}
+use Rattle.quic_machine.specs.Poll.{IsDatagram}
+use Rattle.quic_headline.specs.Runs.{Packet, took, WasTaken, HasArrived, EndHasArrived}
+use Rattle.quic_worked.specs.Worked.{ReadsBy, two_chunks, worked_parameters, client_id, server_id, client_made, server_made, started, once_opened, once_written, once_ended, once_sent, once_taken, once_accepted, once_read, hello_frame, hello_payload, hello_datagram, opens_stream, writes_hello, finishes_stream, asks_datagram, delivers, accepts_stream, reads_stream, all_nexts, gives_bytes, worked_policies, worked_events, worked_answers, open_view, sent_view, waiting_view, worked_views, worked_run}
+
+pub parameters_say : parameters_at worked_parameters ≡ Ok (parameters_of default_settings)
+unfolding parameters_at judged values_met met_in met_within met_after whole_at entry_at
+parameters_say = refl
+
+pub client_is_made : MadeFrom Client default_settings worked_parameters client_id server_id 0 true
+    client_made
+client_is_made =
+    subst (λ read. IsMade Client default_settings read client_id server_id 0 true client_made)
+    (sym parameters_say) refl
+
+pub server_is_made : MadeFrom Server default_settings worked_parameters server_id client_id 0 true
+    server_made
+server_is_made =
+    subst (λ read. IsMade Server default_settings read server_id client_id 0 true server_made)
+    (sym parameters_say) refl
+
+pub opens : IsStep worked_policies started opens_stream (answers.Open (Ok (Some 0))) once_opened
+opens = record { answer = inl refl; end = refl; others = refl; lacking = tt }
+
+pub writes : IsStep worked_policies once_opened writes_hello (answers.Write (Ok 5)) once_written
+writes = record { answer = inl refl; end = refl; others = refl; lacking = λ lacks. cc }
+
+pub finishes : IsStep worked_policies once_written finishes_stream (answers.Finish (Ok tt)) once_ended
+finishes = record { answer = refl; end = refl; others = refl; lacking = tt }
+
+pub gives : IsStep worked_policies once_ended asks_datagram (gives_bytes 34) once_sent
+unfolding once_sent
+gives = record { answer = inl refl; end = refl; others = refl; lacking = tt }
+
+pub takes : IsStep worked_policies once_sent delivers (answers.Deliver receives.Taken) once_taken
+unfolding once_taken
+takes = record { answer = inl refl; end = refl; others = refl; lacking = tt }
+
+pub drops_duplicate : IsStep worked_policies once_taken delivers
+    (answers.Deliver (receives.Dropped drops.Duplicate)) once_taken
+unfolding once_taken
+drops_duplicate = record { answer = inl refl; end = refl; others = refl; lacking = tt }
+
+pub accepts : IsStep worked_policies once_taken accepts_stream (answers.Accept (Some 0)) once_accepted
+unfolding once_taken
+accepts = record { answer = refl; end = refl; others = refl; lacking = tt }
+
+-- a read at the server of this stream, by these bounds, is answered so, and leaves all read
+record ReadsAll (id : ℕ) (mosts : List ℕ) : Type 0 where
+  answer : IsRead once_accepted.server id mosts (answers.Read (Ok all_nexts))
+  lacking : NextsLack once_accepted.server id mosts all_nexts
+  end : once_read.server ≡ after_nexts once_accepted.server id mosts all_nexts
+
+reads_two : ReadsAll 0 two_chunks
+unfolding once_taken
+reads_two = record { answer = (refl, (inl refl, (inl refl, tt))); lacking = (λ lacks. cc, (λ lacks. cc, tt)); end = refl }
+
+reads_all : (read : ReadCall) → ReadsBy two_chunks read → ReadsAll read.id read.nexts.items
+reads_all read by =
+    let all = subst (λ ms. ReadsAll 0 ms) (sym by.bounds) reads_two in
+    subst (λ n. ReadsAll n read.nexts.items) (sym by.id) all
+
+-- a read gives no datagram
+reads_only : once_read ≡ changed Server once_accepted once_read.server []
+unfolding once_taken
+reads_only = refl
+
+reads : (read : ReadCall) → ReadsBy two_chunks read
+    → IsStep worked_policies once_accepted (reads_stream read) (answers.Read (Ok all_nexts)) once_read
+reads read by =
+    let all = reads_all read by in
+    record { answer = all.answer; end = all.end; others = reads_only; lacking = all.lacking }
+
+-- what is seen once the datagram was given, and once it was taken
+pub sent_seen : record { client = sent_view; server = open_view } ≡ view_of once_sent
+unfolding once_sent
+sent_seen = refl
+
+taken_seen : record { client = sent_view; server = waiting_view } ≡ view_of once_taken
+unfolding once_taken
+taken_seen = refl
+
+accepted_seen : record { client = sent_view; server = waiting_view } ≡ view_of once_accepted
+unfolding once_taken
+accepted_seen = refl
+
+read_seen : record { client = sent_view; server = waiting_view } ≡ view_of once_read
+unfolding once_taken
+read_seen = refl
+
+pub follows : (read : ReadCall) → ReadsBy two_chunks read
+    → Follows worked_policies started (worked_events read) worked_answers worked_views once_read
+follows read by = (
+  once_opened,
+  opens,
+  refl,
+  (
+    once_written,
+    writes,
+    refl,
+    (
+      once_ended,
+      finishes,
+      refl,
+      (
+        once_sent,
+        gives,
+        sent_seen,
+        (
+          once_taken,
+          takes,
+          taken_seen,
+          (once_taken, drops_duplicate, taken_seen, (once_accepted, accepts, accepted_seen, (once_read, reads read by, read_seen, refl))),
+        ),
+      ),
+    ),
+  ),
+)
+
+-- the client gave the datagram, and the server none
+pub gave_hello : hello_datagram ∷ [] ≡ once_read.from_client
+unfolding once_taken
+gave_hello = refl
+
+pub gave_none : [] ≡ once_read.from_server
+unfolding once_taken
+gave_none = refl
+
+-- ---- the datagram
+
+-- type, id and length, each in one byte
+header_spelled : Numbers (0x0b ∷ 0x00 ∷ 0x05 ∷ []) (0x0b ∷ 0x00 ∷ 0x05 ∷ [])
+header_spelled = (
+  0x0b ∷ [],
+  0x00 ∷ 0x05 ∷ [],
+  inl (lit< tt, refl),
+  (
+    0x00 ∷ [],
+    0x05 ∷ [],
+    inl (lit< tt, refl),
+    (0x05 ∷ [], [], inl (lit< tt, refl), refl, refl),
+    refl,
+  ),
+  refl,
+)
+
+-- the payload is the frame and nothing else
+pub hello_spelled : Payload (stream hello_frame ∷ []) hello_payload
+hello_spelled = (hello_payload, [], record { written = false; sized = true; offset = refl; ends = tt; text = (0x0b ∷ 0x00 ∷ 0x05 ∷ [], header_spelled, refl) }, refl, refl)
+
+pub hello_is : IsDatagram worked_policies.client 0 0 server_id (stream hello_frame ∷ []) hello_datagram
+hello_is = record { payload = hello_payload; spells = hello_spelled; is = refl }
+
+-- ---- what came
+
+-- the packet that the server took
+abbrev pub hello_packet : Packet
+hello_packet = record { number = 0; frames = stream hello_frame ∷ [] }
+
+pub nothing_before : (read : ReadCall) → took (worked_run read) Server 4 ≡ []
+nothing_before read = refl
+
+pub took_hello : (read : ReadCall) → took (worked_run read) Server 8 ≡ hello_packet ∷ []
+unfolding once_taken
+took_hello read = refl
+
+-- its frame was taken
+pub frame_taken : WasTaken (hello_packet ∷ []) hello_frame
+frame_taken = record { packet = hello_packet; was_taken = inl refl; carried = inl refl }
+
+byte_arrives : (offset : ℕ) → offset < 5 → HasArrived (hello_packet ∷ []) 0 offset
+byte_arrives offset below = record { frame = hello_frame; taken = frame_taken; of_stream = refl; from = omega arith; below = below }
+
+pub arrives : (read : ReadCall) (offset : ℕ) → offset < 5 → HasArrived (took (worked_run read) Server 8) 0 offset
+arrives read offset below = subst (λ (ps : List Packet). HasArrived ps 0 offset) (sym (took_hello read)) (byte_arrives offset below)
+
+end_of_hello : EndHasArrived (hello_packet ∷ []) 0 5
+end_of_hello = record { frame = hello_frame; taken = frame_taken; of_stream = refl; fin = refl; behind = refl }
+
+pub end_arrives : (read : ReadCall) → EndHasArrived (took (worked_run read) Server 8) 0 5
+end_arrives read = subst (λ (ps : List Packet). EndHasArrived ps 0 5) (sym (took_hello read)) end_of_hello

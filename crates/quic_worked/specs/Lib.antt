@@ -1,0 +1,4 @@
+pub mod Worked
+pub mod Acknowledged
+pub mod Broken
+pub mod Reordered

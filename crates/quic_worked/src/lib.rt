@@ -1,0 +1,8 @@
+//! Runs on which the definitions are computed: worked runs that meet the clauses of the headline,
+//! and broken ones that don't.
+#![tactic(auto)]
+
+pub mod acknowledged;
+pub mod broken;
+pub mod reordered;
+pub mod worked;
