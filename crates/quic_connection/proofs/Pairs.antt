@@ -3,9 +3,9 @@ use Rattle.std.proofs.Common.{◌≡◌, ℕ, ◌==◌, List, length, Bool, true
 use Rattle.std.specs.Prelude.{Result, Ok, Err, OnOk, IfErr}
 use Rattle.std.proofs.lemmas.Bool.{eqb-true, eqb-false}
 use Rattle.quic_parameters.specs.Parameters.{ParameterValues}
-use Rattle.quic_connection_core.specs.declared.answers.ConfigError.{ConfigError}
-use Rattle.quic_connection_core.specs.declared.answers.ConfigError.TheVariants as config_errors
-use Rattle.quic_connection_core.specs.End.{refusal_of}
+use Rattle.quic_machine.specs.declared.answers.ConfigError.{ConfigError}
+use Rattle.quic_machine.specs.declared.answers.ConfigError.TheVariants as config_errors
+use Rattle.quic_machine.specs.End.{refusal_of}
 use Rattle.quic_connection.specs.Ends.{IsRefused}
 
 -- a fact of each success

@@ -1,12 +1,13 @@
 -- The answers of a read so far, and one more.
 use Rattle.std.proofs.Common.{refl, inl, inr, Ok, ◌≡◌, ◌≢◌, ◌⊎◌, ℕ, List, [], ◌∷◌, ◌++◌, Option, Result, Err}
-use Rattle.quic_streams_core.specs.declared.connection.assembler.Chunk.{Chunk}
-use Rattle.quic_connection_core.specs.declared.answers.ReadError.{ReadError}
-use Rattle.quic_connection_core.specs.declared.answers.ReadError.TheVariants as read_errors
-use Rattle.quic_connection_core.specs.Table.{at}
-use Rattle.quic_connection_core.specs.End.{End}
-use Rattle.quic_connection_core.specs.Calls.{AreNexts, after_nexts, end_next, end_after_next}
-use Rattle.quic_connection_core.specs.Lacking.{CutsPiece, NextsLack}
+use Rattle.quic_assembler.specs.declared.assembler.Chunk.{Chunk}
+use Rattle.quic_streams.specs.declared.answers.ReadError.{ReadError}
+use Rattle.quic_streams.specs.declared.answers.ReadError.TheVariants as read_errors
+use Rattle.quic_streams.specs.Table.{at}
+use Rattle.quic_machine.specs.End.{End}
+use Rattle.quic_machine.specs.Calls.{AreNexts, after_nexts, end_next, end_after_next}
+use Rattle.quic_streams.specs.Receiving.{CutsPiece}
+use Rattle.quic_machine.specs.Lacking.{NextsLack}
 
 -- what one more `next` leaves
 pub after_one_more : (e : End) (id : ℕ) (mosts : List ℕ) (answers : List (Result (Option Chunk) ReadError)) (most : ℕ) (answer : Result (Option Chunk) ReadError) → AreNexts e id mosts answers → after_nexts e id (mosts ++ most ∷ []) (answers ++ answer ∷ []) ≡ end_after_next answer (after_nexts e id mosts answers) id most

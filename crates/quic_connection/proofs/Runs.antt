@@ -1,10 +1,10 @@
 -- A run goes on by one event.
 use Rattle.std.proofs.Common.{◌≡◌, List, [], ◌∷◌, ◌++◌, length, Some, refl}
 use Rattle.std.specs.Prelude.{slice_get}
-use Rattle.quic_connection_core.specs.declared.run.RunEvent.{RunEvent}
-use Rattle.quic_connection_core.specs.declared.run.Answer.{Answer}
-use Rattle.quic_connection_core.specs.declared.run.View.{View}
-use Rattle.quic_connection_core.specs.Machine.{World, Policies, IsStep, view_of, Follows}
+use Rattle.quic_machine.specs.declared.run.RunEvent.{RunEvent}
+use Rattle.quic_machine.specs.declared.run.Answer.{Answer}
+use Rattle.quic_machine.specs.declared.run.View.{View}
+use Rattle.quic_machine.specs.Machine.{World, Policies, IsStep, view_of, Follows}
 
 follows_one_more : (k : Policies) (w : World) (events : List RunEvent) (answers : List Answer) (views : List View) (mid : World) (event : RunEvent) (a : Answer) (next : World) → Follows k w events answers views mid → slice_get events (length answers) ≡ Some event → IsStep k mid event a next → Follows k w events (answers ++ a ∷ []) (views ++ view_of next ∷ []) next
 follows_one_more k w [] [] [] mid event a next f at step = cc

@@ -1,27 +1,23 @@
--- Turns of a talk are joined, and what a poll that gives nothing leaves.
-use Rattle.std.proofs.Common.{◌≡◌, ◌≤◌, ℕ, ◌+◌, max, Bool, true, false, List, [], ◌∷◌, ◌++◌, Option, Some, None, Result, Ok, Err, OnErr, length, inl, inr, refl, sym, ap, ◌∙◌, append_assoc, append-nil, arith}
-use Rattle.std.specs.Prelude.{◌⊎◌, ◌||◌, if◌then◌else◌, nat_lt}
-use Rattle.std.proofs.lemmas.Bool.{ltb-false}
+-- Turns of a talk are joined, and what was polled last where a round gave no datagram.
+use Rattle.std.proofs.Common.{◌≡◌, ℕ, ◌+◌, max, Bool, true, false, List, [], ◌∷◌, ◌++◌, Option, Some, None, Result, Ok, Err, OnErr, length, inl, inr, refl, sym, ap, ◌∙◌, append_assoc, append-nil, arith}
+use Rattle.std.specs.Prelude.{◌⊎◌, ◌||◌}
 use Rattle.quic_wire_core.specs.declared.stream_id.Side.{Side}
 use Rattle.quic_wire_core.specs.declared.stream_id.Side.TheVariants.{Client, Server}
 use Rattle.quic_wire_core.specs.StreamId.{other_side}
-use Rattle.quic_recovery_core.specs.PendingAcks.{can_send}
 use Rattle.quic_time.specs.Timers.{earlier}
-use Rattle.quic_connection_core.specs.declared.answers.State.{State}
-use Rattle.quic_connection_core.specs.declared.answers.State.TheVariants as states
-use Rattle.quic_connection_core.specs.declared.run.RunEvent.{RunEvent}
-use Rattle.quic_connection_core.specs.declared.run.Call.{Call}
-use Rattle.quic_connection_core.specs.declared.run.Call.TheVariants as calls
-use Rattle.quic_connection_core.specs.declared.run.Answer.{Answer}
-use Rattle.quic_connection_core.specs.declared.run.Answer.TheVariants as answers
-use Rattle.quic_connection_core.specs.Policy.{Policy}
-use Rattle.quic_connection_core.specs.End.{End, with_closing, with_ping}
-use Rattle.quic_connection_core.specs.Closing.{ticked}
-use Rattle.quic_connection_core.specs.Numbers.{can_number}
-use Rattle.quic_connection_core.specs.Poll.{waits, probed, sends, polled_if, polled_in, polled, IsSilent}
-use Rattle.quic_connection_core.specs.Runs.{gave}
-use Rattle.quic_connection_core.specs.Machine.{end_at, given_by, policy_at, changed, gives, World, Policies, IsAnswer, IsLeft, IsStep, fails}
-use Rattle.quic_connection.specs.Settled.{Round, asks, quiet, polled_on, Turn, polls, awaits, polls_in, poll_event, delivery_event, timeout_event, IsPassedOn, IsPolled, IsHandled, IsWaited, IsTalk, Talks, Leads, IsHalfHandled, IsCut, IsCutOff, EndsAs, IsAtRest, AreAtRest, AreOpen, AreSilent, HasClosed, Settles, most_polls, end_wakes, wakes}
+use Rattle.quic_machine.specs.declared.answers.Failed.{Failed}
+use Rattle.quic_machine.specs.declared.answers.State.TheVariants as states
+use Rattle.quic_machine.specs.declared.answers.Transmit.{Transmit}
+use Rattle.quic_machine.specs.declared.run.RunEvent.{RunEvent}
+use Rattle.quic_machine.specs.declared.run.Call.{Call}
+use Rattle.quic_machine.specs.declared.run.Call.TheVariants as calls
+use Rattle.quic_machine.specs.declared.run.Answer.{Answer}
+use Rattle.quic_machine.specs.declared.run.Answer.TheVariants as answers
+use Rattle.quic_machine.specs.Policy.{Policy}
+use Rattle.quic_machine.specs.End.{End}
+use Rattle.quic_machine.specs.Poll.{polled}
+use Rattle.quic_machine.specs.Machine.{gave, end_at, given_by, policy_at, changed, gives, World, Policies, IsAnswer, IsLeft, IsStep, fails}
+use Rattle.quic_connection.specs.Settled.{Round, asks, quiet, polled_on, Turn, polls, awaits, polls_in, poll_event, delivery_event, timeout_event, IsPassedOn, IsPolled, IsHandled, IsWaited, IsTalk, Talks, Leads, IsHalfHandled, IsCut, IsCutOff, EndsAs, IsStill, AreStill, no_datagram, AreAtRest, AreOpen, HasClosed, Settles, most_polls, end_wakes, wakes}
 
 -- ---- turns
 
@@ -79,9 +75,9 @@ talks_polled k now before after w next side had gave told same one poll = record
 }
 
 -- a wait behind turns
-pub waited_on : (k k' : Policies) (now between wake moment : ℕ) (at : Round) (before left : ℕ) (w mid end : World) → k' ≡ k → Talks k now between at quiet before left w mid → AreOpen mid → AreSilent mid → wakes mid ≡ Some wake → moment ≡ max between wake → IsHandled k' moment mid end → Talks k now moment at (asks Client false) before left w end
-waited_on k k' now between wake moment at before left w mid end same t opened silent woke is handled =
-    let waited : IsWaited k between moment mid end = record { are_open = opened; silent = silent; wake = wake; wakes = woke; is = is; handled = rw same at handled } in
+pub waited_on : (k k' : Policies) (now between wake moment : ℕ) (at : Round) (before left : ℕ) (w mid end : World) → k' ≡ k → Talks k now between at quiet before left w mid → AreOpen mid → wakes mid ≡ Some wake → moment ≡ max between wake → IsHandled k' moment mid end → Talks k now moment at (asks Client false) before left w end
+waited_on k k' now between wake moment at before left w mid end same t opened woke is handled =
+    let waited : IsWaited k between moment mid end = record { are_open = opened; wake = wake; wakes = woke; is = is; handled = rw same at handled } in
     let turn : Talks k between moment quiet (asks Client false) left left mid end = record { turns = awaits ∷ []; talk = (end, moment, waited, (refl, refl, refl)); left = omega arith } in
     talks_on k k now between moment at quiet (asks Client false) before left left w mid end refl t turn
 
@@ -208,57 +204,85 @@ settled_more k now w next answer side s =
     (talk_more k now (asks Client false) w s.turns s.moment s.end s.last side s.talk)
     (ends_more answer k s.turns s.moment s.end s.last next side s.ends)
 
--- ---- a poll that gives nothing
+-- ---- rounds that gave nothing
 
--- a PING that waits can't be silent
-ping_waits : {X : Type 0} (due : Bool) → (due || true) ≡ false → X
-ping_waits true none = cc
-ping_waits false none = cc
+-- turns that led to a place
+abbrev LedTo : Policies → ℕ → World → ℕ → Round → World → Type 0
+LedTo k now from moment at w = (turns : List Turn) × IsTalk k now (asks Client false) from turns moment at w
 
--- no probe waits
-no_more : (n : ℕ) → nat_lt 0 n ≡ false → n ≡ 0
-no_more n none = let least : n ≤ 0 = ltb-false 0 n none in omega arith
+-- in this round the client was polled last, and gave nothing
+record ClientGaveNone (k : Policies) (now : ℕ) (from : World) (moment : ℕ) (w : World) : Type 0 where
+  before : World
+  led : LedTo k now from moment (asks Client false) before
+  client : IsPolled k Client moment false before w
 
--- where a probe waits, so does the PING that it asks for
-no_probe : (b : Bool) (e : End) → nat_lt 0 e.tracking.probes ≡ b → waits (if b then with_ping e true else e) ≡ false → (if b then with_ping e true else e).tracking.probes ≡ 0
-no_probe true e test none = ping_waits (can_send e.acknowledging) none
-no_probe false e test none = no_more e.tracking.probes test
+-- and then the server
+record BothGaveNone (k : Policies) (now : ℕ) (from : World) (moment : ℕ) (w : World) : Type 0 where
+  between : World
+  first : ClientGaveNone k now from moment between
+  server : IsPolled k Server moment false between w
 
--- something waits: a datagram is given, or the end closes
-sent_or_closed : {X : Type 0} (b : Bool) (p : Policy) (e : End) → gave (answers.Poll (sends b p e).answer) ≡ false → (sends b p e).end.closing.state ≡ states.Open → X
-sent_or_closed true p e none opened = cc
-sent_or_closed false p e none opened = cc
+-- what was polled before a place
+abbrev Behind : Policies → ℕ → World → ℕ → Round → World → Type 0
+Behind k now from moment quiet w = BothGaveNone k now from moment w
+Behind k now from moment (asks Server false) w = ClientGaveNone k now from moment w
+Behind k now from moment (asks Server true) w = Unit {0}
+Behind k now from moment (asks Client before) w = Unit {0}
 
-silent_if : (b : Bool) (p : Policy) (e : End) → waits e ≡ b → (waits e ≡ false → e.tracking.probes ≡ 0) → gave (answers.Poll (polled_if b p e).answer) ≡ false → (polled_if b p e).end.closing.state ≡ states.Open → IsSilent (polled_if b p e).end
-silent_if true p e waited probes none opened = sent_or_closed (can_number e.numbers) p e none opened
-silent_if false p e waited probes none opened = record { nothing_waits = waited; no_probe = probes waited }
+-- behind a poll
+behind_poll : (k : Policies) (now : ℕ) (from : World) (moment : ℕ) (side : Side) (had gave : Bool) (w to : World) → LedTo k now from moment (asks side had) w → Behind k now from moment (asks side had) w → IsPolled k side moment gave w to → Behind k now from moment (polled_on side had gave) to
+behind_poll k now from moment Client had true w to led behind poll = tt
+behind_poll k now from moment Server had true w to led behind poll = tt
+behind_poll k now from moment Client true false w to led behind poll = tt
+behind_poll k now from moment Client false false w to led behind poll = record { before = w; led = led; client = poll }
+behind_poll k now from moment Server true false w to led behind poll = tt
+behind_poll k now from moment Server false false w to led behind poll = record { between = w; first = behind; server = poll }
 
-silent_in : (s : State) (p : Policy) (e : End) (now : ℕ) → e.closing.state ≡ s → gave (answers.Poll (polled_in s p e now).answer) ≡ false → (polled_in s p e now).end.closing.state ≡ states.Open → IsSilent (polled_in s p e now).end
-silent_in states.Open p e now is none opened =
-    let moved = with_closing e (ticked e.closing now) in
-    silent_if (waits (probed moved)) p (probed moved) refl (λ silent. no_probe (nat_lt 0 moved.tracking.probes) moved refl silent) none opened
-silent_in states.Closing p e now is none opened = cc
-silent_in states.Drained p e now is none opened = cc
-silent_in states.Failed p e now is none opened = cc
+-- behind turns
+behind_turns : (k : Policies) (start : ℕ) (from : World) (now : ℕ) (at : Round) (w : World) (turns : List Turn) (moment : ℕ) (end : Round) (to : World) → LedTo k start from now at w → Behind k start from now at w → IsTalk k now at w turns moment end to → Behind k start from moment end to
+behind_turns k start from now at w [] moment end to led behind t = rw (t.0, t.1, t.2) behind
+behind_turns k start from now (asks side had) w (polls ∷ turns) moment end to led behind t =
+    let next = talk_behind k start (asks Client false) from led.0 now (asks side had) w (polls ∷ []) now (polled_on side had t.1) t.0 led.1 (t.0, t.1, t.2, (refl, refl, refl)) in
+    behind_turns k start from now (polled_on side had t.1) t.0 turns moment end to (led.0 ++ polls ∷ [], next)
+    (behind_poll k start from now side had t.1 w t.0 led behind t.2) t.3
+behind_turns k start from now quiet w (awaits ∷ turns) moment end to led behind t =
+    let next = talk_behind k start (asks Client false) from led.0 now quiet w (awaits ∷ []) t.1 (asks Client false) t.0 led.1 (t.0, t.1, t.2, (refl, refl, refl)) in
+    behind_turns k start from t.1 (asks Client false) t.0 turns moment end to (led.0 ++ awaits ∷ [], next) tt t.3
+behind_turns k start from now quiet w (polls ∷ turns) moment end to led behind t = absurd t
+behind_turns k start from now (asks side had) w (awaits ∷ turns) moment end to led behind t = absurd t
 
--- an end that is open after a poll is the one that the machine says
-left_open : (b : Bool) (p : Policy) (e : End) (theirs : List (List ℕ)) (now : ℕ) (a : Answer) (next : End) → IsLeft b p e theirs (calls.Poll now) a next → next.closing.state ≡ states.Open → next ≡ (polled p e now).end
-left_open true p e theirs now a next left opened = let failed = left.0 in cc
-left_open false p e theirs now a next left opened = left
+-- before a place where no datagram was given in a round, both were polled in it
+both_gave_none : (k : Policies) (now : ℕ) (from : World) (turns : List Turn) (moment : ℕ) (to : World) → IsTalk k now (asks Client false) from turns moment quiet to → BothGaveNone k now from moment to
+both_gave_none k now from turns moment to t = behind_turns k now from now (asks Client false) from turns moment quiet to ([], (refl, refl, refl)) tt t
 
--- an end that is open after a poll gave nothing has nothing to send
-pub silent_after : (p : Policy) (e : End) (theirs : List (List ℕ)) (now : ℕ) (a : Answer) (next : End) → IsAnswer p e theirs (calls.Poll now) a → IsLeft (fails a) p e theirs (calls.Poll now) a next → gave a ≡ false → next.closing.state ≡ states.Open → IsSilent next
-silent_after p e theirs now a next answer left none opened =
-    let is : next ≡ (polled p e now).end = left_open (fails a) p e theirs now a next left opened in
-    elim answer [
-      | inl same ↦ rw is (silent_in e.closing.state p e now refl (rw same at none) (rw is at opened))
-      | inr same ↦ let failed = (rw same at left).0 in cc
-    ]
+-- a poll that gave no datagram and didn't fail answered `None`
+answered_none : (r : Result (Option Transmit) Failed) → gave (answers.Poll r) ≡ false → fails (answers.Poll r) ≡ false → answers.Poll r ≡ no_datagram
+answered_none (Ok None) none kept = refl
+answered_none (Ok (Some transmit)) none kept = cc
+answered_none (Err failed) none kept = cc
 
--- the same, of a step
-pub silent_by : (k : Policies) (w next : World) (side : Side) (now : ℕ) (a : Answer) → IsStep k w (record { side = side; call = calls.Poll now }) a next → gave a ≡ false → (end_at side next).closing.state ≡ states.Open → IsSilent (end_at side next)
-silent_by k w next side now a step none opened =
-    silent_after (policy_at side k) (end_at side w) (given_by (other_side side) w) now a (end_at side next) step.answer step.end none opened
+-- an end that is open didn't fail
+kept_open : (b : Bool) (p : Policy) (e : End) (theirs : List (List ℕ)) (call : Call) (a : Answer) (next : End) → IsLeft b p e theirs call a next → next.closing.state ≡ states.Open → b ≡ false
+kept_open false p e theirs call a next left opened = refl
+kept_open true p e theirs call a next left opened = let failed = left.0 in cc
+
+-- so at an open end
+none_at : (p : Policy) (e : End) (theirs : List (List ℕ)) (now : ℕ) (a : Answer) → IsAnswer p e theirs (calls.Poll now) a → gave a ≡ false → fails a ≡ false → a ≡ no_datagram
+none_at p e theirs now a (inl same) none kept = same ∙ answered_none (polled p e now).answer (rw same at none) (rw same at kept)
+none_at p e theirs now a (inr same) none kept = let failed = rw same at kept in cc
+
+-- the same, of a turn
+passed_none : (b : Bool) (k : Policies) (side : Side) (now index : ℕ) (w to : World) → b ≡ false → IsPassedOn b k side now index w to → to ≡ w
+passed_none false k side now index w to none passed = passed
+passed_none true k side now index w to none passed = cc
+
+none_by : (k : Policies) (side : Side) (now : ℕ) (w to : World) → IsPolled k side now false w to → (end_at side to).closing.state ≡ states.Open → IsStep k w (poll_event side now) no_datagram to
+none_by k side now w to p opened =
+    let same = passed_none (gave p.answer) k side now (length (given_by side w)) p.next to p.gives p.delivered in
+    let step : IsStep k w (poll_event side now) p.answer to = rw same p.poll in
+    let kept = kept_open (fails p.answer) (policy_at side k) (end_at side w) (given_by (other_side side) w) (calls.Poll now) p.answer (end_at side to) step.end opened in
+    let is = none_at (policy_at side k) (end_at side w) (given_by (other_side side) w) now p.answer step.answer p.gives kept in
+    rw is at step
 
 -- ---- both ends rest
 
@@ -269,36 +293,46 @@ neither None (Some moment) none = cc
 neither (Some moment) None none = cc
 neither (Some moment) (Some other) none = cc
 
--- an open end that has nothing to send and waits for no moment rests
-rests : (e : End) → e.closing.state ≡ states.Open → IsSilent e → end_wakes e.timers ≡ None → IsAtRest e
-rests e is_open silent none =
+-- an open end that waits for no moment is still
+still_end : (e : End) → e.closing.state ≡ states.Open → end_wakes e.timers ≡ None → IsStill e
+still_end e is_open none =
     let loss = neither e.timers.loss_detection (earlier e.timers.max_ack_delay e.timers.pacing) none in
     let others = neither e.timers.max_ack_delay e.timers.pacing loss.1 in
-    record { is_open = is_open; silent = silent; no_loss_timer = loss.0; no_ack_timer = others.0; no_pacing_timer = others.1 }
+    record { is_open = is_open; no_loss_timer = loss.0; no_ack_timer = others.0; no_pacing_timer = others.1 }
 
 -- the same, of both
-pub rest : (w : World) → AreOpen w → AreSilent w → wakes w ≡ None → AreAtRest w
-rest w are_open silent none =
+pub still : (w : World) → AreOpen w → wakes w ≡ None → AreStill w
+still w are_open none =
     let both = neither (end_wakes w.client.timers) (end_wakes w.server.timers) none in
-    record { client = rests w.client are_open.client silent.client both.0; server = rests w.server are_open.server silent.server both.1 }
+    record { client = still_end w.client are_open.client both.0; server = still_end w.server are_open.server both.1 }
 
--- ---- a call at one end leaves the other one
-pub other_stays : (side : Side) (k : Policies) (w : World) (call : Call) (a : Answer) (next : World) → IsStep k w (record { side = side; call = call }) a next → end_at (other_side side) next ≡ end_at (other_side side) w
-other_stays Client k w call a next step = ap (λ (w : World). w.server) step.others
-other_stays Server k w call a next step = ap (λ (w : World). w.client) step.others
+-- an open end that is left by both polls
+pub at_rest : (k : Policies) (now moment before left : ℕ) (from to : World) → Talks k now moment (asks Client false) quiet before left from to → AreStill to → AreAtRest k now from moment to
+at_rest k now moment before left from to t still =
+    let both = both_gave_none k now from t.turns moment to t.talk in
+    let first = both.first in
+    record {
+      turns = first.led.0;
+      before = first.before;
+      between = both.between;
+      talk = first.led.1;
+      client_answers = none_by k Client moment first.before both.between first.client both.server.are_open.client;
+      server_answers = none_by k Server moment both.between to both.server still.server.is_open;
+      still = still;
+    }
 
 -- ---- two ends settle
 
 -- they rest
-pub settled_rest : {E : Type 0} (k : Policies) (now moment left : ℕ) (w next : World) → Talks k now moment (asks Client false) quiet most_polls left w next → AreAtRest next → Settles {E = E} k now w (Ok (Some moment)) next
-settled_rest k now moment left w next t rests = record {
+pub settled_rest : {E : Type 0} (k : Policies) (now moment left : ℕ) (w next : World) → Talks k now moment (asks Client false) quiet most_polls left w next → AreStill next → Settles {E = E} k now w (Ok (Some moment)) next
+settled_rest k now moment left w next t still = record {
   turns = t.turns;
   moment = moment;
   end = quiet;
   last = next;
   talk = t.talk;
   at_most = let behind = t.left in omega arith;
-  ends = (refl, refl, refl, rests);
+  ends = (refl, refl, refl, still);
 }
 
 -- they were given up: an end isn't open, or no poll was left

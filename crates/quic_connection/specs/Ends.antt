@@ -1,19 +1,20 @@
 -- What the machine sees of two ends with their keys, and of the datagrams that they gave.
 use Rattle.std.specs.Prelude.{ℕ, ◌≡◌, List, [], ◌∷◌, length}
-use Rattle.quic_packet.specs.Keys.{OfFirst, OfNumber, Seal, Open}
+use Rattle.quic_packet.specs.Keys.{Protection, Aead}
 use Rattle.quic_packet.specs.declared.crypto.Keys.{Keys}
-use Rattle.quic_connection_core.specs.declared.run.RunEvent.{RunEvent}
-use Rattle.quic_connection_core.specs.declared.run.Answer.{Answer}
-use Rattle.quic_connection_core.specs.declared.run.View.{View}
-use Rattle.quic_connection_core.specs.declared.answers.ConfigError.{ConfigError}
-use Rattle.quic_connection_core.specs.declared.answers.ConfigError.TheVariants as config_errors
-use Rattle.quic_connection_core.specs.End.{policy_of}
-use Rattle.quic_connection_core.specs.Opens.{own_id_length}
-use Rattle.quic_connection_core.specs.Runs.{Run}
-use Rattle.quic_connection_core.specs.Policy.{Policy}
-use Rattle.quic_connection_core.specs.Machine.{World, Policies}
+use Rattle.quic_machine.specs.declared.run.RunEvent.{RunEvent}
+use Rattle.quic_machine.specs.declared.run.Answer.{Answer}
+use Rattle.quic_machine.specs.declared.run.View.{View}
+use Rattle.quic_machine.specs.declared.answers.ConfigError.{ConfigError}
+use Rattle.quic_machine.specs.declared.answers.ConfigError.TheVariants as config_errors
+use Rattle.quic_machine.specs.End.{policy_of}
+use Rattle.quic_machine.specs.Opens.{own_id_length}
+use Rattle.quic_headline.specs.Runs.{Run}
+use Rattle.quic_headline.specs.Headline.{IsHonest}
+use Rattle.quic_machine.specs.Machine.{World, Policies}
 use Rattle.quic_connection.specs.declared.running.Ends.{Ends}
 use Rattle.quic_connection.specs.declared.running.Given.{Given}
+use Rattle.quic_connection.specs.declared.running.Outcome.{Outcome}
 
 -- both ends, and what each has given
 abbrev pub world_of : {H K R : Type 0} → Ends H K R → Given → World
@@ -24,10 +25,10 @@ abbrev pub first_world : {H K R : Type 0} → Ends H K R → World
 first_world ends = record { client = ends.client.end; server = ends.server.end; from_client = []; from_server = [] }
 
 -- what the keys of both ends do
-abbrev pub policies_of : {H K R : Type 0} → (H → OfFirst) → (H → OfNumber) → (H → OfFirst) → (H → OfNumber) → (K → Seal) → (K → Open) → Ends H K R → Policies
-policies_of masks hides unmasks reveals sealed opened ends = record {
-  client = policy_of masks hides unmasks reveals sealed opened ends.client;
-  server = policy_of masks hides unmasks reveals sealed opened ends.server;
+abbrev pub policies_of : {H K R : Type 0} → (H → Protection) → (K → Aead) → Ends H K R → Policies
+policies_of protection aead ends = record {
+  client = policy_of protection aead ends.client;
+  server = policy_of protection aead ends.server;
 }
 
 -- what two ends have beside their states
@@ -40,17 +41,6 @@ pub record Held (H K R : Type 0) : Type 0 where
 -- the keys and the random source of each end
 abbrev pub held_of : {H K R : Type 0} → Ends H K R → Held H K R
 held_of ends = record { client_keys = ends.client.keys; client_random = ends.client.random; server_keys = ends.server.keys; server_random = ends.server.random }
-
--- what keys do: an end protects with the local ones, and opens with the remote ones
-abbrev pub keys_policy : {H K : Type 0} → (H → OfFirst) → (H → OfNumber) → (H → OfFirst) → (H → OfNumber) → (K → Seal) → (K → Open) → Keys H K → Policy
-keys_policy masks hides unmasks reveals sealed opened keys = record {
-  mask = masks keys.header.local;
-  hide = hides keys.header.local;
-  seal = sealed keys.packet.local;
-  unmask = unmasks keys.header.remote;
-  reveal = reveals keys.header.remote;
-  unseal = opened keys.packet.remote;
-}
 
 -- transport parameters in ascending order of their ids
 abbrev pub in_order : List ℕ
@@ -67,6 +57,16 @@ run_of keys ends events answers views given = record {
   from_client = given.client.items;
   from_server = given.server.items;
 }
+
+-- the ends that a run leaves, and what they gave
+abbrev pub world_left : {H K R : Type 0} → Outcome H K R → World
+world_left o = world_of o.ends o.given
+
+-- a fact of the run of these ends over these events that came out so, where the run is honest
+abbrev pub OnHonest : {H K R : Type 0} → (H → Protection) → (K → Aead) → Ends H K R → List RunEvent → Outcome H K R → (Run → Type 0) → Type 0
+OnHonest protection aead ends events o P =
+    let r = run_of (policies_of protection aead ends) ends events o.answers.items o.views.items o.given in
+    IsHonest r → P r
 
 -- Two ends are refused: one of their ids hasn't eight bytes.
 pub record IsRefused (e : ConfigError) (client_id server_id : List ℕ) : Type 0 where

@@ -1,2 +1,27 @@
+-- The definitions of this crate, and those of lower crates that its clauses cite.
 pub mod Ends
 pub mod Settled
+pub use Rattle.quic_headline.specs.Runs
+pub use Rattle.quic_headline.specs.Headline
+pub use Rattle.quic_headline.specs.Duties
+pub use Rattle.quic_headline.specs.InFlight
+pub use Rattle.quic_machine.specs.Policy
+pub use Rattle.quic_machine.specs.Closing
+pub use Rattle.quic_machine.specs.Numbers
+pub use Rattle.quic_machine.specs.Tracking
+pub use Rattle.quic_machine.specs.End
+pub use Rattle.quic_machine.specs.Opens
+pub use Rattle.quic_machine.specs.Acked
+pub use Rattle.quic_machine.specs.Receive
+pub use Rattle.quic_machine.specs.Poll
+pub use Rattle.quic_machine.specs.Timeouts
+pub use Rattle.quic_machine.specs.Calls
+pub use Rattle.quic_machine.specs.Lacking
+pub use Rattle.quic_machine.specs.Machine
+pub use Rattle.quic_machine.specs.Start
+pub use Rattle.quic_streams.specs.Table
+pub use Rattle.quic_streams.specs.Sending
+pub use Rattle.quic_streams.specs.Receiving
+pub use Rattle.quic_config.specs.Transport
+pub use Rattle.quic_packet.specs.Keys
+pub use Rattle.quic_time.specs.Timers

@@ -4,39 +4,32 @@ use Rattle.quic_wire_core.specs.declared.stream_id.Side.{Side}
 use Rattle.quic_wire_core.specs.declared.stream_id.Side.TheVariants.{Client, Server}
 use Rattle.quic_wire_core.specs.StreamId.{other_side}
 use Rattle.quic_time.specs.Timers.{Timers, earlier}
-use Rattle.quic_connection_core.specs.declared.answers.State.TheVariants as states
-use Rattle.quic_connection_core.specs.declared.run.Call.TheVariants as calls
-use Rattle.quic_connection_core.specs.declared.run.Answer.{Answer}
-use Rattle.quic_connection_core.specs.declared.run.RunEvent.{RunEvent}
-use Rattle.quic_connection_core.specs.End.{End}
-use Rattle.quic_connection_core.specs.Poll.{IsSilent}
-use Rattle.quic_connection_core.specs.Runs.{gave}
-use Rattle.quic_connection_core.specs.Machine.{World, Policies, IsStep, given_by}
+use Rattle.quic_machine.specs.declared.answers.State.TheVariants as states
+use Rattle.quic_machine.specs.declared.run.Call.TheVariants as calls
+use Rattle.quic_machine.specs.declared.run.Answer.{Answer}
+use Rattle.quic_machine.specs.declared.run.Answer.TheVariants as answers
+use Rattle.quic_machine.specs.declared.run.RunEvent.{RunEvent}
+use Rattle.quic_machine.specs.End.{End}
+use Rattle.quic_machine.specs.Machine.{gave, World, Policies, IsStep, given_by}
 
 -- ---- ends and timers
 
--- An end is open, has nothing to send at any moment before it hears something, and waits for no moment of loss, of acknowledgements or of pacing.
-pub record IsAtRest (e : End) : Type 0 where
+-- An end is still: it is open, and waits for no moment of loss, of acknowledgements or of pacing.
+pub record IsStill (e : End) : Type 0 where
   pub is_open : e.closing.state ≡ states.Open
-  pub silent : IsSilent e
   pub no_loss_timer : e.timers.loss_detection ≡ None
   pub no_ack_timer : e.timers.max_ack_delay ≡ None
   pub no_pacing_timer : e.timers.pacing ≡ None
 
--- Both ends rest.
-pub record AreAtRest (w : World) : Type 0 where
-  pub client : IsAtRest w.client
-  pub server : IsAtRest w.server
+-- Both ends are still.
+pub record AreStill (w : World) : Type 0 where
+  pub client : IsStill w.client
+  pub server : IsStill w.server
 
 -- Both ends are open.
 pub record AreOpen (w : World) : Type 0 where
   pub client : w.client.closing.state ≡ states.Open
   pub server : w.server.closing.state ≡ states.Open
-
--- Neither end has anything to send.
-pub record AreSilent (w : World) : Type 0 where
-  pub client : IsSilent w.client
-  pub server : IsSilent w.server
 
 -- an end isn't open
 abbrev pub HasClosed : World → Type 0
@@ -60,7 +53,7 @@ most_polls = 10000
 pub data Round : Type 0 where
   -- an end is polled next, and whether a datagram was given in this round
   asks : Side → Bool → Round
-  -- both were polled, and neither gave a datagram
+  -- both were polled, and neither gave a datagram: a timer is waited for next, if one is set
   quiet : Round
 
 -- behind a poll of an end that gave a datagram, or none: it is polled again until it gives none, and then the other, the client first.
@@ -119,11 +112,10 @@ pub record IsHandled (k : Policies) (moment : ℕ) (w to : World) : Type 0 where
   pub server_answer : Answer
   pub server : IsStep k middle (timeout_event Server moment) server_answer to
 
--- Both ends are open and have nothing to send. The earliest timer of loss, of acknowledgements or of pacing is waited for, unless it
--- has come, and both handle the moment.
+-- Both ends are open behind a round that gave no datagram. The earliest timer of loss, of acknowledgements or of pacing is waited for,
+-- unless it has come, and both handle the moment.
 pub record IsWaited (k : Policies) (now moment : ℕ) (w to : World) : Type 0 where
   pub are_open : AreOpen w
-  pub silent : AreSilent w
   pub wake : ℕ
   pub wakes : wakes w ≡ Some wake
   pub is : moment ≡ max now wake
@@ -187,11 +179,29 @@ pub record IsCutOff (k : Policies) (now : ℕ) (at : Round) (before : ℕ) (from
   pub at_most : polls_in turns ≤ before
   pub cut : IsCut k moment end last to
 
+-- ---- rest
+
+-- what a poll answers that gives no datagram
+abbrev pub no_datagram : Answer
+no_datagram = answers.Poll (Ok None)
+
+-- Two ends rest at a moment, behind turns from one before. It is judged by answers: at this moment the client and then the server were
+-- polled, both answered `None`, and no call was made behind these; both are open, and wait for no moment. Whether their paths are
+-- validated (RFC 9000, section 8.1) isn't asked.
+pub record AreAtRest (k : Policies) (now : ℕ) (from : World) (moment : ℕ) (to : World) : Type 0 where
+  pub turns : List Turn
+  pub before : World
+  pub between : World
+  pub talk : IsTalk k now (asks Client false) from turns moment (asks Client false) before
+  pub client_answers : IsStep k before (poll_event Client moment) no_datagram between
+  pub server_answers : IsStep k between (poll_event Server moment) no_datagram to
+  pub still : AreStill to
+
 -- ---- a whole talk
 
 -- how a talk ends behind its turns, by its answer
 abbrev pub EndsAs : {E : Type 0} → Result (Option ℕ) E → Policies → List Turn → ℕ → Round → World → World → Type 0
-EndsAs (Ok (Some rest)) k turns moment end last to = (rest ≡ moment) × (end ≡ quiet) × (to ≡ last) × AreAtRest last
+EndsAs (Ok (Some rest)) k turns moment end last to = (rest ≡ moment) × (end ≡ quiet) × (to ≡ last) × AreStill last
 EndsAs (Ok None) k turns moment end last to = (to ≡ last) × (HasClosed last ⊎ (polls_in turns ≡ most_polls))
 EndsAs (Err e) k turns moment end last to = IsCut k moment end last to
 

@@ -1,8 +1,10 @@
-//! Two ends of a QUIC connection over a network: runs of them, a call at a time, a list of calls, or until both rest.
-//! Beside them stands what an application names of one end: the end, its handles, what its calls take, and what they answer.
+//! Two endpoints (*ends*) of a QUIC connection over a network: runs of them, a call at a time, a
+//! list of calls, or until both rest. Beside them stands what an application names of one end: the
+//! end, its handles, what its calls take, and what they answer.
 //!
-//! Whenever a datagram, a moment or a call of the application was handed to a [`Connection`], its `poll_transmit` is called
-//! until it gives no datagram, its `poll` until it tells no event, and its `poll_timeout` says when `handle_timeout` is due.
+//! Whenever a datagram, a moment or a call of the application was handed to a [`Connection`], its
+//! `poll_transmit` is called until it gives no datagram, its `poll` until it tells no event, and
+//! its `poll_timeout` says when `handle_timeout` is due.
 #![tactic(auto)]
 
 mod pair;
@@ -10,15 +12,17 @@ mod running;
 mod settling;
 
 pub use pair::Making;
+pub use quic_assembler::Chunk;
 pub use quic_config::{AckFrequencyConfig, MtuDiscoveryConfig};
-pub use quic_connection_core::{
-    Answer, Call, ConfigError, Datagram, Delivery, DropReason, EndView, Event, Failed, FinishError,
-    IdleTimeout, Injection, Instant, LostReason, Nexts, ReadCall, ReadError, ReadableError,
-    Received, RunEvent, State, StreamEvent, Timer, Transmit, TransportConfig, View, WriteError,
+pub use quic_connection_core::{Chunks, Config, Connection, RecvStream, SendStream, Streams};
+pub use quic_machine::{
+    Answer, Call, ConfigError, Datagram, Delivery, DropReason, EndView, Event, Failed, IdleTimeout,
+    Injection, Instant, LostReason, Nexts, ReadCall, Received, RunEvent, State, Timer, Transmit,
+    TransportConfig, View,
 };
-pub use quic_end::{Chunks, Config, Connection, RecvStream, SendStream, Streams};
 pub use quic_packet::crypto::{HeaderKey, KeyPair, Keys, NotOpened, PacketKey};
-pub use quic_streams_core::{Chunk, ShouldTransmit};
+pub use quic_send_buffer::ShouldTransmit;
+pub use quic_streams::{FinishError, ReadError, ReadableError, StreamEvent, WriteError};
 pub use quic_time::Duration;
 pub use quic_wire_core::{
     Code, ConnectionId, Dir, EcnCodepoint, FrameType, Reason, Side, StreamId, TransportError,

@@ -2,23 +2,21 @@
 ghost use Rattle.std.specs.Prelude.{◌≡◌, ◌≢◌, length, Ok, IfOk, IfErr, OnOk};
 ghost use Rattle.quic_parameters.specs.ParametersWritten.{written_parameters};
 ghost use Rattle.quic_parameters.specs.ParametersRead.{parameters_at};
-ghost use Rattle.quic_config.specs.Transport.{parameters_of};
-ghost use Rattle.quic_connection_core.specs.Policy.{CanOpen};
-ghost use Rattle.quic_connection_core.specs.End.{MadeFrom};
-ghost use Rattle.quic_connection_core.specs.Headline.{IsInRange, AreStarted, AreKeys};
-ghost use Rattle.quic_connection_core.specs.declared.answers.ConfigError.TheVariants as config_errors;
-ghost use Rattle.quic_connection.specs.Ends.{first_world, policies_of, keys_policy, in_order, IsRefused};
+ghost use Rattle.quic_config.specs.Transport.{parameters_of, IsInRange};
+ghost use Rattle.quic_machine.specs.Policy.{KeysCanOpen};
+ghost use Rattle.quic_machine.specs.End.{MadeFrom};
+ghost use Rattle.quic_machine.specs.Start.{AreStarted, AreKeys};
+ghost use Rattle.quic_machine.specs.declared.answers.ConfigError.TheVariants as config_errors;
+ghost use Rattle.quic_connection.specs.Ends.{first_world, policies_of, in_order, IsRefused};
 
 use crate::running::Ends;
-use quic_connection_core::{ConfigError, Instant};
-use quic_end::{Config, Connection};
+use quic_connection_core::{Config, Connection};
+use quic_machine::{ConfigError, Instant};
 use quic_packet::crypto::{HeaderKey, Keys, PacketKey};
+use quic_parameters::TransportParameters;
 use quic_wire_core::{ConnectionId, Side};
 use rand_core::Rng;
 use std::alloc::{AllocError, Global};
-
-/// The order in which transport parameters are written: ascending by id.
-const ORDER: [u8; 13] = [0, 1, 2, 3, 4, 5, 6, 7, 8, 9, 10, 11, 12];
 
 /// What an end of a pair is made of.
 #[derive(Drop)]
@@ -37,12 +35,13 @@ pub struct Making<H, K, R> {
 
 /// The parameter bytes that a configuration comes to.
 fn parameters(alloc: Global, config: &Config) -> Result<Vec<u8>, ConfigError>
-    ensures bytes { IfOk result (λ v. v.items ≡ written_parameters (parameters_of config.now) in_order) }
+    ensures bytes { IfOk result (λ v.
+        v.items ≡ written_parameters (parameters_of config.now) in_order) }
     ensures read_back { IfOk result (λ v. parameters_at v.items ≡ Ok (parameters_of config.now)) }
     ensures range { OnOk result (IsInRange config.now) }
     ensures memory { IfErr result (λ e. e ≡ config_errors.Memory) }
 {
-    match config.write_parameters(alloc, &ORDER) {
+    match config.write_parameters(alloc, &TransportParameters::ORDER) {
         Ok(bytes) => Ok(bytes),
         Err(AllocError) => Err(ConfigError::Memory),
     }
@@ -57,11 +56,15 @@ fn end_for<H: HeaderKey + Drop, K: PacketKey + Drop, R: Rng + Drop>(
     peer: &Config,
     peer_id: ConnectionId,
 ) -> Result<Connection<H, K, R>, ConfigError>
-    ensures made { IfOk result (λ c. MadeFrom side own.config (written_parameters (parameters_of peer.entry.now) in_order) own.id peer_id now own.validated c.end) }
+    ensures made { IfOk result (λ c.
+        MadeFrom side own.config (written_parameters (parameters_of peer.entry.now) in_order) own.id
+        peer_id now own.validated c.end) }
     ensures keys { IfOk result (λ c. c.keys ≡ own.keys) }
     ensures random { IfOk result (λ c. c.random ≡ own.random) }
     ensures id { OnOk result (length own.id ≡ 8) }
-    ensures read_back { OnOk result (parameters_at (written_parameters (parameters_of peer.entry.now) in_order) ≡ Ok (parameters_of peer.entry.now)) }
+    ensures read_back { OnOk result (
+        parameters_at (written_parameters (parameters_of peer.entry.now) in_order)
+        ≡ Ok (parameters_of peer.entry.now)) }
     ensures range { OnOk result (IsInRange peer.entry.now) }
     ensures refusal { IfErr result (λ e. e ≢ config_errors.Memory → IsRefused e own.id peer_id) }
 {
@@ -92,15 +95,25 @@ impl<H: HeaderKey + Drop, K: PacketKey + Drop, R: Rng + Drop> Ends<H, K, R> {
         client: Making<H, K, R>,
         server: Making<H, K, R>,
     ) -> Result<Self, ConfigError>
-        ensures client { IfOk result (λ ends. MadeFrom Side.Client client.config (written_parameters (parameters_of server.config) in_order) client.id server.id now client.validated ends.client.end) }
-        ensures server { IfOk result (λ ends. MadeFrom Side.Server server.config (written_parameters (parameters_of client.config) in_order) server.id client.id now server.validated ends.server.end) }
+        ensures client { IfOk result (λ ends.
+            MadeFrom Side.Client client.config
+            (written_parameters (parameters_of server.config) in_order) client.id server.id now
+            client.validated ends.client.end) }
+        ensures server { IfOk result (λ ends.
+            MadeFrom Side.Server server.config
+            (written_parameters (parameters_of client.config) in_order) server.id client.id now
+            server.validated ends.server.end) }
         ensures client_keys { IfOk result (λ ends. ends.client.keys ≡ client.keys) }
         ensures server_keys { IfOk result (λ ends. ends.server.keys ≡ server.keys) }
         ensures client_random { IfOk result (λ ends. ends.client.random ≡ client.random) }
         ensures server_random { IfOk result (λ ends. ends.server.random ≡ server.random) }
-        ensures refusal { IfErr result (λ e. e ≢ config_errors.Memory → IsRefused e client.id server.id) }
+        ensures refusal { IfErr result (λ e.
+            e ≢ config_errors.Memory → IsRefused e client.id server.id) }
         ensures started { IfOk result (λ ends. AreStarted (first_world ends)) }
-        ensures keys { IfOk result (λ ends. CanOpen (keys_policy H.masks H.hides H.unmasks H.reveals K.sealed K.opened client.keys) (keys_policy H.masks H.hides H.unmasks H.reveals K.sealed K.opened server.keys) → CanOpen (keys_policy H.masks H.hides H.unmasks H.reveals K.sealed K.opened server.keys) (keys_policy H.masks H.hides H.unmasks H.reveals K.sealed K.opened client.keys) → AreKeys (policies_of H.masks H.hides H.unmasks H.reveals K.sealed K.opened ends)) }
+        ensures keys { IfOk result (λ ends.
+            KeysCanOpen H.protection K.aead client.keys server.keys
+            → KeysCanOpen H.protection K.aead server.keys client.keys
+            → AreKeys (policies_of H.protection K.aead ends)) }
     {
         let (client_config, server_config) = (client.config, server.config);
         let (client_id, server_id) = (client.id, server.id);

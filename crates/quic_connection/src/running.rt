@@ -1,24 +1,26 @@
 //! Runs of two ends over a network: one event at a time, or a list of them.
 ghost use Rattle.std.specs.Prelude.{◌≡◌, ◌++◌, [], length, ◌≤◌, ◌<◌, vec_capacity, slice_get, IsSome, IfOk, OnErr, true, false};
 ghost use Rattle.quic_wire_core.specs.StreamId.{other_side};
-ghost use Rattle.quic_connection_core.specs.End.{policy_of, with_end};
-ghost use Rattle.quic_connection_core.specs.Machine.{IsAnswer, IsLeft, fails, gives, given_by, IsStep, view_of, end_view, Follows};
-ghost use Rattle.quic_connection_core.specs.Calls.{AreNexts, after_nexts};
-ghost use Rattle.quic_connection_core.specs.Lacking.{NextsLack, LacksWhere, TakesOfItsOwn};
+ghost use Rattle.quic_machine.specs.End.{policy_of, with_end};
+ghost use Rattle.quic_machine.specs.Machine.{IsAnswer, IsLeft, fails, gives, given_by, IsStep, view_of, end_view, Follows};
+ghost use Rattle.quic_machine.specs.Calls.{AreNexts, after_nexts};
+ghost use Rattle.quic_machine.specs.Lacking.{NextsLack, LacksWhere, TakesOfItsOwn};
 ghost use Rattle.quic_time.specs.Timers.{each_timer};
-ghost use Rattle.quic_connection_core.specs.Headline.{IsHonest, OrderedPrefix, Slices, Once, EndAfterAll, BlockedOnlyWithoutBytes, AcceptsAll, FinishedMeansArrived, TellsOnce, AcknowledgedWereTaken, LossTimersFollow, AckTimersFollow, NumbersRise};
-ghost use Rattle.quic_connection_core.specs.Duties.{DutiesStand};
-ghost use Rattle.quic_connection_core.specs.InFlight.{TracksInFlight};
-ghost use Rattle.quic_connection.specs.Ends.{world_of, first_world, policies_of, held_of, run_of};
+ghost use Rattle.quic_headline.specs.Headline.{OrderedPrefix, Slices, Once, EndAfterAll, BlockedOnlyWithoutBytes, AcceptsAll, FinishedMeansArrived, TellsOnce, AcknowledgedWereTaken, NamesWereTaken, OpensExactly, LossTimersFollow, AckTimersFollow, NumbersRise};
+ghost use Rattle.quic_headline.specs.Duties.{DutiesStand};
+ghost use Rattle.quic_headline.specs.InFlight.{TracksInFlight};
+ghost use Rattle.quic_connection.specs.Ends.{world_of, first_world, world_left, policies_of, held_of, OnHonest};
 ghost use Rattle.quic_connection.specs.declared.running.Given.{Given};
 
-use quic_connection_core::{
+use quic_assembler::Chunk;
+use quic_connection_core::{Chunks, Connection};
+use quic_headline::headline;
+use quic_machine::{
     Answer, Call, Datagram, Delivery, EndView, Injection, Instant, LostReason, Nexts, ReadCall,
-    ReadError, RunEvent, Timer, View,
+    RunEvent, Timer, View,
 };
-use quic_end::{Chunks, Connection};
 use quic_packet::crypto::{HeaderKey, PacketKey};
-use quic_streams_core::Chunk;
+use quic_streams::ReadError;
 use quic_wire_core::{Side, StreamId};
 use rand_core::Rng;
 use std::alloc::{AllocError, Global};
@@ -78,11 +80,16 @@ pub fn step<H: HeaderKey + Drop, K: PacketKey + Drop, R: Rng + Drop>(
     given: &mut Given,
     event: &RunEvent,
 ) -> Result<Answer, AllocError>
-    ensures step { IfOk result (λ a. IsStep (policies_of H.masks H.hides H.unmasks H.reveals K.sealed K.opened ends.old) (world_of ends.old given.old) event.now a (world_of ends.new given.new)) }
-    ensures keys { policies_of H.masks H.hides H.unmasks H.reveals K.sealed K.opened ends.new ≡ policies_of H.masks H.hides H.unmasks H.reveals K.sealed K.opened ends.old }
+    ensures step { IfOk result (λ a.
+        IsStep (policies_of H.protection K.aead ends.old) (world_of ends.old given.old) event.now a
+        (world_of ends.new given.new)) }
+    ensures keys { policies_of H.protection K.aead ends.new
+        ≡ policies_of H.protection K.aead ends.old }
     ensures held { held_of ends.new ≡ held_of ends.old }
     ensures err { OnErr result (world_of ends.new given.new ≡ world_of ends.old given.old) }
-    ensures own { OnErr result (TakesOfItsOwn (given_by (other_side event.now.side) (world_of ends.old given.old)) event.now.call) }
+    ensures own { OnErr result (
+        TakesOfItsOwn (given_by (other_side event.now.side) (world_of ends.old given.old))
+        event.now.call) }
 {
     match event.side {
         Side::Client => at_end(
@@ -110,10 +117,16 @@ fn at_end<H: HeaderKey + Drop, K: PacketKey + Drop, R: Rng + Drop>(
     theirs: &[Datagram],
     call: &Call,
 ) -> Result<Answer, AllocError>
-    ensures answer { IfOk result (λ a. IsAnswer (policy_of H.masks H.hides H.unmasks H.reveals K.sealed K.opened end.old) end.old.end theirs.now call.now a) }
-    ensures lacking { IfOk result (λ a. LacksWhere (policy_of H.masks H.hides H.unmasks H.reveals K.sealed K.opened end.old) end.old.end theirs.now call.now a) }
-    ensures end { IfOk result (λ a. IsLeft (fails a) (policy_of H.masks H.hides H.unmasks H.reveals K.sealed K.opened end.old) end.old.end theirs.now call.now a end.new.end) }
-    ensures given { IfOk result (λ a. mine.new.items ≡ mine.old.items ++ gives (policy_of H.masks H.hides H.unmasks H.reveals K.sealed K.opened end.old) end.old.end call.now a) }
+    ensures answer { IfOk result (λ a.
+        IsAnswer (policy_of H.protection K.aead end.old) end.old.end theirs.now call.now a) }
+    ensures lacking { IfOk result (λ a.
+        LacksWhere (policy_of H.protection K.aead end.old) end.old.end theirs.now call.now a) }
+    ensures end { IfOk result (λ a.
+        IsLeft (fails a) (policy_of H.protection K.aead end.old) end.old.end theirs.now call.now a
+        end.new.end) }
+    ensures given { IfOk result (λ a.
+        mine.new.items
+        ≡ mine.old.items ++ gives (policy_of H.protection K.aead end.old) end.old.end call.now a) }
     ensures keys { end.new ≡ with_end end.old end.new.end }
     ensures err { OnErr result (end.new ≡ end.old) }
     ensures err_given { OnErr result (mine.new.items ≡ mine.old.items) }
@@ -142,10 +155,15 @@ fn write_at<H: HeaderKey + Drop, K: PacketKey + Drop, R: Rng + Drop>(
     id: StreamId,
     data: &[u8],
 ) -> Answer
-    ensures answer { IsAnswer (policy_of H.masks H.hides H.unmasks H.reveals K.sealed K.opened end.old) end.old.end [] (Call.Write id data.now) result }
-    ensures lacking { LacksWhere (policy_of H.masks H.hides H.unmasks H.reveals K.sealed K.opened end.old) end.old.end [] (Call.Write id data.now) result }
-    ensures end { IsLeft (fails result) (policy_of H.masks H.hides H.unmasks H.reveals K.sealed K.opened end.old) end.old.end [] (Call.Write id data.now) result end.new.end }
-    ensures given { gives (policy_of H.masks H.hides H.unmasks H.reveals K.sealed K.opened end.old) end.old.end (Call.Write id data.now) result ≡ [] }
+    ensures answer { IsAnswer (policy_of H.protection K.aead end.old) end.old.end []
+        (Call.Write id data.now) result }
+    ensures lacking { LacksWhere (policy_of H.protection K.aead end.old) end.old.end []
+        (Call.Write id data.now) result }
+    ensures end { IsLeft (fails result) (policy_of H.protection K.aead end.old) end.old.end []
+        (Call.Write id data.now) result end.new.end }
+    ensures given { gives (policy_of H.protection K.aead end.old) end.old.end
+        (Call.Write id data.now) result
+        ≡ [] }
     ensures keys { end.new ≡ with_end end.old end.new.end }
 {
     Answer::Write(end.send_stream(id).write(data))
@@ -155,10 +173,14 @@ fn write_at<H: HeaderKey + Drop, K: PacketKey + Drop, R: Rng + Drop>(
 fn ping_at<H: HeaderKey + Drop, K: PacketKey + Drop, R: Rng + Drop>(
     end: &mut Connection<H, K, R>,
 ) -> Answer
-    ensures answer { IsAnswer (policy_of H.masks H.hides H.unmasks H.reveals K.sealed K.opened end.old) end.old.end [] Call.Ping result }
-    ensures lacking { LacksWhere (policy_of H.masks H.hides H.unmasks H.reveals K.sealed K.opened end.old) end.old.end [] Call.Ping result }
-    ensures end { IsLeft (fails result) (policy_of H.masks H.hides H.unmasks H.reveals K.sealed K.opened end.old) end.old.end [] Call.Ping result end.new.end }
-    ensures given { gives (policy_of H.masks H.hides H.unmasks H.reveals K.sealed K.opened end.old) end.old.end Call.Ping result ≡ [] }
+    ensures answer { IsAnswer (policy_of H.protection K.aead end.old) end.old.end [] Call.Ping
+        result }
+    ensures lacking { LacksWhere (policy_of H.protection K.aead end.old) end.old.end [] Call.Ping
+        result }
+    ensures end { IsLeft (fails result) (policy_of H.protection K.aead end.old) end.old.end []
+        Call.Ping result end.new.end }
+    ensures given { gives (policy_of H.protection K.aead end.old) end.old.end Call.Ping result
+        ≡ [] }
     ensures keys { end.new ≡ with_end end.old end.new.end }
 {
     end.ping();
@@ -172,10 +194,17 @@ fn poll_at<H: HeaderKey + Drop, K: PacketKey + Drop, R: Rng + Drop>(
     mine: &mut Vec<Datagram>,
     now: Instant,
 ) -> Result<Answer, AllocError>
-    ensures answer { IfOk result (λ a. IsAnswer (policy_of H.masks H.hides H.unmasks H.reveals K.sealed K.opened end.old) end.old.end [] (Call.Poll now) a) }
-    ensures lacking { IfOk result (λ a. LacksWhere (policy_of H.masks H.hides H.unmasks H.reveals K.sealed K.opened end.old) end.old.end [] (Call.Poll now) a) }
-    ensures end { IfOk result (λ a. IsLeft (fails a) (policy_of H.masks H.hides H.unmasks H.reveals K.sealed K.opened end.old) end.old.end [] (Call.Poll now) a end.new.end) }
-    ensures given { IfOk result (λ a. mine.new.items ≡ mine.old.items ++ gives (policy_of H.masks H.hides H.unmasks H.reveals K.sealed K.opened end.old) end.old.end (Call.Poll now) a) }
+    ensures answer { IfOk result (λ a.
+        IsAnswer (policy_of H.protection K.aead end.old) end.old.end [] (Call.Poll now) a) }
+    ensures lacking { IfOk result (λ a.
+        LacksWhere (policy_of H.protection K.aead end.old) end.old.end [] (Call.Poll now) a) }
+    ensures end { IfOk result (λ a.
+        IsLeft (fails a) (policy_of H.protection K.aead end.old) end.old.end [] (Call.Poll now) a
+        end.new.end) }
+    ensures given { IfOk result (λ a.
+        mine.new.items
+        ≡ mine.old.items ++ gives (policy_of H.protection K.aead end.old) end.old.end
+        (Call.Poll now) a) }
     ensures keys { end.new ≡ with_end end.old end.new.end }
     ensures err { OnErr result (end.new ≡ end.old) }
     ensures err_given { OnErr result (mine.new.items ≡ mine.old.items) }
@@ -196,9 +225,15 @@ fn deliver_at<H: HeaderKey + Drop, K: PacketKey + Drop, R: Rng + Drop>(
     theirs: &[Datagram],
     delivery: &Delivery,
 ) -> Result<Answer, AllocError>
-    ensures answer { IfOk result (λ a. IsAnswer (policy_of H.masks H.hides H.unmasks H.reveals K.sealed K.opened end.old) end.old.end theirs.now (Call.Deliver delivery.entry.now) a) }
-    ensures lacking { IfOk result (λ a. LacksWhere (policy_of H.masks H.hides H.unmasks H.reveals K.sealed K.opened end.old) end.old.end theirs.now (Call.Deliver delivery.entry.now) a) }
-    ensures end { IfOk result (λ a. IsLeft (fails a) (policy_of H.masks H.hides H.unmasks H.reveals K.sealed K.opened end.old) end.old.end theirs.now (Call.Deliver delivery.entry.now) a end.new.end) }
+    ensures answer { IfOk result (λ a.
+        IsAnswer (policy_of H.protection K.aead end.old) end.old.end theirs.now
+        (Call.Deliver delivery.entry.now) a) }
+    ensures lacking { IfOk result (λ a.
+        LacksWhere (policy_of H.protection K.aead end.old) end.old.end theirs.now
+        (Call.Deliver delivery.entry.now) a) }
+    ensures end { IfOk result (λ a.
+        IsLeft (fails a) (policy_of H.protection K.aead end.old) end.old.end theirs.now
+        (Call.Deliver delivery.entry.now) a end.new.end) }
     ensures keys { end.new ≡ with_end end.old end.new.end }
     ensures err { OnErr result (end.new ≡ end.old) }
     ensures own { OnErr result (IsSome (slice_get theirs.now delivery.entry.now.index)) }
@@ -218,8 +253,12 @@ fn inject_at<H: HeaderKey + Drop, K: PacketKey + Drop, R: Rng + Drop>(
     end: &mut Connection<H, K, R>,
     injection: &Injection,
 ) -> Result<Answer, AllocError>
-    ensures answer { IfOk result (λ a. IsAnswer (policy_of H.masks H.hides H.unmasks H.reveals K.sealed K.opened end.old) end.old.end [] (Call.Inject injection.entry.now) a) }
-    ensures end { IfOk result (λ a. IsLeft (fails a) (policy_of H.masks H.hides H.unmasks H.reveals K.sealed K.opened end.old) end.old.end [] (Call.Inject injection.entry.now) a end.new.end) }
+    ensures answer { IfOk result (λ a.
+        IsAnswer (policy_of H.protection K.aead end.old) end.old.end []
+        (Call.Inject injection.entry.now) a) }
+    ensures end { IfOk result (λ a.
+        IsLeft (fails a) (policy_of H.protection K.aead end.old) end.old.end []
+        (Call.Inject injection.entry.now) a end.new.end) }
     ensures keys { end.new ≡ with_end end.old end.new.end }
     ensures err { OnErr result (end.new ≡ end.old) }
 {
@@ -237,9 +276,13 @@ fn read_at<H: HeaderKey + Drop, K: PacketKey + Drop, R: Rng + Drop>(
     end: &mut Connection<H, K, R>,
     read: &ReadCall,
 ) -> Result<Answer, AllocError>
-    ensures answer { IfOk result (λ a. IsAnswer (policy_of H.masks H.hides H.unmasks H.reveals K.sealed K.opened end.old) end.old.end [] (Call.Read read.now) a) }
-    ensures lacking { IfOk result (λ a. LacksWhere (policy_of H.masks H.hides H.unmasks H.reveals K.sealed K.opened end.old) end.old.end [] (Call.Read read.now) a) }
-    ensures end { IfOk result (λ a. IsLeft (fails a) (policy_of H.masks H.hides H.unmasks H.reveals K.sealed K.opened end.old) end.old.end [] (Call.Read read.now) a end.new.end) }
+    ensures answer { IfOk result (λ a.
+        IsAnswer (policy_of H.protection K.aead end.old) end.old.end [] (Call.Read read.now) a) }
+    ensures lacking { IfOk result (λ a.
+        LacksWhere (policy_of H.protection K.aead end.old) end.old.end [] (Call.Read read.now) a) }
+    ensures end { IfOk result (λ a.
+        IsLeft (fails a) (policy_of H.protection K.aead end.old) end.old.end [] (Call.Read read.now)
+        a end.new.end) }
     ensures keys { end.new ≡ with_end end.old end.new.end }
     ensures err { OnErr result (end.new ≡ end.old) }
 {
@@ -265,9 +308,13 @@ fn read_each<H: HeaderKey + Drop, K: PacketKey + Drop, R: Rng + Drop>(
     requires empty { items.old.items ≡ [] }
     requires room { length nexts.now ≤ vec_capacity items.old }
     ensures same_reference { chunks.new.connection.ghost_name ≡ chunks.old.connection.ghost_name }
-    ensures answers { AreNexts chunks.old.connection.now.end chunks.old.id nexts.now items.new.items }
-    ensures lacking { NextsLack chunks.old.connection.now.end chunks.old.id nexts.now items.new.items }
-    ensures end { chunks.new.connection.now ≡ with_end chunks.old.connection.now (after_nexts chunks.old.connection.now.end chunks.old.id nexts.now items.new.items) }
+    ensures answers { AreNexts chunks.old.connection.now.end chunks.old.id nexts.now
+        items.new.items }
+    ensures lacking { NextsLack chunks.old.connection.now.end chunks.old.id nexts.now
+        items.new.items }
+    ensures end { chunks.new.connection.now
+        ≡ with_end chunks.old.connection.now (
+        after_nexts chunks.old.connection.now.end chunks.old.id nexts.now items.new.items) }
 {
     for max_length in nexts {
         items.push_reserved(chunks.next(*max_length));
@@ -336,25 +383,53 @@ pub fn run<H: HeaderKey + Drop, K: PacketKey + Drop, R: Rng + Drop>(
     ends: Ends<H, K, R>,
     events: &[RunEvent],
 ) -> Outcome<H, K, R>
-    ensures follows { Follows (policies_of H.masks H.hides H.unmasks H.reveals K.sealed K.opened ends) (first_world ends) events.now result.answers.items result.views.items (world_of result.ends result.given) }
+    ensures follows { Follows (policies_of H.protection K.aead ends) (first_world ends) events.now
+        result.answers.items result.views.items (world_left result) }
     ensures whole { result.cut_short ≡ false → length result.answers.items ≡ length events.now }
     ensures stopped { result.cut_short ≡ true → length result.answers.items < length events.now }
     ensures held { held_of result.ends ≡ held_of ends }
-    ensures ordered_prefix { let r = run_of (policies_of H.masks H.hides H.unmasks H.reveals K.sealed K.opened ends) ends events.now result.answers.items result.views.items result.given in IsHonest r → OrderedPrefix r }
-    ensures slices { let r = run_of (policies_of H.masks H.hides H.unmasks H.reveals K.sealed K.opened ends) ends events.now result.answers.items result.views.items result.given in IsHonest r → Slices r }
-    ensures once { let r = run_of (policies_of H.masks H.hides H.unmasks H.reveals K.sealed K.opened ends) ends events.now result.answers.items result.views.items result.given in IsHonest r → Once r }
-    ensures end_after_all { let r = run_of (policies_of H.masks H.hides H.unmasks H.reveals K.sealed K.opened ends) ends events.now result.answers.items result.views.items result.given in IsHonest r → EndAfterAll r }
-    ensures blocked_only_without_bytes { let r = run_of (policies_of H.masks H.hides H.unmasks H.reveals K.sealed K.opened ends) ends events.now result.answers.items result.views.items result.given in IsHonest r → BlockedOnlyWithoutBytes r }
-    ensures accepts_all { let r = run_of (policies_of H.masks H.hides H.unmasks H.reveals K.sealed K.opened ends) ends events.now result.answers.items result.views.items result.given in IsHonest r → AcceptsAll r }
-    ensures finished_means_arrived { let r = run_of (policies_of H.masks H.hides H.unmasks H.reveals K.sealed K.opened ends) ends events.now result.answers.items result.views.items result.given in IsHonest r → FinishedMeansArrived r }
-    ensures told_once { let r = run_of (policies_of H.masks H.hides H.unmasks H.reveals K.sealed K.opened ends) ends events.now result.answers.items result.views.items result.given in IsHonest r → TellsOnce r (world_of result.ends result.given) }
-    ensures duties_stand { let r = run_of (policies_of H.masks H.hides H.unmasks H.reveals K.sealed K.opened ends) ends events.now result.answers.items result.views.items result.given in IsHonest r → DutiesStand r (world_of result.ends result.given) }
-    ensures tracks_in_flight { let r = run_of (policies_of H.masks H.hides H.unmasks H.reveals K.sealed K.opened ends) ends events.now result.answers.items result.views.items result.given in IsHonest r → TracksInFlight r (world_of result.ends result.given) }
-    ensures acknowledged_were_taken { let r = run_of (policies_of H.masks H.hides H.unmasks H.reveals K.sealed K.opened ends) ends events.now result.answers.items result.views.items result.given in IsHonest r → AcknowledgedWereTaken r }
-    ensures loss_timers_follow { LossTimersFollow (first_world ends) → LossTimersFollow (world_of result.ends result.given) }
-    ensures ack_timers_follow { AckTimersFollow (first_world ends) → AckTimersFollow (world_of result.ends result.given) }
-    ensures numbers_rise { let r = run_of (policies_of H.masks H.hides H.unmasks H.reveals K.sealed K.opened ends) ends events.now result.answers.items result.views.items result.given in IsHonest r → NumbersRise r }
+    ensures ordered_prefix { OnHonest H.protection K.aead ends events.now result OrderedPrefix }
+    ensures slices { OnHonest H.protection K.aead ends events.now result Slices }
+    ensures once { OnHonest H.protection K.aead ends events.now result Once }
+    ensures end_after_all { OnHonest H.protection K.aead ends events.now result EndAfterAll }
+    ensures blocked_only_without_bytes { OnHonest H.protection K.aead ends events.now result
+        BlockedOnlyWithoutBytes }
+    ensures accepts_all { OnHonest H.protection K.aead ends events.now result AcceptsAll }
+    ensures finished_means_arrived { OnHonest H.protection K.aead ends events.now result
+        FinishedMeansArrived }
+    ensures told_once { OnHonest H.protection K.aead ends events.now result (λ r.
+        TellsOnce r (world_left result)) }
+    ensures duties_stand { OnHonest H.protection K.aead ends events.now result (λ r.
+        DutiesStand r (world_left result)) }
+    ensures tracks_in_flight { OnHonest H.protection K.aead ends events.now result (λ r.
+        TracksInFlight r (world_left result)) }
+    ensures acknowledged_were_taken { OnHonest H.protection K.aead ends events.now result
+        AcknowledgedWereTaken }
+    ensures names_were_taken { OnHonest H.protection K.aead ends events.now result NamesWereTaken }
+    ensures opens_exactly { OnHonest H.protection K.aead ends events.now result OpensExactly }
+    ensures loss_timers_follow { LossTimersFollow (first_world ends)
+        → LossTimersFollow (world_left result) }
+    ensures ack_timers_follow { AckTimersFollow (first_world ends)
+        → AckTimersFollow (world_left result) }
+    ensures numbers_rise { OnHonest H.protection K.aead ends events.now result NumbersRise }
 {
+    // What every run of the machine keeps: laws, which do nothing.
+    headline::ordered_prefix();
+    headline::slices();
+    headline::once();
+    headline::end_after_all();
+    headline::blocked_only_without_bytes();
+    headline::accepts_all();
+    headline::finished_means_arrived();
+    headline::told_once();
+    headline::duties_stand();
+    headline::tracks_in_flight();
+    headline::acknowledged_were_taken();
+    headline::names_were_taken();
+    headline::opens_exactly();
+    headline::loss_timers_follow();
+    headline::ack_timers_follow();
+    headline::numbers_rise();
     run_events(alloc, ends, events)
 }
 
@@ -364,7 +439,8 @@ fn run_events<H: HeaderKey + Drop, K: PacketKey + Drop, R: Rng + Drop>(
     mut ends: Ends<H, K, R>,
     events: &[RunEvent],
 ) -> Outcome<H, K, R>
-    ensures follows { Follows (policies_of H.masks H.hides H.unmasks H.reveals K.sealed K.opened ends) (first_world ends) events.now result.answers.items result.views.items (world_of result.ends result.given) }
+    ensures follows { Follows (policies_of H.protection K.aead ends) (first_world ends) events.now
+        result.answers.items result.views.items (world_left result) }
     ensures whole { result.cut_short ≡ false → length result.answers.items ≡ length events.now }
     ensures stopped { result.cut_short ≡ true → length result.answers.items < length events.now }
     ensures held { held_of result.ends ≡ held_of ends }

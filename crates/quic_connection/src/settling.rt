@@ -1,20 +1,16 @@
 //! Two ends that talk until both rest.
 ghost use Rattle.std.specs.Prelude.{◌≡◌, ◌≤◌, ◌<◌, ◌+◌, ◌⊎◌, ◌||◌, Bool, true, false, Ok, None, length, IfOk, OnOk, OnErr, IfSome, IfNone};
 ghost use Rattle.quic_wire_core.specs.declared.stream_id.Side.TheVariants.{Client, Server};
-ghost use Rattle.quic_wire_core.specs.StreamId.{other_side};
-ghost use Rattle.quic_connection_core.specs.declared.answers.State.TheVariants as states;
 ghost use Rattle.quic_time.specs.Timers.{earlier};
-ghost use Rattle.quic_connection_core.specs.End.{End};
-ghost use Rattle.quic_connection_core.specs.Machine.{end_at, given_by};
-ghost use Rattle.quic_connection_core.specs.Runs.{gave};
+ghost use Rattle.quic_machine.specs.End.{End};
+ghost use Rattle.quic_machine.specs.Machine.{given_by, gave};
 ghost use Rattle.quic_connection.specs.Ends.{world_of, policies_of, held_of};
-ghost use Rattle.quic_connection_core.specs.Poll.{IsSilent};
-ghost use Rattle.quic_connection.specs.Settled.{Talks, Leads, asks, quiet, polled_on, IsPolled, IsHandled, IsHalfHandled, IsHalfPolled, IsCutOff, AreSilent, AreOpen, AreAtRest, HasClosed, Settles, end_wakes, wakes};
+ghost use Rattle.quic_connection.specs.Settled.{Talks, Leads, asks, quiet, polled_on, IsPolled, IsHandled, IsHalfHandled, IsHalfPolled, IsCutOff, AreOpen, AreAtRest, HasClosed, Settles, end_wakes, wakes};
 ghost use Rattle.quic_connection.specs.declared.running.Given.{Given};
 
 use crate::running::{Ends, Given, step};
-use quic_connection_core::{Answer, Call, Delivery, Instant, RunEvent, Timer};
-use quic_end::Connection;
+use quic_connection_core::Connection;
+use quic_machine::{Answer, Call, Delivery, Instant, RunEvent, Timer};
 use quic_packet::crypto::{HeaderKey, PacketKey};
 use quic_wire_core::Side;
 use rand_core::Rng;
@@ -28,8 +24,9 @@ const MOST_POLLS: u64 = 10_000;
 /// timer of loss, of acknowledgements or of pacing is set then, the moment is the earliest of these, or stays if that came
 /// before, both ends handle it, and they go on.
 ///
-/// It answers the moment at which both rest: they are open, have nothing to send, and none of these timers is set. `None`
-/// says that it gave up: an end isn't open, or 10000 polls were made. All datagrams stand in `given`.
+/// It answers the moment at which both rest: they are open, the last call at each was a poll that answered `None`, and none
+/// of these timers is set. Whether their paths are validated isn't asked. `None` says that it gave up: an end isn't open,
+/// or 10000 polls were made. All datagrams stand in `given`.
 ///
 /// # Errors
 ///
@@ -40,10 +37,14 @@ pub fn settle<H: HeaderKey + Drop, K: PacketKey + Drop, R: Rng + Drop>(
     given: &mut Given,
     now: Instant,
 ) -> Result<Option<Instant>, AllocError>
-    ensures settles { Settles (policies_of H.masks H.hides H.unmasks H.reveals K.sealed K.opened ends.old) now (world_of ends.old given.old) result (world_of ends.new given.new) }
-    ensures keys { policies_of H.masks H.hides H.unmasks H.reveals K.sealed K.opened ends.new ≡ policies_of H.masks H.hides H.unmasks H.reveals K.sealed K.opened ends.old }
+    ensures settles { Settles (policies_of H.protection K.aead ends.old) now
+        (world_of ends.old given.old) result (world_of ends.new given.new) }
+    ensures keys { policies_of H.protection K.aead ends.new
+        ≡ policies_of H.protection K.aead ends.old }
     ensures held { held_of ends.new ≡ held_of ends.old }
-    ensures rest { IfOk result (λ moment. IfSome moment (λ _. AreAtRest (world_of ends.new given.new))) }
+    ensures rest { IfOk result (λ moment. IfSome moment (λ moment.
+        AreAtRest (policies_of H.protection K.aead ends.old) now (world_of ends.old given.old)
+        moment (world_of ends.new given.new))) }
     ensures later { IfOk result (λ moment. IfSome moment (λ moment. now ≤ moment)) }
 {
     let mut moment = now;
@@ -68,14 +69,20 @@ fn talk<H: HeaderKey + Drop, K: PacketKey + Drop, R: Rng + Drop>(
     now: Instant,
     left: &mut u64,
 ) -> Result<bool, AllocError>
-    ensures talks { result ≡ Ok true → Talks (policies_of H.masks H.hides H.unmasks H.reveals K.sealed K.opened ends.old) now now (asks Client false) quiet left.old left.new (world_of ends.old given.old) (world_of ends.new given.new) }
-    ensures stops { result ≡ Ok false → Leads (policies_of H.masks H.hides H.unmasks H.reveals K.sealed K.opened ends.old) now now (asks Client false) left.old left.new (world_of ends.old given.old) (world_of ends.new given.new) }
-    ensures cut { OnErr result (IsCutOff (policies_of H.masks H.hides H.unmasks H.reveals K.sealed K.opened ends.old) now (asks Client false) left.old (world_of ends.old given.old) (world_of ends.new given.new)) }
-    ensures keys { policies_of H.masks H.hides H.unmasks H.reveals K.sealed K.opened ends.new ≡ policies_of H.masks H.hides H.unmasks H.reveals K.sealed K.opened ends.old }
+    ensures talks { result ≡ Ok true
+        → Talks (policies_of H.protection K.aead ends.old) now now (asks Client false) quiet
+        left.old left.new (world_of ends.old given.old) (world_of ends.new given.new) }
+    ensures stops { result ≡ Ok false
+        → Leads (policies_of H.protection K.aead ends.old) now now (asks Client false) left.old
+        left.new (world_of ends.old given.old) (world_of ends.new given.new) }
+    ensures cut { OnErr result (
+        IsCutOff (policies_of H.protection K.aead ends.old) now (asks Client false) left.old
+        (world_of ends.old given.old) (world_of ends.new given.new)) }
+    ensures keys { policies_of H.protection K.aead ends.new
+        ≡ policies_of H.protection K.aead ends.old }
     ensures held { held_of ends.new ≡ held_of ends.old }
     ensures less { result ≡ Ok true → left.new < left.old }
     ensures opened { result ≡ Ok true → AreOpen (world_of ends.new given.new) }
-    ensures silent { result ≡ Ok true → AreSilent (world_of ends.new given.new) }
     ensures gave_up { result ≡ Ok false → HasClosed (world_of ends.new given.new) ⊎ (left.new ≡ 0) }
 {
     loop {
@@ -96,14 +103,23 @@ fn round<H: HeaderKey + Drop, K: PacketKey + Drop, R: Rng + Drop>(
     now: Instant,
     left: &mut u64,
 ) -> Result<Option<bool>, AllocError>
-    ensures talks { IfOk result (λ gave. IfSome gave (λ gave. Talks (policies_of H.masks H.hides H.unmasks H.reveals K.sealed K.opened ends.old) now now (asks Client false) (polled_on Server gave false) left.old left.new (world_of ends.old given.old) (world_of ends.new given.new))) }
-    ensures stops { IfOk result (λ gave. IfNone gave (Leads (policies_of H.masks H.hides H.unmasks H.reveals K.sealed K.opened ends.old) now now (asks Client false) left.old left.new (world_of ends.old given.old) (world_of ends.new given.new))) }
-    ensures cut { OnErr result (IsCutOff (policies_of H.masks H.hides H.unmasks H.reveals K.sealed K.opened ends.old) now (asks Client false) left.old (world_of ends.old given.old) (world_of ends.new given.new)) }
-    ensures keys { policies_of H.masks H.hides H.unmasks H.reveals K.sealed K.opened ends.new ≡ policies_of H.masks H.hides H.unmasks H.reveals K.sealed K.opened ends.old }
+    ensures talks { IfOk result (λ gave. IfSome gave (λ gave.
+        Talks (policies_of H.protection K.aead ends.old) now now (asks Client false)
+        (polled_on Server gave false) left.old left.new (world_of ends.old given.old)
+        (world_of ends.new given.new))) }
+    ensures stops { IfOk result (λ gave.
+        IfNone gave (
+        Leads (policies_of H.protection K.aead ends.old) now now (asks Client false) left.old
+        left.new (world_of ends.old given.old) (world_of ends.new given.new))) }
+    ensures cut { OnErr result (
+        IsCutOff (policies_of H.protection K.aead ends.old) now (asks Client false) left.old
+        (world_of ends.old given.old) (world_of ends.new given.new)) }
+    ensures keys { policies_of H.protection K.aead ends.new
+        ≡ policies_of H.protection K.aead ends.old }
     ensures held { held_of ends.new ≡ held_of ends.old }
     ensures less { IfOk result (λ gave. IfSome gave (λ _. left.new < left.old)) }
-    ensures silent { IfOk result (λ gave. IfSome gave (λ gave. gave ≡ false → AreOpen (world_of ends.new given.new) → AreSilent (world_of ends.new given.new))) }
-    ensures gave_up { IfOk result (λ gave. IfNone gave (HasClosed (world_of ends.new given.new) ⊎ (left.new ≡ 0))) }
+    ensures gave_up { IfOk result (λ gave.
+        IfNone gave (HasClosed (world_of ends.new given.new) ⊎ (left.new ≡ 0))) }
 {
     let Some(client) = poll_all(alloc, ends, given, Side::Client, now, left)? else {
         return Ok(None);
@@ -124,15 +140,26 @@ fn poll_all<H: HeaderKey + Drop, K: PacketKey + Drop, R: Rng + Drop>(
     now: Instant,
     left: &mut u64,
 ) -> Result<Option<bool>, AllocError>
-    ensures talks { IfOk result (λ gave. IfSome gave (λ gave. (before : Bool) → Talks (policies_of H.masks H.hides H.unmasks H.reveals K.sealed K.opened ends.old) now now (asks side before) (polled_on side (before || gave) false) left.old left.new (world_of ends.old given.old) (world_of ends.new given.new))) }
-    ensures stops { IfOk result (λ gave. IfNone gave ((before : Bool) → Leads (policies_of H.masks H.hides H.unmasks H.reveals K.sealed K.opened ends.old) now now (asks side before) left.old left.new (world_of ends.old given.old) (world_of ends.new given.new))) }
-    ensures cut { OnErr result ((before : Bool) → IsCutOff (policies_of H.masks H.hides H.unmasks H.reveals K.sealed K.opened ends.old) now (asks side before) left.old (world_of ends.old given.old) (world_of ends.new given.new)) }
-    ensures keys { policies_of H.masks H.hides H.unmasks H.reveals K.sealed K.opened ends.new ≡ policies_of H.masks H.hides H.unmasks H.reveals K.sealed K.opened ends.old }
+    ensures talks { IfOk result (λ gave. IfSome gave (λ gave.
+        (before : Bool)
+        → Talks (policies_of H.protection K.aead ends.old) now now (asks side before)
+        (polled_on side (before || gave) false) left.old left.new (world_of ends.old given.old)
+        (world_of ends.new given.new))) }
+    ensures stops { IfOk result (λ gave.
+        IfNone gave (
+        (before : Bool)
+        → Leads (policies_of H.protection K.aead ends.old) now now (asks side before) left.old
+        left.new (world_of ends.old given.old) (world_of ends.new given.new))) }
+    ensures cut { OnErr result (
+        (before : Bool)
+        → IsCutOff (policies_of H.protection K.aead ends.old) now (asks side before) left.old
+        (world_of ends.old given.old) (world_of ends.new given.new)) }
+    ensures keys { policies_of H.protection K.aead ends.new
+        ≡ policies_of H.protection K.aead ends.old }
     ensures held { held_of ends.new ≡ held_of ends.old }
     ensures less { IfOk result (λ gave. IfSome gave (λ _. left.new < left.old)) }
-    ensures silent { IfOk result (λ gave. IfSome gave (λ _. (end_at side (world_of ends.new given.new)).closing.state ≡ states.Open → IsSilent (end_at side (world_of ends.new given.new)))) }
-    ensures other { IfOk result (λ gave. IfSome gave (λ gave. gave ≡ false → end_at (other_side side) (world_of ends.new given.new) ≡ end_at (other_side side) (world_of ends.old given.old))) }
-    ensures gave_up { IfOk result (λ gave. IfNone gave (HasClosed (world_of ends.new given.new) ⊎ (left.new ≡ 0))) }
+    ensures gave_up { IfOk result (λ gave.
+        IfNone gave (HasClosed (world_of ends.new given.new) ⊎ (left.new ≡ 0))) }
 {
     let mut gave = false;
     while *left > 0 && are_open(ends) {
@@ -155,13 +182,17 @@ fn poll_once<H: HeaderKey + Drop, K: PacketKey + Drop, R: Rng + Drop>(
 ) -> Result<bool, AllocError>
     requires some_left { 0 < left.old }
     requires opened { AreOpen (world_of ends.old given.old) }
-    ensures polled { IfOk result (λ gave. IsPolled (policies_of H.masks H.hides H.unmasks H.reveals K.sealed K.opened ends.old) side now gave (world_of ends.old given.old) (world_of ends.new given.new)) }
-    ensures cut { OnErr result ((world_of ends.new given.new ≡ world_of ends.old given.old) ⊎ IsHalfPolled (policies_of H.masks H.hides H.unmasks H.reveals K.sealed K.opened ends.old) side now (world_of ends.old given.old) (world_of ends.new given.new)) }
-    ensures keys { policies_of H.masks H.hides H.unmasks H.reveals K.sealed K.opened ends.new ≡ policies_of H.masks H.hides H.unmasks H.reveals K.sealed K.opened ends.old }
+    ensures polled { IfOk result (λ gave.
+        IsPolled (policies_of H.protection K.aead ends.old) side now gave
+        (world_of ends.old given.old) (world_of ends.new given.new)) }
+    ensures cut { OnErr result (
+        (world_of ends.new given.new ≡ world_of ends.old given.old)
+        ⊎ IsHalfPolled (policies_of H.protection K.aead ends.old) side now
+        (world_of ends.old given.old) (world_of ends.new given.new)) }
+    ensures keys { policies_of H.protection K.aead ends.new
+        ≡ policies_of H.protection K.aead ends.old }
     ensures held { held_of ends.new ≡ held_of ends.old }
     ensures less { IfOk result (λ _. left.new + 1 ≡ left.old) }
-    ensures silent { IfOk result (λ gave. gave ≡ false → (end_at side (world_of ends.new given.new)).closing.state ≡ states.Open → IsSilent (end_at side (world_of ends.new given.new))) }
-    ensures other { IfOk result (λ gave. gave ≡ false → end_at (other_side side) (world_of ends.new given.new) ≡ end_at (other_side side) (world_of ends.old given.old)) }
 {
     let index = count_given(given, side);
     let poll = RunEvent {
@@ -200,9 +231,15 @@ fn time_out<H: HeaderKey + Drop, K: PacketKey + Drop, R: Rng + Drop>(
     given: &mut Given,
     now: Instant,
 ) -> Result<(), AllocError>
-    ensures handled { OnOk result (IsHandled (policies_of H.masks H.hides H.unmasks H.reveals K.sealed K.opened ends.old) now (world_of ends.old given.old) (world_of ends.new given.new)) }
-    ensures cut { OnErr result ((world_of ends.new given.new ≡ world_of ends.old given.old) ⊎ IsHalfHandled (policies_of H.masks H.hides H.unmasks H.reveals K.sealed K.opened ends.old) now (world_of ends.old given.old) (world_of ends.new given.new)) }
-    ensures keys { policies_of H.masks H.hides H.unmasks H.reveals K.sealed K.opened ends.new ≡ policies_of H.masks H.hides H.unmasks H.reveals K.sealed K.opened ends.old }
+    ensures handled { OnOk result (
+        IsHandled (policies_of H.protection K.aead ends.old) now (world_of ends.old given.old)
+        (world_of ends.new given.new)) }
+    ensures cut { OnErr result (
+        (world_of ends.new given.new ≡ world_of ends.old given.old)
+        ⊎ IsHalfHandled (policies_of H.protection K.aead ends.old) now (world_of ends.old given.old)
+        (world_of ends.new given.new)) }
+    ensures keys { policies_of H.protection K.aead ends.new
+        ≡ policies_of H.protection K.aead ends.old }
     ensures held { held_of ends.new ≡ held_of ends.old }
 {
     let client = RunEvent {
@@ -220,7 +257,12 @@ fn time_out<H: HeaderKey + Drop, K: PacketKey + Drop, R: Rng + Drop>(
 
 /// How many datagrams an end gave.
 fn count_given(given: &Given, side: Side) -> usize
-    ensures { (client server : End) → result ≡ length (given_by side (record { client = client; server = server; from_client = given.now.client.items; from_server = given.now.server.items })) }
+    ensures { (client server : End) → result ≡ length (given_by side (record {
+      client = client;
+      server = server;
+      from_client = given.now.client.items;
+      from_server = given.now.server.items;
+    })) }
 {
     match side {
         Side::Client => given.client.len(),

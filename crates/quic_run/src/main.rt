@@ -1,4 +1,5 @@
-//! Runs a script of calls at two ends of a connection: reads it from standard input, and prints what each line answers.
+//! Runs a script of calls at two endpoints of a connection: reads it from standard input, and
+//! prints what each line answers.
 #![tactic(auto)]
 
 use quic_run_core::run_script;

@@ -6,14 +6,14 @@ use Rattle.quic_wire_core.specs.declared.stream_id.Side.TheVariants.{Client, Ser
 use Rattle.quic_wire_core.specs.StreamId.{other_side}
 use Rattle.quic_parameters.specs.Parameters.{ParameterValues}
 use Rattle.quic_parameters.specs.ParametersRead.{parameters_at}
-use Rattle.quic_connection_core.specs.declared.answers.ConfigError.{ConfigError}
-use Rattle.quic_connection_core.specs.declared.run.RunEvent.{RunEvent}
-use Rattle.quic_connection_core.specs.declared.run.Answer.{Answer}
+use Rattle.quic_machine.specs.declared.answers.ConfigError.{ConfigError}
+use Rattle.quic_machine.specs.declared.run.RunEvent.{RunEvent}
+use Rattle.quic_machine.specs.declared.run.Answer.{Answer}
 use Rattle.quic_config.specs.Transport.{Settings, settings_with, parameters_of}
-use Rattle.quic_connection_core.specs.End.{End, MadeFrom, refusal_of}
-use Rattle.quic_connection_core.specs.Machine.{World, Policies, IsStep, given_by, end_at, changed, gives, policy_at}
+use Rattle.quic_machine.specs.End.{End, MadeFrom, refusal_of}
+use Rattle.quic_machine.specs.Machine.{World, Policies, IsStep, given_by, end_at, changed, gives, policy_at}
 use Rattle.quic_run_core.specs.declared.options.Options.{Options}
-use Rattle.quic_connection_core.specs.Headline.{IsMaking, AreStarted}
+use Rattle.quic_machine.specs.Start.{IsMaking, AreStarted}
 use Rattle.quic_run_core.specs.Scripts.{first_id, first_end, first_world, making}
 
 -- the ids of both ends are lawful

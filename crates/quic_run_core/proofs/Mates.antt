@@ -8,13 +8,15 @@ use Rattle.std.proofs.lemmas.Bool.{le-leb}
 use Rattle.std.proofs.lemmas.Nat.{from_be_bytes-to_be_bytes_8}
 use Rattle.std.proofs.lemmas.List.{take_at, drop_at}
 use Rattle.std.proofs.lemmas.Slice.Eq.{bytes_eq-Decides}
-use Rattle.quic_packet.specs.Keys.{IsHeaderMate, IsMate, AreMates}
+use Rattle.quic_packet.specs.Keys.{Seal, Open, IsHeaderMate, IsMate, AreMates}
 use Rattle.quic_wire_core.specs.declared.stream_id.Side.{Side}
 use Rattle.quic_wire_core.specs.declared.stream_id.Side.TheVariants.{Client, Server}
 use Rattle.quic_wire_core.specs.StreamId.{other_side}
+use Rattle.quic_machine.specs.Policy.{CanOpen}
 use Rattle.quic_run_core.specs.KeysOf.{keys_of}
-use Rattle.quic_run_core.specs.Plain.{xored, mask_first, mask_number, tag, plain_sealed, plain_opened}
+use Rattle.quic_run_core.specs.Plain.{xored, mask_first, mask_number, tag, plain_sealed, plain_opened, plain_protection, plain_aead}
 use Rattle.quic_run_core.specs.PlainLaw.{number_length, adds_tag}
+use Rattle.quic_run_core.specs.Policies.{plain_policy}
 
 -- masking twice is masking not at all
 xor_twice : (a m : ℕ) → bit_xor (bit_xor a m) m ≡ a
@@ -26,7 +28,7 @@ xored_twice [] m = refl
 xored_twice (b ∷ bs) m = rw (xor_twice b (slice_index m 0), xored_twice bs (drop 1 m)) refl
 
 -- masking by the sample is its own mate
-pub header_mate : IsHeaderMate mask_first mask_number mask_first mask_number
+pub header_mate : IsHeaderMate plain_protection plain_protection
 header_mate = record {
   first = λ s b lt. xor_twice b (slice_index s 0 % 32);
   number = λ s y le. xored_twice y (drop 1 s);
@@ -48,9 +50,9 @@ tags_differ mark m n true small lt ne e =
     absurd (ne (sym equal))
 tags_differ mark m n false small lt ne e = refl
 
--- the packet keys of one mark are mates
-pub plain_mate : (mark : ℕ) → IsMate (plain_sealed mark) (plain_opened mark)
-plain_mate mark = record {
+-- what is sealed with a mark opens by that mark
+plain_mate : (mark : ℕ) (unseal : Open) (seal : Seal) → IsMate (record { seal = plain_sealed mark; unseal = unseal }) (record { seal = seal; unseal = plain_opened mark })
+plain_mate mark unseal seal = record {
   opens_its = λ n h p lt.
       let len : length (p ++ tag mark n) ≡ length p + 16 = adds_tag mark n h p in
       let cut : length p + 16 - 16 ≡ length p = omega arith in
@@ -65,6 +67,11 @@ plain_mate mark = record {
 }
 
 -- what either end seals with is the mate of what the other opens with
-pub keys_mate : (side : Side) → AreMates mask_first mask_number (plain_sealed (keys_of side).packet.local.mark) mask_first mask_number (plain_opened (keys_of (other_side side)).packet.remote.mark)
-keys_mate Client = record { header = header_mate; packet = plain_mate 0x63 }
-keys_mate Server = record { header = header_mate; packet = plain_mate 0x73 }
+pub keys_mate : (side : Side) → AreMates plain_protection (plain_aead (keys_of side).packet.local.mark) plain_protection (plain_aead (keys_of (other_side side)).packet.remote.mark)
+keys_mate Client = record { header = header_mate; packet = plain_mate 0x63 _ _ }
+keys_mate Server = record { header = header_mate; packet = plain_mate 0x73 _ _ }
+
+-- what either end gives, the other one can open
+pub policies_mate : (side : Side) → CanOpen (plain_policy side) (plain_policy (other_side side))
+policies_mate Client = record { header = header_mate; packet = plain_mate 0x63 _ _ }
+policies_mate Server = record { header = header_mate; packet = plain_mate 0x73 _ _ }

@@ -9,7 +9,7 @@ use Rattle.quic_packet.specs.declared.crypto.Keys.{Keys}
 use Rattle.quic_packet.specs.Datagram.{Opening, opened_packet}
 use Rattle.quic_run_core.specs.declared.key.PlainHeaderKey.{PlainHeaderKey}
 use Rattle.quic_run_core.specs.declared.key.PlainKey.{PlainKey}
-use Rattle.quic_run_core.specs.Plain.{mask_first, mask_number, plain_opened}
+use Rattle.quic_run_core.specs.Plain.{plain_protection, plain_aead}
 use Rattle.quic_run_core.specs.KeysOf.{keys_of}
 use Rattle.quic_run_core.specs.Shown.{parts_of, opening_at, number_behind, number_of, numbers_from, expected_behind, behind_last, AreNumbers, parts_text, shown_text}
 
@@ -89,10 +89,10 @@ known_push side given ns k d x known size fits at is =
     left ∙ sym pushed ∙ ap (λ (ds : List (List ℕ)). numbers_from side 0 ds) (sym some ∙ ap (λ (i : ℕ). take i given) (sym more))
 
 -- a datagram opens to what its packet does
-pub opening_at-packet : (side : Side) (expected : ℕ) (d : List ℕ) (keys : Keys PlainHeaderKey PlainKey) (o : Option Opening) → 29 ≤ length d → keys ≡ keys_of (other_side side) → opened_packet mask_first mask_number (plain_opened keys.packet.remote.mark) 9 expected d ≡ o → opening_at side expected d ≡ parts_of o
+pub opening_at-packet : (side : Side) (expected : ℕ) (d : List ℕ) (keys : Keys PlainHeaderKey PlainKey) (o : Option Opening) → 29 ≤ length d → keys ≡ keys_of (other_side side) → opened_packet plain_protection (plain_aead keys.packet.remote.mark) 9 expected d ≡ o → opening_at side expected d ≡ parts_of o
 unfolding opening_at
 opening_at-packet side expected d keys o long same opened =
-    let is = subst (λ (k : Keys PlainHeaderKey PlainKey). opened_packet mask_first mask_number (plain_opened k.packet.remote.mark) 9 expected d ≡ o) same opened in
+    let is = subst (λ (k : Keys PlainHeaderKey PlainKey). opened_packet plain_protection (plain_aead k.packet.remote.mark) 9 expected d ≡ o) same opened in
     rw (le-ltb (length d) 29 long) (ap (λ (p : Option Opening). parts_of p) is)
 
 -- a short one doesn't open

@@ -2,6 +2,7 @@
 use Rattle.std.specs.Prelude.{ℕ, ◌-◌, ◌%◌, List, [], ◌∷◌, ◌++◌, length, take, drop, replicate, Option, Some, None, if◌then◌else◌, nat_le, nat_eq, ◌&&◌, slice_index, bit_xor}
 use Rattle.std.specs.Int.{w64, to_be_bytes}
 use Rattle.std.specs.Cmp.Lexicographic.{pointwise}
+use Rattle.quic_packet.specs.Keys.{Protection, Aead}
 
 -- bytes, each with its mask byte added bit by bit
 abbrev pub xored : List ℕ → List ℕ → List ℕ
@@ -27,3 +28,11 @@ plain_sealed mark n h p = p ++ tag mark n
 -- what stands before the tag, where the last 16 bytes are the tag
 abbrev pub plain_opened : ℕ → ℕ → List ℕ → List ℕ → Option (List ℕ)
 plain_opened mark n h b = if nat_le 16 (length b) && pointwise nat_eq (drop (length b - 16) b) (tag mark n) then Some (take (length b - 16) b) else None
+
+-- what the header keys do: masking undoes masking by the same sample
+abbrev pub plain_protection : Protection
+plain_protection = record { mask = mask_first; hide = mask_number; unmask = mask_first; reveal = mask_number }
+
+-- what the packet keys of a mark do
+abbrev pub plain_aead : ℕ → Aead
+plain_aead mark = record { seal = plain_sealed mark; unseal = plain_opened mark }

@@ -1,24 +1,23 @@
 -- What the stand-in keys of two ends do, as the machine sees it.
 use Rattle.quic_wire_core.specs.declared.stream_id.Side.{Side}
 use Rattle.quic_wire_core.specs.declared.stream_id.Side.TheVariants.{Client, Server}
-use Rattle.quic_connection_core.specs.Policy.{Policy}
-use Rattle.quic_connection_core.specs.Machine.{Policies}
+use Rattle.quic_machine.specs.Policy.{Policy}
+use Rattle.quic_machine.specs.Machine.{Policies}
 use Rattle.quic_connection.specs.Ends.{policies_of}
 use Rattle.quic_connection.specs.declared.running.Ends.{Ends}
 use Rattle.quic_run_core.specs.declared.key.PlainHeaderKey.{PlainHeaderKey}
 use Rattle.quic_run_core.specs.declared.key.PlainKey.{PlainKey}
-use Rattle.quic_run_core.specs.Plain.{mask_first, mask_number, plain_sealed, plain_opened}
+use Rattle.quic_run_core.specs.Plain.{plain_sealed, plain_opened, plain_protection, plain_aead}
 use Rattle.quic_run_core.specs.KeysOf.{keys_of}
 
 -- what the keys of an end do
 abbrev pub plain_policy : Side → Policy
 plain_policy side = record {
-  mask = mask_first;
-  hide = mask_number;
-  seal = plain_sealed (keys_of side).packet.local.mark;
-  unmask = mask_first;
-  reveal = mask_number;
-  unseal = plain_opened (keys_of side).packet.remote.mark;
+  header = plain_protection;
+  packet = record {
+    seal = plain_sealed (keys_of side).packet.local.mark;
+    unseal = plain_opened (keys_of side).packet.remote.mark;
+  };
 }
 
 -- what the keys of both do
@@ -27,4 +26,4 @@ plain_policies = record { client = plain_policy Client; server = plain_policy Se
 
 -- what the keys of these two ends do
 abbrev pub policies_in : {R : Type 0} → Ends PlainHeaderKey PlainKey R → Policies
-policies_in ends = policies_of (λ _. mask_first) (λ _. mask_number) (λ _. mask_first) (λ _. mask_number) (λ k. plain_sealed k.mark) (λ k. plain_opened k.mark) ends
+policies_in ends = policies_of (λ _. plain_protection) (λ k. plain_aead k.mark) ends

@@ -4,29 +4,29 @@ use Rattle.std.specs.Fmt.{decimal}
 use Rattle.hex.specs.Hex.{encode_lower}
 use Rattle.quic_wire_core.specs.declared.shared.EcnCodepoint.{EcnCodepoint}
 use Rattle.quic_wire_core.specs.declared.shared.EcnCodepoint.TheVariants.{Ect0, Ect1, Ce}
-use Rattle.quic_streams_core.specs.declared.connection.assembler.Chunk.{Chunk}
-use Rattle.quic_connection_core.specs.declared.answers.WriteError.{WriteError}
-use Rattle.quic_connection_core.specs.declared.answers.WriteError.TheVariants as writes
-use Rattle.quic_connection_core.specs.declared.answers.FinishError.{FinishError}
-use Rattle.quic_connection_core.specs.declared.answers.FinishError.TheVariants as finishes
-use Rattle.quic_connection_core.specs.declared.answers.ReadError.{ReadError}
-use Rattle.quic_connection_core.specs.declared.answers.ReadError.TheVariants as reads
-use Rattle.quic_connection_core.specs.declared.answers.ReadableError.TheVariants as readables
-use Rattle.quic_connection_core.specs.declared.answers.DropReason.{DropReason}
-use Rattle.quic_connection_core.specs.declared.answers.DropReason.TheVariants as drops
-use Rattle.quic_connection_core.specs.declared.answers.Received.{Received}
-use Rattle.quic_connection_core.specs.declared.answers.Received.TheVariants as receives
-use Rattle.quic_connection_core.specs.declared.answers.Transmit.{Transmit}
-use Rattle.quic_connection_core.specs.declared.answers.Failed.{Failed}
-use Rattle.quic_connection_core.specs.declared.answers.LostReason.{LostReason}
-use Rattle.quic_connection_core.specs.declared.answers.LostReason.TheVariants as losses
-use Rattle.quic_connection_core.specs.declared.answers.StreamEvent.TheVariants as happenings
-use Rattle.quic_connection_core.specs.declared.answers.Event.{Event}
-use Rattle.quic_connection_core.specs.declared.answers.Event.TheVariants as events
-use Rattle.quic_connection_core.specs.declared.run.Call.{Call}
-use Rattle.quic_connection_core.specs.declared.run.Call.TheVariants as calls
-use Rattle.quic_connection_core.specs.declared.run.Answer.{Answer}
-use Rattle.quic_connection_core.specs.declared.run.Answer.TheVariants as answers
+use Rattle.quic_assembler.specs.declared.assembler.Chunk.{Chunk}
+use Rattle.quic_streams.specs.declared.answers.WriteError.{WriteError}
+use Rattle.quic_streams.specs.declared.answers.WriteError.TheVariants as writes
+use Rattle.quic_streams.specs.declared.answers.FinishError.{FinishError}
+use Rattle.quic_streams.specs.declared.answers.FinishError.TheVariants as finishes
+use Rattle.quic_streams.specs.declared.answers.ReadError.{ReadError}
+use Rattle.quic_streams.specs.declared.answers.ReadError.TheVariants as reads
+use Rattle.quic_streams.specs.declared.answers.ReadableError.TheVariants as readables
+use Rattle.quic_machine.specs.declared.answers.DropReason.{DropReason}
+use Rattle.quic_machine.specs.declared.answers.DropReason.TheVariants as drops
+use Rattle.quic_machine.specs.declared.answers.Received.{Received}
+use Rattle.quic_machine.specs.declared.answers.Received.TheVariants as receives
+use Rattle.quic_machine.specs.declared.answers.Transmit.{Transmit}
+use Rattle.quic_machine.specs.declared.answers.Failed.{Failed}
+use Rattle.quic_machine.specs.declared.answers.LostReason.{LostReason}
+use Rattle.quic_machine.specs.declared.answers.LostReason.TheVariants as losses
+use Rattle.quic_streams.specs.declared.answers.StreamEvent.TheVariants as happenings
+use Rattle.quic_machine.specs.declared.answers.Event.{Event}
+use Rattle.quic_machine.specs.declared.answers.Event.TheVariants as events
+use Rattle.quic_machine.specs.declared.run.Call.{Call}
+use Rattle.quic_machine.specs.declared.run.Call.TheVariants as calls
+use Rattle.quic_machine.specs.declared.run.Answer.{Answer}
+use Rattle.quic_machine.specs.declared.run.Answer.TheVariants as answers
 
 -- ---- parts
 

@@ -1,6 +1,6 @@
 -- Why a line that makes the ends can't be run.
-use Rattle.quic_connection_core.specs.declared.answers.ConfigError.{ConfigError}
-use Rattle.quic_connection_core.specs.declared.answers.ConfigError.TheVariants.{Parameters, IdLength, Memory}
+use Rattle.quic_machine.specs.declared.answers.ConfigError.{ConfigError}
+use Rattle.quic_machine.specs.declared.answers.ConfigError.TheVariants.{Parameters, IdLength, Memory}
 use Rattle.quic_run_core.specs.declared.script.LineError.{LineError}
 use Rattle.quic_run_core.specs.declared.script.LineError.TheVariants.{BadCommand, OutOfMemory}
 

@@ -7,12 +7,12 @@ use Rattle.quic_wire_core.specs.declared.stream_id.Side.TheVariants.{Client, Ser
 use Rattle.quic_wire_core.specs.StreamId.{other_side}
 use Rattle.quic_config.specs.Transport.{settings_with, default_transport, parameters_of}
 use Rattle.quic_parameters.specs.ParametersWritten.{written_parameters}
-use Rattle.quic_connection_core.specs.End.{End, new_end}
-use Rattle.quic_connection_core.specs.Headline.{Making}
+use Rattle.quic_machine.specs.End.{End, new_end}
+use Rattle.quic_machine.specs.Start.{Making}
 use Rattle.quic_connection.specs.Ends.{in_order}
-use Rattle.quic_connection_core.specs.Machine.{World, IsStep, given_by}
-use Rattle.quic_connection_core.specs.declared.run.RunEvent.{RunEvent}
-use Rattle.quic_connection_core.specs.declared.run.Answer.{Answer}
+use Rattle.quic_machine.specs.Machine.{World, IsStep, given_by}
+use Rattle.quic_machine.specs.declared.run.RunEvent.{RunEvent}
+use Rattle.quic_machine.specs.declared.run.Answer.{Answer}
 use Rattle.quic_connection.specs.Settled.{AreAtRest, Settles}
 use Rattle.quic_run_core.specs.declared.options.Options.{Options}
 use Rattle.quic_run_core.specs.declared.script.Setting.{Setting}
@@ -71,7 +71,7 @@ Tells w event old new next = (text : List ℕ) × IsTold w event text next × (n
 pub record IsSettled (w : World) (now : ℕ) (text : List ℕ) (next : World) : Type 0 where
   pub answer : Option ℕ
   pub talk : Settles {E = AllocError} plain_policies now w (Ok answer) next
-  pub rest : IfSome answer (λ _. AreAtRest next)
+  pub rest : IfSome answer (λ moment. AreAtRest plain_policies now w moment next)
   pub later : IfSome answer (λ moment. now ≤ moment)
   pub is : text ≡ rest_text answer
 

@@ -4,7 +4,7 @@ use Rattle.std.specs.Fmt.{decimal}
 use Rattle.quic_wire_core.specs.declared.stream_id.Side.{Side}
 use Rattle.quic_wire_core.specs.StreamId.{other_side}
 use Rattle.quic_packet.specs.Datagram.{Opening, opened_packet}
-use Rattle.quic_run_core.specs.Plain.{mask_first, mask_number, plain_opened}
+use Rattle.quic_run_core.specs.Plain.{plain_protection, plain_aead}
 use Rattle.quic_run_core.specs.KeysOf.{keys_of}
 use Rattle.quic_run_core.specs.Printed.{bytes_text}
 
@@ -16,7 +16,7 @@ parts_of (Some o) = Some (o.number, o.payload)
 -- What a datagram of an end opens to at the other one, where this number is expected: it has a first byte, an id of
 -- eight bytes, and room for a number and a sample.
 unfoldable pub opening_at : Side → ℕ → List ℕ → Option (ℕ × List ℕ)
-opening_at side expected d = if nat_lt (length d) 29 then None else parts_of (opened_packet mask_first mask_number (plain_opened (keys_of (other_side side)).packet.remote.mark) 9 expected d)
+opening_at side expected d = if nat_lt (length d) 29 then None else parts_of (opened_packet plain_protection (plain_aead (keys_of (other_side side)).packet.remote.mark) 9 expected d)
 
 -- the number expected behind this one
 abbrev pub number_behind : ℕ → ℕ

@@ -1,6 +1,6 @@
 -- The stage that a runner is at.
 use Rattle.std.specs.Prelude.{Option, Some, None}
-use Rattle.quic_connection_core.specs.Machine.{World}
+use Rattle.quic_machine.specs.Machine.{World}
 use Rattle.quic_connection.specs.Ends.{world_of}
 use Rattle.quic_run_core.specs.declared.session.Session.{Session}
 use Rattle.quic_run_core.specs.declared.runner.Runner.{Runner}

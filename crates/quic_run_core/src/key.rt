@@ -3,7 +3,7 @@ ghost use Rattle.std.specs.Prelude.{◌≡◌, ℕ, ◌+◌, ◌-◌, ◌<◌, �
 ghost use Rattle.quic_packet.specs.Keys.{with_header, sample, AreMates};
 ghost use Rattle.quic_wire_core.specs.StreamId.{other_side};
 ghost use Rattle.quic_wire_core.specs.declared.stream_id.Side.{Side};
-ghost use Rattle.quic_run_core.specs.Plain.{xored, mask_first, mask_number, plain_sealed, plain_opened};
+ghost use Rattle.quic_run_core.specs.Plain.{xored, mask_first, mask_number, plain_protection, plain_aead};
 ghost use Rattle.quic_run_core.specs.KeysOf.{key_of, keys_of};
 ghost use Rattle.quic_run_core.specs.PlainLaw.{first_form, number_length, adds_tag};
 
@@ -61,13 +61,7 @@ fn masked_first(packet: &[u8], number_at: usize) -> u8
 }
 
 impl HeaderKey for PlainHeaderKey {
-    ghost masks = { λ _. mask_first };
-
-    ghost hides = { λ _. mask_number };
-
-    ghost unmasks = { λ _. mask_first };
-
-    ghost reveals = { λ _. mask_number };
+    ghost protection = { λ _. plain_protection };
 
     fn encrypt(&self, number_at: usize, packet: &mut [u8]) {
         let width = width_in(packet[0]);
@@ -90,9 +84,7 @@ impl HeaderKey for PlainHeaderKey {
 }
 
 impl PacketKey for PlainKey {
-    ghost sealed = { λ k. plain_sealed k.mark };
-
-    ghost opened = { λ k. plain_opened k.mark };
+    ghost aead = { λ k. plain_aead k.mark };
 
     ghost seal_limit = { λ k. k.confidentiality_limit };
 
@@ -166,5 +158,5 @@ pub fn keys_for(side: Side) -> Keys<PlainHeaderKey, PlainKey>
 
 /// What either end seals with is the mate of what the other opens with.
 pub fn keys_are_mates()
-    ensures { (side : Side) → AreMates mask_first mask_number (plain_sealed (keys_of side).packet.local.mark) mask_first mask_number (plain_opened (keys_of (other_side side)).packet.remote.mark) }
+    ensures { (side : Side) → AreMates plain_protection (plain_aead (keys_of side).packet.local.mark) plain_protection (plain_aead (keys_of (other_side side)).packet.remote.mark) }
 {}

@@ -1,4 +1,4 @@
-//! Scripts over two ends of a connection.
+//! Scripts over two endpoints (*ends*) of a connection.
 #![tactic(auto)]
 
 mod answer;

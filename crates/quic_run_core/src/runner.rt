@@ -2,8 +2,7 @@
 ghost use Rattle.std.specs.Prelude.{◌≡◌, ◌⊎◌, MatchResult, IfErr, IfOk, OnOk, IsSome, string_bytes};
 ghost use Rattle.std.specs.Io.KnownBytes.{Appends};
 ghost use Rattle.quic_run_core.specs.Language.{sets, asks, shows, settles, asked_of, said};
-ghost use Rattle.quic_run_core.specs.Scripts.{first_stage, with_world, world_at, IsDone, Does, IsRefused};
-ghost use Rattle.quic_run_core.specs.Scripts.{heading as heading_of};
+ghost use Rattle.quic_run_core.specs.Scripts.{first_stage, with_world, world_at, IsDone, Does, IsRefused, heading as heading_of};
 ghost use Rattle.quic_run_core.specs.Stages.{stage_of};
 ghost use Rattle.quic_run_core.specs.Reading.{left_of, KnowsEnd};
 ghost use Rattle.quic_run_core.specs.Outcomes.{RanAll, Stopped};

@@ -5,8 +5,7 @@ ghost use Rattle.std.specs.List.{list_any};
 ghost use Rattle.std.specs.Option.{SomeIff};
 ghost use Rattle.std.specs.Str.Parse.{IsNumeral, digits_value};
 ghost use Rattle.quic_run_core.specs.Named.{side_named, dir_named, mark_named, timer_named, bytes_named};
-ghost use Rattle.quic_run_core.specs.Language.{number_named, varint_named, first, two, three, reads, delivers, injects, words_left, setting_said, settings_said, call_said, command_said, end_said, words_said, is_skipped, said, command_of, asked_of, asked_read, Reads};
-ghost use Rattle.quic_run_core.specs.Language.{words as words_of};
+ghost use Rattle.quic_run_core.specs.Language.{number_named, varint_named, first, two, three, reads, delivers, injects, words_left, setting_said, settings_said, call_said, command_said, end_said, words_said, is_skipped, said, command_of, asked_of, asked_read, Reads, words as words_of};
 
 use bytes::Bytes;
 use hex::FromHexError;

@@ -2,8 +2,8 @@
 ghost use Rattle.std.specs.Prelude.{◌≡◌, ◌++◌, IfOk, IfErr, OnOk, string_bytes};
 ghost use Rattle.quic_wire_core.specs.declared.stream_id.Side.TheVariants.{Client, Server};
 ghost use Rattle.quic_wire_core.specs.StreamId.{other_side};
-ghost use Rattle.quic_connection_core.specs.Machine.{given_by};
-ghost use Rattle.quic_connection_core.specs.Headline.{IsMaking, AreStarted};
+ghost use Rattle.quic_machine.specs.Machine.{given_by};
+ghost use Rattle.quic_machine.specs.Start.{IsMaking, AreStarted};
 ghost use Rattle.quic_connection.specs.Ends.{world_of};
 ghost use Rattle.quic_run_core.specs.KeysOf.{keys_of};
 ghost use Rattle.quic_run_core.specs.Policies.{plain_policies, policies_in};
@@ -20,11 +20,9 @@ use crate::words::Words;
 use quic_connection::{
     Config, ConfigError, Connection, Ends, Given, Instant, RunEvent, settle, step,
 };
+use quic_parameters::TransportParameters;
 use quic_wire_core::{ConnectionId, Side};
 use std::alloc::{AllocError, Global};
-
-/// The order in which transport parameters are written.
-const ORDER: [u8; 13] = [0, 1, 2, 3, 4, 5, 6, 7, 8, 9, 10, 11, 12];
 
 type End = Connection<PlainHeaderKey, PlainKey, Words>;
 
@@ -57,7 +55,10 @@ fn make_end(alloc: Global, side: Side, own: &Options, peer: &Options) -> Result<
     ensures making { OnOk result (IsMaking (making (other_side side) peer.now)) }
     ensures memory { IfErr result (λ e. e ≡ LineError.OutOfMemory) }
 {
-    let parameters = Config::new(peer.transport).write_parameters(alloc, &ORDER)?;
+    let parameters = Config::new(peer.transport).write_parameters(
+        alloc,
+        &TransportParameters::ORDER,
+    )?;
     let end = Connection::new(
         alloc,
         side,

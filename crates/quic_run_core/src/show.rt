@@ -1,7 +1,6 @@
 //! What stands in the datagrams that an end gave out.
 ghost use Rattle.std.specs.Prelude.{◌≡◌, ◌≤◌, ◌-◌, ◌^◌, ◌++◌, None, Some, IfOk, OnOk, IfSome, MatchOption, length, slice_get, slice_range, vec_len, string_bytes};
-ghost use Rattle.quic_run_core.specs.Shown.{opening_at, behind_last, AreNumbers, parts_text, shown_text};
-ghost use Rattle.quic_run_core.specs.Shown.{number_of as number_in};
+ghost use Rattle.quic_run_core.specs.Shown.{opening_at, behind_last, AreNumbers, parts_text, shown_text, number_of as number_in};
 ghost use Rattle.quic_run_core.specs.Opened.{parts_in};
 
 use crate::answer::put_bytes;

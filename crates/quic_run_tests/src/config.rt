@@ -1,6 +1,6 @@
 //! What an end tells its peer of its configuration.
-use crate::ends::ORDER;
 use quic_connection::{Config, TransportConfig};
+use quic_parameters::TransportParameters;
 use std::test::Fail;
 
 /// The transport parameters of an end for which nothing is set (RFC 9000, section 18.2; RFC 9221,
@@ -21,7 +21,7 @@ pub(crate) const DEFAULTS: [u8; 62] = [
 #[test]
 fn defaults_are_written(rt: HostRuntime) -> Result<(), Fail> {
     let config = Config::new(TransportConfig::default());
-    let bytes = config.write_parameters(rt.alloc(), &ORDER)?;
+    let bytes = config.write_parameters(rt.alloc(), &TransportParameters::ORDER)?;
     assert!(rt; bytes.as_slice() == DEFAULTS.as_slice());
     Ok(())
 }

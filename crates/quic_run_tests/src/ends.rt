@@ -1,7 +1,7 @@
 //! Two ends with the keys of scripts, and events of theirs. Few functions own ends, since each that
 //! does is proved to let them go wherever it ends.
 ghost use Rattle.std.specs.Prelude.{◌≡◌, IfOk};
-ghost use Rattle.quic_connection_core.specs.Headline.{AreStarted, AreKeys};
+ghost use Rattle.quic_machine.specs.Start.{AreStarted, AreKeys};
 ghost use Rattle.quic_connection.specs.Ends.{first_world};
 ghost use Rattle.quic_run_core.specs.KeysOf.{keys_of};
 ghost use Rattle.quic_run_core.specs.Policies.{policies_in};
@@ -16,9 +16,6 @@ use quic_run_core::key::{PlainHeaderKey, PlainKey, keys_for};
 use quic_run_core::laws::keys_meet_the_premises;
 use quic_wire_core::{ConnectionId, Dir, EcnCodepoint, Side, StreamId};
 use std::alloc::{AllocError, Global};
-
-/// The order in which transport parameters are written: that of their ids.
-pub(crate) const ORDER: [u8; 13] = [0, 1, 2, 3, 4, 5, 6, 7, 8, 9, 10, 11, 12];
 
 type BothEnds = Ends<PlainHeaderKey, PlainKey, Words>;
 

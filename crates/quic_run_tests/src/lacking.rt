@@ -1,10 +1,11 @@
 //! Calls that take memory and that no script makes by themselves, made again and again where one
 //! allocation fails, or none: one of them lacks memory then, at most, and says so.
 use crate::config::DEFAULTS;
-use crate::ends::{ORDER, Pair, hello, is_served, new_ends, ran};
+use crate::ends::{Pair, hello, is_served, new_ends, ran};
 use quic_connection::{
     Answer, Call, Config, ConfigError, Instant, Received, RunEvent, TransportConfig, WriteError,
 };
+use quic_parameters::TransportParameters;
 use quic_wire_core::Side;
 use std::alloc::{AllocError, Global};
 use std::process::Abort;
@@ -18,7 +19,7 @@ fn parameters(rt: HostRuntime) {
     let config = Config::new(TransportConfig::default());
     let mut lacked = false;
     for _ in 0..TIMES {
-        match config.write_parameters(rt.alloc(), &ORDER) {
+        match config.write_parameters(rt.alloc(), &TransportParameters::ORDER) {
             Ok(bytes) => assert!(rt; bytes.as_slice() == DEFAULTS.as_slice()),
             Err(AllocError) => {
                 assert!(rt; !lacked);

@@ -15,6 +15,7 @@ mod ends;
 mod frames;
 #[cfg(test)]
 mod lacking;
+pub mod laws;
 #[cfg(test)]
 mod runs;
 #[cfg(test)]

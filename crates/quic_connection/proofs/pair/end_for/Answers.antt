@@ -2,7 +2,7 @@ use Rattle.std.proofs.Common.{◌≡◌, ℕ, List, ◌∙◌, subst}
 use Rattle.std.specs.Prelude.{Ok, IfOk}
 use Rattle.quic_parameters.specs.ParametersRead.{parameters_at}
 use Rattle.quic_config.specs.Transport.{parameters_of}
-use Rattle.quic_connection_core.specs.End.{MadeFrom}
+use Rattle.quic_machine.specs.End.{MadeFrom}
 use Rattle.quic_connection.proofs.Pairs.{on_ok, on_ok_then, if_err_then, id_length, only_ids}
 use Rattle.quic_connection.proofs.pair.end_for.Goals as goal
 

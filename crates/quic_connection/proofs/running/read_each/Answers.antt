@@ -1,9 +1,9 @@
 use Rattle.std.proofs.Common.{rules, ◌≡◌, ◌≢◌, ◌+◌, ◌∷◌, [], ◌++◌, take, get_or, Err, arith}
 use Rattle.std.proofs.lemmas.List.{take_more}
-use Rattle.quic_connection_core.specs.declared.answers.ReadError.TheVariants as read_errors
-use Rattle.quic_connection_core.specs.Table.{at}
-use Rattle.quic_connection_core.specs.Calls.{after_nexts, end_next}
-use Rattle.quic_connection_core.specs.Lacking.{CutsPiece}
+use Rattle.quic_streams.specs.declared.answers.ReadError.TheVariants as read_errors
+use Rattle.quic_streams.specs.Table.{at}
+use Rattle.quic_machine.specs.Calls.{after_nexts, end_next}
+use Rattle.quic_streams.specs.Receiving.{CutsPiece}
 use Rattle.quic_connection.proofs.ReadAnswers.{after_one_more, nexts_one_more, lacks_one_more, or_memory}
 use Rattle.quic_connection.proofs.running.read_each.Goals as goal
 

@@ -1,7 +1,7 @@
 use Rattle.std.proofs.Common.{◌≡◌, ◌≤◌, length, take, vec_len, vec_capacity}
-use Rattle.quic_connection_core.specs.End.{with_end}
-use Rattle.quic_connection_core.specs.Calls.{AreNexts, after_nexts}
-use Rattle.quic_connection_core.specs.Lacking.{NextsLack}
+use Rattle.quic_machine.specs.End.{with_end}
+use Rattle.quic_machine.specs.Calls.{AreNexts, after_nexts}
+use Rattle.quic_machine.specs.Lacking.{NextsLack}
 use Rattle.quic_connection.proofs.running.read_each.Given as goal
 
 abbrev pub invariant-loop-max_length : goal.invariant-loop-max_length

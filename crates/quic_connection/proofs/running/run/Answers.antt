@@ -1,105 +1,116 @@
 -- The headline, of the answers, views and datagrams of a run.
 use Rattle.std.proofs.Common.{refl}
-use Rattle.quic_connection_core.specs.Machine.{Policies}
-use Rattle.quic_connection_core.specs.Runs.{Run}
-use Rattle.quic_connection_core.proofs.AckTimers.{ack_timers_follow}
-use Rattle.quic_connection_core.proofs.LossTimers.{loss_timers_follow}
-use Rattle.quic_connection_core.proofs.Whole.{ordered_prefix, slices, once, end_after_all, blocked_only_without_bytes, accepts_all, finished_means_arrived, told_once, duties_stand, tracks_in_flight, acknowledged_were_taken, numbers_rise}
+use Rattle.quic_machine.specs.Machine.{Policies}
+use Rattle.quic_headline.specs.Runs.{Run}
 use Rattle.quic_connection.specs.Ends.{world_of, first_world, policies_of, run_of}
 use Rattle.quic_connection.proofs.running.run.Goals as goal
 
 pub returns-clause-ordered_prefix : goal.returns-clause-ordered_prefix
 returns-clause-ordered_prefix g c =
     let o = c.run_events.result in
-    let keys : Policies = policies_of g.H.HeaderKey.masks g.H.HeaderKey.hides g.H.HeaderKey.unmasks g.H.HeaderKey.reveals g.K.PacketKey.sealed g.K.PacketKey.opened c.args.ends in
+    let keys : Policies = policies_of g.H.HeaderKey.protection g.K.PacketKey.aead c.args.ends in
     let r : Run = run_of keys c.args.ends c.args.events.now o.answers.items o.views.items o.given in
-    λ honest. ordered_prefix r (world_of o.ends o.given) honest (record { follows = c.run_events.ensures.follows; from_client = refl; from_server = refl })
+    λ honest. c.ordered_prefix.ensures r (world_of o.ends o.given) honest (record { follows = c.run_events.ensures.follows; from_client = refl; from_server = refl })
 
 pub returns-clause-slices : goal.returns-clause-slices
 returns-clause-slices g c =
     let o = c.run_events.result in
-    let keys : Policies = policies_of g.H.HeaderKey.masks g.H.HeaderKey.hides g.H.HeaderKey.unmasks g.H.HeaderKey.reveals g.K.PacketKey.sealed g.K.PacketKey.opened c.args.ends in
+    let keys : Policies = policies_of g.H.HeaderKey.protection g.K.PacketKey.aead c.args.ends in
     let r : Run = run_of keys c.args.ends c.args.events.now o.answers.items o.views.items o.given in
-    λ honest. slices r (world_of o.ends o.given) honest (record { follows = c.run_events.ensures.follows; from_client = refl; from_server = refl })
+    λ honest. c.slices.ensures r (world_of o.ends o.given) honest (record { follows = c.run_events.ensures.follows; from_client = refl; from_server = refl })
 
 pub returns-clause-once : goal.returns-clause-once
 returns-clause-once g c =
     let o = c.run_events.result in
-    let keys : Policies = policies_of g.H.HeaderKey.masks g.H.HeaderKey.hides g.H.HeaderKey.unmasks g.H.HeaderKey.reveals g.K.PacketKey.sealed g.K.PacketKey.opened c.args.ends in
+    let keys : Policies = policies_of g.H.HeaderKey.protection g.K.PacketKey.aead c.args.ends in
     let r : Run = run_of keys c.args.ends c.args.events.now o.answers.items o.views.items o.given in
-    λ honest. once r (world_of o.ends o.given) honest (record { follows = c.run_events.ensures.follows; from_client = refl; from_server = refl })
+    λ honest. c.once.ensures r (world_of o.ends o.given) honest (record { follows = c.run_events.ensures.follows; from_client = refl; from_server = refl })
 
 pub returns-clause-end_after_all : goal.returns-clause-end_after_all
 returns-clause-end_after_all g c =
     let o = c.run_events.result in
-    let keys : Policies = policies_of g.H.HeaderKey.masks g.H.HeaderKey.hides g.H.HeaderKey.unmasks g.H.HeaderKey.reveals g.K.PacketKey.sealed g.K.PacketKey.opened c.args.ends in
+    let keys : Policies = policies_of g.H.HeaderKey.protection g.K.PacketKey.aead c.args.ends in
     let r : Run = run_of keys c.args.ends c.args.events.now o.answers.items o.views.items o.given in
-    λ honest. end_after_all r (world_of o.ends o.given) honest (record { follows = c.run_events.ensures.follows; from_client = refl; from_server = refl })
+    λ honest. c.end_after_all.ensures r (world_of o.ends o.given) honest (record { follows = c.run_events.ensures.follows; from_client = refl; from_server = refl })
 
 pub returns-clause-blocked_only_without_bytes : goal.returns-clause-blocked_only_without_bytes
 returns-clause-blocked_only_without_bytes g c =
     let o = c.run_events.result in
-    let keys : Policies = policies_of g.H.HeaderKey.masks g.H.HeaderKey.hides g.H.HeaderKey.unmasks g.H.HeaderKey.reveals g.K.PacketKey.sealed g.K.PacketKey.opened c.args.ends in
+    let keys : Policies = policies_of g.H.HeaderKey.protection g.K.PacketKey.aead c.args.ends in
     let r : Run = run_of keys c.args.ends c.args.events.now o.answers.items o.views.items o.given in
-    λ honest. blocked_only_without_bytes r (world_of o.ends o.given) honest (record { follows = c.run_events.ensures.follows; from_client = refl; from_server = refl })
+    λ honest. c.blocked_only_without_bytes.ensures r (world_of o.ends o.given) honest (record { follows = c.run_events.ensures.follows; from_client = refl; from_server = refl })
 
 pub returns-clause-accepts_all : goal.returns-clause-accepts_all
 returns-clause-accepts_all g c =
     let o = c.run_events.result in
-    let keys : Policies = policies_of g.H.HeaderKey.masks g.H.HeaderKey.hides g.H.HeaderKey.unmasks g.H.HeaderKey.reveals g.K.PacketKey.sealed g.K.PacketKey.opened c.args.ends in
+    let keys : Policies = policies_of g.H.HeaderKey.protection g.K.PacketKey.aead c.args.ends in
     let r : Run = run_of keys c.args.ends c.args.events.now o.answers.items o.views.items o.given in
-    λ honest. accepts_all r (world_of o.ends o.given) honest (record { follows = c.run_events.ensures.follows; from_client = refl; from_server = refl })
+    λ honest. c.accepts_all.ensures r (world_of o.ends o.given) honest (record { follows = c.run_events.ensures.follows; from_client = refl; from_server = refl })
 
 pub returns-clause-finished_means_arrived : goal.returns-clause-finished_means_arrived
 returns-clause-finished_means_arrived g c =
     let o = c.run_events.result in
-    let keys : Policies = policies_of g.H.HeaderKey.masks g.H.HeaderKey.hides g.H.HeaderKey.unmasks g.H.HeaderKey.reveals g.K.PacketKey.sealed g.K.PacketKey.opened c.args.ends in
+    let keys : Policies = policies_of g.H.HeaderKey.protection g.K.PacketKey.aead c.args.ends in
     let r : Run = run_of keys c.args.ends c.args.events.now o.answers.items o.views.items o.given in
-    λ honest. finished_means_arrived r (world_of o.ends o.given) honest (record { follows = c.run_events.ensures.follows; from_client = refl; from_server = refl })
+    λ honest. c.finished_means_arrived.ensures r (world_of o.ends o.given) honest (record { follows = c.run_events.ensures.follows; from_client = refl; from_server = refl })
 
 pub returns-clause-told_once : goal.returns-clause-told_once
 returns-clause-told_once g c =
     let o = c.run_events.result in
-    let keys : Policies = policies_of g.H.HeaderKey.masks g.H.HeaderKey.hides g.H.HeaderKey.unmasks g.H.HeaderKey.reveals g.K.PacketKey.sealed g.K.PacketKey.opened c.args.ends in
+    let keys : Policies = policies_of g.H.HeaderKey.protection g.K.PacketKey.aead c.args.ends in
     let r : Run = run_of keys c.args.ends c.args.events.now o.answers.items o.views.items o.given in
-    λ honest. told_once r (world_of o.ends o.given) honest (record { follows = c.run_events.ensures.follows; from_client = refl; from_server = refl })
+    λ honest. c.told_once.ensures r (world_of o.ends o.given) honest (record { follows = c.run_events.ensures.follows; from_client = refl; from_server = refl })
 
 pub returns-clause-duties_stand : goal.returns-clause-duties_stand
 returns-clause-duties_stand g c =
     let o = c.run_events.result in
-    let keys : Policies = policies_of g.H.HeaderKey.masks g.H.HeaderKey.hides g.H.HeaderKey.unmasks g.H.HeaderKey.reveals g.K.PacketKey.sealed g.K.PacketKey.opened c.args.ends in
+    let keys : Policies = policies_of g.H.HeaderKey.protection g.K.PacketKey.aead c.args.ends in
     let r : Run = run_of keys c.args.ends c.args.events.now o.answers.items o.views.items o.given in
-    λ honest. duties_stand r (world_of o.ends o.given) honest (record { follows = c.run_events.ensures.follows; from_client = refl; from_server = refl })
+    λ honest. c.duties_stand.ensures r (world_of o.ends o.given) honest (record { follows = c.run_events.ensures.follows; from_client = refl; from_server = refl })
 
 pub returns-clause-tracks_in_flight : goal.returns-clause-tracks_in_flight
 returns-clause-tracks_in_flight g c =
     let o = c.run_events.result in
-    let keys : Policies = policies_of g.H.HeaderKey.masks g.H.HeaderKey.hides g.H.HeaderKey.unmasks g.H.HeaderKey.reveals g.K.PacketKey.sealed g.K.PacketKey.opened c.args.ends in
+    let keys : Policies = policies_of g.H.HeaderKey.protection g.K.PacketKey.aead c.args.ends in
     let r : Run = run_of keys c.args.ends c.args.events.now o.answers.items o.views.items o.given in
-    λ honest. tracks_in_flight r (world_of o.ends o.given) honest (record { follows = c.run_events.ensures.follows; from_client = refl; from_server = refl })
+    λ honest. c.tracks_in_flight.ensures r (world_of o.ends o.given) honest (record { follows = c.run_events.ensures.follows; from_client = refl; from_server = refl })
 
 pub returns-clause-acknowledged_were_taken : goal.returns-clause-acknowledged_were_taken
 returns-clause-acknowledged_were_taken g c =
     let o = c.run_events.result in
-    let keys : Policies = policies_of g.H.HeaderKey.masks g.H.HeaderKey.hides g.H.HeaderKey.unmasks g.H.HeaderKey.reveals g.K.PacketKey.sealed g.K.PacketKey.opened c.args.ends in
+    let keys : Policies = policies_of g.H.HeaderKey.protection g.K.PacketKey.aead c.args.ends in
     let r : Run = run_of keys c.args.ends c.args.events.now o.answers.items o.views.items o.given in
-    λ honest. acknowledged_were_taken r (world_of o.ends o.given) honest (record { follows = c.run_events.ensures.follows; from_client = refl; from_server = refl })
+    λ honest. c.acknowledged_were_taken.ensures r (world_of o.ends o.given) honest (record { follows = c.run_events.ensures.follows; from_client = refl; from_server = refl })
+
+pub returns-clause-names_were_taken : goal.returns-clause-names_were_taken
+returns-clause-names_were_taken g c =
+    let o = c.run_events.result in
+    let keys : Policies = policies_of g.H.HeaderKey.protection g.K.PacketKey.aead c.args.ends in
+    let r : Run = run_of keys c.args.ends c.args.events.now o.answers.items o.views.items o.given in
+    λ honest. c.names_were_taken.ensures r (world_of o.ends o.given) honest (record { follows = c.run_events.ensures.follows; from_client = refl; from_server = refl })
+
+pub returns-clause-opens_exactly : goal.returns-clause-opens_exactly
+returns-clause-opens_exactly g c =
+    let o = c.run_events.result in
+    let keys : Policies = policies_of g.H.HeaderKey.protection g.K.PacketKey.aead c.args.ends in
+    let r : Run = run_of keys c.args.ends c.args.events.now o.answers.items o.views.items o.given in
+    λ honest. c.opens_exactly.ensures r (world_of o.ends o.given) honest (record { follows = c.run_events.ensures.follows; from_client = refl; from_server = refl })
 
 pub returns-clause-loss_timers_follow : goal.returns-clause-loss_timers_follow
 returns-clause-loss_timers_follow g c =
     let o = c.run_events.result in
-    let keys : Policies = policies_of g.H.HeaderKey.masks g.H.HeaderKey.hides g.H.HeaderKey.unmasks g.H.HeaderKey.reveals g.K.PacketKey.sealed g.K.PacketKey.opened c.args.ends in
-    loss_timers_follow keys (first_world c.args.ends) (world_of o.ends o.given) c.args.events.now o.answers.items o.views.items c.run_events.ensures.follows
+    let keys : Policies = policies_of g.H.HeaderKey.protection g.K.PacketKey.aead c.args.ends in
+    c.loss_timers_follow.ensures.runs keys (first_world c.args.ends) (world_of o.ends o.given) c.args.events.now o.answers.items o.views.items c.run_events.ensures.follows
 
 pub returns-clause-ack_timers_follow : goal.returns-clause-ack_timers_follow
 returns-clause-ack_timers_follow g c =
     let o = c.run_events.result in
-    let keys : Policies = policies_of g.H.HeaderKey.masks g.H.HeaderKey.hides g.H.HeaderKey.unmasks g.H.HeaderKey.reveals g.K.PacketKey.sealed g.K.PacketKey.opened c.args.ends in
-    ack_timers_follow keys (first_world c.args.ends) (world_of o.ends o.given) c.args.events.now o.answers.items o.views.items c.run_events.ensures.follows
+    let keys : Policies = policies_of g.H.HeaderKey.protection g.K.PacketKey.aead c.args.ends in
+    c.ack_timers_follow.ensures.runs keys (first_world c.args.ends) (world_of o.ends o.given) c.args.events.now o.answers.items o.views.items c.run_events.ensures.follows
 
 pub returns-clause-numbers_rise : goal.returns-clause-numbers_rise
 returns-clause-numbers_rise g c =
     let o = c.run_events.result in
-    let keys : Policies = policies_of g.H.HeaderKey.masks g.H.HeaderKey.hides g.H.HeaderKey.unmasks g.H.HeaderKey.reveals g.K.PacketKey.sealed g.K.PacketKey.opened c.args.ends in
+    let keys : Policies = policies_of g.H.HeaderKey.protection g.K.PacketKey.aead c.args.ends in
     let r : Run = run_of keys c.args.ends c.args.events.now o.answers.items o.views.items o.given in
-    λ honest. numbers_rise r (world_of o.ends o.given) honest (record { follows = c.run_events.ensures.follows; from_client = refl; from_server = refl })
+    λ honest. c.numbers_rise.ensures r (world_of o.ends o.given) honest (record { follows = c.run_events.ensures.follows; from_client = refl; from_server = refl })

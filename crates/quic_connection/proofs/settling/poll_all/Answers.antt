@@ -5,7 +5,7 @@ use Rattle.quic_connection.proofs.Talking.{talks_none, talks_on, talks_polled, o
 use Rattle.quic_connection.proofs.settling.poll_all.Goals as goal
 
 pub loop-left-init : goal.loop-left-init
-loop-left-init g c = record { talks = λ before. rw (or_none before) (talks_none _ _ _ _ _); keys = refl; held = refl; other = λ _. refl }
+loop-left-init g c = record { talks = λ before. rw (or_none before) (talks_none _ _ _ _ _); keys = refl; held = refl }
 
 pub poll_once-requires-clause-opened : goal.poll_once-requires-clause-opened
 poll_once-requires-clause-opened g c = c.are_open.ensures.opened c.if-are_open.true c.loop-left.given
@@ -31,7 +31,6 @@ loop-left-preserved g c =
           (talks_polled _ _ _ _ _ _ c.args.side (before || c.loop-left.gave) true _ c.if-not-branch.false polled.less polled.polled));
       keys = c.poll_once.ensures.keys ∙ inv.keys;
       held = c.poll_once.ensures.held ∙ inv.held;
-      other = λ same. (cc);
     }
 
 pub returns-else-are_open-clause-stops : goal.returns-else-are_open-clause-stops

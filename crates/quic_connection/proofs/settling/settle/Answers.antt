@@ -1,6 +1,6 @@
 use Rattle.std.proofs.Common.{◌≡◌, ◌≤◌, true, Ok, refl, sym, ◌∙◌, arith}
 use Rattle.std.proofs.lemmas.Result.{err_from_is_err_and}
-use Rattle.quic_connection.proofs.Talking.{talks_none, talks_on, leads_on, waited_on, rest, half_waited, cut_behind, cut_off_behind, settled_rest, settled_none, settled_err}
+use Rattle.quic_connection.proofs.Talking.{talks_none, talks_on, leads_on, waited_on, still, at_rest, half_waited, cut_behind, cut_off_behind, settled_rest, settled_none, settled_err}
 use Rattle.quic_connection.proofs.settling.settle.Goals as goal
 
 pub loop-ends-init : goal.loop-ends-init
@@ -23,12 +23,14 @@ returns-in_default-clause-settles g c =
     let inv = c.loop-ends.invariant in
     let done : Ok c.in_ok-talk.field-0 ≡ Ok true = rw c.if-not-branch.false refl in
     settled_rest _ _ _ _ _ _ (talks_on _ _ _ _ _ _ _ _ _ _ _ _ _ _ inv.keys inv.talks (c.in_ok-talk.ensures.talks done))
-    (rest _ (c.in_ok-talk.ensures.opened done) (c.in_ok-talk.ensures.silent done) (sym (c.wakes.ensures c.talk.new.given) ∙ c.in_default.is))
+    (still _ (c.in_ok-talk.ensures.opened done) (sym (c.wakes.ensures c.talk.new.given) ∙ c.in_default.is))
 
 pub returns-in_default-clause-rest : goal.returns-in_default-clause-rest
 returns-in_default-clause-rest g c =
+    let inv = c.loop-ends.invariant in
     let done : Ok c.in_ok-talk.field-0 ≡ Ok true = rw c.if-not-branch.false refl in
-    rest _ (c.in_ok-talk.ensures.opened done) (c.in_ok-talk.ensures.silent done) (sym (c.wakes.ensures c.talk.new.given) ∙ c.in_default.is)
+    at_rest _ _ _ _ _ _ _ (talks_on _ _ _ _ _ _ _ _ _ _ _ _ _ _ inv.keys inv.talks (c.in_ok-talk.ensures.talks done))
+    (still _ (c.in_ok-talk.ensures.opened done) (sym (c.wakes.ensures c.talk.new.given) ∙ c.in_default.is))
 
 pub returns-in_err-time_out-clause-settles : goal.returns-in_err-time_out-clause-settles
 returns-in_err-time_out-clause-settles g c =
@@ -47,7 +49,7 @@ loop-ends-preserved g c =
     let done : Ok c.in_ok-talk.field-0 ≡ Ok true = rw c.if-not-branch.false refl in
     let talked = talks_on _ _ _ _ _ _ _ _ _ _ _ _ _ _ inv.keys inv.talks (c.in_ok-talk.ensures.talks done) in
     record {
-      talks = waited_on _ _ _ _ _ _ _ _ _ _ _ _ keys talked (c.in_ok-talk.ensures.opened done) (c.in_ok-talk.ensures.silent done) (sym (c.wakes.ensures c.talk.new.given) ∙ c.in-Some.is) c.later-moment.ensures c.in_ok-time_out.ensures.handled;
+      talks = waited_on _ _ _ _ _ _ _ _ _ _ _ _ keys talked (c.in_ok-talk.ensures.opened done) (sym (c.wakes.ensures c.talk.new.given) ∙ c.in-Some.is) c.later-moment.ensures c.in_ok-time_out.ensures.handled;
       keys = c.time_out.ensures.keys ∙ keys;
       held = c.time_out.ensures.held ∙ (c.talk.ensures.held ∙ inv.held);
       later = later;

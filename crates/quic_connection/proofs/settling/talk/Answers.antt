@@ -43,12 +43,6 @@ returns-in-Some-false-clause-opened g c = λ ok.
     let opened : c.are_open.result ≡ true = cc in
     c.are_open.ensures.opened opened c.round.new.given
 
-pub returns-in-Some-false-clause-silent : goal.returns-in-Some-false-clause-silent
-returns-in-Some-false-clause-silent g c = λ ok.
-    let opened : c.are_open.result ≡ true = cc in
-    let silent = rw c.in-Some-false.is at c.in_ok-round.ensures.silent in
-    silent c.in-Some-false.field-0-test (c.are_open.ensures.opened opened c.round.new.given)
-
 pub returns-in-Some-false-clause-gave_up : goal.returns-in-Some-false-clause-gave_up
 returns-in-Some-false-clause-gave_up g c = λ ok.
     let closed : c.are_open.result ≡ false = cc in

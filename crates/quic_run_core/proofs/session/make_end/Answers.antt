@@ -2,8 +2,7 @@ use Rattle.std.proofs.Common.{◌≡◌, ℕ, List, Ok, true, ap, subst, ◌∙�
 use Rattle.quic_parameters.specs.ParametersRead.{parameters_at}
 use Rattle.quic_wire_core.specs.StreamId.{other_side}
 use Rattle.quic_parameters.specs.ParametersWritten.{written_parameters}
-use Rattle.quic_config.specs.Transport.{Settings, settings_with, parameters_of}
-use Rattle.quic_connection_core.specs.Headline.{IsInRange}
+use Rattle.quic_config.specs.Transport.{Settings, settings_with, parameters_of, IsInRange}
 use Rattle.quic_connection.specs.Ends.{in_order}
 use Rattle.quic_run_core.specs.declared.options.Options.{Options}
 use Rattle.quic_run_core.proofs.Making.{never_refused, made_first, eight}

@@ -3,9 +3,9 @@ use Rattle.std.proofs.lemmas.Result.{err_from_is_err_and}
 use Rattle.quic_packet.specs.declared.crypto.Keys.{Keys}
 use Rattle.quic_parameters.specs.ParametersWritten.{written_parameters}
 use Rattle.quic_config.specs.Transport.{parameters_of}
-use Rattle.quic_connection_core.specs.Policy.{Policy}
-use Rattle.quic_connection_core.specs.Headline.{IsLawful, AreKeys}
-use Rattle.quic_connection.specs.Ends.{keys_policy, in_order}
+use Rattle.quic_machine.specs.Policy.{Policy, keys_policy}
+use Rattle.quic_machine.specs.Start.{IsLawful, AreKeys}
+use Rattle.quic_connection.specs.Ends.{in_order}
 use Rattle.quic_connection.proofs.Pairs.{turned}
 use Rattle.quic_connection.proofs.running.Ends.new.Goals as goal
 
@@ -33,9 +33,9 @@ pub returns-clause-keys : goal.returns-clause-keys
 returns-clause-keys g c = λ to_server. λ to_client.
     let h = g.met.H.HeaderKey in
     let k = g.met.K.PacketKey in
-    let lawful : (keys : Keys g.row.H.Denot g.row.K.Denot) → IsLawful (keys_policy g.H.HeaderKey.masks g.H.HeaderKey.hides g.H.HeaderKey.unmasks g.H.HeaderKey.reveals g.K.PacketKey.sealed g.K.PacketKey.opened keys) =
+    let lawful : (keys : Keys g.row.H.Denot g.row.K.Denot) → IsLawful (keys_policy g.H.HeaderKey.protection g.K.PacketKey.aead keys) =
     λ keys. record { form = h.keeps_form keys.header.local; width = h.keeps_length keys.header.local; tag = k.adds_tag keys.packet.local } in
-    let policy : Keys g.row.H.Denot g.row.K.Denot → Policy = λ keys. keys_policy g.H.HeaderKey.masks g.H.HeaderKey.hides g.H.HeaderKey.unmasks g.H.HeaderKey.reveals g.K.PacketKey.sealed g.K.PacketKey.opened keys in
+    let policy : Keys g.row.H.Denot g.row.K.Denot → Policy = λ keys. keys_policy g.H.HeaderKey.protection g.K.PacketKey.aead keys in
     subst (λ ks. AreKeys (record { client = policy ks; server = policy c.in_ok-end_for-2.field-0.keys })) (sym c.in_ok-end_for.ensures.keys)
     (subst (λ ks. AreKeys (record { client = policy c.args.client.keys; server = policy ks })) (sym c.in_ok-end_for-2.ensures.keys)
     (record { client = lawful c.args.client.keys; server = lawful c.args.server.keys; to_server = to_server; to_client = to_client }))
