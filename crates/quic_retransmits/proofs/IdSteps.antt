@@ -1,0 +1,75 @@
+-- Sets of ids, as their ascending lists.
+use Rattle.std.proofs.Common.{◌≡◌, ℕ, ◌+◌, ◌<◌, ◌^◌, [], ◌∷◌, ◌++◌, Bool, true, false, cond, not, List, Option, Some, None, length, refl, sym, ap, ◌∙◌, arith}
+use Rattle.std.specs.List.{slice_get, list_any}
+use Rattle.std.specs.Option.{option_copied}
+use Rattle.std.specs.Ordering.{nat_cmp, match_ordering, is_eq}
+use Rattle.std.specs.declared.cmp.Ordering.{Ordering}
+use Rattle.std.specs.declared.cmp.Ordering.TheVariants.{Less, Equal, Greater}
+use Rattle.std.specs.Cmp.{unsigned_tied}
+use Rattle.std.specs.BTreeMap.{is_at}
+use Rattle.std.specs.BTreeSet.{insert_key}
+use Rattle.std.specs.Set.{remove_key}
+use Rattle.std.proofs.lemmas.Bool.{eq-eqb, or_parts}
+use Rattle.quic_retransmits.specs.Retransmits.{AreIds, with_id, without_id, with_ids, without_ids, has_id, first_of, others_of, is_any}
+
+pub are_inserted : (id : ℕ) (ids : List ℕ) → id < 2 ^ 62 → AreIds ids → AreIds (with_id id ids)
+are_inserted id [] l h = (l, tt)
+are_inserted id (x ∷ xs) l h = go (nat_cmp id x) (are_inserted id xs l h.1)
+  where
+    go : (r : Ordering) → AreIds (with_id id xs) → AreIds (match_ordering r (id ∷ x ∷ xs) (x ∷ xs) (x ∷ with_id id xs))
+    go Less ih = (l, h)
+    go Equal ih = h
+    go Greater ih = (h.0, ih)
+
+pub are_removed : (test : ℕ → Bool) (ids : List ℕ) → AreIds ids → AreIds (remove_key test ids)
+are_removed test [] h = h
+are_removed test (x ∷ xs) h = go (test x) (are_removed test xs h.1)
+  where
+    go : (b : Bool) → AreIds (remove_key test xs) → AreIds (cond b xs (x ∷ remove_key test xs))
+    go true ih = h.1
+    go false ih = (h.0, ih)
+
+pub are_with : (more ids : List ℕ) → AreIds more → AreIds ids → AreIds (with_ids more ids)
+are_with [] ids m h = h
+are_with (k ∷ ks) ids m h = are_with ks (with_id k ids) m.1 (are_inserted k ids m.0 h)
+
+pub are_without : (less ids : List ℕ) → AreIds ids → AreIds (without_ids less ids)
+are_without [] ids h = h
+are_without (k ∷ ks) ids h = are_removed (is_at (nat_cmp k)) (without_ids ks ids) (are_without ks ids h)
+
+-- the last of a list of ids comes out first
+pub without_last : (ks : List ℕ) (k : ℕ) (ids : List ℕ) → without_ids (ks ++ k ∷ []) ids ≡ without_ids ks (without_id k ids)
+without_last [] k ids = refl
+without_last (x ∷ xs) k ids = ap (λ (l : List ℕ). without_id x l) (without_last xs k ids)
+
+at_itself : (k : ℕ) → is_at (nat_cmp k) k ≡ true
+at_itself k = unsigned_tied k k ∙ eq-eqb k k refl
+
+-- a new id that is put in and taken out leaves what was
+pub taken_back : (k : ℕ) (ks : List ℕ) → has_id k ks ≡ false → without_id k (with_id k ks) ≡ ks
+taken_back k [] e = rw (at_itself k) refl
+taken_back k (x ∷ xs) e =
+    let parts = or_parts (is_at (nat_cmp k) x) (has_id k xs) e in
+    go (nat_cmp k x) refl parts.0 (taken_back k xs parts.1)
+  where
+    go : (r : Ordering) → nat_cmp k x ≡ r → is_at (nat_cmp k) x ≡ false → without_id k (with_id k xs) ≡ xs → without_id k (match_ordering r (k ∷ x ∷ xs) (x ∷ xs) (x ∷ with_id k xs)) ≡ x ∷ xs
+    go Less q other ih = rw (at_itself k) refl
+    go Equal q other ih = absurd (let e = ap is_eq q in cc)
+    go Greater q other ih = rw other (ap (λ (l : List ℕ). x ∷ l) ih)
+
+-- the same, before others come out
+pub noted_back : (added : List ℕ) (k : ℕ) (ks : List ℕ) → has_id k ks ≡ false → without_ids (added ++ k ∷ []) (with_id k ks) ≡ without_ids added ks
+noted_back added k ks e = without_last added k (with_id k ks) ∙ ap (λ (l : List ℕ). without_ids added l) (taken_back k ks e)
+
+-- the least of a set
+pub first_is : {A : Type 0} → (xs : List A) (x : A) → slice_get xs 0 ≡ Some x → first_of xs ≡ Some x
+first_is [] x e = cc
+first_is (y ∷ ys) x e = e
+
+pub first_none : {A : Type 0} → (xs : List A) → length xs ≡ 0 → first_of xs ≡ None
+first_none [] e = refl
+first_none (y ∷ ys) e = absurd (omega arith)
+
+pub first_small : (ids : List ℕ) (id : ℕ) → AreIds ids → slice_get ids 0 ≡ Some id → id < 2 ^ 62
+first_small [] id h e = cc
+first_small (x ∷ xs) id h e = let same : x ≡ id = cc in let l = h.0 in omega arith

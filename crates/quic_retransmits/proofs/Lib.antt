@@ -1,0 +1,2 @@
+mod IdSteps
+mod Ranges

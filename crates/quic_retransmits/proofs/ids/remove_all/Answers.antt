@@ -1,0 +1,12 @@
+use Rattle.std.proofs.Common.{◌≡◌, ◌∙◌, ◌++◌, ◌∷◌, [], sym, ap, List, ℕ, rules}
+use Rattle.quic_retransmits.specs.Retransmits.{without_ids}
+use Rattle.quic_retransmits.proofs.IdSteps.{without_last}
+use Rattle.quic_retransmits.proofs.ids.remove_all.Goals as goal
+
+pub loop-id-preserved : goal.loop-id-preserved
+loop-id-preserved c =
+    let last : c.loop-id.added.items ≡ c.pop.new.self.items ++ c.in-Some.id ∷ [] = search rules in
+    rw c.remove.ensures.keys
+    (sym (without_last c.pop.new.self.items c.in-Some.id c.loop-id.ids.keys)
+    ∙ sym (ap (λ (l : List ℕ). without_ids l c.loop-id.ids.keys) last)
+    ∙ c.loop-id.invariant)

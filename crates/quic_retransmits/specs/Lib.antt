@@ -1,0 +1,4 @@
+pub mod Retransmits
+pub mod RetireCode
+pub mod Kept
+pub mod Lending

@@ -1,0 +1,137 @@
+-- What waits to be sent, or was sent in a packet and has to go again if that is lost, beside the bytes of streams (RFC 9000, section 13.3).
+use Rattle.std.specs.Prelude.{ℕ, ◌+◌, ◌-◌, ◌^◌, ◌<◌, Bool, true, false, not, ◌&&◌, ◌||◌, nat_lt, nat_le, ◌==◌, if◌then◌else◌, List, [], ◌∷◌, ◌++◌, length, Option, Some, None, Result, Ok, Err}
+use Rattle.std.specs.List.{range_with_len, list_any, AllByRecursion}
+use Rattle.std.specs.Option.{is_some}
+use Rattle.std.specs.Ordering.{nat_cmp}
+use Rattle.std.specs.BTreeMap.{is_at}
+use Rattle.std.specs.BTreeSet.{insert_key}
+use Rattle.std.specs.Set.{remove_key}
+use Rattle.quic_wire_core.specs.declared.shared.IssuedCid.{IssuedCid}
+use Rattle.quic_wire.specs.Value.{StopSendingValue}
+use Rattle.quic_streams_parts.specs.declared.by_dir.ByDir.{ByDir}
+use Rattle.quic_streams_parts.specs.Dirs.{Flags, no_flag}
+
+-- MAX_DATA; DATA_BLOCKED; MAX_STREAMS of each kind; RESET_STREAM of these streams with these codes; STOP_SENDING; MAX_STREAM_DATA and STREAM_DATA_BLOCKED of the
+-- streams of these sets; NEW_CONNECTION_ID; RETIRE_CONNECTION_ID of these numbers; and ACK_FREQUENCY
+pub record Retransmits : Type 0 where
+  pub max_data : Bool
+  pub data_blocked : Bool
+  pub max_stream_id : Flags
+  pub reset_stream : List (ℕ × ℕ)
+  pub stop_sending : List StopSendingValue
+  pub max_stream_data : List ℕ
+  pub stream_data_blocked : List ℕ
+  pub new_cids : List IssuedCid
+  pub retire_cids : List ℕ
+  pub ack_frequency : Bool
+
+-- nothing
+abbrev pub nothing_waits : Retransmits
+nothing_waits = record {
+  max_data = false;
+  data_blocked = false;
+  max_stream_id = no_flag;
+  reset_stream = [];
+  stop_sending = [];
+  max_stream_data = [];
+  stream_data_blocked = [];
+  new_cids = [];
+  retire_cids = [];
+  ack_frequency = false;
+}
+
+-- ---- a set of stream ids, as its ascending list
+
+-- with an id
+abbrev pub with_id : ℕ → List ℕ → List ℕ
+with_id id ids = insert_key nat_cmp ids id
+
+-- without an id
+abbrev pub without_id : ℕ → List ℕ → List ℕ
+without_id id ids = remove_key (is_at (nat_cmp id)) ids
+
+-- with the ids of another set
+abbrev pub with_ids : List ℕ → List ℕ → List ℕ
+with_ids [] ids = ids
+with_ids (k ∷ ks) ids = with_ids ks (with_id k ids)
+
+-- without ids, the last of them first
+abbrev pub without_ids : List ℕ → List ℕ → List ℕ
+without_ids [] ids = ids
+without_ids (k ∷ ks) ids = without_id k (without_ids ks ids)
+
+-- whether it has an id
+abbrev pub has_id : ℕ → List ℕ → Bool
+has_id id ids = list_any (is_at (nat_cmp id)) ids
+
+-- each is below 2^62
+abbrev pub AreIds : List ℕ → Type 0
+AreIds ids = AllByRecursion (λ id. id < 2 ^ 62) ids
+
+-- ---- lists and sets, from the front
+
+abbrev pub first_of : {A : Type 0} → List A → Option A
+first_of [] = None
+first_of (x ∷ xs) = Some x
+
+-- a list without its first
+abbrev pub others_of : {A : Type 0} → List A → List A
+others_of [] = []
+others_of (x ∷ xs) = xs
+
+-- whether there is one
+abbrev pub is_any : {A : Type 0} → List A → Bool
+is_any [] = false
+is_any (x ∷ xs) = true
+
+-- ---- both together
+
+-- flags that either has
+abbrev pub both_flags : Flags → Flags → Flags
+both_flags f g = record { bi = f.bi || g.bi; uni = f.uni || g.uni }
+
+-- flags and sets are joined, and the other's lists go behind
+abbrev pub merged : Retransmits → Retransmits → Retransmits
+merged r other = record {
+  max_data = r.max_data || other.max_data;
+  data_blocked = r.data_blocked || other.data_blocked;
+  max_stream_id = both_flags r.max_stream_id other.max_stream_id;
+  reset_stream = r.reset_stream ++ other.reset_stream;
+  stop_sending = r.stop_sending ++ other.stop_sending;
+  max_stream_data = with_ids other.max_stream_data r.max_stream_data;
+  stream_data_blocked = with_ids other.stream_data_blocked r.stream_data_blocked;
+  new_cids = r.new_cids ++ other.new_cids;
+  retire_cids = r.retire_cids ++ other.retire_cids;
+  ack_frequency = r.ack_frequency || other.ack_frequency;
+}
+
+-- ---- retirements (RFC 9000, section 5.1.2)
+
+-- the most retirements that wait
+abbrev pub most_retirements : ℕ
+most_retirements = 50
+
+-- whether the numbers from a up to z may be retired beside those that wait
+abbrev pub can_retire : Retransmits → ℕ → ℕ → Bool
+can_retire r a z = nat_le (length r.retire_cids + (z - a)) most_retirements
+
+-- the numbers from a up to z are to be retired
+abbrev pub after_retire : Retransmits → ℕ → ℕ → Retransmits
+after_retire r a z = record r { retire_cids = r.retire_cids ++ range_with_len a (z - a) }
+
+-- ---- whether something goes
+
+-- nothing waits that may go: DATA_BLOCKED counts where it may be sent, MAX_STREAM_DATA of a stream likewise, and STREAM_DATA_BLOCKED of one where it names a limit
+abbrev pub is_empty_where : Bool → (ℕ → Bool) → (ℕ → Option ℕ) → Retransmits → Bool
+is_empty_where can_send_data_blocked can_send_flow_control blocked_limit r = not (
+    r.max_data
+    || (r.data_blocked && can_send_data_blocked)
+    || (r.max_stream_id.bi || r.max_stream_id.uni)
+    || is_any r.reset_stream
+    || is_any r.stop_sending
+    || list_any (λ id. can_send_flow_control id) r.max_stream_data
+    || list_any (λ id. is_some (blocked_limit id)) r.stream_data_blocked
+    || is_any r.new_cids
+    || is_any r.retire_cids
+    || r.ack_frequency
+    )

@@ -1,0 +1,16 @@
+pub mod Parts
+pub mod Sends
+pub mod Views
+pub mod Bounds
+pub mod State
+pub mod Limits
+pub mod Opening
+pub mod Taking
+pub mod Reading
+pub mod Writing
+pub mod Acked
+pub mod Telling
+pub mod Waiting
+pub mod Control
+pub mod Frames
+pub mod Worked

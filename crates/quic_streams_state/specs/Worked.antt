@@ -1,0 +1,148 @@
+-- Worked rows of streams between a client and a server, each state computed from the one before.
+use Rattle.std.specs.Prelude.{ℕ, ◌+◌, ◌-◌, ◌^◌, Bool, true, false, List, [], ◌∷◌, ◌++◌, replicate, take, length, Option, Some, None, Result, Ok, Err}
+use Rattle.quic_wire_core.specs.declared.stream_id.Side.{Side}
+use Rattle.quic_wire_core.specs.declared.stream_id.Side.TheVariants.{Client, Server}
+use Rattle.quic_wire_core.specs.declared.stream_id.Dir.{Dir}
+use Rattle.quic_wire_core.specs.declared.stream_id.Dir.TheVariants.{Bi, Uni}
+use Rattle.quic_parameters.specs.Parameters.{ParameterValues}
+use Rattle.quic_wire.specs.Value.{StreamValue, StopSendingValue, ResetStreamValue}
+use Rattle.quic_streams_parts.specs.declared.answers.StreamEvent.{StreamEvent}
+use Rattle.quic_retransmits.specs.Retransmits.{Retransmits, nothing_waits}
+use Rattle.quic_streams_state.specs.State.{StreamsState, Streams, new_streams, after_set_params}
+use Rattle.quic_streams_state.specs.Opening.{after_open, after_accept, after_max_streams}
+use Rattle.quic_streams_state.specs.Taking.{after_stream, after_reset_frame, after_max_data}
+use Rattle.quic_streams_state.specs.Reading.{after_stop, Told, told_bytes, told_by, next_answer, after_next, after_read_begun, after_finalize}
+use Rattle.quic_streams_state.specs.Writing.{after_reset, write_answer, after_write, after_finish}
+use Rattle.quic_streams_state.specs.Telling.{polled}
+use Rattle.quic_streams_state.specs.Control.{Draft, with_control_frames}
+use Rattle.quic_streams_state.specs.Frames.{Sent, with_stream_frames}
+
+-- what the peer tells: so many bytes on all streams, and so many streams of either kind
+abbrev pub told_parameters : ℕ → ℕ → ParameterValues
+told_parameters bytes streams = record {
+  max_idle_timeout = 30000;
+  max_udp_payload_size = 65527;
+  initial_max_data = bytes;
+  initial_max_stream_data_bidi_local = 1250000;
+  initial_max_stream_data_bidi_remote = 1250000;
+  initial_max_stream_data_uni = 1250000;
+  initial_max_streams_bidi = streams;
+  initial_max_streams_uni = streams;
+  ack_delay_exponent = 3;
+  max_ack_delay = 25;
+  active_connection_id_limit = 5;
+  max_datagram_frame_size = 65535;
+  min_ack_delay = None;
+}
+
+-- a client whose peer told this
+abbrev pub client : ℕ → ℕ → StreamsState
+client bytes streams = after_set_params (new_streams Client 100 100 10000000 (2 ^ 62 - 1) 1250000) (told_parameters bytes streams)
+
+-- a server that told this
+abbrev pub server : ℕ → ℕ → StreamsState
+server bytes streams = after_set_params (new_streams Server streams streams 10000000 bytes 1250000) (told_parameters (2 ^ 62 - 1) 100)
+
+-- ---- calls, each with what it leaves
+
+-- a write at an open end
+abbrev pub wrote : StreamsState → ℕ → List ℕ → StreamsState
+wrote s id bytes = (after_write true (write_answer true s id (length bytes)) s nothing_waits id bytes).state
+
+-- the STREAM frames that go where 48 bytes are left, and the streams then
+abbrev pub sends : StreamsState → Sent
+sends s = with_stream_frames true 48 (record { frames = []; bytes = []; state = s })
+
+-- the other frames that go where something waits
+abbrev pub controls : StreamsState → Retransmits → Draft
+controls s p = with_control_frames 1163 (record { frames = []; used = 0; state = s; pending = p; sent = nothing_waits })
+
+-- a STREAM frame comes
+abbrev pub took : StreamsState → StreamValue → StreamsState
+took s f = (after_stream s nothing_waits f).state
+
+-- an ordered read of one `next` begins and goes on
+abbrev pub read_at : StreamsState → ℕ → ℕ → StreamsState
+read_at s id most = let t = after_read_begun s id true in after_next told_bytes (next_answer told_bytes t id most) t id most
+
+-- what it leaves, with what waits
+abbrev pub finalized : StreamsState → ℕ → Streams
+finalized s id = after_finalize s nothing_waits id
+
+-- the bytes of `hello`
+abbrev pub hello : List ℕ
+hello = 0x68 ∷ 0x65 ∷ 0x6c ∷ 0x6c ∷ 0x6f ∷ []
+
+-- `hello` with the end, on stream 0
+abbrev pub hello_frame : StreamValue
+hello_frame = record { id = 0; offset = 0; fin = true; bytes = hello }
+
+-- ---- a window of eight bytes
+
+abbrev pub twenty : List ℕ
+twenty = replicate 20 0x61
+
+-- the client wrote what it may of twenty bytes
+abbrev pub eight_written : StreamsState
+eight_written = wrote (after_open true Bi (client 8 100)) 0 twenty
+
+-- the STREAM frame of the eight bytes that went
+abbrev pub eight_frame : StreamValue
+eight_frame = record { id = 0; offset = 0; fin = false; bytes = replicate 8 0x61 }
+
+-- the server read them
+abbrev pub eight_read : Streams
+eight_read = finalized (read_at (took (server 8 100) eight_frame) 0 32) 0
+
+-- ---- a window of one byte
+
+abbrev pub one_written : StreamsState
+one_written = wrote (after_open true Bi (client 1 100)) 0 twenty
+
+-- the STREAM frame of the one byte that went
+abbrev pub one_frame : StreamValue
+one_frame = record { id = 0; offset = 0; fin = false; bytes = 0x61 ∷ [] }
+
+-- the server read it
+abbrev pub one_read : Streams
+one_read = finalized (read_at (took (server 1 100) one_frame) 0 8) 0
+
+-- ---- one stream of a kind
+
+-- the client opened stream 2, wrote `a` on it and ended it
+abbrev pub one_ended : StreamsState
+one_ended = after_finish (wrote (after_open true Uni (client 1000 1)) 2 (0x61 ∷ [])) 2
+
+-- `a` with the end, on stream 2
+abbrev pub a_frame : StreamValue
+a_frame = record { id = 2; offset = 0; fin = true; bytes = 0x61 ∷ [] }
+
+-- the server read the byte, and then the end
+abbrev pub one_accepted : StreamsState
+one_accepted = after_accept Uni (took (server 1000 1) a_frame)
+
+-- the server read the stream up to its end
+abbrev pub end_read : Streams
+end_read = finalized (read_at (read_at one_accepted 2 32) 2 32) 2
+
+-- ---- a reset, and a stop
+
+-- the client wrote `hello`, and reset the stream with code 5
+abbrev pub hello_written : StreamsState
+hello_written = wrote (after_open true Bi (client 1000 100)) 0 hello
+
+-- the client reset that stream with code 5
+abbrev pub hello_reset : Streams
+hello_reset = after_reset hello_written nothing_waits 0 5
+
+-- RESET_STREAM of stream 0 came after so many bytes of `hello`
+abbrev pub reset_taken : ℕ → Streams
+reset_taken n = after_reset_frame (took (server 1000 100) (record { id = 0; offset = 0; fin = false; bytes = take n hello })) nothing_waits (record { id = 0; code = 5; final_size = 5 })
+
+-- `hello` and the end came, the stream was accepted, and then stopped with code 9
+abbrev pub hello_taken : StreamsState
+hello_taken = after_accept Bi (took (server 1000 100) hello_frame)
+
+-- the server stopped that stream with code 9
+abbrev pub hello_stopped : Streams
+hello_stopped = after_stop hello_taken nothing_waits 0 9

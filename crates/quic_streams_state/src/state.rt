@@ -1,0 +1,508 @@
+//! All streams of one end.
+ghost use Rattle.std.specs.Prelude.{◌≡◌, ◌≢◌, ◌≤◌, ◌^◌, Ok, Err, Some, None, true, length, OnOk, OnErr};
+ghost use Rattle.std.specs.Option.{option_copied};
+ghost use Rattle.quic_parameters.specs.Parameters.{AreInRange};
+ghost use Rattle.quic_streams_parts.specs.Table.{at};
+ghost use Rattle.quic_streams_parts.specs.SendHalf.{new_send_half, finish_of, written_to};
+ghost use Rattle.quic_streams_parts.specs.Answered.{AnswersBreach, UnlessMemory, OnMemory};
+ghost use Rattle.quic_streams_state.specs.State.{new_streams, after_set_params, send_streams, remote_open_streams, sending_half, is_opened, sends_on};
+ghost use Rattle.quic_streams_state.specs.Opening.{opened_by, sending_refusal, open_answer, after_open, accept_answer, after_accept, max_streams_breach, after_max_streams};
+ghost use Rattle.quic_streams_state.specs.Limits.{can_send_data_blocked, can_send_flow_control};
+ghost use Rattle.quic_streams_state.specs.Telling.{polled};
+ghost use Rattle.quic_streams_state.specs.Waiting.{can_send_stream_data, stream_data_blocked_limit, blocked_limit};
+ghost use Rattle.quic_streams_state.specs.Taking.{after_max_data, after_stop_sending, stop_at};
+ghost use Rattle.quic_wire.specs.FrameView.{stop_sending_view};
+ghost use Rattle.quic_streams_state.specs.Writing.{blocked_at, accepted_at, after_write, write_answer, priority_answer, stopped_answer, finish_answer, after_finish, set_priority_answer, after_set_priority};
+ghost use Rattle.quic_streams_parts.specs.declared.answers.WriteError.TheVariants as write_errors;
+ghost use Rattle.quic_streams_parts.specs.declared.answers.FinishError.TheVariants as finish_errors;
+ghost use Rattle.quic_streams_parts.specs.declared.answers.UpdateError.TheVariants as update_errors;
+
+use crate::opening::{MAX_STREAM_COUNT, Opening};
+use crate::receiving::Receiving;
+use crate::sending::Sending;
+use quic_parameters::TransportParameters;
+use quic_retransmits::Retransmits;
+use quic_streams_halves::is_own;
+use quic_streams_parts::{
+    Breach, ByDir, ClosedStream, Events, FinishError, ReceivedError, Send, StreamEvent,
+    UpdateError, WriteError,
+};
+use quic_wire::frame::StopSending;
+use quic_wire_core::{Dir, Side, StreamId, VarInt};
+use std::alloc::{AllocError, Global};
+
+/// All streams of one end (quinn-proto's `StreamsState`).
+///
+/// Contracts see the counts of streams, what is sent on them, what has come, and what the application is told.
+#[derive(Drop)]
+pub struct StreamsState {
+    pub(crate) side: Side,
+    pub(crate) opening: Opening,
+    pub(crate) sending: Sending,
+    pub(crate) receiving: Receiving,
+    pub(crate) events: Events,
+}
+
+// The limit that STREAM_DATA_BLOCKED of a half names.
+fn blocked_limit(half: &Send) -> Option<u64>
+    ensures { result ≡ blocked_limit (Some half.now) }
+{
+    let limit = half.max_data().into_inner();
+    if half.is_ready() && half.stop_reason().is_none() && half.offset() == limit {
+        Some(limit)
+    } else {
+        None
+    }
+}
+
+// What a finish of a half is answered.
+fn finish_of(half: &Send) -> Result<(), FinishError>
+    ensures { result ≡ finish_of (Some half.now) }
+{
+    if let Some(code) = half.stop_reason() {
+        return Err(FinishError::Stopped(code));
+    }
+    if !half.is_ready() {
+        return Err(FinishError::ClosedStream);
+    }
+    Ok(())
+}
+
+// What a write of so many bytes to a half is answered on an open end, where all streams together
+// have so much room.
+fn written_to(half: &Send, room: u64, len: usize) -> Result<usize, WriteError>
+    ensures { result ≡ written_to (Some half.now) room len }
+{
+    if room == 0 {
+        return Err(WriteError::Blocked);
+    }
+    if !half.is_ready() {
+        return Err(WriteError::ClosedStream);
+    }
+    if let Some(code) = half.stop_reason() {
+        return Err(WriteError::Stopped(code));
+    }
+    let free = half.room();
+    if free == 0 {
+        return Err(WriteError::Blocked);
+    }
+    Ok((len as u64).min(room.min(free)) as usize)
+}
+
+impl StreamsState {
+    /// No stream is opened, and the peer's limits aren't known: the peer may have so many streams of each kind open at once, 2^60 at
+    /// most; at most `send_window` bytes are buffered; and so many bytes more than were consumed, and on each stream so many more
+    /// than were read, may come.
+    pub fn new(
+        alloc: Global,
+        side: Side,
+        max_remote_uni: VarInt,
+        max_remote_bi: VarInt,
+        send_window: u64,
+        receive_window: VarInt,
+        stream_receive_window: VarInt,
+    ) -> Self
+        ensures { result ≡ new_streams side max_remote_uni max_remote_bi send_window receive_window stream_receive_window }
+    {
+        let (window, stream_window) = (
+            receive_window.into_inner(),
+            stream_receive_window.into_inner(),
+        );
+        StreamsState {
+            side,
+            opening: Opening::new(max_remote_bi.into_inner(), max_remote_uni.into_inner()),
+            sending: Sending::new(alloc, send_window),
+            receiving: Receiving::new(alloc, window, stream_window),
+            events: Events::new(alloc),
+        }
+    }
+
+    /// The peer's first limits (RFC 9000, section 18.2), before any call but `new`.
+    pub fn set_params(&mut self, params: &TransportParameters)
+        requires { AreInRange params.now }
+        ensures { self.new ≡ after_set_params self.old params.now }
+    {
+        self.opening.set_max(
+            params.initial_max_streams_bidi.into_inner(),
+            params.initial_max_streams_uni.into_inner(),
+        );
+        let own = ByDir {
+            bi: params.initial_max_stream_data_bidi_remote,
+            uni: params.initial_max_stream_data_uni,
+        };
+        let remote = params.initial_max_stream_data_bidi_local;
+        self.sending
+            .set_limits(params.initial_max_data, own, remote);
+    }
+
+    /// Opens the next stream of a kind, where the end is open and the peer lets it (RFC 9000, section 4.6); `None` where it may not
+    /// be opened.
+    pub fn open(&mut self, is_open: bool, dir: Dir) -> Option<StreamId>
+        ensures answer { result ≡ open_answer is_open dir self.old }
+        ensures new { self.new ≡ after_open is_open dir self.old }
+    {
+        if !is_open {
+            return None;
+        }
+        self.opening.open(self.side, dir)
+    }
+
+    /// The first stream of a kind that the peer opened and that wasn't accepted; it is accepted now. `None` where all were.
+    pub fn accept(&mut self, dir: Dir) -> Option<StreamId>
+        ensures answer { result ≡ accept_answer dir self.old }
+        ensures new { self.new ≡ after_accept dir self.old }
+    {
+        self.opening.accept(self.side, dir)
+    }
+
+    /// How many opened streams this end may send on, and isn't done with.
+    pub fn send_streams(&self) -> u64
+        ensures { result ≡ send_streams self.now }
+    {
+        self.opening.send_streams()
+    }
+
+    /// How many streams of a kind that the peer opened aren't done both ways.
+    pub fn remote_open_streams(&self, dir: Dir) -> u64
+        ensures { result ≡ remote_open_streams self.now dir }
+    {
+        self.opening.remote_open_streams(dir)
+    }
+
+    /// Takes MAX_DATA (RFC 9000, section 19.9), which never lowers the limit.
+    pub fn received_max_data(&mut self, limit: VarInt)
+        ensures { self.new ≡ after_max_data self.old limit }
+    {
+        self.sending.raise_max_data(limit);
+    }
+
+    /// Whether bytes or the end of a stream wait to be sent.
+    pub fn can_send_stream_data(&self) -> bool
+        ensures { result ≡ can_send_stream_data self.now }
+    {
+        self.sending.is_waiting()
+    }
+
+    /// Whether DATA_BLOCKED may be sent: all bytes that the peer lets come were accepted (RFC 9000, section 19.12).
+    pub fn can_send_data_blocked(&self) -> bool
+        ensures { result ≡ can_send_data_blocked self.now }
+    {
+        self.sending.is_used_up()
+    }
+
+    /// Whether the peer may be told how far it may come on a stream (RFC 9000, section 19.10).
+    pub fn can_send_flow_control(&self, id: StreamId) -> bool
+        ensures { result ≡ can_send_flow_control self.now id }
+    {
+        match self.receiving.get(id) {
+            Some(half) => half.can_send_flow_control(),
+            None => false,
+        }
+    }
+
+    // A sending half that isn't in use: one on which nothing was done, unless its stream isn't opened, only the peer sends on it, or
+    // it is done.
+    fn fresh_send(&self, id: StreamId) -> Option<Send>
+        requires { at self.now.sending.halves.live id ≡ None }
+        ensures { result ≡ sending_half self.now id }
+    {
+        let sends = is_own(self.side, id) || id.dir() == Dir::Bi;
+        if !sends || !self.opening.is_opened(self.side, id) {
+            return None;
+        }
+        if self.sending.was_used(self.side, id) {
+            return None;
+        }
+        Some(self.sending.fresh(self.side, id))
+    }
+
+    /// The limit that STREAM_DATA_BLOCKED of a stream names; `None` where it may not be sent (RFC 9000, section 19.13).
+    pub fn stream_data_blocked_limit(&self, id: StreamId) -> Option<u64>
+        ensures { result ≡ stream_data_blocked_limit self.now id }
+    {
+        match self.sending.get(id) {
+            Some(half) => blocked_limit(half),
+            None => match self.fresh_send(id) {
+                Some(half) => blocked_limit(&half),
+                None => None,
+            },
+        }
+    }
+
+    /// The priority of a stream. [`ClosedStream`] where there is no such stream, or its sending half is done.
+    pub fn priority(&self, id: StreamId) -> Result<i32, ClosedStream>
+        ensures { result ≡ priority_answer self.now id }
+    {
+        match self.sending.get(id) {
+            Some(half) => Ok(half.priority()),
+            None => match self.fresh_send(id) {
+                Some(half) => Ok(half.priority()),
+                None => Err(ClosedStream),
+            },
+        }
+    }
+
+    /// The code with which the peer stopped a stream, if it did. [`ClosedStream`] where there is no such stream, or its sending half
+    /// is done.
+    pub fn stopped(&self, id: StreamId) -> Result<Option<VarInt>, ClosedStream>
+        ensures { result ≡ stopped_answer self.now id }
+    {
+        match self.sending.get(id) {
+            Some(half) => Ok(half.stop_reason()),
+            None => match self.fresh_send(id) {
+                Some(half) => Ok(half.stop_reason()),
+                None => Err(ClosedStream),
+            },
+        }
+    }
+
+    /// Takes MAX_STREAMS (RFC 9000, section 19.11), which never lowers a count; the application is told of one that rose.
+    ///
+    /// [`ReceivedError::Breach`] where the count is above 2^60: `FrameEncoding`. [`ReceivedError::Memory`] where memory lacks. Either
+    /// changes nothing.
+    pub fn received_max_streams(&mut self, dir: Dir, count: u64) -> Result<(), ReceivedError>
+        ensures answer { AnswersBreach result (max_streams_breach count) }
+        ensures new { UnlessMemory result (self.new ≡ after_max_streams dir count self.old) }
+        ensures memory { OnMemory result (self.new ≡ self.old) }
+    {
+        if count > MAX_STREAM_COUNT {
+            return Err(ReceivedError::Breach(Breach::FrameEncoding));
+        }
+        if count <= self.opening.max_of(dir) {
+            return Ok(());
+        }
+        if self.events.push(StreamEvent::Available { dir }).is_err() {
+            return Err(ReceivedError::Memory);
+        }
+        self.opening.set_max_of(dir, count);
+        Ok(())
+    }
+
+    /// Finishes a stream: its end has to go behind its bytes.
+    ///
+    /// [`FinishError::ClosedStream`] where there is no such stream, or its sending half is done; [`FinishError::Stopped`] where the peer
+    /// stopped it; `ClosedStream` where it was finished or reset; [`FinishError::Memory`] where memory lacks. They are tested in this
+    /// order, and change nothing.
+    pub fn finish(&mut self, id: StreamId) -> Result<(), FinishError>
+        ensures answer { result ≢ Err finish_errors.Memory → result ≡ finish_answer self.old id }
+        ensures new { result ≢ Err finish_errors.Memory → self.new ≡ after_finish self.old id }
+        ensures memory { result ≡ Err finish_errors.Memory → self.new ≡ self.old }
+    {
+        if let Some(half) = self.sending.get(id) {
+            match finish_of(half) {
+                Ok(()) => {}
+                Err(error) => return Err(error),
+            }
+            return match self.sending.finish(id) {
+                Ok(()) => Ok(()),
+                Err(_) => Err(FinishError::Memory),
+            };
+        }
+        let Some(half) = self.fresh_send(id) else {
+            return Err(FinishError::ClosedStream);
+        };
+        match self.sending.finish_fresh(self.side, id, half) {
+            Ok(()) => Ok(()),
+            Err(_) => Err(FinishError::Memory),
+        }
+    }
+
+    /// Sets the priority of a stream, which counts when it is queued next.
+    ///
+    /// [`UpdateError::ClosedStream`] where there is no such stream, or its sending half is done; [`UpdateError::Memory`] where memory
+    /// lacks. Either changes nothing.
+    pub fn set_priority(&mut self, id: StreamId, priority: i32) -> Result<(), UpdateError>
+        ensures answer { result ≢ Err update_errors.Memory → result ≡ set_priority_answer self.old id }
+        ensures new { result ≢ Err update_errors.Memory → self.new ≡ after_set_priority self.old id priority }
+        ensures memory { result ≡ Err update_errors.Memory → self.new ≡ self.old }
+    {
+        if self.sending.get(id).is_some() {
+            self.sending.set_priority(id, priority);
+            return Ok(());
+        }
+        let Some(mut half) = self.fresh_send(id) else {
+            return Err(UpdateError::ClosedStream);
+        };
+        half.set_priority(priority);
+        match self.sending.add(self.side, id, half) {
+            Ok(()) => Ok(()),
+            Err(_) => Err(UpdateError::Memory),
+        }
+    }
+
+    // What a write of so many bytes is answered on an open end.
+    fn written(&self, id: StreamId, len: usize) -> Result<usize, WriteError>
+        ensures { result ≡ write_answer true self.now id len }
+    {
+        let room = self.sending.room();
+        match self.sending.get(id) {
+            Some(half) => written_to(half, room, len),
+            None => match self.fresh_send(id) {
+                Some(half) => written_to(&half, room, len),
+                None => Err(WriteError::ClosedStream),
+            },
+        }
+    }
+
+    // A stream whose write is blocked by what all streams may send, or by its own limit: what the peer is told of that waits, and
+    // the application is told once it takes bytes again.
+    fn block(&mut self, id: StreamId, pending: &mut Retransmits) -> Result<(), AllocError>
+        ensures ok { OnOk result (self.new ≡ (blocked_at (sending_half self.old id) self.old pending.old id).state) }
+        ensures pending { OnOk result (pending.new ≡ (blocked_at (sending_half self.old id) self.old pending.old id).pending) }
+        ensures err { OnErr result (self.new ≡ self.old) }
+        ensures kept { OnErr result (pending.new ≡ pending.old) }
+    {
+        let blocked = self.sending.room() == 0;
+        if self.sending.get(id).is_some() {
+            if !blocked {
+                return pending.insert_stream_data_blocked(id);
+            }
+            self.sending.block(id)?;
+        } else {
+            let Some(half) = self.fresh_send(id) else {
+                return Ok(());
+            };
+            if !blocked {
+                return pending.insert_stream_data_blocked(id);
+            }
+            self.sending.block_fresh(self.side, id, half)?;
+        }
+        pending.set_data_blocked(pending.data_blocked() || self.sending.is_used_up());
+        Ok(())
+    }
+
+    // Bytes that may be written on a stream go behind those before them. An `Err` (want of memory) changes nothing.
+    fn take(&mut self, id: StreamId, bytes: &[u8], len: usize) -> Result<(), AllocError>
+        requires { write_answer true self.old id len ≡ Ok (length bytes.now) }
+        ensures ok { OnOk result (self.new ≡ accepted_at (sending_half self.old id) self.old id bytes.now) }
+        ensures err { OnErr result (self.new ≡ self.old) }
+    {
+        // The proof reads how many bytes these are at most.
+        let _len = len;
+        if bytes.is_empty() {
+            return Ok(());
+        }
+        if self.sending.get(id).is_some() {
+            return self.sending.write(id, bytes);
+        }
+        let Some(half) = self.fresh_send(id) else {
+            return Ok(());
+        };
+        self.sending.write_fresh(self.side, id, half, bytes)
+    }
+
+    /// Writes as many of the bytes as fit, and says how many (RFC 9000, sections 2.2 and 4.1).
+    ///
+    /// [`WriteError::Blocked`] where the end isn't open; `ClosedStream` where there is no such stream, or its sending half is done;
+    /// `Blocked` where the connection's limit or the send window leaves no room; `ClosedStream` where it was finished or reset;
+    /// `Stopped` where the peer stopped it; `Blocked` where its own limit leaves no room. They are tested in this order, and none of
+    /// the bytes is taken. `Memory` where memory lacks, and nothing changes.
+    pub fn write(
+        &mut self,
+        is_open: bool,
+        id: StreamId,
+        bytes: &[u8],
+        pending: &mut Retransmits,
+    ) -> Result<usize, WriteError>
+        ensures answer { result ≢ Err write_errors.Memory → result ≡ write_answer is_open self.old id (length bytes.now) }
+        ensures new { self.new ≡ (after_write is_open result self.old pending.old id bytes.now).state }
+        ensures pending { pending.new ≡ (after_write is_open result self.old pending.old id bytes.now).pending }
+    {
+        if !is_open {
+            return Err(WriteError::Blocked);
+        }
+        let taken = match self.written(id, bytes.len()) {
+            Ok(taken) => taken,
+            Err(WriteError::Blocked) => {
+                return match self.block(id, pending) {
+                    Ok(()) => Err(WriteError::Blocked),
+                    Err(_) => Err(WriteError::Memory),
+                };
+            }
+            Err(error) => return Err(error),
+        };
+        match self.take(id, &bytes[..taken], bytes.len()) {
+            Ok(()) => Ok(taken),
+            Err(_) => Err(WriteError::Memory),
+        }
+    }
+
+    // A frame opens its stream and those of its kind below it, where the peer opens it and it isn't
+    // open.
+    fn open_by(&mut self, id: StreamId)
+        ensures { self.new ≡ opened_by self.old id }
+    {
+        if is_own(self.side, id) || self.opening.is_opened(self.side, id) {
+            return;
+        }
+        self.opening.open_remote(id);
+        self.events.set_opened(id.dir());
+    }
+
+    // The rule that a frame for the sending half of a stream breaks by its id.
+    fn sending_refusal(&self, id: StreamId) -> Option<Breach>
+        ensures { result ≡ sending_refusal self.now id }
+    {
+        if !is_own(self.side, id) && id.dir() == Dir::Uni {
+            return Some(Breach::StreamState);
+        }
+        self.opening.beyond(self.side, id)
+    }
+
+    /// Takes STOP_SENDING (RFC 9000, section 19.5): the first for a sending half that isn't done counts, and the application is told.
+    ///
+    /// [`ReceivedError::Breach`] where the id breaks a rule: `StreamState` on a stream on which only the peer sends, or on one of this
+    /// end that isn't opened; `StreamLimit` beyond the count that the peer may open. It changes nothing. [`ReceivedError::Memory`] where
+    /// memory lacks: the stream may be open by then.
+    pub fn received_stop_sending(&mut self, frame: StopSending) -> Result<(), ReceivedError>
+        ensures answer { AnswersBreach result (sending_refusal self.old frame.id) }
+        ensures new { UnlessMemory result (self.new ≡ after_stop_sending self.old (stop_sending_view frame)) }
+    {
+        if let Some(breach) = self.sending_refusal(frame.id) {
+            return Err(ReceivedError::Breach(breach));
+        }
+        self.open_by(frame.id);
+        match self.stop(frame.id, frame.error_code) {
+            Ok(()) => Ok(()),
+            Err(_) => Err(ReceivedError::Memory),
+        }
+    }
+
+    // The peer stopped the sending half of a stream, unless it is done or was stopped before.
+    fn stop(&mut self, id: StreamId, error_code: VarInt) -> Result<(), AllocError>
+        ensures { OnOk result (self.new ≡ stop_at (sending_half self.old id) self.old id error_code) }
+    {
+        if let Some(half) = self.sending.get(id) {
+            if half.stop_reason().is_some() {
+                return Ok(());
+            }
+            self.events.push(StreamEvent::Stopped { id, error_code })?;
+            self.sending.set_stop_reason(id, error_code);
+            return Ok(());
+        }
+        let Some(mut half) = self.fresh_send(id) else {
+            return Ok(());
+        };
+        half.set_stop_reason(error_code);
+        self.sending.add(self.side, id, half)?;
+        self.events.push(StreamEvent::Stopped { id, error_code })
+    }
+
+    /// What the application is told next of streams, if anything: that the peer opened some, two-way ones first; that one takes bytes
+    /// again whose write the connection blocked, the latest first, while the connection has room; and the rest as it came.
+    pub fn poll(&mut self) -> Option<StreamEvent>
+        ensures answer { result ≡ (polled self.old).answer }
+        ensures new { self.new ≡ (polled self.old).state }
+    {
+        if let Some(dir) = self.events.take_opened() {
+            return Some(StreamEvent::Opened { dir });
+        }
+        if self.sending.room() == 0 {
+            return self.events.pop();
+        }
+        if let Some(id) = self.sending.pop_writable() {
+            return Some(StreamEvent::Writable { id });
+        }
+        self.events.pop()
+    }
+}
