@@ -1,11 +1,12 @@
 //! What waits to be sent beside the bytes of streams.
-ghost use Rattle.std.specs.Prelude.{◌≡◌, ◌∷◌, [], ◌++◌, IsTrue, OnOk, OnErr, IsErrOf, ◌↔◌, false};
+ghost use Rattle.std.specs.Prelude.{◌≡◌, ℕ, ◌∷◌, [], ◌++◌, IsTrue, OnOk, OnErr, IsErrOf, ◌↔◌, false};
 ghost use Rattle.std.specs.Option.{option_map};
 ghost use Rattle.quic_wire.specs.FrameView.{stop_sending_view};
+ghost use Rattle.quic_wire.specs.Value.{StopSendingValue};
 ghost use Rattle.quic_streams_parts.specs.Dirs.{of, with_of};
 ghost use Rattle.quic_retransmits.specs.declared.retransmits.RetireError.TheVariants as errors;
 ghost use Rattle.quic_retransmits.specs.RetireCode.{retire_code};
-ghost use Rattle.quic_retransmits.specs.Retransmits.{nothing_waits, merged, can_retire, after_retire, is_empty_where, first_of, others_of, with_id, without_id, with_ids};
+ghost use Rattle.quic_retransmits.specs.Retransmits.{Retransmits as Waiting, nothing_waits, has_id, merged, can_retire, after_retire, is_empty_where, first_of, others_of, with_id, without_id, with_ids};
 
 use crate::ids::StreamIds;
 use crate::lists::{append, append_range, first};
@@ -212,6 +213,13 @@ impl Retransmits {
         Ok(())
     }
 
+    /// Takes back the RESET_STREAM that came last.
+    pub fn take_back_reset_stream(&mut self)
+        ensures { (before : Waiting) (entry : ℕ × ℕ) → self.old ≡ record before { reset_stream = before.reset_stream ++ entry ∷ [] } → self.new ≡ before }
+    {
+        let _ = self.reset_stream.pop_back();
+    }
+
     /// The first RESET_STREAM that waits: its stream and its code.
     pub fn first_reset_stream(&self) -> Option<(StreamId, VarInt)>
         ensures { result ≡ first_of self.now.reset_stream }
@@ -240,6 +248,13 @@ impl Retransmits {
         Ok(())
     }
 
+    /// STOP_SENDING that came last waits no more.
+    pub fn take_back_stop_sending(&mut self)
+        ensures { (r : Waiting) (stop : StopSendingValue) → self.old ≡ record r { stop_sending = r.stop_sending ++ stop ∷ [] } → self.new ≡ r }
+    {
+        let _ = self.stop_sending.pop_back();
+    }
+
     /// The first STOP_SENDING that waits.
     pub fn first_stop_sending(&self) -> Option<StopSending>
         ensures { option_map stop_sending_view result ≡ first_of self.now.stop_sending }
@@ -266,6 +281,13 @@ impl Retransmits {
     {
         self.max_stream_data.insert(id)?;
         Ok(())
+    }
+
+    /// Whether MAX_STREAM_DATA of a stream waits.
+    pub fn has_max_stream_data(&self, id: StreamId) -> bool
+        ensures { result ≡ has_id id self.now.max_stream_data }
+    {
+        self.max_stream_data.contains(id)
     }
 
     /// MAX_STREAM_DATA of a stream waits no more.

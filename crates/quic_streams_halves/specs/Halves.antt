@@ -1,6 +1,6 @@
 -- The halves of streams that run one way at one end: sending parts, or receiving parts (RFC 9000, sections 2.1 and 3).
-use Rattle.std.specs.Prelude.{ℕ, ◌+◌, Bool, true, false, if◌then◌else◌, List, [], length, Option, Some, None}
-use Rattle.std.specs.List.{sum_by}
+use Rattle.std.specs.Prelude.{◌≡◌, ℕ, ◌+◌, ◌≤◌, Bool, true, false, if◌then◌else◌, List, [], length, Option, Some, None}
+use Rattle.std.specs.List.{sum_by, All}
 use Rattle.std.specs.Map.{values_of}
 use Rattle.quic_wire_core.specs.declared.stream_id.Side.{Side}
 use Rattle.quic_wire_core.specs.declared.stream_id.Dir.{Dir}
@@ -10,6 +10,7 @@ use Rattle.quic_sets.specs.Offsets.{has, with_offsets}
 use Rattle.quic_streams_parts.specs.declared.by_dir.ByDir.{ByDir}
 use Rattle.quic_streams_halves.specs.declared.places.Places.{Places}
 use Rattle.quic_streams_parts.specs.SendHalf.{SendHalf}
+use Rattle.quic_streams_parts.specs.RecvHalf.{RecvHalf, credit}
 use Rattle.quic_streams_parts.specs.Table.{Table, at, put, without, added}
 use Rattle.quic_streams_parts.specs.Dirs.{of, with_of, is_own}
 
@@ -107,3 +108,21 @@ changed f h id = record h { live = changed_at (at h.live id) f h.live id }
 -- the bytes that are kept on all sending halves
 abbrev pub buffered_in : Table SendHalf → ℕ
 buffered_in halves = sum_by (λ h. length h.buffer.kept) (values_of halves)
+
+-- the greatest offsets that arrived on all receiving halves, summed
+abbrev pub seen_in : Table RecvHalf → ℕ
+seen_in halves = sum_by (λ h. h.seen) (values_of halves)
+
+-- the bytes that count as consumed on all of them
+abbrev pub consumed_in : Table RecvHalf → ℕ
+consumed_in halves = sum_by credit (values_of halves)
+
+-- of each half no more bytes count as consumed than its greatest offset
+abbrev pub AreWithin : Table RecvHalf → Type 0
+AreWithin halves = All (λ h. credit h ≤ h.seen) (values_of halves)
+
+-- how much arrived and was consumed is counted
+pub record AreCounted (halves : Table RecvHalf) (arrived read : ℕ) : Type 0 where
+  pub seen : arrived ≡ seen_in halves
+  pub consumed : read ≡ consumed_in halves
+  pub within : AreWithin halves

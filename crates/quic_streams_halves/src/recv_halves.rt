@@ -1,12 +1,13 @@
 //! The receiving parts of all streams.
-ghost use Rattle.std.specs.Prelude.{◌≡◌, ◌≢◌, ◌<◌, ◌≤◌, ◌^◌, IfSome, IfOk, OnOk, OnErr, IsSome, Some, None, Ok, Err};
+ghost use Rattle.std.specs.Prelude.{◌≡◌, ◌≢◌, ◌<◌, ◌≤◌, ◌^◌, ◌+◌, ◌-◌, true, false, IfSome, IfOk, OnOk, OnErr, IsSome, Some, None, Ok, Err};
 ghost use Rattle.std.specs.Option.{option_copied};
 ghost use Rattle.std.specs.Result.{is_err};
 ghost use Rattle.quic_wire.specs.FrameView.{stream_view};
 ghost use Rattle.quic_streams_parts.specs.Table.{at};
-ghost use Rattle.quic_streams_parts.specs.RecvHalf.{RecvHalf, greatest_offset, end_of, with_frame, with_offsets_of, reset_by, stopped_now, begun, is_illegal, next_of, half_after_next};
+ghost use Rattle.quic_streams_parts.specs.RecvHalf.{RecvHalf, greatest_offset, end_of, breaks_final, with_frame, with_offsets_of, reset_by, stopped_now, begun, is_illegal, next_of, half_after_next};
+ghost use Rattle.quic_streams_parts.specs.Lacking.{FrameMayLack, read_may_lack};
 ghost use Rattle.quic_streams_parts.specs.declared.answers.ReadError.TheVariants as read_errors;
-ghost use Rattle.quic_streams_halves.specs.Halves.{Halves, no_halves, has_place, used, changed, without_half};
+ghost use Rattle.quic_streams_halves.specs.Halves.{Halves, no_halves, has_place, used, changed, without_half, seen_in, consumed_in};
 
 use crate::places::Places;
 use quic_assembler::{Chunk, IllegalOrderedRead};
@@ -22,15 +23,30 @@ use std::marker::Model;
 pub struct RecvHalves {
     live: BTreeMap<u64, Recv>,
     places: Places,
+    // The greatest offsets that arrived on all of them, and the bytes that count as consumed, so that
+    // no frame and no read has to sum them.
+    seen: u64,
+    consumed: u64,
 }
 
 impl Model for RecvHalves {
     ghost use Rattle.quic_streams_parts.specs.RecvHalf.{RecvHalf};
-    ghost use Rattle.quic_streams_halves.specs.Halves.{Halves};
+    ghost use Rattle.quic_streams_halves.specs.Halves.{Halves, AreCounted};
 
     ghost Value = { Halves RecvHalf };
 
     ghost view = { λ h. record { live = h.live.entries; places = h.places } };
+
+    ghost invariant = { λ h. AreCounted h.live.entries h.seen h.consumed };
+}
+
+// A sum of which one term changes.
+fn with_term(sum: u64, before: u64, after: u64) -> u64
+    requires within { before ≤ sum }
+    requires fits { sum - before + after < 2 ^ 64 }
+    ensures { result ≡ sum - before + after }
+{
+    sum - before + after
 }
 
 impl RecvHalves {
@@ -41,7 +57,24 @@ impl RecvHalves {
         RecvHalves {
             live: BTreeMap::new(alloc),
             places: Places::new(alloc),
+            seen: 0,
+            consumed: 0,
         }
+    }
+
+    /// The greatest offsets that arrived on all of them, summed.
+    pub fn seen(&self) -> u64
+        ensures { result ≡ seen_in self.now.live }
+    {
+        self.seen
+    }
+
+    /// The bytes that count as consumed on all of them.
+    pub fn consumed(&self) -> u64
+        ensures value { result ≡ consumed_in self.now.live }
+        ensures within { result ≤ seen_in self.now.live }
+    {
+        self.consumed
     }
 
     /// The part of a stream, if it is in use.
@@ -60,15 +93,20 @@ impl RecvHalves {
 
     /// A part comes into use. An `Err` (want of memory) changes nothing.
     pub fn add(&mut self, side: Side, id: StreamId, half: Recv) -> Result<(), AllocError>
-        requires { at self.old.live id ≡ None }
+        requires none { at self.old.live id ≡ None }
+        requires room { seen_in self.old.live + half.seen ≤ greatest_offset }
         ensures ok { OnOk result (self.new ≡ used side self.old id half) }
+        ensures sum { OnOk result (seen_in self.new.live ≡ seen_in self.old.live + half.seen) }
         ensures err { OnErr result (self.new ≡ self.old) }
     {
+        let (seen, consumed) = (half.end(), half.credit());
         let _ = self.live.insert(u64::from(id), half)?;
         if self.places.add(side, id).is_err() {
             let _ = self.live.remove(&u64::from(id));
             return Err(AllocError);
         }
+        self.seen += seen;
+        self.consumed += consumed;
         Ok(())
     }
 
@@ -76,79 +114,115 @@ impl RecvHalves {
     pub fn remove(&mut self, id: StreamId)
         ensures { self.new ≡ without_half self.old id }
     {
-        let _ = self.live.remove(&u64::from(id));
+        if let Some(half) = self.live.remove(&u64::from(id)) {
+            self.seen -= half.end();
+            self.consumed -= half.credit();
+        }
     }
 
     /// Keeps a frame's bytes on its part, which is in use. An `Err` (want of memory) changes nothing.
     pub fn insert(&mut self, frame: &Stream<'_>) -> Result<(), AllocError>
-        requires { end_of (stream_view frame.now) < 2 ^ 62 }
+        requires end { end_of (stream_view frame.now) < 2 ^ 62 }
+        requires size { IfSome (at self.old.live frame.now.id) (λ h. breaks_final h.final h.seen (end_of (stream_view frame.now)) frame.now.fin ≡ false) }
+        requires room { seen_in self.old.live ≤ greatest_offset }
         ensures ok { OnOk result (self.new ≡ changed (λ h. with_frame h (stream_view frame.now)) self.old frame.now.id) }
         ensures err { OnErr result (self.new ≡ self.old) }
+        ensures lacking { OnErr result (IfSome (at self.old.live frame.now.id) (λ h. FrameMayLack h.arrived (stream_view frame.now))) }
     {
         let Some(half) = self.live.get_mut(&u64::from(frame.id)) else {
             return Ok(());
         };
-        half.insert(frame)
+        let (seen, consumed) = (half.end(), half.credit());
+        half.insert(frame)?;
+        self.seen = with_term(self.seen, seen, half.end());
+        self.consumed = with_term(self.consumed, consumed, half.credit());
+        Ok(())
     }
 
     /// Takes a frame's offsets alone on its part, if it is in use.
     pub fn skip(&mut self, frame: &Stream<'_>)
-        requires { end_of (stream_view frame.now) < 2 ^ 62 }
+        requires end { end_of (stream_view frame.now) < 2 ^ 62 }
+        requires size { IfSome (at self.old.live frame.now.id) (λ h. breaks_final h.final h.seen (end_of (stream_view frame.now)) frame.now.fin ≡ false) }
+        requires room { seen_in self.old.live ≤ greatest_offset }
         ensures { self.new ≡ changed (λ h. with_offsets_of h (stream_view frame.now)) self.old frame.now.id }
     {
-        if let Some(half) = self.live.get_mut(&u64::from(frame.id)) {
-            half.skip(frame);
-        }
+        let Some(half) = self.live.get_mut(&u64::from(frame.id)) else {
+            return;
+        };
+        let (seen, consumed) = (half.end(), half.credit());
+        half.skip(frame);
+        self.seen = with_term(self.seen, seen, half.end());
+        self.consumed = with_term(self.consumed, consumed, half.credit());
     }
 
     /// The peer reset a part, if it is in use, with this code and final size.
     pub fn reset(&mut self, id: StreamId, code: VarInt, size: u64)
-        requires { size ≤ greatest_offset }
+        requires small { size ≤ greatest_offset }
+        requires behind { IfSome (at self.old.live id) (λ h. h.seen ≤ size) }
+        requires room { seen_in self.old.live ≤ greatest_offset }
         ensures { self.new ≡ changed (λ h. reset_by h code size) self.old id }
     {
-        if let Some(half) = self.live.get_mut(&u64::from(id)) {
-            half.reset(code, size);
-        }
+        let Some(half) = self.live.get_mut(&u64::from(id)) else {
+            return;
+        };
+        let (seen, consumed) = (half.end(), half.credit());
+        half.reset(code, size);
+        self.seen = with_term(self.seen, seen, half.end());
+        self.consumed = with_term(self.consumed, consumed, half.credit());
     }
 
     /// The peer reset a part, if it is in use, that this end stopped.
     pub fn end_at(&mut self, id: StreamId, size: u64)
-        requires { size ≤ greatest_offset }
+        requires small { size ≤ greatest_offset }
+        requires behind { IfSome (at self.old.live id) (λ h. h.seen ≤ size) }
+        requires room { seen_in self.old.live ≤ greatest_offset }
         ensures { self.new ≡ changed (λ h. record h { seen = size; final = Some size }) self.old id }
     {
-        if let Some(half) = self.live.get_mut(&u64::from(id)) {
-            half.end_at(size);
-        }
+        let Some(half) = self.live.get_mut(&u64::from(id)) else {
+            return;
+        };
+        let (seen, consumed) = (half.end(), half.credit());
+        half.end_at(size);
+        self.seen = with_term(self.seen, seen, half.end());
+        self.consumed = with_term(self.consumed, consumed, half.credit());
     }
 
     /// This end stops a part, if it is in use.
     pub fn stop(&mut self, id: StreamId)
         ensures { self.new ≡ changed stopped_now self.old id }
     {
-        if let Some(half) = self.live.get_mut(&u64::from(id)) {
-            half.stop();
-        }
+        let Some(half) = self.live.get_mut(&u64::from(id)) else {
+            return;
+        };
+        let consumed = half.credit();
+        half.stop();
+        self.consumed = with_term(self.consumed, consumed, half.credit());
     }
 
     /// A read of a part, if it is in use, begins, in order or not.
     pub fn begin(&mut self, id: StreamId, ordered: bool)
         ensures { self.new ≡ changed (λ h. begun h ordered) self.old id }
     {
-        if let Some(half) = self.live.get_mut(&u64::from(id)) {
-            let _ = half.begin(ordered);
-        }
+        let Some(half) = self.live.get_mut(&u64::from(id)) else {
+            return;
+        };
+        let _ = half.begin(ordered);
     }
 
-    /// Reads on of a part. An error, and an answer without bytes, change nothing.
+    /// Reads on of a part, which is in use. An error, and an answer without bytes, change nothing.
     pub fn next(&mut self, id: StreamId, max: usize) -> Result<Option<Chunk>, ReadError>
         requires { IsSome (at self.old.live id) }
         ensures answer { result ≢ Err read_errors.Memory → IfSome (at self.old.live id) (λ h. result ≡ next_of h max) }
         ensures new { self.new ≡ changed (λ h. half_after_next result h max) self.old id }
+        ensures lacking { result ≡ Err read_errors.Memory → IfSome (at self.old.live id) (λ h. read_may_lack h.arrived max ≡ true) }
     {
         let Some(half) = self.live.get_mut(&u64::from(id)) else {
             return Ok(None);
         };
-        half.next(max)
+        let consumed = half.credit();
+        let answer = half.next(max);
+        self.consumed = with_term(self.consumed, consumed, half.credit());
+        answer
     }
 
     /// The peer is told how far it may come on a part, if it is in use.
@@ -156,8 +230,9 @@ impl RecvHalves {
         requires { max_data ≤ greatest_offset }
         ensures { self.new ≡ changed (λ h. record h { announced = max_data }) self.old id }
     {
-        if let Some(half) = self.live.get_mut(&u64::from(id)) {
-            half.set_max_data(max_data);
-        }
+        let Some(half) = self.live.get_mut(&u64::from(id)) else {
+            return;
+        };
+        half.set_max_data(max_data);
     }
 }

@@ -1,10 +1,10 @@
 //! The sending parts of all streams.
-ghost use Rattle.std.specs.Prelude.{◌≡◌, ◌≢◌, ◌<◌, ◌≤◌, ◌+◌, ◌^◌, ◌++◌, length, IfSome, IfOk, OnOk, OnErr, IsSome, Some, None, vec_len, vec_capacity};
+ghost use Rattle.std.specs.Prelude.{◌≡◌, ◌≢◌, ◌<◌, ◌≤◌, ◌+◌, ◌^◌, ◌++◌, length, false, IfSome, IfOk, OnOk, OnErr, IsSome, IsSomeAnd, Some, None, vec_len, vec_capacity};
 ghost use Rattle.std.specs.Option.{option_copied, option_map};
 ghost use Rattle.quic_wire.specs.Writing.{stream_spelling, width_of};
 ghost use Rattle.quic_send_buffer.specs.Buffered.{writes_length};
 ghost use Rattle.quic_streams_parts.specs.Table.{at, without};
-ghost use Rattle.quic_streams_parts.specs.SendHalf.{SendHalf, grown, room_on, ended, reset_now, half_acked, half_lost, half_after, frame_of, meta_of, HasSent};
+ghost use Rattle.quic_streams_parts.specs.SendHalf.{SendHalf, grown, room_on, has_pending, ended, reset_now, half_acked, half_lost, half_after, frame_of, meta_of, HasSent};
 ghost use Rattle.quic_streams_halves.specs.Halves.{Halves, no_halves, has_place, used, changed, without_half, buffered_in};
 
 use crate::places::Places;
@@ -201,6 +201,8 @@ impl SendHalves {
     pub fn ack(&mut self, frame: &StreamMeta) -> Result<(), AllocError>
         ensures ok { OnOk result (self.new ≡ changed (λ h. half_acked h frame.now) self.old frame.now.id) }
         ensures err { OnErr result (self.new ≡ self.old) }
+        ensures lacking { OnErr result (IsSomeAnd (at self.old.live frame.now.id) (λ h. HasSent h frame.now)) }
+        ensures idle { IfSome (at self.old.live frame.now.id) (λ h. has_pending h ≡ false → has_pending (half_acked h frame.now) ≡ false) }
     {
         let Some(half) = self.live.get_mut(&u64::from(frame.id)) else {
             return Ok(());
@@ -215,6 +217,7 @@ impl SendHalves {
     pub fn retransmit(&mut self, frame: &StreamMeta) -> Result<(), AllocError>
         ensures ok { OnOk result (self.new ≡ changed (λ h. half_lost h frame.now) self.old frame.now.id) }
         ensures err { OnErr result (self.new ≡ self.old) }
+        ensures lacking { OnErr result (IsSomeAnd (at self.old.live frame.now.id) (λ h. HasSent h frame.now)) }
     {
         let Some(half) = self.live.get_mut(&u64::from(frame.id)) else {
             return Ok(());

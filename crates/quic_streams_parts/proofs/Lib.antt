@@ -1,2 +1,4 @@
+mod Idle
 mod Places
+mod Within
 mod Room

@@ -3,6 +3,8 @@ pub mod TableLaws
 pub mod Dirs
 pub mod SendHalf
 pub mod RecvHalf
+pub mod RecvBounds
+pub mod Lacking
 pub mod Queue
 pub mod Events
 pub mod Answered

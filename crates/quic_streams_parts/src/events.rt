@@ -1,6 +1,7 @@
 //! What the application is told of streams.
 ghost use Rattle.std.specs.Prelude.{◌≡◌, OnOk, OnErr};
-ghost use Rattle.quic_streams_parts.specs.Events.{no_events, with_opened, with_event, first_opened, after_opened, first_event, after_event};
+ghost use Rattle.quic_streams_parts.specs.declared.answers.StreamEvent.{StreamEvent};
+ghost use Rattle.quic_streams_parts.specs.Events.{Events, no_events, with_opened, with_event, first_opened, after_opened, first_event, after_event};
 
 use crate::answers::StreamEvent;
 use crate::by_dir::ByDir;
@@ -60,6 +61,13 @@ impl Events {
     {
         self.queue.push_back(event)?;
         Ok(())
+    }
+
+    /// Takes back what happened last.
+    pub fn take_back(&mut self)
+        ensures { (before : Events) (event : StreamEvent) → self.old ≡ with_event event before → self.new ≡ before }
+    {
+        let _ = self.queue.pop_back();
     }
 
     /// Takes off the kind of which the peer opened streams, two-way ones first; `None` where that was told.

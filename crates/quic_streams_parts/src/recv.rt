@@ -1,9 +1,10 @@
 //! The receiving part of a stream.
-ghost use Rattle.std.specs.Prelude.{◌≡◌, ◌≢◌, ◌<◌, ◌≤◌, ◌^◌, ◌+◌, ◌-◌, nat_le, nat_lt, true, false, length, Some, None, IfOk, OnOk, OnErr, Ok, Err, ◌⊎◌};
+ghost use Rattle.std.specs.Prelude.{◌≡◌, ◌≢◌, ◌<◌, ◌≤◌, ◌^◌, ◌+◌, ◌-◌, nat_le, nat_lt, true, false, length, Some, None, IfOk, OnOk, OnErr, Ok, Err, ◌⊎◌, if◌then◌else◌};
 ghost use Rattle.std.specs.Option.{is_some};
 ghost use Rattle.std.specs.Result.{is_err};
 ghost use Rattle.quic_wire.specs.FrameView.{stream_view};
 ghost use Rattle.quic_assembler.specs.Arrived.{given_by, bytes_read_of, after_read, is_next_in, cuts};
+ghost use Rattle.quic_streams_parts.specs.Lacking.{FrameMayLack, read_may_lack};
 ghost use Rattle.quic_streams_parts.specs.RecvHalf.{new_recv_half, credit, raised_on, limit_grew, takes_limits, greatest_offset, least_growth, end_of, breaks_final, with_frame, with_offsets_of, seen_to, reset_by, stopped_now, has_too_many, is_illegal, begun, next_of, read_on, half_after_next, is_read_up};
 ghost use Rattle.quic_streams_parts.specs.declared.answers.ReadError.TheVariants as read_errors;
 
@@ -25,6 +26,13 @@ pub fn least_growth(window: u64) -> u64
     (window / 8).max(1)
 }
 
+// The final size that is known behind bytes up to an offset, with the end or without.
+fn final_after(known: Option<u64>, end: u64, fin: bool) -> Option<u64>
+    ensures { result ≡ (if fin then Some end else known) }
+{
+    if fin { Some(end) } else { known }
+}
+
 /// The receiving part of a stream (quinn-proto's `Recv`).
 #[derive(Drop)]
 pub struct Recv {
@@ -40,14 +48,14 @@ pub struct Recv {
 }
 
 impl Model for Recv {
-    ghost use Rattle.std.specs.Prelude.{◌≤◌};
-    ghost use Rattle.quic_streams_parts.specs.RecvHalf.{RecvHalf, greatest_offset};
+    ghost use Rattle.quic_streams_parts.specs.RecvHalf.{RecvHalf};
+    ghost use Rattle.quic_streams_parts.specs.RecvBounds.{IsWithin};
 
     ghost Value = { RecvHalf };
 
     ghost view = { λ h. record { arrived = h.assembler; seen = h.end; final = h.final_offset; announced = h.sent_max_stream_data; stopped = h.stopped; reset = h.reset } };
 
-    ghost invariant = { λ h. (h.end ≤ greatest_offset) × (h.sent_max_stream_data ≤ greatest_offset) };
+    ghost invariant = { λ h. IsWithin h.assembler h.end h.final_offset h.sent_max_stream_data };
 }
 
 impl Recv {
@@ -107,6 +115,7 @@ impl Recv {
     pub fn credit(&self) -> u64
         ensures value { result ≡ credit self.now }
         ensures small { result ≤ 2 ^ 62 }
+        ensures within { result ≤ self.now.seen }
     {
         if self.stopped || self.reset.is_some() {
             self.end
@@ -151,7 +160,8 @@ impl Recv {
     /// Whether bytes up to an offset, with the end or without, go past a known final size, name another one, or one below an
     /// offset that arrived (RFC 9000, section 4.5).
     pub fn breaks_final(&self, end: u64, fin: bool) -> bool
-        ensures { result ≡ breaks_final self.now.final self.now.seen end fin }
+        ensures value { result ≡ breaks_final self.now.final self.now.seen end fin }
+        ensures behind { result ≡ false → fin ≡ true → self.now.seen ≤ end }
     {
         match self.final_offset {
             Some(size) => size < end || fin && end != size,
@@ -159,40 +169,36 @@ impl Recv {
         }
     }
 
-    // What is known of offsets behind a frame.
-    fn see(&mut self, end: u64, fin: bool)
-        requires { end ≤ greatest_offset }
-        ensures { self.new ≡ seen_to self.old end fin }
-    {
-        self.end = self.end.max(end);
-        if fin {
-            self.final_offset = Some(end);
-        }
-    }
-
-    /// Keeps a frame's bytes. An `Err` (want of memory) changes nothing.
+    /// Keeps a frame's bytes, which break no rule on its final size. An `Err` (want of memory) changes nothing.
     pub fn insert(&mut self, frame: &Stream<'_>) -> Result<(), AllocError>
-        requires { end_of (stream_view frame.now) < 2 ^ 62 }
+        requires end { end_of (stream_view frame.now) < 2 ^ 62 }
+        requires size { breaks_final self.old.final self.old.seen (end_of (stream_view frame.now)) frame.now.fin ≡ false }
         ensures ok { OnOk result (self.new ≡ with_frame self.old (stream_view frame.now)) }
         ensures err { OnErr result (self.new ≡ self.old) }
+        ensures lacking { OnErr result (FrameMayLack self.old.arrived (stream_view frame.now)) }
     {
         let end = frame.offset + frame.data.len() as u64;
         self.assembler.insert(frame.offset, frame.data)?;
-        self.see(end, frame.fin);
+        self.end = self.end.max(end);
+        self.final_offset = final_after(self.final_offset, end, frame.fin);
         Ok(())
     }
 
-    /// Takes a frame's offsets alone.
+    /// Takes a frame's offsets alone, which break no rule on its final size.
     pub fn skip(&mut self, frame: &Stream<'_>)
-        requires { end_of (stream_view frame.now) < 2 ^ 62 }
+        requires end { end_of (stream_view frame.now) < 2 ^ 62 }
+        requires size { breaks_final self.old.final self.old.seen (end_of (stream_view frame.now)) frame.now.fin ≡ false }
         ensures { self.new ≡ with_offsets_of self.old (stream_view frame.now) }
     {
-        self.see(frame.offset + frame.data.len() as u64, frame.fin);
+        let end = frame.offset + frame.data.len() as u64;
+        self.end = self.end.max(end);
+        self.final_offset = final_after(self.final_offset, end, frame.fin);
     }
 
     /// The peer reset it with this code and final size.
     pub fn reset(&mut self, code: VarInt, size: u64)
-        requires { size ≤ greatest_offset }
+        requires small { size ≤ greatest_offset }
+        requires behind { self.old.seen ≤ size }
         ensures { self.new ≡ reset_by self.old code size }
     {
         self.assembler.clear();
@@ -203,7 +209,8 @@ impl Recv {
 
     /// The peer reset it where this end stopped it.
     pub fn end_at(&mut self, size: u64)
-        requires { size ≤ greatest_offset }
+        requires small { size ≤ greatest_offset }
+        requires behind { self.old.seen ≤ size }
         ensures { self.new ≡ record self.old { seen = size; final = Some size } }
     {
         self.end = size;
@@ -249,6 +256,7 @@ impl Recv {
         ensures chunk { IfOk result (λ chunk. chunk ≡ given_by self.old.arrived max) }
         ensures ok { OnOk result (self.new ≡ record self.old { arrived = after_read self.old.arrived max }) }
         ensures err { OnErr result (self.new ≡ self.old) }
+        ensures lacking { OnErr result (read_may_lack self.old.arrived max ≡ true) }
     {
         self.assembler.read(max)
     }
@@ -257,6 +265,7 @@ impl Recv {
     pub fn next(&mut self, max: usize) -> Result<Option<Chunk>, ReadError>
         ensures answer { result ≢ Err read_errors.Memory → result ≡ next_of self.old max }
         ensures new { self.new ≡ half_after_next result self.old max }
+        ensures lacking { result ≡ Err read_errors.Memory → read_may_lack self.old.arrived max ≡ true }
     {
         if let Some(code) = self.reset {
             return Err(ReadError::Reset(code));

@@ -1,5 +1,5 @@
 //! The sending part of a stream.
-ghost use Rattle.std.specs.Prelude.{◌≡◌, ◌+◌, ◌<◌, ◌≤◌, ◌-◌, ◌++◌, ◌^◌, length, Some, None, OnOk, OnErr, pos, vec_len, vec_capacity};
+ghost use Rattle.std.specs.Prelude.{◌≡◌, ◌+◌, ◌<◌, ◌≤◌, ◌-◌, ◌++◌, ◌^◌, length, false, Some, None, OnOk, OnErr, pos, vec_len, vec_capacity};
 ghost use Rattle.std.specs.Option.{is_some};
 ghost use Rattle.quic_wire.specs.Writing.{stream_spelling, width_of};
 ghost use Rattle.quic_send_buffer.specs.Buffered.{writes_length};
@@ -246,7 +246,10 @@ impl Send {
         ensures ok { OnOk result (self.new ≡ half_acked self.old frame.now) }
         ensures err { OnErr result (self.new ≡ self.old) }
         ensures lacking { OnErr result (HasSent self.old frame.now) }
+        ensures idle { has_pending self.old ≡ false → has_pending (half_acked self.old frame.now) ≡ false }
     {
+        // The proof reads that what is kept is lawful.
+        let _written = self.pending.offset();
         self.pending.ack(frame.offsets.start..frame.offsets.end)?;
         self.fin_acked = self.fin_acked || frame.fin;
         Ok(())

@@ -1,2 +1,10 @@
 mod Counts
+mod Finishing
+mod Going
+mod Raised
+mod Requeued
+mod Tables
 mod Taken
+mod Turning
+mod Arriving
+mod Coming

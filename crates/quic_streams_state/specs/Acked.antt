@@ -1,5 +1,5 @@
 -- What an acknowledgement and a loss make of what was sent on streams (RFC 9000, sections 3.1 and 13.3).
-use Rattle.std.specs.Prelude.{ℕ, Bool, true, false, if◌then◌else◌, Option, Some, None}
+use Rattle.std.specs.Prelude.{ℕ, Bool, true, false, not, ◌&&◌, if◌then◌else◌, Option, Some, None}
 use Rattle.std.specs.Option.{is_some}
 use Rattle.quic_send_buffer.specs.declared.stream_meta.StreamMeta.{StreamMeta}
 use Rattle.quic_streams_parts.specs.declared.answers.StreamEvent.TheVariants as stream_events
@@ -14,6 +14,16 @@ use Rattle.quic_streams_state.specs.Writing.{replaced}
 -- the part of a stream on which something was sent
 abbrev pub sent_half : StreamsState → ℕ → Option SendHalf
 sent_half s id = at s.sending.halves.live id
+
+-- whether all of a part is acknowledged, if there is one
+abbrev pub is_acked_at : Option SendHalf → Bool
+is_acked_at None = false
+is_acked_at (Some h) = is_acked h
+
+-- whether a part is done by a frame of it that is acknowledged
+abbrev pub finishes : Option SendHalf → StreamMeta → Bool
+finishes None m = false
+finishes (Some h) m = not (is_some h.reset) && is_acked (half_acked h m)
 
 -- all of a stream is acknowledged, its end too: its part is done, and the application is told so
 abbrev pub finished : StreamsState → ℕ → StreamsState
@@ -31,6 +41,11 @@ acked_at (Some h) s p m = if is_some h.reset then streams_of s p else acked_on h
 -- a STREAM frame is acknowledged
 abbrev pub after_stream_acked : StreamsState → Retransmits → StreamMeta → Streams
 after_stream_acked s p m = acked_at (sent_half s m.id) s p m
+
+-- whether a part is in use and was reset
+abbrev pub is_reset_in_use : Option SendHalf → Bool
+is_reset_in_use None = false
+is_reset_in_use (Some h) = is_some h.reset
 
 -- RESET_STREAM is acknowledged: the part of a stream that was reset is done
 abbrev pub reset_acked_at : Option SendHalf → StreamsState → Retransmits → ℕ → Streams

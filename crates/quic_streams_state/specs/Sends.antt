@@ -1,9 +1,11 @@
 -- What calls on one sending half leave of what is sent on all streams.
-use Rattle.std.specs.Prelude.{ℕ, ◌+◌, true, false, if◌then◌else◌, List, ◌∷◌, length, Option, Some, None}
+use Rattle.std.specs.Prelude.{ℕ, ◌+◌, Bool, true, false, if◌then◌else◌, List, ◌∷◌, length, Option, Some, None}
 use Rattle.quic_wire_core.specs.declared.stream_id.Side.{Side}
 use Rattle.quic_streams_parts.specs.Table.{put}
-use Rattle.quic_streams_parts.specs.SendHalf.{SendHalf, Queued, requeued_at, grown, ended, reset_now}
-use Rattle.quic_streams_halves.specs.Halves.{with_half}
+use Rattle.quic_send_buffer.specs.declared.stream_meta.StreamMeta.{StreamMeta}
+use Rattle.quic_streams_parts.specs.SendHalf.{SendHalf, Queued, has_pending, requeued, requeued_at, dequeued, grown, ended, reset_now, half_after, half_acked, half_lost, turned}
+use Rattle.quic_streams_parts.specs.Queue.{Queue, Place, after_remove, taken_back}
+use Rattle.quic_streams_halves.specs.Halves.{with_half, without_half}
 use Rattle.quic_streams_state.specs.Parts.{Sending}
 
 -- a half has another value, and stands there in the queue
@@ -50,3 +52,60 @@ blocked_in (Some h) s id = if h.blocked then s else record s { halves = record s
 -- the same of one that isn't in use
 abbrev pub blocked_fresh : SendHalf → Sending → Side → ℕ → Sending
 blocked_fresh h s side id = record s { halves = with_half side s.halves id (record h { blocked = true }); blocked = id ∷ s.blocked }
+
+-- a half in use has another value, and is in the queue while it has something to send
+abbrev pub replaced_in : Sending → ℕ → SendHalf → Sending
+replaced_in s id h = with_live_queued s id (requeued s.queue id h)
+
+-- a frame of a half in use is acknowledged
+abbrev pub acked_in : Option SendHalf → Sending → StreamMeta → Sending
+acked_in None s m = s
+acked_in (Some h) s m = replaced_in s m.id (half_acked h m)
+
+-- a frame of a half in use is lost
+abbrev pub lost_in : Option SendHalf → Sending → StreamMeta → Sending
+lost_in None s m = s
+lost_in (Some h) s m = replaced_in s m.id (half_lost h m)
+
+-- the queue follows a half in use of which a frame went, where streams take turns or don't
+abbrev pub followed_in : Bool → Option SendHalf → Sending → ℕ → Sending
+followed_in fair None s id = s
+followed_in fair (Some h) s id = with_live_queued s id (turned fair s.queue id h)
+
+-- a frame of a half in use goes, where so many bytes are left behind its type and id
+abbrev pub sent_in : Bool → Option SendHalf → Sending → ℕ → ℕ → Sending
+sent_in fair None s id room = s
+sent_in fair (Some h) s id room = followed_in fair (Some (half_after h room)) s id
+
+-- ---- a half is done
+
+-- the queue without a place, if there is one
+abbrev pub given_up : Option Place → Queue → Queue
+given_up None q = q
+given_up (Some place) q = after_remove q place
+
+-- the queue without the place of a half in use, if it has one
+abbrev pub unqueued : Option SendHalf → Queue → Queue
+unqueued None q = q
+unqueued (Some h) q = given_up h.place q
+
+-- a half is no longer in use, and stands nowhere in the queue
+abbrev pub removed_in : Option SendHalf → Sending → ℕ → Sending
+removed_in o s id = record s { halves = without_half s.halves id; queue = unqueued o s.queue }
+
+-- ---- the queue follows a half in use whose value changed
+
+-- it gives up its place, if it has one
+abbrev pub place_left : Option Place → SendHalf → Sending → ℕ → Sending
+place_left None h s id = s
+place_left (Some place) h s id = with_live_queued s id (dequeued s.queue h place)
+
+-- it leaves the queue once it has nothing to send
+abbrev pub left_in : Option SendHalf → Sending → ℕ → Sending
+left_in None s id = s
+left_in (Some h) s id = if has_pending h then s else place_left h.place h s id
+
+-- the last place of the queue is its own if it has something to send, and else is taken back
+abbrev pub entered_in : Option SendHalf → Sending → ℕ → Place → Sending
+entered_in None s id place = record s { queue = taken_back s.queue place }
+entered_in (Some h) s id place = if has_pending h then record s { halves = record s.halves { live = put s.halves.live id (record h { place = Some place }) } } else record s { queue = taken_back s.queue place }

@@ -1,5 +1,5 @@
 -- All streams of one end: their counts, what is sent on them, what has come, and what the application is told (RFC 9000, sections 2 to 4).
-use Rattle.std.specs.Prelude.{ℕ, ◌+◌, ◌-◌, Bool, true, false, ◌&&◌, ◌||◌, not, if◌then◌else◌, [], Option, Some, None}
+use Rattle.std.specs.Prelude.{ℕ, ◌+◌, ◌-◌, Bool, true, false, ◌&&◌, ◌||◌, not, [], Option, Some, None}
 use Rattle.quic_wire_core.specs.declared.stream_id.Side.{Side}
 use Rattle.quic_wire_core.specs.declared.stream_id.Dir.{Dir}
 use Rattle.quic_wire_core.specs.StreamId.{dir_of}
@@ -12,6 +12,7 @@ use Rattle.quic_streams_parts.specs.RecvHalf.{RecvHalf, new_recv_half}
 use Rattle.quic_streams_parts.specs.Queue.{no_queue}
 use Rattle.quic_streams_parts.specs.Events.{no_events}
 use Rattle.quic_retransmits.specs.Retransmits.{Retransmits}
+use Rattle.quic_streams_state.specs.Sends.{removed_in}
 pub use Rattle.quic_streams_state.specs.Parts.{Opening, Sending, Receiving, no_opening, seen, consumed, first_limit_in, first_window, is_opened_in, one_done, room}
 pub use Rattle.quic_streams_state.specs.declared.state.StreamsState.{StreamsState}
 
@@ -106,9 +107,13 @@ abbrev pub done_if : Bool → ℕ → StreamsState → StreamsState
 done_if true id s = record s { opening = one_done (dir_of id) s.opening }
 done_if false id s = s
 
+-- the sending part of a stream is no longer in use, and stands nowhere in the queue
+abbrev pub without_send : StreamsState → ℕ → StreamsState
+without_send s id = record s { sending = removed_in (at s.sending.halves.live id) s.sending id; opening = record s.opening { sending = s.opening.sending - 1 } }
+
 -- nothing is left to do on the sending part of a stream
 abbrev pub send_done : StreamsState → ℕ → StreamsState
-send_done s id = done_if (not (is_own s.side id) && is_done (receiving_status s id)) id (record s { sending = record s.sending { halves = without_half s.sending.halves id }; opening = record s.opening { sending = s.opening.sending - 1 } })
+send_done s id = done_if (not (is_own s.side id) && is_done (receiving_status s id)) id (without_send s id)
 
 -- the greatest offset that arrived of a half: its final size, where it is done
 abbrev pub seen_at : Option RecvHalf → ℕ

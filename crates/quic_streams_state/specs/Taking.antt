@@ -155,6 +155,11 @@ joined s id h = if h.blocked then s else (let t = with_send s id (record h { blo
 abbrev pub writable_again : StreamsState → ℕ → SendHalf → StreamsState
 writable_again s id h = if room s.sending == 0 then joined s id h else record s { events = with_event (stream_events.Writable id) s.events }
 
+-- the same of a part that is in use
+abbrev pub noted_at : Option SendHalf → StreamsState → ℕ → StreamsState
+noted_at None s id = s
+noted_at (Some h) s id = writable_again s id h
+
 -- a part whose limit was used up, and on which more may be written
 abbrev pub is_used_up : SendHalf → Bool
 is_used_up h = is_ready h && (written_on h == h.limit)

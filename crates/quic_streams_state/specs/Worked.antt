@@ -1,20 +1,18 @@
 -- Worked rows of streams between a client and a server, each state computed from the one before.
-use Rattle.std.specs.Prelude.{ℕ, ◌+◌, ◌-◌, ◌^◌, Bool, true, false, List, [], ◌∷◌, ◌++◌, replicate, take, length, Option, Some, None, Result, Ok, Err}
-use Rattle.quic_wire_core.specs.declared.stream_id.Side.{Side}
+use Rattle.std.specs.Prelude.{ℕ, ◌-◌, ◌^◌, true, false, List, [], ◌∷◌, replicate, take, length, None}
 use Rattle.quic_wire_core.specs.declared.stream_id.Side.TheVariants.{Client, Server}
-use Rattle.quic_wire_core.specs.declared.stream_id.Dir.{Dir}
 use Rattle.quic_wire_core.specs.declared.stream_id.Dir.TheVariants.{Bi, Uni}
 use Rattle.quic_parameters.specs.Parameters.{ParameterValues}
-use Rattle.quic_wire.specs.Value.{StreamValue, StopSendingValue, ResetStreamValue}
-use Rattle.quic_streams_parts.specs.declared.answers.StreamEvent.{StreamEvent}
+use Rattle.quic_wire.specs.Value.{StreamValue}
+use Rattle.quic_send_buffer.specs.declared.stream_meta.StreamMeta.{StreamMeta}
 use Rattle.quic_retransmits.specs.Retransmits.{Retransmits, nothing_waits}
 use Rattle.quic_streams_state.specs.State.{StreamsState, Streams, new_streams, after_set_params}
-use Rattle.quic_streams_state.specs.Opening.{after_open, after_accept, after_max_streams}
-use Rattle.quic_streams_state.specs.Taking.{after_stream, after_reset_frame, after_max_data}
-use Rattle.quic_streams_state.specs.Reading.{after_stop, Told, told_bytes, told_by, next_answer, after_next, after_read_begun, after_finalize}
+use Rattle.quic_streams_state.specs.Opening.{after_open, after_accept}
+use Rattle.quic_streams_state.specs.Taking.{after_stream, after_reset_frame}
+use Rattle.quic_streams_state.specs.Reading.{after_stop, told_bytes, next_answer, after_next, after_read_begun, after_finalize}
 use Rattle.quic_streams_state.specs.Writing.{after_reset, write_answer, after_write, after_finish}
-use Rattle.quic_streams_state.specs.Telling.{polled}
-use Rattle.quic_streams_state.specs.Control.{Draft, with_control_frames}
+use Rattle.quic_streams_state.specs.Acked.{after_stream_acked, after_stream_lost}
+use Rattle.quic_streams_state.specs.Control.{Draft, control_frames}
 use Rattle.quic_streams_state.specs.Frames.{Sent, with_stream_frames}
 
 -- what the peer tells: so many bytes on all streams, and so many streams of either kind
@@ -53,9 +51,13 @@ wrote s id bytes = (after_write true (write_answer true s id (length bytes)) s n
 abbrev pub sends : StreamsState → Sent
 sends s = with_stream_frames true 48 (record { frames = []; bytes = []; state = s })
 
--- the other frames that go where something waits
+-- the other frames that go where something waits, and so many bytes are left
+abbrev pub controls_in : ℕ → StreamsState → Retransmits → Draft
+controls_in most s p = control_frames most 0 s p nothing_waits
+
+-- the same in a whole datagram
 abbrev pub controls : StreamsState → Retransmits → Draft
-controls s p = with_control_frames 1163 (record { frames = []; used = 0; state = s; pending = p; sent = nothing_waits })
+controls s p = controls_in 1163 s p
 
 -- a STREAM frame comes
 abbrev pub took : StreamsState → StreamValue → StreamsState
@@ -146,3 +148,43 @@ hello_taken = after_accept Bi (took (server 1000 100) hello_frame)
 -- the server stopped that stream with code 9
 abbrev pub hello_stopped : Streams
 hello_stopped = after_stop hello_taken nothing_waits 0 9
+
+-- ---- an end that goes twice
+
+-- `a` on stream 0, its end, and both
+abbrev pub byte_meta : StreamMeta
+byte_meta = record { id = 0; offsets = record { start = 0; end = 1 }; fin = false }
+
+-- the end behind it
+abbrev pub end_meta : StreamMeta
+end_meta = record { id = 0; offsets = record { start = 1; end = 1 }; fin = true }
+
+-- both in one frame
+abbrev pub whole_meta : StreamMeta
+whole_meta = record { id = 0; offsets = record { start = 0; end = 1 }; fin = true }
+
+-- the client wrote `a`, which went, and then ended the stream
+abbrev pub a_ended : StreamsState
+a_ended = after_finish (sends (wrote (after_open true Bi (client 1000 100)) 0 (0x61 ∷ []))).state 0
+
+-- the end went alone; the frame of the byte was lost
+abbrev pub byte_lost : StreamsState
+byte_lost = after_stream_lost (sends a_ended).state byte_meta
+
+-- both went in one frame; that of the end was lost, so the end waits to go again
+abbrev pub end_lost : StreamsState
+end_lost = after_stream_lost (sends byte_lost).state end_meta
+
+-- the frame with both is acknowledged
+abbrev pub whole_acked : Streams
+whole_acked = after_stream_acked end_lost nothing_waits whole_meta
+
+-- ---- more than fits
+
+-- STOP_SENDING of streams 0 and 4, each with code 9, waits
+abbrev pub two_stops : Retransmits
+two_stops = record nothing_waits { stop_sending = record { id = 0; code = 9 } ∷ record { id = 4; code = 9 } ∷ [] }
+
+-- RESET_STREAM of that stream that was reset waits, behind or before that of a stream that wasn't
+abbrev pub resets_wait : List (ℕ × ℕ) → Retransmits
+resets_wait resets = record nothing_waits { reset_stream = resets }

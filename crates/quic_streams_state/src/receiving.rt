@@ -1,15 +1,25 @@
 //! What has come on all streams.
-ghost use Rattle.std.specs.Prelude.{◌≡◌, ◌≤◌};
+ghost use Rattle.std.specs.Prelude.{◌≡◌, ◌≢◌, ◌≤◌, ◌+◌, true, false, Some, None, Err, IsSome, IfSome, OnOk, OnErr};
 ghost use Rattle.std.specs.Option.{option_copied};
 ghost use Rattle.quic_streams_parts.specs.Table.{at};
-ghost use Rattle.quic_streams_state.specs.Parts.{first_window};
-ghost use Rattle.quic_streams_parts.specs.RecvHalf.{greatest_offset, new_recv_half};
-ghost use Rattle.quic_streams_halves.specs.Halves.{no_halves, has_place};
+ghost use Rattle.quic_streams_state.specs.Parts.{first_window, seen};
+ghost use Rattle.quic_streams_state.specs.State.{seen_at};
+ghost use Rattle.quic_streams_state.specs.Limits.{raised_data, data_grew, grew_on};
+ghost use Rattle.quic_streams_state.specs.Taking.{breach_on};
+ghost use Rattle.quic_streams_parts.specs.RecvHalf.{greatest_offset, new_recv_half, end_of, after_frame, after_reset_stream, stopped_now, begun, next_of, half_after_next};
+ghost use Rattle.quic_streams_parts.specs.Lacking.{FrameMayLack, read_may_lack};
+ghost use Rattle.quic_streams_parts.specs.declared.answers.ReadError.TheVariants as read_errors;
+ghost use Rattle.quic_streams_halves.specs.Halves.{no_halves, has_place, with_half, without_half, changed};
+ghost use Rattle.quic_wire.specs.FrameView.{stream_view};
 
+mod telling;
+
+use quic_assembler::Chunk;
 use quic_streams_halves::RecvHalves;
-use quic_streams_parts::Recv;
-use quic_wire_core::{Side, StreamId};
-use std::alloc::Global;
+use quic_streams_parts::{Breach, GREATEST_OFFSET, ReadError, Recv, least_growth};
+use quic_wire::frame::Stream;
+use quic_wire_core::{Side, StreamId, VarInt};
+use std::alloc::{AllocError, Global};
 use std::marker::Model;
 
 /// What has come on all streams of one end (the receiving side of quinn-proto's `StreamsState`).
@@ -27,13 +37,13 @@ pub struct Receiving {
 
 impl Model for Receiving {
     ghost use Rattle.quic_streams_state.specs.Parts as parts;
-    ghost use Rattle.quic_streams_state.specs.Bounds.{AreOffsets};
+    ghost use Rattle.quic_streams_state.specs.Bounds.{IsReceiving};
 
     ghost Value = { parts.Receiving };
 
     ghost view = { λ r. record { halves = r.recv; gone = r.gone; window = r.receive_window; announced = r.sent_max_data; stream_window = r.stream_receive_window } };
 
-    ghost invariant = { λ r. AreOffsets r.receive_window r.sent_max_data r.stream_receive_window };
+    ghost invariant = { λ r. IsReceiving r.recv r.gone r.receive_window r.sent_max_data r.stream_receive_window };
 }
 
 impl Receiving {
@@ -72,5 +82,151 @@ impl Receiving {
         ensures { result ≡ new_recv_half (first_window self.now) }
     {
         Recv::new(self.alloc, self.stream_receive_window)
+    }
+
+    /// The greatest offsets that arrived on all streams, summed.
+    pub fn seen(&self) -> u64
+        ensures value { result ≡ seen self.now }
+        ensures small { result ≤ greatest_offset }
+    {
+        self.gone + self.recv.seen()
+    }
+
+    /// How far the bytes of all streams may come (RFC 9000, section 4.1).
+    pub fn max_data(&self) -> u64
+        ensures value { result ≡ raised_data self.now }
+        ensures small { result ≤ greatest_offset }
+    {
+        let consumed = self.gone + self.recv.consumed();
+        (self.receive_window + consumed).min(GREATEST_OFFSET)
+    }
+
+    /// Whether that grew so far that the peer is told.
+    pub fn max_data_grew(&self) -> bool
+        ensures { result ≡ data_grew self.now }
+    {
+        self.sent_max_data + least_growth(self.receive_window) <= self.max_data()
+    }
+
+    /// Whether the limit of a stream grew so far that the peer is told.
+    pub fn max_stream_data_grew(&self, id: StreamId) -> bool
+        ensures { result ≡ grew_on self.now.stream_window (at self.now.halves.live id) }
+    {
+        match self.recv.get(id) {
+            Some(half) => half.limit_grew(self.stream_receive_window),
+            None => false,
+        }
+    }
+
+    /// The rule that bytes up to an offset break on a half, with the end or without.
+    pub fn breach_on(&self, half: &Recv, end: u64, fin: bool) -> Option<Breach>
+        ensures { result ≡ breach_on self.now half.now end fin }
+    {
+        if end > GREATEST_OFFSET {
+            return Some(Breach::FlowControl);
+        }
+        if half.breaks_final(end, fin) {
+            return Some(Breach::FinalSize);
+        }
+        let seen = self.seen().saturating_sub(half.end()) + half.end().max(end);
+        if end > half.max_data() || seen > self.max_data() {
+            return Some(Breach::FlowControl);
+        }
+        None
+    }
+
+    /// A half comes into use. An `Err` (want of memory) changes nothing.
+    pub fn add(&mut self, side: Side, id: StreamId, half: Recv) -> Result<(), AllocError>
+        requires none { at self.old.halves.live id ≡ None }
+        requires room { seen self.old + half.seen ≤ greatest_offset }
+        ensures ok { OnOk result (self.new ≡ record self.old { halves = with_half side self.old.halves id half }) }
+        ensures err { OnErr result (self.new ≡ self.old) }
+    {
+        self.recv.add(side, id, half)?;
+        Ok(())
+    }
+
+    /// A frame that breaks no rule comes for a half that is in use. An `Err` (want of memory) changes nothing.
+    pub fn take(&mut self, frame: &Stream<'_>) -> Result<(), AllocError>
+        requires { IfSome (at self.old.halves.live frame.now.id) (λ h. breach_on self.old h (end_of (stream_view frame.now)) frame.now.fin ≡ None) }
+        ensures ok { OnOk result (self.new ≡ record self.old { halves = changed (λ h. after_frame h (stream_view frame.now)) self.old.halves frame.now.id }) }
+        ensures err { OnErr result (self.new ≡ self.old) }
+        ensures lacking { OnErr result (IfSome (at self.old.halves.live frame.now.id) (λ h. (h.stopped ≡ false) × FrameMayLack h.arrived (stream_view frame.now))) }
+    {
+        let Some(half) = self.recv.get(frame.id) else {
+            return Ok(());
+        };
+        if half.is_stopped() {
+            self.recv.skip(frame);
+            return Ok(());
+        }
+        if half.reset_code().is_some() {
+            return Ok(());
+        }
+        self.recv.insert(frame)?;
+        Ok(())
+    }
+
+    /// RESET_STREAM that breaks no rule comes for a half, if it is in use.
+    pub fn reset(&mut self, id: StreamId, code: VarInt, size: u64)
+        requires { IfSome (at self.old.halves.live id) (λ h. breach_on self.old h size true ≡ None) }
+        ensures { self.new ≡ record self.old { halves = changed (λ h. after_reset_stream h code size) self.old.halves id } }
+    {
+        let Some(half) = self.recv.get(id) else {
+            return;
+        };
+        // The proof reads that the size lies behind what arrived.
+        let _lawful = half.breaks_final(size, true);
+        if half.is_stopped() {
+            self.recv.end_at(id, size);
+            return;
+        }
+        if half.reset_code().is_some() {
+            return;
+        }
+        self.recv.reset(id, code, size);
+    }
+
+    /// This end stops a half, if it is in use.
+    pub fn stop(&mut self, id: StreamId)
+        ensures { self.new ≡ record self.old { halves = changed stopped_now self.old.halves id } }
+    {
+        self.recv.stop(id);
+    }
+
+    /// An unordered read of a half, if it is in use, begins.
+    pub fn begin_unordered(&mut self, id: StreamId)
+        ensures { self.new ≡ record self.old { halves = changed (λ h. begun h false) self.old.halves id } }
+    {
+        self.recv.begin(id, false);
+    }
+
+    /// Reads on of a half, which is in use. An error, and an answer without bytes, change nothing.
+    pub fn next(&mut self, id: StreamId, max: usize) -> Result<Option<Chunk>, ReadError>
+        requires { IsSome (at self.old.halves.live id) }
+        ensures answer { result ≢ Err read_errors.Memory → IfSome (at self.old.halves.live id) (λ h. result ≡ next_of h max) }
+        ensures new { self.new ≡ record self.old { halves = changed (λ h. half_after_next result h max) self.old.halves id } }
+        ensures lacking { result ≡ Err read_errors.Memory → IfSome (at self.old.halves.live id) (λ h. read_may_lack h.arrived max ≡ true) }
+    {
+        self.recv.next(id, max)
+    }
+
+    // The greatest offset that arrived on a half that is in use; 0 on any other.
+    fn seen_at(&self, id: StreamId) -> u64
+        ensures { result ≡ seen_at (at self.now.halves.live id) }
+    {
+        match self.recv.get(id) {
+            Some(half) => half.end(),
+            None => 0,
+        }
+    }
+
+    /// Nothing is left to do on a half.
+    pub fn remove(&mut self, id: StreamId)
+        ensures { self.new ≡ record self.old { halves = without_half self.old.halves id; gone = self.old.gone + seen_at (at self.old.halves.live id) } }
+    {
+        let size = self.seen_at(id);
+        self.recv.remove(id);
+        self.gone += size;
     }
 }

@@ -1,5 +1,5 @@
 //! What is sent on all streams.
-ghost use Rattle.std.specs.Prelude.{◌≡◌, ◌≤◌, [], length, max, nat_le, IsSome, IfSome, OnOk, OnErr, Some, None, MatchOption, ◌∷◌};
+ghost use Rattle.std.specs.Prelude.{◌≡◌, ◌≤◌, [], length, max, nat_le, false, IsSome, IsSomeAnd, IfSome, OnOk, OnErr, Some, None, MatchOption, ◌∷◌};
 ghost use Rattle.std.specs.Option.{option_copied};
 ghost use Rattle.quic_streams_parts.specs.Table.{at};
 ghost use Rattle.quic_streams_parts.specs.SendHalf.{new_send_half, room_on};
@@ -9,6 +9,9 @@ ghost use Rattle.quic_streams_state.specs.Sends.{blocked_in, blocked_fresh, grow
 ghost use Rattle.quic_streams_parts.specs.Dirs.{no_count};
 ghost use Rattle.quic_streams_parts.specs.Queue.{no_queue, is_waiting};
 ghost use Rattle.quic_streams_halves.specs.Halves.{no_halves, has_place, with_half, changed};
+
+mod frames;
+mod renewed;
 
 use quic_streams_halves::{SendHalves, is_own};
 use quic_streams_parts::{ByDir, PendingStreamsQueue, Place, Send, rank_of};
@@ -87,6 +90,13 @@ impl Sending {
         if max_data.into_inner() > self.max_data.into_inner() {
             self.max_data = max_data;
         }
+    }
+
+    /// How far the peer lets all streams come.
+    pub fn max_data(&self) -> VarInt
+        ensures { result ≡ self.now.limit }
+    {
+        self.max_data
     }
 
     /// Whether all bytes that the peer lets come were accepted.
@@ -191,6 +201,7 @@ impl Sending {
     pub fn finish(&mut self, id: StreamId) -> Result<(), AllocError>
         ensures ok { OnOk result (self.new ≡ finished_in (at self.old.halves.live id) self.old id) }
         ensures err { OnErr result (self.new ≡ self.old) }
+        ensures lacking { OnErr result (IsSomeAnd (at self.old.halves.live id) (λ h. h.place ≡ None)) }
     {
         let Some(half) = self.send.get(id) else {
             return Ok(());
@@ -311,6 +322,7 @@ impl Sending {
     pub fn block(&mut self, id: StreamId) -> Result<(), AllocError>
         ensures ok { OnOk result (self.new ≡ blocked_in (at self.old.halves.live id) self.old id) }
         ensures err { OnErr result (self.new ≡ self.old) }
+        ensures lacking { OnErr result (IsSomeAnd (at self.old.halves.live id) (λ h. h.blocked ≡ false)) }
     {
         let Some(half) = self.send.get(id) else {
             return Ok(());

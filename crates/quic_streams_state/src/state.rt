@@ -1,5 +1,5 @@
 //! All streams of one end.
-ghost use Rattle.std.specs.Prelude.{◌≡◌, ◌≢◌, ◌≤◌, ◌^◌, Ok, Err, Some, None, true, length, OnOk, OnErr};
+ghost use Rattle.std.specs.Prelude.{◌≡◌, ◌≢◌, ◌<◌, ◌≤◌, ◌^◌, Ok, Err, Some, None, true, false, length, OnOk, OnErr, IfSome, IsSomeAnd};
 ghost use Rattle.std.specs.Option.{option_copied};
 ghost use Rattle.quic_parameters.specs.Parameters.{AreInRange};
 ghost use Rattle.quic_streams_parts.specs.Table.{at};
@@ -8,9 +8,12 @@ ghost use Rattle.quic_streams_parts.specs.Answered.{AnswersBreach, UnlessMemory,
 ghost use Rattle.quic_streams_state.specs.State.{new_streams, after_set_params, send_streams, remote_open_streams, sending_half, is_opened, sends_on};
 ghost use Rattle.quic_streams_state.specs.Opening.{opened_by, sending_refusal, open_answer, after_open, accept_answer, after_accept, max_streams_breach, after_max_streams};
 ghost use Rattle.quic_streams_state.specs.Limits.{can_send_data_blocked, can_send_flow_control};
+ghost use Rattle.quic_streams_state.specs.Parts.{most_streams, room};
+ghost use Rattle.quic_streams_parts.specs.Dirs.{of};
+ghost use Rattle.quic_streams_state.specs.SendLacking.{WriteMayLack, is_noted};
 ghost use Rattle.quic_streams_state.specs.Telling.{polled};
 ghost use Rattle.quic_streams_state.specs.Waiting.{can_send_stream_data, stream_data_blocked_limit, blocked_limit};
-ghost use Rattle.quic_streams_state.specs.Taking.{after_max_data, after_stop_sending, stop_at};
+ghost use Rattle.quic_streams_state.specs.Taking.{after_max_data, after_stop_sending, stop_at, sending_for};
 ghost use Rattle.quic_wire.specs.FrameView.{stop_sending_view};
 ghost use Rattle.quic_streams_state.specs.Writing.{blocked_at, accepted_at, after_write, write_answer, priority_answer, stopped_answer, finish_answer, after_finish, set_priority_answer, after_set_priority};
 ghost use Rattle.quic_streams_parts.specs.declared.answers.WriteError.TheVariants as write_errors;
@@ -45,7 +48,8 @@ pub struct StreamsState {
 
 // The limit that STREAM_DATA_BLOCKED of a half names.
 fn blocked_limit(half: &Send) -> Option<u64>
-    ensures { result ≡ blocked_limit (Some half.now) }
+    ensures value { result ≡ blocked_limit (Some half.now) }
+    ensures small { IfSome result (λ limit. limit < 2 ^ 62) }
 {
     let limit = half.max_data().into_inner();
     if half.is_ready() && half.stop_reason().is_none() && half.offset() == limit {
@@ -202,7 +206,7 @@ impl StreamsState {
 
     // A sending half that isn't in use: one on which nothing was done, unless its stream isn't opened, only the peer sends on it, or
     // it is done.
-    fn fresh_send(&self, id: StreamId) -> Option<Send>
+    pub(crate) fn fresh_send(&self, id: StreamId) -> Option<Send>
         requires { at self.now.sending.halves.live id ≡ None }
         ensures { result ≡ sending_half self.now id }
     {
@@ -218,7 +222,8 @@ impl StreamsState {
 
     /// The limit that STREAM_DATA_BLOCKED of a stream names; `None` where it may not be sent (RFC 9000, section 19.13).
     pub fn stream_data_blocked_limit(&self, id: StreamId) -> Option<u64>
-        ensures { result ≡ stream_data_blocked_limit self.now id }
+        ensures value { result ≡ stream_data_blocked_limit self.now id }
+        ensures small { IfSome result (λ limit. limit < 2 ^ 62) }
     {
         match self.sending.get(id) {
             Some(half) => blocked_limit(half),
@@ -258,12 +263,13 @@ impl StreamsState {
 
     /// Takes MAX_STREAMS (RFC 9000, section 19.11), which never lowers a count; the application is told of one that rose.
     ///
-    /// [`ReceivedError::Breach`] where the count is above 2^60: `FrameEncoding`. [`ReceivedError::Memory`] where memory lacks. Either
-    /// changes nothing.
+    /// [`ReceivedError::Breach`] where the count is above 2^60: `FrameEncoding`. [`ReceivedError::Memory`] where memory lacks to tell
+    /// of a count that rose. Either changes nothing.
     pub fn received_max_streams(&mut self, dir: Dir, count: u64) -> Result<(), ReceivedError>
         ensures answer { AnswersBreach result (max_streams_breach count) }
         ensures new { UnlessMemory result (self.new ≡ after_max_streams dir count self.old) }
         ensures memory { OnMemory result (self.new ≡ self.old) }
+        ensures lacking { OnMemory result ((of dir self.old.opening.own_limit < count) × (count ≤ most_streams)) }
     {
         if count > MAX_STREAM_COUNT {
             return Err(ReceivedError::Breach(Breach::FrameEncoding));
@@ -281,12 +287,14 @@ impl StreamsState {
     /// Finishes a stream: its end has to go behind its bytes.
     ///
     /// [`FinishError::ClosedStream`] where there is no such stream, or its sending half is done; [`FinishError::Stopped`] where the peer
-    /// stopped it; `ClosedStream` where it was finished or reset; [`FinishError::Memory`] where memory lacks. They are tested in this
-    /// order, and change nothing.
+    /// stopped it; `ClosedStream` where it was finished or reset; [`FinishError::Memory`] where memory lacks to queue it. They are tested
+    /// in this order, and change nothing.
     pub fn finish(&mut self, id: StreamId) -> Result<(), FinishError>
         ensures answer { result ≢ Err finish_errors.Memory → result ≡ finish_answer self.old id }
         ensures new { result ≢ Err finish_errors.Memory → self.new ≡ after_finish self.old id }
         ensures memory { result ≡ Err finish_errors.Memory → self.new ≡ self.old }
+        ensures lacking { result ≡ Err finish_errors.Memory → finish_answer self.old id ≡ Ok tt }
+        ensures unqueued { result ≡ Err finish_errors.Memory → IfSome (sending_half self.old id) (λ h. h.place ≡ None) }
     {
         if let Some(half) = self.sending.get(id) {
             match finish_of(half) {
@@ -310,11 +318,13 @@ impl StreamsState {
     /// Sets the priority of a stream, which counts when it is queued next.
     ///
     /// [`UpdateError::ClosedStream`] where there is no such stream, or its sending half is done; [`UpdateError::Memory`] where memory
-    /// lacks. Either changes nothing.
+    /// lacks to bring its sending half into use. Either changes nothing.
     pub fn set_priority(&mut self, id: StreamId, priority: i32) -> Result<(), UpdateError>
         ensures answer { result ≢ Err update_errors.Memory → result ≡ set_priority_answer self.old id }
         ensures new { result ≢ Err update_errors.Memory → self.new ≡ after_set_priority self.old id priority }
         ensures memory { result ≡ Err update_errors.Memory → self.new ≡ self.old }
+        ensures lacking { result ≡ Err update_errors.Memory → set_priority_answer self.old id ≡ Ok tt }
+        ensures idle { result ≡ Err update_errors.Memory → at self.old.sending.halves.live id ≡ None }
     {
         if self.sending.get(id).is_some() {
             self.sending.set_priority(id, priority);
@@ -351,6 +361,7 @@ impl StreamsState {
         ensures pending { OnOk result (pending.new ≡ (blocked_at (sending_half self.old id) self.old pending.old id).pending) }
         ensures err { OnErr result (self.new ≡ self.old) }
         ensures kept { OnErr result (pending.new ≡ pending.old) }
+        ensures lacking { OnErr result (IsSomeAnd (sending_half self.old id) (λ h. is_noted (room self.old.sending) h ≡ false)) }
     {
         let blocked = self.sending.room() == 0;
         if self.sending.get(id).is_some() {
@@ -376,6 +387,7 @@ impl StreamsState {
         requires { write_answer true self.old id len ≡ Ok (length bytes.now) }
         ensures ok { OnOk result (self.new ≡ accepted_at (sending_half self.old id) self.old id bytes.now) }
         ensures err { OnErr result (self.new ≡ self.old) }
+        ensures lacking { OnErr result (0 < length bytes.now) }
     {
         // The proof reads how many bytes these are at most.
         let _len = len;
@@ -396,7 +408,7 @@ impl StreamsState {
     /// [`WriteError::Blocked`] where the end isn't open; `ClosedStream` where there is no such stream, or its sending half is done;
     /// `Blocked` where the connection's limit or the send window leaves no room; `ClosedStream` where it was finished or reset;
     /// `Stopped` where the peer stopped it; `Blocked` where its own limit leaves no room. They are tested in this order, and none of
-    /// the bytes is taken. `Memory` where memory lacks, and nothing changes.
+    /// the bytes is taken. `Memory` where memory lacks to take some, or to note that the stream is blocked, and nothing changes.
     pub fn write(
         &mut self,
         is_open: bool,
@@ -407,6 +419,8 @@ impl StreamsState {
         ensures answer { result ≢ Err write_errors.Memory → result ≡ write_answer is_open self.old id (length bytes.now) }
         ensures new { self.new ≡ (after_write is_open result self.old pending.old id bytes.now).state }
         ensures pending { pending.new ≡ (after_write is_open result self.old pending.old id bytes.now).pending }
+        ensures open { result ≡ Err write_errors.Memory → is_open ≡ true }
+        ensures lacking { result ≡ Err write_errors.Memory → WriteMayLack (write_answer true self.old id (length bytes.now)) (sending_half self.old id) (room self.old.sending) }
     {
         if !is_open {
             return Err(WriteError::Blocked);
@@ -429,7 +443,7 @@ impl StreamsState {
 
     // A frame opens its stream and those of its kind below it, where the peer opens it and it isn't
     // open.
-    fn open_by(&mut self, id: StreamId)
+    pub(crate) fn open_by(&mut self, id: StreamId)
         ensures { self.new ≡ opened_by self.old id }
     {
         if is_own(self.side, id) || self.opening.is_opened(self.side, id) {
@@ -440,7 +454,7 @@ impl StreamsState {
     }
 
     // The rule that a frame for the sending half of a stream breaks by its id.
-    fn sending_refusal(&self, id: StreamId) -> Option<Breach>
+    pub(crate) fn sending_refusal(&self, id: StreamId) -> Option<Breach>
         ensures { result ≡ sending_refusal self.now id }
     {
         if !is_own(self.side, id) && id.dir() == Dir::Uni {
@@ -453,24 +467,28 @@ impl StreamsState {
     ///
     /// [`ReceivedError::Breach`] where the id breaks a rule: `StreamState` on a stream on which only the peer sends, or on one of this
     /// end that isn't opened; `StreamLimit` beyond the count that the peer may open. It changes nothing. [`ReceivedError::Memory`] where
-    /// memory lacks: the stream may be open by then.
+    /// memory lacks, and the frame counts: the stream is open by then, and nothing else changed.
     pub fn received_stop_sending(&mut self, frame: StopSending) -> Result<(), ReceivedError>
         ensures answer { AnswersBreach result (sending_refusal self.old frame.id) }
         ensures new { UnlessMemory result (self.new ≡ after_stop_sending self.old (stop_sending_view frame)) }
+        ensures memory { OnMemory result (self.new ≡ opened_by self.old frame.id) }
+        ensures lacking { OnMemory result (IsSomeAnd (sending_for self.old frame.id) (λ h. h.stopped ≡ None)) }
     {
         if let Some(breach) = self.sending_refusal(frame.id) {
             return Err(ReceivedError::Breach(breach));
         }
         self.open_by(frame.id);
-        match self.stop(frame.id, frame.error_code) {
+        match self.stop_send(frame.id, frame.error_code) {
             Ok(()) => Ok(()),
             Err(_) => Err(ReceivedError::Memory),
         }
     }
 
     // The peer stopped the sending half of a stream, unless it is done or was stopped before.
-    fn stop(&mut self, id: StreamId, error_code: VarInt) -> Result<(), AllocError>
-        ensures { OnOk result (self.new ≡ stop_at (sending_half self.old id) self.old id error_code) }
+    fn stop_send(&mut self, id: StreamId, error_code: VarInt) -> Result<(), AllocError>
+        ensures ok { OnOk result (self.new ≡ stop_at (sending_half self.old id) self.old id error_code) }
+        ensures err { OnErr result (self.new ≡ self.old) }
+        ensures lacking { OnErr result (IsSomeAnd (sending_half self.old id) (λ h. h.stopped ≡ None)) }
     {
         if let Some(half) = self.sending.get(id) {
             if half.stop_reason().is_some() {
@@ -484,8 +502,12 @@ impl StreamsState {
             return Ok(());
         };
         half.set_stop_reason(error_code);
-        self.sending.add(self.side, id, half)?;
-        self.events.push(StreamEvent::Stopped { id, error_code })
+        self.events.push(StreamEvent::Stopped { id, error_code })?;
+        if self.sending.add(self.side, id, half).is_err() {
+            self.events.take_back();
+            return Err(AllocError);
+        }
+        Ok(())
     }
 
     /// What the application is told next of streams, if anything: that the peer opened some, two-way ones first; that one takes bytes

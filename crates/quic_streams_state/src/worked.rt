@@ -1,5 +1,5 @@
 //! The definitions computed on worked rows. Each function does nothing: its contract is the law.
-ghost use Rattle.std.specs.Prelude.{◌≡◌, ℕ, ◌+◌, ◌-◌, ◌^◌, pos, IfSome, true, false, [], ◌∷◌, replicate, Some, None, Ok, Err};
+ghost use Rattle.std.specs.Prelude.{◌≡◌, ℕ, ◌+◌, ◌-◌, ◌^◌, pos, IfSome, true, false, [], ◌∷◌, replicate, length, Some, None, Ok, Err};
 ghost use Rattle.quic_wire_core.specs.declared.stream_id.Side.TheVariants.{Client, Server};
 ghost use Rattle.quic_wire_core.specs.declared.stream_id.Dir.TheVariants.{Bi, Uni};
 ghost use Rattle.quic_wire.specs.Writing.{spelled_all};
@@ -10,16 +10,18 @@ ghost use Rattle.quic_streams_parts.specs.declared.answers.ReadError.TheVariants
 ghost use Rattle.quic_streams_parts.specs.declared.answers.ReadableError.TheVariants as readable_errors;
 ghost use Rattle.quic_streams_parts.specs.declared.answers.UpdateError.TheVariants as update_errors;
 ghost use Rattle.quic_streams_parts.specs.declared.answers.StreamEvent.TheVariants as stream_events;
-ghost use Rattle.quic_retransmits.specs.Retransmits.{nothing_waits, merged, after_retire, can_retire};
+ghost use Rattle.quic_retransmits.specs.Retransmits.{Retransmits, nothing_waits, merged, after_retire, can_retire, is_empty_where};
 ghost use Rattle.quic_streams_halves.specs.Halves.{done};
 ghost use Rattle.quic_streams_state.specs.Parts.{buffered};
-ghost use Rattle.quic_streams_state.specs.State.{consumed, sending_half, receiving_status};
+ghost use Rattle.quic_streams_state.specs.State.{StreamsState, consumed, sending_half, sending_status, receiving_status};
+ghost use Rattle.quic_streams_state.specs.Limits.{can_send_data_blocked, can_send_flow_control};
+ghost use Rattle.quic_streams_state.specs.Waiting.{stream_data_blocked_limit, is_empty};
 ghost use Rattle.quic_streams_state.specs.Opening.{sending_refusal, open_answer, after_open, accept_answer, after_max_streams, max_streams_breach};
 ghost use Rattle.quic_streams_state.specs.Taking.{stream_breach, reset_breach, after_max_data};
 ghost use Rattle.quic_streams_state.specs.Reading.{told_bytes, next_answer, read_answer, stop_answer, after_stop, after_read_begun};
 ghost use Rattle.quic_streams_state.specs.Writing.{write_answer, after_write_chunks, reset_answer, after_reset, write_chunks_answer, priority_answer, after_set_priority};
 ghost use Rattle.quic_streams_state.specs.Telling.{polled};
-ghost use Rattle.quic_streams_state.specs.Worked.{client, server, wrote, sends, controls, took, hello, hello_frame, twenty, eight_written, eight_frame, eight_read, one_written, one_frame, one_read, one_ended, a_frame, one_accepted, end_read, hello_written, hello_reset, reset_taken, hello_taken, hello_stopped};
+ghost use Rattle.quic_streams_state.specs.Worked.{client, server, wrote, sends, controls, controls_in, two_stops, resets_wait, took, hello, hello_frame, twenty, eight_written, eight_frame, eight_read, one_written, one_frame, one_read, one_ended, a_frame, one_accepted, end_read, hello_written, hello_reset, reset_taken, hello_taken, hello_stopped, a_ended, byte_lost, end_lost, whole_acked};
 
 /// With a window of eight bytes a write takes eight; once the server read them, MAX_DATA tells 16, and a write takes eight more.
 #[tactic(auto, unfolding(quic_wire::specs::Writing::stream_spelling, quic_sets::specs::Offsets::without_offsets, quic_sets::specs::Offsets::with_offsets, quic_sets::specs::Offsets::parts_from, quic_sets::specs::Pieces::pieces, quic_sets::specs::Pieces::joining, quic_sets::specs::Pieces::with_range))]
@@ -112,6 +114,35 @@ pub fn broken_rules_are_found()
     ensures stop_own { sending_refusal (client 1000 100) 0 ≡ Some breaches.StreamState }
     ensures stop_one_way { sending_refusal (server 1000 100) 2 ≡ Some breaches.StreamState }
     ensures stop_beyond { sending_refusal (server 1000 100) 400 ≡ Some breaches.StreamLimit }
+{}
+
+/// An end that was lost waits to go again. Where another frame with it is acknowledged before that, the stream is done, and no
+/// longer stands in the queue.
+#[tactic(auto, unfolding(quic_wire::specs::Writing::stream_spelling, quic_sets::specs::Offsets::without_offsets, quic_sets::specs::Offsets::with_offsets, quic_sets::specs::Offsets::parts_from, quic_sets::specs::Pieces::pieces, quic_sets::specs::Pieces::joining, quic_sets::specs::Pieces::with_range))]
+pub fn end_goes_twice()
+    ensures alone { (sends a_ended).frames ≡ record { id = 0; offset = 1; fin = true; bytes = [] } ∷ [] }
+    ensures both { (sends byte_lost).frames ≡ record { id = 0; offset = 0; fin = true; bytes = 0x61 ∷ [] } ∷ [] }
+    ensures waits { length end_lost.sending.queue.entries ≡ 1 }
+    ensures done { sending_status whole_acked.state 0 ≡ done }
+    ensures live { whole_acked.state.sending.halves.live ≡ [] }
+    ensures queue { whole_acked.state.sending.queue.entries ≡ [] }
+    ensures told { (polled whole_acked.state).answer ≡ Some (stream_events.Finished 0) }
+{}
+
+/// What waits is taken from its front: what is no longer due is dropped, and the first that is due and doesn't fit stays, with all
+/// behind it.
+pub fn first_goes_first()
+    ensures goes { (controls_in 5 (client 1000 100) two_stops).frames ≡ stop_sending (record { id = 0; code = 9 }) ∷ [] }
+    ensures stays { (controls_in 5 (client 1000 100) two_stops).pending.stop_sending ≡ record { id = 4; code = 9 } ∷ [] }
+    ensures noted { (controls_in 5 (client 1000 100) two_stops).sent.stop_sending ≡ record { id = 0; code = 9 } ∷ [] }
+    ensures dropped { (controls_in 4 hello_reset.state (resets_wait ((4, 1) ∷ (0, 5) ∷ []))).frames ≡ reset_stream (record { id = 0; code = 5; final_size = 5 }) ∷ [] }
+    ensures untouched { (controls_in 3 hello_reset.state (resets_wait ((0, 5) ∷ (4, 1) ∷ []))).pending.reset_stream ≡ (0, 5) ∷ (4, 1) ∷ [] }
+    ensures nothing { (controls_in 3 hello_reset.state (resets_wait ((0, 5) ∷ (4, 1) ∷ []))).frames ≡ [] }
+{}
+
+/// What `Retransmits::is_empty` answers of streams, by their queries, is whether nothing waits that would be written.
+pub fn emptiness_is_told()
+    ensures { (p : Retransmits) (s : StreamsState) → is_empty_where (can_send_data_blocked s) (λ id. can_send_flow_control s id) (λ id. stream_data_blocked_limit s id) p ≡ is_empty p s }
 {}
 
 /// Retirements are joined in their order, and at most 50 wait.

@@ -1,0 +1,40 @@
+use Rattle.std.proofs.Common.{◌≡◌, ◌≤◌, Some, rules, ap, ◌∙◌, arith}
+use Rattle.quic_streams_parts.specs.Table.{at, put}
+use Rattle.quic_streams_parts.specs.RecvHalf.{RecvHalf, credit}
+use Rattle.quic_streams_halves.specs.Halves.{Halves, seen_in}
+use Rattle.quic_streams_halves.proofs.Totals.{put_counted, put_fits}
+use Rattle.quic_streams_halves.proofs.recv_halves.RecvHalves.end_at.Goals as goal
+
+pub with_term-self-inside-requires-2-clause-fits : goal.with_term-self-inside-requires-2-clause-fits
+with_term-self-inside-requires-2-clause-fits c =
+    let es = c.self.inside.live.entries in
+    let h = c.in-Some.half.now in
+    let w = c.end_at.new.self in
+    let found : at es c.args.id ≡ Some h = search rules in
+    let seen = c.end-seen.ensures.value in
+    let to = c.end.ensures.value in
+    let consumed = c.credit-consumed.ensures.value in
+    let now = c.credit.ensures.value in
+    let within : credit w ≤ w.seen = omega (arith, c.credit.ensures.within) in
+    let all = ap (λ (h : Halves RecvHalf). seen_in h.live) c.self.view_is in
+    let sum = c.self.invariant.seen in
+    let small = c.end.ensures.small in
+    let room = c.requires.room in
+    let fits = put_fits es c.args.id c.self.inside.seen c.self.inside.consumed h w c.self.invariant found within in
+    omega arith
+
+pub invariant_of-self-2 : goal.invariant_of-self-2
+invariant_of-self-2 c =
+    let es = c.self.inside.live.entries in
+    let h = c.in-Some.half.now in
+    let w = c.end_at.new.self in
+    let found : at es c.args.id ≡ Some h = search rules in
+    let seen = c.end-seen.ensures.value in
+    let to = c.end.ensures.value in
+    let consumed = c.credit-consumed.ensures.value in
+    let now = c.credit.ensures.value in
+    let within : credit w ≤ w.seen = omega (arith, c.credit.ensures.within) in
+    let told = (c.get_mut.follows.holds c.end_at.new.self).0 ∙ ap (λ k. put c.self.inside.live.entries k c.end_at.new.self) c.from.ensures in
+    let s2 = c.with_term-self-inside.ensures in
+    let c2 = c.with_term-self-inside-2.ensures in
+    put_counted es _ c.args.id c.self.inside.seen c.self.inside.consumed _ _ h w c.self.invariant found told within (omega arith) (omega arith)
