@@ -9,7 +9,7 @@ use Rattle.quic_machine.specs.declared.answers.ConfigError.{ConfigError}
 use Rattle.quic_machine.specs.declared.answers.ConfigError.TheVariants as config_errors
 use Rattle.quic_machine.specs.End.{policy_of}
 use Rattle.quic_machine.specs.Opens.{own_id_length}
-use Rattle.quic_headline.specs.Runs.{Run}
+use Rattle.quic_headline.specs.Runs.{Run, LeadsTo}
 use Rattle.quic_headline.specs.Headline.{IsHonest}
 use Rattle.quic_machine.specs.Machine.{World, Policies}
 use Rattle.quic_connection.specs.declared.running.Ends.{Ends}
@@ -67,6 +67,12 @@ abbrev pub OnHonest : {H K R : Type 0} → (H → Protection) → (K → Aead) �
 OnHonest protection aead ends events o P =
     let r = run_of (policies_of protection aead ends) ends events o.answers.items o.views.items o.given in
     IsHonest r → P r
+
+-- a fact of both ends at each place of the run, where it holds of the first ends
+abbrev pub AtEachPlace : {H K R : Type 0} → (H → Protection) → (K → Aead) → Ends H K R → List RunEvent → Outcome H K R → (World → Type 0) → Type 0
+AtEachPlace protection aead ends events o P =
+    let r = run_of (policies_of protection aead ends) ends events o.answers.items o.views.items o.given in
+    P r.start → (i : ℕ) (w : World) → LeadsTo r i w → P w
 
 -- Two ends are refused: one of their ids hasn't eight bytes.
 pub record IsRefused (e : ConfigError) (client_id server_id : List ℕ) : Type 0 where

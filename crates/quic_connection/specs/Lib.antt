@@ -2,6 +2,7 @@
 pub mod Ends
 pub mod Settled
 pub use Rattle.quic_headline.specs.Runs
+pub use Rattle.quic_headline.specs.Observer
 pub use Rattle.quic_headline.specs.Headline
 pub use Rattle.quic_headline.specs.Duties
 pub use Rattle.quic_headline.specs.InFlight

@@ -6,10 +6,12 @@ ghost use Rattle.quic_machine.specs.Machine.{IsAnswer, IsLeft, fails, gives, giv
 ghost use Rattle.quic_machine.specs.Calls.{AreNexts, after_nexts};
 ghost use Rattle.quic_machine.specs.Lacking.{NextsLack, LacksWhere, TakesOfItsOwn};
 ghost use Rattle.quic_time.specs.Timers.{each_timer};
-ghost use Rattle.quic_headline.specs.Headline.{OrderedPrefix, Slices, Once, EndAfterAll, BlockedOnlyWithoutBytes, AcceptsAll, FinishedMeansArrived, TellsOnce, AcknowledgedWereTaken, NamesWereTaken, OpensExactly, LossTimersFollow, AckTimersFollow, NumbersRise};
+ghost use Rattle.quic_headline.specs.Causes.{NoBlame, TooManyPieces, NumberLimit, TakenOrTooMany};
+ghost use Rattle.quic_headline.specs.Headline.{OrderedPrefix, Slices, Once, EndAfterAll, BlockedOnlyWithoutBytes, AcceptsAll, FinishedMeansArrived, FinishedIsTold, AcknowledgedWereTaken, NamesWereTaken, OpensExactly, LossTimersFollow, AckTimersFollow, NumbersRise};
 ghost use Rattle.quic_headline.specs.Duties.{DutiesStand};
 ghost use Rattle.quic_headline.specs.InFlight.{TracksInFlight};
-ghost use Rattle.quic_connection.specs.Ends.{world_of, first_world, world_left, policies_of, held_of, OnHonest};
+ghost use Rattle.quic_headline.specs.Moments.{LossMoments, AckMoments};
+ghost use Rattle.quic_connection.specs.Ends.{world_of, first_world, world_left, policies_of, held_of, OnHonest, AtEachPlace};
 ghost use Rattle.quic_connection.specs.declared.running.Given.{Given};
 
 use quic_assembler::Chunk;
@@ -373,11 +375,14 @@ fn view<H: HeaderKey + Drop, K: PacketKey + Drop, R: Rng + Drop>(ends: &Ends<H, 
 /// a stream is a prefix of what was written on it, each chunk at its offset, no byte comes twice, the end comes only behind all,
 /// a read is blocked only where the next byte stood in no packet that was taken, each stream that stood in one is there to be
 /// accepted, a stream is told to be finished only where the other end took all of it, an acknowledgement that came names only
-/// what the other end took, and packet numbers rise. Behind the last answer, where nothing is left to tell, each stream was told to be finished once if all of
-/// it is acknowledged, and never otherwise; all that was written waits to go, is under way, or arrived; and an open end waits for
-/// exactly the datagrams that are in flight. Where memory lacks too, and with any keys, an end that is open then has its loss timer
-/// set exactly where a datagram that asks is waited for, and its timer of acknowledgements only where a packet that asks came since
-/// the last acknowledgement went, if it began so.
+/// what the other end took, and packet numbers rise. No end closes but for more than 2048 runs of a stream that wait to be read, or
+/// for used-up numbers, and each packet of the other end that comes is taken whole, but for such runs. No stream is told to be
+/// finished twice, and where an open end has nothing left to tell, each was that is wholly acknowledged, and no other; all that was
+/// written waits to go, is under way, or arrived; and an open end waits for exactly the datagrams that are in flight, shows its loss
+/// timer set to the moment that is due for them, and its timer of acknowledgements to one that is due for a packet that it took and
+/// hasn't acknowledged since. At each place, also where memory lacks, and with any keys, an open end has its loss timer set exactly
+/// where a datagram that asks is waited for, and its timer of acknowledgements only where a packet that asks came since the last
+/// acknowledgement went, if it began so.
 pub fn run<H: HeaderKey + Drop, K: PacketKey + Drop, R: Rng + Drop>(
     alloc: Global,
     ends: Ends<H, K, R>,
@@ -397,21 +402,24 @@ pub fn run<H: HeaderKey + Drop, K: PacketKey + Drop, R: Rng + Drop>(
     ensures accepts_all { OnHonest H.protection K.aead ends events.now result AcceptsAll }
     ensures finished_means_arrived { OnHonest H.protection K.aead ends events.now result
         FinishedMeansArrived }
-    ensures told_once { OnHonest H.protection K.aead ends events.now result (λ r.
-        TellsOnce r (world_left result)) }
-    ensures duties_stand { OnHonest H.protection K.aead ends events.now result (λ r.
-        DutiesStand r (world_left result)) }
-    ensures tracks_in_flight { OnHonest H.protection K.aead ends events.now result (λ r.
-        TracksInFlight r (world_left result)) }
+    ensures finished_is_told { OnHonest H.protection K.aead ends events.now result FinishedIsTold }
+    ensures duties_stand { OnHonest H.protection K.aead ends events.now result DutiesStand }
+    ensures tracks_in_flight { OnHonest H.protection K.aead ends events.now result TracksInFlight }
+    ensures loss_moments { OnHonest H.protection K.aead ends events.now result LossMoments }
+    ensures ack_moments { OnHonest H.protection K.aead ends events.now result AckMoments }
     ensures acknowledged_were_taken { OnHonest H.protection K.aead ends events.now result
         AcknowledgedWereTaken }
     ensures names_were_taken { OnHonest H.protection K.aead ends events.now result NamesWereTaken }
     ensures opens_exactly { OnHonest H.protection K.aead ends events.now result OpensExactly }
-    ensures loss_timers_follow { LossTimersFollow (first_world ends)
-        → LossTimersFollow (world_left result) }
-    ensures ack_timers_follow { AckTimersFollow (first_world ends)
-        → AckTimersFollow (world_left result) }
+    ensures loss_timers_follow { AtEachPlace H.protection K.aead ends events.now result
+        LossTimersFollow }
+    ensures ack_timers_follow { AtEachPlace H.protection K.aead ends events.now result
+        AckTimersFollow }
     ensures numbers_rise { OnHonest H.protection K.aead ends events.now result NumbersRise }
+    ensures no_blame { OnHonest H.protection K.aead ends events.now result NoBlame }
+    ensures too_many_pieces { OnHonest H.protection K.aead ends events.now result TooManyPieces }
+    ensures number_limit { OnHonest H.protection K.aead ends events.now result NumberLimit }
+    ensures taken_or_too_many { OnHonest H.protection K.aead ends events.now result TakenOrTooMany }
 {
     // What every run of the machine keeps: laws, which do nothing.
     headline::ordered_prefix();
@@ -421,15 +429,21 @@ pub fn run<H: HeaderKey + Drop, K: PacketKey + Drop, R: Rng + Drop>(
     headline::blocked_only_without_bytes();
     headline::accepts_all();
     headline::finished_means_arrived();
-    headline::told_once();
+    headline::finished_is_told();
     headline::duties_stand();
     headline::tracks_in_flight();
+    headline::loss_moments();
+    headline::ack_moments();
     headline::acknowledged_were_taken();
     headline::names_were_taken();
     headline::opens_exactly();
     headline::loss_timers_follow();
     headline::ack_timers_follow();
     headline::numbers_rise();
+    headline::no_blame();
+    headline::too_many_pieces();
+    headline::number_limit();
+    headline::taken_or_too_many();
     run_events(alloc, ends, events)
 }
 

@@ -16,4 +16,5 @@ pub mod Losing
 pub mod Finishing
 pub mod AckedSteps
 pub mod Arriving
+pub mod Settled
 pub mod Telling

@@ -5,6 +5,7 @@ pub mod Delivered
 pub mod Growth
 pub mod Knowing
 pub mod Naming
+pub mod PathSize
 pub mod Acking
 pub mod TrackedSteps
 pub mod Rising

@@ -1,57 +1,81 @@
--- The ledger of duties: where what was written on a stream is until it arrives (RFC 9000, section 13.3).
-use Rattle.std.specs.Prelude.{ℕ, ◌<◌, ◌≤◌, ◌≡◌, ◌⊎◌, true, ◌||◌, List, length, Some}
+-- The ledger of duties: where what has to reach the peer is until it arrives (RFC 9000, section 13.3). A duty waits, is under way, or has arrived.
+use Rattle.std.specs.Prelude.{ℕ, ◌<◌, ◌≤◌, ◌≡◌, ◌⊎◌, Bool, true, false, ◌||◌, List, [], ◌∷◌, length, Option, Some, None}
 use Rattle.quic_wire_core.specs.declared.stream_id.Side.{Side}
 use Rattle.quic_wire_core.specs.StreamId.{other_side}
 use Rattle.quic_send_buffer.specs.declared.stream_meta.StreamMeta.{StreamMeta}
 use Rattle.quic_send_buffer.specs.Buffered.{is_lost, is_unsent}
 use Rattle.quic_streams.specs.Table.{Table, at}
-use Rattle.quic_machine.specs.Tracking.{TrackedPacket}
+use Rattle.quic_machine.specs.Tracking.{Carried, TrackedPacket}
 use Rattle.quic_streams.specs.Sending.{SendHalf}
 use Rattle.quic_machine.specs.End.{End}
 use Rattle.quic_machine.specs.Poll.{waits}
 use Rattle.quic_machine.specs.Machine.{World, end_at}
-use Rattle.quic_headline.specs.Runs.{Run, Told, Packet, In, until, AreServed, written, ended, took, HasArrived, EndHasArrived}
+use Rattle.quic_headline.specs.Runs.{Run, Told, Packet, until, AreServed, LeadsTo, written, ended, HasArrived, EndHasArrived}
+use Rattle.quic_headline.specs.Observer.{took}
 
--- An offset waits to go: it is lost, or was never sent. What waits is queued: the end has something to send.
-pub record Waits (e : End) (id offset : ℕ) : Type 0 where
-  pub half : SendHalf
-  pub is : at e.sending.halves id ≡ Some half
-  pub waiting : (is_lost half.buffer offset || is_unsent half.buffer offset) ≡ true
+-- an offset of a stream, or the end of one
+pub data Duty : Type 0 where
+  Offset : (id : ℕ) (offset : ℕ) → Duty
+  Fin : (id : ℕ) → Duty
+
+-- which an end has that was told this: each offset that was written, and the end of each stream that was finished
+abbrev pub IsOwed : List Told → Duty → Type 0
+IsOwed told (Offset id offset) = offset < length (written id told)
+IsOwed told (Fin id) = ended id told ≡ true
+
+-- ---- it waits
+
+-- what a half shows, if it is there
+abbrev pub on_half : (SendHalf → Bool) → Option SendHalf → Bool
+on_half test None = false
+on_half test (Some half) = test half
+
+-- whether it is to go: an offset that is lost or was never sent, or an end that waits
+abbrev pub is_due : End → Duty → Bool
+is_due e (Offset id offset) = on_half (λ h. is_lost h.buffer offset || is_unsent h.buffer offset) (at e.sending.halves id)
+is_due e (Fin id) = on_half (λ h. h.fin_pending) (at e.sending.halves id)
+
+-- It waits to go. What waits is queued: the end has something to send.
+pub record Waits (e : End) (duty : Duty) : Type 0 where
+  pub due : is_due e duty ≡ true
   pub queued : waits e ≡ true
 
--- A frame of a stream stands in a datagram that is neither acknowledged nor lost yet.
-pub record IsUnderWay (packets : Table TrackedPacket) (id : ℕ) (frame : StreamMeta) : Type 0 where
-  pub number : ℕ
-  pub packet : TrackedPacket
-  pub tracked : In (number, packet) packets
-  pub carried : In frame packet.carried.stream_frames
-  pub of_stream : frame.id ≡ id
+-- ---- it is under way
 
--- An offset stands in such a frame.
-pub record GoesUnderWay (e : End) (id offset : ℕ) : Type 0 where
-  pub frame : StreamMeta
-  pub under_way : IsUnderWay e.tracking.packets id frame
-  pub from : frame.offsets.start ≤ offset
-  pub below : offset < frame.offsets.end
+-- a fact of one at least of a list
+abbrev pub AnyIn : {X : Type 0} → (X → Type 0) → List X → Type 0
+AnyIn P [] = ⊥
+AnyIn P (x ∷ xs) = P x ⊎ AnyIn P xs
 
--- The end of a stream waits to go; it is queued.
-pub record EndWaits (e : End) (id : ℕ) : Type 0 where
-  pub half : SendHalf
-  pub is : at e.sending.halves id ≡ Some half
-  pub waiting : half.fin_pending ≡ true
-  pub queued : waits e ≡ true
+-- a frame of a stream carries it
+abbrev pub Carries : StreamMeta → Duty → Type 0
+Carries frame (Offset id offset) = (frame.id ≡ id) × (frame.offsets.start ≤ offset) × (offset < frame.offsets.end)
+Carries frame (Fin id) = (frame.id ≡ id) × (frame.fin ≡ true)
 
--- The end of a stream stands in such a frame.
-pub record EndGoesUnderWay (e : End) (id : ℕ) : Type 0 where
-  pub frame : StreamMeta
-  pub under_way : IsUnderWay e.tracking.packets id frame
-  pub fin : frame.fin ≡ true
+-- it stands in what a datagram carried
+abbrev pub StandsIn : Carried → Duty → Type 0
+StandsIn carried duty = AnyIn (λ frame. Carries frame duty) carried.stream_frames
 
--- Where each offset that was written on a stream is, and the end of a stream that was finished: it waits, is under way, or arrived.
-pub record AreSomewhere (e : End) (packets : List Packet) (id : ℕ) (told : List Told) : Type 0 where
-  pub bytes : (offset : ℕ) → offset < length (written id told) → Waits e id offset ⊎ GoesUnderWay e id offset ⊎ HasArrived packets id offset
-  pub end : ended id told ≡ true → EndWaits e id ⊎ EndGoesUnderWay e id ⊎ EndHasArrived packets id (length (written id told))
+-- it stands in a datagram that is neither acknowledged nor lost yet
+abbrev pub IsUnderWay : Table TrackedPacket → Duty → Type 0
+IsUnderWay packets duty = AnyIn (λ p. StandsIn p.1.carried duty) packets
 
--- so it is of each stream, at both ends behind the last answer
-abbrev pub DutiesStand : Run → World → Type 0
-DutiesStand r end = AreServed r (length r.answers) → (side : Side) (id : ℕ) → AreSomewhere (end_at side end) (took r (other_side side) (length r.answers)) id (until r side (length r.answers))
+-- ---- it has arrived
+
+-- it stood in a packet that was taken
+abbrev pub HasCome : List Packet → List Told → Duty → Type 0
+HasCome packets told (Offset id offset) = HasArrived packets id offset
+HasCome packets told (Fin id) = EndHasArrived packets id (length (written id told))
+
+-- ---- where it is
+
+abbrev pub IsSomewhere : End → List Packet → List Told → Duty → Type 0
+IsSomewhere e packets told duty = Waits e duty ⊎ IsUnderWay e.tracking.packets duty ⊎ HasCome packets told duty
+
+-- so it is of each duty, at both ends
+abbrev pub DutiesAt : Run → ℕ → World → Type 0
+DutiesAt r i w = (side : Side) (duty : Duty) → IsOwed (until r side i) duty → IsSomewhere (end_at side w) (took r (other_side side) i) (until r side i) duty
+
+-- at each place before which no delivery and no poll met want of memory
+abbrev pub DutiesStand : Run → Type 0
+DutiesStand r = (i : ℕ) (w : World) → AreServed r i → LeadsTo r i w → DutiesAt r i w

@@ -1,5 +1,5 @@
 -- What every run of two honest ends keeps (RFC 9000, sections 2.2, 2.3 and 12.3): the headline, over the run's lists alone, and in some clauses over the ends that are left.
-use Rattle.std.specs.Prelude.{ℕ, ◌+◌, ◌<◌, ◌≤◌, ◌≡◌, ◌↔◌, Bool, true, not, if◌then◌else◌, eqb, List, [], ◌∷◌, ◌++◌, length, take, drop, slice_get, Option, Some, None, Ok, Err}
+use Rattle.std.specs.Prelude.{ℕ, ◌+◌, ◌<◌, ◌≤◌, ◌≡◌, ◌↔◌, Bool, true, not, eqb, List, [], ◌∷◌, ◌++◌, length, take, drop, slice_get, Option, Some, None, Ok, Err}
 use Rattle.std.specs.List.{IsDistinct}
 use Rattle.std.specs.Option.{is_some}
 use Rattle.quic_wire_core.specs.declared.stream_id.Side.{Side}
@@ -18,18 +18,15 @@ use Rattle.quic_machine.specs.declared.run.Call.TheVariants as calls
 use Rattle.quic_machine.specs.declared.run.Answer.{Answer}
 use Rattle.quic_machine.specs.declared.run.Answer.TheVariants as answers
 use Rattle.quic_machine.specs.Policy.{Policy}
-use Rattle.quic_streams.specs.Table.{at}
 use Rattle.quic_machine.specs.Start.{AreStarted, AreKeys}
 use Rattle.quic_machine.specs.Ids.{known}
 use Rattle.quic_machine.specs.Opens.{opens}
-use Rattle.quic_machine.specs.Tracking.{is_idle, names}
-use Rattle.quic_streams.specs.Sending.{SendHalf, is_acked}
+use Rattle.quic_machine.specs.Tracking.{is_idle}
 use Rattle.quic_machine.specs.End.{End}
-use Rattle.quic_machine.specs.Calls.{end_tells}
 use Rattle.quic_machine.specs.Poll.{IsDatagram}
 use Rattle.quic_machine.specs.Machine.{World, policy_at, end_at, Follows}
-use Rattle.quic_headline.specs.Runs.{Run, Told, Next, Packet, In, until, AreServed, written, ended, nexts, chunks_of, reads, bytes_of, offsets_of, ids_of, accepts, took, WasTaken, HasArrived, EndHasArrived, IsTaken, IsNamed, finishes_told, given_until, references_until, first_id_of_peer, expected_behind}
-use Rattle.quic_headline.specs.InFlight.{frames_opened}
+use Rattle.quic_headline.specs.Runs.{Run, Told, Next, Packet, In, until, state_at, AreServed, written, ended, nexts, chunks_of, reads, bytes_of, offsets_of, ids_of, accepts, WasTaken, HasArrived, EndHasArrived, IsTaken, IsNamed, names, finishes_told, given_until, first_id_of_peer, expected_behind}
+use Rattle.quic_headline.specs.Observer.{Sent, HoldsOffset, HoldsEnd, frames_opened, watch, took, references_until, acked_until}
 
 -- ---- the premises
 
@@ -103,13 +100,28 @@ pub record AllArrived (packets : List Packet) (id : ℕ) (told : List Told) : Ty
 abbrev pub FinishedMeansArrived : Run → Type 0
 FinishedMeansArrived r = (side : Side) (id i : ℕ) → AreServed r i → IsAt r i side calls.Event (answers.Event (Some (events.Stream (Finished id)))) → AllArrived (took r (other_side side) i) id (until r side i)
 
--- where nothing is left to tell, each stream with a sending half was told to be finished once if it is wholly acknowledged, its end too, and never otherwise
-abbrev pub ToldOnce : List Told → End → Type 0
-ToldOnce told e = end_tells e ≡ None → (id : ℕ) (h : SendHalf) → at e.sending.halves id ≡ Some h → finishes_told id told ≡ (if is_acked h then 1 else 0)
+-- a stream was ended, and all that was written on it, and its end, stand in these datagrams
+pub record AllHeld (sents : List Sent) (id : ℕ) (told : List Told) : Type 0 where
+  pub ended : ended id told ≡ true
+  pub bytes : (offset : ℕ) → offset < length (written id told) → HoldsOffset sents id offset
+  pub end : HoldsEnd sents id
 
--- so it is at both ends behind the last answer
-abbrev pub TellsOnce : Run → World → Type 0
-TellsOnce r end = AreServed r (length r.answers) → (side : Side) → ToldOnce (until r side (length r.answers)) (end_at side end)
+-- so it is of the datagrams of an end that were acknowledged in flight
+abbrev pub IsAcknowledged : Run → Side → ℕ → ℕ → Type 0
+IsAcknowledged r side id i = AllHeld (acked_until r side i) id (until r side i)
+
+-- how often an end told that a stream is finished
+abbrev pub times_told : Run → Side → ℕ → ℕ → ℕ
+times_told r side id i = finishes_told id (until r side i)
+
+-- a stream was told to be finished once if it is wholly acknowledged, and never otherwise
+abbrev pub ToldOnce : Run → Side → ℕ → ℕ → Type 0
+ToldOnce r side id i = (IsAcknowledged r side id i → times_told r side id i ≡ 1) × ((IsAcknowledged r side id i → ⊥) → times_told r side id i ≡ 0)
+
+-- no stream is told to be finished twice, and where an open end has nothing left to tell, each was that is wholly acknowledged, its
+-- end too, and no other
+abbrev pub FinishedIsTold : Run → Type 0
+FinishedIsTold r = (side : Side) (id i : ℕ) → AreServed r i → (times_told r side id i ≤ 1) × (state_at r side i ≡ states.Open → IsAt r i side calls.Event (answers.Event None) → ToldOnce r side id i)
 
 -- ---- acknowledgements
 
@@ -136,11 +148,11 @@ NamesWereTaken r = (side : Side) (i expected number : ℕ) (datagram : List ℕ)
 
 -- ---- injections
 
--- whether bytes open at an end by the run's lists: with its keys, under an id that it began with,
+-- whether bytes open at an end by the run's lists: with its keys, under an id that it is known by,
 -- where one above the greatest number that it took is expected (RFC 9000, sections 5.2 and 12.2, and
 -- A.3), in key phase 0
 abbrev pub would_open_at : Run → Side → ℕ → List ℕ → Bool
-would_open_at r side i d = is_some (opens (policy_at side r.keys) (known (end_at side r.start).ids) (expected_behind (took r side i)) d)
+would_open_at r side i d = is_some (opens (policy_at side r.keys) (watch r side i).intake.ids (expected_behind (took r side i)) d)
 
 -- an injection is answered `Opens` exactly where its bytes open so, whatever the state of its end
 abbrev pub OpensExactly : Run → Type 0

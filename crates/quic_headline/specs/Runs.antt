@@ -1,5 +1,5 @@
 -- What a run says of its ends over its lists alone: its events, their answers, the views behind them, and the datagrams that each end gave.
-use Rattle.std.specs.Prelude.{ℕ, ◌+◌, ◌<◌, ◌≤◌, ◌≡◌, ◌⊎◌, max, Bool, true, false, nat_le, ◌==◌, ◌||◌, if◌then◌else◌, List, [], ◌∷◌, ◌++◌, length, take, slice_get, Option, Some, None, Result, Ok, Err}
+use Rattle.std.specs.Prelude.{ℕ, zero, suc, ◌+◌, ◌<◌, ◌≤◌, ◌≡◌, ◌⊎◌, max, Bool, true, false, nat_le, ◌==◌, ◌&&◌, ◌||◌, if◌then◌else◌, List, [], ◌∷◌, ◌++◌, length, take, slice_get, Option, Some, None, Result, Ok, Err}
 use Rattle.std.specs.List.{list_any}
 use Rattle.quic_wire_core.specs.declared.stream_id.Side.{Side}
 use Rattle.quic_wire_core.specs.declared.stream_id.Side.TheVariants.{Client, Server}
@@ -21,12 +21,11 @@ use Rattle.quic_machine.specs.declared.run.Call.TheVariants as calls
 use Rattle.quic_machine.specs.declared.run.Answer.{Answer}
 use Rattle.quic_machine.specs.declared.run.Answer.TheVariants as answers
 use Rattle.quic_machine.specs.declared.run.View.{View}
-use Rattle.quic_machine.specs.Ids.{known, own_id}
+use Rattle.quic_machine.specs.Ids.{own_id}
 use Rattle.quic_machine.specs.Numbers.{duplicate_span}
 use Rattle.quic_machine.specs.Policy.{Policy}
-use Rattle.quic_machine.specs.Tracking.{names}
 use Rattle.quic_machine.specs.Opens.{opens}
-use Rattle.quic_machine.specs.Machine.{World, Policies, policy_at, end_at, fails, gave}
+use Rattle.quic_machine.specs.Machine.{World, Policies, end_at, fails, gave, Follows}
 
 -- ---- a run
 
@@ -78,6 +77,20 @@ told_at side state (event ∷ events) (a ∷ answers) (v ∷ views) = told_by si
 -- what was told at an end by the first so many answers
 abbrev pub until : Run → Side → ℕ → List Told
 until r side i = told_at side (end_at side r.start).closing.state r.events (take i r.answers) r.views
+
+-- the state of an end behind so many views; it began in this one
+abbrev pub state_behind : Side → State → ℕ → List View → State
+state_behind side state zero views = state
+state_behind side state (suc i) [] = state
+state_behind side state (suc i) (v ∷ views) = state_behind side (state_in v side) i views
+
+-- the state of an end behind the first so many events, as the views show it
+abbrev pub state_at : Run → Side → ℕ → State
+state_at r side i = state_behind side (end_at side r.start).closing.state i r.views
+
+-- the first so many events of a run, with their answers and views, may leave the ends so
+abbrev pub LeadsTo : Run → ℕ → World → Type 0
+LeadsTo r i w = Follows r.keys r.start (take i r.events) (take i r.answers) (take i r.views) w
 
 -- among the first so many answers no delivery and no poll met want of memory; then no end has failed, and each timeout was served
 abbrev pub AreServed : Run → ℕ → Type 0
@@ -189,14 +202,17 @@ pub record Packet : Type 0 where
   pub number : ℕ
   pub frames : List FrameValue
 
--- what came to an end, the latest first: the numbers of the packets that opened, and the packets that were taken
+-- What came to an end, the latest first: the ids that it is known by; the numbers of the packets that opened; the packets that
+-- were taken; and, where one was refused, what could be read of it: the frames before the one at fault are the first of these.
 pub record Intake : Type 0 where
+  pub ids : List (List ℕ)
   pub opened : List ℕ
   pub took : List Packet
+  pub part : Option Packet
 
--- nothing came
-abbrev pub nothing_came : Intake
-nothing_came = record { opened = []; took = [] }
+-- nothing came to an end that is known by these ids
+abbrev pub nothing_came : List (List ℕ) → Intake
+nothing_came ids = record { ids = ids; opened = []; took = []; part = None }
 
 -- the number that is expected next: one above the greatest taken, or 0 (RFC 9000, A.3)
 abbrev pub expected_behind : List Packet → ℕ
@@ -224,33 +240,38 @@ abbrev pub is_refused : Answer → Bool
 is_refused (answers.Deliver (receives.Closed error)) = true
 is_refused a = false
 
+-- the packet of an opening
+abbrev pub packet_of : Opening → Packet
+packet_of o = record { number = o.number; frames = frames_of (items o.payload) }
+
 -- a packet that opened: a duplicate is nothing, and one that was refused isn't taken
 abbrev pub and_opened : Option Opening → Answer → Intake → Intake
 and_opened None a i = i
 and_opened (Some o) a i =
     if is_again o.number i.opened then i
-    else record { opened = o.number ∷ i.opened; took = (if is_refused a then i.took else record { number = o.number; frames = frames_of (items o.payload) } ∷ i.took) }
+    else record {
+      ids = i.ids;
+      opened = o.number ∷ i.opened;
+      took = (if is_refused a then i.took else packet_of o ∷ i.took);
+      part = (if is_refused a then Some (packet_of o) else i.part);
+    }
 
 -- an open end is handed a datagram
-abbrev pub and_handed : State → Option (List ℕ) → Policy → List (List ℕ) → Answer → Intake → Intake
-and_handed states.Open (Some d) p ids a i = and_opened (opens p ids (expected_behind i.took) d) a i
-and_handed states.Open None p ids a i = i
-and_handed states.Closing d p ids a i = i
-and_handed states.Drained d p ids a i = i
-and_handed states.Failed d p ids a i = i
+abbrev pub and_handed : State → Option (List ℕ) → Policy → Answer → Intake → Intake
+and_handed states.Open (Some d) p a i = and_opened (opens p i.ids (expected_behind i.took) d) a i
+and_handed states.Open None p a i = i
+and_handed states.Closing d p a i = i
+and_handed states.Drained d p a i = i
+and_handed states.Failed d p a i = i
 
--- what came by one call more
-abbrev pub and_told : Policy → List (List ℕ) → List (List ℕ) → Told → Intake → Intake
-and_told p ids given t i = and_handed t.state (handed given t.call t.answer) p ids t.answer i
+-- what came by one call more to an end with these keys; `given` are the datagrams that the other end gave
+abbrev pub and_told : Policy → List (List ℕ) → Told → Intake → Intake
+and_told p given t i = and_handed t.state (handed given t.call t.answer) p t.answer i
 
--- what came to an end with these keys and ids, behind what came before
-abbrev pub intake : Policy → List (List ℕ) → List (List ℕ) → List Told → Intake → Intake
-intake p ids given [] i = i
-intake p ids given (t ∷ ts) i = intake p ids given ts (and_told p ids given t i)
-
--- the packets that an end took by the first so many answers, the latest first
-abbrev pub took : Run → Side → ℕ → List Packet
-took r side i = (intake (policy_at side r.keys) (known (end_at side r.start).ids) (given_of r (other_side side)) (until r side i) nothing_came).took
+-- what calls make of a value, one behind another
+abbrev pub folded : {S : Type 0} → (Told → S → S) → List Told → S → S
+folded step [] s = s
+folded step (t ∷ ts) s = folded step ts (step t s)
 
 -- x is in a list
 abbrev pub In : {X : Type 0} → X → List X → Type 0
@@ -285,7 +306,11 @@ pub record IsTaken (packets : List Packet) (number : ℕ) : Type 0 where
   pub was_taken : In packet packets
   pub is : packet.number ≡ number
 
--- A number is named in an ACK frame that was taken (RFC 9000, section 19.3.1).
+-- whether an ACK frame names a number: the number lies in one of its ranges (RFC 9000, section 19.3.1)
+abbrev pub names : AckValue → ℕ → Bool
+names a n = list_any (λ r. nat_le r.0 n && nat_le n r.1) a.ranges
+
+-- A number is named in an ACK frame that was taken.
 pub record IsNamed (packets : List Packet) (number : ℕ) : Type 0 where
   pub packet : Packet
   pub was_taken : In packet packets
@@ -326,15 +351,6 @@ acknowledged_in (f ∷ fs) = acknowledged_in fs
 abbrev pub acknowledged : List Packet → ℕ
 acknowledged [] = 0
 acknowledged (p ∷ ps) = max (acknowledged_in p.frames) (acknowledged ps)
-
--- what the number of each datagram that an end gave is cut against
-abbrev pub references : Policy → List (List ℕ) → List (List ℕ) → List Told → Intake → List ℕ
-references p ids given [] i = []
-references p ids given (t ∷ ts) i = (if gave t.answer then acknowledged i.took ∷ [] else []) ++ references p ids given ts (and_told p ids given t i)
-
--- the same, by the first so many answers
-abbrev pub references_until : Run → Side → ℕ → List ℕ
-references_until r side i = references (policy_at side r.keys) (known (end_at side r.start).ids) (given_of r (other_side side)) (until r side i) nothing_came
 
 -- the id that the peer of an end began with
 abbrev pub first_id_of_peer : Run → Side → List ℕ

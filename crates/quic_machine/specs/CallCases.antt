@@ -12,7 +12,7 @@ use Rattle.quic_machine.specs.declared.run.Call.{Call}
 use Rattle.quic_machine.specs.declared.run.Call.TheVariants as calls
 use Rattle.quic_machine.specs.declared.run.Answer.{Answer}
 use Rattle.quic_machine.specs.declared.run.Answer.TheVariants as answers
-use Rattle.quic_machine.specs.Parts.{Path, Waiting}
+use Rattle.quic_machine.specs.Parts.{Path, IsSamePath, Waiting}
 use Rattle.quic_machine.specs.Policy.{Policy}
 use Rattle.quic_machine.specs.End.{End, with_receiving}
 use Rattle.quic_machine.specs.Receive.{received}
@@ -72,7 +72,7 @@ pub record CallsTo (p : Policy) (e : End) (theirs : List (List ℕ)) (call : Cal
   -- what waits to go besides
   pub waits : (w : Waiting) → P (record e { waiting = w })
   -- bytes that don't open are handed in: no more than what the path counts changes
-  pub heard : (path : Path) → path.generation ≡ e.path.generation → P (record e { path = path })
+  pub heard : (path : Path) → IsSamePath e.path path → P (record e { path = path })
   -- a moment at which timers expire, a poll, a delivery, and what is told
   pub times : (now : ℕ) (acks loss : Bool) → is_timeout call ≡ true → P (at_expiry e now acks loss)
   pub polls : (now : ℕ) → is_poll call ≡ true → P (polled p e now).end
@@ -83,7 +83,7 @@ pub record CallsTo (p : Policy) (e : End) (theirs : List (List ℕ)) (call : Cal
 pub record Plain (p : Policy) (e : End) (call : Call) (P : End → Type 0) : Type 0 where
   pub streams : (s : Sending) (r : Receiving) → P (record e { sending = s; receiving = r })
   pub waits : (w : Waiting) → P (record e { waiting = w })
-  pub heard : (path : Path) → path.generation ≡ e.path.generation → P (record e { path = path })
+  pub heard : (path : Path) → IsSamePath e.path path → P (record e { path = path })
   pub times : (now : ℕ) (acks loss : Bool) → is_timeout call ≡ true → P (at_expiry e now acks loss)
   pub polls : (now : ℕ) → is_poll call ≡ true → P (polled p e now).end
   pub hears : (now : ℕ) (d : List ℕ) → is_delivery call ≡ true → P (received p e now d).end

@@ -1,23 +1,24 @@
 -- What holds of a draft while frames of streams go; that a datagram has a frame; and that frames go until none has something to send or there is no room.
-use Rattle.std.proofs.Common.{◌≡◌, ℕ, ◌-◌, ◌<◌, ◌≤◌, zero, suc, List, [], ◌∷◌, ◌++◌, Bool, true, false, length, Option, Some, None, refl, sym, ap, ◌∙◌, subst, arith, nat_lt, ◌||◌}
+use Rattle.std.proofs.Common.{◌≡◌, ℕ, ◌-◌, ◌<◌, ◌≤◌, zero, suc, List, [], ◌∷◌, ◌++◌, Bool, true, false, length, Option, Some, None, refl, sym, ap, ◌∙◌, subst, arith, nat_lt, ◌||◌, ◌&&◌, ◌⊎◌, inl, inr}
 use Rattle.std.specs.Prelude.{if◌then◌else◌, nat_le, ◌*◌}
 use Rattle.std.specs.Option.{is_some}
-use Rattle.std.proofs.lemmas.Bool.{leb-true, le-leb}
+use Rattle.std.proofs.lemmas.Bool.{leb-true, le-leb, and_parts}
 use Rattle.std.proofs.lemmas.List.{length-append, append_assoc}
 use Rattle.quic_wire.specs.Value.{FrameValue, stream, ack, ping}
-use Rattle.quic_wire.specs.Writing.{stream_spelling}
+use Rattle.quic_wire.specs.Writing.{stream_spelling, spelling}
 use Rattle.quic_wire.proofs.FrameWritten.{stream_length}
 use Rattle.quic_send_buffer.specs.Buffered.{writes_length}
 use Rattle.quic_streams.specs.Table.{at, Table}
 use Rattle.quic_streams.specs.Sending.{SendHalf, has_pending}
-use Rattle.quic_machine.specs.Poll.{Draft, frame_room, stream_room, with_ping_frame, stream_if, least_stream_room, next_stream, frame_and_more, stream_frames, with_stream_frames, with_asking, no_frames, ping_if, ack_of, with_ack, ack_fits, ack_if, composed_if, composed, waits}
+use Rattle.quic_machine.specs.Parts.{Waiting}
+use Rattle.quic_machine.specs.Poll.{Draft, frame_room, fits, with_frame, stream_room, with_ping_frame, stream_if, least_stream_room, next_stream, frame_and_more, stream_frames, with_stream_frames, with_asking, no_frames, ping_if, ack_of, with_ack, ack_fits, ack_if, composed_if, composed, waits}
 use Rattle.quic_streams.specs.Frames.{first_pending, frame_of}
 use Rattle.std.specs.Ordering.{nat_cmp}
 use Rattle.std.specs.BTreeMap.{is_at}
 use Rattle.quic_packet.specs.Number.{width_for}
-use Rattle.quic_recovery_core.specs.PendingAcks.{can_send}
+use Rattle.quic_recovery_core.specs.PendingAcks.{can_send, is_filled}
 use Rattle.quic_machine.specs.Numbers.{cut_against}
-use Rattle.quic_machine.specs.End.{End}
+use Rattle.quic_machine.specs.End.{End, with_waiting}
 use Rattle.quic_streams.specs.TableLaws.{at-first}
 
 -- what holds of a draft, and stays where the frame of a stream goes, holds once so many went
@@ -235,3 +236,52 @@ frames_behind (suc n) fs d = go (next_stream d) (λ x. frames_behind n fs x)
 
 pub streams_behind : (fs : List FrameValue) (d : Draft) → with_stream_frames (behind fs d) ≡ behind fs (with_stream_frames d)
 streams_behind fs d = frames_behind (frame_room d.end) fs d
+
+-- ---- what holds of a draft, whichever frames go
+
+-- a control frame, which neither acknowledges nor has bytes of a stream
+abbrev pub IsControl : FrameValue → Type 0
+IsControl ping = Unit {0}
+IsControl f = ⊥
+
+-- an ACK may go: no frame went before it, or it fits
+abbrev pub MayAck : Draft → Type 0
+MayAck d = (d.bytes ≡ []) ⊎ (fits d (ack (ack_of d.end)) ≡ true)
+
+-- what holds of a draft stays where a frame goes, of each kind: an ACK, a control frame, or the frame of a stream
+pub record Writing (P : Draft → Type 0) : Type 0 where
+  pub ack : (d : Draft) → is_filled d.end.acknowledging.runs ≡ true → MayAck d → P d → P (with_ack d)
+  pub control : (d : Draft) (f : FrameValue) (w : Waiting) → IsControl f → P d → P (with_frame d f (spelling f) (with_waiting d.end w))
+  pub stream : (d : Draft) (id : ℕ) (h : SendHalf) → at d.end.sending.halves id ≡ Some h → 25 ≤ frame_room d.end - length d.bytes → P d → P (stream_if (Some h) d id)
+
+module _ (P : Draft → Type 0) (w : Writing P) where
+  -- the frame of a stream
+  stream_keeps : (d : Draft) (id : ℕ) → next_stream d ≡ Some id → P d → P (stream_if (at d.end.sending.halves id) d id)
+  stream_keeps d id is p = half (at d.end.sending.halves id) refl (pending_is d.end.sending.halves id (next_first d id is))
+    where
+      half : (o : Option SendHalf) → at d.end.sending.halves id ≡ o → is_some o ≡ true → P (stream_if o d id)
+      half None found there = cc
+      half (Some h) found there = w.stream d id h found (next_room d id is) p
+
+  -- what asks
+  asking_keeps_all : (d : Draft) → P d → P (with_asking d)
+  asking_keeps_all d p = streams_keep P stream_keeps (with_ping_frame d) (pinged d.end.waiting.ping)
+    where
+      pinged : (b : Bool) → P (ping_if b d)
+      pinged true = w.control d ping (record d.end.waiting { ping = false }) tt p
+      pinged false = p
+
+  -- an ACK that isn't due
+  late_keeps : (b : Bool) (d : Draft) → ack_fits d ≡ b → P d → P (ack_if b d)
+  late_keeps true d goes p =
+      let parts = and_parts (is_filled d.end.acknowledging.runs) (fits d (ack (ack_of d.end))) goes in
+      w.ack d parts.0 (inr parts.1) p
+  late_keeps false d goes p = p
+
+-- what holds where no frame went, and stays where one goes, holds of what is composed
+pub by_writing : (P : Draft → Type 0) → Writing P → (e : End) → P (no_frames e) → P (composed e)
+by_writing P w e p = go (can_send e.acknowledging) refl
+  where
+    go : (b : Bool) → can_send e.acknowledging ≡ b → P (composed_if b e)
+    go true due = asking_keeps_all P w (with_ack (no_frames e)) (w.ack (no_frames e) (and_parts e.acknowledging.due (is_filled e.acknowledging.runs) due).1 (inl refl) p)
+    go false due = late_keeps P w (ack_fits (with_asking (no_frames e))) (with_asking (no_frames e)) refl (asking_keeps_all P w (no_frames e) p)

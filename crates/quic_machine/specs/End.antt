@@ -140,9 +140,13 @@ with_sending e s = record e { sending = s }
 abbrev pub with_receiving : End → Receiving → End
 with_receiving e r = record e { receiving = r }
 
+-- the end where this waits
+abbrev pub with_waiting : End → Waiting → End
+with_waiting e w = record e { waiting = w }
+
 -- the end with PING waiting or not
 abbrev pub with_ping : End → Bool → End
-with_ping e waits = record e { waiting = record e.waiting { ping = waits } }
+with_ping e waits = with_waiting e (record e.waiting { ping = waits })
 
 -- an end that met want of memory where a datagram was taken or given: it is failed for good, for no reason, and
 -- keeps its keys and its random source. What else stands in it isn't said

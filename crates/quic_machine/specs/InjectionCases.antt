@@ -13,7 +13,7 @@ use Rattle.quic_machine.specs.Ids.{known}
 use Rattle.quic_machine.specs.Numbers.{expected, number_opened}
 use Rattle.quic_recovery_core.specs.Duplicates.{is_duplicate}
 use Rattle.quic_machine.specs.Policy.{Policy}
-use Rattle.quic_machine.specs.Parts.{Path}
+use Rattle.quic_machine.specs.Parts.{Path, IsSamePath}
 use Rattle.quic_machine.specs.End.{End, with_numbers}
 use Rattle.quic_machine.specs.Opens.{own_id_length, in_phase, opens_behind, would_open}
 use Rattle.quic_machine.specs.Receive.{dropped, by_state, opened_as, opening, headed, received_in}
@@ -48,7 +48,7 @@ injected_leaves p e now d = go (would_open p e d) refl
     go false is = received_leaves e.closing.state p e now d is
 
 -- what holds of the end as it was, and of it whatever its path counts, holds after an injection
-pub by_injection : (p : Policy) (e : End) (now : ℕ) (d : List ℕ) (P : End → Type 0) → P e → ((path : Path) → path.generation ≡ e.path.generation → P (record e { path = path })) → P (after_injected_if (would_open p e d) p e now d)
+pub by_injection : (p : Policy) (e : End) (now : ℕ) (d : List ℕ) (P : End → Type 0) → P e → ((path : Path) → IsSamePath e.path path → P (record e { path = path })) → P (after_injected_if (would_open p e d) p e now d)
 by_injection p e now d P same heard = subst P (sym (injected_leaves p e now d)) same
 
 -- it gives no datagram

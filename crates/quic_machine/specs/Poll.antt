@@ -77,6 +77,10 @@ no_frames e = record { frames = []; bytes = []; end = e }
 abbrev pub with_frame : Draft → FrameValue → List ℕ → End → Draft
 with_frame d f bytes e = record { frames = d.frames ++ f ∷ []; bytes = d.bytes ++ bytes; end = e }
 
+-- whether a frame fits behind those of a draft
+abbrev pub fits : Draft → FrameValue → Bool
+fits d f = nat_le (length d.bytes + frame_size f) (frame_room d.end)
+
 -- PING goes if it waits
 abbrev pub ping_if : Bool → Draft → Draft
 ping_if true d = with_frame d ping (spelling ping) (with_ping d.end false)
@@ -143,7 +147,7 @@ with_ack d = with_frame d (ack (ack_of d.end)) (spelling (ack (ack_of d.end))) (
 
 -- whether there is a number to acknowledge, and its frame fits behind a draft's
 abbrev pub ack_fits : Draft → Bool
-ack_fits d = is_filled d.end.acknowledging.runs && nat_le (length d.bytes + frame_size (ack (ack_of d.end))) (frame_room d.end)
+ack_fits d = is_filled d.end.acknowledging.runs && fits d (ack (ack_of d.end))
 
 -- ACK goes along
 abbrev pub ack_if : Bool → Draft → Draft

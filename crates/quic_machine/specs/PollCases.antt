@@ -14,15 +14,12 @@ use Rattle.quic_machine.specs.declared.run.Answer.TheVariants as answers
 use Rattle.quic_machine.specs.Closing.{ticked}
 use Rattle.quic_machine.specs.Numbers.{cut_against, can_number, number_given}
 use Rattle.quic_machine.specs.Policy.{Policy}
-use Rattle.quic_recovery_core.specs.PendingAcks.{can_send}
 use Rattle.quic_time.specs.Timers.{Timers}
-use Rattle.quic_streams.specs.Table.{at}
-use Rattle.quic_streams.specs.Sending.{SendHalf}
 use Rattle.quic_machine.specs.Tracking.{Tracking}
 use Rattle.quic_machine.specs.End.{End, with_closing, closed_by, with_numbers, with_ping}
-use Rattle.quic_machine.specs.Poll.{Polled, Draft, gives_nothing, gives_datagram, no_frames, ping_if, with_ping_frame, stream_if, with_ack, ack_fits, ack_if, with_asking, composed_if, composed, datagram_of, asking, tracked_if, after_given, probed, waits, sends, polled_if, polled_open, polled_in, polled}
+use Rattle.quic_machine.specs.Poll.{Polled, Draft, gives_nothing, gives_datagram, composed, datagram_of, asking, tracked_if, after_given, probed, waits, sends, polled_if, polled_open, polled_in, polled}
 use Rattle.quic_machine.specs.Machine.{gives, gave}
-use Rattle.quic_machine.specs.DraftLaws.{streams_keep}
+use Rattle.quic_machine.specs.DraftLaws.{by_writing}
 
 -- an end that took a moment over, and PING waits at it or doesn't
 abbrev pub at_moment : End → ℕ → Bool → End
@@ -144,32 +141,9 @@ pub record Composes (e f : End) : Type 0 where
   pub loss : f.timers.loss_detection ≡ e.timers.loss_detection
   pub path : f.path ≡ e.path
 
-pub composes_on : (e f g : End) → Composes e f → Composes f g → Composes e g
-composes_on e f g s t = record { side = t.side ∙ s.side; ids = t.ids ∙ s.ids; numbers = t.numbers ∙ s.numbers; closing = t.closing ∙ s.closing; events = t.events ∙ s.events; tracking = t.tracking ∙ s.tracking; loss = t.loss ∙ s.loss; path = t.path ∙ s.path }
-
-half_composes : (o : Option SendHalf) (d : Draft) (id : ℕ) → Composes d.end (stream_if o d id).end
-half_composes None d id = record { side = refl; ids = refl; numbers = refl; closing = refl; events = refl; tracking = refl; loss = refl; path = refl }
-half_composes (Some h) d id = record { side = refl; ids = refl; numbers = refl; closing = refl; events = refl; tracking = refl; loss = refl; path = refl }
-
-ping_composes : (b : Bool) (d : Draft) → Composes d.end (ping_if b d).end
-ping_composes true d = record { side = refl; ids = refl; numbers = refl; closing = refl; events = refl; tracking = refl; loss = refl; path = refl }
-ping_composes false d = record { side = refl; ids = refl; numbers = refl; closing = refl; events = refl; tracking = refl; loss = refl; path = refl }
-
-asking_composes : (d : Draft) → Composes d.end (with_asking d).end
-asking_composes d =
-    streams_keep (λ x. Composes d.end x.end) (λ x id is c. composes_on d.end x.end (stream_if (at x.end.sending.halves id) x id).end c (half_composes (at x.end.sending.halves id) x id)) (with_ping_frame d) (ping_composes d.end.waiting.ping d)
-
-ack_composes : (b : Bool) (d : Draft) → Composes d.end (ack_if b d).end
-ack_composes true d = record { side = refl; ids = refl; numbers = refl; closing = refl; events = refl; tracking = refl; loss = refl; path = refl }
-ack_composes false d = record { side = refl; ids = refl; numbers = refl; closing = refl; events = refl; tracking = refl; loss = refl; path = refl }
-
-composes_if : (b : Bool) (e : End) → Composes e (composed_if b e).end
-composes_if true e =
-    let acked = with_ack (no_frames e) in
-    composes_on e acked.end (with_asking acked).end (ack_composes true (no_frames e)) (asking_composes acked)
-composes_if false e =
-    let asking = with_asking (no_frames e) in
-    composes_on e asking.end (ack_if (ack_fits asking) asking).end (asking_composes (no_frames e)) (ack_composes (ack_fits asking) asking)
-
 pub composes : (e : End) → Composes e (composed e).end
-composes e = composes_if (can_send e.acknowledging) e
+composes e = by_writing (λ (d : Draft). Composes e d.end) (record {
+  ack = λ d filled may c. record { side = c.side; ids = c.ids; numbers = c.numbers; closing = c.closing; events = c.events; tracking = c.tracking; loss = c.loss; path = c.path };
+  control = λ d f w is c. record { side = c.side; ids = c.ids; numbers = c.numbers; closing = c.closing; events = c.events; tracking = c.tracking; loss = c.loss; path = c.path };
+  stream = λ d id h found room c. record { side = c.side; ids = c.ids; numbers = c.numbers; closing = c.closing; events = c.events; tracking = c.tracking; loss = c.loss; path = c.path };
+}) e (record { side = refl; ids = refl; numbers = refl; closing = refl; events = refl; tracking = refl; loss = refl; path = refl })

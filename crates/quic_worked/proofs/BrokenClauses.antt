@@ -1,13 +1,11 @@
 -- Each broken run breaks a clause of the headline.
-use Rattle.std.proofs.Common.{◌≡◌, ◌+◌, ◌<◌, ◌≤◌, ℕ, List, [], ◌∷◌, ◌++◌, Some, None, Result, Ok, Err, Bool, true, false, Option, refl, inl, ap, sym, ◌∙◌, subst, arith}
+use Rattle.std.proofs.Common.{◌≡◌, ◌+◌, ◌<◌, ◌≤◌, ℕ, List, [], ◌∷◌, ◌++◌, Some, None, Result, Ok, Err, Bool, true, false, Option, refl, inl, ap, sym, ◌∙◌, subst, arith, length}
 use Rattle.std.specs.Prelude.{slice_index, ◌==◌, eqb, if◌then◌else◌}
 use Rattle.std.specs.List.{IsDistinct}
 use Rattle.quic_wire_core.specs.declared.stream_id.Side.TheVariants.{Client, Server}
 use Rattle.quic_wire_core.specs.declared.stream_id.Dir.TheVariants.{Bi}
-use Rattle.quic_wire.specs.Value.{ack}
-use Rattle.quic_streams.specs.Table.{at}
-use Rattle.quic_streams.specs.Sending.{SendHalf, is_acked}
-use Rattle.quic_machine.specs.Calls.{end_tells}
+use Rattle.quic_wire.specs.Value.{ack, stream}
+use Rattle.quic_machine.specs.declared.run.Answer.TheVariants as answers
 use Rattle.quic_assembler.specs.declared.assembler.Chunk.{Chunk}
 use Rattle.quic_streams.specs.declared.answers.WriteError.{WriteError}
 use Rattle.quic_streams.specs.declared.answers.FinishError.{FinishError}
@@ -15,21 +13,22 @@ use Rattle.quic_streams.specs.declared.answers.FinishError.TheVariants as finish
 use Rattle.quic_machine.specs.declared.answers.Received.{Received}
 use Rattle.quic_machine.specs.declared.answers.Received.TheVariants as receives
 use Rattle.quic_machine.specs.declared.run.ReadCall.{ReadCall}
-use Rattle.quic_headline.specs.Runs.{Told, finishes_told, Packet, Next, In, IsNamed, until, nexts, chunks_of, reads, bytes_of, offsets_of, took, WasTaken, HasArrived}
-use Rattle.quic_headline.specs.Headline.{OrderedPrefix, Slices, Once, EndAfterAll, BlockedOnlyWithoutBytes, AcceptsAll, FinishedMeansArrived, ToldOnce, TellsOnce, AcknowledgedWereTaken, LossTimerFollows, LossTimersFollow, AckTimerFollows, AckTimersFollow, NumbersRise, IsNumbered}
+use Rattle.quic_headline.specs.Runs.{Run, Told, Packet, Next, In, IsNamed, until, written, ended, nexts, chunks_of, reads, bytes_of, offsets_of, WasTaken, HasArrived}
+use Rattle.quic_headline.specs.Observer.{Sent, took, acked_until}
+use Rattle.quic_headline.specs.Headline.{OrderedPrefix, Slices, Once, EndAfterAll, BlockedOnlyWithoutBytes, AcceptsAll, FinishedMeansArrived, AllHeld, IsAcknowledged, ToldOnce, FinishedIsTold, AcknowledgedWereTaken, LossTimerFollows, LossTimersFollow, AckTimerFollows, AckTimersFollow, NumbersRise}
 use Rattle.quic_worked.specs.Acknowledged.{client_acked, server_acked}
-use Rattle.quic_worked.specs.Worked.{NextAnswers, gives_chunk, all_nexts, once_sent, once_taken, worked_policies, server_id, hello, hello_frame, run_with}
-use Rattle.quic_worked.specs.Broken.{answers_with, duplicate, hellp, changed_nexts, repeated_nexts, early_nexts, changed_byte, repeated_bytes, unwritten_byte, early_end, unwritten_end, taken_twice, blocked_read, never_accepted, early_finish, all_told, told_twice, never_told, early_acknowledgement, never_timed, still_timed, empty_datagram, repeated_number}
+use Rattle.quic_worked.specs.Worked.{NextAnswers, gives_chunk, all_nexts, once_sent, once_taken, hello, hello_frame, run_with}
+use Rattle.quic_worked.specs.Broken.{answers_with, duplicate, hellp, changed_nexts, repeated_nexts, early_nexts, changed_byte, repeated_bytes, unwritten_byte, early_end, unwritten_end, taken_twice, blocked_read, never_accepted, early_finish, told_twice, early_acknowledgement, never_timed, still_timed, empty_datagram, repeated_number, answered_run, asked_run, tells_finished}
 use Rattle.quic_worked.proofs.WorkedNumber.{only_number}
 use Rattle.quic_worked.proofs.WorkedRun.{hello_packet, frame_taken}
 
 -- what the nexts of the server answered: those of the read
-nexts_are : (read : ReadCall) (count : Result ℕ WriteError) (done : Result (Unit {0}) FinishError) (first second : Received) (id : Option ℕ) (said : NextAnswers) → read.id ≡ 0
+pub nexts_are : (read : ReadCall) (count : Result ℕ WriteError) (done : Result (Unit {0}) FinishError) (first second : Received) (id : Option ℕ) (said : NextAnswers) → read.id ≡ 0
     → nexts 0 (until (run_with read (answers_with count done first second id said)) Server 8) ≡ said ++ []
 nexts_are read count done first second id said e = ap (λ (n : ℕ). (if n == 0 then said else []) ++ []) e
 
 -- of a run whose deliveries and accept went well
-nexts_of : (read : ReadCall) (count : Result ℕ WriteError) (done : Result (Unit {0}) FinishError) (said : NextAnswers) → read.id ≡ 0
+pub nexts_of : (read : ReadCall) (count : Result ℕ WriteError) (done : Result (Unit {0}) FinishError) (said : NextAnswers) → read.id ≡ 0
     → nexts 0 (until (run_with read (answers_with count done receives.Taken duplicate (Some 0) said)) Server 8) ≡ said ++ []
 nexts_of read count done said e = nexts_are read count done receives.Taken duplicate (Some 0) said e
 
@@ -112,28 +111,56 @@ never_accepts read h =
 pub finishes_early : FinishedMeansArrived early_finish → ⊥
 finishes_early h = (h Client 0 0 refl (record { event = refl; answer = refl })).end.taken.was_taken
 
--- once nothing is left to tell, the client's sending half is wholly acknowledged
-record IsDone : Type 0 where
-  half : SendHalf
-  quiet : end_tells all_told.client ≡ None
-  is : at all_told.client.sending.halves 0 ≡ Some half
-  acked : is_acked half ≡ true
-
-is_done : IsDone
-unfolding client_acked
-is_done = record { half = _; quiet = refl; is = refl; acked = refl }
-
--- the stream was told to be finished once then
-once_told : (told : List Told) → ToldOnce told all_told.client → finishes_told 0 told ≡ 1
-once_told told h = h is_done.quiet 0 is_done.half is_done.is ∙ ap (λ (b : Bool). if b then 1 else 0) is_done.acked
-
 -- once isn't twice
-pub tells_twice : TellsOnce told_twice all_told → ⊥
-tells_twice h = let twice : ◌≡◌ {A = ℕ} 2 1 = once_told (until told_twice Client 2) (h refl Client) in omega arith
+pub tells_twice : FinishedIsTold told_twice → ⊥
+tells_twice h = let most : 2 ≤ 1 = (h Client 0 2 refl).0 in omega (arith, most)
+
+-- the client's datagram, as it was sent
+abbrev hello_sent : Sent
+hello_sent = record { number = 0; reference = 0; frames = stream hello_frame ∷ []; moment = 0 }
+
+-- it is acknowledged once the server's datagram came, and not before
+pub acknowledged_last : (read : ReadCall) → acked_until (answered_run read) Client 8 ≡ hello_sent ∷ []
+unfolding client_acked
+acknowledged_last read = refl
+
+pub unacknowledged : (read : ReadCall) → acked_until (answered_run read) Client 7 ≡ []
+unfolding once_taken
+unacknowledged read = refl
+
+-- all of the stream stands in it
+all_held : (told : List Told) → ended 0 told ≡ true → written 0 told ≡ hello → AllHeld (hello_sent ∷ []) 0 told
+all_held told ends wrote = record {
+  ended = ends;
+  bytes = λ o below.
+      let five : o < 5 = subst (λ (bs : List ℕ). o < length bs) wrote below in
+      record { sent = hello_sent; among = inl refl; frame = hello_frame; carried = inl refl; of_stream = refl; from = omega arith; below = five };
+  end = record { sent = hello_sent; among = inl refl; frame = hello_frame; carried = inl refl; of_stream = refl; fin = refl };
+}
+
+-- so it is where the client is asked then
+asked_acked : (read : ReadCall) → acked_until (asked_run read (answers.Event None ∷ [])) Client 8 ≡ hello_sent ∷ []
+unfolding client_acked
+asked_acked read = refl
+
+told_acked : (read : ReadCall) → acked_until (asked_run read (tells_finished ∷ answers.Event None ∷ [])) Client 9 ≡ hello_sent ∷ []
+unfolding client_acked
+told_acked read = refl
 
 -- nor is it never
-pub tells_never : TellsOnce never_told all_told → ⊥
-tells_never h = let never : ◌≡◌ {A = ℕ} 0 1 = once_told (until never_told Client 1) (h refl Client) in omega arith
+pub tells_never : (read : ReadCall) → FinishedIsTold (asked_run read (answers.Event None ∷ [])) → ⊥
+tells_never read h =
+    let r : Run = asked_run read (answers.Event None ∷ []) in
+    let all : IsAcknowledged r Client 0 8 = subst (λ (sents : List Sent). AllHeld sents 0 (until r Client 8)) (sym (asked_acked read)) (all_held (until r Client 8) refl refl) in
+    let once : ◌≡◌ {A = ℕ} 0 1 = ((h Client 0 8 refl).1 refl (record { event = refl; answer = refl })).0 all in
+    omega arith
+
+-- the worked run tells it once, then nothing
+pub told_exactly : (read : ReadCall) → ToldOnce (asked_run read (tells_finished ∷ answers.Event None ∷ [])) Client 0 9
+told_exactly read =
+    let r : Run = asked_run read (tells_finished ∷ answers.Event None ∷ []) in
+    let all : IsAcknowledged r Client 0 9 = subst (λ (sents : List Sent). AllHeld sents 0 (until r Client 9)) (sym (told_acked read)) (all_held (until r Client 9) refl refl) in
+    (λ held. refl, λ none. absurd (none all))
 
 -- ---- acknowledgements
 
@@ -171,14 +198,12 @@ never_stops i = acknowledged i.1
 
 -- ---- numbers
 
-no_number : (number : ℕ) → IsNumbered worked_policies.client 0 number server_id [] → ⊥
-no_number number n = let bytes = n.is.is in cc
-
+-- it opens to nothing
 pub empty_numbers : (read : ReadCall) → NumbersRise (empty_datagram read) → ⊥
-empty_numbers read h = let p = h Client 4 refl in no_number p.0 p.2
+empty_numbers read h = h Client 4 refl
 
 -- 0 isn't above 0
-repeats : (first second : ℕ) → first + 1 ≤ second → second ≡ 0 → ⊥
+pub repeats : (first second : ℕ) → first + 1 ≤ second → second ≡ 0 → ⊥
 repeats first second above e = omega (arith, above, e)
 
 pub repeated_numbers : NumbersRise repeated_number → ⊥

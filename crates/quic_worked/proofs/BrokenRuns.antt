@@ -37,7 +37,7 @@ never_behind (v ∷ views) w y end event a events told served step not_so f =
     not_so.never views end (subst (λ (m : World). Follows worked_policies m events told views end) there f.3)
 
 -- what the machine never does from where a first step leads, it never does behind that step
-behind : {w y : World} {event : RunEvent} {a : Answer} {events : List RunEvent} {told : List Answer} → fails a ≡ false
+pub behind : {w y : World} {event : RunEvent} {a : Answer} {events : List RunEvent} {told : List Answer} → fails a ≡ false
     → IsStep worked_policies w event a y → NeverAnswers y events told → NeverAnswers w (event ∷ events) (a ∷ told)
 behind {w} {y} {event} {a} {events} {told} served step not_so =
     record { never = λ views end f. never_behind views w y end event a events told served step not_so f }
@@ -59,12 +59,12 @@ stops w event a events told refused =
     record { never = λ views end f. never_first views w end event a events told refused f }
 
 -- behind the client's datagram
-behind_sent : {events : List RunEvent} {told : List Answer}
+pub behind_sent : {events : List RunEvent} {told : List Answer}
     → NeverAnswers once_sent events told → NeverAnswers started (sending_events ++ events) (sending_answers ++ told)
 behind_sent not_so = behind refl opens (behind refl writes (behind refl finishes (behind refl gives not_so)))
 
 -- behind the accepted stream
-behind_accepted : {events : List RunEvent} {told : List Answer} → NeverAnswers once_accepted events told
+pub behind_accepted : {events : List RunEvent} {told : List Answer} → NeverAnswers once_accepted events told
     → NeverAnswers once_sent
     (delivers ∷ delivers ∷ accepts_stream ∷ events)
     (answers.Deliver receives.Taken ∷ answers.Deliver duplicate ∷ answers.Accept (Some 0) ∷ told)
@@ -78,7 +78,7 @@ unread nexts not_so read by h =
     not_so (subst (λ (ms : List ℕ). IsRead once_accepted.server 0 ms (answers.Read (Ok nexts))) by.bounds of_first)
 
 -- so no worked run reads so
-never_reads : (nexts : NextAnswers) → (IsRead once_accepted.server 0 two_chunks (answers.Read (Ok nexts)) → ⊥)
+pub never_reads : (nexts : NextAnswers) → (IsRead once_accepted.server 0 two_chunks (answers.Read (Ok nexts)) → ⊥)
     → (read : ReadCall) → ReadsBy two_chunks read
     → NeverAnswers started (worked_events read) (answers_with (Ok 5) (Ok tt) receives.Taken duplicate (Some 0) nexts)
 never_reads nexts not_so read by = behind_sent (behind_accepted (stops _ _ _ _ _ (unread nexts not_so read by)))
@@ -91,7 +91,7 @@ fifth_byte (Ok (Some chunk)) = slice_index chunk.bytes 4
 fifth_byte (Ok None) = 0
 fifth_byte (Err e) = 0
 
-other_chunk : (gives_chunk hellp ≡ gives_chunk hello) ⊎ (gives_chunk hellp ≡ Err read_errors.Memory) → ⊥
+pub other_chunk : (gives_chunk hellp ≡ gives_chunk hello) ⊎ (gives_chunk hellp ≡ Err read_errors.Memory) → ⊥
 other_chunk (inl e) = let fifth : ◌≡◌ {A = ℕ} 112 111 = ap fifth_byte e in omega arith
 other_chunk (inr e) = cc
 
@@ -111,7 +111,7 @@ blocked_no : IsRead once_accepted.server 0 two_chunks (answers.Read (Ok blocked_
 unfolding once_taken
 blocked_no h = elim (h.1.0) [ inl e ↦ cc | inr e ↦ cc ]
 
-accept_no : IsRefused once_taken accepts_stream (answers.Accept None)
+pub accept_no : IsRefused once_taken accepts_stream (answers.Accept None)
 unfolding once_taken
 accept_no e = cc
 
@@ -119,12 +119,12 @@ unwritten_no : IsRefused once_opened writes_hello (answers.Write (Ok 4))
 unwritten_no (inl e) = cc
 unwritten_no (inr e) = cc
 
-not_opened_no : IsRefused once_sent delivers (answers.Deliver (receives.Dropped drops.NotOpened))
+pub not_opened_no : IsRefused once_sent delivers (answers.Deliver (receives.Dropped drops.NotOpened))
 unfolding once_taken
 not_opened_no (inl e) = cc
 not_opened_no (inr e) = cc
 
-twice_no : IsRefused once_taken delivers (answers.Deliver receives.Taken)
+pub twice_no : IsRefused once_taken delivers (answers.Deliver receives.Taken)
 unfolding once_taken
 twice_no (inl e) = cc
 twice_no (inr e) = cc

@@ -7,9 +7,10 @@ use Rattle.quic_machine.specs.declared.run.ReadCall.{ReadCall}
 use Rattle.quic_streams.specs.Table.{Table}
 use Rattle.quic_machine.specs.Tracking.{TrackedPacket}
 use Rattle.quic_machine.specs.Machine.{World, Follows}
-use Rattle.quic_headline.specs.Runs.{took, HasArrived}
-use Rattle.quic_headline.specs.Duties.{Waits, GoesUnderWay, DutiesStand}
-use Rattle.quic_headline.specs.InFlight.{in_flight, TracksInFlight}
+use Rattle.quic_headline.specs.Runs.{HasArrived}
+use Rattle.quic_headline.specs.Duties.{Offset, Waits, IsUnderWay, DutiesAt}
+use Rattle.quic_headline.specs.Observer.{took}
+use Rattle.quic_headline.specs.InFlight.{in_flight, TracksAt}
 use Rattle.quic_worked.specs.Worked.{sending_events, sending_answers, worked_views, carrying, started, once_opened, once_written, once_ended, once_sent, once_taken, worked_policies}
 use Rattle.quic_worked.specs.Acknowledged.{client_acked}
 use Rattle.quic_worked.specs.Broken.{NeverLeads, sending_run, answered_run, forgotten}
@@ -50,22 +51,22 @@ unfolding once_sent
 still_open = refl
 
 -- waits for nothing
-pub forgets : (read : ReadCall) → TracksInFlight (sending_run read) forgotten → ⊥
-forgets read h = let none : ◌≡◌ {A = Table TrackedPacket} [] ((0, carrying 0 5 true) ∷ []) = h refl Client still_open ∙ flies_first read in cc
+pub forgets : (read : ReadCall) → TracksAt (sending_run read) 4 forgotten → ⊥
+forgets read h = let none : ◌≡◌ {A = Table TrackedPacket} [] ((0, carrying 0 5 true) ∷ []) = h Client still_open ∙ flies_first read in cc
 
 -- nothing waits to go
-waits_not : Waits forgotten.client 0 0 → ⊥
+waits_not : Waits forgotten.client (Offset 0 0) → ⊥
 unfolding once_sent
-waits_not w = let is = w.is in let waiting = w.waiting in cc
+waits_not w = let due = w.due in cc
 
-nowhere : (read : ReadCall) → Waits forgotten.client 0 0 ⊎ GoesUnderWay forgotten.client 0 0 ⊎ HasArrived (took (sending_run read) Server 4) 0 0 → ⊥
+nowhere : (read : ReadCall) → Waits forgotten.client (Offset 0 0) ⊎ IsUnderWay forgotten.client.tracking.packets (Offset 0 0) ⊎ HasArrived (took (sending_run read) Server 4) 0 0 → ⊥
 nowhere read (inl w) = waits_not w
-nowhere read (inr (inl g)) = g.under_way.tracked
+nowhere read (inr (inl g)) = g
 nowhere read (inr (inr a)) = a.taken.was_taken
 
 -- the client wrote five bytes, of which none waits, is under way or came
-pub loses : (read : ReadCall) → DutiesStand (sending_run read) forgotten → ⊥
-loses read stands = nowhere read ((stands refl Client 0).bytes 0 (omega arith))
+pub loses : (read : ReadCall) → DutiesAt (sending_run read) 4 forgotten → ⊥
+loses read stands = nowhere read (stands Client (Offset 0 0) (omega arith))
 
 -- the machine gives the datagram, and waits for it
 sends : Follows worked_policies started sending_events sending_answers (take 4 worked_views) once_sent

@@ -3,9 +3,16 @@ pub mod WorkedLacks
 pub mod ReorderedRun
 pub mod BrokenRuns
 pub mod BrokenClauses
-mod Forgotten
+pub mod Forgotten
 pub mod WorkedKeys
 pub mod WorkedHonest
 pub mod WorkedNumber
-mod Named
+pub mod Named
 mod Injected
+mod ClosedRuns
+pub mod WrongRuns
+pub mod LostRuns
+pub mod WrongAcks
+pub mod OwnIds
+pub mod Honest
+mod TimedRun

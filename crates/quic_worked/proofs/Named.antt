@@ -8,9 +8,9 @@ use Rattle.quic_wire.specs.Reading.{block_at, sized_at, offset_at, data_at, stre
 use Rattle.quic_wire.specs.AckReading.{ack_at, ranges_at, range_at, some_ecn_at}
 use Rattle.quic_wire.specs.Value.{FrameValue, AckValue, ack}
 use Rattle.quic_wire.specs.Items.{frame_at, items_within, items}
-use Rattle.quic_machine.specs.Tracking.{names}
 use Rattle.quic_machine.specs.declared.run.ReadCall.{ReadCall}
-use Rattle.quic_headline.specs.Runs.{Packet, In, IsTaken, took, given_until}
+use Rattle.quic_headline.specs.Runs.{Packet, In, IsTaken, names, given_until}
+use Rattle.quic_headline.specs.Observer.{took}
 use Rattle.quic_headline.specs.Headline.{IsNamedIn, frames_given, NamesWereTaken}
 use Rattle.quic_worked.specs.Acknowledged.{ack_payload, from_server}
 use Rattle.quic_worked.specs.Broken.{IsNoRun, answered_run, early_name}
@@ -18,7 +18,7 @@ use Rattle.quic_worked.proofs.WorkedRun.{hello_packet}
 use Rattle.quic_worked.proofs.BrokenRuns.{stops}
 
 -- ACK of number 0
-abbrev ack_of_hello : AckValue
+abbrev pub ack_of_hello : AckValue
 ack_of_hello = record { largest = 0; delay = 3125; ranges = (0, 0) ∷ []; ecn = None }
 
 pub given_hello : (read : ReadCall) → given_until (answered_run read) Server 7 ≡ from_server 0 ack_payload ∷ []
@@ -29,7 +29,7 @@ unfolding items items_within frame_at body_at kind_of ack_at ranges_at range_at 
 names_hello read = refl
 
 -- number 0 is named there
-is_named : IsNamedIn (ack ack_of_hello ∷ []) 0
+pub is_named : IsNamedIn (ack ack_of_hello ∷ []) 0
 is_named = record { frame = ack_of_hello; carried = inl refl; named = refl }
 
 pub named_there : (read : ReadCall) → IsNamedIn (frames_given (answered_run read) Server 0 (from_server 0 ack_payload)) 0
@@ -63,7 +63,7 @@ hello_was_taken read number n =
 
 -- ---- the acknowledgement that is given too early
 
-early_frames : frames_given early_name Server 0 (from_server 0 ack_payload) ≡ ack ack_of_hello ∷ []
+pub early_frames : frames_given early_name Server 0 (from_server 0 ack_payload) ≡ ack ack_of_hello ∷ []
 unfolding items items_within frame_at body_at kind_of ack_at ranges_at range_at some_ecn_at
 early_frames = refl
 

@@ -13,35 +13,35 @@ use Rattle.quic_machine.specs.Calls.{after_nexts}
 use Rattle.quic_machine.specs.Machine.{World, IsRead, IsStep, Follows, changed, view_of}
 use Rattle.quic_machine.specs.Lacking.{NextsLack}
 use Rattle.quic_worked.specs.Worked.{ReadsBy, once_taken, NextAnswers, worked_policies, started, ran, opens_stream, asks_datagram, accepts_stream, reads_stream, gives_bytes, open_view, sent_view, waiting_view}
-use Rattle.quic_headline.specs.Runs.{took}
+use Rattle.quic_headline.specs.Observer.{took}
 use Rattle.quic_headline.specs.Headline.{IsRun}
 use Rattle.quic_worked.specs.Reordered.{abc, def, abc_datagram, def_datagram, writes_bytes, delivers_at, blocked_nexts, both_nexts, first_sent, second_written, both_sent, second_taken, second_accepted, both_taken, both_read, reordered_events, reordered_answers, reordered_views, reordered_packets, reordered_run}
 
 -- ---- the events
 
 -- the stream is open
-abbrev opened : World
+abbrev pub opened : World
 opened = ran worked_policies started (opens_stream ∷ []) (answers.Open (Ok (Some 0)) ∷ [])
 
 -- the first bytes are written
-abbrev first_written : World
+abbrev pub first_written : World
 first_written = ran worked_policies opened (writes_bytes abc ∷ []) (answers.Write (Ok 3) ∷ [])
 
-opens : IsStep worked_policies started opens_stream (answers.Open (Ok (Some 0))) opened
+pub opens : IsStep worked_policies started opens_stream (answers.Open (Ok (Some 0))) opened
 opens = record { answer = inl refl; end = refl; others = refl; lacking = tt }
 
-writes_abc : IsStep worked_policies opened (writes_bytes abc) (answers.Write (Ok 3)) first_written
+pub writes_abc : IsStep worked_policies opened (writes_bytes abc) (answers.Write (Ok 3)) first_written
 writes_abc = record { answer = inl refl; end = refl; others = refl; lacking = λ lacks. cc }
 
-gives_abc : IsStep worked_policies first_written asks_datagram (gives_bytes 32) first_sent
+pub gives_abc : IsStep worked_policies first_written asks_datagram (gives_bytes 32) first_sent
 unfolding first_sent
 gives_abc = record { answer = inl refl; end = refl; others = refl; lacking = tt }
 
-writes_def : IsStep worked_policies first_sent (writes_bytes def) (answers.Write (Ok 3)) second_written
+pub writes_def : IsStep worked_policies first_sent (writes_bytes def) (answers.Write (Ok 3)) second_written
 unfolding first_sent
 writes_def = record { answer = inl refl; end = refl; others = refl; lacking = λ lacks. cc }
 
-gives_def : IsStep worked_policies second_written asks_datagram (gives_bytes 33) both_sent
+pub gives_def : IsStep worked_policies second_written asks_datagram (gives_bytes 33) both_sent
 unfolding both_sent
 gives_def = record { answer = inl refl; end = refl; others = refl; lacking = tt }
 

@@ -14,7 +14,8 @@ use Rattle.quic_machine.specs.Machine.{IsRead, IsStep, Follows, changed, view_of
 use Rattle.quic_machine.specs.Calls.{after_nexts}
 use Rattle.quic_machine.specs.Lacking.{NextsLack}
 use Rattle.quic_machine.specs.Poll.{IsDatagram}
-use Rattle.quic_headline.specs.Runs.{Packet, took, WasTaken, HasArrived, EndHasArrived}
+use Rattle.quic_headline.specs.Runs.{Packet, WasTaken, HasArrived, EndHasArrived}
+use Rattle.quic_headline.specs.Observer.{took}
 use Rattle.quic_worked.specs.Worked.{ReadsBy, two_chunks, worked_parameters, client_id, server_id, client_made, server_made, started, once_opened, once_written, once_ended, once_sent, once_taken, once_accepted, once_read, hello_frame, hello_payload, hello_datagram, opens_stream, writes_hello, finishes_stream, asks_datagram, delivers, accepts_stream, reads_stream, all_nexts, gives_bytes, worked_policies, worked_events, worked_answers, open_view, sent_view, waiting_view, worked_views, worked_run}
 
 pub parameters_say : parameters_at worked_parameters ≡ Ok (parameters_of default_settings)

@@ -1,5 +1,5 @@
 -- Runs of machines with a bug: the worked run with other answers or another datagram.
-use Rattle.std.specs.Prelude.{ℕ, List, [], ◌∷◌, ◌++◌, length, replicate, take, Option, Some, None, Result, Ok, Err}
+use Rattle.std.specs.Prelude.{ℕ, ◌+◌, List, [], ◌∷◌, ◌++◌, length, replicate, take, Option, Some, None, Result, Ok, Err}
 use Rattle.quic_wire_core.specs.declared.stream_id.Side.{Side}
 use Rattle.quic_wire_core.specs.declared.stream_id.Side.TheVariants.{Client, Server}
 use Rattle.quic_streams.specs.declared.answers.WriteError.{WriteError}
@@ -262,6 +262,14 @@ told_twice = telling (asks_event ∷ asks_event ∷ []) (tells_finished ∷ tell
 -- the application is never told
 abbrev pub never_told : Run
 never_told = telling (asks_event ∷ []) (answers.Event None ∷ [])
+
+-- the run in which the client's datagram is acknowledged, and then the client is asked and answers so
+abbrev pub asked_run : ReadCall → List Answer → Run
+asked_run read told = record (answered_run read) {
+  events = (answered_run read).events ++ replicate (length told) asks_event;
+  answers = (answered_run read).answers ++ told;
+  views = replicate (8 + length told) (record { client = open_view; server = open_view });
+}
 
 -- ---- acknowledgements and injections
 

@@ -1,6 +1,6 @@
 //! Runs of machines with a bug, computed: each breaks a clause of the headline, or is none that the
 //! reference machine makes. Each function does nothing: its contract is the law.
-ghost use Rattle.std.specs.Prelude.{◌≡◌, ℕ, List, [], ◌∷◌, Ok, Err, true, false, alloc_error};
+ghost use Rattle.std.specs.Prelude.{◌≡◌, ℕ, List, [], ◌∷◌, None, Ok, Err, true, false, alloc_error};
 ghost use Rattle.quic_wire_core.specs.declared.stream_id.Side.TheVariants.{Client, Server};
 ghost use Rattle.quic_wire.specs.Value.{stream};
 ghost use Rattle.quic_machine.specs.declared.run.ReadCall.{ReadCall};
@@ -10,13 +10,14 @@ ghost use Rattle.quic_machine.specs.declared.run.Answer.TheVariants as answers;
 ghost use Rattle.quic_streams.specs.declared.answers.ReadableError.TheVariants as readable_errors;
 ghost use Rattle.quic_machine.specs.declared.answers.Received.TheVariants as receives;
 ghost use Rattle.quic_machine.specs.Machine.{World, IsRead, IsStep};
-ghost use Rattle.quic_headline.specs.Runs.{until, written, reads, bytes_of, took, given_until, IsTaken};
-ghost use Rattle.quic_headline.specs.Duties.{DutiesStand};
-ghost use Rattle.quic_headline.specs.InFlight.{in_flight, TracksInFlight};
-ghost use Rattle.quic_headline.specs.Headline.{OrderedPrefix, Slices, Once, EndAfterAll, BlockedOnlyWithoutBytes, AcceptsAll, FinishedMeansArrived, TellsOnce, AcknowledgedWereTaken, NamesWereTaken, IsNamedIn, frames_given, OpensExactly, would_open_at, IsHonest, IsRun, LossTimersFollow, AckTimersFollow, NumbersRise};
+ghost use Rattle.quic_headline.specs.Runs.{until, written, reads, bytes_of, given_until, IsTaken};
+ghost use Rattle.quic_headline.specs.Observer.{took, acked_until};
+ghost use Rattle.quic_headline.specs.Duties.{DutiesAt};
+ghost use Rattle.quic_headline.specs.InFlight.{in_flight, TracksAt};
+ghost use Rattle.quic_headline.specs.Headline.{OrderedPrefix, Slices, Once, EndAfterAll, BlockedOnlyWithoutBytes, AcceptsAll, FinishedMeansArrived, ToldOnce, FinishedIsTold, AcknowledgedWereTaken, NamesWereTaken, IsNamedIn, frames_given, OpensExactly, would_open_at, IsHonest, IsRun, LossTimersFollow, AckTimersFollow, NumbersRise};
 ghost use Rattle.quic_worked.specs.Acknowledged.{ack_payload, from_server, client_datagram};
 ghost use Rattle.quic_worked.specs.Worked.{write_lacks, next_lacks, poll_lacks, ReadsBy, two_chunks, sending_events, sending_answers, hello, hello_frame, hello_payload, hello_datagram, all_nexts, worked_policies, server_made, started, with_client, once_opened, once_ended, once_sent, once_taken, opens_stream, writes_hello, asks_datagram, delivers, reads_stream, within, run_with, carrying};
-ghost use Rattle.quic_worked.specs.Broken.{IsNoRun, IsNever, NeverLeads, writes_nothing, once_failed, lets_expire, hellp, changed_byte, repeated_bytes, unwritten_byte, early_end, unwritten_end, taken_twice, never_taken, blocked_read, never_accepted, early_finish, all_told, told_twice, never_told, early_acknowledgement, never_timed, still_timed, sending_run, answered_run, forgotten, empty_datagram, repeated_number, early_name, injected_run, always_opens, never_opens};
+ghost use Rattle.quic_worked.specs.Broken.{IsNoRun, IsNever, NeverLeads, writes_nothing, once_failed, lets_expire, hellp, changed_byte, repeated_bytes, unwritten_byte, early_end, unwritten_end, taken_twice, never_taken, blocked_read, never_accepted, early_finish, tells_finished, told_twice, never_told, early_acknowledgement, never_timed, still_timed, sending_run, answered_run, asked_run, forgotten, empty_datagram, repeated_number, early_name, injected_run, always_opens, never_opens};
 
 /// A read that changes a byte gives no prefix of what was written, and no slice of it.
 pub fn changed_byte_shows()
@@ -83,13 +84,18 @@ pub fn early_finish_shows()
 
 /// A stream that is told to be finished twice isn't told once.
 pub fn told_twice_shows()
-    ensures once { TellsOnce told_twice all_told → ⊥ }
+    ensures once { FinishedIsTold told_twice → ⊥ }
     ensures machine { IsNoRun told_twice }
 {}
 
-/// Nor is one that is never told, although all of it is acknowledged.
+/// Nor is one that is never told, although all of it is acknowledged: the datagram that has it all is named by the
+/// acknowledgement that came.
 pub fn never_told_shows()
-    ensures once { TellsOnce never_told all_told → ⊥ }
+    ensures before { (read : ReadCall) → acked_until (answered_run read) Client 7 ≡ [] }
+    ensures told { (read : ReadCall)
+        → ToldOnce (asked_run read (tells_finished ∷ answers.Event None ∷ [])) Client 0 9 }
+    ensures once { (read : ReadCall)
+        → FinishedIsTold (asked_run read (answers.Event None ∷ [])) → ⊥ }
     ensures machine { IsNoRun never_told }
 {}
 
@@ -148,7 +154,7 @@ pub fn needless_timer_shows()
 
 /// A client that forgets its datagram, which never came, owes what nobody has.
 pub fn forgotten_bytes_show()
-    ensures duties { (read : ReadCall) → DutiesStand (sending_run read) forgotten → ⊥ }
+    ensures duties { (read : ReadCall) → DutiesAt (sending_run read) 4 forgotten → ⊥ }
     ensures machine { NeverLeads sending_events sending_answers forgotten }
 {}
 
@@ -160,7 +166,7 @@ pub fn forgotten_datagram_shows()
         → in_flight (answered_run read) Client 7 ≡ (0, carrying 0 5 true) ∷ [] }
     ensures answered { (read : ReadCall) → in_flight (answered_run read) Client 8 ≡ [] }
     ensures silent { (read : ReadCall) → in_flight (answered_run read) Server 8 ≡ [] }
-    ensures forgotten { (read : ReadCall) → TracksInFlight (sending_run read) forgotten → ⊥ }
+    ensures forgotten { (read : ReadCall) → TracksAt (sending_run read) 4 forgotten → ⊥ }
     ensures machine { NeverLeads sending_events sending_answers forgotten }
 {}
 

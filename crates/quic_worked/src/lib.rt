@@ -4,5 +4,8 @@
 
 pub mod acknowledged;
 pub mod broken;
+pub mod closed;
+pub mod machines;
 pub mod reordered;
+pub mod timed;
 pub mod worked;

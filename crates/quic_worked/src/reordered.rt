@@ -7,7 +7,8 @@ ghost use Rattle.quic_send_buffer.specs.Buffered.{sent_end, writes_length};
 ghost use Rattle.quic_machine.specs.declared.run.ReadCall.{ReadCall};
 ghost use Rattle.quic_recovery_core.specs.PendingAcks.{can_send};
 ghost use Rattle.quic_headline.specs.Headline.{IsRun};
-ghost use Rattle.quic_headline.specs.Runs.{until, written, ended, reads, finished, given_until, took};
+ghost use Rattle.quic_headline.specs.Runs.{until, written, ended, reads, finished, given_until};
+ghost use Rattle.quic_headline.specs.Observer.{took};
 ghost use Rattle.quic_worked.specs.Worked.{ReadsBy};
 ghost use Rattle.quic_worked.specs.Reordered.{abc, def, abc_datagram, def_datagram, both_read, reordered_packets, reordered_run, first_arrived, both_arrived, sent_often};
 

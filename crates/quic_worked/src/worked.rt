@@ -34,7 +34,8 @@ ghost use Rattle.quic_machine.specs.Calls.{open_answer, end_accepts, end_writes,
 ghost use Rattle.quic_machine.specs.Poll.{IsDatagram};
 ghost use Rattle.quic_machine.specs.Machine.{IsStep, Follows};
 ghost use Rattle.quic_machine.specs.Opens.{opens};
-ghost use Rattle.quic_headline.specs.Runs.{until, written, ended, reads, finished, ids_of, accepts, count_given, given_until, took, is_again, HasArrived, EndHasArrived, references_until};
+ghost use Rattle.quic_headline.specs.Runs.{until, written, ended, reads, finished, ids_of, accepts, count_given, given_until, is_again, HasArrived, EndHasArrived};
+ghost use Rattle.quic_headline.specs.Observer.{took, references_until};
 ghost use Rattle.quic_machine.specs.Start.{AreStarted, AreKeys};
 ghost use Rattle.quic_headline.specs.Headline.{IsHonest, IsRun};
 ghost use Rattle.quic_worked.specs.Broken.{once_failed};

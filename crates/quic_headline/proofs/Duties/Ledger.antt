@@ -1,5 +1,5 @@
--- Where each offset that was written is, and the end of a finished stream, from what holds at a place.
-use Rattle.std.proofs.Common.{◌≡◌, ℕ, ◌<◌, Bool, true, false, cond, ltb, leb, ◌||◌, not, List, [], ◌∷◌, length, Option, Some, None, refl, ap, ◌∙◌, ◌⊎◌, inl, inr, arith}
+-- Where each duty is, from what holds at a place.
+use Rattle.std.proofs.Common.{◌≡◌, ℕ, ◌<◌, Bool, true, false, cond, ltb, leb, ◌||◌, not, List, [], ◌∷◌, length, Option, Some, None, refl, ap, ◌∙◌, inl, inr, arith}
 use Rattle.std.specs.Prelude.{if◌then◌else◌}
 use Rattle.std.specs.Option.{is_some}
 use Rattle.std.specs.Ordering.{nat_cmp}
@@ -10,19 +10,18 @@ use Rattle.quic_wire_core.specs.declared.stream_id.Side.{Side}
 use Rattle.quic_recovery_core.specs.PendingAcks.{can_send}
 use Rattle.quic_send_buffer.specs.Buffered.{is_acknowledged, is_lost, is_unsent, is_in_flight, has_unsent}
 use Rattle.quic_send_buffer.specs.Buffered as buffered
-use Rattle.quic_send_buffer.specs.declared.stream_meta.StreamMeta.{StreamMeta}
 use Rattle.quic_sets.proofs.Offsets.Edits.{has_is}
 use Rattle.quic_send_buffer.proofs.Buffered.Places.{none_waits}
 use Rattle.quic_streams.specs.Table.{Table, at}
-use Rattle.quic_machine.specs.Tracking.{TrackedPacket}
 use Rattle.quic_streams.specs.Sending.{SendHalf, has_pending}
 use Rattle.quic_machine.specs.End.{End}
 use Rattle.quic_streams.specs.Frames.{first_pending}
 use Rattle.quic_machine.specs.Poll.{waits}
-use Rattle.quic_headline.specs.Runs.{Told, Packet, written, ended, HasArrived, EndHasArrived}
-use Rattle.quic_headline.specs.Duties.{Waits, IsUnderWay, GoesUnderWay, EndWaits, EndGoesUnderWay, AreSomewhere}
-use Rattle.quic_headline.proofs.Places.Invariant.{IsHalf, HalfIs, Streams, Arrives, StandsIn, HasOffset, HasEnd}
+use Rattle.quic_headline.specs.Runs.{Told, Packet, written, ended}
+use Rattle.quic_headline.specs.Duties.{Duty, Offset, Fin, IsOwed, on_half, is_due, IsSomewhere}
+use Rattle.quic_headline.proofs.Places.Invariant.{IsHalf, HalfIs, Streams, Arrives}
 use Rattle.quic_headline.proofs.Duties.UnderWay.{Fly}
+use Rattle.quic_headline.proofs.Duties.OnHalves.{fin_flies}
 
 -- ---- what waits is queued
 
@@ -49,61 +48,55 @@ waiting_pending h o is = or_left (has_unsent h.buffer) h.fin_pending (elim (case
   | inr none ↦ absurd (both_ways (is_lost h.buffer o || is_unsent h.buffer o) (none_waits h.buffer o none) is)
 ])
 
--- ---- what is in flight is under way
-
--- a frame of a tracked packet
-under_way : (packets : Table TrackedPacket) (id : ℕ) (frame : StreamMeta) → StandsIn packets frame → frame.id ≡ id → IsUnderWay packets id frame
-under_way [] id frame i of_stream = absurd i
-under_way (p ∷ ps) id frame (inl here) of_stream = record { number = p.0; packet = p.1; tracked = inl refl; carried = here; of_stream = of_stream }
-under_way (p ∷ ps) id frame (inr more) of_stream = let rest = under_way ps id frame more of_stream in record { number = rest.number; packet = rest.packet; tracked = inr rest.tracked; carried = rest.carried; of_stream = of_stream }
-
--- ---- where each offset is
+-- ---- where each duty is
 
 module _ (side : Side) (e : End) (packets : List Packet) (told : List Told) (streams : Streams side e.sending told) (arrives : Arrives packets told e.sending e.events) (fly : Fly e) where
+  -- what is to go of a half is queued
+  waiting : (id : ℕ) (h : SendHalf) (u : Duty) → at e.sending.halves id ≡ Some h → is_due e u ≡ true → has_pending h ≡ true → IsSomewhere e packets told u
+  waiting id h u found due pending = inl (record { due = due; queued = half_queued e id h found pending })
+
   -- an offset of a half
-  half_offset : (id : ℕ) (h : SendHalf) (o : ℕ) → at e.sending.halves id ≡ Some h → IsHalf (written id told) (ended id told) h → o < length (written id told) → Waits e id o ⊎ GoesUnderWay e id o ⊎ HasArrived packets id o
+  half_offset : (id : ℕ) (h : SendHalf) (o : ℕ) → at e.sending.halves id ≡ Some h → IsHalf (written id told) (ended id told) h → o < length (written id told) → IsSomewhere e packets told (Offset id o)
   half_offset id h o found half below = go (is_acknowledged h.buffer o) (is_lost h.buffer o) (ltb o h.buffer.unsent) refl refl refl
     where
-      waiting : (is_lost h.buffer o || is_unsent h.buffer o) ≡ true → Waits e id o
-      waiting is = record { half = h; is = found; waiting = is; queued = half_queued e id h found (waiting_pending h o is) }
+      due : (is_lost h.buffer o || is_unsent h.buffer o) ≡ true → IsSomewhere e packets told (Offset id o)
+      due is = waiting id h (Offset id o) found (ap (on_half (λ k. is_lost k.buffer o || is_unsent k.buffer o)) found ∙ is) (waiting_pending h o is)
 
-      flying : HasOffset (StandsIn e.tracking.packets) id o → GoesUnderWay e id o
-      flying s = record { frame = s.frame; under_way = under_way e.tracking.packets id s.frame s.is s.of_stream; from = s.from; below = s.below }
-
-      go : (acked lost sent : Bool) → is_acknowledged h.buffer o ≡ acked → is_lost h.buffer o ≡ lost → ltb o h.buffer.unsent ≡ sent → Waits e id o ⊎ GoesUnderWay e id o ⊎ HasArrived packets id o
+      go : (acked lost sent : Bool) → is_acknowledged h.buffer o ≡ acked → is_lost h.buffer o ≡ lost → ltb o h.buffer.unsent ≡ sent → IsSomewhere e packets told (Offset id o)
       go true lost sent a l s = inr (inr ((arrives.halves id h found).bytes o (has_is h.buffer.acked o a)))
-      go false true sent a l s = inl (waiting (or_left (is_lost h.buffer o) (is_unsent h.buffer o) l))
+      go false true sent a l s = due (or_left (is_lost h.buffer o) (is_unsent h.buffer o) l)
       go false false true a l s =
           let none : (is_acknowledged h.buffer o || is_lost h.buffer o) ≡ false = or_from (is_acknowledged h.buffer o) (is_lost h.buffer o) a l in
-          let flies : is_in_flight h.buffer o ≡ true = and_from (ltb o h.buffer.unsent) (not (is_acknowledged h.buffer o || is_lost h.buffer o)) s (not_from_false (is_acknowledged h.buffer o || is_lost h.buffer o) none) in
-          inr (inl (flying ((fly id h found).bytes o flies)))
+          let flying : is_in_flight h.buffer o ≡ true = and_from (ltb o h.buffer.unsent) (not (is_acknowledged h.buffer o || is_lost h.buffer o)) s (not_from_false (is_acknowledged h.buffer o || is_lost h.buffer o) none) in
+          inr (inl (fly (Offset id o) (ap (on_half (λ k. is_in_flight k.buffer o)) found ∙ flying)))
       go false false false a l s =
           let base = half.base in
           let kept = ap length half.kept in
           let rest = length-drop h.buffer.base (written id told) in
           let behind = ltb-false o h.buffer.unsent s in
           let unsent : is_unsent h.buffer o ≡ true = and_from (leb h.buffer.unsent o) (ltb o (buffered.written h.buffer)) (le-leb h.buffer.unsent o behind) (lt-ltb o (buffered.written h.buffer) (omega arith)) in
-          inl (waiting (or_right (is_lost h.buffer o) (is_unsent h.buffer o) unsent))
-
-  -- an offset of a stream
-  offset_somewhere : (id : ℕ) (o : Option SendHalf) (offset : ℕ) → at e.sending.halves id ≡ o → HalfIs (written id told) (ended id told) o → offset < length (written id told) → Waits e id offset ⊎ GoesUnderWay e id offset ⊎ HasArrived packets id offset
-  offset_somewhere id None offset found none below = let size = ap length none.0 in absurd (omega arith)
-  offset_somewhere id (Some h) offset found half below = half_offset id h offset found half below
+          due (or_right (is_lost h.buffer o) (is_unsent h.buffer o) unsent)
 
   -- the end of a finished half
-  half_end : (id : ℕ) (h : SendHalf) → at e.sending.halves id ≡ Some h → (h.fin_pending ≡ true) ⊎ HasEnd (StandsIn e.tracking.packets) id ⊎ (h.fin_acked ≡ true) → EndWaits e id ⊎ EndGoesUnderWay e id ⊎ EndHasArrived packets id (length (written id told))
-  half_end id h found (inl is) = inl (record { half = h; is = found; waiting = is; queued = half_queued e id h found (or_right (has_unsent h.buffer) h.fin_pending is) })
-  half_end id h found (inr (inl s)) = inr (inl (record { frame = s.frame; under_way = under_way e.tracking.packets id s.frame s.is s.of_stream; fin = s.fin }))
-  half_end id h found (inr (inr acked)) = inr (inr ((arrives.halves id h found).end acked).1)
+  half_fin : (id : ℕ) (h : SendHalf) → at e.sending.halves id ≡ Some h → h.finished ≡ true → IsSomewhere e packets told (Fin id)
+  half_fin id h found finished = go h.fin_pending h.fin_acked refl refl
+    where
+      go : (due acked : Bool) → h.fin_pending ≡ due → h.fin_acked ≡ acked → IsSomewhere e packets told (Fin id)
+      go true acked d a = waiting id h (Fin id) found (ap (on_half (λ k. k.fin_pending)) found ∙ d) (or_right (has_unsent h.buffer) h.fin_pending d)
+      go false true d a = inr (inr ((arrives.halves id h found).end a).1)
+      go false false d a =
+          let none : (h.fin_acked || h.fin_pending) ≡ false = or_from h.fin_acked h.fin_pending a d in
+          inr (inl (fly (Fin id) (ap (on_half fin_flies) found ∙ and_from h.finished (not (h.fin_acked || h.fin_pending)) finished (not_from_false (h.fin_acked || h.fin_pending) none))))
 
-  -- the end of a stream
-  end_somewhere : (id : ℕ) (o : Option SendHalf) → at e.sending.halves id ≡ o → HalfIs (written id told) (ended id told) o → ended id told ≡ true → EndWaits e id ⊎ EndGoesUnderWay e id ⊎ EndHasArrived packets id (length (written id told))
-  end_somewhere id None found none over = absurd (both_ways (ended id told) none.1 over)
-  end_somewhere id (Some h) found half over = half_end id h found ((fly id h found).end (half.finished ∙ over))
-
-  -- each offset that was written on a stream is somewhere, and so is its end
-  pub are_somewhere : (id : ℕ) → AreSomewhere e packets id told
-  are_somewhere id = record {
-    bytes = λ offset below. offset_somewhere id (at e.sending.halves id) offset refl (streams.halves id) below;
-    end = λ over. end_somewhere id (at e.sending.halves id) refl (streams.halves id) over;
-  }
+  -- each duty is somewhere
+  pub duty_somewhere : (u : Duty) → IsOwed told u → IsSomewhere e packets told u
+  duty_somewhere (Offset id o) below = go (at e.sending.halves id) refl (streams.halves id)
+    where
+      go : (half : Option SendHalf) → at e.sending.halves id ≡ half → HalfIs (written id told) (ended id told) half → IsSomewhere e packets told (Offset id o)
+      go None found none = let size = ap length none.0 in absurd (omega arith)
+      go (Some h) found half = half_offset id h o found half below
+  duty_somewhere (Fin id) over = go (at e.sending.halves id) refl (streams.halves id)
+    where
+      go : (half : Option SendHalf) → at e.sending.halves id ≡ half → HalfIs (written id told) (ended id told) half → IsSomewhere e packets told (Fin id)
+      go None found none = absurd (both_ways (ended id told) none.1 over)
+      go (Some h) found half = half_fin id h found (half.finished ∙ over)

@@ -17,12 +17,12 @@ use Rattle.quic_streams.specs.Sending.{SendHalf, new_half, next_id, first_limit,
 use Rattle.quic_streams.specs.Sending as sending
 use Rattle.quic_machine.specs.End.{End}
 use Rattle.quic_machine.specs.Calls.{after_telling}
-use Rattle.quic_machine.specs.Poll.{Polled, Draft, stream_room, no_frames, ping_if, with_ping_frame, stream_if, with_ack, ack_fits, ack_if, with_asking, composed_if, composed, polled}
+use Rattle.quic_machine.specs.Poll.{Polled, Draft, stream_room, stream_if, composed, polled}
 use Rattle.quic_streams.specs.Frames.{half_after}
 use Rattle.quic_machine.specs.Machine.{after_call}
 use Rattle.quic_headline.specs.Runs.{Told, Packet, In, written, ended, WasTaken, HasArrived, EndHasArrived}
 use Rattle.quic_headline.specs.Headline.{AllArrived}
-use Rattle.quic_machine.specs.DraftLaws.{streams_keep}
+use Rattle.quic_machine.specs.DraftLaws.{by_writing}
 use Rattle.quic_streams.specs.TableLaws.{at-put, at-put-apart, at-added, at-apart}
 use Rattle.quic_headline.proofs.Places.Invariant.{HalfArrived, Arrives}
 use Rattle.quic_headline.proofs.Packets.Growth.{AllGrow}
@@ -101,32 +101,15 @@ no_more_opened side Uni s = no_more_added s.halves (next_id side Uni s) (first_l
 
 -- ---- a poll
 
--- the frame of a half goes
-no_more_half : (o : Option SendHalf) (d : Draft) (id : ℕ) → at d.end.sending.halves id ≡ o → AcksNoMore d.end.sending.halves (stream_if o d id).end.sending.halves
-no_more_half None d id found = no_more_same d.end.sending.halves
-no_more_half (Some h) d id found = no_more_put d.end.sending.halves id h (half_after h (stream_room d id)) found (record { bytes = refl; end = refl })
-
--- what asks goes
-no_more_asking : (d : Draft) → AcksNoMore d.end.sending.halves (with_asking d).end.sending.halves
-no_more_asking d =
-    streams_keep (λ x. AcksNoMore d.end.sending.halves x.end.sending.halves) (λ x id is before. no_more_then d.end.sending.halves x.end.sending.halves (stream_if (at x.end.sending.halves id) x id).end.sending.halves before (no_more_half (at x.end.sending.halves id) x id refl))
-    (with_ping_frame d) (pinged d.end.waiting.ping)
-  where
-    pinged : (b : Bool) → AcksNoMore d.end.sending.halves (ping_if b d).end.sending.halves
-    pinged true = no_more_same d.end.sending.halves
-    pinged false = no_more_same d.end.sending.halves
-
 -- what goes acknowledges nothing
-no_more_composed : (e : End) → AcksNoMore e.sending.halves (composed e).end.sending.halves
-no_more_composed e = go (can_send e.acknowledging)
-  where
-    late : (b : Bool) (d : Draft) → AcksNoMore e.sending.halves d.end.sending.halves → AcksNoMore e.sending.halves (ack_if b d).end.sending.halves
-    late true d same = same
-    late false d same = same
-
-    go : (b : Bool) → AcksNoMore e.sending.halves (composed_if b e).end.sending.halves
-    go true = no_more_asking (with_ack (no_frames e))
-    go false = late (ack_fits (with_asking (no_frames e))) (with_asking (no_frames e)) (no_more_asking (no_frames e))
+pub no_more_composed : (e : End) → AcksNoMore e.sending.halves (composed e).end.sending.halves
+no_more_composed e = by_writing (λ (d : Draft). AcksNoMore e.sending.halves d.end.sending.halves) (record {
+  ack = λ d filled may before. before;
+  control = λ d f w is before. before;
+  stream = λ d id h found room before.
+      let halves = d.end.sending.halves in
+      no_more_then e.sending.halves halves (stream_if (Some h) d id).end.sending.halves before (no_more_put halves id h (half_after h (stream_room d id)) found (record { bytes = refl; end = refl }));
+}) e (no_more_same e.sending.halves)
 
 -- ---- any call but a delivery
 

@@ -1,6 +1,6 @@
 -- What acknowledgements of packets that were taken leave: what is acknowledged arrived, and a stream that is told finished arrived wholly, and is told once.
-use Rattle.std.proofs.Common.{◌≡◌, ℕ, zero, suc, ◌+◌, ◌<◌, ◌≤◌, Bool, true, false, ◌||◌, ◌&&◌, not, List, [], ◌∷◌, ◌++◌, length, filter, cond, Option, Some, None, refl, sym, ap, ◌∙◌, subst, ◌⊎◌, inl, inr, arith}
-use Rattle.std.specs.Prelude.{slice_get, nat_le}
+use Rattle.std.proofs.Common.{◌≡◌, ℕ, ◌+◌, ◌<◌, ◌≤◌, Bool, true, false, ◌||◌, ◌&&◌, not, List, [], ◌∷◌, ◌++◌, length, filter, cond, Option, Some, None, refl, sym, ap, ◌∙◌, subst, ◌⊎◌, inl, inr, arith}
+use Rattle.std.specs.Prelude.{nat_le}
 use Rattle.std.proofs.lemmas.Bool.{cases_eq, eqb-true}
 use Rattle.quic_wire_core.specs.declared.stream_id.Side.{Side}
 use Rattle.quic_wire.specs.Value.{FrameValue, StreamValue, AckValue, ack, stream, new_token, handshake_done}
@@ -14,23 +14,24 @@ use Rattle.std.proofs.lemmas.List.{length-drop}
 use Rattle.quic_streams.specs.declared.answers.StreamEvent.{StreamEvent}
 use Rattle.quic_streams.specs.declared.answers.StreamEvent.TheVariants.{Finished}
 use Rattle.quic_streams.specs.Table.{Table, at, put}
-use Rattle.quic_machine.specs.Tracking.{Carried, TrackedPacket, streams_in, carried_in, names, acked_by, not_acked_by, is_below, lost_below}
+use Rattle.quic_machine.specs.Tracking.{Carried, TrackedPacket, streams_in, carried_in, acked_by, not_acked_by, is_below, lost_below}
 use Rattle.quic_streams.specs.Frames.{meta_of}
 use Rattle.quic_streams.specs.Sending.{Sending, SendHalf, is_acked, half_acked, half_lost, acked_at, lost_at, finishes_half}
 use Rattle.quic_machine.specs.End.{End, with_numbers}
 use Rattle.quic_machine.specs.Acked.{without_known, finished_event, streams_acked, stream_acked, packet_acked, packets_acked, packets_lost, after_named}
 use Rattle.quic_machine.specs.Numbers.{cut_against, number_named}
 use Rattle.quic_machine.specs.Receive.{take_frame}
-use Rattle.quic_headline.specs.Runs.{Told, Packet, Intake, In, written, ended, WasTaken, HasArrived, EndHasArrived, IsTaken}
+use Rattle.quic_headline.specs.Runs.{Told, Packet, Intake, In, written, ended, WasTaken, HasArrived, EndHasArrived, IsTaken, names}
+use Rattle.quic_headline.specs.Observer.{Sent}
 use Rattle.quic_headline.specs.Headline.{AllArrived}
 use Rattle.quic_streams.specs.TableLaws.{at-put, at-put-apart}
-use Rattle.quic_headline.proofs.Places.Invariant.{IsWritten, AllSay, IsHalf, Sent, Streams, HalfArrived, Arrives, AreTracked, WereSent, AllFrom, IsSent}
-use Rattle.quic_machine.specs.Policy.{Policy}
+use Rattle.quic_headline.proofs.Places.Invariant.{IsWritten, AllSay, IsHalf, Streams, HalfArrived, Arrives, AreTracked, WereSent, SentAs, RisingFrom}
 use Rattle.quic_headline.proofs.Packets.Delivered.{Arrivals, arrived}
+use Rattle.quic_headline.proofs.Packets.Rising.{one_number}
 use Rattle.quic_machine.specs.FrameCases.{packets_lost_keep, ack_taken, passed, begun, frames_leave}
 use Rattle.quic_headline.proofs.Halves.Writes.{half_at}
 use Rattle.quic_headline.proofs.Halves.Finishing.{Tells, stream_tells, lost_tells}
-use Rattle.quic_headline.proofs.Halves.Losing.{acked_half, settles_stream_acked, settles_stream_lost}
+use Rattle.quic_headline.proofs.Halves.Losing.{acked_half, stream_acked_sends, stream_lost_sends}
 
 -- ---- what a taken packet carries
 
@@ -195,7 +196,7 @@ module _ (took : List Packet) (told : List Told) (side : Side) where
   streams_keep : (ms : List StreamMeta) (e : End) → AllCarried took told ms → KeepsArrived took told side e → KeepsArrived took told side (streams_acked ms e)
   streams_keep [] e t r = r
   streams_keep (m ∷ ms) e t r = streams_keep ms (stream_acked m e) t.1 (record {
-    streams = (settles_stream_acked m e).sending.streams side told r.streams;
+    streams = (stream_acked_sends m e).streams side told r.streams;
     arrives = stream_arrives took told side e.sending e.events m (at e.sending.halves m.id) refl r.streams t.0 r.arrives;
     tells = stream_tells told side e.sending e.events m (at e.sending.halves m.id) refl r.streams r.tells;
   })
@@ -208,7 +209,7 @@ module _ (took : List Packet) (told : List Told) (side : Side) where
   -- lost packets
   lost_packets_keep : (ps : Table TrackedPacket) (e : End) → KeepsArrived took told side e → KeepsArrived took told side (packets_lost ps e)
   lost_packets_keep = packets_lost_keep (KeepsArrived took told side) (λ m e r. record {
-    streams = (settles_stream_lost m e).sending.streams side told r.streams;
+    streams = (stream_lost_sends m e).streams side told r.streams;
     arrives = lost_arrives took told e.sending e.events m (at e.sending.halves m.id) refl r.arrives;
     tells = lost_tells told e.sending e.events m (at e.sending.halves m.id) refl r.tells;
   })
@@ -216,7 +217,7 @@ module _ (took : List Packet) (told : List Told) (side : Side) where
 -- ---- an ACK frame
 
 -- what is among some is among all
-in_filter : {X : Type 0} (f : X → Bool) (x : X) (xs : List X) → In x (filter f xs) → In x xs
+pub in_filter : {X : Type 0} (f : X → Bool) (x : X) (xs : List X) → In x (filter f xs) → In x xs
 in_filter f x [] i = i
 in_filter f x (y ∷ xs) i = go (f y) i (in_filter f x xs)
   where
@@ -232,7 +233,8 @@ NamesTaken took a = (k : ℕ) → names a k ≡ true → IsTaken took k
 -- the packets that were taken stand among what was sent, which says what was written
 pub record Stands (took : List Packet) (sents : List Sent) (told : List Told) : Type 0 where
   pub taken : WereSent sents took
-  pub say : (n : ℕ) (s : Sent) → slice_get sents n ≡ Some s → AllSay told s.1
+  pub rising : RisingFrom 0 sents
+  pub say : (s : Sent) → In s sents → AllSay told s.frames
 
 -- what holds of an end over the frames that it takes
 pub record Arriving (took : List Packet) (sents : List Sent) (told : List Told) (side : Side) (e : End) : Type 0 where
@@ -243,16 +245,15 @@ pub record Arriving (took : List Packet) (sents : List Sent) (told : List Told) 
 
 module _ (took : List Packet) (sents : List Sent) (told : List Told) (side : Side) (stands : Stands took sents told) where
   -- a tracked packet that an ACK frame names carries what was taken
-  one_carries : (a : AckValue) (n : ℕ) (t : TrackedPacket) → NamesTaken took a → names a n ≡ true → (s : Sent) × (slice_get sents n ≡ Some s) × (t.carried ≡ carried_in s.1) → AllCarried took told t.carried.stream_frames
+  one_carries : (a : AckValue) (n : ℕ) (t : TrackedPacket) → NamesTaken took a → names a n ≡ true → (s : Sent) × SentAs sents n s × (t.carried ≡ carried_in s.frames) → AllCarried took told t.carried.stream_frames
   one_carries a n t named is tracked =
       let arrived = named n is in
       let packet : Packet = arrived.packet in
       let found = stands.taken packet arrived.was_taken in
-      let both : Some found.sent ≡ Some tracked.0 = sym found.is ∙ ap (λ (k : ℕ). slice_get sents k) arrived.is ∙ tracked.1 in
-      let same : found.sent ≡ tracked.0 = cc in
-      let frames : tracked.0.1 ≡ packet.frames = ap (λ (s : Sent). s.1) (sym same) ∙ found.frames in
+      let same : found.sent ≡ tracked.0 = one_number 0 sents found.sent tracked.0 stands.rising found.is.0 tracked.1.0 (found.is.1 ∙ arrived.is ∙ sym tracked.1.1) in
+      let frames : tracked.0.frames ≡ packet.frames = ap (λ (s : Sent). s.frames) (sym same) ∙ found.frames in
       let carried : t.carried.stream_frames ≡ streams_in packet.frames = ap (λ (c : Carried). c.stream_frames) tracked.2 ∙ ap streams_in frames in
-      let says : AllSay told packet.frames = subst (λ (fs : List FrameValue). AllSay told fs) frames (stands.say n tracked.0 tracked.1) in
+      let says : AllSay told packet.frames = subst (λ (fs : List FrameValue). AllSay told fs) frames (stands.say tracked.0 tracked.1.0) in
       subst (λ (ms : List StreamMeta). AllCarried took told ms) (sym carried) (packet_taken took told packet arrived.was_taken says)
 
   -- so do all that it names
@@ -312,19 +313,3 @@ module _ (took : List Packet) (sents : List Sent) (told : List Told) (side : Sid
     where
       after : Arriving took sents told side (arrived e now n frames).end
       after = frames_arriving frames (begun e now n) named (record { streams = i.streams; arrives = i.arrives; tells = i.tells; tracked = i.tracked })
-
--- ---- what was sent
-
--- what was sent says what was written
-pub sents_say : (p : Policy) (id : List ℕ) (told : List Told) (n : ℕ) (sents : List Sent) (given : List (List ℕ)) (k : ℕ) (s : Sent) → AllFrom (IsSent p id told) n sents given → slice_get sents k ≡ Some s → AllSay told s.1
-sents_say p id told n [] given k s all is = cc
-sents_say p id told n (x ∷ sents) [] k s all is = absurd all
-sents_say p id told n (x ∷ sents) (d ∷ given) zero s all is = let same : x ≡ s = cc in subst (λ (y : Sent). AllSay told y.1) same all.0.says
-sents_say p id told n (x ∷ sents) (d ∷ given) (suc k) s all is = sents_say p id told (n + 1) sents given k s all.1 is
-
--- each datagram was sent as something
-pub sents_length : (p : Policy) (id : List ℕ) (told : List Told) (n : ℕ) (sents : List Sent) (given : List (List ℕ)) → AllFrom (IsSent p id told) n sents given → length given ≡ length sents
-sents_length p id told n [] [] all = refl
-sents_length p id told n [] (d ∷ given) all = absurd all
-sents_length p id told n (x ∷ sents) [] all = absurd all
-sents_length p id told n (x ∷ sents) (d ∷ given) all = ap suc (sents_length p id told (n + 1) sents given all.1)

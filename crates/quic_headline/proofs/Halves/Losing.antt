@@ -15,7 +15,7 @@ use Rattle.quic_recovery_core.proofs.AckRunSteps.{above_kept, in_above}
 use Rattle.quic_streams.specs.Table.{Table, at, put}
 use Rattle.quic_streams.specs.Sending.{Sending, SendHalf, opens, next_id, half_acked, half_lost, acked_at, lost_at}
 use Rattle.quic_machine.specs.End.{End}
-use Rattle.quic_machine.specs.Acked.{without_known, stream_acked, stream_lost, after_acked}
+use Rattle.quic_machine.specs.Acked.{stream_acked, stream_lost, after_acked}
 use Rattle.quic_machine.specs.FrameCases.{acked_keeps}
 use Rattle.quic_headline.specs.Runs.{Told, written, ended}
 use Rattle.quic_streams.specs.TableLaws.{at-put, at-put-apart, unknown-put, sorted-put}
@@ -106,23 +106,23 @@ put_half side s told id h w found now i = record {
       | inr ne ↦ i.ids q k (sym (at-put-apart s.halves id w q ne) ∙ e)
     ]
 
+-- one half is changed that holds all that it held
+half_sends : (s : Sending) (id : ℕ) (h w : SendHalf) → at s.halves id ≡ Some h → ((wr : List ℕ) (fin : Bool) → IsHalf wr fin h → IsHalf wr fin w) → SendsOn s (record s { halves = put s.halves id w })
+half_sends s id h w found holds = record {
+  opens = put_opens s (put s.halves id w);
+  next_id = put_next s (put s.halves id w);
+  streams = λ side told i. put_half side s told id h w found (holds (written id told) (ended id told) (half_at side s told id h i found)) i;
+}
+
 -- a half of which a frame was acknowledged, where it is there
 acked_sends : (o : Option SendHalf) (s : Sending) (m : StreamMeta) → at s.halves m.id ≡ o → SendsOn s (record s { halves = acked_at o s.halves m })
 acked_sends None s m found = sends_same s
-acked_sends (Some h) s m found = record {
-  opens = put_opens s (put s.halves m.id (half_acked h m));
-  next_id = put_next s (put s.halves m.id (half_acked h m));
-  streams = λ side told i. put_half side s told m.id h (half_acked h m) found (acked_half (written m.id told) (ended m.id told) h m (half_at side s told m.id h i found)) i;
-}
+acked_sends (Some h) s m found = half_sends s m.id h (half_acked h m) found (λ wr fin. acked_half wr fin h m)
 
 -- a half of which a frame was lost, where it is there
 lost_sends : (o : Option SendHalf) (s : Sending) (m : StreamMeta) → at s.halves m.id ≡ o → SendsOn s (record s { halves = lost_at o s.halves m })
 lost_sends None s m found = sends_same s
-lost_sends (Some h) s m found = record {
-  opens = put_opens s (put s.halves m.id (half_lost h m));
-  next_id = put_next s (put s.halves m.id (half_lost h m));
-  streams = λ side told i. put_half side s told m.id h (half_lost h m) found (lost_half (written m.id told) (ended m.id told) h m (half_at side s told m.id h i found)) i;
-}
+lost_sends (Some h) s m found = half_sends s m.id h (half_lost h m) found (λ wr fin. lost_half wr fin h m)
 
 -- ---- packets
 
@@ -141,42 +141,21 @@ pub record Settles (e f : End) : Type 0 where
   pub acks : Acks e.acknowledging → Acks f.acknowledging
   pub fewer : (k : ℕ) → Has f.acknowledging.runs k → Has e.acknowledging.runs k
 
--- nothing changed
-settles_same : (e : End) → Settles e e
-settles_same e = record { side = refl; ids = refl; closing = refl; numbers = refl; receiving = refl; sending = sends_same e.sending; acks = λ a. a; fewer = λ k h. h }
-
--- one change behind another
-settles_on : (e f g : End) → Settles e f → Settles f g → Settles e g
-settles_on e f g s t = record {
-  side = t.side ∙ s.side;
-  ids = t.ids ∙ s.ids;
-  closing = t.closing ∙ s.closing;
-  numbers = t.numbers ∙ s.numbers;
-  receiving = t.receiving ∙ s.receiving;
-  sending = sends_on e.sending f.sending g.sending s.sending t.sending;
-  acks = λ a. t.acks (s.acks a);
-  fewer = λ k h. s.fewer k (t.fewer k h);
-}
-
--- numbers that the peer knows of
-settles_known : (n : ℕ) (e : End) → Settles e (without_known (Some n) e)
-settles_known n e = record { side = refl; ids = refl; closing = refl; numbers = refl; receiving = refl; sending = sends_same e.sending; acks = acks_above e.acknowledging n; fewer = λ k h. (in_above n k e.acknowledging.runs h).0 }
-
 -- an acknowledged STREAM frame
-pub settles_stream_acked : (m : StreamMeta) (e : End) → Settles e (stream_acked m e)
-settles_stream_acked m e = record { side = refl; ids = refl; closing = refl; numbers = refl; receiving = refl; sending = acked_sends (at e.sending.halves m.id) e.sending m refl; acks = λ a. a; fewer = λ k h. h }
+pub stream_acked_sends : (m : StreamMeta) (e : End) → SendsOn e.sending (stream_acked m e).sending
+stream_acked_sends m e = acked_sends (at e.sending.halves m.id) e.sending m refl
 
 -- a lost STREAM frame
-pub settles_stream_lost : (m : StreamMeta) (e : End) → Settles e (stream_lost m e)
-settles_stream_lost m e = record { side = refl; ids = refl; closing = refl; numbers = refl; receiving = refl; sending = lost_sends (at e.sending.halves m.id) e.sending m refl; acks = λ a. a; fewer = λ k h. h }
+pub stream_lost_sends : (m : StreamMeta) (e : End) → SendsOn e.sending (stream_lost m e).sending
+stream_lost_sends m e = lost_sends (at e.sending.halves m.id) e.sending m refl
 
 -- ---- an ACK frame
 
 -- an ACK frame that was taken
 pub settles_ack : (a : AckValue) (e : End) → Settles e (after_acked a e)
 settles_ack a e = acked_keeps (Settles e) (record {
-  known = λ n x s. settles_on e x (without_known (Some n) x) s (settles_known n x);
-  acked = λ m x s. settles_on e x (stream_acked m x) s (settles_stream_acked m x);
-  lost = λ m x s. settles_on e x (stream_lost m x) s (settles_stream_lost m x);
+  known = λ n x s. record { side = s.side; ids = s.ids; closing = s.closing; numbers = s.numbers; receiving = s.receiving; sending = s.sending; acks = λ acks. acks_above x.acknowledging n (s.acks acks); fewer = λ k h. s.fewer k (in_above n k x.acknowledging.runs h).0 };
+  acked = λ m x s. record { side = s.side; ids = s.ids; closing = s.closing; numbers = s.numbers; receiving = s.receiving; sending = sends_on e.sending x.sending (stream_acked m x).sending s.sending (stream_acked_sends m x); acks = s.acks; fewer = s.fewer };
+  lost = λ m x s. record { side = s.side; ids = s.ids; closing = s.closing; numbers = s.numbers; receiving = s.receiving; sending = sends_on e.sending x.sending (stream_lost m x).sending s.sending (stream_lost_sends m x); acks = s.acks; fewer = s.fewer };
   tracked = λ t x s. record { side = s.side; ids = s.ids; closing = s.closing; numbers = s.numbers; receiving = s.receiving; sending = s.sending; acks = s.acks; fewer = s.fewer };
-}) a e (settles_same e)
+}) a e (record { side = refl; ids = refl; closing = refl; numbers = refl; receiving = refl; sending = sends_same e.sending; acks = λ acks. acks; fewer = λ k h. h })

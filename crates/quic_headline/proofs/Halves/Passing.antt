@@ -18,11 +18,11 @@ use Rattle.quic_machine.specs.FrameCases.{named, ack_taken, passed, frames_leave
 -- ---- a packet of which more frames count as taken
 
 -- a packet of these frames
-abbrev packet_of : ℕ → List FrameValue → Packet
+abbrev pub packet_of : ℕ → List FrameValue → Packet
 packet_of number frames = record { number = number; frames = frames }
 
 -- a packet without frames says nothing
-kept_none : (side : Side) (r : Receiving) (number : ℕ) (took : List Packet) → Kept side r took → Kept side r (packet_of number [] ∷ took)
+pub kept_none : (side : Side) (r : Receiving) (number : ℕ) (took : List Packet) → Kept side r took → Kept side r (packet_of number [] ∷ took)
 kept_none side r number took k = record {
   kept = λ f h w e. k.kept f h (fewer f w) e;
   may = λ f w. k.may f (fewer f w);
@@ -114,7 +114,7 @@ one_passes wrote read took (stream f) e s k = record {
 one_passes wrote read took f e s k = absurd s
 
 -- a frame is taken: it counts as one more of its packet
-one_taken : (wrote read : List Told) (took : List Packet) (number : ℕ) (done : List FrameValue) (f : FrameValue) (e : End) → Says wrote f → (take_frame f e).fault ≡ None
+pub one_taken : (wrote read : List Told) (took : List Packet) (number : ℕ) (done : List FrameValue) (f : FrameValue) (e : End) → Says wrote f → (take_frame f e).fault ≡ None
     → Rests wrote read (packet_of number done ∷ took) e → Rests wrote read (packet_of number (done ++ f ∷ []) ∷ took) (take_frame f e).end
 one_taken wrote read took number done padding e s none k = record { content = k.content; kept = kept_beside e.side e.receiving number done padding took (λ g is. cc) k.kept; accepted = k.accepted }
 one_taken wrote read took number done ping e s none k = record { content = k.content; kept = kept_beside e.side e.receiving number done ping took (λ g is. cc) k.kept; accepted = k.accepted }

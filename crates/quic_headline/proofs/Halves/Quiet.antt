@@ -15,10 +15,10 @@ use Rattle.quic_machine.specs.End.{End}
 use Rattle.quic_machine.specs.declared.run.Call.{Call}
 use Rattle.quic_machine.specs.declared.run.Answer.{Answer}
 use Rattle.quic_machine.specs.Calls.{end_after_write, end_after_finish}
-use Rattle.quic_machine.specs.Poll.{Draft, no_frames, ping_if, with_ping_frame, stream_if, with_ack, ack_fits, ack_if, with_asking, composed_if, composed, Polled, polled}
+use Rattle.quic_machine.specs.Poll.{Polled, Draft, stream_if, composed, polled}
 use Rattle.quic_machine.specs.Machine.{after_call}
 use Rattle.quic_headline.specs.Runs.{Told, Packet, nexts_by, nexts, accepts, written, ended}
-use Rattle.quic_machine.specs.DraftLaws.{streams_keep}
+use Rattle.quic_machine.specs.DraftLaws.{by_writing}
 use Rattle.quic_headline.proofs.Places.Invariant.{Content, IsReading, IsFresh, InOrder, Kept, Accepted}
 use Rattle.quic_machine.specs.LeaveCases.{by_expired, by_event}
 use Rattle.quic_machine.specs.CallCases.{changes_receiving, is_delivery, by_call}
@@ -104,40 +104,17 @@ halves_next : (s : Sending) (halves : List (ℕ × SendHalf)) (side : Side) (dir
 halves_next s halves side Bi = refl
 halves_next s halves side Uni = refl
 
-quiet_on : (e f g : End) → f.side ≡ e.side → IsQuiet e f → IsQuiet f g → IsQuiet e g
-quiet_on e f g side a b = record {
-  receiving = b.receiving ∙ a.receiving;
-  opens_same = λ dir. ap (λ (s : Side). opens s dir g.sending) (sym side) ∙ b.opens_same dir ∙ ap (λ (s : Side). opens s dir f.sending) side ∙ a.opens_same dir;
-  next_same = λ dir. ap (λ (s : Side). next_id s dir g.sending) (sym side) ∙ b.next_same dir ∙ ap (λ (s : Side). next_id s dir f.sending) side ∙ a.next_same dir;
-}
-
-quiet_half : (o : Option SendHalf) (d : Draft) (id : ℕ) → IsQuiet d.end (stream_if o d id).end
-quiet_half None d id = quiet_same d.end
-quiet_half (Some h) d id = record { receiving = refl; opens_same = halves_opens d.end.sending (stream_if (Some h) d id).end.sending.halves d.end.side; next_same = halves_next d.end.sending (stream_if (Some h) d id).end.sending.halves d.end.side }
-
-half_side : (o : Option SendHalf) (d : Draft) (id : ℕ) → (stream_if o d id).end.side ≡ d.end.side
-half_side None d id = refl
-half_side (Some h) d id = refl
-
-quiet_pinged : (b : Bool) (d : Draft) → ((ping_if b d).end.side ≡ d.end.side) × IsQuiet d.end (ping_if b d).end
-quiet_pinged true d = (refl, record { receiving = refl; opens_same = λ dir. refl; next_same = λ dir. refl })
-quiet_pinged false d = (refl, quiet_same d.end)
-
-quiet_asking : (d : Draft) → IsQuiet d.end (with_asking d).end
-quiet_asking d =
-    (streams_keep (λ x. (x.end.side ≡ d.end.side) × IsQuiet d.end x.end) (λ x id is before. (half_side (at x.end.sending.halves id) x id ∙ before.0, quiet_on d.end x.end (stream_if (at x.end.sending.halves id) x id).end before.0 before.1 (quiet_half (at x.end.sending.halves id) x id)))
-    (with_ping_frame d) (quiet_pinged d.end.waiting.ping d)).1
-
-quiet_acked : (b : Bool) (e : End) (d : Draft) → IsQuiet e d.end → IsQuiet e (ack_if b d).end
-quiet_acked true e d q = record { receiving = q.receiving; opens_same = q.opens_same; next_same = q.next_same }
-quiet_acked false e d q = q
-
-quiet_composed_if : (b : Bool) (e : End) → IsQuiet e (composed_if b e).end
-quiet_composed_if true e = let q = quiet_asking (with_ack (no_frames e)) in record { receiving = q.receiving; opens_same = q.opens_same; next_same = q.next_same }
-quiet_composed_if false e = let asking = with_asking (no_frames e) in quiet_acked (ack_fits asking) e asking (quiet_asking (no_frames e))
-
+-- what is composed
 quiet_composed : (e : End) → IsQuiet e (composed e).end
-quiet_composed e = quiet_composed_if (can_send e.acknowledging) e
+quiet_composed e = by_writing (λ (d : Draft). IsQuiet e d.end) (record {
+  ack = λ d filled may q. record { receiving = q.receiving; opens_same = q.opens_same; next_same = q.next_same };
+  control = λ d f w is q. record { receiving = q.receiving; opens_same = q.opens_same; next_same = q.next_same };
+  stream = λ d id h found room q. record {
+    receiving = q.receiving;
+    opens_same = λ dir. halves_opens d.end.sending (stream_if (Some h) d id).end.sending.halves e.side dir ∙ q.opens_same dir;
+    next_same = λ dir. halves_next d.end.sending (stream_if (Some h) d id).end.sending.halves e.side dir ∙ q.next_same dir;
+  };
+}) e (quiet_same e)
 
 -- what is composed at a moment, where PING waits or doesn't
 quiet_given : (e : End) (now : ℕ) (pings : Bool) (tracking : Tracking) (timers : Timers) → IsQuiet e (after_draft (composed (at_moment e now pings)) tracking timers)

@@ -73,7 +73,7 @@ or_false false = refl
 plain_given : (a : Arrived) (o : ℕ) → IsLawful a → a.unordered ≡ false → is_given a o ≡ ltb o a.read
 plain_given a o h u = ap (λ (gs : List Span). ltb o a.read || in_spans gs o) (h.order u) ∙ or_false (ltb o a.read)
 
-insert_plain : (a : Arrived) (offset : ℕ) (bytes : List ℕ) (o : ℕ) → IsLawful a → a.unordered ≡ false → offset + length bytes < 2 ^ 62
+pub insert_plain : (a : Arrived) (offset : ℕ) (bytes : List ℕ) (o : ℕ) → IsLawful a → a.unordered ≡ false → offset + length bytes < 2 ^ 62
     → byte_at (after_insert a offset bytes).parts o ≡ cond (ltb o a.read) None (option_or (byte_at a.parts o) (byte_from offset bytes o))
 insert_plain a offset bytes o h u s = insert_bytes a offset bytes o h s ∙ ap (λ (b : Bool). cond b None (option_or (byte_at a.parts o) (byte_from offset bytes o))) (plain_given a o h u)
 

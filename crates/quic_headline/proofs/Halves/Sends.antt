@@ -1,8 +1,8 @@
 -- What a poll sends: the halves that it leaves hold what was written, and its datagram has its number.
 use Rattle.std.proofs.Common.{◌≡◌, ℕ, ◌+◌, ◌-◌, ◌<◌, ◌≤◌, ◌^◌, zero, suc, Bool, true, false, nat_lt, List, [], ◌∷◌, ◌++◌, length, replicate, Option, Some, None, refl, sym, ap, ◌∙◌, subst, ◌⊎◌, inl, inr, arith}
-use Rattle.std.specs.Prelude.{if◌then◌else◌, nat_le, ◌/◌}
+use Rattle.std.specs.Prelude.{if◌then◌else◌, max, nat_le, ◌/◌}
 use Rattle.std.proofs.lemmas.Bool.{ltb-true, leb-true, and_parts}
-use Rattle.std.proofs.lemmas.List.{append-nil, append_assoc, length-append, map-append}
+use Rattle.std.proofs.lemmas.List.{append-nil, append_assoc, length-append}
 use Rattle.quic_wire_core.specs.declared.stream_id.Side.{Side}
 use Rattle.quic_packet.specs.Number.{truncated}
 use Rattle.quic_wire.specs.Value.{FrameValue, StreamValue, ack, padding, ping, stream}
@@ -12,7 +12,7 @@ use Rattle.quic_wire.specs.Writing.{spelling, stream_spelling, StreamFits, frame
 use Rattle.quic_packet.specs.Datagram.{sent}
 use Rattle.quic_wire.proofs.AckSet.{set_fits}
 use Rattle.quic_send_buffer.specs.Buffered.{writes_length}
-use Rattle.quic_recovery_core.specs.PendingAcks.{can_send, is_filled, delay_of}
+use Rattle.quic_recovery_core.specs.PendingAcks.{is_filled, delay_of, can_send}
 use Rattle.quic_machine.specs.declared.answers.State.{State}
 use Rattle.quic_machine.specs.declared.answers.State.TheVariants as states
 use Rattle.quic_machine.specs.declared.run.Call.TheVariants as calls
@@ -24,15 +24,18 @@ use Rattle.quic_machine.specs.Numbers.{Numbers, cut_against, kept_numbers, can_n
 use Rattle.quic_machine.specs.Policy.{Policy}
 use Rattle.quic_streams.specs.Table.{at}
 use Rattle.quic_streams.specs.Sending.{Sending, SendHalf}
-use Rattle.quic_machine.specs.End.{End}
-use Rattle.quic_machine.specs.Poll.{Polled, Draft, frame_room, no_frames, with_frame, ping_if, with_ping_frame, stream_room, end_after_frame, stream_if, ack_of, with_ack, ack_fits, ack_if, with_asking, with_late_ack, composed_if, composed, payload_of, datagram_of, waits, polled}
+use Rattle.quic_machine.specs.End.{End, with_ping}
+use Rattle.quic_machine.specs.Parts.{Waiting}
+use Rattle.quic_machine.specs.Poll.{Polled, Draft, ping_if, with_ping_frame, ack_fits, ack_if, with_asking, with_late_ack, composed_if, frame_room, no_frames, with_frame, stream_room, end_after_frame, stream_if, ack_of, with_ack, composed, payload_of, datagram_of, waits, polled}
 use Rattle.quic_streams.specs.Frames.{frame_of, half_after}
 use Rattle.quic_headline.specs.Runs.{Told, written, ended}
+use Rattle.quic_headline.specs.Observer.{Sent}
 use Rattle.quic_machine.specs.Machine.{gave}
-use Rattle.quic_headline.proofs.Places.Invariant.{IsHalf, Says, AllSay, IsGiven, Sent, IsSent, Streams, Gives, Acks}
+use Rattle.quic_headline.proofs.Places.Invariant.{IsHalf, Says, AllSay, IsGiven, IsSent, Streams, IsBehind, Gives, Acks}
 use Rattle.quic_machine.specs.PollCases.{at_moment, ready_at, frames_padded, frames_at, given_as, by_poll, composes}
-use Rattle.quic_machine.specs.DraftLaws.{streams_keep, next_room, room_most, composed_some}
-use Rattle.quic_headline.proofs.Packets.Growth.{AllGrow, all_grow, each_push}
+use Rattle.quic_machine.specs.DraftLaws.{IsControl, by_writing, streams_keep, next_room, composed_some}
+use Rattle.quic_headline.proofs.Packets.Growth.{AllGrow, in_more, all_grow, step_push}
+use Rattle.quic_headline.proofs.Packets.Rising.{rising_push, next_push}
 use Rattle.quic_headline.proofs.Halves.Frames.{unsized_fills, frame_written, frame_fits, half_left, zeros_padding, sized_spelled, unsized_spelled, ack_spelled, ping_spelled, id_narrow, padded_four}
 use Rattle.quic_headline.proofs.Halves.Writes.{IsQuiet, quiet_streams, half_at, set_streams}
 
@@ -43,37 +46,18 @@ poll_quiet : (now : ℕ) (a : Answer) (state : State) (id : ℕ) → IsQuiet id 
 poll_quiet now a state id = record { wrote = refl; ended = refl }
 
 -- the halves that the frame of one leaves hold what was written
-pub half_streams : (side : Side) (told : List Told) (id : ℕ) (o : Option SendHalf) (d : Draft) → at d.end.sending.halves id ≡ o → Streams side d.end.sending told → Streams side (stream_if o d id).end.sending told
-half_streams side told id None d found i = i
-half_streams side told id (Some h) d found i =
+pub half_streams : (side : Side) (told : List Told) (id : ℕ) (h : SendHalf) (d : Draft) → at d.end.sending.halves id ≡ Some h → Streams side d.end.sending told → Streams side (stream_if (Some h) d id).end.sending told
+half_streams side told id h d found i =
     let room : ℕ = stream_room d id in
     set_streams side d.end.sending told id h (half_after h room) i found (half_left (written id told) (ended id told) id h room (half_at side d.end.sending told id h i found))
 
--- PING and ACK leave them
-pinged_sending : (b : Bool) (d : Draft) → (ping_if b d).end.sending ≡ d.end.sending
-pinged_sending true d = refl
-pinged_sending false d = refl
-
-acked_sending : (b : Bool) (d : Draft) → (ack_if b d).end.sending ≡ d.end.sending
-acked_sending true d = refl
-acked_sending false d = refl
-
--- after what asks went, the halves hold what was written
-asking_streams : (side : Side) (told : List Told) (d : Draft) → Streams side d.end.sending told → Streams side (with_asking d).end.sending told
-asking_streams side told d i =
-    streams_keep (λ x. Streams side x.end.sending told) (λ x id is s. half_streams side told id (at x.end.sending.halves id) x refl s)
-    (with_ping_frame d) (subst (λ (s : Sending). Streams side s told) (sym (pinged_sending d.end.waiting.ping d)) i)
-
--- whether or not an ACK is due
-streams_if : (b : Bool) (side : Side) (told : List Told) (e : End) → Streams side e.sending told → Streams side (composed_if b e).end.sending told
-streams_if true side told e i = asking_streams side told (with_ack (no_frames e)) i
-streams_if false side told e i =
-    let asking = with_asking (no_frames e) in
-    subst (λ (s : Sending). Streams side s told) (sym (acked_sending (ack_fits asking) asking)) (asking_streams side told (no_frames e) i)
-
 -- what is composed leaves halves that hold what was written
 composed_streams : (side : Side) (told : List Told) (e : End) → Streams side e.sending told → Streams side (composed e).end.sending told
-composed_streams side told e i = streams_if (can_send e.acknowledging) side told e i
+composed_streams side told = by_writing (λ (d : Draft). Streams side d.end.sending told) (record {
+  ack = λ d filled may i. i;
+  control = λ d f w is i. i;
+  stream = λ d id h found room i. half_streams side told id h d found i;
+})
 
 -- the halves hold what was written
 pub polled_streams : (side : Side) (p : Policy) (e : End) (now : ℕ) (a : Answer) (told : List Told) (state : State) → Streams side e.sending told
@@ -139,6 +123,7 @@ record Full (told : List Told) (d : Draft) : Type 0 where
   says : AllSay told d.frames
   spells : Payload d.frames d.bytes
   full : frame_room d.end ≤ length d.bytes
+  long : 4 ≤ length d.bytes
 
 -- frames that fill a payload, but for bytes 0 behind them
 record Fills (told : List Told) (d : Draft) : Type 0 where
@@ -152,10 +137,9 @@ opens_fills told d o =
     record { says = o.says; spells = o.spells (replicate count padding) (replicate count 0) (zeros_padding count) }
 
 -- behind frames that do there are none
-full_fills : (told : List Told) (d : Draft) → length d.end.ids.active.id ≡ 8 → Full told d → Fills told d
-full_fills told d eight f =
-    let room = room_most d.end (omega arith) in
-    let full = f.full in
+full_fills : (told : List Told) (d : Draft) → Full told d → Fills told d
+full_fills told d f =
+    let long = f.long in
     let none : 4 - ((truncated d.end.numbers.next (cut_against d.end.numbers)).width + length d.bytes) ≡ 0 = omega arith in
     record { says = f.says; spells = rw (none, append-nil d.frames, append-nil d.bytes) f.spells }
 
@@ -163,9 +147,9 @@ full_fills told d eight f =
 abbrev Stands : List Told → Draft → Type 0
 Stands told d = Opens told d ⊎ Full told d
 
-stands_fills : (told : List Told) (d : Draft) → length d.end.ids.active.id ≡ 8 → Stands told d → Fills told d
-stands_fills told d eight (inl o) = opens_fills told d o
-stands_fills told d eight (inr f) = full_fills told d eight f
+stands_fills : (told : List Told) (d : Draft) → Stands told d → Fills told d
+stands_fills told d (inl o) = opens_fills told d o
+stands_fills told d (inr f) = full_fills told d f
 
 say_more : (told : List Told) (fs : List FrameValue) (f : FrameValue) → AllSay told fs → Says told f → AllSay told (fs ++ f ∷ [])
 say_more told [] f all s = (s, tt)
@@ -188,10 +172,10 @@ opens_more told d f bytes e o s spells = record {
 none_opens : (told : List Told) (e : End) → Opens told (no_frames e)
 none_opens told e = record { says = tt; spells = λ fs rest spells. spells }
 
--- PING goes where it waits
-pinged_opens : (told : List Told) (b : Bool) (d : Draft) → Opens told d → Opens told (ping_if b d)
-pinged_opens told true d o = opens_more told d ping (spelling ping) (ping_if true d).end o tt ping_spelled
-pinged_opens told false d o = o
+-- a control frame goes: it says nothing of a stream
+control_opens : (told : List Told) (d : Draft) (f : FrameValue) (e : End) → IsControl f → Opens told d → Opens told (with_frame d f (spelling f) e)
+control_opens told d ping e is o = opens_more told d ping (spelling ping) e o tt ping_spelled
+control_opens told d f e is o = absurd is
 
 -- ACK goes, where there are numbers
 acked_opens : (told : List Told) (d : Draft) → Acks d.end.acknowledging → is_filled d.end.acknowledging.runs ≡ true → Opens told d → Opens told (with_ack d)
@@ -224,23 +208,25 @@ half_stands told id h d room small half o = go (writes_length h.buffer (stream_r
           says = say_more told d.frames (stream frame) o.says says;
           spells = o.spells (stream frame ∷ []) (stream_spelling false frame) (unsized_spelled frame fits);
           full = omega arith;
+          long = omega arith;
         })
-
--- the frame of a stream leaves the ids
-half_ids : (o : Option SendHalf) (d : Draft) (id : ℕ) → (stream_if o d id).end.ids ≡ d.end.ids
-half_ids None d id = refl
-half_ids (Some h) d id = refl
 
 -- what asks goes behind others
 asking_stands : (side : Side) (told : List Told) (d : Draft) → Streams side d.end.sending told → Opens told d → Stands told (with_asking d)
-asking_stands side told d i o =
-    (streams_keep (λ x. Streams side x.end.sending told × Stands told x) (λ x id is b. (half_streams side told id (at x.end.sending.halves id) x refl b.0, behind x id (next_room x id is) b.0 b.1 (at x.end.sending.halves id) refl))
-    (with_ping_frame d) (subst (λ (s : Sending). Streams side s told) (sym (pinged_sending d.end.waiting.ping d)) i, inl (pinged_opens told d.end.waiting.ping d o))).1
+asking_stands side told d i o = (streams_keep (λ x. Streams side x.end.sending told × Stands told x) (λ x id is b. one x id (next_room x id is) (at x.end.sending.halves id) refl b) (with_ping_frame d) (pinged d.end.waiting.ping)).1
   where
-    behind : (x : Draft) (id : ℕ) → 25 ≤ frame_room x.end - length x.bytes → Streams side x.end.sending told → Stands told x → (o : Option SendHalf) → at x.end.sending.halves id ≡ o → Stands told (stream_if o x id)
-    behind x id room i before None found = before
-    behind x id room i (inl o) (Some h) found = half_stands told id h x room (i.ids id h found) (half_at side x.end.sending told id h i found) o
-    behind x id room i (inr f) (Some h) found = let full = f.full in absurd (omega arith)
+    pinged : (b : Bool) → Streams side (ping_if b d).end.sending told × Stands told (ping_if b d)
+    pinged true = (i, inl (control_opens told d ping (with_ping d.end false) tt o))
+    pinged false = (i, inl o)
+
+    behind : (x : Draft) (id : ℕ) (h : SendHalf) → 25 ≤ frame_room x.end - length x.bytes → Streams side x.end.sending told → at x.end.sending.halves id ≡ Some h → Stands told x → Stands told (stream_if (Some h) x id)
+    behind x id h room i found (inl o) = half_stands told id h x room (i.ids id h found) (half_at side x.end.sending told id h i found) o
+    behind x id h room i found (inr f) = let full = f.full in absurd (omega arith)
+
+    one : (x : Draft) (id : ℕ) → 25 ≤ frame_room x.end - length x.bytes → (o : Option SendHalf) → at x.end.sending.halves id ≡ o → Streams side x.end.sending told × Stands told x
+        → Streams side (stream_if o x id).end.sending told × Stands told (stream_if o x id)
+    one x id room None found b = b
+    one x id room (Some h) found b = (half_streams side told id h x found b.0, behind x id h room b.0 found b.1)
 
 -- an ACK frame that fits has numbers, and the frames before it don't take the whole room
 ack_room : (d : Draft) → ack_fits d ≡ true → (is_filled d.end.acknowledging.runs ≡ true) × (length d.bytes < frame_room d.end)
@@ -261,11 +247,11 @@ late_stands told d acks before = go (ack_fits d) refl before
 
 -- what asks leaves what is to be acknowledged
 asking_acks : (d : Draft) → (with_asking d).end.acknowledging ≡ d.end.acknowledging
-asking_acks d = streams_keep (λ x. x.end.acknowledging ≡ d.end.acknowledging) (λ x id is same. half (at x.end.sending.halves id) x id ∙ same) (with_ping_frame d) (ping d.end.waiting.ping)
+asking_acks d = streams_keep (λ x. x.end.acknowledging ≡ d.end.acknowledging) (λ x id is same. half (at x.end.sending.halves id) x id ∙ same) (with_ping_frame d) (pinged d.end.waiting.ping)
   where
-    ping : (b : Bool) → (ping_if b d).end.acknowledging ≡ d.end.acknowledging
-    ping true = refl
-    ping false = refl
+    pinged : (b : Bool) → (ping_if b d).end.acknowledging ≡ d.end.acknowledging
+    pinged true = refl
+    pinged false = refl
 
     half : (o : Option SendHalf) (x : Draft) (id : ℕ) → (stream_if o x id).end.acknowledging ≡ x.end.acknowledging
     half None x id = refl
@@ -281,17 +267,16 @@ stands_if false side told e due acks i =
     late_stands told asking (subst Acks (sym (asking_acks (no_frames e))) acks) (asking_stands side told (no_frames e) i (none_opens told e))
 
 -- what waits fills the payload of the next datagram
-composed_fills : (side : Side) (told : List Told) (e : End) → length e.ids.active.id ≡ 8 → Acks e.acknowledging → Streams side e.sending told → Fills told (composed e)
-composed_fills side told e eight acks i =
-    stands_fills told (composed e) (ap (λ (x : Ids). length x.active.id) (composes e).ids ∙ eight) (stands_if (can_send e.acknowledging) side told e refl acks i)
+composed_fills : (side : Side) (told : List Told) (e : End) → Acks e.acknowledging → Streams side e.sending told → Fills told (composed e)
+composed_fills side told e acks i = stands_fills told (composed e) (stands_if (can_send e.acknowledging) side told e refl acks i)
 
 -- what waits goes in a datagram of its number
 pub datagram_given : (side : Side) (p : Policy) (e : End) (told : List Told) → length e.ids.active.id ≡ 8 → can_number e.numbers ≡ true → waits e ≡ true → Acks e.acknowledging
-    → Streams side e.sending told → IsGiven p e.ids.active.id told e.numbers.next (cut_against e.numbers) (frames_padded (composed e)) (datagram_of p (composed e))
-datagram_given side p e told eight may waiting acks streams =
+    → 1200 ≤ e.path.size → Streams side e.sending told → IsGiven p e.ids.active.id told e.numbers.next (cut_against e.numbers) (frames_padded (composed e)) (datagram_of p (composed e))
+datagram_given side p e told eight may waiting acks large streams =
     let c = composes e in
     let d : Draft = composed e in
-    let fills = composed_fills side told e eight acks streams in
+    let fills = composed_fills side told e acks streams in
     let some = composed_some e (omega arith) waiting in
     let count : ℕ = 4 - ((truncated d.end.numbers.next (cut_against d.end.numbers)).width + length d.bytes) in
     let long = length-append d.frames (replicate count padding) in
@@ -312,49 +297,51 @@ datagram_given side p e told eight may waiting acks streams =
 -- ---- what is given
 
 -- nothing more is given
-pub gives_quiet : (p : Policy) (id : List ℕ) (before after : Numbers) (told more : List Told) (references : List ℕ) (sents : List Sent) (given : List (List ℕ)) → AllGrow told more → after.next ≡ before.next
-    → Gives p id before told references sents given → Gives p id after more (references ++ []) (sents ++ []) (given ++ [])
-gives_quiet p id before after told more references sents given grow next g =
-    rw (append-nil references, append-nil sents, append-nil given) (record { next = next ∙ g.next; each = all_grow p id told more 0 sents given grow g.each; against = g.against })
+pub gives_quiet : (p : Policy) (id : List ℕ) (before after : Numbers) (told more : List Told) (sents : List Sent) (given : List (List ℕ)) → AllGrow told more → after.next ≡ before.next → (IsBehind before → IsBehind after)
+    → Gives p id before told sents given → Gives p id after more (sents ++ []) (given ++ [])
+gives_quiet p id before after told more sents given grow next behind g =
+    rw (append-nil sents, append-nil given) (record { rising = g.rising; below = λ s i. subst (λ (n : ℕ). s.number < n) (sym next) (g.below s i); next = next ∙ g.next; behind = behind g.behind; each = all_grow p id told more sents given grow g.each })
 
--- what one more datagram was cut against, where one was given
-abbrev pub reference_if : Bool → ℕ → List ℕ
-reference_if given reference = if given then reference ∷ [] else []
+-- what the datagram is sent as that an end gives at a moment, if it gives one
+abbrev pub sent_by : End → ℕ → Sent
+sent_by e now = record { number = e.numbers.next; reference = cut_against e.numbers; frames = frames_at e now; moment = max e.closing.clock now }
 
 -- one more datagram as it was sent, where one was given
-abbrev pub sent_if : Bool → ℕ → List FrameValue → List Sent
-sent_if given reference frames = if given then (reference, frames) ∷ [] else []
+abbrev pub sent_if : Bool → Sent → List Sent
+sent_if given s = if given then s ∷ [] else []
 
--- each datagram has its place as its number, and was cut against its reference
-pub polled_gives : (side : Side) (p : Policy) (e : End) (now : ℕ) (told more : List Told) (id : List ℕ) (references : List ℕ) (sents : List Sent) (given : List (List ℕ)) (reference : ℕ) → AllGrow told more → e.ids.active.id ≡ id → length id ≡ 8
-    → (e.closing.state ≡ states.Open → cut_against e.numbers ≡ reference) → Acks e.acknowledging → Streams side e.sending told → Gives p id e.numbers told references sents given
-    → Gives p id (polled p e now).end.numbers more (references ++ reference_if (gave (answers.Poll (polled p e now).answer)) reference) (sents ++ sent_if (gave (answers.Poll (polled p e now).answer)) reference (frames_at e now)) (given ++ given_as (polled p e now).answer (polled p e now).datagram)
-polled_gives side p e now told more id references sents given reference grow active eight named acks streams g =
-    by_poll p e now (λ (q : Polled). Gives p id q.end.numbers more (references ++ reference_if (gave (answers.Poll q.answer)) reference) (sents ++ sent_if (gave (answers.Poll q.answer)) reference (frames_at e now)) (given ++ given_as q.answer q.datagram))
+-- each datagram was sent under its number, and the numbers rise
+pub polled_gives : (side : Side) (p : Policy) (e : End) (now : ℕ) (told more : List Told) (id : List ℕ) (sents : List Sent) (given : List (List ℕ)) → AllGrow told more → e.ids.active.id ≡ id → length id ≡ 8
+    → Acks e.acknowledging → 1200 ≤ e.path.size → Streams side e.sending told → Gives p id e.numbers told sents given
+    → Gives p id (polled p e now).end.numbers more (sents ++ sent_if (gave (answers.Poll (polled p e now).answer)) (sent_by e now)) (given ++ given_as (polled p e now).answer (polled p e now).datagram)
+polled_gives side p e now told more id sents given grow active eight acks large streams g =
+    by_poll p e now (λ (q : Polled). Gives p id q.end.numbers more (sents ++ sent_if (gave (answers.Poll q.answer)) (sent_by e now)) (given ++ given_as q.answer q.datagram))
     (record { silent = nothing; failed = nothing; idle = λ pings. nothing; used_up = λ pings. nothing; gives = λ pings tracking timers. one pings })
   where
-    nothing : Gives p id e.numbers more (references ++ []) (sents ++ []) (given ++ [])
-    nothing = gives_quiet p id e.numbers e.numbers told more references sents given grow refl g
+    nothing : Gives p id e.numbers more (sents ++ []) (given ++ [])
+    nothing = gives_quiet p id e.numbers e.numbers told more sents given grow refl (λ b. b) g
 
     one : (pings : Bool) → e.closing.state ≡ states.Open → can_number e.numbers ≡ true → waits (at_moment e now pings) ≡ true → ready_at e now ≡ at_moment e now pings
-        → Gives p id (number_given (composed (at_moment e now pings)).end.numbers) more (references ++ reference ∷ []) (sents ++ (reference, frames_at e now) ∷ []) (given ++ datagram_of p (composed (at_moment e now pings)) ∷ [])
+        → Gives p id (number_given (composed (at_moment e now pings)).end.numbers) more (sents ++ sent_by e now ∷ []) (given ++ datagram_of p (composed (at_moment e now pings)) ∷ [])
     one pings is may some ready =
         let d : List ℕ = datagram_of p (composed (at_moment e now pings)) in
         let frames : List FrameValue = frames_padded (composed (at_moment e now pings)) in
         let frames_are : frames_at e now ≡ frames = ap (λ (x : End). frames_padded (composed x)) ready in
-        let given_now : IsGiven p e.ids.active.id told e.numbers.next (cut_against e.numbers) frames d = datagram_given side p (at_moment e now pings) told (ap length active ∙ eight) may some acks streams in
-        let count = g.next in
-        let place : e.numbers.next ≡ 0 + length given = omega arith in
-        let here : IsGiven p id told (0 + length given) reference (frames_at e now) d =
-        subst (λ (fs : List FrameValue). IsGiven p id told (0 + length given) reference fs d) (sym frames_are)
-        (subst (λ (n : ℕ). IsGiven p id told n reference frames d) place (subst (λ (r : ℕ). IsGiven p id told e.numbers.next r frames d) (named is) (subst (λ (i : List ℕ). IsGiven p i told e.numbers.next (cut_against e.numbers) frames d) active given_now))) in
-        let sent : Sent = (reference, frames_at e now) in
-        let all = each_push (IsSent p id told) 0 sents given sent d g.each here in
-        let long = length-append given (d ∷ []) in
-        let counted : e.numbers.next + 1 ≡ length (given ++ d ∷ []) = omega arith in
-        let after : Gives p id (number_given e.numbers) more (references ++ reference ∷ []) (sents ++ sent ∷ []) (given ++ d ∷ []) = record {
-          next = counted;
-          each = all_grow p id told more 0 (sents ++ sent ∷ []) (given ++ d ∷ []) grow all;
-          against = map-append (λ (s : Sent). s.0) sents (sent ∷ []) ∙ ap (λ (rs : List ℕ). rs ++ reference ∷ []) g.against;
+        let given_now : IsGiven p e.ids.active.id told e.numbers.next (cut_against e.numbers) frames d = datagram_given side p (at_moment e now pings) told (ap length active ∙ eight) may some acks large streams in
+        let here : IsGiven p id told e.numbers.next (cut_against e.numbers) (frames_at e now) d =
+        subst (λ (fs : List FrameValue). IsGiven p id told e.numbers.next (cut_against e.numbers) fs d) (sym frames_are) (subst (λ (i : List ℕ). IsGiven p i told e.numbers.next (cut_against e.numbers) frames d) active given_now) in
+        let sent : Sent = sent_by e now in
+        let behind = g.behind in
+        let before = g.next in
+        let pushed = next_push sents sent in
+        let after : Gives p id (number_given e.numbers) more (sents ++ sent ∷ []) (given ++ d ∷ []) = record {
+          rising = rising_push 0 sents sent g.rising (omega arith) (λ t i. g.below t i);
+          below = λ s i. elim (in_more s sent sents i) [
+            | inl old ↦ (let lower = g.below s old in omega arith)
+            | inr new ↦ (let same : s.number ≡ e.numbers.next = ap (λ (x : Sent). x.number) new in omega arith)
+          ];
+          next = omega arith;
+          behind = omega arith;
+          each = all_grow p id told more (sents ++ sent ∷ []) (given ++ d ∷ []) grow (step_push (IsSent p id told) sents given sent d g.each here);
         } in
-        subst (λ (x : Numbers). Gives p id (number_given x) more (references ++ reference ∷ []) (sents ++ sent ∷ []) (given ++ d ∷ [])) (sym (composes (at_moment e now pings)).numbers) after
+        subst (λ (x : Numbers). Gives p id (number_given x) more (sents ++ sent ∷ []) (given ++ d ∷ [])) (sym (composes (at_moment e now pings)).numbers) after

@@ -20,11 +20,11 @@ use Rattle.quic_headline.proofs.Halves.Opened.{reading_added}
 -- ---- a frame that is not refused
 
 -- its stream may be received, and it breaks no rule on its half
-record Passes (side : Side) (r : Receiving) (f : StreamValue) : Type 0 where
-  may : may_receive side f.id ≡ true
-  breach : breach_at (half_for (at r.halves f.id) r f.id) r f ≡ None
+pub record Passes (side : Side) (r : Receiving) (f : StreamValue) : Type 0 where
+  pub may : may_receive side f.id ≡ true
+  pub breach : breach_at (half_for (at r.halves f.id) r f.id) r f ≡ None
 
-passes : (side : Side) (r : Receiving) (f : StreamValue) → refusal side r f ≡ None → Passes side r f
+pub passes : (side : Side) (r : Receiving) (f : StreamValue) → refusal side r f ≡ None → Passes side r f
 passes side r f e = go (may_receive side f.id) refl (nat_le r.count_bi (index_of f.id)) e
   where
     go : (m : Bool) → may_receive side f.id ≡ m → (l : Bool) → (if not m then Some StreamState else (if l then Some StreamLimit else breach_at (half_for (at r.halves f.id) r f.id) r f)) ≡ None → Passes side r f
@@ -33,7 +33,7 @@ passes side r f e = go (may_receive side f.id) refl (nat_le r.count_bi (index_of
     go true q false e = record { may = q; breach = e }
 
 -- it ends below the greatest offset
-frame_is_small : (r : Receiving) (h : RecvHalf) (f : StreamValue) → breach_on r h f ≡ None → end_of f < 2 ^ 62
+pub frame_is_small : (r : Receiving) (h : RecvHalf) (f : StreamValue) → breach_on r h f ≡ None → end_of f < 2 ^ 62
 frame_is_small r h f e = go (nat_le (2 ^ 62) (end_of f)) refl e
   where
     go : (b : Bool) → nat_le (2 ^ 62) (end_of f) ≡ b → (if b then Some FlowControl else (if breaks_final h.final h.seen f then Some FinalSize else (if breaks_limit r h f then Some FlowControl else None))) ≡ None → end_of f < 2 ^ 62
@@ -41,7 +41,7 @@ frame_is_small r h f e = go (nat_le (2 ^ 62) (end_of f)) refl e
     go false q e = leb-false (2 ^ 62) (end_of f) q
 
 -- the half that a frame is for stands there, or is a new one of a stream that wasn't opened
-half_here : (o : Option RecvHalf) (r : Receiving) (id : ℕ) (h : RecvHalf) → half_for o r id ≡ Some h → (o ≡ Some h) ⊎ ((r.opened_bi ≤ index_of id) × (h ≡ untouched))
+pub half_here : (o : Option RecvHalf) (r : Receiving) (id : ℕ) (h : RecvHalf) → half_for o r id ≡ Some h → (o ≡ Some h) ⊎ ((r.opened_bi ≤ index_of id) × (h ≡ untouched))
 half_here (Some g) r id h e = inl e
 half_here None r id h e = go (nat_lt (index_of id) r.opened_bi) refl e
   where
@@ -59,7 +59,7 @@ half_done None r id e = (refl, go (nat_lt (index_of id) r.opened_bi) refl e)
     go false q e = cc
 
 -- the half that a frame is for is read so far
-reading_for : (side : Side) (s : Sending) (r : Receiving) (id : ℕ) (wrote read : List Told) (h : RecvHalf) → Content side s r wrote read → may_receive side id ≡ true → half_for (at r.halves id) r id ≡ Some h → IsReading (written id wrote) (ended id wrote) (nexts id read) h
+pub reading_for : (side : Side) (s : Sending) (r : Receiving) (id : ℕ) (wrote read : List Told) (h : RecvHalf) → Content side s r wrote read → may_receive side id ≡ true → half_for (at r.halves id) r id ≡ Some h → IsReading (written id wrote) (ended id wrote) (nexts id read) h
 reading_for side s r id wrote read h c may e = go (half_here (at r.halves id) r id h e)
   where
     go : (at r.halves id ≡ Some h) ⊎ ((r.opened_bi ≤ index_of id) × (h ≡ untouched)) → IsReading (written id wrote) (ended id wrote) (nexts id read) h

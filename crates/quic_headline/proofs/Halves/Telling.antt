@@ -25,11 +25,11 @@ use Rattle.quic_streams.specs.Sending.{SendHalf, new_half, next_id, first_limit,
 use Rattle.quic_streams.specs.Sending as sending
 use Rattle.quic_machine.specs.End.{End}
 use Rattle.quic_machine.specs.Calls.{is_open, can_open, end_writes, tells_of, after_telling, end_after_event}
-use Rattle.quic_machine.specs.Poll.{Polled, Draft, stream_room, no_frames, ping_if, with_ping_frame, stream_if, with_ack, ack_fits, ack_if, with_asking, composed_if, composed, polled}
+use Rattle.quic_machine.specs.Poll.{Polled, Draft, stream_room, composed, polled}
 use Rattle.quic_streams.specs.Frames.{half_after}
 use Rattle.quic_machine.specs.Machine.{IsAnswer, after_call}
 use Rattle.quic_headline.specs.Runs.{Told, Packet, finish_told_by, finishes_told}
-use Rattle.quic_machine.specs.DraftLaws.{streams_keep}
+use Rattle.quic_machine.specs.DraftLaws.{by_writing}
 use Rattle.quic_streams.specs.TableLaws.{at-added, at-apart}
 use Rattle.quic_headline.proofs.Places.Invariant.{Streams, Arrives}
 use Rattle.quic_headline.proofs.Halves.Writes.{half_at, write_taken}
@@ -79,7 +79,7 @@ same_opened side Bi s none = same_added s.halves (next_id side Bi s) (first_limi
 same_opened side Uni s none = same_added s.halves (next_id side Uni s) (first_limit Uni s) none
 
 -- an end opens a stream only where limits leave room for one
-room_to_open : (state : State) (dir : Dir) (e : End) → can_open state dir e ≡ true → opens e.side dir e.sending ≡ true
+pub room_to_open : (state : State) (dir : Dir) (e : End) → can_open state dir e ≡ true → opens e.side dir e.sending ≡ true
 room_to_open states.Open dir e may = may
 room_to_open states.Closing dir e may = cc
 room_to_open states.Drained dir e may = cc
@@ -116,31 +116,13 @@ same_ended (Some h) halves id found = go h.finished
 
 -- ---- a poll
 
--- the frame of a half goes
-same_half : (o : Option SendHalf) (d : Draft) (id : ℕ) → at d.end.sending.halves id ≡ o → AckedSame d.end.sending.halves (stream_if o d id).end.sending.halves
-same_half None d id found = λ q. refl
-same_half (Some h) d id found = same_put d.end.sending.halves id h (half_after h (stream_room d id)) found refl
-
--- what asks goes
-same_asking : (d : Draft) → AckedSame d.end.sending.halves (with_asking d).end.sending.halves
-same_asking d =
-    streams_keep (λ x. AckedSame d.end.sending.halves x.end.sending.halves) (λ x id is before q. same_half (at x.end.sending.halves id) x id refl q ∙ before q) (with_ping_frame d) (pinged d.end.waiting.ping)
-  where
-    pinged : (b : Bool) → AckedSame d.end.sending.halves (ping_if b d).end.sending.halves
-    pinged true = λ q. refl
-    pinged false = λ q. refl
-
 -- what goes acknowledges nothing
 same_composed : (e : End) → AckedSame e.sending.halves (composed e).end.sending.halves
-same_composed e = go (can_send e.acknowledging)
-  where
-    late : (b : Bool) (d : Draft) → AckedSame e.sending.halves d.end.sending.halves → AckedSame e.sending.halves (ack_if b d).end.sending.halves
-    late true d same = same
-    late false d same = same
-
-    go : (b : Bool) → AckedSame e.sending.halves (composed_if b e).end.sending.halves
-    go true = same_asking (with_ack (no_frames e))
-    go false = late (ack_fits (with_asking (no_frames e))) (with_asking (no_frames e)) (same_asking (no_frames e))
+same_composed e = by_writing (λ (d : Draft). AckedSame e.sending.halves d.end.sending.halves) (record {
+  ack = λ d filled may before. before;
+  control = λ d f w is before. before;
+  stream = λ d id h found room before q. same_put d.end.sending.halves id h (half_after h (stream_room d id)) found refl q ∙ before q;
+}) e (λ q. refl)
 
 -- ---- calls
 

@@ -1,5 +1,5 @@
 -- One call at the end that writes: what was written and given behind it.
-use Rattle.std.proofs.Common.{◌≡◌, ℕ, ◌<◌, ◌^◌, Bool, true, false, ◌==◌, List, [], ◌∷◌, ◌++◌, length, take, Ok, Err, refl, sym, ap, ◌∙◌, subst, inl, inr, ◌⊎◌}
+use Rattle.std.proofs.Common.{◌≡◌, ℕ, ◌<◌, ◌≤◌, ◌^◌, Bool, true, false, ◌==◌, List, [], ◌∷◌, ◌++◌, length, take, Ok, Err, refl, sym, ap, ◌∙◌, subst, inl, inr, ◌⊎◌, arith}
 use Rattle.std.specs.Prelude.{if◌then◌else◌}
 use Rattle.std.specs.List.{slice_get}
 use Rattle.std.specs.List.Sorted.{IsStrictlySortedBy}
@@ -19,22 +19,20 @@ use Rattle.quic_machine.specs.Policy.{Policy}
 use Rattle.quic_streams.specs.Sending.{Sending, opens}
 use Rattle.quic_machine.specs.End.{End, new_end}
 use Rattle.quic_machine.specs.Calls.{can_open, after_open_if, is_open, end_writes}
-use Rattle.quic_machine.specs.Numbers.{Numbers, cut_against}
 use Rattle.quic_machine.specs.Receive.{received}
 use Rattle.quic_machine.specs.Poll.{Polled, polled}
 use Rattle.quic_machine.specs.Machine.{IsAnswer, after_call, gives, fails, gave}
-use Rattle.quic_headline.specs.Runs.{Told, Intake, nothing_came, written_by, written, ended, acknowledged}
+use Rattle.quic_headline.specs.Runs.{Told, written_by, written, ended}
+use Rattle.quic_headline.specs.Observer.{Sent}
 use Rattle.quic_headline.proofs.Places.Told.{written_more, ended_more}
-use Rattle.quic_headline.proofs.Places.Stays.{Stays, stays_delivered, stays_received}
+use Rattle.quic_headline.proofs.Places.Stays.{stays_delivered, stays_received, behind_received}
 use Rattle.quic_machine.specs.LeaveCases.{by_expired, by_event}
 use Rattle.quic_machine.specs.CallCases.{changes_sending, is_delivery, is_poll, by_call, by_plain_call}
-use Rattle.quic_headline.proofs.Packets.Intakes.{references_more}
 use Rattle.quic_headline.proofs.Places.Steps.{gives_count}
-use Rattle.quic_headline.proofs.Places.Direction.{came, cut}
 use Rattle.quic_headline.proofs.Halves.Writes.{IsQuiet, quiet_streams, half_at, opened_streams, write_taken, written_streams, finished_streams}
-use Rattle.quic_machine.specs.PollCases.{at_moment, frames_at, by_poll, composes, given_as, gives_as}
-use Rattle.quic_headline.proofs.Halves.Sends.{polled_streams, gives_quiet, reference_if, sent_if, polled_gives}
-use Rattle.quic_headline.proofs.Places.Invariant.{Grows, Streams, Sent, Gives, KnowsIn, Acks}
+use Rattle.quic_machine.specs.PollCases.{at_moment, by_poll, composes, given_as, gives_as}
+use Rattle.quic_headline.proofs.Halves.Sends.{polled_streams, gives_quiet, sent_by, sent_if, polled_gives}
+use Rattle.quic_headline.proofs.Places.Invariant.{Grows, Streams, IsBehind, Gives, Acks}
 
 -- ---- at the start
 
@@ -53,19 +51,21 @@ streams_first side settings theirs own_id peer_id now validated bi uni = record 
 
 -- nothing was given
 pub gives_first : (p : Policy) (id : List ℕ) (side : Side) (settings : Settings) (theirs : ParameterValues) (own_id peer_id : List ℕ) (now : ℕ) (validated : Bool)
-    → Gives p id (new_end side settings theirs own_id peer_id now validated).numbers [] [] [] []
-gives_first p id side settings theirs own_id peer_id now validated = record { next = refl; each = tt; against = refl }
+    → Gives p id (new_end side settings theirs own_id peer_id now validated).numbers [] [] []
+gives_first p id side settings theirs own_id peer_id now validated = record { rising = tt; below = λ s i. absurd i; next = refl; behind = omega arith; each = tt }
 
 -- ---- what a call leaves as it was
 
--- side and ids are as they were, and so is the next number to give
-record Keeps (e f : End) : Type 0 where
+-- side and ids are as they were, and so is the next number to give, which is cut against no greater one
+pub record Keeps (e f : End) : Type 0 where
   side : f.side ≡ e.side
   ids : f.ids ≡ e.ids
-  next : f.numbers.next ≡ e.numbers.next
+  pub next : f.numbers.next ≡ e.numbers.next
+  behind : IsBehind e.numbers → IsBehind f.numbers
 
-keeps_stays : (e f : End) → Stays e f → Keeps e f
-keeps_stays e f s = record { side = s.side; ids = s.ids; next = s.next }
+-- so it is after a delivery
+keeps_received : (p : Policy) (e : End) (now : ℕ) (d : List ℕ) → Keeps e (received p e now d).end
+keeps_received p e now d = let s = stays_received p e now d in record { side = s.side; ids = s.ids; next = s.next; behind = behind_received p e now d }
 
 -- a call that neither opens, writes nor finishes a stream, and is neither a poll nor a delivery, leaves the sending halves
 sending_call : (p : Policy) (e : End) (theirs : List (List ℕ)) (call : Call) (a : Answer) → changes_sending call ≡ false → is_poll call ≡ false → is_delivery call ≡ false → (after_call p e theirs call a).sending ≡ e.sending
@@ -84,15 +84,15 @@ sending_call p e theirs call a other silent apart = by_call p e theirs (λ (f : 
 })
 
 -- only a poll gives numbers
-keeps_call : (p : Policy) (e : End) (theirs : List (List ℕ)) (call : Call) (a : Answer) → is_poll call ≡ false → Keeps e (after_call p e theirs call a)
+pub keeps_call : (p : Policy) (e : End) (theirs : List (List ℕ)) (call : Call) (a : Answer) → is_poll call ≡ false → Keeps e (after_call p e theirs call a)
 keeps_call p e theirs call a other = by_plain_call p e theirs (Keeps e) call a (record {
-  streams = λ s r. record { side = refl; ids = refl; next = refl };
-  waits = λ w. record { side = refl; ids = refl; next = refl };
-  heard = λ path same. record { side = refl; ids = refl; next = refl };
-  times = λ now acks loss is. by_expired e now (Keeps e) (λ pending tracking timers runs packets. record { side = refl; ids = refl; next = refl }) acks loss;
+  streams = λ s r. record { side = refl; ids = refl; next = refl; behind = λ b. b };
+  waits = λ w. record { side = refl; ids = refl; next = refl; behind = λ b. b };
+  heard = λ path same. record { side = refl; ids = refl; next = refl; behind = λ b. b };
+  times = λ now acks loss is. by_expired e now (Keeps e) (λ pending tracking timers runs packets. record { side = refl; ids = refl; next = refl; behind = λ b. b }) acks loss;
   polls = λ now is. cc;
-  hears = λ now d is. keeps_stays e (received p e now d).end (stays_received p e now d);
-  tells = λ told events. record { side = refl; ids = refl; next = refl };
+  hears = λ now d is. keeps_received p e now d;
+  tells = λ told events. record { side = refl; ids = refl; next = refl; behind = λ b. b };
 })
 
 -- no call changes the ids
@@ -182,15 +182,15 @@ pub poll_answer : (p : Policy) (e : End) (now : ℕ) (a : Answer) → (a ≡ ans
 poll_answer p e now a (inl is) ok = is
 poll_answer p e now a (inr is) ok = let lacks = ap fails is in cc
 
--- what the datagram that a call gives is sent as, cut against this reference
-abbrev pub sents_by : End → Call → Answer → ℕ → List Sent
-sents_by e (calls.Poll now) a reference = sent_if (gave a) reference (frames_at e now)
-sents_by e call a reference = []
+-- what the datagram that a call gives is sent as
+abbrev pub sents_by : End → Call → Answer → List Sent
+sents_by e (calls.Poll now) a = sent_if (gave a) (sent_by e now)
+sents_by e call a = []
 
 -- only a poll gives datagrams
-pub other_gives_none : (p : Policy) (e : End) (theirs : List (List ℕ)) (call : Call) (a : Answer) (reference : ℕ) → is_poll call ≡ false → IsAnswer p e theirs call a → (gave a ≡ false) × (gives p e call a ≡ []) × (sents_by e call a reference ≡ [])
-other_gives_none p e theirs (calls.Poll now) a reference other is = cc
-other_gives_none p e theirs call a reference other is = (go (gave a) refl, refl, refl)
+pub other_gives_none : (p : Policy) (e : End) (theirs : List (List ℕ)) (call : Call) (a : Answer) → is_poll call ≡ false → IsAnswer p e theirs call a → (gave a ≡ false) × (gives p e call a ≡ []) × (sents_by e call a ≡ [])
+other_gives_none p e theirs (calls.Poll now) a other is = cc
+other_gives_none p e theirs call a other is = (go (gave a) refl, refl, refl)
   where
     go : (b : Bool) → gave a ≡ b → gave a ≡ false
     go true on =
@@ -199,45 +199,27 @@ other_gives_none p e theirs call a reference other is = (go (gave a) refl, refl,
         cc
     go false off = off
 
--- what an open end cuts its numbers against is what came to it says
-open_named : (state : State) (numbers : Numbers) (i : Intake) → state ≡ states.Open → KnowsIn state numbers i → cut_against numbers ≡ acknowledged i.took
-open_named states.Open numbers i is k = k.named
-open_named states.Closing numbers i is k = cc
-open_named states.Drained numbers i is k = cc
-open_named states.Failed numbers i is k = cc
+module _ (p : Policy) (e : End) (theirs : List (List ℕ)) (a : Answer) (told : List Told) (state : State) (id : List ℕ) (given : List (List ℕ)) (sents : List Sent) where
+  -- what is given, once a call gave its datagrams
+  abbrev GivesOn : Call → Type 0
+  GivesOn call = Gives p id (after_call p e theirs call a).numbers (with_call told call a state) (sents ++ sents_by e call a) (given ++ gives p e call a)
 
-module _ (p : Policy) (e : End) (theirs : List (List ℕ)) (a : Answer) (told : List Told) (state : State) (own id : List ℕ) (back given : List (List ℕ)) (sents : List Sent) where
-  -- what the next datagram is cut against
-  abbrev reference : ℕ
-  reference = acknowledged (came p own back told).took
-
-  -- a poll gives a datagram that is cut against the greatest number that was acknowledged
-  poll_gives : (now : ℕ) → IsAnswer p e theirs (calls.Poll now) a → fails a ≡ false → e.ids.active.id ≡ id → length id ≡ 8
-      → KnowsIn e.closing.state e.numbers (came p own back told) → Acks e.acknowledging → Streams e.side e.sending told → Gives p id e.numbers told (cut p own back told) sents given
-      → Gives p id (polled p e now).end.numbers (with_call told (calls.Poll now) a state) (cut p own back told ++ reference_if (gave a) reference) (sents ++ sents_by e (calls.Poll now) a reference) (given ++ gives p e (calls.Poll now) a)
-  poll_gives now is ok active eight knows acks s g =
+  -- a poll gives a datagram or none
+  poll_gives : (now : ℕ) → IsAnswer p e theirs (calls.Poll now) a → fails a ≡ false → e.ids.active.id ≡ id → length id ≡ 8 → Acks e.acknowledging → 1200 ≤ e.path.size → Streams e.side e.sending told → Gives p id e.numbers told sents given → GivesOn (calls.Poll now)
+  poll_gives now is ok active eight acks large s g =
       let said = poll_answer p e now a is ok in
       let all : gives p e (calls.Poll now) a ≡ given_as (polled p e now).answer (polled p e now).datagram = ap (λ (x : Answer). gives p e (calls.Poll now) x) said ∙ gives_as p e now (polled p e now).answer in
-      rw (all, ap gave said)
-      (polled_gives e.side p e now told (with_call told (calls.Poll now) a state) id (cut p own back told) sents given reference (grows_step p e theirs (calls.Poll now) a told state is ok s) active eight
-      (λ opened. open_named e.closing.state e.numbers (came p own back told) opened knows) acks s g)
+      rw (all, ap gave said) (polled_gives e.side p e now told (with_call told (calls.Poll now) a state) id sents given (grows_step p e theirs (calls.Poll now) a told state is ok s) active eight acks large s g)
 
   -- another call gives none
-  other_gives : (call : Call) → is_poll call ≡ false → IsAnswer p e theirs call a → fails a ≡ false → Streams e.side e.sending told → Gives p id e.numbers told (cut p own back told) sents given
-      → Gives p id (after_call p e theirs call a).numbers (with_call told call a state) (cut p own back told ++ reference_if (gave a) reference) (sents ++ sents_by e call a reference) (given ++ gives p e call a)
+  other_gives : (call : Call) → is_poll call ≡ false → IsAnswer p e theirs call a → fails a ≡ false → Streams e.side e.sending told → Gives p id e.numbers told sents given → GivesOn call
   other_gives call other is ok s g =
-      let none = other_gives_none p e theirs call a reference other is in
-      rw (none.0, none.1, none.2) (gives_quiet p id e.numbers (after_call p e theirs call a).numbers told (with_call told call a state) (cut p own back told) sents given (grows_step p e theirs call a told state is ok s) (keeps_call p e theirs call a other).next g)
+      let none = other_gives_none p e theirs call a other is in
+      let keeps = keeps_call p e theirs call a other in
+      rw (none.1, none.2) (gives_quiet p id e.numbers (after_call p e theirs call a).numbers told (with_call told call a state) sents given (grows_step p e theirs call a told state is ok s) keeps.next keeps.behind g)
 
   -- so it is after each call
-  gives_by : (call : Call) → IsAnswer p e theirs call a → fails a ≡ false → e.ids.active.id ≡ id → length id ≡ 8
-      → KnowsIn e.closing.state e.numbers (came p own back told) → Acks e.acknowledging → Streams e.side e.sending told → Gives p id e.numbers told (cut p own back told) sents given
-      → Gives p id (after_call p e theirs call a).numbers (with_call told call a state) (cut p own back told ++ reference_if (gave a) reference) (sents ++ sents_by e call a reference) (given ++ gives p e call a)
-  gives_by (calls.Poll now) is ok active eight knows acks s g = poll_gives now is ok active eight knows acks s g
-  gives_by call is ok active eight knows acks s g = other_gives call refl is ok s g
-
-  -- each datagram that was given has its place as its number, and was cut against its reference, after a call
-  pub gives_step : (call : Call) → IsAnswer p e theirs call a → fails a ≡ false → e.ids.active.id ≡ id → length id ≡ 8
-      → KnowsIn e.closing.state e.numbers (came p own back told) → Acks e.acknowledging → Streams e.side e.sending told → Gives p id e.numbers told (cut p own back told) sents given
-      → Gives p id (after_call p e theirs call a).numbers (told ++ record { call = call; answer = a; state = state } ∷ []) (cut p own back (told ++ record { call = call; answer = a; state = state } ∷ [])) (sents ++ sents_by e call a (acknowledged (came p own back told).took)) (given ++ gives p e call a)
-  gives_step call is ok active eight knows acks s g = rw (references_more p (own ∷ []) back told (record { call = call; answer = a; state = state }) nothing_came) (gives_by call is ok active eight knows acks s g)
+  pub gives_step : (call : Call) → IsAnswer p e theirs call a → fails a ≡ false → e.ids.active.id ≡ id → length id ≡ 8 → Acks e.acknowledging → 1200 ≤ e.path.size → Streams e.side e.sending told → Gives p id e.numbers told sents given
+      → Gives p id (after_call p e theirs call a).numbers (told ++ record { call = call; answer = a; state = state } ∷ []) (sents ++ sents_by e call a) (given ++ gives p e call a)
+  gives_step (calls.Poll now) is ok active eight acks large s g = poll_gives now is ok active eight acks large s g
+  gives_step call is ok active eight acks large s g = other_gives call refl is ok s g

@@ -1,25 +1,23 @@
 -- The numbers that an end has to acknowledge stay few maximal runs of packet numbers, whatever comes and whatever call is made.
-use Rattle.std.proofs.Common.{◌≡◌, ℕ, ◌^◌, ◌<◌, Bool, true, false, List, [], ◌∷◌, length, map, Option, Some, None, Ok, refl, sym, ◌∙◌, subst, inl, inr, arith}
+use Rattle.std.proofs.Common.{◌≡◌, ℕ, ◌^◌, ◌<◌, Bool, true, false, List, ◌∷◌, length, map, Option, Some, None, Ok, refl, sym, ◌∙◌, subst, inl, inr, arith}
 use Rattle.quic_sets.specs.Runs.{Run}
 use Rattle.quic_wire.specs.Value.{FrameValue}
 use Rattle.quic_recovery_core.specs.Duplicates.{Seen}
-use Rattle.quic_recovery_core.specs.PendingAcks.{Pending, after_insert, with_wait, asking_counted, after_packet, starts_wait, can_send}
+use Rattle.quic_recovery_core.specs.PendingAcks.{Pending, after_insert, with_wait, asking_counted, after_packet, starts_wait}
 use Rattle.quic_recovery_core.proofs.AckRunSteps.{at_most_kept, kept_numbers}
 use Rattle.quic_machine.specs.declared.run.Call.{Call}
 use Rattle.quic_machine.specs.declared.run.Answer.{Answer}
 use Rattle.quic_machine.specs.Policy.{Policy, CanOpen}
 use Rattle.quic_machine.specs.Acknowledging.{nothing_to_acknowledge}
 use Rattle.quic_machine.specs.Ids.{known}
-use Rattle.quic_streams.specs.Table.{at}
-use Rattle.quic_streams.specs.Sending.{SendHalf}
 use Rattle.quic_machine.specs.End.{End}
 use Rattle.quic_machine.specs.Opens.{own_id_length}
 use Rattle.quic_machine.specs.Receive.{asks_in, received}
-use Rattle.quic_machine.specs.Poll.{Draft, no_frames, ping_if, with_ping_frame, stream_if, with_ack, ack_fits, ack_if, with_asking, composed_if, Polled, polled}
+use Rattle.quic_machine.specs.Poll.{Draft, composed, Polled, polled}
 use Rattle.quic_machine.specs.Machine.{after_call}
 use Rattle.quic_headline.specs.Runs.{Told, Packet, Intake}
 use Rattle.quic_machine.specs.Start.{IsLawful}
-use Rattle.quic_machine.specs.DraftLaws.{streams_keep}
+use Rattle.quic_machine.specs.DraftLaws.{by_writing}
 use Rattle.quic_headline.proofs.Places.Invariant.{IsGiven, KnowsIn, AreTaken, Acks}
 use Rattle.quic_machine.specs.FrameCases.{begun}
 use Rattle.quic_headline.proofs.Packets.Delivered.{Arrivals, arrived, by_arrival}
@@ -72,7 +70,7 @@ acks_arrivals e now n frames i small acks = record {
 
 -- a datagram of an honest end is delivered
 pub acks_delivered : (p q : Policy) (id : List ℕ) (told : List Told) (n reference : ℕ) (frames : List FrameValue) (d : List ℕ) → IsGiven p id told n reference frames d → (e : End) (now : ℕ) (i : Intake)
-    → CanOpen p q → IsLawful p → length id ≡ own_id_length → known e.ids ≡ id ∷ [] → KnowsIn e.closing.state e.numbers i
+    → CanOpen p q → IsLawful p → length id ≡ own_id_length → known e.ids ≡ i.ids → KnowsIn e.closing.state e.numbers i
     → Acks e.acknowledging → Acks (received q e now d).end.acknowledging
 acks_delivered p q id told n reference frames d g e now i mates lawful long ids k acks =
     by_arrival p q id told n reference frames d g e now i (λ o j. Acks o.end.acknowledging) mates lawful long ids k (acks_arrivals e now n frames i g.small acks)
@@ -103,29 +101,9 @@ taken_arrivals e now n frames i acks before = record {
 
 -- ---- a poll
 
--- PING acknowledges nothing
-ping_runs : (b : Bool) (d : Draft) → (ping_if b d).end.acknowledging.runs ≡ d.end.acknowledging.runs
-ping_runs true d = refl
-ping_runs false d = refl
-
--- nor does the frame of a half
-half_runs : (o : Option SendHalf) (d : Draft) (id : ℕ) → (stream_if o d id).end.acknowledging.runs ≡ d.end.acknowledging.runs
-half_runs None d id = refl
-half_runs (Some h) d id = refl
-
--- what asks for an acknowledgement acknowledges nothing
-asking_runs : (d : Draft) → (with_asking d).end.acknowledging.runs ≡ d.end.acknowledging.runs
-asking_runs d = streams_keep (λ x. x.end.acknowledging.runs ≡ d.end.acknowledging.runs) (λ x id is same. half_runs (at x.end.sending.halves id) x id ∙ same) (with_ping_frame d) (ping_runs d.end.waiting.ping d)
-
--- an acknowledgement that goes leaves the numbers: what it names may be lost
-ack_runs : (b : Bool) (d : Draft) → (ack_if b d).end.acknowledging.runs ≡ d.end.acknowledging.runs
-ack_runs true d = refl
-ack_runs false d = refl
-
--- whichever frames go, the numbers stay
-composed_runs : (b : Bool) (e : End) → (composed_if b e).end.acknowledging.runs ≡ e.acknowledging.runs
-composed_runs true e = asking_runs (with_ack (no_frames e))
-composed_runs false e = let asking = with_asking (no_frames e) in ack_runs (ack_fits asking) asking ∙ asking_runs (no_frames e)
+-- whichever frames go, the numbers stay: an ACK that names them may be lost
+composed_runs : (e : End) → (composed e).end.acknowledging.runs ≡ e.acknowledging.runs
+composed_runs e = by_writing (λ (d : Draft). d.end.acknowledging.runs ≡ e.acknowledging.runs) (record { ack = λ d filled may same. same; control = λ d f w is same. same; stream = λ d id h found room same. same }) e refl
 
 -- a poll leaves the numbers to acknowledge
 polled_runs : (p : Policy) (e : End) (now : ℕ) → (polled p e now).end.acknowledging.runs ≡ e.acknowledging.runs
@@ -134,7 +112,7 @@ polled_runs p e now = by_poll p e now (λ (q : Polled). q.end.acknowledging.runs
   failed = refl;
   idle = λ pings. refl;
   used_up = λ pings. refl;
-  gives = λ pings tracking timers is may some ready. composed_runs (can_send e.acknowledging) (at_moment e now pings);
+  gives = λ pings tracking timers is may some ready. composed_runs (at_moment e now pings);
 })
 
 -- ---- any call

@@ -1,9 +1,6 @@
 -- A datagram that an end gave, delivered to the other end: it opens as it was given, or not at all, and what is made of it then.
 use Rattle.std.proofs.Common.{◌≡◌, ℕ, zero, suc, ◌+◌, ◌-◌, ◌^◌, ◌<◌, ◌≤◌, Bool, true, false, cond, List, [], ◌∷◌, ◌++◌, length, map, Option, Some, None, Result, Ok, Err, refl, sym, ◌∙◌, ap, subst, arith}
-use Rattle.std.specs.Prelude.{nat_eq, ◌==◌, ◌||◌, not}
-use Rattle.std.specs.Cmp.Lexicographic.{pointwise}
-use Rattle.std.proofs.lemmas.Bool.{or_left}
-use Rattle.std.proofs.lemmas.Cmp.{nat_list_eq_equiv}
+use Rattle.std.specs.Prelude.{◌==◌, ◌&&◌, ◌||◌, not}
 use Rattle.quic_wire.specs.Value.{FrameValue}
 use Rattle.quic_packet.specs.Number.{truncated, expanded}
 use Rattle.quic_packet.specs.Header.{first_byte, key_phase, reserved_bits}
@@ -54,17 +51,16 @@ plain_first (suc (suc (suc (suc (suc n))))) some four = absurd (omega arith)
 pub plain_number : (n reference : ℕ) → n - reference < 2 ^ 31 → (key_phase (first_byte (truncated n reference).width) ≡ false) × ((reserved_bits (first_byte (truncated n reference).width) == 0) ≡ true)
 plain_number n reference near = let few = fewest (n - reference) near in plain_first (truncated n reference).width few.some few.four
 
--- an id is one of the ids that are it alone
-own_known : (id : List ℕ) → is_known id (id ∷ []) ≡ true
-own_known id = or_left (pointwise nat_eq id id) false (nat_list_eq_equiv.refl id)
+-- what the header of a datagram says that was sent to this id, which is one of those that its taker is known by, or isn't
+abbrev known_as : Bool → List ℕ → Result (List ℕ) HeaderError
+known_as b id = cond {A = Result (List ℕ) HeaderError} b (Ok id) (Err UnknownId)
 
 -- the datagram is for the id that it was sent to
-pub decoded_given : (p : Policy) (id : List ℕ) (told : List Told) (n reference : ℕ) (frames : List FrameValue) (d : List ℕ) → IsGiven p id told n reference frames d → IsLawful p → length id ≡ own_id_length → decoded (fixed_length_id own_id_length) (id ∷ []) d ≡ Ok id
-decoded_given p id told n reference frames d g lawful long =
+decoded_given : (p : Policy) (id : List ℕ) (told : List Told) (n reference : ℕ) (frames : List FrameValue) (d : List ℕ) → IsGiven p id told n reference frames d → IsLawful p → length id ≡ own_id_length → (ids : List (List ℕ))
+    → decoded (fixed_length_id own_id_length) ids d ≡ known_as (is_known id ids) id
+decoded_given p id told n reference frames d g lawful long ids =
     let finds : (rest : List ℕ) → fixed_length_id own_id_length (id ++ rest) ≡ Some id = λ rest. subst (λ (k : ℕ). fixed_length_id k (id ++ rest) ≡ Some id) long (fixed_length_finds id rest) in
-    ap (λ (x : List ℕ). decoded (fixed_length_id own_id_length) (id ∷ []) x) g.is
-    ∙ sent_is_decoded p.header p.packet lawful.form lawful.width lawful.tag (fixed_length_id own_id_length) (id ∷ []) n reference id g.payload finds g.near g.four
-    ∙ ap (λ (b : Bool). cond {A = Result (List ℕ) HeaderError} b (Ok id) (Err UnknownId)) (own_known id)
+    ap (λ (x : List ℕ). decoded (fixed_length_id own_id_length) ids x) g.is ∙ sent_is_decoded p.header p.packet lawful.form lawful.width lawful.tag (fixed_length_id own_id_length) ids n reference id g.payload finds g.near g.four
 
 -- ---- what it opens to
 
@@ -92,13 +88,15 @@ in_phase_shown : (b : Bool) (n reference : ℕ) (payload : List ℕ) → n - ref
 in_phase_shown true n reference payload near = ap (λ (b : Bool). cond {A = Option Opening} b None (Some (shown n reference payload))) (plain_number n reference near).0
 in_phase_shown false n reference payload near = refl
 
--- what it opens to by the lists of a run is that opening as well
-pub opens_given : (p q : Policy) (id : List ℕ) (told : List Told) (n reference : ℕ) (frames : List FrameValue) (d : List ℕ) → (g : IsGiven p id told n reference frames d) → CanOpen p q → IsLawful p → length id ≡ own_id_length → (x : ℕ)
-    → opens q (id ∷ []) x d ≡ shown_if (expands n reference x) n reference g.payload
-opens_given p q id told n reference frames d g mates lawful long x =
-    ap (λ (r : Result (List ℕ) HeaderError). opens_behind r q x d) (decoded_given p id told n reference frames d g lawful long)
-    ∙ ap in_phase (opened_given p q id told n reference frames d g mates long x)
-    ∙ in_phase_shown (expands n reference x) n reference g.payload g.near
+-- what it opens to at an end that is known by these ids is that opening as well, where its id is one of them
+pub opens_given : (p q : Policy) (id : List ℕ) (told : List Told) (n reference : ℕ) (frames : List FrameValue) (d : List ℕ) → (g : IsGiven p id told n reference frames d) → CanOpen p q → IsLawful p → length id ≡ own_id_length → (ids : List (List ℕ)) (x : ℕ)
+    → opens q ids x d ≡ shown_if (is_known id ids && expands n reference x) n reference g.payload
+opens_given p q id told n reference frames d g mates lawful long ids x =
+    ap (λ (r : Result (List ℕ) HeaderError). opens_behind r q x d) (decoded_given p id told n reference frames d g lawful long ids) ∙ go (is_known id ids)
+  where
+    go : (b : Bool) → opens_behind (known_as b id) q x d ≡ shown_if (b && expands n reference x) n reference g.payload
+    go true = ap in_phase (opened_given p q id told n reference frames d g mates long x) ∙ in_phase_shown (expands n reference x) n reference g.payload g.near
+    go false = refl
 
 -- ---- its frames
 
@@ -126,11 +124,11 @@ arrived e now n frames = passed frames (begun e now n)
 
 -- what came once the packet was taken
 abbrev pub with_taken : Intake → ℕ → List FrameValue → Intake
-with_taken i n frames = record { opened = n ∷ i.opened; took = record { number = n; frames = frames } ∷ i.took }
+with_taken i n frames = record i { opened = n ∷ i.opened; took = record { number = n; frames = frames } ∷ i.took }
 
 -- what came once the packet was refused
-abbrev pub with_refused : Intake → ℕ → Intake
-with_refused i n = record { opened = n ∷ i.opened; took = i.took }
+abbrev pub with_refused : Intake → ℕ → List FrameValue → Intake
+with_refused i n frames = record i { opened = n ∷ i.opened; part = Some (record { number = n; frames = frames }) }
 
 -- the cases of such a delivery, with what is known in each: P of what the end makes of it, and of what came then
 pub record Arrivals (e : End) (now n : ℕ) (frames : List FrameValue) (i : Intake) (P : Outcome → Intake → Type 0) : Type 0 where
@@ -143,7 +141,7 @@ pub record Arrivals (e : End) (now n : ℕ) (frames : List FrameValue) (i : Inta
       → P (record { answer = Taken; end = after_taken n (asks_in (map Ok frames)) (arrived e now n frames).end }) (with_taken i n frames)
   -- it is refused, and the end closes
   pub refuses : e.closing.state ≡ states.Open → is_again n i.opened ≡ false → (f : Fault) → (arrived e now n frames).fault ≡ Some f
-      → P (record { answer = Closed (error_of f); end = closed_by (reason_of f) (arrived e now n frames).end }) (with_refused i n)
+      → P (record { answer = Closed (error_of f); end = closed_by (reason_of f) (arrived e now n frames).end }) (with_refused i n frames)
 
 -- what a packet comes to that opened, whose key phase is 0
 abbrev by_test : Bool → State → Opening → ℕ → End → Outcome
@@ -157,7 +155,12 @@ opened_tested o now e again s phase is state =
 
 -- what came once a packet opened
 abbrev came_by : Bool → ℕ → List FrameValue → Answer → Intake → Intake
-came_by again n frames a i = cond again i (record { opened = n ∷ i.opened; took = cond (is_refused a) i.took (record { number = n; frames = frames } ∷ i.took) })
+came_by again n frames a i = cond again i (record {
+  ids = i.ids;
+  opened = n ∷ i.opened;
+  took = cond (is_refused a) i.took (record { number = n; frames = frames } ∷ i.took);
+  part = cond (is_refused a) (Some (record { number = n; frames = frames })) i.part;
+})
 
 came_tested : (n reference : ℕ) (fs : List FrameValue) (payload : List ℕ) (a : Answer) (i : Intake) (again : Bool) → is_again n i.opened ≡ again → Payload fs payload → and_opened (Some (shown n reference payload)) a i ≡ came_by again n fs a i
 came_tested n reference fs payload a i again is spells =
@@ -177,31 +180,42 @@ moved P came o o' i e h p = subst (λ (x : Outcome). P x (came x)) (sym e) (subs
 
 -- what came to an open end once it was handed a datagram
 abbrev handed_open : Policy → End → Intake → List ℕ → Outcome → Intake
-handed_open q e i d o = and_opened (opens q (known e.ids) (expected_behind i.took) d) (answers.Deliver o.answer) i
+handed_open q e i d o = and_opened (opens q i.ids (expected_behind i.took) d) (answers.Deliver o.answer) i
 
 module _ (p q : Policy) (id : List ℕ) (told : List Told) (n reference : ℕ) (frames : List FrameValue) (d : List ℕ) (g : IsGiven p id told n reference frames d) (mates : CanOpen p q) (lawful : IsLawful p) (long : length id ≡ own_id_length)
-    (e : End) (now : ℕ) (i : Intake) (P : Outcome → Intake → Type 0) (ids : known e.ids ≡ id ∷ []) (cases : Arrivals e now n frames i P) where
-  -- the outcome is that of the opening
-  headed_given : headed (decoded (fixed_length_id own_id_length) (known e.ids) d) q e now d ≡ opened_as (shown_if (expands n reference (expected e.numbers)) n reference g.payload) now e
+    (e : End) (now : ℕ) (i : Intake) (P : Outcome → Intake → Type 0) (ids : known e.ids ≡ i.ids) (cases : Arrivals e now n frames i P) where
+  -- the outcome, where its id is known or isn't
+  abbrev headed_if : Bool → Outcome
+  headed_if b = cond b (opened_as (shown_if (expands n reference (expected e.numbers)) n reference g.payload) now e) (dropped drops.UnknownId e)
+
+  -- it is that of the opening
+  headed_given : headed (decoded (fixed_length_id own_id_length) (known e.ids) d) q e now d ≡ headed_if (is_known id i.ids)
   headed_given =
       ap (λ (x : List (List ℕ)). headed (decoded (fixed_length_id own_id_length) x d) q e now d) ids
-      ∙ ap (λ (r : Result (List ℕ) HeaderError). headed r q e now d) (decoded_given p id told n reference frames d g lawful long)
-      ∙ ap (λ (o : Option Opening). opened_as o now e) (opened_given p q id told n reference frames d g mates long (expected e.numbers))
+      ∙ ap (λ (r : Result (List ℕ) HeaderError). headed r q e now d) (decoded_given p id told n reference frames d g lawful long i.ids)
+      ∙ go (is_known id i.ids)
+    where
+      go : (b : Bool) → headed (known_as b id) q e now d ≡ headed_if b
+      go true = ap (λ (o : Option Opening). opened_as o now e) (opened_given p q id told n reference frames d g mates long (expected e.numbers))
+      go false = refl
 
   -- what came is by the same opening
-  handed_given : Knows e.numbers i → (o : Outcome) → handed_open q e i d o ≡ and_opened (shown_if (expands n reference (expected e.numbers)) n reference g.payload) (answers.Deliver o.answer) i
+  handed_given : Knows e.numbers i → (o : Outcome) → handed_open q e i d o ≡ and_opened (shown_if (is_known id i.ids && expands n reference (expected e.numbers)) n reference g.payload) (answers.Deliver o.answer) i
   handed_given k o =
-      ap (λ (x : List (List ℕ)). and_opened (opens q x (expected_behind i.took) d) (answers.Deliver o.answer) i) ids
-      ∙ ap (λ (y : Option Opening). and_opened y (answers.Deliver o.answer) i) (opens_given p q id told n reference frames d g mates lawful long (expected_behind i.took))
-      ∙ ap (λ (x : ℕ). and_opened (shown_if (expands n reference x) n reference g.payload) (answers.Deliver o.answer) i) (sym k.expected)
+      ap (λ (y : Option Opening). and_opened y (answers.Deliver o.answer) i) (opens_given p q id told n reference frames d g mates lawful long i.ids (expected_behind i.took))
+      ∙ ap (λ (x : ℕ). and_opened (shown_if (is_known id i.ids && expands n reference x) n reference g.payload) (answers.Deliver o.answer) i) (sym k.expected)
 
   closing_tested : (b again : Bool) → e.closing.state ≡ states.Closing → is_duplicate e.numbers.opened n ≡ again → P (opened_as (shown_if b n reference g.payload) now e) i
   closing_tested false again state is = cases.ignored drops.NotOpened
   closing_tested true true state is = subst (λ (o : Outcome). P o i) (sym (opened_tested (shown n reference g.payload) now e true states.Closing (plain_number n reference g.near).0 is state)) (cases.ignored drops.Duplicate)
   closing_tested true false state is = subst (λ (o : Outcome). P o i) (sym (opened_tested (shown n reference g.payload) now e false states.Closing (plain_number n reference g.near).0 is state)) (cases.noted state drops.Closing)
 
+  known_closing : (b : Bool) → e.closing.state ≡ states.Closing → P (headed_if b) i
+  known_closing true state = closing_tested (expands n reference (expected e.numbers)) (is_duplicate e.numbers.opened n) state refl
+  known_closing false state = cases.ignored drops.UnknownId
+
   at_closing : e.closing.state ≡ states.Closing → P (headed (decoded (fixed_length_id own_id_length) (known e.ids) d) q e now d) i
-  at_closing state = subst (λ (o : Outcome). P o i) (sym headed_given) (closing_tested (expands n reference (expected e.numbers)) (is_duplicate e.numbers.opened n) state refl)
+  at_closing state = subst (λ (o : Outcome). P o i) (sym headed_given) (known_closing (is_known id i.ids) state)
 
   taken_or_refused : e.closing.state ≡ states.Open → is_again n i.opened ≡ false → (f : Option Fault) → (arrived e now n frames).fault ≡ f
       → P (ends_as f (asks_in (map Ok frames)) n (arrived e now n frames).end) (came_by false n frames (answers.Deliver (ends_as f (asks_in (map Ok frames)) n (arrived e now n frames).end).answer) i)
@@ -223,14 +237,20 @@ module _ (p q : Policy) (id : List ℕ) (told : List Told) (n reference : ℕ) (
       (came_tested n reference frames g.payload (answers.Deliver outcome.answer) i false is g.spells)
       (taken_or_refused state is (arrived e now n frames).fault refl)
 
+  known_open : (b : Bool) → e.closing.state ≡ states.Open → Knows e.numbers i
+      → P (headed_if b) (and_opened (shown_if (b && expands n reference (expected e.numbers)) n reference g.payload) (answers.Deliver (headed_if b).answer) i)
+  known_open true state k = open_tested (expands n reference (expected e.numbers)) (is_again n i.opened) state k.seen refl
+  known_open false state k = cases.ignored drops.UnknownId
+
   at_open : e.closing.state ≡ states.Open → Knows e.numbers i
       → P (headed (decoded (fixed_length_id own_id_length) (known e.ids) d) q e now d) (handed_open q e i d (headed (decoded (fixed_length_id own_id_length) (known e.ids) d) q e now d))
   at_open state k =
-      let o = opened_as (shown_if (expands n reference (expected e.numbers)) n reference g.payload) now e in
-      moved P (handed_open q e i d) (headed (decoded (fixed_length_id own_id_length) (known e.ids) d) q e now d) o (and_opened (shown_if (expands n reference (expected e.numbers)) n reference g.payload) (answers.Deliver o.answer) i)
-      headed_given (handed_given k o) (open_tested (expands n reference (expected e.numbers)) (is_again n i.opened) state k.seen refl)
+      let b : Bool = is_known id i.ids in
+      moved P (handed_open q e i d) (headed (decoded (fixed_length_id own_id_length) (known e.ids) d) q e now d) (headed_if b)
+      (and_opened (shown_if (b && expands n reference (expected e.numbers)) n reference g.payload) (answers.Deliver (headed_if b).answer) i)
+      headed_given (handed_given k (headed_if b)) (known_open b state k)
 
-  at_state : (s : State) → e.closing.state ≡ s → KnowsIn s e.numbers i → P (received_in s q e now d) (and_handed s (Some d) q (known e.ids) (answers.Deliver (received_in s q e now d).answer) i)
+  at_state : (s : State) → e.closing.state ≡ s → KnowsIn s e.numbers i → P (received_in s q e now d) (and_handed s (Some d) q (answers.Deliver (received_in s q e now d).answer) i)
   at_state states.Open state k = at_open state k
   at_state states.Closing state k = at_closing state
   at_state states.Drained state k = cases.ignored drops.Drained
@@ -238,7 +258,7 @@ module _ (p q : Policy) (id : List ℕ) (told : List Told) (n reference : ℕ) (
 
 -- every delivery of a datagram that an honest end gave is one of the cases
 pub by_arrival : (p q : Policy) (id : List ℕ) (told : List Told) (n reference : ℕ) (frames : List FrameValue) (d : List ℕ) (g : IsGiven p id told n reference frames d) (e : End) (now : ℕ) (i : Intake) (P : Outcome → Intake → Type 0)
-    → CanOpen p q → IsLawful p → length id ≡ own_id_length → known e.ids ≡ id ∷ [] → KnowsIn e.closing.state e.numbers i
+    → CanOpen p q → IsLawful p → length id ≡ own_id_length → known e.ids ≡ i.ids → KnowsIn e.closing.state e.numbers i
     → Arrivals e now n frames i P
-    → P (received q e now d) (and_handed e.closing.state (Some d) q (known e.ids) (answers.Deliver (received q e now d).answer) i)
+    → P (received q e now d) (and_handed e.closing.state (Some d) q (answers.Deliver (received q e now d).answer) i)
 by_arrival p q id told n reference frames d g e now i P mates lawful long ids k cases = at_state p q id told n reference frames d g mates lawful long e now i P ids cases e.closing.state refl k

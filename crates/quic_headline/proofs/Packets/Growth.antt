@@ -1,11 +1,12 @@
 -- What was written only grows, and what holds of datagrams holds of them behind that.
-use Rattle.std.proofs.Common.{◌≡◌, ℕ, zero, suc, ◌+◌, ◌≤◌, Bool, List, [], ◌∷◌, ◌++◌, length, Some, ◌⊎◌, inl, inr, refl, sym, ap, ◌∙◌, subst, arith}
+use Rattle.std.proofs.Common.{◌≡◌, ℕ, zero, suc, ◌≤◌, Bool, List, [], ◌∷◌, ◌++◌, length, Some, ◌⊎◌, inl, inr, refl, sym, ap, ◌∙◌, subst, arith}
 use Rattle.std.specs.List.{slice_get}
 use Rattle.std.proofs.lemmas.List.{length-append}
 use Rattle.quic_wire.specs.Value.{FrameValue, StreamValue, ack, padding, ping, stream}
 use Rattle.quic_machine.specs.Policy.{Policy}
 use Rattle.quic_headline.specs.Runs.{Told, In, written, ended}
-use Rattle.quic_headline.proofs.Places.Invariant.{Grows, AllFrom, IsWritten, Says, AllSay, IsGiven, Sent, IsSent}
+use Rattle.quic_headline.proofs.Places.Invariant.{Grows, InStep, IsWritten, Says, AllSay, IsGiven, IsSent}
+use Rattle.quic_headline.specs.Observer.{Sent}
 
 -- ---- growing
 
@@ -25,13 +26,6 @@ in_more x y (z ∷ xs) (inr i) = go (in_more x y xs i)
     go : In x xs ⊎ (x ≡ y) → In x (z ∷ xs) ⊎ (x ≡ y)
     go (inl i) = inl (inr i)
     go (inr e) = inr e
-
--- what stands in a list with one more at its end stood there before, or is that
-pub get_more : {X : Type 0} (xs : List X) (y : X) (k : ℕ) (x : X) → slice_get (xs ++ y ∷ []) k ≡ Some x → (slice_get xs k ≡ Some x) ⊎ (x ≡ y)
-get_more [] y zero x e = inr cc
-get_more [] y (suc k) x e = cc
-get_more (z ∷ xs) y zero x e = inl e
-get_more (z ∷ xs) y (suc k) x e = get_more xs y k x e
 
 -- what was written stays where it was
 pub grows_get : (wr more : List ℕ) (fin fin' : Bool) (o b : ℕ) → Grows wr fin more fin' → slice_get wr o ≡ Some b → slice_get more o ≡ Some b
@@ -83,39 +77,51 @@ given_grows p id told more n reference frames d g i = record {
   says = all_say_grows told more frames g i.says;
 }
 
--- ---- what holds of each place
+-- ---- what holds of two lists in step
 
 module _ {Y X : Type 0} where
-  pub each_from : (P Q : ℕ → Y → X → Type 0) → ((n : ℕ) (y : Y) (x : X) → P n y x → Q n y x) → (n : ℕ) (ys : List Y) (xs : List X) → AllFrom P n ys xs → AllFrom Q n ys xs
-  each_from P Q f n [] [] a = tt
-  each_from P Q f n (y ∷ ys) (x ∷ xs) a = (f n y x a.0, each_from P Q f (n + 1) ys xs a.1)
-  each_from P Q f n [] (x ∷ xs) a = absurd a
-  each_from P Q f n (y ∷ ys) [] a = absurd a
+  pub step_on : (P Q : Y → X → Type 0) → ((y : Y) (x : X) → P y x → Q y x) → (ys : List Y) (xs : List X) → InStep P ys xs → InStep Q ys xs
+  step_on P Q f [] [] a = tt
+  step_on P Q f (y ∷ ys) (x ∷ xs) a = (f y x a.0, step_on P Q f ys xs a.1)
+  step_on P Q f [] (x ∷ xs) a = absurd a
+  step_on P Q f (y ∷ ys) [] a = absurd a
 
-  pub each_push : (P : ℕ → Y → X → Type 0) (n : ℕ) (ys : List Y) (xs : List X) (y : Y) (x : X) → AllFrom P n ys xs → P (n + length xs) y x → AllFrom P n (ys ++ y ∷ []) (xs ++ x ∷ [])
-  each_push P n [] [] y x a p =
-      let same : n + 0 ≡ n = omega arith in
-      (subst (λ (k : ℕ). P k y x) same p, tt)
-  each_push P n (v ∷ ys) (u ∷ xs) y x a p =
-      let same : n + suc (length xs) ≡ n + 1 + length xs = omega arith in
-      (a.0, each_push P (n + 1) ys xs y x a.1 (subst (λ (k : ℕ). P k y x) same p))
-  each_push P n [] (u ∷ xs) y x a p = absurd a
-  each_push P n (v ∷ ys) [] y x a p = absurd a
+  pub step_push : (P : Y → X → Type 0) (ys : List Y) (xs : List X) (y : Y) (x : X) → InStep P ys xs → P y x → InStep P (ys ++ y ∷ []) (xs ++ x ∷ [])
+  step_push P [] [] y x a p = (p, tt)
+  step_push P (v ∷ ys) (u ∷ xs) y x a p = (a.0, step_push P ys xs y x a.1 p)
+  step_push P [] (u ∷ xs) y x a p = absurd a
+  step_push P (v ∷ ys) [] y x a p = absurd a
 
   -- what stands at a place of the second list, with what stands there in the first
-  pub each_at : (P : ℕ → Y → X → Type 0) (n : ℕ) (ys : List Y) (xs : List X) (k : ℕ) (x : X) → AllFrom P n ys xs → slice_get xs k ≡ Some x → (y : Y) × (slice_get ys k ≡ Some y) × P (n + k) y x
-  each_at P n [] [] k x a e = cc
-  each_at P n (v ∷ ys) (u ∷ xs) zero x a e =
-      let same : n ≡ n + 0 = omega arith in
+  pub step_at : (P : Y → X → Type 0) (ys : List Y) (xs : List X) (k : ℕ) (x : X) → InStep P ys xs → slice_get xs k ≡ Some x → (y : Y) × In y ys × P y x
+  step_at P [] [] k x a e = cc
+  step_at P (v ∷ ys) (u ∷ xs) zero x a e =
       let is : u ≡ x = cc in
-      (v, refl, subst (λ (k : ℕ). P k v x) same (subst (λ (z : X). P n v z) is a.0))
-  each_at P n (v ∷ ys) (u ∷ xs) (suc k) x a e =
-      let same : n + 1 + k ≡ n + suc k = omega arith in
-      let rest = each_at P (n + 1) ys xs k x a.1 e in
-      (rest.0, rest.1, subst (λ (j : ℕ). P j rest.0 x) same rest.2)
-  each_at P n [] (u ∷ xs) k x a e = absurd a
-  each_at P n (v ∷ ys) [] k x a e = absurd a
+      (v, inl refl, subst (λ (z : X). P v z) is a.0)
+  step_at P (v ∷ ys) (u ∷ xs) (suc k) x a e =
+      let rest = step_at P ys xs k x a.1 e in
+      (rest.0, inr rest.1, rest.2)
+  step_at P [] (u ∷ xs) k x a e = absurd a
+  step_at P (v ∷ ys) [] k x a e = absurd a
+
+  -- what stands in the second list, with what stands there in the first
+  pub step_in : (P : Y → X → Type 0) (ys : List Y) (xs : List X) (x : X) → InStep P ys xs → In x xs → (y : Y) × In y ys × P y x
+  step_in P [] [] x a i = absurd i
+  step_in P (v ∷ ys) (u ∷ xs) x a (inl is) = (v, inl refl, subst (λ (z : X). P v z) (sym is) a.0)
+  step_in P (v ∷ ys) (u ∷ xs) x a (inr i) =
+      let rest = step_in P ys xs x a.1 i in
+      (rest.0, inr rest.1, rest.2)
+  step_in P [] (u ∷ xs) x a i = absurd a
+  step_in P (v ∷ ys) [] x a i = absurd a
+
+  -- what stands in the first list, with what stands there in the second
+  pub step_of : (P : Y → X → Type 0) (ys : List Y) (xs : List X) (y : Y) → InStep P ys xs → In y ys → (x : X) × P y x
+  step_of P [] [] y a i = absurd i
+  step_of P (v ∷ ys) (u ∷ xs) y a (inl is) = (u, subst (λ (z : Y). P z u) (sym is) a.0)
+  step_of P (v ∷ ys) (u ∷ xs) y a (inr i) = step_of P ys xs y a.1 i
+  step_of P [] (u ∷ xs) y a i = absurd a
+  step_of P (v ∷ ys) [] y a i = absurd a
 
 -- the datagrams that were given stay so
-pub all_grow : (p : Policy) (id : List ℕ) (told more : List Told) (n : ℕ) (sents : List Sent) (ds : List (List ℕ)) → AllGrow told more → AllFrom (IsSent p id told) n sents ds → AllFrom (IsSent p id more) n sents ds
-all_grow p id told more n sents ds g a = each_from (IsSent p id told) (IsSent p id more) (λ k s d i. given_grows p id told more k s.0 s.1 d g i) n sents ds a
+pub all_grow : (p : Policy) (id : List ℕ) (told more : List Told) (sents : List Sent) (ds : List (List ℕ)) → AllGrow told more → InStep (IsSent p id told) sents ds → InStep (IsSent p id more) sents ds
+all_grow p id told more sents ds g a = step_on (IsSent p id told) (IsSent p id more) (λ s d i. given_grows p id told more s.number s.reference s.frames d g i) sents ds a

@@ -1,5 +1,5 @@
 -- What an end knows of what came goes on with each datagram.
-use Rattle.std.proofs.Common.{◌≡◌, ℕ, ◌+◌, List, [], ◌∷◌, length, Option, Some, None, refl, sym, ap, ◌∙◌, subst, arith}
+use Rattle.std.proofs.Common.{◌≡◌, ℕ, ◌+◌, List, length, Option, Some, None, refl, sym, ap, ◌∙◌, subst, arith}
 use Rattle.std.specs.Prelude.{max}
 use Rattle.quic_wire.specs.Value.{FrameValue}
 use Rattle.quic_machine.specs.declared.answers.State.{State}
@@ -21,8 +21,8 @@ use Rattle.quic_headline.proofs.Packets.Delivered.{Arrivals, arrived, with_taken
 use Rattle.quic_headline.proofs.Places.Stays.{keeps_frames, named_frames}
 
 -- nothing came yet
-pub knows_first : Knows no_numbers nothing_came
-knows_first = record { seen = refl; expected = refl; named = refl }
+pub knows_first : (ids : List (List ℕ)) → Knows no_numbers (nothing_came ids)
+knows_first ids = record { seen = refl; expected = refl; named = refl }
 
 -- a number that is given says nothing of what came
 pub knows_given : (s : State) (numbers : Numbers) (i : Intake) → KnowsIn s numbers i → KnowsIn s (number_given numbers) i
@@ -81,7 +81,7 @@ knows_arrivals e now n frames i k = record {
 }
   where
     -- what frames change of the numbers, the number that is expected isn't
-    refused : Expects (arrived e now n frames).end.numbers (with_refused i n)
+    refused : Expects (arrived e now n frames).end.numbers (with_refused i n frames)
     refused = ap (λ (x : Numbers). expected x) (keeps_frames frames (begun e now n)).numbers ∙ expects_in e.closing.state e.numbers i k
 
     taken : (arrived e now n frames).fault ≡ None → KnowsIn (arrived e now n frames).end.closing.state (number_taken (arrived e now n frames).end.numbers n) (with_taken i n frames)
@@ -93,7 +93,7 @@ knows_arrivals e now n frames i k = record {
 
 -- a datagram of an honest end is delivered: the end that it leaves knows what came then
 pub knows_delivered : (p q : Policy) (id : List ℕ) (told : List Told) (n reference : ℕ) (frames : List FrameValue) (d : List ℕ) → IsGiven p id told n reference frames d → (e : End) (now : ℕ) (i : Intake)
-    → CanOpen p q → IsLawful p → length id ≡ own_id_length → known e.ids ≡ id ∷ [] → KnowsIn e.closing.state e.numbers i
-    → KnowsIn (received q e now d).end.closing.state (received q e now d).end.numbers (and_handed e.closing.state (Some d) q (known e.ids) (answers.Deliver (received q e now d).answer) i)
+    → CanOpen p q → IsLawful p → length id ≡ own_id_length → known e.ids ≡ i.ids → KnowsIn e.closing.state e.numbers i
+    → KnowsIn (received q e now d).end.closing.state (received q e now d).end.numbers (and_handed e.closing.state (Some d) q (answers.Deliver (received q e now d).answer) i)
 knows_delivered p q id told n reference frames d g e now i mates lawful long ids k =
     by_arrival p q id told n reference frames d g e now i (λ o j. KnowsIn o.end.closing.state o.end.numbers j) mates lawful long ids k (knows_arrivals e now n frames i k)

@@ -1,6 +1,6 @@
 -- ACK frames name numbers of packets that their giver took, and those alone are to be acknowledged.
 use Rattle.std.proofs.Common.{◌≡◌, ℕ, zero, suc, ◌+◌, ◌-◌, inl, inr, Bool, true, false, nat_le, ◌&&◌, ◌||◌, nat_lt, List, [], ◌∷◌, ◌++◌, length, replicate, Option, Some, None, refl, sym, ap, ◌∙◌, subst}
-use Rattle.std.specs.Prelude.{if◌then◌else◌, slice_get}
+use Rattle.std.specs.Prelude.{if◌then◌else◌}
 use Rattle.std.specs.List.{list_any}
 use Rattle.std.proofs.lemmas.Bool.{leb-true, and_parts}
 use Rattle.std.proofs.lemmas.List.{append-nil}
@@ -10,27 +10,26 @@ use Rattle.quic_wire.specs.Value.{FrameValue, AckValue, ack, stream, ping, paddi
 use Rattle.quic_wire.specs.AckGrammar.{InRanges}
 use Rattle.quic_wire.specs.AckSet.{ranges_of_set}
 use Rattle.quic_wire.proofs.AckSet.{set_numbers}
-use Rattle.quic_recovery_core.specs.PendingAcks.{Pending, can_send}
+use Rattle.quic_recovery_core.specs.PendingAcks.{Pending}
 use Rattle.quic_machine.specs.declared.run.Call.{Call}
 use Rattle.quic_machine.specs.declared.run.Call.TheVariants as calls
 use Rattle.quic_machine.specs.declared.run.Answer.{Answer}
 use Rattle.quic_machine.specs.Closing.{ticked}
 use Rattle.quic_machine.specs.Numbers.{cut_against}
-use Rattle.quic_streams.specs.Table.{at}
-use Rattle.quic_machine.specs.Tracking.{names}
-use Rattle.quic_streams.specs.Sending.{SendHalf}
 use Rattle.quic_machine.specs.End.{End, with_closing, with_ping}
-use Rattle.quic_machine.specs.Poll.{Draft, no_frames, ping_if, with_ping_frame, stream_room, stream_if, with_ack, ack_of, ack_fits, ack_if, with_asking, composed_if, composed}
+use Rattle.quic_machine.specs.Poll.{Draft, stream_room, ack_of, composed}
 use Rattle.quic_streams.specs.Frames.{frame_of}
-use Rattle.quic_headline.specs.Runs.{Packet, Intake, In}
+use Rattle.quic_headline.specs.Runs.{Packet, Intake, In, names}
+use Rattle.quic_headline.specs.Observer.{Sent}
 use Rattle.quic_machine.specs.Machine.{gave}
-use Rattle.quic_machine.specs.DraftLaws.{streams_keep}
-use Rattle.quic_headline.proofs.Places.Invariant.{Sent, NameTaken, WereSent, AreTaken, Acks}
-use Rattle.quic_headline.proofs.Packets.Growth.{in_more, get_front, get_more}
+use Rattle.quic_machine.specs.DraftLaws.{IsControl, by_writing}
+use Rattle.quic_headline.proofs.Places.Invariant.{SentAs, NameTaken, WereSent, AreTaken, Acks}
+use Rattle.quic_headline.proofs.Packets.Growth.{in_more}
 use Rattle.quic_machine.specs.PollCases.{ready_at, frames_at}
 use Rattle.quic_headline.proofs.Packets.Delivered.{Arrivals}
-use Rattle.quic_headline.proofs.Halves.Sends.{sent_if}
+use Rattle.quic_headline.proofs.Halves.Sends.{sent_by, sent_if}
 use Rattle.quic_headline.proofs.Halves.Writer.{sents_by}
+use Rattle.quic_headline.proofs.Places.Told.{in_left}
 
 -- ---- what a frame names
 
@@ -59,38 +58,21 @@ record Acknowledges (runs : List Run) (d : Draft) : Type 0 where
 ack_more : (runs : List Run) (frames : List FrameValue) (f : FrameValue) → AckOf runs frames → ((a : AckValue) → ack a ≡ f → a.ranges ≡ ranges_of_set runs) → AckOf runs (frames ++ f ∷ [])
 ack_more runs frames f before one a i = elim (in_more (ack a) f frames i) [ inl old ↦ before a old | inr is ↦ one a is ]
 
--- PING has no ranges
-ping_acknowledges : (runs : List Run) (b : Bool) (d : Draft) → Acknowledges runs d → Acknowledges runs (ping_if b d)
-ping_acknowledges runs true d k = record { frames = ack_more runs d.frames ping k.frames (λ a is. cc); same = k.same }
-ping_acknowledges runs false d k = k
+-- a control frame has no ranges
+control_ranges : (runs : List Run) (f : FrameValue) → IsControl f → (a : AckValue) → ack a ≡ f → a.ranges ≡ ranges_of_set runs
+control_ranges runs ping is a same = cc
+control_ranges runs f is a same = absurd is
 
--- nor has the frame of a half
-half_acknowledges : (runs : List Run) (o : Option SendHalf) (d : Draft) (id : ℕ) → Acknowledges runs d → Acknowledges runs (stream_if o d id)
-half_acknowledges runs None d id k = k
-half_acknowledges runs (Some h) d id k = record { frames = ack_more runs d.frames (stream (frame_of id h (stream_room d id))) k.frames (λ a is. cc); same = k.same }
-
--- nor has what asks for an acknowledgement
-asking_acknowledges : (runs : List Run) (d : Draft) → Acknowledges runs d → Acknowledges runs (with_asking d)
-asking_acknowledges runs d k = streams_keep (Acknowledges runs) (λ x id is a. half_acknowledges runs (at x.end.sending.halves id) x id a) (with_ping_frame d) (ping_acknowledges runs d.end.waiting.ping d k)
-
--- an ACK frame that goes has them
-ack_acknowledges : (runs : List Run) (b : Bool) (d : Draft) → Acknowledges runs d → Acknowledges runs (ack_if b d)
-ack_acknowledges runs true d k = record {
-  frames = ack_more runs d.frames (ack (ack_of d.end)) k.frames (λ a is. (let same : a ≡ ack_of d.end = cc in ap (λ (x : AckValue). x.ranges) same ∙ ap ranges_of_set k.same));
-  same = k.same;
-}
-ack_acknowledges runs false d k = k
-
--- no frame has none
-none_acknowledges : (e : End) → Acknowledges e.acknowledging.runs (no_frames e)
-none_acknowledges e = record { frames = λ a i. absurd i; same = refl }
-
--- whether or not an ACK is due
-acknowledges_if : (b : Bool) (e : End) → Acknowledges e.acknowledging.runs (composed_if b e)
-acknowledges_if true e = asking_acknowledges e.acknowledging.runs (with_ack (no_frames e)) (ack_acknowledges e.acknowledging.runs true (no_frames e) (none_acknowledges e))
-acknowledges_if false e =
-    let asking = with_asking (no_frames e) in
-    ack_acknowledges e.acknowledging.runs (ack_fits asking) asking (asking_acknowledges e.acknowledging.runs (no_frames e) (none_acknowledges e))
+-- whichever frames go, ACK frames have them
+composed_acknowledges : (e : End) → Acknowledges e.acknowledging.runs (composed e)
+composed_acknowledges e = by_writing (Acknowledges e.acknowledging.runs) (record {
+  ack = λ d filled may k. record {
+    frames = ack_more e.acknowledging.runs d.frames (ack (ack_of d.end)) k.frames (λ a is. (let same : a ≡ ack_of d.end = cc in ap (λ (x : AckValue). x.ranges) same ∙ ap ranges_of_set k.same));
+    same = k.same;
+  };
+  control = λ d f w is k. record { frames = ack_more e.acknowledging.runs d.frames f k.frames (control_ranges e.acknowledging.runs f is); same = k.same };
+  stream = λ d id h found room k. record { frames = ack_more e.acknowledging.runs d.frames (stream (frame_of id h (stream_room d id))) k.frames (λ a is. cc); same = k.same };
+}) e (record { frames = λ a i. absurd i; same = refl })
 
 -- PADDING behind frames has none
 ack_zeros : (runs : List Run) (frames : List FrameValue) (count : ℕ) → AckOf runs frames → AckOf runs (frames ++ replicate count padding)
@@ -116,7 +98,7 @@ pub names_kept : (e : End) (now : ℕ) (a : AckValue) (k : ℕ) → Acks e.ackno
 names_kept e now a k acks i named =
     let ready = ready_at e now in
     let d = composed ready in
-    let acknowledges = acknowledges_if (can_send ready.acknowledging) ready in
+    let acknowledges = composed_acknowledges ready in
     let count : ℕ = 4 - ((truncated d.end.numbers.next (cut_against d.end.numbers)).width + length d.bytes) in
     let ranges : a.ranges ≡ ranges_of_set ready.acknowledging.runs = ack_zeros ready.acknowledging.runs d.frames count acknowledges.frames a i in
     let same : a.ranges ≡ ranges_of_set e.acknowledging.runs = ranges ∙ ap (λ (p : Pending). ranges_of_set p.runs) (ready_acks e now) in
@@ -128,10 +110,10 @@ names_kept e now a k acks i named =
 pub were_sent_more : (sents more : List Sent) (packets : List Packet) → WereSent sents packets → WereSent (sents ++ more) packets
 were_sent_more sents more packets before packet i =
     let w = before packet i in
-    record { sent = w.sent; is = get_front sents more packet.number w.sent w.is; frames = w.frames }
+    record { sent = w.sent; is = (in_left w.sent sents more w.is.0, w.is.1); frames = w.frames }
 
 -- in each case of a delivery the packets that were taken were sent so
-pub sent_arrivals : (e : End) (now n : ℕ) (frames : List FrameValue) (i : Intake) (sents : List Sent) (s : Sent) → slice_get sents n ≡ Some s → s.1 ≡ frames → WereSent sents i.took
+pub sent_arrivals : (e : End) (now n : ℕ) (frames : List FrameValue) (i : Intake) (sents : List Sent) (s : Sent) → SentAs sents n s → s.frames ≡ frames → WereSent sents i.took
     → Arrivals e now n frames i (λ o j. WereSent sents j.took)
 sent_arrivals e now n frames i sents s is same before = record {
   ignored = λ reason. before;
@@ -141,26 +123,26 @@ sent_arrivals e now n frames i sents s is same before = record {
 }
   where
     taken : WereSent sents (record { number = n; frames = frames } ∷ i.took)
-    taken packet (inl this) = record { sent = s; is = ap (λ (x : Packet). slice_get sents x.number) this ∙ is; frames = same ∙ sym (ap (λ (x : Packet). x.frames) this) }
+    taken packet (inl this) = record { sent = s; is = (is.0, is.1 ∙ sym (ap (λ (x : Packet). x.number) this)); frames = same ∙ sym (ap (λ (x : Packet). x.frames) this) }
     taken packet (inr old) = before packet old
 
 -- ---- what ACK frames name
 
 -- what was taken stays so where more is taken
 pub name_taken_on : (sents : List Sent) (packets more : List Packet) → ((packet : Packet) → In packet packets → In packet more) → NameTaken sents packets → NameTaken sents more
-name_taken_on sents packets more on before n s a k is i named =
-    let t = before n s a k is i named in
+name_taken_on sents packets more on before s a k is i named =
+    let t = before s a k is i named in
     record { packet = t.packet; was_taken = on t.packet t.was_taken; is = t.is }
 
 -- what a call sends names numbers of packets that were taken
-pub name_taken_step : (e : End) (call : Call) (answer : Answer) (reference : ℕ) (sents : List Sent) (packets : List Packet) → Acks e.acknowledging → AreTaken e.acknowledging.runs packets → NameTaken sents packets
-    → NameTaken (sents ++ sents_by e call answer reference) packets
-name_taken_step e (calls.Poll now) answer reference sents packets acks taken before = go (gave answer)
+pub name_taken_step : (e : End) (call : Call) (answer : Answer) (sents : List Sent) (packets : List Packet) → Acks e.acknowledging → AreTaken e.acknowledging.runs packets → NameTaken sents packets
+    → NameTaken (sents ++ sents_by e call answer) packets
+name_taken_step e (calls.Poll now) answer sents packets acks taken before = go (gave answer)
   where
-    go : (b : Bool) → NameTaken (sents ++ sent_if b reference (frames_at e now)) packets
-    go true n s a k is i named = elim (get_more sents (reference, frames_at e now) n s is) [
-      | inl old ↦ before n s a k old i named
-      | inr new ↦ taken k (names_kept e now a k acks (subst (λ (x : Sent). In (ack a) x.1) new i) named)
+    go : (b : Bool) → NameTaken (sents ++ sent_if b (sent_by e now)) packets
+    go true s a k is i named = elim (in_more s (sent_by e now) sents is) [
+      | inl old ↦ before s a k old i named
+      | inr new ↦ taken k (names_kept e now a k acks (subst (λ (x : Sent). In (ack a) x.frames) new i) named)
     ]
-    go false n s a k is i named = before n s a k (subst (λ (x : List Sent). slice_get x n ≡ Some s) (append-nil sents) is) i named
-name_taken_step e call answer reference sents packets acks taken before = subst (λ (x : List Sent). NameTaken x packets) (sym (append-nil sents)) before
+    go false s a k is i named = before s a k (subst (λ (x : List Sent). In s x) (append-nil sents) is) i named
+name_taken_step e call answer sents packets acks taken before = subst (λ (x : List Sent). NameTaken x packets) (sym (append-nil sents)) before

@@ -1,6 +1,5 @@
 -- What calls but a delivery leave of the tracked packets: each was given, and carries what its frames say.
-use Rattle.std.proofs.Common.{◌≡◌, ℕ, ◌+◌, ◌-◌, Bool, true, false, List, [], ◌∷◌, ◌++◌, length, replicate, zero, suc, Some, refl, sym, ap, ◌∙◌, subst, ◌⊎◌, inl, inr}
-use Rattle.std.specs.Prelude.{slice_get}
+use Rattle.std.proofs.Common.{◌≡◌, ℕ, ◌+◌, ◌-◌, Bool, true, false, List, [], ◌∷◌, ◌++◌, length, replicate, zero, suc, refl, sym, ap, ◌∙◌, subst, ◌⊎◌, inl, inr}
 use Rattle.std.specs.Ordering.{nat_cmp, match_ordering}
 use Rattle.std.specs.declared.cmp.Ordering.{Ordering}
 use Rattle.std.specs.declared.cmp.Ordering.TheVariants.{Less, Equal, Greater}
@@ -21,20 +20,16 @@ use Rattle.quic_machine.specs.End.{End}
 use Rattle.quic_machine.specs.Poll.{Polled, Draft, composed, asking, tracked_if, after_given, polled}
 use Rattle.quic_machine.specs.Machine.{IsAnswer, after_call, fails, gave}
 use Rattle.quic_headline.specs.Runs.{In}
-use Rattle.quic_headline.proofs.Places.Invariant.{Sent, AreTracked}
-use Rattle.quic_headline.proofs.Packets.Growth.{get_front}
+use Rattle.quic_headline.specs.Observer.{Sent}
+use Rattle.quic_headline.proofs.Places.Invariant.{AreTracked}
+use Rattle.quic_headline.proofs.Places.Told.{in_left, in_last}
 use Rattle.quic_machine.specs.PollCases.{at_moment, ready_at, frames_padded, frames_at, by_poll_to, composes}
-use Rattle.quic_headline.proofs.Halves.Sends.{sent_if}
+use Rattle.quic_headline.proofs.Halves.Sends.{sent_by, sent_if}
 use Rattle.quic_machine.specs.LeaveCases.{by_expired}
 use Rattle.quic_machine.specs.CallCases.{is_delivery, is_poll, by_plain_call}
 use Rattle.quic_headline.proofs.Halves.Writer.{sents_by, poll_answer}
 
 -- ---- tables of packets
-
--- what stands behind others stands at their count
-pub get_last : {X : Type 0} (xs : List X) (y : X) → slice_get (xs ++ y ∷ []) (length xs) ≡ Some y
-get_last [] y = refl
-get_last (x ∷ xs) y = get_last xs y
 
 -- what stands in a table to which a value was added was there before, or is that value
 in_added : (es : Table TrackedPacket) (id : ℕ) (v : TrackedPacket) (x : ℕ × TrackedPacket) → In x (added es id v) → In x es ⊎ (x ≡ (id, v))
@@ -72,19 +67,19 @@ carried_padded fs count = rw (acked_padded fs count, streams_padded fs count) re
 
 -- what is tracked was given, whatever is given behind it
 pub tracked_more : (sents more : List Sent) (packets : Table TrackedPacket) → AreTracked sents packets → AreTracked (sents ++ more) packets
-tracked_more sents more packets i n t is = let s = i n t is in (s.0, get_front sents more n s.0 s.1, s.2)
+tracked_more sents more packets i n t is = let s = i n t is in (s.0, (in_left s.0 sents more s.1.0, s.1.1), s.2)
 
--- a datagram that goes is tracked as it was given
-tracked_given : (b : Bool) (d : Draft) (sents : List Sent) (reference : ℕ) → d.end.numbers.next ≡ length sents → AreTracked sents d.end.tracking.packets → AreTracked (sents ++ (reference, frames_padded d) ∷ []) (tracked_if b d).tracking.packets
-tracked_given false d sents reference next i n t is = tracked_more sents ((reference, frames_padded d) ∷ []) d.end.tracking.packets i n t is
-tracked_given true d sents reference next i n t is = elim (in_added d.end.tracking.packets d.end.numbers.next packet (n, t) is) [
-  | inl old ↦ tracked_more sents ((reference, frames_padded d) ∷ []) d.end.tracking.packets i n t old
+-- a datagram that goes is tracked as it was sent, under its number and with its frames
+tracked_given : (b : Bool) (d : Draft) (sents : List Sent) (s : Sent) → s.number ≡ d.end.numbers.next → s.frames ≡ frames_padded d → AreTracked sents d.end.tracking.packets → AreTracked (sents ++ s ∷ []) (tracked_if b d).tracking.packets
+tracked_given false d sents s number frames i n t is = tracked_more sents (s ∷ []) d.end.tracking.packets i n t is
+tracked_given true d sents s number frames i n t is = elim (in_added d.end.tracking.packets d.end.numbers.next packet (n, t) is) [
+  | inl old ↦ tracked_more sents (s ∷ []) d.end.tracking.packets i n t old
   | inr new ↦ (
-      let number : n ≡ length sents = ap (λ (x : ℕ × TrackedPacket). x.0) new ∙ next in
+      let same : n ≡ d.end.numbers.next = ap (λ (x : ℕ × TrackedPacket). x.0) new in
       let carried : t.carried ≡ carried_in d.frames = ap (λ (x : ℕ × TrackedPacket). x.1.carried) new in (
-        (reference, frames_padded d),
-        ap (λ (k : ℕ). slice_get (sents ++ (reference, frames_padded d) ∷ []) k) number ∙ get_last sents (reference, frames_padded d),
-        carried ∙ carried_padded d.frames (4 - ((truncated d.end.numbers.next (cut_against d.end.numbers)).width + length d.bytes)),
+        s,
+        (in_last s sents, number ∙ sym same),
+        carried ∙ carried_padded d.frames (4 - ((truncated d.end.numbers.next (cut_against d.end.numbers)).width + length d.bytes)) ∙ ap carried_in (sym frames),
       ))
 ]
   where
@@ -92,10 +87,10 @@ tracked_given true d sents reference next i n t is = elim (in_added d.end.tracki
     packet = record { generation = d.end.path.generation; time_sent = d.end.closing.clock; carried = carried_in d.frames }
 
 -- after a poll
-tracked_polled : (p : Policy) (e : End) (now : ℕ) (sents : List Sent) (reference : ℕ) → e.numbers.next ≡ length sents → AreTracked sents e.tracking.packets
-    → AreTracked (sents ++ sent_if (gave (answers.Poll (polled p e now).answer)) reference (frames_at e now)) (polled p e now).end.tracking.packets
-tracked_polled p e now sents reference next i =
-    by_poll_to p e now (λ (q : Polled). AreTracked (sents ++ sent_if (gave (answers.Poll q.answer)) reference (frames_at e now)) q.end.tracking.packets) (record {
+tracked_polled : (p : Policy) (e : End) (now : ℕ) (sents : List Sent) → AreTracked sents e.tracking.packets
+    → AreTracked (sents ++ sent_if (gave (answers.Poll (polled p e now).answer)) (sent_by e now)) (polled p e now).end.tracking.packets
+tracked_polled p e now sents i =
+    by_poll_to p e now (λ (q : Polled). AreTracked (sents ++ sent_if (gave (answers.Poll q.answer)) (sent_by e now)) q.end.tracking.packets) (record {
       silent = tracked_more sents [] e.tracking.packets i;
       failed = tracked_more sents [] e.tracking.packets i;
       idle = λ pings. tracked_more sents [] e.tracking.packets i;
@@ -103,15 +98,15 @@ tracked_polled p e now sents reference next i =
       gives = λ pings is may some ready. gives pings ready;
     })
   where
-    gives : (pings : Bool) → ready_at e now ≡ at_moment e now pings → AreTracked (sents ++ (reference, frames_at e now) ∷ []) (after_given (composed (at_moment e now pings))).tracking.packets
+    gives : (pings : Bool) → ready_at e now ≡ at_moment e now pings → AreTracked (sents ++ sent_by e now ∷ []) (after_given (composed (at_moment e now pings))).tracking.packets
     gives pings ready =
         let before : End = at_moment e now pings in
         let d : Draft = composed before in
         let same = composes before in
-        let numbers : d.end.numbers.next ≡ length sents = ap (λ (x : Numbers). x.next) same.numbers ∙ next in
+        let number : e.numbers.next ≡ d.end.numbers.next = ap (λ (x : Numbers). x.next) (sym same.numbers) in
         let packets : AreTracked sents d.end.tracking.packets = subst (λ (x : Tracking). AreTracked sents x.packets) (sym same.tracking) i in
-        let frames : frames_padded d ≡ frames_at e now = ap (λ (x : End). frames_padded (composed x)) (sym ready) in
-        subst (λ (fs : List FrameValue). AreTracked (sents ++ (reference, fs) ∷ []) (tracked_if (asking d.frames) d).tracking.packets) frames (tracked_given (asking d.frames) d sents reference numbers packets)
+        let frames : frames_at e now ≡ frames_padded d = ap (λ (x : End). frames_padded (composed x)) ready in
+        tracked_given (asking d.frames) d sents (sent_by e now) number frames packets
 
 -- a call that is neither a delivery nor a poll leaves the tracked packets
 packets_step : (p : Policy) (e : End) (theirs : List (List ℕ)) (call : Call) (a : Answer) → is_delivery call ≡ false → is_poll call ≡ false → (after_call p e theirs call a).tracking.packets ≡ e.tracking.packets
@@ -131,8 +126,8 @@ tracked_other p e theirs call a sents more other silent i =
     tracked_more sents more (after_call p e theirs call a).tracking.packets (subst (λ (packets : Table TrackedPacket). AreTracked sents packets) (sym (packets_step p e theirs call a other silent)) i)
 
 -- after a call that is no delivery
-pub tracked_step : (p : Policy) (e : End) (theirs : List (List ℕ)) (call : Call) (a : Answer) (sents : List Sent) (reference : ℕ) → is_delivery call ≡ false → IsAnswer p e theirs call a → fails a ≡ false → e.numbers.next ≡ length sents
-    → AreTracked sents e.tracking.packets → AreTracked (sents ++ sents_by e call a reference) (after_call p e theirs call a).tracking.packets
-tracked_step p e theirs (calls.Poll now) a sents reference other is served next i =
-    subst (λ (x : Answer). AreTracked (sents ++ sent_if (gave x) reference (frames_at e now)) (polled p e now).end.tracking.packets) (sym (poll_answer p e now a is served)) (tracked_polled p e now sents reference next i)
-tracked_step p e theirs call a sents reference other is served next i = tracked_other p e theirs call a sents (sents_by e call a reference) other refl i
+pub tracked_step : (p : Policy) (e : End) (theirs : List (List ℕ)) (call : Call) (a : Answer) (sents : List Sent) → is_delivery call ≡ false → IsAnswer p e theirs call a → fails a ≡ false
+    → AreTracked sents e.tracking.packets → AreTracked (sents ++ sents_by e call a) (after_call p e theirs call a).tracking.packets
+tracked_step p e theirs (calls.Poll now) a sents other is served i =
+    subst (λ (x : Answer). AreTracked (sents ++ sent_if (gave x) (sent_by e now)) (polled p e now).end.tracking.packets) (sym (poll_answer p e now a is served)) (tracked_polled p e now sents i)
+tracked_step p e theirs call a sents other is served i = tracked_other p e theirs call a sents (sents_by e call a) other refl i

@@ -1,5 +1,5 @@
 -- An event keeps what holds between two ends.
-use Rattle.std.proofs.Common.{◌≡◌, ℕ, ◌+◌, List, [], ◌∷◌, ◌++◌, length, Bool, false, Option, Some, None, refl, sym, ap, ◌∙◌, subst, inl, inr, arith}
+use Rattle.std.proofs.Common.{◌≡◌, ℕ, List, [], ◌∷◌, ◌++◌, length, Bool, false, Option, Some, None, refl, sym, ap, ◌∙◌, subst, inl, inr, arith}
 use Rattle.std.specs.Prelude.{slice_get}
 use Rattle.std.proofs.lemmas.List.{append-nil, length-append}
 use Rattle.quic_wire_core.specs.declared.stream_id.Side.{Side}
@@ -20,10 +20,10 @@ use Rattle.quic_machine.specs.Receive.{Outcome, received}
 use Rattle.quic_machine.specs.End.{End}
 use Rattle.quic_machine.specs.Machine.{World, Policies, IsAnswer, IsDelivered, IsLeft, IsStep, after_call, after_delivered, gives, fails}
 use Rattle.quic_wire.specs.Value.{FrameValue, AckValue, ack}
-use Rattle.quic_headline.specs.Runs.{Told, Packet, Intake, In, told_by, acknowledged, count_given, handed, and_handed, nothing_came}
+use Rattle.quic_headline.specs.Runs.{Told, Packet, Intake, In, told_by, count_given, handed, and_handed, and_told, nothing_came}
 use Rattle.quic_machine.specs.Start.{IsLawful, AreKeys}
 use Rattle.quic_headline.proofs.Places.Invariant.{Streams, Content, Kept, Accepted, KnowsIn, WereSent, AreTaken, AllSay, IsGiven, IsSent, Arrives, AreTracked}
-use Rattle.quic_headline.proofs.Packets.Growth.{each_at, get_front}
+use Rattle.quic_headline.proofs.Packets.Growth.{get_front, step_at, step_of}
 use Rattle.quic_headline.proofs.Halves.Reading.{content_grows}
 use Rattle.quic_headline.proofs.Halves.Writer.{streams_step, grows_step, sents_by, gives_step, ids_step, side_step}
 use Rattle.quic_machine.specs.CallCases.{is_delivery, by_plain_call}
@@ -34,7 +34,7 @@ use Rattle.quic_machine.specs.FrameCases.{begun}
 use Rattle.quic_headline.proofs.Packets.Delivered.{Arrivals, arrived, by_arrival}
 use Rattle.quic_headline.proofs.Packets.Knowing.{knows_given, expects_in, knows_arrivals}
 use Rattle.quic_headline.proofs.Places.Direction.{Direction, Both, came}
-use Rattle.quic_headline.proofs.Halves.Arriving.{NamesTaken, Stands, Arriving, arrivals_arriving, sents_say, sents_length}
+use Rattle.quic_headline.proofs.Halves.Arriving.{NamesTaken, Stands, Arriving, arrivals_arriving}
 use Rattle.quic_headline.proofs.Halves.AckedSteps.{adds_step, arrives_grows, arrives_adds, arrives_on}
 use Rattle.quic_headline.proofs.Packets.TrackedSteps.{tracked_more, tracked_step}
 use Rattle.quic_headline.proofs.Halves.Finishing.{Tells}
@@ -42,8 +42,9 @@ use Rattle.quic_headline.proofs.Halves.Telling.{are_ended, tells_delivery, tells
 use Rattle.quic_headline.proofs.Duties.UnderWay.{Fly, arrivals_fly, fly_step}
 use Rattle.quic_headline.proofs.Places.Stays.{Stays, stays_frames, stays_received}
 use Rattle.quic_headline.proofs.Places.Steps.{gives_count}
-use Rattle.quic_headline.proofs.Packets.Intakes.{count_more, intake_more, took_more, nothing_handed}
+use Rattle.quic_headline.proofs.Packets.Intakes.{folded_more, count_more, took_more, told_ids, nothing_handed}
 use Rattle.quic_headline.proofs.Packets.Acking.{acks_delivered, taken_arrivals, acks_step, taken_step}
+use Rattle.quic_headline.proofs.Packets.PathSize.{size_step}
 use Rattle.quic_headline.proofs.Packets.Naming.{were_sent_more, sent_arrivals, name_taken_on, name_taken_step}
 use Rattle.quic_machine.specs.PollCases.{at_moment, by_poll, composes}
 
@@ -56,15 +57,15 @@ writer_takes : (p q : Policy) (own id : List ℕ) (x y : End) (given final back 
 writer_takes p q own id x y given final back theirs wrote read delivery d mates lawful eight at_given other w =
     let i : Intake = came p own back wrote in
     let took : List Packet = (came q id final read).took in
-    let found = each_at (IsSent q own read) 0 other.sents theirs delivery.index d other.gives.each at_given in
-    let reference : ℕ = found.0.0 in
-    let frames : List FrameValue = found.0.1 in
-    let g : IsGiven q own read (0 + delivery.index) reference frames d = found.2 in
-    let stands : Stands took w.sents wrote = record { taken = w.taken; say = λ n s is. sents_say p id wrote 0 w.sents given n s w.gives.each is } in
+    let found = step_at (IsSent q own read) other.sents theirs delivery.index d other.gives.each at_given in
+    let n : ℕ = found.0.number in
+    let frames : List FrameValue = found.0.frames in
+    let g : IsGiven q own read n found.0.reference frames d = found.2 in
+    let stands : Stands took w.sents wrote = record { taken = w.taken; rising = w.gives.rising; say = λ s among. (step_of (IsSent p id wrote) w.sents given s w.gives.each among).1.says } in
     let before : Arriving took w.sents wrote x.side x = record { streams = w.streams; arrives = w.arrives; tells = w.tells; tracked = w.tracked } in
-    let named : (a : AckValue) → In (ack a) frames → NamesTaken took a = λ a is k names. other.named delivery.index found.0 a k found.1 is names in
-    by_arrival q p own read (0 + delivery.index) reference frames d g x delivery.now i (λ o j. Arriving took w.sents wrote x.side o.end) mates lawful eight other.known other.knows
-    (arrivals_arriving took w.sents wrote x.side stands x delivery.now (0 + delivery.index) frames i named before)
+    let named : (a : AckValue) → In (ack a) frames → NamesTaken took a = λ a is k names. other.named found.0 a k found.1 is names in
+    by_arrival q p own read n found.0.reference frames d g x delivery.now i (λ o j. Arriving took w.sents wrote x.side o.end) mates lawful eight other.known other.knows
+    (arrivals_arriving took w.sents wrote x.side stands x delivery.now n frames i named before)
 
 -- a delivery to the end that writes
 writer_delivered : (p q : Policy) (own id : List ℕ) (x y : End) (given final back theirs : List (List ℕ)) (wrote read : List Told) (delivery : Delivery) (o : Option (List ℕ)) → CanOpen q p → IsLawful q → length own ≡ own_id_length
@@ -74,17 +75,17 @@ writer_delivered p q own id x y given final back theirs wrote read delivery None
 writer_delivered p q own id x y given final back theirs wrote read delivery (Some d) mates lawful eight at_given other w = writer_takes p q own id x y given final back theirs wrote read delivery d mates lawful eight at_given other w
 
 -- after a call, what is known to be acknowledged arrived, what is waited for was sent, and streams are told to be finished once
-writer_arrives : (p q : Policy) (own id : List ℕ) (x y : End) (given final back theirs : List (List ℕ)) (wrote read : List Told) (call : Call) (a : Answer) (state : State) (reference : ℕ) → CanOpen q p → IsLawful q → length own ≡ own_id_length
+writer_arrives : (p q : Policy) (own id : List ℕ) (x y : End) (given final back theirs : List (List ℕ)) (wrote read : List Told) (call : Call) (a : Answer) (state : State) → CanOpen q p → IsLawful q → length own ≡ own_id_length
     → IsAnswer p x theirs call a → fails a ≡ false → Direction q p id own y x theirs back final read wrote → (w : Direction p q own id x y given final back wrote read)
-    → Arrives (came q id final read).took wrote (after_call p x theirs call a).sending (after_call p x theirs call a).events × AreTracked (w.sents ++ sents_by x call a reference) (after_call p x theirs call a).tracking.packets
+    → Arrives (came q id final read).took wrote (after_call p x theirs call a).sending (after_call p x theirs call a).events × AreTracked (w.sents ++ sents_by x call a) (after_call p x theirs call a).tracking.packets
     × Tells (wrote ++ told_of call a state ∷ []) (after_call p x theirs call a).sending.halves (after_call p x theirs call a).events
-writer_arrives p q own id x y given final back theirs wrote read (calls.Deliver delivery) a state reference mates lawful eight is served other w =
+writer_arrives p q own id x y given final back theirs wrote read (calls.Deliver delivery) a state mates lawful eight is served other w =
     let after = writer_delivered p q own id x y given final back theirs wrote read delivery (slice_get theirs delivery.index) mates lawful eight refl other w in
     let end : End = after_call p x theirs (calls.Deliver delivery) a in
     (after.arrives, tracked_more w.sents [] end.tracking.packets after.tracked, tells_delivery wrote (calls.Deliver delivery) a state end.sending.halves end.events refl after.tells)
-writer_arrives p q own id x y given final back theirs wrote read call a state reference mates lawful eight is served other w = (
+writer_arrives p q own id x y given final back theirs wrote read call a state mates lawful eight is served other w = (
   arrives_adds (came q id final read).took wrote x (after_call p x theirs call a) (adds_step p x theirs call a refl) w.arrives,
-  tracked_step p x theirs call a w.sents reference refl is served (w.gives.next ∙ sents_length p id wrote 0 w.sents given w.gives.each) w.tracked,
+  tracked_step p x theirs call a w.sents refl is served w.tracked,
   tells_step p x theirs call a wrote state refl is w.streams (are_ended (came q id final read).took wrote x.side x.sending x.events w.streams w.arrives) w.tells,
 )
 
@@ -94,16 +95,16 @@ fly_takes : (p q : Policy) (own id : List ℕ) (x y : End) (given final back the
 fly_takes p q own id x y given final back theirs wrote read delivery None mates lawful eight at_given other w = w.flies
 fly_takes p q own id x y given final back theirs wrote read delivery (Some d) mates lawful eight at_given other w =
     let i : Intake = came p own back wrote in
-    let found = each_at (IsSent q own read) 0 other.sents theirs delivery.index d other.gives.each at_given in
-    let frames : List FrameValue = found.0.1 in
-    let g : IsGiven q own read (0 + delivery.index) found.0.0 frames d = found.2 in
-    by_arrival q p own read (0 + delivery.index) found.0.0 frames d g x delivery.now i (λ o j. Fly o.end) mates lawful eight other.known other.knows (arrivals_fly x.side wrote x delivery.now (0 + delivery.index) frames i w.streams w.flies)
+    let found = step_at (IsSent q own read) other.sents theirs delivery.index d other.gives.each at_given in
+    let n : ℕ = found.0.number in
+    let frames : List FrameValue = found.0.frames in
+    by_arrival q p own read n found.0.reference frames d found.2 x delivery.now i (λ o j. Fly o.end) mates lawful eight other.known other.knows (arrivals_fly x.side wrote x delivery.now n frames i w.streams w.flies)
 
 -- after a call, what is in flight stands in a packet that the end waits for
 writer_flies : (p q : Policy) (own id : List ℕ) (x y : End) (given final back theirs : List (List ℕ)) (wrote read : List Told) (call : Call) (a : Answer) → CanOpen q p → IsLawful q → length own ≡ own_id_length
     → Direction q p id own y x theirs back final read wrote → Direction p q own id x y given final back wrote read → Fly (after_call p x theirs call a)
 writer_flies p q own id x y given final back theirs wrote read (calls.Deliver delivery) a mates lawful eight other w = fly_takes p q own id x y given final back theirs wrote read delivery (slice_get theirs delivery.index) mates lawful eight refl other w
-writer_flies p q own id x y given final back theirs wrote read call a mates lawful eight other w = fly_step p x theirs call a x.side wrote w.sents refl (w.gives.next ∙ sents_length p id wrote 0 w.sents given w.gives.each) w.streams w.tracked w.flies
+writer_flies p q own id x y given final back theirs wrote read call a mates lawful eight other w = fly_step p x theirs call a x.side wrote w.sents refl w.gives.below w.streams w.tracked w.flies
 
 pub direction_writer : (p q : Policy) (own id : List ℕ) (x y : End) (given final back theirs : List (List ℕ)) (wrote read : List Told) (call : Call) (a : Answer) (state : State) → length id ≡ 8 → CanOpen q p → IsLawful q → length own ≡ own_id_length
     → IsAnswer p x theirs call a → fails a ≡ false
@@ -115,12 +116,13 @@ direction_writer p q own id x y given final back theirs wrote read call a state 
     let told = count_more wrote (told_of call a state) in
     let before = w.count in
     let counted : length (given ++ gives p x call a) ≡ count_given (wrote ++ told_of call a state ∷ []) = omega arith in
-    let after = writer_arrives p q own id x y given final back theirs wrote read call a state (acknowledged (came p own back wrote).took) mates lawful own_eight is served other w in
+    let after = writer_arrives p q own id x y given final back theirs wrote read call a state mates lawful own_eight is served other w in
     record {
       streams = subst (λ side. Streams side (after_call p x theirs call a).sending (wrote ++ told_of call a state ∷ [])) (sym (side_step p x theirs call a)) (streams_step p x theirs call a wrote state is served w.streams);
-      sents = w.sents ++ sents_by x call a (acknowledged (came p own back wrote).took);
-      gives = gives_step p x theirs a wrote state own id back given w.sents call is served w.active eight other.knows other.acks w.streams w.gives;
+      sents = w.sents ++ sents_by x call a;
+      gives = gives_step p x theirs a wrote state id given w.sents call is served w.active eight other.acks w.size w.streams w.gives;
       active = ap (λ ids. ids.active.id) (ids_step p x theirs call a) ∙ w.active;
+      size = size_step p x theirs call a 1200 w.size;
       count = counted;
       content = content_grows y.side y.sending y.receiving wrote (wrote ++ told_of call a state ∷ []) read (grows_step p x theirs call a wrote state is served w.streams) w.content;
       kept = w.kept;
@@ -128,10 +130,10 @@ direction_writer p q own id x y given final back theirs wrote read call a state 
       knows = w.knows;
       acks = w.acks;
       known = w.known;
-      taken = were_sent_more w.sents (sents_by x call a (acknowledged (came p own back wrote).took)) (came q id final read).took w.taken;
-      named = name_taken_on (w.sents ++ sents_by x call a (acknowledged (came p own back wrote).took)) (came p own back wrote).took (came p own back (wrote ++ told_of call a state ∷ [])).took
-          (took_more p (own ∷ []) back wrote (told_of call a state) nothing_came)
-          (name_taken_step x call a (acknowledged (came p own back wrote).took) w.sents (came p own back wrote).took other.acks other.acking w.named);
+      taken = were_sent_more w.sents (sents_by x call a) (came q id final read).took w.taken;
+      named = name_taken_on (w.sents ++ sents_by x call a) (came p own back wrote).took (came p own back (wrote ++ told_of call a state ∷ [])).took
+          (took_more p back wrote (told_of call a state) (nothing_came (own ∷ [])))
+          (name_taken_step x call a w.sents (came p own back wrote).took other.acks other.acking w.named);
       acking = w.acking;
       arrives = arrives_grows (came q id final read).took wrote (wrote ++ told_of call a state ∷ []) (after_call p x theirs call a).sending (after_call p x theirs call a).events (grows_step p x theirs call a wrote state is served w.streams) after.0;
       tells = after.2;
@@ -169,11 +171,15 @@ none_handed given (calls.Deliver delivery) a other = cc
 none_handed given call a other = refl
 
 -- what came, where a call hands nothing in
-came_same : (q : Policy) (id : List ℕ) (final : List (List ℕ)) (read : List Told) (t : Told) → handed final t.call t.answer ≡ None → came q id final (read ++ t ∷ []) ≡ came q id final read
+pub came_same : (q : Policy) (id : List ℕ) (final : List (List ℕ)) (read : List Told) (t : Told) → handed final t.call t.answer ≡ None → came q id final (read ++ t ∷ []) ≡ came q id final read
 came_same q id final read t none =
-    intake_more q (id ∷ []) final read t nothing_came
-    ∙ ap (λ o. and_handed t.state o q (id ∷ []) t.answer (came q id final read)) none
-    ∙ nothing_handed t.state q (id ∷ []) t.answer (came q id final read)
+    folded_more (and_told q final) read t (nothing_came (id ∷ []))
+    ∙ ap (λ o. and_handed t.state o q t.answer (came q id final read)) none
+    ∙ nothing_handed t.state q t.answer (came q id final read)
+
+-- the ids that an end is known by, after any call
+came_ids : (q : Policy) (id : List ℕ) (final : List (List ℕ)) (read : List Told) (t : Told) → (came q id final (read ++ t ∷ [])).ids ≡ (came q id final read).ids
+came_ids q id final read t = ap (λ (i : Intake). i.ids) (folded_more (and_told q final) read t (nothing_came (id ∷ []))) ∙ told_ids q final t (came q id final read)
 
 -- the reader makes a call that is no delivery
 direction_reads : (p q : Policy) (own id : List ℕ) (x y : End) (given final back : List (List ℕ)) (wrote read : List Told) (call : Call) (a : Answer) (state : State) → is_delivery call ≡ false → IsAnswer q y given call a → fails a ≡ false
@@ -188,6 +194,7 @@ direction_reads p q own id x y given final back wrote read call a state other is
       sents = w.sents;
       gives = w.gives;
       active = w.active;
+      size = w.size;
       count = w.count;
       content = subst (λ s. Content s end.sending end.receiving wrote (read ++ t ∷ [])) (sym side) (content_step q y given call a wrote read state is served other w.content);
       kept = subst (λ s. Kept s end.receiving (came q id final (read ++ t ∷ [])).took) (sym side)
@@ -195,11 +202,11 @@ direction_reads p q own id x y given final back wrote read call a state other is
       accepted = subst (λ s. Accepted s end.receiving (read ++ t ∷ [])) (sym side) (accepted_step q y given call a wrote read state is served other w.content w.accepted);
       knows = subst (λ i. KnowsIn end.closing.state end.numbers i) (sym same) (knows_step q y given call a (came q id final read) other w.knows);
       acks = acks_step q y given call a other w.acks;
-      known = ap (λ ids. known ids) (ids_step q y given call a) ∙ w.known;
+      known = ap (λ ids. known ids) (ids_step q y given call a) ∙ w.known ∙ sym (came_ids q id final read t);
       taken = subst (λ i. WereSent w.sents i.took) (sym same) w.taken;
       named = w.named;
       acking = subst (λ i. AreTaken end.acknowledging.runs i.took) (sym same) (taken_step q y given call a (came q id final read).took other w.acking);
-      arrives = arrives_on (came q id final read).took (came q id final (read ++ t ∷ [])).took wrote x.sending x.events (took_more q (id ∷ []) final read t nothing_came) w.arrives;
+      arrives = arrives_on (came q id final read).took (came q id final (read ++ t ∷ [])).took wrote x.sending x.events (took_more q final read t (nothing_came (id ∷ []))) w.arrives;
       tells = w.tells;
       tracked = w.tracked;
       flies = w.flies;
@@ -251,46 +258,45 @@ direction_takes p q own id x y given final back wrote read delivery a d mates la
     let now = delivery.now in
     let i : Intake = came q id final read in
     let t : Told = told_of (calls.Deliver delivery) a y.closing.state in
-    let found = each_at (IsSent p id wrote) 0 w.sents given delivery.index d w.gives.each at_given in
-    let reference : ℕ = found.0.0 in
-    let frames : List FrameValue = found.0.1 in
-    let g : IsGiven p id wrote (0 + delivery.index) reference frames d = found.2 in
-    let place : delivery.index ≡ 0 + delivery.index = omega arith in
-    let at_number : slice_get w.sents (0 + delivery.index) ≡ Some found.0 = subst (λ k. slice_get w.sents k ≡ Some found.0) place found.1 in
+    let found = step_at (IsSent p id wrote) w.sents given delivery.index d w.gives.each at_given in
+    let n : ℕ = found.0.number in
+    let reference : ℕ = found.0.reference in
+    let frames : List FrameValue = found.0.frames in
+    let g : IsGiven p id wrote n reference frames d = found.2 in
     let o : Outcome = received q y now d in
     let stays : Stays y o.end = stays_received q y now d in
     let side : o.end.side ≡ y.side = stays.side in
-    let next : Intake = and_handed y.closing.state (Some d) q (known y.ids) (answers.Deliver o.answer) i in
+    let next : Intake = and_handed y.closing.state (Some d) q (answers.Deliver o.answer) i in
     let reads : Reads y.side (id ∷ []) wrote read o next =
-    by_arrival p q id wrote (0 + delivery.index) reference frames d g y now i (Reads y.side (id ∷ []) wrote read) mates lawful eight w.known w.knows
-    (delivered_reads y now (0 + delivery.index) frames (id ∷ []) wrote read i g.says w.content w.kept w.accepted) in
+    by_arrival p q id wrote n reference frames d g y now i (Reads y.side (id ∷ []) wrote read) mates lawful eight w.known w.knows
+    (delivered_reads y now n frames (id ∷ []) wrote read i g.says w.content w.kept w.accepted) in
     let knows : KnowsIn o.end.closing.state o.end.numbers next =
-    by_arrival p q id wrote (0 + delivery.index) reference frames d g y now i (λ o j. KnowsIn o.end.closing.state o.end.numbers j) mates lawful eight w.known w.knows
-    (knows_arrivals y now (0 + delivery.index) frames i w.knows) in
+    by_arrival p q id wrote n reference frames d g y now i (λ o j. KnowsIn o.end.closing.state o.end.numbers j) mates lawful eight w.known w.knows
+    (knows_arrivals y now n frames i w.knows) in
     let handed_is : handed final (calls.Deliver delivery) a ≡ Some d = ap (λ b. handed final (calls.Deliver delivery) b) is ∙ at_final in
     let came_is : came q id final (read ++ t ∷ []) ≡ next =
-    intake_more q (id ∷ []) final read t nothing_came
-    ∙ ap (λ h. and_handed y.closing.state h q (id ∷ []) a i) handed_is
-    ∙ ap (λ b. and_handed y.closing.state (Some d) q (id ∷ []) b i) is
-    ∙ ap (λ ids. and_handed y.closing.state (Some d) q ids (answers.Deliver o.answer) i) (sym w.known) in
+    folded_more (and_told q final) read t (nothing_came (id ∷ []))
+    ∙ ap (λ h. and_handed y.closing.state h q a i) handed_is
+    ∙ ap (λ b. and_handed y.closing.state (Some d) q b i) is in
     record {
       streams = w.streams;
       sents = w.sents;
       gives = w.gives;
       active = w.active;
+      size = w.size;
       count = w.count;
       content = subst (λ s. Content s o.end.sending o.end.receiving wrote (read ++ t ∷ [])) (sym side) (content_delivered y.side o.end.sending o.end.receiving wrote read delivery a y.closing.state reads.content);
       kept = subst (λ s. Kept s o.end.receiving (came q id final (read ++ t ∷ [])).took) (sym side) (subst (λ j. Kept y.side o.end.receiving j.took) (sym came_is) reads.kept);
       accepted = subst (λ s. Accepted s o.end.receiving (read ++ t ∷ [])) (sym side) (accepted_delivered y.side o.end.receiving read delivery a y.closing.state reads.accepted);
       knows = subst (λ j. KnowsIn o.end.closing.state o.end.numbers j) (sym came_is) knows;
-      acks = acks_delivered p q id wrote (0 + delivery.index) reference frames d g y now i mates lawful eight w.known w.knows w.acks;
-      known = ap (λ ids. known ids) stays.ids ∙ w.known;
+      acks = acks_delivered p q id wrote n reference frames d g y now i mates lawful eight w.known w.knows w.acks;
+      known = ap (λ ids. known ids) stays.ids ∙ w.known ∙ sym (came_ids q id final read t);
       taken = subst (λ j. WereSent w.sents j.took) (sym came_is)
-          (by_arrival p q id wrote (0 + delivery.index) reference frames d g y now i (λ o j. WereSent w.sents j.took) mates lawful eight w.known w.knows (sent_arrivals y now (0 + delivery.index) frames i w.sents found.0 at_number refl w.taken));
+          (by_arrival p q id wrote n reference frames d g y now i (λ o j. WereSent w.sents j.took) mates lawful eight w.known w.knows (sent_arrivals y now n frames i w.sents found.0 (found.1, refl) refl w.taken));
       named = w.named;
       acking = subst (λ j. AreTaken o.end.acknowledging.runs j.took) (sym came_is)
-          (by_arrival p q id wrote (0 + delivery.index) reference frames d g y now i (λ o j. AreTaken o.end.acknowledging.runs j.took) mates lawful eight w.known w.knows (taken_arrivals y now (0 + delivery.index) frames i w.acks w.acking));
-      arrives = arrives_on (came q id final read).took (came q id final (read ++ t ∷ [])).took wrote x.sending x.events (took_more q (id ∷ []) final read t nothing_came) w.arrives;
+          (by_arrival p q id wrote n reference frames d g y now i (λ o j. AreTaken o.end.acknowledging.runs j.took) mates lawful eight w.known w.knows (taken_arrivals y now n frames i w.acks w.acking));
+      arrives = arrives_on (came q id final read).took (came q id final (read ++ t ∷ [])).took wrote x.sending x.events (took_more q final read t (nothing_came (id ∷ []))) w.arrives;
       tells = w.tells;
       tracked = w.tracked;
       flies = w.flies;
@@ -309,17 +315,18 @@ direction_delivered p q own id x y given final back wrote read delivery a mates 
       sents = w.sents;
       gives = w.gives;
       active = w.active;
+      size = w.size;
       count = w.count;
       content = content_delivered y.side y.sending y.receiving wrote read delivery a y.closing.state w.content;
       kept = subst (λ j. Kept y.side y.receiving j.took) (sym same) w.kept;
       accepted = accepted_delivered y.side y.receiving read delivery a y.closing.state w.accepted;
       knows = subst (λ j. KnowsIn y.closing.state y.numbers j) (sym same) w.knows;
       acks = w.acks;
-      known = w.known;
+      known = w.known ∙ sym (came_ids q id final read t);
       taken = subst (λ j. WereSent w.sents j.took) (sym same) w.taken;
       named = w.named;
       acking = subst (λ j. AreTaken y.acknowledging.runs j.took) (sym same) w.acking;
-      arrives = arrives_on (came q id final read).took (came q id final (read ++ t ∷ [])).took wrote x.sending x.events (took_more q (id ∷ []) final read t nothing_came) w.arrives;
+      arrives = arrives_on (came q id final read).took (came q id final (read ++ t ∷ [])).took wrote x.sending x.events (took_more q final read t (nothing_came (id ∷ []))) w.arrives;
       tells = w.tells;
       tracked = w.tracked;
       flies = w.flies;

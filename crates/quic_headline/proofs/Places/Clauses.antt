@@ -1,8 +1,8 @@
 -- The headline's clauses, each from what its place shows.
-use Rattle.std.proofs.Common.{◌≡◌, ℕ, ◌<◌, ◌≤◌, List, [], ◌∷◌, ◌++◌, length, Bool, true, false, cond, Option, Some, None, refl, sym, ap, ◌∙◌, subst, inl, arith}
-use Rattle.std.specs.Prelude.{nat_lt, Ok, Err}
+use Rattle.std.proofs.Common.{◌≡◌, ℕ, ◌<◌, ◌≤◌, List, [], ◌∷◌, ◌++◌, length, Bool, true, false, cond, Option, Some, None, refl, sym, ap, ◌∙◌, subst, inl, inr, arith}
+use Rattle.std.specs.Prelude.{nat_lt, if◌then◌else◌, Ok, Err}
 use Rattle.std.specs.Option.{option_map}
-use Rattle.std.proofs.lemmas.Bool.{ltb-false, eqb-true}
+use Rattle.std.proofs.lemmas.Bool.{ltb-false, eqb-true, eq-eqb, and_parts, cases_lt}
 use Rattle.quic_wire_core.specs.declared.stream_id.Side.{Side}
 use Rattle.quic_wire_core.specs.declared.stream_id.Side.TheVariants.{Client, Server}
 use Rattle.quic_wire_core.specs.declared.stream_id.Dir.{Dir}
@@ -21,11 +21,22 @@ use Rattle.quic_machine.specs.End.{End}
 use Rattle.quic_machine.specs.Calls.{tells_of, end_tells, after_nexts}
 use Rattle.quic_machine.specs.Machine.{IsRead}
 use Rattle.quic_streams.specs.Receiving.{Receiving, RecvHalf, readable, accept_answer, may_receive}
-use Rattle.quic_headline.specs.Runs.{Told, Next, Packet, In, written, ended, nexts, chunks_of, reads, bytes_of, accepts, WasTaken, HasArrived, EndHasArrived}
-use Rattle.quic_headline.specs.Headline.{ToldOnce}
-use Rattle.quic_headline.proofs.Places.Invariant.{Accepted, Content, Kept}
+use Rattle.quic_headline.specs.Runs.{Told, Next, Packet, In, finishes_told, written, ended, nexts, chunks_of, reads, bytes_of, accepts, WasTaken, HasArrived, EndHasArrived}
+use Rattle.quic_headline.specs.Observer.{Sent, HoldsOffset, HoldsEnd}
+use Rattle.quic_headline.specs.Headline.{AllHeld}
+use Rattle.quic_headline.proofs.Places.Invariant.{Accepted, Content, Kept, Streams}
 use Rattle.quic_headline.proofs.Places.Told.{chunks_append}
-use Rattle.quic_headline.proofs.Halves.Finishing.{Tells, acked_count, finishes_waiting}
+use Rattle.quic_sets.specs.Runs.{Has}
+use Rattle.quic_sets.proofs.Offsets.Edits.{below_first, first_lacks}
+use Rattle.quic_send_buffer.specs.Buffered.{first_unacknowledged, is_fully_acked}
+use Rattle.quic_send_buffer.specs.Buffered as buffered
+use Rattle.quic_send_buffer.proofs.Buffered.Calls.{first_within}
+use Rattle.std.proofs.lemmas.List.{length-drop}
+use Rattle.quic_streams.specs.Sending.{SendHalf, is_acked}
+use Rattle.quic_headline.proofs.Halves.Writes.{half_at}
+use Rattle.quic_headline.proofs.Halves.Telling.{AreEnded}
+use Rattle.quic_headline.proofs.Halves.Settled.{IsAckedAt, IsEndedAt, AllHeldBy}
+use Rattle.quic_headline.proofs.Halves.Finishing.{Tells, acked_count}
 use Rattle.quic_headline.proofs.Halves.Next.{Reads, Lacks}
 use Rattle.quic_headline.proofs.Halves.NextRuns.{HalfNexts, KeptBy, nexts_run, run_blocked}
 
@@ -93,14 +104,82 @@ blocked_is side e wrote told packets id mosts front behind content kept is = (λ
         subst (λ cs. Lacks f (length (bytes_of cs))) (chunks_append (nexts id told) front) (run_blocked wr (ended id wrote) (nexts id told) f mosts front behind (at e.receiving.halves id) (at (after_nexts e id mosts (front ++ Err read_errors.Blocked ∷ behind)).receiving.halves id) here reading keeps)
 
 -- nothing is left to tell only where no event of a stream is
-no_event : (events : List StreamEvent) (c : Closing) → tells_of events c ≡ None → events ≡ []
+pub no_event : (events : List StreamEvent) (c : Closing) → tells_of events c ≡ None → events ≡ []
 no_event [] c none = refl
 no_event (event ∷ events) c none = cc
 
--- where nothing is left to tell, each stream was told to be finished once if it is wholly acknowledged
-pub once_told : (told : List Told) (e : End) → Tells told e.sending.halves e.events → ToldOnce told e
-once_told told e i none id h found =
-    let waits : finishes_waiting id e.events ≡ 0 = ap (finishes_waiting id) (no_event e.events e.closing none) in
-    let acked = ap acked_count found in
-    let all = i id in
+-- a stream is to be told finished once at most
+pub count_most : (o : Option SendHalf) → acked_count o ≤ 1
+count_most None = omega arith
+count_most (Some h) = go (is_acked h)
+  where
+    go : (b : Bool) → (if b then 1 else 0) ≤ 1
+    go true = omega arith
+    go false = omega arith
+
+-- so it is told once at most
+pub told_most : (told : List Told) (e : End) (id : ℕ) → Tells told e.sending.halves e.events → finishes_told id told ≤ 1
+told_most told e id tells =
+    let all = tells id in
+    let most = count_most (at e.sending.halves id) in
     omega arith
+
+module _ (told : List Told) (acked : List Sent) (e : End) (id : ℕ) (streams : Streams e.side e.sending told) (ends : AreEnded e.sending.halves) (bytes : (o : ℕ) → HoldsOffset acked id o → IsAckedAt e.sending.halves id o) (over : HoldsEnd acked id → IsEndedAt e.sending.halves id)
+    (held : AllHeldBy acked e.sending.halves) where
+  -- a half of a stream that stands in what was acknowledged is wholly acknowledged
+  held_acked : (h : SendHalf) → at e.sending.halves id ≡ Some h → AllHeld acked id told → is_acked h ≡ true
+  held_acked h found all =
+      let half = half_at e.side e.sending told id h streams found in
+      let last = over all.end in
+      let ended : last.half ≡ h = (let both : Some last.half ≡ Some h = sym last.is ∙ found in cc) in
+      let fin : h.fin_acked ≡ true = ap (λ (k : SendHalf). k.fin_acked) (sym ended) ∙ last.acked in
+      let base = half.base in
+      let kept = ap length half.kept in
+      let rest = length-drop h.buffer.base (written id told) in
+      let within = first_within h.buffer half.lawful in
+      let bounded = half.lawful.bounded in
+      let full : first_unacknowledged h.buffer ≡ buffered.written h.buffer = elim (cases_lt (first_unacknowledged h.buffer) (buffered.written h.buffer)) [
+        | inl lacks ↦ (
+            let there = bytes (first_unacknowledged h.buffer) (all.bytes (first_unacknowledged h.buffer) (omega arith)) in
+            let same : there.half ≡ h = (let both : Some there.half ≡ Some h = sym there.is ∙ found in cc) in
+            absurd (first_lacks h.buffer.acked half.lawful.acked (subst (λ (k : SendHalf). Has k.buffer.acked (first_unacknowledged h.buffer)) same there.acked)))
+        | inr least ↦ omega arith
+      ] in
+      rw (fin, eq-eqb (first_unacknowledged h.buffer) (buffered.written h.buffer) full) refl
+
+  -- and only then
+  acked_held : (h : SendHalf) → at e.sending.halves id ≡ Some h → is_acked h ≡ true → AllHeld acked id told
+  acked_held h found on =
+      let half = half_at e.side e.sending told id h streams found in
+      let here = held id h found in
+      let parts = and_parts h.fin_acked (is_fully_acked h.buffer) on in
+      let full : first_unacknowledged h.buffer ≡ buffered.written h.buffer = eqb-true (first_unacknowledged h.buffer) (buffered.written h.buffer) parts.1 in
+      let base = half.base in
+      let kept = ap length half.kept in
+      let rest = length-drop h.buffer.base (written id told) in
+      record {
+        ended = sym half.finished ∙ ends id h found parts.0;
+        bytes = λ o below. here.bytes o (below_first h.buffer.acked o half.lawful.acked (omega arith));
+        end = here.end parts.0;
+      }
+
+  -- so as often it is to be told
+  pub told_exactly : finishes_told id told ≡ acked_count (at e.sending.halves id) → (AllHeld acked id told → finishes_told id told ≡ 1) × ((AllHeld acked id told → ⊥) → finishes_told id told ≡ 0)
+  told_exactly count = go (at e.sending.halves id) refl
+    where
+      half : (h : SendHalf) (b : Bool) → at e.sending.halves id ≡ Some h → is_acked h ≡ b → (AllHeld acked id told → finishes_told id told ≡ 1) × ((AllHeld acked id told → ⊥) → finishes_told id told ≡ 0)
+      half h b found is = (
+        λ all. count ∙ ap acked_count found ∙ ap (λ (c : Bool). if c then 1 else 0) (held_acked h found all),
+        λ none. count ∙ ap acked_count found ∙ ap (λ (c : Bool). if c then 1 else 0) is ∙ unless b is none,
+      )
+        where
+          unless : (c : Bool) → is_acked h ≡ c → (AllHeld acked id told → ⊥) → ◌≡◌ {A = ℕ} (if c then 1 else 0) 0
+          unless true on none = absurd (none (acked_held h found on))
+          unless false off none = refl
+
+      go : (o : Option SendHalf) → at e.sending.halves id ≡ o → (AllHeld acked id told → finishes_told id told ≡ 1) × ((AllHeld acked id told → ⊥) → finishes_told id told ≡ 0)
+      go None found = (
+        λ all. (let there = over all.end in let clash : ◌≡◌ {A = Option SendHalf} None (Some there.half) = sym found ∙ there.is in cc),
+        λ none. count ∙ ap acked_count found,
+      )
+      go (Some h) found = half h (is_acked h) found refl

@@ -1,37 +1,35 @@
 -- Two ends of a run at a place: what one writes and the other reads, both ways.
-use Rattle.std.specs.Prelude.{ℕ, ◌≡◌, List, [], ◌∷◌, length}
+use Rattle.std.specs.Prelude.{ℕ, ◌≡◌, ◌≤◌, List, [], ◌∷◌, length}
 use Rattle.quic_wire_core.specs.declared.stream_id.Side.TheVariants.{Client, Server}
 use Rattle.quic_machine.specs.Policy.{Policy}
 use Rattle.quic_machine.specs.Ids.{known}
 use Rattle.quic_machine.specs.End.{End}
 use Rattle.quic_machine.specs.Machine.{World, Policies}
-use Rattle.quic_headline.specs.Runs.{Told, Intake, nothing_came, intake, count_given, references}
-use Rattle.quic_headline.proofs.Places.Invariant.{Streams, Sent, Gives, Content, Kept, Accepted, KnowsIn, NameTaken, WereSent, AreTaken, Arrives, AreTracked, Acks}
+use Rattle.quic_headline.specs.Runs.{Told, Intake, nothing_came, and_told, folded, count_given}
+use Rattle.quic_headline.specs.Observer.{Sent}
+use Rattle.quic_headline.proofs.Places.Invariant.{Streams, Gives, Content, Kept, Accepted, KnowsIn, NameTaken, WereSent, AreTaken, Arrives, AreTracked, Acks}
 use Rattle.quic_headline.proofs.Halves.Finishing.{Tells}
 use Rattle.quic_headline.proofs.Duties.UnderWay.{Fly}
 
 -- what came to an end that is known by one id
 abbrev pub came : Policy → List ℕ → List (List ℕ) → List Told → Intake
-came q id final read = intake q (id ∷ []) final read nothing_came
-
--- what the datagrams of an end were cut against that is known by this id; `final` is all that the other end gives
-abbrev pub cut : Policy → List ℕ → List (List ℕ) → List Told → List ℕ
-cut p id final told = references p (id ∷ []) final told nothing_came
+came q id final read = folded (and_told q final) read (nothing_came (id ∷ []))
 
 -- x writes and has given these datagrams, of all that it will give; y, which it knows by this id, reads; x is known by its own id, and y gives `back` in all
 pub record Direction (p q : Policy) (own id : List ℕ) (x y : End) (given final back : List (List ℕ)) (wrote read : List Told) : Type 0 where
   pub streams : Streams x.side x.sending wrote
-  -- what each datagram that was given was cut against, and its frames
+  -- the datagrams that were given, as they were sent
   pub sents : List Sent
-  pub gives : Gives p id x.numbers wrote (cut p own back wrote) sents given
+  pub gives : Gives p id x.numbers wrote sents given
   pub active : x.ids.active.id ≡ id
+  pub size : 1200 ≤ x.path.size
   pub count : length given ≡ count_given wrote
   pub content : Content y.side y.sending y.receiving wrote read
   pub kept : Kept y.side y.receiving (came q id final read).took
   pub accepted : Accepted y.side y.receiving read
   pub knows : KnowsIn y.closing.state y.numbers (came q id final read)
   pub acks : Acks y.acknowledging
-  pub known : known y.ids ≡ id ∷ []
+  pub known : known y.ids ≡ (came q id final read).ids
   -- each packet that y took was sent so
   pub taken : WereSent sents (came q id final read).took
   -- what the ACK frames of x name, x took

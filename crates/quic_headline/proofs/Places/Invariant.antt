@@ -1,5 +1,5 @@
 -- What holds between two ends of a run at each place: one writes, the other reads. A record for each concern, over the plain values that it reads.
-use Rattle.std.specs.Prelude.{ℕ, ◌+◌, ◌-◌, ◌<◌, ◌≤◌, ◌^◌, ◌≡◌, ◌⊎◌, Bool, true, false, List, [], ◌∷◌, ◌++◌, length, map, take, drop, slice_get, Option, Some, None, Ok, Err}
+use Rattle.std.specs.Prelude.{ℕ, ◌+◌, ◌-◌, ◌<◌, ◌≤◌, ◌^◌, ◌≡◌, ◌⊎◌, Bool, true, false, List, [], ◌∷◌, ◌++◌, length, take, drop, slice_get, Option, Some, None, Ok, Err}
 use Rattle.std.specs.Option.{is_some}
 use Rattle.std.specs.Ordering.{nat_cmp}
 use Rattle.std.specs.Map.{keys_of}
@@ -16,8 +16,7 @@ use Rattle.quic_wire.specs.Grammar.{Payload}
 use Rattle.quic_packet.specs.Datagram.{sent}
 use Rattle.quic_assembler.specs.Arrived.{IsLawful, byte_at}
 use Rattle.quic_sets.specs.Parts.{byte_from}
-use Rattle.quic_send_buffer.specs.Buffered.{IsBuffered, is_in_flight}
-use Rattle.quic_send_buffer.specs.declared.stream_meta.StreamMeta.{StreamMeta}
+use Rattle.quic_send_buffer.specs.Buffered.{IsBuffered}
 use Rattle.quic_machine.specs.declared.answers.State.{State}
 use Rattle.quic_machine.specs.declared.answers.State.TheVariants as states
 use Rattle.quic_machine.specs.Policy.{Policy}
@@ -25,13 +24,14 @@ use Rattle.quic_streams.specs.Table.{Table, at}
 use Rattle.quic_machine.specs.Numbers.{Numbers, expected, cut_against}
 use Rattle.quic_recovery_core.specs.DuplicateRuns.{seen_after}
 use Rattle.quic_recovery_core.specs.PendingAcks as pending
-use Rattle.quic_machine.specs.Tracking.{names, TrackedPacket, carried_in}
+use Rattle.quic_machine.specs.Tracking.{TrackedPacket, carried_in}
 use Rattle.quic_streams.specs.Sending.{Sending, SendHalf, opens, next_id}
 use Rattle.quic_streams.specs.Receiving.{Receiving, RecvHalf, may_receive}
 use Rattle.quic_streams.specs.declared.answers.StreamEvent.{StreamEvent}
 use Rattle.quic_streams.specs.declared.answers.StreamEvent.TheVariants.{Finished}
 use Rattle.quic_headline.specs.Headline.{AllArrived}
-use Rattle.quic_headline.specs.Runs.{Told, Next, Packet, Intake, In, written, ended, nexts, chunks_of, bytes_of, accepts, WasTaken, HasArrived, EndHasArrived, IsTaken, expected_behind, acknowledged}
+use Rattle.quic_headline.specs.Runs.{Told, Next, Packet, Intake, In, written, ended, nexts, chunks_of, bytes_of, accepts, WasTaken, HasArrived, EndHasArrived, IsTaken, names, expected_behind, acknowledged}
+use Rattle.quic_headline.specs.Observer.{Sent, next_number}
 
 -- ---- what was written only grows, and once ended stays
 
@@ -42,12 +42,21 @@ pub record Grows (wr : List ℕ) (fin : Bool) (more : List ℕ) (fin' : Bool) : 
 
 -- ---- numbered datagrams
 
--- P of each place and what stands there in both lists, counted from one number on
-abbrev pub AllFrom : {Y X : Type 0} → (ℕ → Y → X → Type 0) → ℕ → List Y → List X → Type 0
-AllFrom P n [] [] = Unit {0}
-AllFrom P n (y ∷ ys) (x ∷ xs) = P n y x × AllFrom P (n + 1) ys xs
-AllFrom P n [] (x ∷ xs) = ⊥
-AllFrom P n (y ∷ ys) [] = ⊥
+-- P of what stands in both lists, in step
+abbrev pub InStep : {Y X : Type 0} → (Y → X → Type 0) → List Y → List X → Type 0
+InStep P [] [] = Unit {0}
+InStep P (y ∷ ys) (x ∷ xs) = P y x × InStep P ys xs
+InStep P [] (x ∷ xs) = ⊥
+InStep P (y ∷ ys) [] = ⊥
+
+-- the numbers rise, from one on
+abbrev pub RisingFrom : ℕ → List Sent → Type 0
+RisingFrom low [] = Unit {0}
+RisingFrom low (s ∷ sents) = (low ≤ s.number) × RisingFrom (s.number + 1) sents
+
+-- one of them was sent so under a number
+abbrev pub SentAs : List Sent → ℕ → Sent → Type 0
+SentAs sents n s = In s sents × (s.number ≡ n)
 
 -- the bytes of a frame stand in what was written, at their offset; where it has the end, all was written and the stream ended
 pub record IsWritten (wr : List ℕ) (fin : Bool) (f : StreamValue) : Type 0 where
@@ -104,10 +113,6 @@ pub record Streams (side : Side) (s : Sending) (told : List Told) : Type 0 where
   pub first_bi : s.first_limit_bi < 2 ^ 62
   pub first_uni : s.first_limit_uni < 2 ^ 62
 
--- what a datagram was cut against, and its frames
-abbrev pub Sent : Type 0
-Sent = ℕ × List FrameValue
-
 -- what was acknowledged of a half arrived: its offsets, and its end
 pub record HalfArrived (took : List Packet) (id : ℕ) (wr : List ℕ) (fin : Bool) (h : SendHalf) : Type 0 where
   pub bytes : (o : ℕ) → Has h.buffer.acked o → HasArrived took id o
@@ -120,54 +125,29 @@ pub record Arrives (took : List Packet) (told : List Told) (s : Sending) (events
 
 -- each tracked packet was given, and carries what its frames say
 abbrev pub AreTracked : List Sent → Table TrackedPacket → Type 0
-AreTracked sents packets = (n : ℕ) (t : TrackedPacket) → In (n, t) packets → (s : Sent) × (slice_get sents n ≡ Some s) × (t.carried ≡ carried_in s.1)
-
--- ---- what is in flight
-
--- a frame stands in one of these tracked packets
-abbrev pub StandsIn : Table TrackedPacket → StreamMeta → Type 0
-StandsIn [] m = ⊥
-StandsIn (p ∷ ps) m = In m p.1.carried.stream_frames ⊎ StandsIn ps m
-
--- an offset of a stream stands in one of these frames
-pub record HasOffset (F : StreamMeta → Type 0) (id o : ℕ) : Type 0 where
-  pub frame : StreamMeta
-  pub is : F frame
-  pub of_stream : frame.id ≡ id
-  pub from : frame.offsets.start ≤ o
-  pub below : o < frame.offsets.end
-
--- the end of a stream stands in one of these frames
-pub record HasEnd (F : StreamMeta → Type 0) (id : ℕ) : Type 0 where
-  pub frame : StreamMeta
-  pub is : F frame
-  pub of_stream : frame.id ≡ id
-  pub fin : frame.fin ≡ true
-
--- what of a half is in flight stands in one of these frames; once it is finished its end waits, stands in one of them, or is acknowledged
-pub record HalfFlies (F : StreamMeta → Type 0) (id : ℕ) (h : SendHalf) : Type 0 where
-  pub bytes : (o : ℕ) → is_in_flight h.buffer o ≡ true → HasOffset F id o
-  pub end : h.finished ≡ true → (h.fin_pending ≡ true) ⊎ HasEnd F id ⊎ (h.fin_acked ≡ true)
-
--- a fact of each half
-abbrev pub AllHalves : (ℕ → SendHalf → Type 0) → Table SendHalf → Type 0
-AllHalves P halves = (id : ℕ) (h : SendHalf) → at halves id ≡ Some h → P id h
+AreTracked sents packets = (n : ℕ) (t : TrackedPacket) → In (n, t) packets → (s : Sent) × SentAs sents n s × (t.carried ≡ carried_in s.frames)
 
 -- ---- what was sent
 
--- the datagram of a number that was sent so
-abbrev pub IsSent : Policy → List ℕ → List Told → ℕ → Sent → List ℕ → Type 0
-IsSent p id told n s d = IsGiven p id told n s.0 s.1 d
+-- a datagram that was sent so
+abbrev pub IsSent : Policy → List ℕ → List Told → Sent → List ℕ → Type 0
+IsSent p id told s d = IsGiven p id told s.number s.reference s.frames d
 
--- each datagram has its place as its number, and was cut against its reference; `sents` are what each was sent as
-pub record Gives (p : Policy) (id : List ℕ) (numbers : Numbers) (told : List Told) (references : List ℕ) (sents : List Sent) (given : List (List ℕ)) : Type 0 where
-  pub next : numbers.next ≡ length given
-  pub each : AllFrom (IsSent p id told) 0 sents given
-  pub against : map (λ s. s.0) sents ≡ references
+-- what the next number is cut against isn't above it
+abbrev pub IsBehind : Numbers → Type 0
+IsBehind numbers = cut_against numbers ≤ numbers.next
+
+-- each datagram that was given was sent as one of these, the numbers of these rise, and no number above them was given
+pub record Gives (p : Policy) (id : List ℕ) (numbers : Numbers) (told : List Told) (sents : List Sent) (given : List (List ℕ)) : Type 0 where
+  pub rising : RisingFrom 0 sents
+  pub below : (s : Sent) → In s sents → s.number < numbers.next
+  pub next : numbers.next ≡ next_number sents
+  pub behind : IsBehind numbers
+  pub each : InStep (IsSent p id told) sents given
 
 -- ACK frames name numbers of these packets only
 abbrev pub NameTaken : List Sent → List Packet → Type 0
-NameTaken sents packets = (n : ℕ) (s : Sent) (a : AckValue) (k : ℕ) → slice_get sents n ≡ Some s → In (ack a) s.1 → names a k ≡ true → IsTaken packets k
+NameTaken sents packets = (s : Sent) (a : AckValue) (k : ℕ) → In s sents → In (ack a) s.frames → names a k ≡ true → IsTaken packets k
 
 -- ---- the end that reads
 
@@ -227,8 +207,8 @@ pub record Knows (numbers : Numbers) (i : Intake) : Type 0 where
 -- a packet is a datagram as it was sent
 pub record WasSent (sents : List Sent) (packet : Packet) : Type 0 where
   pub sent : Sent
-  pub is : slice_get sents packet.number ≡ Some sent
-  pub frames : sent.1 ≡ packet.frames
+  pub is : SentAs sents packet.number sent
+  pub frames : sent.frames ≡ packet.frames
 
 -- each of the packets is
 abbrev pub WereSent : List Sent → List Packet → Type 0

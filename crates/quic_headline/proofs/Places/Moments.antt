@@ -1,14 +1,16 @@
 -- What every step keeps holds at each place of a run.
-use Rattle.std.proofs.Common.{◌≡◌, ℕ, zero, suc, List, [], ◌∷◌, ◌++◌, take, drop, Bool, true, false, ◌||◌, refl, sym, ap, ◌∙◌}
+use Rattle.std.proofs.Common.{◌≡◌, ℕ, zero, suc, List, [], ◌∷◌, ◌++◌, take, drop, Bool, true, false, ◌||◌, Some, refl, sym, ap, ◌∙◌}
+use Rattle.std.specs.Prelude.{slice_get}
 use Rattle.std.specs.List.{list_any}
 use Rattle.std.proofs.lemmas.List.{append_assoc, append-nil}
 use Rattle.quic_wire_core.specs.declared.stream_id.Side.{Side}
 use Rattle.quic_wire_core.specs.declared.stream_id.Side.TheVariants.{Client, Server}
+use Rattle.quic_machine.specs.declared.answers.State.{State}
 use Rattle.quic_machine.specs.declared.run.RunEvent.{RunEvent}
 use Rattle.quic_machine.specs.declared.run.Answer.{Answer}
 use Rattle.quic_machine.specs.declared.run.View.{View}
-use Rattle.quic_machine.specs.Machine.{World, Policies, IsStep, end_at, changed, gives, policy_at, fails, Follows}
-use Rattle.quic_headline.specs.Runs.{Told, told_by, told_at}
+use Rattle.quic_machine.specs.Machine.{World, Policies, IsStep, end_at, changed, gives, policy_at, fails, Follows, view_of}
+use Rattle.quic_headline.specs.Runs.{Told, told_by, told_at, state_in, state_behind}
 
 -- what both ends gave, the first of all that they give
 pub record Grown (w end : World) : Type 0 where
@@ -51,24 +53,42 @@ told_none : (side : Side) (events : List RunEvent) (views : List View) (state : 
 told_none side [] views state = refl
 told_none side (e ∷ events) views state = refl
 
+-- the last view of what leads to some ends shows them
+pub last_view : (k : Policies) (i : ℕ) (w end : World) (events : List RunEvent) (answers : List Answer) (views : List View) (v : View) → Follows k w (take (suc i) events) (take (suc i) answers) (take (suc i) views) end → slice_get views i ≡ Some v → v ≡ view_of end
+last_view k i w end events answers [] v f there = cc
+last_view k i w end [] [] (u ∷ views) v f there = absurd f
+last_view k i w end (e ∷ events) [] (u ∷ views) v f there = absurd f
+last_view k i w end [] (a ∷ answers) (u ∷ views) v f there = absurd f
+last_view k zero w end (e ∷ events) (a ∷ answers) (u ∷ views) v f there = let same : u ≡ v = cc in sym same ∙ f.2 ∙ ap view_of (sym f.3)
+last_view k (suc i) w end (e ∷ events) (a ∷ answers) (u ∷ views) v f there = last_view k i f.0 end events answers views v f.3 there
+
+-- what a view shows is the state
+pub state_shown : (side : Side) (w : World) → state_in (view_of w) side ≡ (end_at side w).closing.state
+state_shown Client w = refl
+state_shown Server w = refl
+
 module _ (k : Policies) (end : World) (P : World → List Told → List Told → Type 0)
     (step : (w next : World) (event : RunEvent) (a : Answer) (client server : List Told) → P w client server → IsStep k w event a next → fails a ≡ false → Grown w end
     → P next (client ++ told_by Client w.client.closing.state event a) (server ++ told_by Server w.server.closing.state event a)) where
-  -- the ends at a place, and how the run goes on from there
-  pub record Moment (client server : List Told) (events : List RunEvent) (answers : List Answer) (views : List View) : Type 0 where
+  -- the ends at a place of a run that begins here, how the run comes there and goes on from there, and the states that the views show
+  pub record Moment (first : World) (i : ℕ) (events : List RunEvent) (answers : List Answer) (views : List View) (client server : List Told) : Type 0 where
     pub world : World
     pub holds : P world client server
-    pub goes_on : Follows k world events answers views end
+    pub came : Follows k first (take i events) (take i answers) (take i views) world
+    pub goes_on : Follows k world (drop i events) (drop i answers) (drop i views) end
+    pub state : (side : Side) → (end_at side world).closing.state ≡ state_behind side (end_at side first).closing.state i views
 
   pub moment : (i : ℕ) (w : World) (events : List RunEvent) (answers : List Answer) (views : List View) (client server : List Told) → P w client server → Follows k w events answers views end → list_any fails (take i answers) ≡ false
-      → Moment (client ++ told_at Client w.client.closing.state events (take i answers) views) (server ++ told_at Server w.server.closing.state events (take i answers) views) (drop i events) (drop i answers) (drop i views)
+      → Moment w i events answers views (client ++ told_at Client w.client.closing.state events (take i answers) views) (server ++ told_at Server w.server.closing.state events (take i answers) views)
   moment zero w events answers views client server h f q = record {
     world = w;
     holds = rw (told_none Client events views w.client.closing.state, told_none Server events views w.server.closing.state, append-nil client, append-nil server) h;
+    came = refl;
     goes_on = f;
+    state = λ side. refl;
   }
-  moment (suc i) w [] [] [] client server h f q = record { world = w; holds = rw (append-nil client, append-nil server) h; goes_on = f }
-  moment (suc i) w (e ∷ events) [] [] client server h f q = record { world = w; holds = rw (append-nil client, append-nil server) h; goes_on = f }
+  moment (suc i) w [] [] [] client server h f q = record { world = w; holds = rw (append-nil client, append-nil server) h; came = refl; goes_on = f; state = λ side. refl }
+  moment (suc i) w (e ∷ events) [] [] client server h f q = record { world = w; holds = rw (append-nil client, append-nil server) h; came = refl; goes_on = f; state = λ side. refl }
   moment (suc i) w [] [] (v ∷ views) client server h f q = absurd f
   moment (suc i) w (e ∷ events) [] (v ∷ views) client server h f q = absurd f
   moment (suc i) w [] (a ∷ answers) views client server h f q = absurd f
@@ -81,5 +101,7 @@ module _ (k : Policies) (end : World) (P : World → List Told → List Told →
       record {
         world = m.world;
         holds = rw (f.2, ← append_assoc client (told_by Client w.client.closing.state e a) _, ← append_assoc server (told_by Server w.server.closing.state e a) _) m.holds;
+        came = (next, f.1, f.2, m.came);
         goes_on = m.goes_on;
+        state = λ side. m.state side ∙ ap (λ (s : State). state_behind side s i views) (sym (ap (λ (u : View). state_in u side) f.2 ∙ state_shown side next));
       }

@@ -1,9 +1,10 @@
 -- What opens: bytes that are injected, and the frames of what was given.
-use Rattle.std.proofs.Common.{◌≡◌, ℕ, suc, ◌+◌, Bool, true, false, List, [], ◌∷◌, length, Option, Some, refl, inl, inr, sym, ap, ◌∙◌, subst}
-use Rattle.std.specs.Prelude.{◌↔◌, slice_get}
+use Rattle.std.proofs.Common.{◌≡◌, ℕ, Bool, true, false, List, length, Option, sym, ap, ◌∙◌, subst}
+use Rattle.std.specs.Prelude.{◌↔◌, ◌&&◌}
 use Rattle.std.specs.Option.{is_some}
 use Rattle.quic_wire.specs.Value.{FrameValue, ack}
 use Rattle.quic_packet.specs.Datagram.{Opening}
+use Rattle.quic_packet.specs.Destination.{is_known}
 use Rattle.quic_machine.specs.declared.run.Answer.{Answer}
 use Rattle.quic_machine.specs.declared.run.Answer.TheVariants as answers
 use Rattle.quic_machine.specs.Policy.{Policy, CanOpen}
@@ -14,9 +15,10 @@ use Rattle.quic_machine.specs.End.{End}
 use Rattle.quic_machine.specs.Opens.{own_id_length, opens, would_open}
 use Rattle.quic_machine.specs.Machine.{injected_if}
 use Rattle.quic_headline.specs.Runs.{Told, Packet, In, IsTaken}
-use Rattle.quic_headline.specs.InFlight.{frames_opened}
+use Rattle.quic_headline.specs.Observer.{Sent, frames_opened}
 use Rattle.quic_headline.specs.Headline.{IsNamedIn}
-use Rattle.quic_headline.proofs.Places.Invariant.{AllFrom, Sent, IsSent, NameTaken}
+use Rattle.quic_headline.proofs.Places.Invariant.{InStep, IsSent, NameTaken}
+use Rattle.quic_headline.proofs.Packets.Growth.{step_in}
 use Rattle.quic_headline.proofs.Packets.Delivered.{shown_if, expands, opens_given, frames_of_payload}
 
 -- ---- injections
@@ -34,33 +36,22 @@ opens_by p e now d a ids x has expects is =
 
 -- ---- what was given
 
--- a datagram was given under a number, as what stands there in what was sent
-record WasGiven (p : Policy) (id : List ℕ) (told : List Told) (sents : List Sent) (d : List ℕ) : Type 0 where
-  number : ℕ
-  place : ℕ
-  sent : Sent
-  stands : slice_get sents place ≡ Some sent
-  is : IsSent p id told number sent d
-
-was_given : (p : Policy) (id : List ℕ) (told : List Told) (n : ℕ) (sents : List Sent) (given : List (List ℕ)) (d : List ℕ) → AllFrom (IsSent p id told) n sents given → In d given → WasGiven p id told sents d
-was_given p id told n [] [] d all i = absurd i
-was_given p id told n (s ∷ sents) (x ∷ given) d all (inl is) = record { number = n; place = 0; sent = s; stands = refl; is = subst (λ (y : List ℕ). IsSent p id told n s y) (sym is) all.0 }
-was_given p id told n (s ∷ sents) (x ∷ given) d all (inr i) =
-    let w = was_given p id told (n + 1) sents given d all.1 i in
-    record { number = w.number; place = suc w.place; sent = w.sent; stands = w.stands; is = w.is }
-was_given p id told n [] (x ∷ given) d all i = absurd all
-was_given p id told n (s ∷ sents) [] d all i = absurd all
-
--- what its ACK frames name was taken, where the end that takes it has the mates of its giver's keys,
--- and this id
-pub names_taken : (p q : Policy) (id : List ℕ) (told : List Told) (sents : List Sent) (given : List (List ℕ)) (packets : List Packet) → CanOpen p q → IsLawful p → length id ≡ own_id_length → AllFrom (IsSent p id told) 0 sents given → NameTaken sents packets
-    → (x number : ℕ) (d : List ℕ) → In d given → IsNamedIn (frames_opened (opens q (id ∷ []) x d)) number → IsTaken packets number
-names_taken p q id told sents given packets mates lawful long all taken x number d i named =
-    by_opening (expands w.number w.sent.0 x) (subst (λ (o : Option Opening). IsNamedIn (frames_opened o) number) (opens_given p q id told w.number w.sent.0 w.sent.1 d w.is mates lawful long x) named)
+-- what the ACK frames of a datagram name that was given was taken, where its taker has the mates of its giver's keys, whatever ids
+-- and number the taker reads it with
+pub names_taken : (p q : Policy) (id : List ℕ) (told : List Told) (sents : List Sent) (given : List (List ℕ)) (packets : List Packet) → CanOpen p q → IsLawful p → length id ≡ own_id_length → InStep (IsSent p id told) sents given → NameTaken sents packets
+    → (ids : List (List ℕ)) (x number : ℕ) (d : List ℕ) → In d given → IsNamedIn (frames_opened (opens q ids x d)) number → IsTaken packets number
+names_taken p q id told sents given packets mates lawful long all taken ids x number d i named =
+    by_opening (is_known id ids && expands s.number s.reference x) (subst (λ (o : Option Opening). IsNamedIn (frames_opened o) number) (opens_given p q id told s.number s.reference s.frames d g mates lawful long ids x) named)
   where
-    w : WasGiven p id told sents d
-    w = was_given p id told 0 sents given d all i
+    w : (s : Sent) × In s sents × IsSent p id told s d
+    w = step_in (IsSent p id told) sents given d all i
 
-    by_opening : (b : Bool) → IsNamedIn (frames_opened (shown_if b w.number w.sent.0 w.is.payload)) number → IsTaken packets number
-    by_opening true n = taken w.place w.sent n.frame number w.stands (subst (λ (fs : List FrameValue). In (ack n.frame) fs) (frames_of_payload w.sent.1 w.is.payload w.is.spells) n.carried) n.named
+    s : Sent
+    s = w.0
+
+    g : IsSent p id told s d
+    g = w.2
+
+    by_opening : (b : Bool) → IsNamedIn (frames_opened (shown_if b s.number s.reference g.payload)) number → IsTaken packets number
+    by_opening true n = taken s n.frame number w.1 (subst (λ (fs : List FrameValue). In (ack n.frame) fs) (frames_of_payload s.frames g.payload g.spells) n.carried) n.named
     by_opening false n = absurd n.carried

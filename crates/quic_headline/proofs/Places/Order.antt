@@ -48,7 +48,7 @@ offsets-append offset (x ∷ xs) ys =
     ap (λ t. offset ∷ t) (rw (← same) (offsets-append (offset + 1) xs ys))
 
 -- the offsets of chunks that come one behind another
-offsets_are : (wr : List ℕ) (fin : Bool) (before : List ℕ) (said : List Next) → InOrder wr fin before said → offsets_of (chunks_of said) ≡ offsets_from (length before) (bytes_of (chunks_of said))
+pub offsets_are : (wr : List ℕ) (fin : Bool) (before : List ℕ) (said : List Next) → InOrder wr fin before said → offsets_of (chunks_of said) ≡ offsets_from (length before) (bytes_of (chunks_of said))
 offsets_are wr fin before [] o = refl
 offsets_are wr fin before (Ok (Some c) ∷ said) o =
     let more = offsets_are wr fin (before ++ c.bytes) said o.2 in

@@ -1,8 +1,9 @@
 -- What deliveries and reads leave as it was: all that the end writes from.
-use Rattle.std.proofs.Common.{◌≡◌, ℕ, Bool, true, false, List, [], ◌∷◌, Option, Some, None, refl, sym, ap, ◌∙◌, arith}
+use Rattle.std.proofs.Common.{◌≡◌, ℕ, Bool, true, false, List, [], ◌∷◌, Option, Some, None, refl, sym, ap, ◌∙◌, subst, arith}
 use Rattle.std.specs.Prelude.{max, nat_le, unwrap_or}
+use Rattle.std.proofs.lemmas.Bool.{leb-false}
 use Rattle.quic_sets.specs.Runs.{Has}
-use Rattle.quic_wire.specs.Value.{FrameValue, AckValue, ack}
+use Rattle.quic_wire.specs.Value.{FrameValue, AckValue, ack, stream, new_token, handshake_done}
 use Rattle.quic_machine.specs.Numbers.{Numbers, cut_against, greatest_of}
 use Rattle.quic_machine.specs.Policy.{Policy}
 use Rattle.quic_machine.specs.End.{End}
@@ -13,7 +14,7 @@ use Rattle.quic_machine.specs.Calls.{after_nexts}
 use Rattle.quic_machine.specs.Machine.{after_delivered}
 use Rattle.quic_machine.specs.CallCases.{by_nexts}
 use Rattle.quic_machine.specs.FrameCases.{named, ack_taken, passed, frame_keeps, frames_keep, frames_taken, by_received}
-use Rattle.quic_headline.proofs.Places.Invariant.{Acks}
+use Rattle.quic_headline.proofs.Places.Invariant.{IsBehind, Acks}
 use Rattle.quic_headline.proofs.Halves.Losing.{SendsOn, sends_same, sends_on, settles_ack}
 
 -- side and ids are as they were, and so is the next number to give; the sending halves hold what they held
@@ -36,7 +37,7 @@ stays_ack : (a : AckValue) (e : End) → Stays e (after_acked a (named a e))
 stays_ack a e = let s = settles_ack a (named a e) in record { side = s.side; ids = s.ids; sending = s.sending; next = ap (λ (n : Numbers). n.next) s.numbers }
 
 -- any frame, behind what stayed
-stays_frame : (e : End) (f : FrameValue) (x : End) → Stays e x → Stays e (take_frame f x).end
+pub stays_frame : (e : End) (f : FrameValue) (x : End) → Stays e x → Stays e (take_frame f x).end
 stays_frame e = frame_keeps (Stays e) (record {
   ack = λ a x s. stays_on e x (after_acked a (named a x)) s (stays_ack a x);
   stream = λ f x s. record { side = s.side; ids = s.ids; sending = s.sending; next = s.next };
@@ -129,6 +130,34 @@ stays_received p e now d = by_received (Stays e) (record {
 pub stays_delivered : (p : Policy) (e : End) (now : ℕ) (o : Option (List ℕ)) → Stays e (after_delivered p e now o)
 stays_delivered p e now None = stays_same e
 stays_delivered p e now (Some d) = stays_received p e now d
+
+-- ---- what numbers are cut against
+
+-- an ACK frame that is taken names numbers that were given
+behind_ack : (b : Bool) (a : AckValue) (e : End) → nat_le e.numbers.next a.largest ≡ b → IsBehind e.numbers → IsBehind (ack_taken b a e).end.numbers
+behind_ack true a e is behind = behind
+behind_ack false a e is behind =
+    let lower = leb-false e.numbers.next a.largest is in
+    let greatest = named_one e.numbers.largest_acked a.largest in
+    subst (λ (n : Numbers). IsBehind n) (sym (settles_ack a (named a e)).numbers) (omega arith)
+
+-- so does any frame
+behind_frame : (f : FrameValue) (e : End) → IsBehind e.numbers → IsBehind (take_frame f e).end.numbers
+behind_frame (ack a) e behind = behind_ack (nat_le e.numbers.next a.largest) a e refl behind
+behind_frame (stream f) e behind = behind
+behind_frame (new_token t) e behind = behind
+behind_frame handshake_done e behind = behind
+behind_frame f e behind = behind
+
+-- whatever comes leaves what numbers are cut against at or below the next
+pub behind_received : (p : Policy) (e : End) (now : ℕ) (d : List ℕ) → IsBehind e.numbers → IsBehind (received p e now d).end.numbers
+behind_received p e now d = by_received (λ (f : End). IsBehind f.numbers) (record {
+  notes = λ n x behind. behind;
+  begins = λ now n x behind. behind;
+  frame = behind_frame;
+  takes = λ n asks x behind. behind;
+  closes = λ reason x behind. behind;
+}) p e now d
 
 -- ---- reads
 

@@ -1,7 +1,6 @@
 -- The headline of every honest run: what holds at each place, and the clauses from it.
-use Rattle.std.proofs.Common.{◌≡◌, ℕ, List, [], ◌∷◌, ◌++◌, length, drop, Bool, false, Some, None, refl, sym, ap, ◌∙◌, subst, arith}
+use Rattle.std.proofs.Common.{◌≡◌, ◌≤◌, ℕ, List, [], ◌∷◌, ◌++◌, take, drop, Bool, false, Some, None, refl, sym, ap, ◌∙◌, subst, arith}
 use Rattle.std.specs.Prelude.{Result, Ok, Err}
-use Rattle.std.proofs.lemmas.List.{drop_all}
 use Rattle.quic_wire_core.specs.declared.stream_id.Side.{Side}
 use Rattle.quic_wire_core.specs.declared.stream_id.Side.TheVariants.{Client, Server}
 use Rattle.quic_wire_core.specs.StreamId.{other_side}
@@ -10,36 +9,42 @@ use Rattle.quic_machine.specs.declared.run.RunEvent.{RunEvent}
 use Rattle.quic_machine.specs.declared.run.Call.TheVariants as calls
 use Rattle.quic_machine.specs.declared.run.Answer.{Answer}
 use Rattle.quic_machine.specs.declared.run.Answer.TheVariants as answers
-use Rattle.quic_machine.specs.declared.run.View.{View}
 use Rattle.quic_streams.specs.declared.answers.ReadError.TheVariants as read_errors
 use Rattle.quic_machine.specs.declared.answers.Event.TheVariants as events
 use Rattle.quic_streams.specs.declared.answers.StreamEvent.TheVariants.{Finished}
 use Rattle.quic_machine.specs.Ids.{known, own_id}
-use Rattle.quic_machine.specs.Calls.{end_accepts}
+use Rattle.quic_machine.specs.Calls.{end_accepts, end_tells}
+use Rattle.quic_streams.specs.Table.{at as at_half}
+use Rattle.quic_streams.specs.declared.answers.StreamEvent.{StreamEvent}
 use Rattle.quic_machine.specs.Machine.{World, Policies, IsStep, policy_at, end_at, fails, Follows}
-use Rattle.quic_headline.specs.Runs.{Run, Told, Packet, given_of, told_by, until, AreServed, written, ended, nexts, intake, nothing_came, took, expected_behind}
-use Rattle.quic_headline.specs.Duties.{AreSomewhere, DutiesStand}
-use Rattle.quic_headline.specs.InFlight.{Flight, first_watch, watched, lens_of, in_flight, TracksInFlight}
+use Rattle.quic_headline.specs.Runs.{Run, Told, Packet, given_of, told_by, until, state_at, AreServed, finishes_told, written, ended, nexts, expected_behind}
+use Rattle.quic_headline.specs.Duties.{IsOwed, IsSomewhere, DutiesStand}
+use Rattle.quic_headline.specs.Observer.{first_watch, watch, took, acked_until}
+use Rattle.quic_headline.specs.InFlight.{in_flight, TracksInFlight}
 use Rattle.quic_config.specs.Transport.{IsInRange, Settings, parameters_of}
-use Rattle.quic_headline.specs.Headline.{IsHonest, IsRun, OrderedPrefix, Slices, Once, EndAfterAll, BlockedOnlyWithoutBytes, AcceptsAll, FinishedMeansArrived, ToldOnce, TellsOnce, AcknowledgedWereTaken, NamesWereTaken, OpensExactly, LossTimerFollows, LossTimersFollow, AckTimerFollows, AckTimersFollow, NumbersRise}
+use Rattle.quic_headline.specs.Headline.{IsHonest, IsRun, OrderedPrefix, Slices, Once, EndAfterAll, BlockedOnlyWithoutBytes, AcceptsAll, IsAt, FinishedMeansArrived, times_told, ToldOnce, FinishedIsTold, AcknowledgedWereTaken, NamesWereTaken, OpensExactly, LossTimerFollows, LossTimersFollow, AckTimerFollows, AckTimersFollow, NumbersRise}
 use Rattle.quic_machine.specs.Start.{AreStarted}
 use Rattle.quic_parameters.specs.Parameters.{ParameterValues}
 use Rattle.quic_parameters.specs.ParametersRead.{parameters_at}
 use Rattle.quic_machine.specs.Policy.{Policy}
 use Rattle.quic_machine.specs.End.{End, IsMade, new_end}
+use Rattle.quic_machine.specs.RunLaws.{one_run}
 use Rattle.quic_headline.proofs.Halves.Writer.{streams_first, gives_first}
 use Rattle.quic_headline.proofs.Halves.Reader.{content_start, kept_start, accepted_start}
 use Rattle.quic_headline.proofs.Packets.Knowing.{knows_first}
 use Rattle.quic_headline.proofs.Packets.Acking.{acks_first}
-use Rattle.quic_headline.proofs.Places.Acts.{both_step}
-use Rattle.quic_headline.proofs.Packets.Watching.{IsWatched, InSight, InView, view_step}
+use Rattle.quic_headline.proofs.Packets.Watching.{Sight, InView, view_step}
 use Rattle.quic_headline.proofs.Places.Order.{order_prefix, order_slices, order_once, order_ended}
 use Rattle.quic_headline.proofs.Places.Moments.{Grown, grown, Moment, moment}
+use Rattle.quic_headline.proofs.Places.Invariant.{Streams, Gives, Arrives}
+use Rattle.quic_headline.proofs.Halves.Finishing.{Tells, acked_count, finishes_waiting}
+use Rattle.quic_headline.proofs.Halves.Telling.{are_ended}
 use Rattle.quic_headline.proofs.Places.Direction.{Direction, Both, came}
 use Rattle.quic_headline.proofs.Places.Openings.{opens_by}
-use Rattle.quic_headline.proofs.Places.Seen.{Seen, seen_from, answered}
-use Rattle.quic_headline.proofs.Places.Clauses.{accepted_is, finished_told, once_told, blocked_is}
-use Rattle.quic_headline.proofs.Duties.Ledger.{are_somewhere}
+use Rattle.quic_headline.proofs.Places.Seen.{Seen, intake_is, sight_is, seen_from, answered}
+use Rattle.quic_headline.proofs.Places.Clauses.{accepted_is, finished_told, no_event, told_most, told_exactly, blocked_is}
+use Rattle.quic_headline.proofs.Duties.OnHalves.{none_flies}
+use Rattle.quic_headline.proofs.Duties.Ledger.{duty_somewhere}
 
 -- the first ids of both ends
 pub record FirstIds (w : World) (client_id server_id : List ℕ) : Type 0 where
@@ -52,13 +57,13 @@ pub record FirstIds (w : World) (client_id server_id : List ℕ) : Type 0 where
 made_is : {E : Type 0} (side : Side) (settings : Settings) (r : Result ParameterValues E) (theirs : ParameterValues) (own_id peer_id : List ℕ) (now : ℕ) (validated : Bool) (e : End) → r ≡ Ok theirs → IsMade side settings r own_id peer_id now validated e → e ≡ new_end side settings theirs own_id peer_id now validated
 made_is side settings r theirs own_id peer_id now validated e is made = rw is at made
 
-client_is : (w : World) (s : AreStarted w) → w.client ≡ new_end Client s.client_making.settings (parameters_of s.server_making.settings) s.client_making.id s.server_making.id s.client_making.moment s.client_making.validated
+pub client_is : (w : World) (s : AreStarted w) → w.client ≡ new_end Client s.client_making.settings (parameters_of s.server_making.settings) s.client_making.id s.server_making.id s.client_making.moment s.client_making.validated
 client_is w s = made_is Client s.client_making.settings (parameters_at s.server_making.parameters) (parameters_of s.server_making.settings) s.client_making.id s.server_making.id s.client_making.moment s.client_making.validated w.client s.server_is.says s.client
 
-server_is : (w : World) (s : AreStarted w) → w.server ≡ new_end Server s.server_making.settings (parameters_of s.client_making.settings) s.server_making.id s.client_making.id s.server_making.moment s.server_making.validated
+pub server_is : (w : World) (s : AreStarted w) → w.server ≡ new_end Server s.server_making.settings (parameters_of s.client_making.settings) s.server_making.id s.client_making.id s.server_making.moment s.server_making.validated
 server_is w s = made_is Server s.server_making.settings (parameters_at s.client_making.parameters) (parameters_of s.client_making.settings) s.server_making.id s.client_making.id s.server_making.moment s.server_making.validated w.server s.client_is.says s.server
 
-first_ids : (w : World) (s : AreStarted w) → FirstIds w s.client_making.id s.server_making.id
+pub first_ids : (w : World) (s : AreStarted w) → FirstIds w s.client_making.id s.server_making.id
 first_ids w s = record {
   client = ap (λ e. known e.ids) (client_is w s);
   server = ap (λ e. known e.ids) (server_is w s);
@@ -74,20 +79,21 @@ direction_first p q x_side y_side x_settings y_settings x_id y_id x_now y_now x_
   sents = [];
   gives = gives_first p y_id x_side x_settings (parameters_of y_settings) x_id y_id x_now x_validated;
   active = refl;
+  size = omega arith;
   count = refl;
   content = content_start y_side (new_end y_side y_settings (parameters_of x_settings) y_id x_id y_now y_validated).sending y_settings;
   kept = kept_start y_side y_settings;
   accepted = accepted_start y_side y_settings;
-  knows = knows_first;
+  knows = knows_first (y_id ∷ []);
   acks = acks_first;
   known = refl;
   taken = λ packet i. absurd i;
-  named = λ n s a k is i named. cc;
+  named = λ s a k is i named. absurd is;
   acking = λ k h. absurd h;
   arrives = record { halves = λ id h found. cc; finished = λ id is. absurd is };
   tells = λ id. refl;
   tracked = λ n t is. absurd is;
-  flies = λ id h found. cc;
+  flies = λ u is. absurd (none_flies [] u refl is);
 }
 
 both_first : (k : Policies) (w : World) (from_client from_server : List (List ℕ)) (s : AreStarted w) → Both k s.client_making.id s.server_making.id w from_client from_server [] []
@@ -107,42 +113,42 @@ both_first k w from_client from_server s =
     world_is : (w : World) (client server : End) → w.client ≡ client → w.server ≡ server → w.from_client ≡ [] → w.from_server ≡ [] → w ≡ record { client = client; server = server; from_client = []; from_server = [] }
     world_is w client server a b c d = ap (λ e. record w { client = e }) a ∙ ap (λ e. record w { client = client; server = e }) b ∙ ap (λ ds. record w { client = client; server = server; from_client = ds }) c ∙ ap (λ ds. record { client = client; server = server; from_client = []; from_server = ds }) d
 
+-- nothing was given, and nothing is in flight
+sight_first : (p : Policy) (id : List ℕ) (side : Side) (settings : Settings) (theirs : ParameterValues) (own_id peer_id : List ℕ) (now : ℕ) (validated : Bool) (ids given final rest : List (List ℕ)) → given ≡ [] → given ++ rest ≡ final
+    → Sight p id (new_end side settings theirs own_id peer_id now validated) given rest [] (first_watch ids final now)
+sight_first p id side settings theirs own_id peer_id now validated ids given final rest none whole = record {
+  left = sym whole ∙ ap (λ (ds : List (List ℕ)). ds ++ rest) none;
+  gives = subst (λ (ds : List (List ℕ)). Gives p id (new_end side settings theirs own_id peer_id now validated).numbers [] [] ds) (sym none) (gives_first p id side settings theirs own_id peer_id now validated);
+  watched = record { path = refl; clock = λ opened. refl; flight = λ opened. record { named = refl; waits = refl; settled = record { cut = λ s f among. absurd among; bytes = λ id o h. absurd h.among; ends = λ id h. absurd h.among; held = λ id h found. cc } } };
+}
+
 module _ (r : Run) (end : World) (honest : IsHonest r) (run : IsRun r end) where
-  -- what holds between both ends
-  abbrev Holds : World → List Told → List Told → Type 0
-  Holds w client server = Both r.keys honest.start.client_making.id honest.start.server_making.id w r.from_client r.from_server client server
-
-  step : (w next : World) (event : RunEvent) (a : Answer) (client server : List Told) → Holds w client server → IsStep r.keys w event a next → fails a ≡ false → Grown w end
-      → Holds next (client ++ told_by Client w.client.closing.state event a) (server ++ told_by Server w.server.closing.state event a)
-  step w next event a client server both is goes g =
-      both_step r.keys honest.keys honest.start.client_making.id honest.start.server_making.id honest.start.client_is.id honest.start.server_is.id r.from_client r.from_server w next event a client server both is goes
-      (g.client.0, g.client.1 ∙ sym run.from_client) (g.server.0, g.server.1 ∙ sym run.from_server)
-
-  -- the ends at a place
-  place : (i : ℕ) → AreServed r i → Moment r.keys end Holds step (until r Client i) (until r Server i) (drop i r.events) (drop i r.answers) (drop i r.views)
-  place i served = moment r.keys end Holds step i r.start r.events r.answers r.views [] [] (both_first r.keys r.start r.from_client r.from_server honest.start) run.follows served
-
   -- what holds between both ends, and what their observers know
-  abbrev Shows : World → List Told → List Told → Type 0
-  Shows w client server = InView r.keys honest.start.client_making.id honest.start.server_making.id r.start.client.closing.clock r.start.server.closing.clock w r.from_client r.from_server client server
+  abbrev pub Holds : World → List Told → List Told → Type 0
+  Holds w client server = InView r.keys honest.start.client_making.id honest.start.server_making.id r.start.client.closing.clock r.start.server.closing.clock w r.from_client r.from_server client server
 
-  shows_step : (w next : World) (event : RunEvent) (a : Answer) (client server : List Told) → Shows w client server → IsStep r.keys w event a next → fails a ≡ false → Grown w end
-      → Shows next (client ++ told_by Client w.client.closing.state event a) (server ++ told_by Server w.server.closing.state event a)
-  shows_step w next event a client server v is goes g =
+  pub step : (w next : World) (event : RunEvent) (a : Answer) (client server : List Told) → Holds w client server → IsStep r.keys w event a next → fails a ≡ false → Grown w end
+      → Holds next (client ++ told_by Client w.client.closing.state event a) (server ++ told_by Server w.server.closing.state event a)
+  step w next event a client server v is goes g =
       view_step r.keys honest.keys honest.start.client_making.id honest.start.server_making.id honest.start.client_is.id honest.start.server_is.id r.start.client.closing.clock r.start.server.closing.clock r.from_client r.from_server w next event a client server v is goes
       (g.client.0, g.client.1 ∙ sym run.from_client) (g.server.0, g.server.1 ∙ sym run.from_server)
 
-  -- before the first event, nothing is in flight
-  shows_first : Shows r.start [] []
-  shows_first = record {
-    both = both_first r.keys r.start r.from_client r.from_server honest.start;
-    of_client = λ rest whole. subst (λ (e : End). IsWatched (first_watch e.closing.clock) e) (sym (client_is r.start honest.start)) (record { path = refl; clock = λ opened. refl; flight = λ opened. refl });
-    of_server = λ rest whole. subst (λ (e : End). IsWatched (first_watch e.closing.clock) e) (sym (server_is r.start honest.start)) (record { path = refl; clock = λ opened. refl; flight = λ opened. refl });
-  }
+  -- before the first event
+  pub in_view_first : Holds r.start [] []
+  in_view_first =
+      let c = honest.start.client_making in
+      let v = honest.start.server_making in
+      record {
+        both = both_first r.keys r.start r.from_client r.from_server honest.start;
+        of_client = λ rest whole. subst (λ (e : End). Sight r.keys.client v.id e r.start.from_client rest [] (first_watch (c.id ∷ []) r.from_client e.closing.clock)) (sym (client_is r.start honest.start))
+            (sight_first r.keys.client v.id Client c.settings (parameters_of v.settings) c.id v.id c.moment c.validated (c.id ∷ []) r.start.from_client r.from_client rest honest.start.client_gave whole);
+        of_server = λ rest whole. subst (λ (e : End). Sight r.keys.server c.id e r.start.from_server rest [] (first_watch (v.id ∷ []) r.from_server e.closing.clock)) (sym (server_is r.start honest.start))
+            (sight_first r.keys.server c.id Server v.settings (parameters_of c.settings) v.id c.id v.moment v.validated (v.id ∷ []) r.start.from_server r.from_server rest honest.start.server_gave whole);
+      }
 
-  -- the ends at a place, as their observers know them
-  shown : (i : ℕ) → AreServed r i → Moment r.keys end Shows shows_step (until r Client i) (until r Server i) (drop i r.events) (drop i r.answers) (drop i r.views)
-  shown i served = moment r.keys end Shows shows_step i r.start r.events r.answers r.views [] [] shows_first run.follows served
+  -- the ends at a place
+  place : (i : ℕ) → AreServed r i → Moment r.keys end Holds step r.start i r.events r.answers r.views (until r Client i) (until r Server i)
+  place i served = moment r.keys end Holds step i r.start r.events r.answers r.views [] [] in_view_first run.follows served
 
 -- what a place shows of the end at each side
 pub seen : (r : Run) (end : World) → IsHonest r → IsRun r end → (side : Side) (i : ℕ) → AreServed r i → Seen r side i
@@ -154,7 +160,7 @@ seen r end honest run side i served = at side
     server_id : List ℕ
     server_id = honest.start.server_making.id
 
-    m : Moment r.keys end (Holds r end honest run) (step r end honest run) (until r Client i) (until r Server i) (drop i r.events) (drop i r.answers) (drop i r.views)
+    m : Moment r.keys end (Holds r end honest run) (step r end honest run) r.start i r.events r.answers r.views (until r Client i) (until r Server i)
     m = place r end honest run i served
 
     g : Grown m.world end
@@ -165,11 +171,13 @@ seen r end honest run side i served = at side
 
     at : (side : Side) → Seen r side i
     at Client =
-        seen_from r Client i m.world.server m.world.client m.world.from_server m.world.from_client client_id server_id m.holds.client_side m.holds.to_client m.holds.to_server
-        ids.client ids.server ids.server_first (g.client.0, g.client.1 ∙ sym run.from_client) honest.keys.to_server honest.keys.client honest.start.server_is.id (λ call a is. answered r m.world end i Client call a m.goes_on is)
+        let whole : (rest : List (List ℕ)) × (m.world.from_client ++ rest ≡ r.from_client) = (g.client.0, g.client.1 ∙ sym run.from_client) in
+        seen_from r Client i m.world.server m.world.client m.world.from_server m.world.from_client client_id server_id m.holds.both.client_side m.holds.both.to_client m.holds.both.to_server
+        ids.client ids.server ids.server_first whole (sight_is r Client i client_id server_id m.world.client m.world.from_client ids.client whole m.holds.of_client) honest.keys.to_server honest.keys.client honest.start.server_is.id (λ call a is. answered r m.world end i Client call a m.goes_on is)
     at Server =
-        seen_from r Server i m.world.client m.world.server m.world.from_client m.world.from_server server_id client_id m.holds.server_side m.holds.to_server m.holds.to_client
-        ids.server ids.client ids.client_first (g.server.0, g.server.1 ∙ sym run.from_server) honest.keys.to_client honest.keys.server honest.start.client_is.id (λ call a is. answered r m.world end i Server call a m.goes_on is)
+        let whole : (rest : List (List ℕ)) × (m.world.from_server ++ rest ≡ r.from_server) = (g.server.0, g.server.1 ∙ sym run.from_server) in
+        seen_from r Server i m.world.client m.world.server m.world.from_client m.world.from_server server_id client_id m.holds.both.server_side m.holds.both.to_server m.holds.both.to_client
+        ids.server ids.client ids.client_first whole (sight_is r Server i server_id client_id m.world.server m.world.from_server ids.server whole m.holds.of_server) honest.keys.to_client honest.keys.server honest.start.client_is.id (λ call a is. answered r m.world end i Server call a m.goes_on is)
 
 pub ordered_prefix : (r : Run) (end : World) → IsHonest r → IsRun r end → OrderedPrefix r
 ordered_prefix r end honest run side id i served =
@@ -203,81 +211,83 @@ finished_means_arrived r end honest run side id i served at =
     let s = seen r end honest run side i served in
     s.finished id (finished_told s.end id (s.answers calls.Event (answers.Event (Some (events.Stream (Finished id)))) at))
 
--- a run is over where no answer is left
-over : (k : Policies) (w end : World) (events : List RunEvent) (views : List View) → Follows k w events [] views end → end ≡ w
-over k w end [] [] f = f
-over k w end (e ∷ events) [] f = f
-over k w end [] (v ∷ views) f = absurd f
-over k w end (e ∷ events) (v ∷ views) f = absurd f
+-- a stream was told to be finished as often as it is wholly acknowledged, where the end has nothing left to tell
+told_where : (r : Run) (side : Side) (i id : ℕ) (p : Policy) (peer : List ℕ) (e : End) (given rest : List (List ℕ)) (took : List Packet) → Streams e.side e.sending (until r side i) → Arrives took (until r side i) e.sending e.events → Tells (until r side i) e.sending.halves e.events
+    → Sight p peer e given rest (until r side i) (watch r side i) → state_at r side i ≡ e.closing.state → (IsAt r i side calls.Event (answers.Event None) → answers.Event None ≡ answers.Event (end_tells e))
+    → (times_told r side id i ≤ 1) × (state_at r side i ≡ states.Open → IsAt r i side calls.Event (answers.Event None) → ToldOnce r side id i)
+told_where r side i id p peer e given rest took streams arrives tells sight state answers = (
+  told_most (until r side i) e id tells,
+  λ opened at.
+      let settled = (sight.watched.flight (sym state ∙ opened)).settled in
+      let said = answers at in
+      let quiet : end_tells e ≡ None = cc in
+      let none : finishes_waiting id e.events ≡ 0 = ap (λ (es : List StreamEvent). finishes_waiting id es) (no_event e.events e.closing quiet) in
+      let all = tells id in
+      let count : finishes_told id (until r side i) ≡ acked_count (at_half e.sending.halves id) = omega arith in
+      told_exactly (until r side i) (acked_until r side i) e id streams (are_ended took (until r side i) e.side e.sending e.events streams arrives) (settled.bytes id) (settled.ends id) settled.held count,
+)
 
-pub told_once : (r : Run) (end : World) → IsHonest r → IsRun r end → TellsOnce r end
-told_once r end honest run served side = at side
+pub finished_is_told : (r : Run) (end : World) → IsHonest r → IsRun r end → FinishedIsTold r
+finished_is_told r end honest run side id i served = at side
   where
-    n : ℕ
-    n = length r.answers
+    m : Moment r.keys end (Holds r end honest run) (step r end honest run) r.start i r.events r.answers r.views (until r Client i) (until r Server i)
+    m = place r end honest run i served
 
-    m : Moment r.keys end (Holds r end honest run) (step r end honest run) (until r Client n) (until r Server n) (drop n r.events) (drop n r.answers) (drop n r.views)
+    g : Grown m.world end
+    g = grown r.keys m.world (drop i r.events) (drop i r.answers) (drop i r.views) end m.goes_on
+
+    ids : FirstIds r.start honest.start.client_making.id honest.start.server_making.id
+    ids = first_ids r.start honest.start
+
+    at : (side : Side) → (times_told r side id i ≤ 1) × (state_at r side i ≡ states.Open → IsAt r i side calls.Event (answers.Event None) → ToldOnce r side id i)
+    at Client =
+        let whole : (rest : List (List ℕ)) × (m.world.from_client ++ rest ≡ r.from_client) = (g.client.0, g.client.1 ∙ sym run.from_client) in
+        let way = m.holds.both.to_server in
+        told_where r Client i id r.keys.client honest.start.server_making.id m.world.client m.world.from_client whole.0 _ way.streams way.arrives way.tells
+        (sight_is r Client i honest.start.client_making.id honest.start.server_making.id m.world.client m.world.from_client ids.client whole m.holds.of_client) (sym (m.state Client)) (λ is. answered r m.world end i Client calls.Event (answers.Event None) m.goes_on is)
+    at Server =
+        let whole : (rest : List (List ℕ)) × (m.world.from_server ++ rest ≡ r.from_server) = (g.server.0, g.server.1 ∙ sym run.from_server) in
+        let way = m.holds.both.to_client in
+        told_where r Server i id r.keys.server honest.start.client_making.id m.world.server m.world.from_server whole.0 _ way.streams way.arrives way.tells
+        (sight_is r Server i honest.start.server_making.id honest.start.client_making.id m.world.server m.world.from_server ids.server whole m.holds.of_server) (sym (m.state Server)) (λ is. answered r m.world end i Server calls.Event (answers.Event None) m.goes_on is)
+
+pub duties_stand : (r : Run) (end : World) → IsHonest r → IsRun r end → DutiesStand r
+duties_stand r end honest run n w served leads side duty = at side
+  where
+    m : Moment r.keys end (Holds r end honest run) (step r end honest run) r.start n r.events r.answers r.views (until r Client n) (until r Server n)
     m = place r end honest run n served
 
-    is : end ≡ m.world
-    is = over r.keys m.world end (drop n r.events) (drop n r.views) (subst (λ (told : List Answer). Follows r.keys m.world (drop n r.events) told (drop n r.views) end) (drop_all n r.answers (omega arith)) m.goes_on)
-
-    at : (side : Side) → ToldOnce (until r side n) (end_at side end)
-    at Client = subst (λ (w : World). ToldOnce (until r Client n) w.client) (sym is) (once_told (until r Client n) m.world.client m.holds.to_server.tells)
-    at Server = subst (λ (w : World). ToldOnce (until r Server n) w.server) (sym is) (once_told (until r Server n) m.world.server m.holds.to_client.tells)
-
-pub duties_stand : (r : Run) (end : World) → IsHonest r → IsRun r end → DutiesStand r end
-duties_stand r end honest run served side id = at side
-  where
-    n : ℕ
-    n = length r.answers
-
-    m : Moment r.keys end (Holds r end honest run) (step r end honest run) (until r Client n) (until r Server n) (drop n r.events) (drop n r.answers) (drop n r.views)
-    m = place r end honest run n served
-
-    is : end ≡ m.world
-    is = over r.keys m.world end (drop n r.events) (drop n r.views) (subst (λ (told : List Answer). Follows r.keys m.world (drop n r.events) told (drop n r.views) end) (drop_all n r.answers (omega arith)) m.goes_on)
+    is : w ≡ m.world
+    is = (one_run r.keys (take n r.answers) r.start (take n r.events) (take n r.views) (take n r.views) w m.world served leads m.came).1
 
     ids : FirstIds r.start honest.start.client_making.id honest.start.server_making.id
     ids = first_ids r.start honest.start
 
     -- what each side took is what came to it that is known by one id
     server_took : took r Server n ≡ (came r.keys.server honest.start.server_making.id r.from_client (until r Server n)).took
-    server_took = ap (λ known. (intake r.keys.server known r.from_client (until r Server n) nothing_came).took) ids.server
+    server_took = ap (λ j. j.took) (intake_is r Server n honest.start.server_making.id ids.server)
 
     client_took : took r Client n ≡ (came r.keys.client honest.start.client_making.id r.from_server (until r Client n)).took
-    client_took = ap (λ known. (intake r.keys.client known r.from_server (until r Client n) nothing_came).took) ids.client
+    client_took = ap (λ j. j.took) (intake_is r Client n honest.start.client_making.id ids.client)
 
-    at : (side : Side) → AreSomewhere (end_at side end) (took r (other_side side) n) id (until r side n)
-    at Client =
-        let way = m.holds.to_server in
-        subst (λ (w : World). AreSomewhere w.client (took r Server n) id (until r Client n)) (sym is) (subst (λ (packets : List Packet). AreSomewhere m.world.client packets id (until r Client n)) (sym server_took)
-        (are_somewhere m.world.client.side m.world.client (came r.keys.server honest.start.server_making.id r.from_client (until r Server n)).took (until r Client n) way.streams way.arrives way.flies id))
-    at Server =
-        let way = m.holds.to_client in
-        subst (λ (w : World). AreSomewhere w.server (took r Client n) id (until r Server n)) (sym is) (subst (λ (packets : List Packet). AreSomewhere m.world.server packets id (until r Server n)) (sym client_took)
-        (are_somewhere m.world.server.side m.world.server (came r.keys.client honest.start.client_making.id r.from_server (until r Client n)).took (until r Server n) way.streams way.arrives way.flies id))
+    at : (side : Side) → IsOwed (until r side n) duty → IsSomewhere (end_at side w) (took r (other_side side) n) (until r side n) duty
+    at Client owed =
+        let way = m.holds.both.to_server in
+        subst (λ (v : World). IsSomewhere v.client (took r Server n) (until r Client n) duty) (sym is) (subst (λ (packets : List Packet). IsSomewhere m.world.client packets (until r Client n) duty) (sym server_took)
+        (duty_somewhere m.world.client.side m.world.client (came r.keys.server honest.start.server_making.id r.from_client (until r Server n)).took (until r Client n) way.streams way.arrives way.flies duty owed))
+    at Server owed =
+        let way = m.holds.both.to_client in
+        subst (λ (v : World). IsSomewhere v.server (took r Client n) (until r Server n) duty) (sym is) (subst (λ (packets : List Packet). IsSomewhere m.world.server packets (until r Server n) duty) (sym client_took)
+        (duty_somewhere m.world.server.side m.world.server (came r.keys.client honest.start.client_making.id r.from_server (until r Client n)).took (until r Server n) way.streams way.arrives way.flies duty owed))
 
--- an open end waits for what its observer counts, whose peer knows it by one id and is known by one
-waits_for : (r : Run) (side : Side) (e : End) (own id : List ℕ) (given : List (List ℕ)) (i : ℕ) → known (end_at side r.start).ids ≡ own ∷ [] → known (end_at (other_side side) r.start).ids ≡ id ∷ [] → (rest : List (List ℕ)) × (given ++ rest ≡ given_of r side)
-    → InSight (policy_at side r.keys) (policy_at (other_side side) r.keys) own id e given (given_of r side) (given_of r (other_side side)) (end_at side r.start).closing.clock (until r side i) → e.closing.state ≡ states.Open
-    → e.tracking.packets ≡ in_flight r side i
-waits_for r side e own id given i own_is id_is whole sight opened =
-    ap (λ (x : Flight). x.packets) (sym ((sight whole.0 whole.1).flight opened))
-    ∙ ap (λ (ids : List (List ℕ)). (watched (record (lens_of r side) { taker_ids = ids; own_ids = own ∷ [] }) (until r side i) (first_watch (end_at side r.start).closing.clock)).flight.packets) (sym id_is)
-    ∙ ap (λ (ids : List (List ℕ)). (watched (record (lens_of r side) { own_ids = ids }) (until r side i) (first_watch (end_at side r.start).closing.clock)).flight.packets) (sym own_is)
-
-pub tracks_in_flight : (r : Run) (end : World) → IsHonest r → IsRun r end → TracksInFlight r end
-tracks_in_flight r end honest run served side = at side
+pub tracks_in_flight : (r : Run) (end : World) → IsHonest r → IsRun r end → TracksInFlight r
+tracks_in_flight r end honest run n w served leads side = at side
   where
-    n : ℕ
-    n = length r.answers
+    m : Moment r.keys end (Holds r end honest run) (step r end honest run) r.start n r.events r.answers r.views (until r Client n) (until r Server n)
+    m = place r end honest run n served
 
-    m : Moment r.keys end (Shows r end honest run) (shows_step r end honest run) (until r Client n) (until r Server n) (drop n r.events) (drop n r.answers) (drop n r.views)
-    m = shown r end honest run n served
-
-    is : end ≡ m.world
-    is = over r.keys m.world end (drop n r.events) (drop n r.views) (subst (λ (told : List Answer). Follows r.keys m.world (drop n r.events) told (drop n r.views) end) (drop_all n r.answers (omega arith)) m.goes_on)
+    is : w ≡ m.world
+    is = (one_run r.keys (take n r.answers) r.start (take n r.events) (take n r.views) (take n r.views) w m.world served leads m.came).1
 
     g : Grown m.world end
     g = grown r.keys m.world (drop n r.events) (drop n r.answers) (drop n r.views) end m.goes_on
@@ -285,11 +295,11 @@ tracks_in_flight r end honest run served side = at side
     ids : FirstIds r.start honest.start.client_making.id honest.start.server_making.id
     ids = first_ids r.start honest.start
 
-    at : (side : Side) → (end_at side end).closing.state ≡ states.Open → (end_at side end).tracking.packets ≡ in_flight r side n
-    at Client = subst (λ (w : World). w.client.closing.state ≡ states.Open → w.client.tracking.packets ≡ in_flight r Client n) (sym is)
-        (waits_for r Client m.world.client honest.start.client_making.id honest.start.server_making.id m.world.from_client n ids.client ids.server (g.client.0, g.client.1 ∙ sym run.from_client) m.holds.of_client)
-    at Server = subst (λ (w : World). w.server.closing.state ≡ states.Open → w.server.tracking.packets ≡ in_flight r Server n) (sym is)
-        (waits_for r Server m.world.server honest.start.server_making.id honest.start.client_making.id m.world.from_server n ids.server ids.client (g.server.0, g.server.1 ∙ sym run.from_server) m.holds.of_server)
+    at : (side : Side) → (end_at side w).closing.state ≡ states.Open → (end_at side w).tracking.packets ≡ in_flight r side n
+    at Client = subst (λ (v : World). v.client.closing.state ≡ states.Open → v.client.tracking.packets ≡ in_flight r Client n) (sym is)
+        (λ opened. ((sight_is r Client n honest.start.client_making.id honest.start.server_making.id m.world.client m.world.from_client ids.client (g.client.0, g.client.1 ∙ sym run.from_client) m.holds.of_client).watched.flight opened).waits)
+    at Server = subst (λ (v : World). v.server.closing.state ≡ states.Open → v.server.tracking.packets ≡ in_flight r Server n) (sym is)
+        (λ opened. ((sight_is r Server n honest.start.server_making.id honest.start.client_making.id m.world.server m.world.from_server ids.server (g.server.0, g.server.1 ∙ sym run.from_server) m.holds.of_server).watched.flight opened).waits)
 
 pub acknowledged_were_taken : (r : Run) (end : World) → IsHonest r → IsRun r end → AcknowledgedWereTaken r
 acknowledged_were_taken r end honest run side i number served named = (seen r end honest run side i served).named number named
@@ -300,7 +310,7 @@ names_were_taken r end honest run side i x number datagram served given named = 
 pub opens_exactly : (r : Run) (end : World) → IsHonest r → IsRun r end → OpensExactly r
 opens_exactly r end honest run side i injection a served at =
     let s = seen r end honest run side i served in
-    opens_by (policy_at side r.keys) s.end injection.now injection.bytes a (known (end_at side r.start).ids) (expected_behind (took r side i)) s.ids s.expects (s.answers (calls.Inject injection) a at)
+    opens_by (policy_at side r.keys) s.end injection.now injection.bytes a (watch r side i).intake.ids (expected_behind (took r side i)) s.ids s.expects (s.answers (calls.Inject injection) a at)
 
 -- new ends track nothing, and have no timer set
 pub timers_start : (w : World) → AreStarted w → LossTimersFollow w

@@ -17,10 +17,10 @@ use Rattle.quic_machine.specs.Numbers.{number_given}
 use Rattle.quic_streams.specs.Sending.{SendHalf}
 use Rattle.quic_machine.specs.End.{End, closed_by, with_numbers}
 use Rattle.quic_machine.specs.Receive.{timers_after}
-use Rattle.quic_machine.specs.Poll.{Polled, Draft, no_frames, ping_if, with_ping_frame, stream_if, with_ack, ack_fits, ack_if, with_asking, composed_if, composed, asking, tracked_if, polled}
+use Rattle.quic_machine.specs.Poll.{Polled, Draft, with_ack, composed, asking, tracked_if, polled}
 use Rattle.quic_machine.specs.Machine.{World, Policies, after_call, Follows}
 use Rattle.quic_headline.specs.Headline.{AckTimerFollows, AckTimersFollow}
-use Rattle.quic_machine.specs.DraftLaws.{streams_keep}
+use Rattle.quic_machine.specs.DraftLaws.{by_writing}
 use Rattle.quic_machine.specs.LeaveCases.{at_expiry}
 use Rattle.quic_machine.specs.CallCases.{by_plain_call}
 use Rattle.quic_machine.specs.FrameCases.{Settling, Receives, named, acked_keeps, frame_keeps, by_received}
@@ -65,29 +65,9 @@ receives = record {
 
 -- ---- a poll
 
--- an ACK that goes stops the timer
-ack_goes_follows : (b : Bool) (d : Draft) → AckTimerFollows d.end → AckTimerFollows (ack_if b d).end
-ack_goes_follows true d i = unset_follows (with_ack d).end refl
-ack_goes_follows false d i = i
-
--- what asks leaves it
-half_follows : (o : Option SendHalf) (d : Draft) (id : ℕ) → AckTimerFollows d.end → AckTimerFollows (stream_if o d id).end
-half_follows None d id i = i
-half_follows (Some h) d id i = i
-
-ping_follows : (b : Bool) (d : Draft) → AckTimerFollows d.end → AckTimerFollows (ping_if b d).end
-ping_follows true d i = i
-ping_follows false d i = i
-
-asking_follows : (d : Draft) → AckTimerFollows d.end → AckTimerFollows (with_asking d).end
-asking_follows d i = streams_keep (λ x. AckTimerFollows x.end) (λ x id is f. half_follows (at x.end.sending.halves id) x id f) (with_ping_frame d) (ping_follows d.end.waiting.ping d i)
-
--- a due ACK goes first, and another last
-composed_follows : (b : Bool) (e : End) → AckTimerFollows e → AckTimerFollows (composed_if b e).end
-composed_follows true e i = asking_follows (with_ack (no_frames e)) (ack_goes_follows true (no_frames e) i)
-composed_follows false e i =
-    let asked = with_asking (no_frames e) in
-    ack_goes_follows (ack_fits asked) asked (asking_follows (no_frames e) i)
+-- an ACK that goes stops the timer, and no other frame changes it
+composed_follows : (e : End) → AckTimerFollows e → AckTimerFollows (composed e).end
+composed_follows = by_writing (λ (d : Draft). AckTimerFollows d.end) (record { ack = λ d filled may i. unset_follows (with_ack d).end refl; control = λ d f w is i. i; stream = λ d id h found room i. i })
 
 -- what goes may be tracked
 given_follows : (b : Bool) (d : Draft) → AckTimerFollows d.end → AckTimerFollows (with_numbers (tracked_if b d) (number_given d.end.numbers))
@@ -100,7 +80,7 @@ polled_follows p e now i = by_poll_to p e now (λ (q : Polled). AckTimerFollows 
   failed = i;
   idle = λ pings. i;
   used_up = λ pings. closed_follows reasons.NumberLimit (at_moment e now pings);
-  gives = λ pings is may some ready. given_follows (asking (composed (at_moment e now pings)).frames) (composed (at_moment e now pings)) (composed_follows (can_send e.acknowledging) (at_moment e now pings) i);
+  gives = λ pings is may some ready. given_follows (asking (composed (at_moment e now pings)).frames) (composed (at_moment e now pings)) (composed_follows (at_moment e now pings) i);
 })
 
 -- ---- any call

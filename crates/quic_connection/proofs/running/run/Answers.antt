@@ -1,5 +1,5 @@
 -- The headline, of the answers, views and datagrams of a run.
-use Rattle.std.proofs.Common.{refl}
+use Rattle.std.proofs.Common.{refl, take}
 use Rattle.quic_machine.specs.Machine.{Policies}
 use Rattle.quic_headline.specs.Runs.{Run}
 use Rattle.quic_connection.specs.Ends.{world_of, first_world, policies_of, run_of}
@@ -54,12 +54,12 @@ returns-clause-finished_means_arrived g c =
     let r : Run = run_of keys c.args.ends c.args.events.now o.answers.items o.views.items o.given in
     λ honest. c.finished_means_arrived.ensures r (world_of o.ends o.given) honest (record { follows = c.run_events.ensures.follows; from_client = refl; from_server = refl })
 
-pub returns-clause-told_once : goal.returns-clause-told_once
-returns-clause-told_once g c =
+pub returns-clause-finished_is_told : goal.returns-clause-finished_is_told
+returns-clause-finished_is_told g c =
     let o = c.run_events.result in
     let keys : Policies = policies_of g.H.HeaderKey.protection g.K.PacketKey.aead c.args.ends in
     let r : Run = run_of keys c.args.ends c.args.events.now o.answers.items o.views.items o.given in
-    λ honest. c.told_once.ensures r (world_of o.ends o.given) honest (record { follows = c.run_events.ensures.follows; from_client = refl; from_server = refl })
+    λ honest. c.finished_is_told.ensures r (world_of o.ends o.given) honest (record { follows = c.run_events.ensures.follows; from_client = refl; from_server = refl })
 
 pub returns-clause-duties_stand : goal.returns-clause-duties_stand
 returns-clause-duties_stand g c =
@@ -74,6 +74,20 @@ returns-clause-tracks_in_flight g c =
     let keys : Policies = policies_of g.H.HeaderKey.protection g.K.PacketKey.aead c.args.ends in
     let r : Run = run_of keys c.args.ends c.args.events.now o.answers.items o.views.items o.given in
     λ honest. c.tracks_in_flight.ensures r (world_of o.ends o.given) honest (record { follows = c.run_events.ensures.follows; from_client = refl; from_server = refl })
+
+pub returns-clause-loss_moments : goal.returns-clause-loss_moments
+returns-clause-loss_moments g c =
+    let o = c.run_events.result in
+    let keys : Policies = policies_of g.H.HeaderKey.protection g.K.PacketKey.aead c.args.ends in
+    let r : Run = run_of keys c.args.ends c.args.events.now o.answers.items o.views.items o.given in
+    λ honest. c.loss_moments.ensures r (world_of o.ends o.given) honest (record { follows = c.run_events.ensures.follows; from_client = refl; from_server = refl })
+
+pub returns-clause-ack_moments : goal.returns-clause-ack_moments
+returns-clause-ack_moments g c =
+    let o = c.run_events.result in
+    let keys : Policies = policies_of g.H.HeaderKey.protection g.K.PacketKey.aead c.args.ends in
+    let r : Run = run_of keys c.args.ends c.args.events.now o.answers.items o.views.items o.given in
+    λ honest. c.ack_moments.ensures r (world_of o.ends o.given) honest (record { follows = c.run_events.ensures.follows; from_client = refl; from_server = refl })
 
 pub returns-clause-acknowledged_were_taken : goal.returns-clause-acknowledged_were_taken
 returns-clause-acknowledged_were_taken g c =
@@ -100,13 +114,13 @@ pub returns-clause-loss_timers_follow : goal.returns-clause-loss_timers_follow
 returns-clause-loss_timers_follow g c =
     let o = c.run_events.result in
     let keys : Policies = policies_of g.H.HeaderKey.protection g.K.PacketKey.aead c.args.ends in
-    c.loss_timers_follow.ensures.runs keys (first_world c.args.ends) (world_of o.ends o.given) c.args.events.now o.answers.items o.views.items c.run_events.ensures.follows
+    λ first i w leads. c.loss_timers_follow.ensures.runs keys (first_world c.args.ends) w (take i c.args.events.now) (take i o.answers.items) (take i o.views.items) leads first
 
 pub returns-clause-ack_timers_follow : goal.returns-clause-ack_timers_follow
 returns-clause-ack_timers_follow g c =
     let o = c.run_events.result in
     let keys : Policies = policies_of g.H.HeaderKey.protection g.K.PacketKey.aead c.args.ends in
-    c.ack_timers_follow.ensures.runs keys (first_world c.args.ends) (world_of o.ends o.given) c.args.events.now o.answers.items o.views.items c.run_events.ensures.follows
+    λ first i w leads. c.ack_timers_follow.ensures.runs keys (first_world c.args.ends) w (take i c.args.events.now) (take i o.answers.items) (take i o.views.items) leads first
 
 pub returns-clause-numbers_rise : goal.returns-clause-numbers_rise
 returns-clause-numbers_rise g c =
@@ -114,3 +128,31 @@ returns-clause-numbers_rise g c =
     let keys : Policies = policies_of g.H.HeaderKey.protection g.K.PacketKey.aead c.args.ends in
     let r : Run = run_of keys c.args.ends c.args.events.now o.answers.items o.views.items o.given in
     λ honest. c.numbers_rise.ensures r (world_of o.ends o.given) honest (record { follows = c.run_events.ensures.follows; from_client = refl; from_server = refl })
+
+pub returns-clause-no_blame : goal.returns-clause-no_blame
+returns-clause-no_blame g c =
+    let o = c.run_events.result in
+    let keys : Policies = policies_of g.H.HeaderKey.protection g.K.PacketKey.aead c.args.ends in
+    let r : Run = run_of keys c.args.ends c.args.events.now o.answers.items o.views.items o.given in
+    λ honest. c.no_blame.ensures r (world_of o.ends o.given) honest (record { follows = c.run_events.ensures.follows; from_client = refl; from_server = refl })
+
+pub returns-clause-too_many_pieces : goal.returns-clause-too_many_pieces
+returns-clause-too_many_pieces g c =
+    let o = c.run_events.result in
+    let keys : Policies = policies_of g.H.HeaderKey.protection g.K.PacketKey.aead c.args.ends in
+    let r : Run = run_of keys c.args.ends c.args.events.now o.answers.items o.views.items o.given in
+    λ honest. c.too_many_pieces.ensures r (world_of o.ends o.given) honest (record { follows = c.run_events.ensures.follows; from_client = refl; from_server = refl })
+
+pub returns-clause-number_limit : goal.returns-clause-number_limit
+returns-clause-number_limit g c =
+    let o = c.run_events.result in
+    let keys : Policies = policies_of g.H.HeaderKey.protection g.K.PacketKey.aead c.args.ends in
+    let r : Run = run_of keys c.args.ends c.args.events.now o.answers.items o.views.items o.given in
+    λ honest. c.number_limit.ensures r (world_of o.ends o.given) honest (record { follows = c.run_events.ensures.follows; from_client = refl; from_server = refl })
+
+pub returns-clause-taken_or_too_many : goal.returns-clause-taken_or_too_many
+returns-clause-taken_or_too_many g c =
+    let o = c.run_events.result in
+    let keys : Policies = policies_of g.H.HeaderKey.protection g.K.PacketKey.aead c.args.ends in
+    let r : Run = run_of keys c.args.ends c.args.events.now o.answers.items o.views.items o.given in
+    λ honest. c.taken_or_too_many.ensures r (world_of o.ends o.given) honest (record { follows = c.run_events.ensures.follows; from_client = refl; from_server = refl })

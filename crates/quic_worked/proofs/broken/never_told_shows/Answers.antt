@@ -1,6 +1,6 @@
-use Rattle.quic_worked.proofs.BrokenClauses.{tells_never}
+use Rattle.quic_worked.proofs.BrokenClauses.{unacknowledged, told_exactly, tells_never}
 use Rattle.quic_worked.proofs.BrokenRuns.{never_silent}
 use Rattle.quic_worked.proofs.broken.never_told_shows.Goals as goal
 
 pub returns : goal.returns
-returns c = record { once = tells_never; machine = never_silent }
+returns c = record { before = unacknowledged; told = told_exactly; once = tells_never; machine = never_silent }

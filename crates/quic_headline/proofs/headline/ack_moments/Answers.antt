@@ -1,0 +1,5 @@
+use Rattle.quic_headline.proofs.Timers.AckMoments.{ack_moments}
+use Rattle.quic_headline.proofs.headline.ack_moments.Goals as goal
+
+pub returns : goal.returns
+returns c = ack_moments

@@ -1,0 +1,74 @@
+-- Runs in which an end closes that has no reason to: the worked run up to the first delivery, with another answer and another view.
+use Rattle.std.specs.Prelude.{true, [], ◌∷◌, ◌++◌, replicate, Some, None, Ok}
+use Rattle.quic_wire_core.specs.TransportError.{ErrorValue}
+use Rattle.quic_machine.specs.declared.answers.State.TheVariants as states
+use Rattle.quic_machine.specs.declared.answers.LostReason.{LostReason}
+use Rattle.quic_machine.specs.declared.answers.LostReason.TheVariants as reasons
+use Rattle.quic_machine.specs.declared.answers.Received.TheVariants as receives
+use Rattle.quic_machine.specs.declared.run.Answer.TheVariants as answers
+use Rattle.quic_machine.specs.declared.run.EndView.{EndView}
+use Rattle.quic_machine.specs.Receive.{plain_error}
+use Rattle.quic_headline.specs.Runs.{Run}
+use Rattle.quic_worked.specs.Worked.{worked_policies, started, hello_datagram, sending_events, delivers, gives_bytes, open_view, sent_view}
+
+-- what is seen of an end that closed for a reason: no timer is set any more
+abbrev pub closed_view : LostReason → EndView
+closed_view reason = record {
+  state = states.Drained;
+  reason = Some reason;
+  validated = true;
+  timers = replicate 9 None;
+  window = None;
+  current_mtu = None;
+}
+
+-- the server is handed the client's datagram, answers with an error, and closes for a reason
+abbrev pub refusing : ErrorValue → LostReason → Run
+refusing error reason = record {
+  keys = worked_policies;
+  start = started;
+  events = sending_events ++ delivers ∷ [];
+  answers =
+      answers.Open (Ok (Some 0))
+      ∷ answers.Write (Ok 5)
+      ∷ answers.Finish (Ok tt)
+      ∷ gives_bytes 34
+      ∷ answers.Deliver (receives.Closed error)
+      ∷ [];
+  views =
+      replicate 3 (record { client = open_view; server = open_view })
+      ++ record { client = sent_view; server = open_view }
+      ∷ record { client = sent_view; server = closed_view reason }
+      ∷ [];
+  from_client = hello_datagram ∷ [];
+  from_server = [];
+}
+
+-- a server that refuses bytes below the limits that it told, as if they went past them:
+-- FLOW_CONTROL_ERROR (RFC 9000, section 4.1)
+abbrev pub below_limits : Run
+below_limits = refusing (plain_error 3) (reasons.Transport (plain_error 3))
+
+-- a server that refuses the first bytes of a stream as too many pieces, by INTERNAL_ERROR
+abbrev pub early_pieces : Run
+early_pieces = refusing (plain_error 1) reasons.Pieces
+
+-- a client that closes at its first poll for used-up numbers
+abbrev pub early_limit : Run
+early_limit = record {
+  keys = worked_policies;
+  start = started;
+  events = sending_events;
+  answers =
+      answers.Open (Ok (Some 0))
+      ∷ answers.Write (Ok 5)
+      ∷ answers.Finish (Ok tt)
+      ∷ answers.Poll (Ok None)
+      ∷ [];
+  views =
+      replicate 3 (record { client = open_view; server = open_view })
+      ++ record { client = closed_view reasons.NumberLimit; server = open_view }
+      ∷ [];
+  from_client = [];
+  from_server = [];
+}

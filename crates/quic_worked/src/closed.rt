@@ -1,0 +1,42 @@
+//! Runs in which an end closes, or refuses a packet, that has no reason to, computed: each breaks a
+//! clause of the headline, and is none that the reference machine makes. Each function does nothing:
+//! its contract is the law.
+ghost use Rattle.std.specs.Prelude.{◌≡◌, [], ◌∷◌};
+ghost use Rattle.quic_wire_core.specs.declared.stream_id.Side.TheVariants.{Server};
+ghost use Rattle.quic_machine.specs.declared.run.ReadCall.{ReadCall};
+ghost use Rattle.quic_machine.specs.declared.run.Answer.TheVariants as answers;
+ghost use Rattle.quic_machine.specs.declared.answers.Received.TheVariants as receives;
+ghost use Rattle.quic_machine.specs.Ids.{known};
+ghost use Rattle.quic_headline.specs.Runs.{until};
+ghost use Rattle.quic_headline.specs.Causes.{NoBlame, NumberLimit, HasCome, TooManyPieces, TakenOrTooMany};
+ghost use Rattle.quic_worked.specs.Worked.{worked_policies, started, worked_run, hello_datagram};
+ghost use Rattle.quic_worked.specs.Broken.{IsNoRun};
+ghost use Rattle.quic_worked.specs.Closed.{below_limits, early_pieces, early_limit};
+
+/// In the worked run the packet of the client comes to the server, which takes it.
+pub fn hello_is_taken()
+    ensures { (read : ReadCall)
+        → (c : HasCome worked_policies.server (known started.server.ids) (hello_datagram ∷ [])
+        (until (worked_run read) Server 8))
+        × (c.call.answer ≡ answers.Deliver receives.Taken) }
+{}
+
+/// A machine that refuses bytes below the limits that it told blames the other end, and doesn't take what
+/// keeps the rules.
+pub fn below_limits_shows()
+    ensures blame { NoBlame below_limits → ⊥ }
+    ensures taken { TakenOrTooMany below_limits → ⊥ }
+    ensures machine { IsNoRun below_limits }
+{}
+
+/// A machine that closes for too many pieces where one came.
+pub fn early_pieces_show()
+    ensures pieces { TooManyPieces early_pieces → ⊥ }
+    ensures machine { IsNoRun early_pieces }
+{}
+
+/// A machine that closes for used-up numbers before it gave any has all of them left.
+pub fn early_limit_shows()
+    ensures numbers { NumberLimit early_limit → ⊥ }
+    ensures machine { IsNoRun early_limit }
+{}
