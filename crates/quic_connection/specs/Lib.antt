@@ -6,6 +6,8 @@ pub use Rattle.quic_headline.specs.Observer
 pub use Rattle.quic_headline.specs.Headline
 pub use Rattle.quic_headline.specs.Duties
 pub use Rattle.quic_headline.specs.InFlight
+pub use Rattle.quic_headline.specs.Causes
+pub use Rattle.quic_headline.specs.Moments
 pub use Rattle.quic_machine.specs.Policy
 pub use Rattle.quic_machine.specs.Closing
 pub use Rattle.quic_machine.specs.Numbers

@@ -7,16 +7,14 @@ use Rattle.quic_wire_core.specs.StreamId.{other_side}
 use Rattle.quic_wire.specs.Value.{FrameValue, StreamValue, stream}
 use Rattle.quic_wire.specs.Items.{items}
 use Rattle.quic_packet.specs.Datagram.{Opening}
-use Rattle.quic_assembler.specs.declared.assembler.TheConstants.{MOST_PIECES}
 use Rattle.quic_machine.specs.declared.answers.State.TheVariants as states
 use Rattle.quic_machine.specs.declared.answers.LostReason.{LostReason}
 use Rattle.quic_machine.specs.declared.answers.LostReason.TheVariants as reasons
 use Rattle.quic_machine.specs.declared.answers.Received.TheVariants as receives
 use Rattle.quic_machine.specs.declared.run.Answer.TheVariants as answers
 use Rattle.quic_machine.specs.declared.run.View.{View}
-use Rattle.quic_machine.specs.Receive.{too_many_pieces, error_of}
+use Rattle.quic_wire_core.specs.TransportError.{ErrorValue}
 use Rattle.quic_machine.specs.Ids.{known}
-use Rattle.quic_machine.specs.Numbers.{kept_numbers}
 use Rattle.quic_machine.specs.Policy.{Policy}
 use Rattle.quic_machine.specs.Opens.{opens}
 use Rattle.quic_machine.specs.Machine.{policy_at, end_at}
@@ -52,10 +50,14 @@ NoBlame r = (side : Side) (place : ℕ) (reason : Option LostReason) → Shows r
 
 -- ---- used-up numbers
 
+-- how many numbers are kept back for closes
+abbrev pub kept_back : ℕ
+kept_back = 16
+
 -- An ordinary datagram can't be numbered, where this is the next number, and this the greatest that was acknowledged: with the
 -- numbers that are kept for closes, numbers would reach 2^62, or lie 2^31 or more above the greatest acknowledged (RFC 9000, sections 12.3 and A.2).
 abbrev pub AreUsedUp : ℕ → ℕ → Type 0
-AreUsedUp next acknowledged = (2 ^ 62 ≤ next + kept_numbers) ⊎ (2 ^ 31 ≤ next - acknowledged + kept_numbers)
+AreUsedUp next acknowledged = (2 ^ 62 ≤ next + kept_back) ⊎ (2 ^ 31 ≤ next - acknowledged + kept_back)
 
 -- an end closes for used-up numbers only where they are
 abbrev pub NumberLimit : Run → Type 0
@@ -85,7 +87,7 @@ came_by p ids given told = folded (and_told p given) told (nothing_came ids)
 
 -- Of the calls at an end, with these keys and ids, one handed a datagram to the end while it was open, which opened to a packet
 -- that was no duplicate. `given` are the datagrams that the other end gave.
-pub record HasCome (p : Policy) (ids given : List (List ℕ)) (told : List Told) : Type 0 where
+pub record PacketCame (p : Policy) (ids given : List (List ℕ)) (told : List Told) : Type 0 where
   -- the calls before that one, it, and those behind it
   pub before : List Told
   pub call : Told
@@ -102,7 +104,7 @@ pub record HasCome (p : Policy) (ids given : List (List ℕ)) (told : List Told)
 
 -- It has a STREAM frame with which more than so many runs of its stream had arrived and not been read: in the packets that were
 -- taken before it, and in its own frames up to that one.
-pub record IsCrowded (p : Policy) (ids given : List (List ℕ)) (told : List Told) (c : HasCome p ids given told) (count : ℕ) : Type 0 where
+pub record IsCrowded (p : Policy) (ids given : List (List ℕ)) (told : List Told) (c : PacketCame p ids given told) (count : ℕ) : Type 0 where
   -- its frames before that one, it, and those behind it
   pub front : List FrameValue
   pub frame : StreamValue
@@ -110,21 +112,29 @@ pub record IsCrowded (p : Policy) (ids given : List (List ℕ)) (told : List Tol
   pub frames : frames_of (items c.opening.payload) ≡ front ++ stream frame ∷ rest
   pub many : HasMoreRuns (IsUnread (record { number = c.opening.number; frames = front ++ stream frame ∷ [] } ∷ (came_by p ids given c.before).took) c.before frame.id) count
 
+-- so many runs of a stream may wait to be read (RFC 9000, section 21.7)
+abbrev pub most_runs : ℕ
+most_runs = 2048
+
+-- INTERNAL_ERROR, of no frame (section 20.1)
+abbrev pub internal_error : ErrorValue
+internal_error = record { code = 1; frame = None }
+
 -- one that has it came
 pub record CrowdCame (p : Policy) (ids given : List (List ℕ)) (told : List Told) : Type 0 where
-  pub packet : HasCome p ids given told
-  pub crowded : IsCrowded p ids given told packet MOST_PIECES
+  pub packet : PacketCame p ids given told
+  pub crowded : IsCrowded p ids given told packet most_runs
 
 -- an end closes for too many pieces only where more than 2048 runs of one stream had arrived and not been read
 abbrev pub TooManyPieces : Run → Type 0
 TooManyPieces r = (side : Side) (place : ℕ) → Shows r side place (Some reasons.Pieces) → CrowdCame (policy_at side r.keys) (known (end_at side r.start).ids) (given_of r (other_side side)) (until r side (place + 1))
 
 -- A packet that came was taken whole; or it was refused, by INTERNAL_ERROR, and came to too many pieces.
-abbrev pub IsTakenOrCrowded : (p : Policy) (ids given : List (List ℕ)) (told : List Told) → HasCome p ids given told → Type 0
-IsTakenOrCrowded p ids given told c = (c.call.answer ≡ answers.Deliver receives.Taken) ⊎ ((c.call.answer ≡ answers.Deliver (receives.Closed (error_of too_many_pieces))) × IsCrowded p ids given told c MOST_PIECES)
+abbrev pub IsTakenOrCrowded : (p : Policy) (ids given : List (List ℕ)) (told : List Told) → PacketCame p ids given told → Type 0
+IsTakenOrCrowded p ids given told c = (c.call.answer ≡ answers.Deliver receives.Taken) ⊎ ((c.call.answer ≡ answers.Deliver (receives.Closed internal_error)) × IsCrowded p ids given told c most_runs)
 
 -- each packet that comes is taken whole, unless it comes to too many pieces: so it is the rules of receiving that say which packets an
 -- end takes, and not what it answers
 abbrev pub TakenOrTooMany : Run → Type 0
-TakenOrTooMany r = (side : Side) (i : ℕ) → AreServed r i → (c : HasCome (policy_at side r.keys) (known (end_at side r.start).ids) (given_of r (other_side side)) (until r side i))
+TakenOrTooMany r = (side : Side) (i : ℕ) → AreServed r i → (c : PacketCame (policy_at side r.keys) (known (end_at side r.start).ids) (given_of r (other_side side)) (until r side i))
     → IsTakenOrCrowded (policy_at side r.keys) (known (end_at side r.start).ids) (given_of r (other_side side)) (until r side i) c

@@ -20,7 +20,7 @@ use Rattle.quic_machine.specs.declared.run.ReadCall.{ReadCall}
 use Rattle.quic_machine.specs.Ids.{known}
 use Rattle.quic_machine.specs.Receive.{plain_error}
 use Rattle.quic_headline.specs.Runs.{Told, Packet, Intake, In, until, handed, expected_behind, frames_of, HasArrived}
-use Rattle.quic_headline.specs.Causes.{Shows, NoBlame, AreUsedUp, NumberLimit, came_by, HasCome, IsCrowded, IsTakenOrCrowded, BeginsRun, HasMoreRuns, IsUnread, TooManyPieces, TakenOrTooMany}
+use Rattle.quic_headline.specs.Causes.{Shows, NoBlame, AreUsedUp, NumberLimit, came_by, PacketCame, IsCrowded, IsTakenOrCrowded, BeginsRun, HasMoreRuns, IsUnread, TooManyPieces, TakenOrTooMany}
 use Rattle.quic_worked.specs.Worked.{worked_policies, started, worked_run, once_ended, once_sent, once_taken, delivery, delivers, asks_datagram, open_view, sent_view, hello_datagram, hello_opening, hello_frame, hello_payload}
 use Rattle.quic_worked.specs.Broken.{IsNoRun}
 use Rattle.quic_worked.specs.Closed.{closed_view, below_limits, early_pieces, early_limit}
@@ -40,7 +40,7 @@ below_blames h = h Server 4 (Some (reasons.Transport (plain_error 3))) below_sho
 -- ---- the packet that came
 
 -- the packet of the client comes to the server of the worked run, which takes it
-pub hello_came : (read : ReadCall) → HasCome worked_policies.server (known started.server.ids) (hello_datagram ∷ []) (until (worked_run read) Server 8)
+pub hello_came : (read : ReadCall) → PacketCame worked_policies.server (known started.server.ids) (hello_datagram ∷ []) (until (worked_run read) Server 8)
 hello_came read = record {
   before = [];
   call = record { call = calls.Deliver delivery; answer = answers.Deliver receives.Taken; state = states.Open };
@@ -59,7 +59,7 @@ unfolding hello_came
 hello_is_taken read = refl
 
 -- it comes to the server that refuses it
-refused_came : HasCome worked_policies.server (known started.server.ids) (hello_datagram ∷ []) (until below_limits Server 5)
+refused_came : PacketCame worked_policies.server (known started.server.ids) (hello_datagram ∷ []) (until below_limits Server 5)
 refused_came = record {
   before = [];
   call = record { call = calls.Deliver delivery; answer = answers.Deliver (receives.Closed (plain_error 3)); state = states.Open };
@@ -180,7 +180,7 @@ abbrev closing_call : Told
 closing_call = record { call = calls.Deliver delivery; answer = answers.Deliver (receives.Closed (plain_error 1)); state = states.Open }
 
 abbrev HasComeEarly : Type 0
-HasComeEarly = HasCome worked_policies.server (known started.server.ids) (hello_datagram ∷ []) (until early_pieces Server 5)
+HasComeEarly = PacketCame worked_policies.server (known started.server.ids) (hello_datagram ∷ []) (until early_pieces Server 5)
 
 -- what came to it by calls
 abbrev came : List Told → Intake

@@ -8,7 +8,7 @@ ghost use Rattle.quic_machine.specs.declared.run.Answer.TheVariants as answers;
 ghost use Rattle.quic_machine.specs.declared.answers.Received.TheVariants as receives;
 ghost use Rattle.quic_machine.specs.Ids.{known};
 ghost use Rattle.quic_headline.specs.Runs.{until};
-ghost use Rattle.quic_headline.specs.Causes.{NoBlame, NumberLimit, HasCome, TooManyPieces, TakenOrTooMany};
+ghost use Rattle.quic_headline.specs.Causes.{NoBlame, NumberLimit, PacketCame, TooManyPieces, TakenOrTooMany};
 ghost use Rattle.quic_worked.specs.Worked.{worked_policies, started, worked_run, hello_datagram};
 ghost use Rattle.quic_worked.specs.Broken.{IsNoRun};
 ghost use Rattle.quic_worked.specs.Closed.{below_limits, early_pieces, early_limit};
@@ -16,7 +16,7 @@ ghost use Rattle.quic_worked.specs.Closed.{below_limits, early_pieces, early_lim
 /// In the worked run the packet of the client comes to the server, which takes it.
 pub fn hello_is_taken()
     ensures { (read : ReadCall)
-        → (c : HasCome worked_policies.server (known started.server.ids) (hello_datagram ∷ [])
+        → (c : PacketCame worked_policies.server (known started.server.ids) (hello_datagram ∷ [])
         (until (worked_run read) Server 8))
         × (c.call.answer ≡ answers.Deliver receives.Taken) }
 {}

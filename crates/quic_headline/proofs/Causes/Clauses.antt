@@ -16,7 +16,7 @@ use Rattle.quic_machine.specs.Machine.{World, IsStep, policy_at, end_at, fails, 
 use Rattle.quic_headline.specs.Runs.{Run, Told, Intake, given_of, told_by, until, AreServed, acknowledged}
 use Rattle.quic_headline.specs.Headline.{IsHonest, IsRun}
 use Rattle.quic_headline.specs.Observer.{Watch, first_watch, lens_of, sents_until, next_number}
-use Rattle.quic_headline.specs.Causes.{reason_in, Shows, AreUsedUp, IsBlameless, NoBlame, NumberLimit, HasCome, IsTakenOrCrowded, TooManyPieces, TakenOrTooMany}
+use Rattle.quic_headline.specs.Causes.{reason_in, Shows, AreUsedUp, IsBlameless, NoBlame, NumberLimit, PacketCame, IsTakenOrCrowded, TooManyPieces, TakenOrTooMany}
 use Rattle.quic_headline.proofs.Places.Moments.{Grown, grown, last_view, Moment, moment}
 use Rattle.quic_headline.proofs.Packets.Watching.{watched_intake}
 use Rattle.quic_headline.proofs.Places.Seen.{sight_is}
@@ -121,7 +121,7 @@ module _ (r : Run) (end : World) (honest : IsHonest r) (run : IsRun r end) where
           (subst (λ (n : ℕ). CauseIs r.keys.server (server_id ∷ []) r.from_client told n reason) server_next cause))
 
   -- what each packet that came to an end was answered
-  judged_is : (side : Side) (i : ℕ) → AreServed r i → (c : HasCome (policy_at side r.keys) (known (end_at side r.start).ids) (given_of r (other_side side)) (until r side i)) → IsTakenOrCrowded (policy_at side r.keys) (known (end_at side r.start).ids) (given_of r (other_side side)) (until r side i) c
+  judged_is : (side : Side) (i : ℕ) → AreServed r i → (c : PacketCame (policy_at side r.keys) (known (end_at side r.start).ids) (given_of r (other_side side)) (until r side i)) → IsTakenOrCrowded (policy_at side r.keys) (known (end_at side r.start).ids) (given_of r (other_side side)) (until r side i) c
   judged_is side i served = at side
     where
       m : Moment r.keys end Holds holds_step r.start i r.events r.answers r.views (until r Client i) (until r Server i)
@@ -130,9 +130,9 @@ module _ (r : Run) (end : World) (honest : IsHonest r) (run : IsRun r end) where
       ids : FirstIds r.start honest.start.client_making.id honest.start.server_making.id
       ids = first_ids r.start honest.start
 
-      at : (side : Side) → (c : HasCome (policy_at side r.keys) (known (end_at side r.start).ids) (given_of r (other_side side)) (until r side i)) → IsTakenOrCrowded (policy_at side r.keys) (known (end_at side r.start).ids) (given_of r (other_side side)) (until r side i) c
-      at Client = subst (λ (xs : List (List ℕ)). (c : HasCome r.keys.client xs r.from_server (until r Client i)) → IsTakenOrCrowded r.keys.client xs r.from_server (until r Client i) c) (sym ids.client) m.holds.to_client.closes.judged
-      at Server = subst (λ (xs : List (List ℕ)). (c : HasCome r.keys.server xs r.from_client (until r Server i)) → IsTakenOrCrowded r.keys.server xs r.from_client (until r Server i) c) (sym ids.server) m.holds.to_server.closes.judged
+      at : (side : Side) → (c : PacketCame (policy_at side r.keys) (known (end_at side r.start).ids) (given_of r (other_side side)) (until r side i)) → IsTakenOrCrowded (policy_at side r.keys) (known (end_at side r.start).ids) (given_of r (other_side side)) (until r side i) c
+      at Client = subst (λ (xs : List (List ℕ)). (c : PacketCame r.keys.client xs r.from_server (until r Client i)) → IsTakenOrCrowded r.keys.client xs r.from_server (until r Client i) c) (sym ids.client) m.holds.to_client.closes.judged
+      at Server = subst (λ (xs : List (List ℕ)). (c : PacketCame r.keys.server xs r.from_client (until r Server i)) → IsTakenOrCrowded r.keys.server xs r.from_client (until r Server i) c) (sym ids.server) m.holds.to_server.closes.judged
 
 -- a reason whose cause is so is no blame
 blameless : (p : Policy) (ids given : List (List ℕ)) (told : List Told) (next : ℕ) (reason : Option LostReason) → CauseIs p ids given told next reason → IsBlameless reason

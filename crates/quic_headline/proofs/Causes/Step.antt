@@ -34,7 +34,7 @@ use Rattle.quic_machine.specs.Machine.{World, Policies, IsAnswer, IsDelivered, I
 use Rattle.quic_machine.specs.CallCases.{is_delivery, is_poll}
 use Rattle.quic_machine.specs.FrameCases.{begun}
 use Rattle.quic_headline.specs.Runs.{Told, Intake, In, told_by, frames_of, is_again, expected_behind, handed, and_opened, and_handed, and_told, nothing_came, acknowledged, written, ended}
-use Rattle.quic_headline.specs.Causes.{AreUsedUp, came_by, HasCome, IsCrowded, CrowdCame, IsTakenOrCrowded}
+use Rattle.quic_headline.specs.Causes.{AreUsedUp, came_by, PacketCame, IsCrowded, CrowdCame, IsTakenOrCrowded}
 use Rattle.quic_headline.proofs.Places.Invariant.{IsWritten, AllSay, Content, Knows, KnowsIn}
 use Rattle.quic_headline.proofs.Places.Direction.{Direction, came}
 use Rattle.quic_headline.proofs.Places.Stays.{keeps_frames, stays_received}
@@ -67,7 +67,7 @@ pub record Closes (p : Policy) (ids given : List (List ℕ)) (told : List Told) 
   pub cause : CauseIs p ids given told e.numbers.next e.closing.reason
   pub drained : (reason : LostReason) → e.closing.reason ≡ Some reason → e.closing.state ≡ states.Drained
   -- each packet that came was taken, or came to too many pieces
-  pub judged : (c : HasCome p ids given told) → IsTakenOrCrowded p ids given told c
+  pub judged : (c : PacketCame p ids given told) → IsTakenOrCrowded p ids given told c
 
 -- ---- what both keep
 
@@ -112,7 +112,7 @@ causes_writer p q own id l x y given final back theirs wrote read call a eight i
 -- ---- the end that reads makes a call
 
 -- what came stays so by one call more
-abbrev come_more : (p : Policy) (ids given : List (List ℕ)) (told : List Told) (t : Told) → HasCome p ids given told → HasCome p ids given (told ++ t ∷ [])
+abbrev come_more : (p : Policy) (ids given : List (List ℕ)) (told : List Told) (t : Told) → PacketCame p ids given told → PacketCame p ids given (told ++ t ∷ [])
 come_more p ids given told t c = record {
   before = c.before;
   call = c.call;
@@ -152,9 +152,9 @@ last_or_before (u ∷ told) (b ∷ before) behind t call is =
     go first (inr old) = inr (old.0, ap (λ (xs : List Told). u ∷ xs) old.1 ∙ ap (λ (x : Told). x ∷ (before ++ call ∷ old.0)) (sym first))
 
 -- what came before one call more was judged, and so is what came by it
-judged_more : (p : Policy) (ids given : List (List ℕ)) (told : List Told) (t : Told) → ((c : HasCome p ids given told) → IsTakenOrCrowded p ids given told c)
-    → ((c : HasCome p ids given (told ++ t ∷ [])) → c.before ≡ told → c.call ≡ t → IsTakenOrCrowded p ids given (told ++ t ∷ []) c)
-    → (c : HasCome p ids given (told ++ t ∷ [])) → IsTakenOrCrowded p ids given (told ++ t ∷ []) c
+judged_more : (p : Policy) (ids given : List (List ℕ)) (told : List Told) (t : Told) → ((c : PacketCame p ids given told) → IsTakenOrCrowded p ids given told c)
+    → ((c : PacketCame p ids given (told ++ t ∷ [])) → c.before ≡ told → c.call ≡ t → IsTakenOrCrowded p ids given (told ++ t ∷ []) c)
+    → (c : PacketCame p ids given (told ++ t ∷ [])) → IsTakenOrCrowded p ids given (told ++ t ∷ []) c
 judged_more p ids given told t were now c = go (last_or_before told c.before c.behind t c.call c.split)
   where
     go : ((c.before ≡ told) × (c.call ≡ t)) ⊎ ((rest : List Told) × (told ≡ c.before ++ c.call ∷ rest)) → IsTakenOrCrowded p ids given (told ++ t ∷ []) c
@@ -166,11 +166,11 @@ judged_more p ids given told t were now c = go (last_or_before told c.before c.b
         judged (inr crowded) = inr (crowded.0, record { front = crowded.1.front; frame = crowded.1.frame; rest = crowded.1.rest; frames = crowded.1.frames; many = crowded.1.many })
 
 -- nothing comes by a call that hands nothing in
-judged_quiet : (p : Policy) (ids given : List (List ℕ)) (told : List Told) (t : Told) → handed given t.call t.answer ≡ None → ((c : HasCome p ids given told) → IsTakenOrCrowded p ids given told c)
-    → (c : HasCome p ids given (told ++ t ∷ [])) → IsTakenOrCrowded p ids given (told ++ t ∷ []) c
+judged_quiet : (p : Policy) (ids given : List (List ℕ)) (told : List Told) (t : Told) → handed given t.call t.answer ≡ None → ((c : PacketCame p ids given told) → IsTakenOrCrowded p ids given told c)
+    → (c : PacketCame p ids given (told ++ t ∷ [])) → IsTakenOrCrowded p ids given (told ++ t ∷ []) c
 judged_quiet p ids given told t none were = judged_more p ids given told t were (λ c same is. absurd (clash c is))
   where
-    clash : (c : HasCome p ids given (told ++ t ∷ [])) → c.call ≡ t → ⊥
+    clash : (c : PacketCame p ids given (told ++ t ∷ [])) → c.call ≡ t → ⊥
     clash c is = let both : None ≡ Some c.datagram = sym none ∙ ap (λ (u : Told). handed given u.call u.answer) (sym is) ∙ c.handed_in in cc
 
 -- a drained end gives nothing, and nothing comes to it
@@ -422,7 +422,7 @@ module _ (p q : Policy) (own id : List ℕ) (l : Limits) (x y : End) (given fina
             fresh : (o : Opening) (b : Answer) (j : Intake) → is_again o.number j.opened ≡ false → length (and_opened (Some o) b j).opened ≡ suc (length j.opened)
             fresh o b j new = rw new refl
 
-            now_taken : (h : HasCome q (id ∷ []) final (read ++ t ∷ [])) → h.before ≡ read → h.call ≡ t → IsTakenOrCrowded q (id ∷ []) final (read ++ t ∷ []) h
+            now_taken : (h : PacketCame q (id ∷ []) final (read ++ t ∷ [])) → h.before ≡ read → h.call ≡ t → IsTakenOrCrowded q (id ∷ []) final (read ++ t ∷ []) h
             now_taken h same call = at_once (judged (ap (λ (u : Told). u.state) (sym call) ∙ h.was_open))
               where
                 answer_is : h.call.answer ≡ answers.Deliver (received q y now d).answer
@@ -464,7 +464,7 @@ module _ (p q : Policy) (own id : List ℕ) (l : Limits) (x y : End) (given fina
               judged = judged_more q (id ∷ []) final read t c.closes.judged (λ h same call. inr (ap (λ (u : Told). u.answer) call ∙ is ∙ ap (λ x. answers.Deliver x) answer, crowd h same (opening_is h same call)));
             })
           where
-            this : HasCome q (id ∷ []) final (read ++ t ∷ [])
+            this : PacketCame q (id ∷ []) final (read ++ t ∷ [])
             this = record {
               before = read;
               call = t;
@@ -479,7 +479,7 @@ module _ (p q : Policy) (own id : List ℕ) (l : Limits) (x y : End) (given fina
             }
 
             -- each packet that came by this call is that one
-            opening_is : (h : HasCome q (id ∷ []) final (read ++ t ∷ [])) → h.before ≡ read → h.call ≡ t → h.opening ≡ shown n sound.reference sound.given.payload
+            opening_is : (h : PacketCame q (id ∷ []) final (read ++ t ∷ [])) → h.before ≡ read → h.call ≡ t → h.opening ≡ shown n sound.reference sound.given.payload
             opening_is h same call =
                 let datagrams : Some h.datagram ≡ Some d = sym h.handed_in ∙ ap (λ (u : Told). handed final u.call u.answer) call ∙ ap (λ b. handed final (calls.Deliver delivery) b) is ∙ at_final in
                 let datagram_is : h.datagram ≡ d = cc in
@@ -487,7 +487,7 @@ module _ (p q : Policy) (own id : List ℕ) (l : Limits) (x y : End) (given fina
                 sym h.opened ∙ ap (λ (ts : List Told). opens q (came q id final ts).ids (expected_behind (came q id final ts).took) h.datagram) same ∙ ap (λ (ds : List ℕ). opens q i.ids (expected_behind i.took) ds) datagram_is ∙ opened_is still_open intake_is in
                 cc
 
-            crowd : (h : HasCome q (id ∷ []) final (read ++ t ∷ [])) → h.before ≡ read → h.opening ≡ shown n sound.reference sound.given.payload → IsCrowded q (id ∷ []) final (read ++ t ∷ []) h MOST_PIECES
+            crowd : (h : PacketCame q (id ∷ []) final (read ++ t ∷ [])) → h.before ≡ read → h.opening ≡ shown n sound.reference sound.given.payload → IsCrowded q (id ∷ []) final (read ++ t ∷ []) h MOST_PIECES
             crowd h same opening = record {
               front = r.front;
               frame = r.frame;
