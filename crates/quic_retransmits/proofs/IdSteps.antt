@@ -1,16 +1,17 @@
 -- Sets of ids, as their ascending lists.
-use Rattle.std.proofs.Common.{◌≡◌, ℕ, ◌+◌, ◌<◌, ◌^◌, [], ◌∷◌, ◌++◌, Bool, true, false, cond, not, List, Option, Some, None, length, refl, sym, ap, ◌∙◌, arith}
-use Rattle.std.specs.List.{slice_get, list_any}
-use Rattle.std.specs.Option.{option_copied}
+use Rattle.std.proofs.Common.{◌≡◌, ℕ, ◌<◌, ◌^◌, [], ◌∷◌, ◌++◌, Bool, true, false, cond, List, Some, None, length, refl, sym, ap, ◌∙◌, arith}
+use Rattle.std.specs.Prelude.{◌||◌}
+use Rattle.std.specs.List.{slice_get, AllByRecursion}
+use Rattle.std.specs.List.Sorted.{IsStrictlySortedBy}
 use Rattle.std.specs.Ordering.{nat_cmp, match_ordering, is_eq}
 use Rattle.std.specs.declared.cmp.Ordering.{Ordering}
 use Rattle.std.specs.declared.cmp.Ordering.TheVariants.{Less, Equal, Greater}
 use Rattle.std.specs.Cmp.{unsigned_tied}
 use Rattle.std.specs.BTreeMap.{is_at}
-use Rattle.std.specs.BTreeSet.{insert_key}
 use Rattle.std.specs.Set.{remove_key}
 use Rattle.std.proofs.lemmas.Bool.{eq-eqb, or_parts}
-use Rattle.quic_retransmits.specs.Retransmits.{AreIds, with_id, without_id, with_ids, without_ids, has_id, first_of, others_of, is_any}
+use Rattle.std.proofs.lemmas.Map.Keys.{sorted_head, sorted_tail}
+use Rattle.quic_retransmits.specs.Retransmits.{AreIds, with_id, without_id, with_ids, without_ids, has_id, first_of}
 
 pub are_inserted : (id : ℕ) (ids : List ℕ) → id < 2 ^ 62 → AreIds ids → AreIds (with_id id ids)
 are_inserted id [] l h = (l, tt)
@@ -56,6 +57,24 @@ taken_back k (x ∷ xs) e =
     go Less q other ih = rw (at_itself k) refl
     go Equal q other ih = absurd (let e = ap is_eq q in cc)
     go Greater q other ih = rw other (ap (λ (l : List ℕ). x ∷ l) ih)
+
+-- a number below all ids is none of them
+none_above : (k : ℕ) (ks : List ℕ) → AllByRecursion (λ y. nat_cmp k y ≡ Less) ks → has_id k ks ≡ false
+none_above k [] a = refl
+none_above k (x ∷ xs) a = rw a.0 (none_above k xs a.1)
+
+-- where the ids ascend, one of them that was put in again changed nothing
+pub known_before : (k : ℕ) (ks : List ℕ) → IsStrictlySortedBy nat_cmp (with_id k ks) → has_id k ks ≡ true → with_id k ks ≡ ks
+known_before k [] o e = absurd (let w : true ≡ false = sym e in cc)
+known_before k (x ∷ xs) o e = go (nat_cmp k x) refl o e (known_before k xs)
+  where
+    go : (r : Ordering) → nat_cmp k x ≡ r → IsStrictlySortedBy nat_cmp (match_ordering r (k ∷ x ∷ xs) (x ∷ xs) (x ∷ with_id k xs)) → (is_eq r || has_id k xs) ≡ true → (IsStrictlySortedBy nat_cmp (with_id k xs) → has_id k xs ≡ true → with_id k xs ≡ xs) → match_ordering r (k ∷ x ∷ xs) (x ∷ xs) (x ∷ with_id k xs) ≡ x ∷ xs
+    go Less is o e ih =
+        let none = none_above k (x ∷ xs) (sorted_head nat_cmp k (x ∷ xs) o) in
+        let same : has_id k (x ∷ xs) ≡ has_id k xs = rw is refl in
+        absurd (let w : true ≡ false = sym e ∙ sym same ∙ none in cc)
+    go Equal is o e ih = refl
+    go Greater is o e ih = ap (λ (l : List ℕ). x ∷ l) (ih (sorted_tail nat_cmp x (with_id k xs) o) e)
 
 -- the same, before others come out
 pub noted_back : (added : List ℕ) (k : ℕ) (ks : List ℕ) → has_id k ks ≡ false → without_ids (added ++ k ∷ []) (with_id k ks) ≡ without_ids added ks

@@ -1,5 +1,5 @@
 //! Sets of stream ids.
-ghost use Rattle.std.specs.Prelude.{◌≡◌, [], not, IfOk, OnOk, OnErr};
+ghost use Rattle.std.specs.Prelude.{◌≡◌, ℕ, List, [], not, false, IfOk, OnOk, OnErr};
 ghost use Rattle.std.specs.List.{list_any};
 ghost use Rattle.std.specs.Option.{is_some};
 ghost use Rattle.quic_retransmits.specs.Retransmits.{AreIds, with_id, without_id, with_ids, without_ids, has_id, first_of, others_of, is_any};
@@ -118,11 +118,12 @@ impl StreamIds {
     ///
     /// # Errors
     ///
-    /// [`AllocError`] where memory lacks; nothing changes.
+    /// [`AllocError`] where memory lacks for an id that is new; nothing changes.
     pub fn insert(&mut self, id: StreamId) -> Result<bool, AllocError>
         ensures new { OnOk result (self.new ≡ with_id id self.old) }
         ensures answer { IfOk result (λ is_new. is_new ≡ not (has_id id self.old)) }
         ensures err { OnErr result (self.new ≡ self.old) }
+        ensures lacking { OnErr result (has_id id self.old ≡ false) }
     {
         let is_new = self.ids.insert(VarInt::from(id).into_inner())?;
         Ok(is_new)
@@ -134,6 +135,17 @@ impl StreamIds {
         ensures answer { result ≡ has_id id self.old }
     {
         self.ids.remove(&u64::from(id))
+    }
+
+    /// Takes an id back that was put in, which was new then or wasn't.
+    pub fn take_back(&mut self, id: StreamId, was_new: bool)
+        ensures { (before : List ℕ) → self.old ≡ with_id id before → was_new ≡ not (has_id id before) → self.new ≡ before }
+    {
+        // The proof reads that the ids ascend.
+        let _count = self.ids.len();
+        if was_new {
+            self.ids.remove(&u64::from(id));
+        }
     }
 
     /// The least id.

@@ -1,5 +1,5 @@
 //! What waits to be sent beside the bytes of streams.
-ghost use Rattle.std.specs.Prelude.{◌≡◌, ℕ, ◌∷◌, [], ◌++◌, IsTrue, OnOk, OnErr, IsErrOf, ◌↔◌, false};
+ghost use Rattle.std.specs.Prelude.{◌≡◌, ℕ, ◌∷◌, [], ◌++◌, IsTrue, IfOk, OnOk, OnErr, IsErrOf, ◌↔◌, false, not};
 ghost use Rattle.std.specs.Option.{option_map};
 ghost use Rattle.quic_wire.specs.FrameView.{stop_sending_view};
 ghost use Rattle.quic_wire.specs.Value.{StopSendingValue};
@@ -270,17 +270,26 @@ impl Retransmits {
         self.stop_sending.pop_front()
     }
 
-    /// MAX_STREAM_DATA of a stream waits (RFC 9000, section 19.10).
+    /// MAX_STREAM_DATA of a stream waits (RFC 9000, section 19.10). The answer is whether it didn't before.
     ///
     /// # Errors
     ///
-    /// [`AllocError`] where memory lacks; nothing changes.
-    pub fn insert_max_stream_data(&mut self, id: StreamId) -> Result<(), AllocError>
+    /// [`AllocError`] where memory lacks for one that didn't wait; nothing changes.
+    pub fn insert_max_stream_data(&mut self, id: StreamId) -> Result<bool, AllocError>
         ensures ok { OnOk result (self.new ≡ record self.old { max_stream_data = with_id id self.old.max_stream_data }) }
+        ensures answer { IfOk result (λ is_new. is_new ≡ not (has_id id self.old.max_stream_data)) }
         ensures err { OnErr result (self.new ≡ self.old) }
+        ensures lacking { OnErr result (has_id id self.old.max_stream_data ≡ false) }
     {
-        self.max_stream_data.insert(id)?;
-        Ok(())
+        let is_new = self.max_stream_data.insert(id)?;
+        Ok(is_new)
+    }
+
+    /// Takes back the MAX_STREAM_DATA of a stream that was made to wait, and hadn't waited before or had.
+    pub fn take_back_max_stream_data(&mut self, id: StreamId, was_new: bool)
+        ensures { (before : Waiting) → self.old ≡ record before { max_stream_data = with_id id before.max_stream_data } → was_new ≡ not (has_id id before.max_stream_data) → self.new ≡ before }
+    {
+        self.max_stream_data.take_back(id, was_new);
     }
 
     /// Whether MAX_STREAM_DATA of a stream waits.

@@ -130,6 +130,11 @@ piece_of n = cond (n == 0) [] (n ∷ [])
 abbrev pub after_write : Buffered → List ℕ → Buffered
 after_write b bytes = record b { kept = b.kept ++ bytes; pieces = b.pieces ++ piece_of (length bytes) }
 
+-- after several writes, in turn
+abbrev pub after_writes : Buffered → List (List ℕ) → Buffered
+after_writes b [] = b
+after_writes b (c ∷ cs) = after_writes (after_write b c) cs
+
 -- ---- offsets from a up to z are acknowledged or lost (RFC 9000, 13.3)
 
 -- how many bytes the first pieces have that end within `room` bytes

@@ -1,5 +1,6 @@
 -- The bytes of a stream that are kept, in the pieces that they were written in.
-use Rattle.std.specs.Prelude.{◌≡◌, ℕ, ◌+◌, ◌-◌, ◌<◌, cond, leb, List, [], ◌∷◌, ◌++◌, length, drop, Option, Some, None}
+use Rattle.std.specs.Prelude.{◌≡◌, ℕ, ◌+◌, ◌-◌, ◌<◌, ◌≤◌, ◌==◌, cond, leb, List, [], ◌∷◌, ◌++◌, length, drop, Option, Some, None}
+use Rattle.std.specs.List.{filter}
 use Rattle.quic_sets.specs.Parts.{Part}
 use Rattle.quic_send_buffer.specs.Buffered.{passed, pieces_behind, piece_of}
 
@@ -23,6 +24,11 @@ AreInTurn at (p ∷ ps) end = (at + length p.1 ≡ p.0) × (0 < length p.1) × A
 -- with one more piece, if it has bytes
 abbrev pub with_piece : List ℕ → KeptBytes → KeptBytes
 with_piece bytes k = record k { bytes = k.bytes ++ bytes; lengths = k.lengths ++ piece_of (length bytes) }
+
+-- with more pieces, one behind the other, of those that have bytes
+abbrev pub with_each : List (List ℕ) → KeptBytes → KeptBytes
+with_each [] k = k
+with_each (c ∷ cs) k = with_each cs (with_piece c k)
 
 -- how many bytes lie in pieces that end up to an offset
 abbrev pub passed_to : ℕ → KeptBytes → ℕ
@@ -48,3 +54,19 @@ behind o (p ∷ ps) = cond (leb p.0 o) (behind o ps) (p ∷ ps)
 abbrev pub base_behind : ℕ → ℕ → List Part → ℕ
 base_behind o at [] = at
 base_behind o at (p ∷ ps) = cond (leb p.0 o) (base_behind o p.0 ps) at
+
+-- ---- the steps of putting several
+
+-- the pieces that bytes from an offset on make, one behind the other, of those that have bytes
+abbrev pub parts_from : ℕ → List (List ℕ) → List Part
+parts_from at [] = []
+parts_from at (c ∷ cs) = cond (length c == 0) (parts_from at cs) ((at + length c, c) ∷ parts_from (at + length c) cs)
+
+-- each piece ends up to an offset
+abbrev pub EndBy : ℕ → List Part → Type 0
+EndBy o [] = Unit {0}
+EndBy o (p ∷ ps) = (p.0 ≤ o) × EndBy o ps
+
+-- the pieces that end up to an offset
+abbrev pub ending_by : ℕ → List Part → List Part
+ending_by o ps = filter (λ p. leb p.0 o) ps

@@ -2,3 +2,4 @@ pub mod Buffered
 pub mod BufferedHistory
 pub mod KeptBytes
 pub mod Source
+pub mod WritesLaws

@@ -1,10 +1,20 @@
 -- Bytes that lie in buffers, taken from the front piece by piece.
-use Rattle.std.specs.Prelude.{◌≡◌, ℕ, ◌≤◌, ◌<◌, cond, leb, List, [], ◌∷◌, length, take, drop}
+use Rattle.std.specs.Prelude.{◌≡◌, ℕ, ◌-◌, ◌≤◌, ◌<◌, cond, leb, List, [], ◌∷◌, length, take, drop}
+use Rattle.std.specs.List.{sum_by}
 
 -- a slice as buffers: one, or none where it has no byte
 abbrev pub one_buffer : List ℕ → List (List ℕ)
 one_buffer [] = []
 one_buffer (b ∷ bytes) = (b ∷ bytes) ∷ []
+
+-- how many bytes buffers have in all
+abbrev pub bytes_of : List (List ℕ) → ℕ
+bytes_of cs = sum_by length cs
+
+-- the first bytes of buffers, so many in all
+abbrev pub cut_to : ℕ → List (List ℕ) → List (List ℕ)
+cut_to n [] = []
+cut_to n (c ∷ cs) = take n c ∷ cut_to (n - length c) cs
 
 -- buffers of which so many bytes of the first are taken
 abbrev pub without_front : ℕ → List (List ℕ) → List (List ℕ)

@@ -1,10 +1,12 @@
 // What was written to a stream and may have to be sent.
 ghost use Rattle.std.specs.Prelude.{◌≡◌, ℕ, ◌+◌, ◌-◌, ◌≤◌, ◌<◌, ◌^◌, ◌++◌, [], length, min, max, slice_get, slice_range, OnOk, OnErr, vec_len, vec_capacity};
 ghost use Rattle.quic_sets.specs.Offsets.{first_lacking, without_offsets};
-ghost use Rattle.quic_send_buffer.specs.Buffered.{Buffered, IsBuffered, HasUnacked, HasInFlight, nothing_written, written, kept_byte, is_fully_acked, has_unsent, after_write, after_ack, after_loss, after_poll, offset_width, next_range, next_start, writes_length, sent_end, piece_end};
+ghost use Rattle.quic_send_buffer.specs.Buffered.{Buffered, IsBuffered, HasUnacked, HasInFlight, nothing_written, written, kept_byte, is_fully_acked, has_unsent, after_write, after_writes, after_ack, after_loss, after_poll, offset_width, next_range, next_start, writes_length, sent_end, piece_end};
+ghost use Rattle.quic_send_buffer.specs.Source.{cut_to};
 
 mod pieces;
 
+use bytes::Bytes;
 use pieces::Pieces;
 use quic_sets::OffsetSet;
 use quic_wire_core::VarInt;
@@ -91,6 +93,23 @@ impl SendBuffer {
         ensures lawful { IsBuffered self.new }
     {
         self.pieces.push(bytes)
+    }
+
+    /// Takes over the first `len` bytes of chunks, each chunk as one piece, which shares its bytes;
+    /// all together they end at 2^62 - 1 at most (RFC 9000, 19.8). A chunk of which it takes no byte
+    /// makes no piece.
+    ///
+    /// # Errors
+    ///
+    /// [`AllocError`] where memory lacks; nothing has changed.
+    pub fn write_all(&mut self, chunks: &[Bytes], len: usize) -> Result<(), AllocError>
+        requires { written self.old + len < 2 ^ 62 }
+        ensures ok { OnOk result (self.new ≡ after_writes self.old (cut_to len chunks.now)) }
+        ensures err { OnErr result (self.new ≡ self.old) }
+        ensures lacking { OnErr result (0 < len) }
+        ensures lawful { IsBuffered self.new }
+    {
+        self.pieces.push_all(chunks, len)
     }
 
     /// How many bytes were written in all: the offset of the next.
@@ -192,6 +211,30 @@ impl SendBuffer {
         self.lost.remove_first(range);
     }
 
+    /// What `poll_transmit` would take with so much room: the offsets of the bytes, and whether the
+    /// frame's length is to be written.
+    pub fn next_transmit(&self, max_len: usize) -> (Range<u64>, bool)
+        ensures start { result.0.start ≡ next_start self.now }
+        ensures end { result.0.end ≡ sent_end self.now max_len }
+        ensures length { result.1 ≡ writes_length self.now max_len }
+        ensures kept { self.now.base ≤ result.0.start }
+        ensures ordered { result.0.start ≤ result.0.end }
+        ensures bounded { result.0.end ≤ written self.now }
+        ensures lawful { IsBuffered self.now }
+    {
+        let next = self.next_range();
+        let left = next.end - next.start;
+        let room = max_len.saturating_sub(offset_size(next.start));
+        let has_length = left < room as u64;
+        let room = if has_length {
+            room.saturating_sub(LENGTH_ROOM)
+        } else {
+            room
+        };
+        let end = next.start + left.min(room as u64);
+        (next.start..end, has_length)
+    }
+
     /// Takes the next bytes to send, of a STREAM frame (RFC 9000, 19.8) with `max_len` bytes of
     /// room behind its type and id: their offsets, and whether the frame's length is to be written.
     /// They are in flight then.
@@ -213,18 +256,9 @@ impl SendBuffer {
         ensures first_time { self.old.lost ≡ [] → self.new ≡ record self.old { unsent = sent_end self.old max_len } }
         ensures lawful { IsBuffered self.new }
     {
-        let next = self.next_range();
-        let left = next.end - next.start;
-        let room = max_len.saturating_sub(offset_size(next.start));
-        let has_length = left < room as u64;
-        let room = if has_length {
-            room.saturating_sub(LENGTH_ROOM)
-        } else {
-            room
-        };
-        let end = next.start + left.min(room as u64);
-        self.mark_sent(next.start..end);
-        (next.start..end, has_length)
+        let (offsets, has_length) = self.next_transmit(max_len);
+        self.mark_sent(offsets.start..offsets.end);
+        (offsets, has_length)
     }
 
     /// The bytes at these offsets from the first on, up to the last or the end of the piece that

@@ -1,4 +1,4 @@
-//! Work for the two buffers of a stream, to be timed from outside. Each line of standard input names some, and for each a
+//! Work for the buffers of a stream, and for streams beside each other, to be timed from outside. Each line of standard input names some, and for each a
 //! line of output says what came out: how many bytes, in how many parts, and a checksum.
 //!
 //! - `pieces ROUNDS [COUNT]`: so many rounds, in each of which `COUNT` pieces (10,000 unless given) of ten bytes arrive in
@@ -9,9 +9,13 @@
 //!   already; then all are read.
 //! - `send MIB`: so many MiB are written in pieces of 1200 bytes; each frame is acknowledged when it has gone.
 //! - `buffered MIB`: so many MiB are written, then all sent, and then all acknowledged.
+//! - `busy FRAMES [COUNT]`: `COUNT` streams (10,000 unless given) are open, on each of which a byte went; then so many frames
+//!   of 1000 bytes go on the first of them, and are acknowledged.
 #![tactic(auto)]
 
 ghost use Rattle.std.specs.Prelude.{◌<◌, ◌^◌};
+
+mod open_streams;
 
 use anyhow::{Context, Result, bail};
 use quic_assembler::Assembler;
@@ -270,6 +274,7 @@ fn work(alloc: Global, line: &str) -> Result<Tally> {
         "known" => known(alloc, size, &mut tally)?,
         "send" => send(alloc, size, &mut tally)?,
         "buffered" => buffered(alloc, size, &mut tally)?,
+        "busy" => open_streams::busy(alloc, size, count, &mut tally)?,
         _ => bail!("no such work"),
     }
     Ok(tally)

@@ -199,14 +199,16 @@ impl RecvHalves {
         self.consumed = with_term(self.consumed, consumed, half.credit());
     }
 
-    /// A read of a part, if it is in use, begins, in order or not.
-    pub fn begin(&mut self, id: StreamId, ordered: bool)
-        ensures { self.new ≡ changed (λ h. begun h ordered) self.old id }
+    /// A read of a part, if it is in use, begins, in order or not. [`IllegalOrderedRead`] where it would be in order after one that
+    /// wasn't; nothing changes.
+    pub fn begin(&mut self, id: StreamId, ordered: bool) -> Result<(), IllegalOrderedRead>
+        ensures refused { IfSome (at self.old.live id) (λ h. is_err result ≡ is_illegal h ordered) }
+        ensures new { self.new ≡ changed (λ h. begun h ordered) self.old id }
     {
         let Some(half) = self.live.get_mut(&u64::from(id)) else {
-            return;
+            return Ok(());
         };
-        let _ = half.begin(ordered);
+        half.begin(ordered)
     }
 
     /// Reads on of a part, which is in use. An error, and an answer without bytes, change nothing.

@@ -3,11 +3,13 @@ ghost use Rattle.std.specs.Prelude.{◌≡◌, ◌≢◌, ◌<◌, ◌≤◌, �
 ghost use Rattle.std.specs.Option.{option_copied, option_map};
 ghost use Rattle.quic_wire.specs.Writing.{stream_spelling, width_of};
 ghost use Rattle.quic_send_buffer.specs.Buffered.{writes_length};
+ghost use Rattle.quic_send_buffer.specs.Source.{bytes_of, cut_to};
 ghost use Rattle.quic_streams_parts.specs.Table.{at, without};
-ghost use Rattle.quic_streams_parts.specs.SendHalf.{SendHalf, grown, room_on, has_pending, ended, reset_now, half_acked, half_lost, half_after, frame_of, meta_of, HasSent};
+ghost use Rattle.quic_streams_parts.specs.SendHalf.{SendHalf, grown_all, room_on, has_pending, ended, reset_now, half_acked, half_lost, half_after, frame_of, meta_of, HasSent};
 ghost use Rattle.quic_streams_halves.specs.Halves.{Halves, no_halves, has_place, used, changed, without_half, buffered_in};
 
 use crate::places::Places;
+use bytes::Bytes;
 use quic_send_buffer::StreamMeta;
 use quic_streams_parts::{Place, Send};
 use quic_wire_core::{Side, StreamId, VarInt};
@@ -137,28 +139,31 @@ impl SendHalves {
         half.set_blocked(blocked);
     }
 
-    /// Takes over bytes on a part, which is in use, and sets where it stands in the queue. An `Err` (want of memory) changes
-    /// nothing.
-    pub fn write(
+    /// Takes over the first `len` bytes of chunks on a part, which is in use, each chunk as a piece
+    /// that shares its bytes, and sets where it stands in the queue. An `Err` (want of memory)
+    /// changes nothing.
+    pub fn write_all(
         &mut self,
         id: StreamId,
-        bytes: &[u8],
+        chunks: &[Bytes],
+        len: usize,
         place: Option<Place>,
     ) -> Result<(), AllocError>
         requires found { IsSome (at self.old.live id) }
         requires reset { IfSome (at self.old.live id) (λ h. h.reset ≡ None) }
-        requires room { IfSome (at self.old.live id) (λ h. length bytes.now ≤ room_on h) }
-        requires window { buffered_in self.old.live + length bytes.now < 2 ^ 64 }
-        ensures ok { OnOk result (self.new ≡ changed (λ h. record (grown h bytes.now) { place = place }) self.old id) }
+        requires whole { len ≤ bytes_of chunks.now }
+        requires room { IfSome (at self.old.live id) (λ h. len ≤ room_on h) }
+        requires window { buffered_in self.old.live + len < 2 ^ 64 }
+        ensures ok { OnOk result (self.new ≡ changed (λ h. record (grown_all h (cut_to len chunks.now)) { place = place }) self.old id) }
         ensures err { OnErr result (self.new ≡ self.old) }
-        ensures lacking { OnErr result (0 < length bytes.now) }
+        ensures lacking { OnErr result (0 < len) }
     {
         let Some(half) = self.live.get_mut(&u64::from(id)) else {
             return Ok(());
         };
-        half.write(bytes)?;
+        half.write_all(chunks, len)?;
         half.set_place(place);
-        self.buffered += bytes.len() as u64;
+        self.buffered += len as u64;
         Ok(())
     }
 

@@ -2,7 +2,7 @@
 use Rattle.std.specs.Prelude.{ℕ, ℤ, pos, ◌+◌, ◌-◌, ◌^◌, ◌≤◌, ◌<◌, min, Bool, true, false, nat_lt, ◌==◌, ◌&&◌, ◌||◌, not, if◌then◌else◌, List, length, slice_range, Option, Some, None, unwrap_or, Result, Ok, Err}
 use Rattle.std.specs.Option.{is_some, is_none}
 use Rattle.quic_wire.specs.Value.{StreamValue}
-use Rattle.quic_send_buffer.specs.Buffered.{Buffered, nothing_written, written, next_start, sent_end, writes_length, has_unsent, is_fully_acked, after_write, after_poll, after_ack, after_loss}
+use Rattle.quic_send_buffer.specs.Buffered.{Buffered, nothing_written, written, next_start, sent_end, writes_length, has_unsent, is_fully_acked, after_write, after_writes, after_poll, after_ack, after_loss}
 use Rattle.quic_send_buffer.specs.declared.stream_meta.StreamMeta.{StreamMeta}
 use Rattle.quic_streams_parts.specs.declared.send.FrameMeta.{FrameMeta}
 use Rattle.quic_streams_parts.specs.Queue.{Place, Queue, rank_of, after_push, after_remove}
@@ -70,6 +70,10 @@ written_to (Some h) room len = if room == 0 then Err write_errors.Blocked else (
 -- these bytes go behind those that were written on a half
 abbrev pub grown : SendHalf → List ℕ → SendHalf
 grown h bytes = record h { buffer = after_write h.buffer bytes }
+
+-- these buffers go behind what was written on a half, each a piece of its own
+abbrev pub grown_all : SendHalf → List (List ℕ) → SendHalf
+grown_all h cs = record h { buffer = after_writes h.buffer cs }
 
 -- ---- its end, a reset (RFC 9000, section 3.1) and a stop (section 3.5)
 

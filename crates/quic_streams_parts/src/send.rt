@@ -3,10 +3,12 @@ ghost use Rattle.std.specs.Prelude.{◌≡◌, ◌+◌, ◌<◌, ◌≤◌, ◌-
 ghost use Rattle.std.specs.Option.{is_some};
 ghost use Rattle.quic_wire.specs.Writing.{stream_spelling, width_of};
 ghost use Rattle.quic_send_buffer.specs.Buffered.{writes_length};
+ghost use Rattle.quic_send_buffer.specs.Source.{cut_to};
 ghost use Rattle.quic_streams_parts.specs.Queue.{rank_of};
-ghost use Rattle.quic_streams_parts.specs.SendHalf.{new_send_half, written_on, room_on, is_ready, has_pending, is_acked, grown, ended, reset_now, frame_of, frame_counts, frame_meta, HasFrame, HasSent, meta_of, half_after, half_acked, half_lost};
+ghost use Rattle.quic_streams_parts.specs.SendHalf.{new_send_half, written_on, room_on, is_ready, has_pending, is_acked, grown_all, ended, reset_now, reaches_end, frame_of, frame_counts, frame_meta, HasFrame, HasSent, meta_of, half_after, half_acked, half_lost};
 
 use crate::pending_queue::Place;
+use bytes::Bytes;
 use quic_send_buffer::{SendBuffer, StreamMeta};
 use quic_wire::frame::{Stream, put_stream_header};
 use quic_wire_core::{StreamId, VarInt};
@@ -210,17 +212,18 @@ impl Send {
         self.place = place;
     }
 
-    /// Takes over bytes. An `Err` (want of memory, where there are some) takes none.
-    pub fn write(&mut self, bytes: &[u8]) -> Result<(), AllocError>
+    /// Takes over the first `len` bytes of chunks, each chunk as a piece that shares its bytes. An
+    /// `Err` (want of memory, where there are some) takes none.
+    pub fn write_all(&mut self, chunks: &[Bytes], len: usize) -> Result<(), AllocError>
         requires reset { self.old.reset ≡ None }
-        requires room { length bytes.now ≤ room_on self.old }
-        ensures ok { OnOk result (self.new ≡ grown self.old bytes.now) }
+        requires room { len ≤ room_on self.old }
+        ensures ok { OnOk result (self.new ≡ grown_all self.old (cut_to len chunks.now)) }
         ensures err { OnErr result (self.new ≡ self.old) }
-        ensures lacking { OnErr result (0 < length bytes.now) }
+        ensures lacking { OnErr result (0 < len) }
     {
         // The proof reads that both are below 2^62.
         let _bounds = (self.pending.offset(), self.max_data.into_inner());
-        self.pending.write(bytes)
+        self.pending.write_all(chunks, len)
     }
 
     /// Nothing more is written, and the end has to go.
@@ -269,6 +272,22 @@ impl Send {
         Ok(())
     }
 
+    // Whether a frame up to an offset has the end.
+    fn reaches_end(&self, end: u64) -> bool
+        ensures { result ≡ reaches_end self.now end }
+    {
+        self.reset.is_none() && self.finished && end == self.pending.offset()
+    }
+
+    /// Whether the next frame brings something, with so much room behind its type and id: a byte,
+    /// or the end.
+    pub fn frame_counts(&self, max_len: usize) -> bool
+        ensures { result ≡ frame_counts self.now max_len }
+    {
+        let (offsets, _) = self.pending.next_transmit(max_len);
+        offsets.start < offsets.end || self.reaches_end(offsets.end)
+    }
+
     // Takes what the next frame says, with so much room behind its type and id.
     fn poll(&mut self, max_len: usize) -> FrameMeta
         ensures meta { result ≡ frame_meta self.old max_len }
@@ -278,7 +297,7 @@ impl Send {
         // The proof reads that it is below 2^62.
         let _written = self.pending.offset();
         let (offsets, has_length) = self.pending.poll_transmit(max_len);
-        let fin = self.reset.is_none() && self.finished && offsets.end == self.pending.offset();
+        let fin = self.reaches_end(offsets.end);
         self.fin_pending = self.fin_pending && !fin;
         FrameMeta {
             offsets,

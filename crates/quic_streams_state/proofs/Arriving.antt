@@ -13,7 +13,7 @@ use Rattle.std.specs.Option.{unwrap_or, option_map}
 use Rattle.quic_wire.specs.Value.{StreamValue}
 use Rattle.quic_streams_parts.specs.declared.answers.Breach.{Breach}
 use Rattle.quic_streams_parts.specs.declared.answers.Breach.TheVariants.{FlowControl, FinalSize}
-use Rattle.quic_streams_parts.specs.RecvHalf.{RecvHalf, greatest_offset, breaks_final, after_frame, after_reset_stream}
+use Rattle.quic_streams_parts.specs.RecvHalf.{RecvHalf, greatest_offset, breaks_final, after_frame, after_reset_stream, begun}
 use Rattle.quic_streams_parts.specs.Table.{Table, at, put, without}
 use Rattle.quic_streams_halves.specs.Halves.{Halves, changed, changed_at, seen_in, without_half}
 use Rattle.quic_streams_state.specs.Parts.{Receiving, seen}
@@ -90,6 +90,14 @@ removed_sum r id = go (at r.halves.live id) refl
 -- a half is changed to itself
 pub unchanged : (f : RecvHalf → RecvHalf) (hs : Halves RecvHalf) (id : ℕ) (h : RecvHalf) → at hs.live id ≡ Some h → f h ≡ h → changed f hs id ≡ hs
 unchanged f hs id h found same = rw found (ap (λ (t : Table RecvHalf). record hs { live = t }) (ap (λ w. put hs.live id w) same ∙ set_value_same (is_at (nat_cmp id)) hs.live h found))
+
+-- a read in order that begins changes nothing
+pub begun_in_order : (hs : Halves RecvHalf) (id : ℕ) (ordered : Bool) → ordered ≡ true → changed (λ h. begun h ordered) hs id ≡ hs
+begun_in_order hs id ordered e = go (at hs.live id) refl
+  where
+    go : (o : Option RecvHalf) → at hs.live id ≡ o → changed (λ h. begun h ordered) hs id ≡ hs
+    go None found = rw found refl
+    go (Some h) found = unchanged (λ h. begun h ordered) hs id h found (rw e refl)
 
 -- a half that the peer reset takes no frame, and no other reset
 pub frame_after_reset : (h : RecvHalf) (f : StreamValue) → h.stopped ≡ false → is_some h.reset ≡ true → after_frame h f ≡ h

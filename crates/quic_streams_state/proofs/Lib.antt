@@ -1,4 +1,6 @@
+mod Buffers
 mod Counts
+mod ReadOn
 mod Finishing
 mod Going
 mod Raised
@@ -8,3 +10,5 @@ mod Taken
 mod Turning
 mod Arriving
 mod Coming
+mod QueuedIds
+mod Framing

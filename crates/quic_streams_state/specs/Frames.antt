@@ -1,10 +1,11 @@
 -- The STREAM frames that go into a datagram (RFC 9000, sections 2.2, 2.3 and 19.8).
-use Rattle.std.specs.Prelude.{ℕ, zero, suc, ◌+◌, ◌-◌, Bool, true, false, nat_le, ◌&&◌, if◌then◌else◌, List, [], ◌∷◌, ◌++◌, length, Option, Some, None}
+use Rattle.std.specs.Prelude.{ℕ, zero, suc, ◌+◌, ◌-◌, Bool, nat_le, if◌then◌else◌, List, [], ◌∷◌, ◌++◌, length, Option, Some, None}
 use Rattle.quic_wire.specs.Value.{StreamValue}
 use Rattle.quic_wire.specs.Writing.{stream_spelling, width_of}
 use Rattle.quic_send_buffer.specs.Buffered.{writes_length}
+use Rattle.quic_send_buffer.specs.declared.stream_meta.StreamMeta.{StreamMeta}
 use Rattle.quic_streams_parts.specs.Table.{at}
-use Rattle.quic_streams_parts.specs.SendHalf.{SendHalf, frame_of, frame_counts, half_after, turned}
+use Rattle.quic_streams_parts.specs.SendHalf.{SendHalf, frame_of, frame_counts, half_after, turned, meta_of}
 use Rattle.quic_streams_parts.specs.Queue.{first_queued}
 use Rattle.quic_streams_state.specs.State.{StreamsState}
 use Rattle.quic_streams_state.specs.Writing.{put_queued}
@@ -59,3 +60,32 @@ stream_frames (suc n) fair most d = frame_and_more (next_stream most d) (stream_
 -- frames go while a stream has something to send and bytes are left, `most` in all: each takes one at least
 abbrev pub with_stream_frames : Bool → ℕ → Sent → Sent
 with_stream_frames fair most d = stream_frames most fair most d
+
+-- no frame yet
+abbrev pub no_stream_frames : StreamsState → Sent
+no_stream_frames s = record { frames = []; bytes = []; state = s }
+
+-- the frames that go where so many bytes are left of a datagram, and what they leave
+abbrev pub stream_frames_in : Bool → ℕ → StreamsState → Sent
+stream_frames_in fair left s = with_stream_frames fair left (no_stream_frames s)
+
+-- ---- the frame that goes next
+
+-- a stream, if its part is in use and the part's frame brings a byte or the end, where so many bytes are left of a datagram
+abbrev pub stream_if : Option SendHalf → ℕ → ℕ → Option ℕ
+stream_if None left id = None
+stream_if (Some h) left id = if frame_counts h (left - (1 + width_of id)) then Some id else None
+
+-- the same of a stream that there may be
+abbrev pub counting : Option ℕ → StreamsState → ℕ → Option ℕ
+counting None s left = None
+counting (Some id) s left = stream_if (at s.sending.halves.live id) left id
+
+-- the stream whose frame goes next, where so many bytes are left of a datagram
+abbrev pub going : StreamsState → ℕ → Option ℕ
+going s left = counting (if nat_le least_stream_room left then first_queued s.sending.queue else None) s left
+
+-- what frames carry, with that of a part behind it, if the part is in use
+abbrev pub noted_in : Option SendHalf → ℕ → ℕ → List StreamMeta → List StreamMeta
+noted_in None id room noted = noted
+noted_in (Some h) id room noted = noted ++ meta_of (frame_of id h room) ∷ []

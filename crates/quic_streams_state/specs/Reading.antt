@@ -1,6 +1,6 @@
 -- What reads of streams answer and leave, and what stops them (RFC 9000, sections 2.2 and 3.5).
-use Rattle.std.specs.Prelude.{ℕ, ◌≡◌, Bool, true, false, ◌||◌, not, if◌then◌else◌, List, [], ◌∷◌, ◌++◌, Option, Some, None, Result, Ok, Err}
-use Rattle.std.specs.Option.{is_some}
+use Rattle.std.specs.Prelude.{ℕ, ◌≡◌, Bool, true, false, ◌&&◌, ◌||◌, not, if◌then◌else◌, List, [], ◌∷◌, ◌++◌, Option, Some, None, Result, Ok, Err}
+use Rattle.std.specs.Option.{is_some, is_none}
 use Rattle.quic_assembler.specs.declared.assembler.Chunk.{Chunk}
 use Rattle.quic_streams_parts.specs.declared.answers.ReadError.{ReadError}
 use Rattle.quic_streams_parts.specs.declared.answers.ReadError.TheVariants as read_errors
@@ -10,7 +10,8 @@ use Rattle.quic_streams_parts.specs.declared.answers.UpdateError.{UpdateError}
 use Rattle.quic_streams_parts.specs.declared.answers.UpdateError.TheVariants as update_errors
 use Rattle.quic_streams_parts.specs.Dirs.{Flags}
 use Rattle.quic_streams_parts.specs.RecvHalf.{RecvHalf, readable, begun, next_of, read_on, stopped_now}
-use Rattle.quic_retransmits.specs.Retransmits.{Retransmits}
+use Rattle.quic_streams_parts.specs.Table.{at}
+use Rattle.quic_retransmits.specs.Retransmits.{Retransmits, with_id, has_id}
 use Rattle.quic_streams_state.specs.State.{StreamsState, Streams, streams_of, receiving_half, with_recv, recv_done}
 use Rattle.quic_streams_state.specs.Limits.{data_grew, counts_grew, settled, stream_grew, read_decided}
 
@@ -33,6 +34,23 @@ begun_unless (Err e) s id ordered = s
 -- a read that is refused leaves all as it was
 abbrev pub after_read_begun : StreamsState → ℕ → Bool → StreamsState
 after_read_begun s id ordered = begun_unless (read_answer s id ordered) s id ordered
+
+-- the limit of a stream that is read has its place among those that wait to be told
+abbrev pub with_reserved : Retransmits → ℕ → Retransmits
+with_reserved p id = record p { max_stream_data = with_id id p.max_stream_data }
+
+-- whether it had none before, unless the read was refused
+abbrev pub reserves_unless : Result (Unit {0}) ReadableError → Retransmits → ℕ → Result Bool ReadableError
+reserves_unless (Ok x) p id = Ok (not (has_id id p.max_stream_data))
+reserves_unless (Err e) p id = Err e
+
+-- what a call that begins a read answers
+abbrev pub begin_answer : StreamsState → Retransmits → ℕ → Bool → Result Bool ReadableError
+begin_answer s p id ordered = reserves_unless (read_answer s id ordered) p id
+
+-- memory may lack for that place where it is new, and for a half that an unordered read brings into use
+abbrev pub begin_may_lack : StreamsState → Retransmits → ℕ → Bool → Bool
+begin_may_lack s p id ordered = not (has_id id p.max_stream_data) || (not ordered && is_none (at s.receiving.halves.live id))
 
 -- ---- it goes on
 

@@ -1,9 +1,10 @@
 -- What calls on one sending half leave of what is sent on all streams.
 use Rattle.std.specs.Prelude.{ℕ, ◌+◌, Bool, true, false, if◌then◌else◌, List, ◌∷◌, length, Option, Some, None}
 use Rattle.quic_wire_core.specs.declared.stream_id.Side.{Side}
+use Rattle.quic_send_buffer.specs.Source.{cut_to}
 use Rattle.quic_streams_parts.specs.Table.{put}
 use Rattle.quic_send_buffer.specs.declared.stream_meta.StreamMeta.{StreamMeta}
-use Rattle.quic_streams_parts.specs.SendHalf.{SendHalf, Queued, has_pending, requeued, requeued_at, dequeued, grown, ended, reset_now, half_after, half_acked, half_lost, turned}
+use Rattle.quic_streams_parts.specs.SendHalf.{SendHalf, Queued, has_pending, requeued, requeued_at, dequeued, grown, grown_all, ended, reset_now, half_after, half_acked, half_lost, turned}
 use Rattle.quic_streams_parts.specs.Queue.{Queue, Place, after_remove, taken_back}
 use Rattle.quic_streams_halves.specs.Halves.{with_half, without_half}
 use Rattle.quic_streams_state.specs.Parts.{Sending}
@@ -15,6 +16,10 @@ with_queued s side id q = record s { halves = with_half side s.halves id q.half;
 -- bytes that were accepted wait to go behind those before them
 abbrev pub grown_half : SendHalf → Sending → Side → ℕ → List ℕ → Sending
 grown_half h s side id bytes = record (with_queued s side id (requeued_at h.place true s.queue id (grown h bytes))) { accepted = s.accepted + length bytes }
+
+-- so many bytes of buffers that were accepted wait to go behind those before them
+abbrev pub chunks_grown_half : SendHalf → Sending → Side → ℕ → ℕ → List (List ℕ) → Sending
+chunks_grown_half h s side id n cs = record (with_queued s side id (requeued_at h.place true s.queue id (grown_all h (cut_to n cs)))) { accepted = s.accepted + n }
 
 -- the end waits to go
 abbrev pub finished_half : SendHalf → Sending → Side → ℕ → Sending
@@ -29,10 +34,10 @@ reset_half h s side id = with_queued s side id (requeued_at h.place false s.queu
 abbrev pub with_live_queued : Sending → ℕ → Queued → Sending
 with_live_queued s id q = record s { halves = record s.halves { live = put s.halves.live id q.half }; queue = q.queue }
 
--- bytes that were accepted on a half in use wait to go
-abbrev pub grown_in : Option SendHalf → Sending → ℕ → List ℕ → Sending
-grown_in None s id bytes = s
-grown_in (Some h) s id bytes = record (with_live_queued s id (requeued_at h.place true s.queue id (grown h bytes))) { accepted = s.accepted + length bytes }
+-- so many bytes of buffers that were accepted on a half in use wait to go
+abbrev pub chunks_grown_in : Option SendHalf → Sending → ℕ → ℕ → List (List ℕ) → Sending
+chunks_grown_in None s id n cs = s
+chunks_grown_in (Some h) s id n cs = record (with_live_queued s id (requeued_at h.place true s.queue id (grown_all h (cut_to n cs)))) { accepted = s.accepted + n }
 
 -- the end of a half in use waits to go
 abbrev pub finished_in : Option SendHalf → Sending → ℕ → Sending

@@ -1,5 +1,5 @@
 -- Worked rows of streams between a client and a server, each state computed from the one before.
-use Rattle.std.specs.Prelude.{ℕ, ◌-◌, ◌^◌, true, false, List, [], ◌∷◌, replicate, take, length, None}
+use Rattle.std.specs.Prelude.{ℕ, pos, ◌-◌, ◌^◌, Bool, true, false, List, [], ◌∷◌, replicate, take, length, None}
 use Rattle.quic_wire_core.specs.declared.stream_id.Side.TheVariants.{Client, Server}
 use Rattle.quic_wire_core.specs.declared.stream_id.Dir.TheVariants.{Bi, Uni}
 use Rattle.quic_parameters.specs.Parameters.{ParameterValues}
@@ -10,10 +10,10 @@ use Rattle.quic_streams_state.specs.State.{StreamsState, Streams, new_streams, a
 use Rattle.quic_streams_state.specs.Opening.{after_open, after_accept}
 use Rattle.quic_streams_state.specs.Taking.{after_stream, after_reset_frame}
 use Rattle.quic_streams_state.specs.Reading.{after_stop, told_bytes, next_answer, after_next, after_read_begun, after_finalize}
-use Rattle.quic_streams_state.specs.Writing.{after_reset, write_answer, after_write, after_finish}
+use Rattle.quic_streams_state.specs.Writing.{after_reset, write_answer, after_write, after_finish, after_set_priority}
 use Rattle.quic_streams_state.specs.Acked.{after_stream_acked, after_stream_lost}
 use Rattle.quic_streams_state.specs.Control.{Draft, control_frames}
-use Rattle.quic_streams_state.specs.Frames.{Sent, with_stream_frames}
+use Rattle.quic_streams_state.specs.Frames.{Sent, with_stream_frames, stream_frames_in}
 
 -- what the peer tells: so many bytes on all streams, and so many streams of either kind
 abbrev pub told_parameters : ℕ → ℕ → ParameterValues
@@ -188,3 +188,21 @@ two_stops = record nothing_waits { stop_sending = record { id = 0; code = 9 } �
 -- RESET_STREAM of that stream that was reset waits, behind or before that of a stream that wasn't
 abbrev pub resets_wait : List (ℕ × ℕ) → Retransmits
 resets_wait resets = record nothing_waits { reset_stream = resets }
+
+-- ---- streams that take turns
+
+-- the client wrote twenty bytes on each of streams 0 and 4
+abbrev pub two_written : StreamsState
+two_written = wrote (wrote (after_open true Bi (after_open true Bi (client 1000 100))) 0 twenty) 4 twenty
+
+-- the same, where stream 4 has a higher priority
+abbrev pub higher_written : StreamsState
+higher_written = wrote (after_set_priority (wrote (after_open true Bi (after_open true Bi (client 1000 100))) 0 twenty) 4 (pos 1)) 4 twenty
+
+-- the STREAM frames that go where so many bytes are left, once as many went in the datagram before, where streams take turns or don't
+abbrev pub sends_twice : Bool → ℕ → StreamsState → Sent
+sends_twice fair most s = stream_frames_in fair most (stream_frames_in fair most s).state
+
+-- the STREAM frame of so many of these bytes, from an offset on
+abbrev pub some_of_twenty : ℕ → ℕ → ℕ → StreamValue
+some_of_twenty id offset n = record { id = id; offset = offset; fin = false; bytes = replicate n 0x61 }

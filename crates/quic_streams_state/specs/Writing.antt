@@ -1,7 +1,6 @@
 -- What writes to streams answer and leave, their end, resets and priorities (RFC 9000, sections 2.2, 2.3, 3.1, 3.5 and 4.1).
-use Rattle.std.specs.Prelude.{ℕ, zero, suc, ℤ, nat_le, ◌+◌, ◌-◌, Bool, true, false, ◌==◌, ◌||◌, not, if◌then◌else◌, List, [], ◌∷◌, ◌++◌, length, take, Option, Some, None, Result, Ok, Err}
+use Rattle.std.specs.Prelude.{ℕ, zero, suc, ℤ, nat_le, ◌+◌, ◌-◌, Bool, true, false, ◌==◌, ◌||◌, if◌then◌else◌, List, [], ◌∷◌, ◌++◌, length, take, Option, Some, None, Result, Ok, Err}
 use Rattle.std.specs.Option.{is_some}
-use Rattle.std.specs.List.{sum_by}
 use Rattle.quic_streams_parts.specs.declared.answers.Written.{Written}
 use Rattle.quic_streams_parts.specs.declared.answers.WriteError.{WriteError}
 use Rattle.quic_streams_parts.specs.declared.answers.WriteError.TheVariants as write_errors
@@ -9,10 +8,11 @@ use Rattle.quic_streams_parts.specs.declared.answers.FinishError.{FinishError}
 use Rattle.quic_streams_parts.specs.declared.answers.ClosedStream.{ClosedStream}
 use Rattle.quic_streams_parts.specs.declared.answers.UpdateError.{UpdateError}
 use Rattle.quic_streams_parts.specs.declared.answers.UpdateError.TheVariants as update_errors
-use Rattle.quic_streams_parts.specs.SendHalf.{SendHalf, written_on, room_on, is_ready, has_pending, written_to, grown, finish_of, Queued, requeued, requeued_at}
+use Rattle.quic_send_buffer.specs.Source.{bytes_of}
+use Rattle.quic_streams_parts.specs.SendHalf.{SendHalf, written_to, finish_of, Queued, requeued}
 use Rattle.quic_retransmits.specs.Retransmits.{Retransmits, with_id}
 use Rattle.quic_streams_state.specs.State.{StreamsState, Streams, streams_of, sending_half, with_send, room}
-use Rattle.quic_streams_state.specs.Sends.{with_queued, grown_half, finished_half, reset_half}
+use Rattle.quic_streams_state.specs.Sends.{with_queued, grown_half, chunks_grown_half, finished_half, reset_half}
 use Rattle.quic_streams_state.specs.Limits.{can_send_data_blocked}
 use Rattle.quic_streams_state.specs.Taking.{joined}
 
@@ -72,24 +72,10 @@ after_write false answer s p id bytes = streams_of s p
 
 -- ---- write of several buffers, each a piece of its own
 
--- the first bytes of the buffers, so many in all
-abbrev pub cut_to : ℕ → List (List ℕ) → List (List ℕ)
-cut_to n [] = []
-cut_to n (c ∷ cs) = take n c ∷ cut_to (n - length c) cs
-
 -- how many buffers so many bytes use up, those without a byte too
 abbrev pub used_up : ℕ → List (List ℕ) → ℕ
 used_up n [] = 0
 used_up n (c ∷ cs) = if nat_le (length c) n then 1 + used_up (n - length c) cs else 0
-
--- how many bytes the buffers have in all
-abbrev pub bytes_of : List (List ℕ) → ℕ
-bytes_of cs = sum_by length cs
-
--- these buffers go behind what was written on a part
-abbrev pub grown_all : SendHalf → List (List ℕ) → SendHalf
-grown_all h [] = h
-grown_all h (c ∷ cs) = grown_all (grown h c) cs
 
 -- what a write of buffers is answered, by the answer to a write of their bytes
 abbrev pub chunks_of : Result ℕ WriteError → List (List ℕ) → Result Written WriteError
@@ -102,7 +88,7 @@ write_chunks_answer is_open s id cs = chunks_of (write_answer is_open s id (byte
 
 -- so many bytes of the buffers were accepted on a part
 abbrev pub chunks_grown_by : SendHalf → StreamsState → ℕ → ℕ → List (List ℕ) → StreamsState
-chunks_grown_by h s id n cs = let t = put_queued s id (requeued_at h.place true s.sending.queue id (grown_all h (cut_to n cs))) in record t { sending = record t.sending { accepted = t.sending.accepted + n } }
+chunks_grown_by h s id n cs = record s { sending = chunks_grown_half h s.sending s.side id n cs }
 
 -- so many bytes of the buffers were accepted on a part, if there is one
 abbrev pub chunks_accepted_at : Option SendHalf → StreamsState → ℕ → ℕ → List (List ℕ) → StreamsState

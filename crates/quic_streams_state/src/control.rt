@@ -13,20 +13,27 @@ use quic_wire::frame::{Ack, Frame, ResetStream, Stream, put_frame, size_of_frame
 use quic_wire_core::{Dir, StreamId, VarInt};
 use std::alloc::AllocError;
 
-/// A kind of frame that waits in [`Retransmits`].
+/// A kind of frame about streams that waits in [`Retransmits`] (RFC 9000, section 19).
 #[derive(Clone, Copy)]
-pub(crate) enum ControlKind {
+pub enum ControlKind {
+    /// RESET_STREAM.
     ResetStream,
+    /// STOP_SENDING.
     StopSending,
+    /// MAX_DATA.
     MaxData,
+    /// MAX_STREAM_DATA.
     MaxStreamData,
+    /// MAX_STREAMS of two-way or of one-way streams.
     MaxStreams(Dir),
+    /// DATA_BLOCKED.
     DataBlocked,
+    /// STREAM_DATA_BLOCKED.
     StreamDataBlocked,
 }
 
 /// The kinds, in the order in which their frames go into a datagram.
-pub(crate) const CONTROL_KINDS: [ControlKind; 8] = [
+pub const CONTROL_KINDS: [ControlKind; 8] = [
     ControlKind::ResetStream,
     ControlKind::StopSending,
     ControlKind::MaxData,

@@ -2,18 +2,22 @@
 #![tactic(auto)]
 
 mod acked;
+mod chunks;
 mod control;
 mod limits;
 mod opening;
 mod queries;
 mod reading;
+mod reads;
 mod receiving;
 mod reset;
 mod sending;
 mod state;
+mod stream_frames;
 mod taking;
 pub mod worked;
 
+pub use control::{CONTROL_KINDS, ControlKind};
 pub use opening::Opening;
 pub use receiving::Receiving;
 pub use sending::Sending;

@@ -33,7 +33,7 @@ fn ask_to_stop(
 impl StreamsState {
     // A receiving half that isn't in use: one on which nothing was done, unless its stream isn't
     // opened, only this end sends on it, or it is done.
-    fn fresh_recv(&self, id: StreamId) -> Option<Recv>
+    pub(crate) fn fresh_recv(&self, id: StreamId) -> Option<Recv>
         requires { at self.now.receiving.halves.live id ≡ None }
         ensures half { result ≡ receiving_half self.now id }
         ensures fresh { IfSome result (λ h. h ≡ new_recv_half (first_window self.now.receiving)) }

@@ -1,12 +1,13 @@
 //! What has come on all streams.
 ghost use Rattle.std.specs.Prelude.{◌≡◌, ◌≢◌, ◌≤◌, ◌+◌, true, false, Some, None, Err, IsSome, IfSome, OnOk, OnErr};
 ghost use Rattle.std.specs.Option.{option_copied};
+ghost use Rattle.std.specs.Result.{is_err};
 ghost use Rattle.quic_streams_parts.specs.Table.{at};
 ghost use Rattle.quic_streams_state.specs.Parts.{first_window, seen};
 ghost use Rattle.quic_streams_state.specs.State.{seen_at};
 ghost use Rattle.quic_streams_state.specs.Limits.{raised_data, data_grew, grew_on};
 ghost use Rattle.quic_streams_state.specs.Taking.{breach_on};
-ghost use Rattle.quic_streams_parts.specs.RecvHalf.{greatest_offset, new_recv_half, end_of, after_frame, after_reset_stream, stopped_now, begun, next_of, half_after_next};
+ghost use Rattle.quic_streams_parts.specs.RecvHalf.{greatest_offset, new_recv_half, end_of, after_frame, after_reset_stream, stopped_now, begun, is_illegal, next_of, half_after_next};
 ghost use Rattle.quic_streams_parts.specs.Lacking.{FrameMayLack, read_may_lack};
 ghost use Rattle.quic_streams_parts.specs.declared.answers.ReadError.TheVariants as read_errors;
 ghost use Rattle.quic_streams_halves.specs.Halves.{no_halves, has_place, with_half, without_half, changed};
@@ -14,7 +15,7 @@ ghost use Rattle.quic_wire.specs.FrameView.{stream_view};
 
 mod telling;
 
-use quic_assembler::Chunk;
+use quic_assembler::{Chunk, IllegalOrderedRead};
 use quic_streams_halves::RecvHalves;
 use quic_streams_parts::{Breach, GREATEST_OFFSET, ReadError, Recv, least_growth};
 use quic_wire::frame::Stream;
@@ -194,11 +195,14 @@ impl Receiving {
         self.recv.stop(id);
     }
 
-    /// An unordered read of a half, if it is in use, begins.
-    pub fn begin_unordered(&mut self, id: StreamId)
-        ensures { self.new ≡ record self.old { halves = changed (λ h. begun h false) self.old.halves id } }
+    /// A read of a half, if it is in use, begins, in order or not. [`IllegalOrderedRead`] where it would be in order after one that
+    /// wasn't; nothing changes.
+    pub fn begin(&mut self, id: StreamId, ordered: bool) -> Result<(), IllegalOrderedRead>
+        ensures refused { IfSome (at self.old.halves.live id) (λ h. is_err result ≡ is_illegal h ordered) }
+        ensures new { self.new ≡ record self.old { halves = changed (λ h. begun h ordered) self.old.halves id } }
+        ensures same { ordered ≡ true → self.new ≡ self.old }
     {
-        self.recv.begin(id, false);
+        self.recv.begin(id, ordered)
     }
 
     /// Reads on of a half, which is in use. An error, and an answer without bytes, change nothing.

@@ -1,20 +1,24 @@
 //! What is sent on all streams.
-ghost use Rattle.std.specs.Prelude.{◌≡◌, ◌≤◌, [], length, max, nat_le, false, IsSome, IsSomeAnd, IfSome, OnOk, OnErr, Some, None, MatchOption, ◌∷◌};
+ghost use Rattle.std.specs.Prelude.{◌≡◌, ◌≤◌, [], length, max, nat_le, false, IsSome, IsSomeAnd, IfSome, IfOk, OnOk, OnErr, Some, None, MatchOption, ◌∷◌};
 ghost use Rattle.std.specs.Option.{option_copied};
+ghost use Rattle.quic_send_buffer.specs.Source.{bytes_of};
 ghost use Rattle.quic_streams_parts.specs.Table.{at};
 ghost use Rattle.quic_streams_parts.specs.SendHalf.{new_send_half, room_on};
 ghost use Rattle.quic_streams_state.specs.Parts.{first_limit_in, room};
 ghost use Rattle.quic_streams_state.specs.Telling.{is_writable, unblocked_at, passed, after_passed};
-ghost use Rattle.quic_streams_state.specs.Sends.{blocked_in, blocked_fresh, grown_in, grown_half, finished_in, finished_half, reset_in};
+ghost use Rattle.quic_streams_state.specs.Sends.{blocked_in, blocked_fresh, chunks_grown_in, chunks_grown_half, finished_in, finished_half, reset_in};
 ghost use Rattle.quic_streams_parts.specs.Dirs.{no_count};
-ghost use Rattle.quic_streams_parts.specs.Queue.{no_queue, is_waiting};
+ghost use Rattle.quic_streams_parts.specs.Queue.{no_queue, is_waiting, first_queued};
 ghost use Rattle.quic_streams_halves.specs.Halves.{no_halves, has_place, with_half, changed};
 
 mod frames;
+mod queue;
 mod renewed;
 
+use bytes::Bytes;
+use queue::PendingStreams;
 use quic_streams_halves::{SendHalves, is_own};
-use quic_streams_parts::{ByDir, PendingStreamsQueue, Place, Send, rank_of};
+use quic_streams_parts::{ByDir, Place, Send, rank_of};
 use quic_wire_core::{Dir, Side, StreamId, VarInt};
 use std::alloc::{AllocError, Global};
 use std::collections::VecDeque;
@@ -32,7 +36,7 @@ pub struct Sending {
     // How far each kind of stream may come at first.
     initial_max_own: ByDir<VarInt>,
     initial_max_remote: VarInt,
-    pending: PendingStreamsQueue,
+    pending: PendingStreams,
     connection_blocked: VecDeque<StreamId>,
     alloc: Global,
 }
@@ -67,7 +71,7 @@ impl Sending {
                 uni: VarInt::from_u32(0),
             },
             initial_max_remote: VarInt::from_u32(0),
-            pending: PendingStreamsQueue::new(alloc),
+            pending: PendingStreams::new(alloc),
             connection_blocked: VecDeque::new(alloc),
             alloc,
         }
@@ -113,6 +117,13 @@ impl Sending {
         self.pending.is_waiting()
     }
 
+    /// The stream that stands first in the queue.
+    pub fn first(&self) -> Option<StreamId>
+        ensures { result ≡ first_queued self.now.queue }
+    {
+        self.pending.first()
+    }
+
     /// The sending half of a stream, if it is in use.
     pub fn get(&self, id: StreamId) -> Option<&Send>
         ensures { option_copied result ≡ at self.now.halves.live id }
@@ -150,50 +161,60 @@ impl Sending {
         limited.min(self.send_window.saturating_sub(self.send.buffered()))
     }
 
-    // Bytes go behind those that were written on a half that stands in the queue. An `Err` (want of memory) changes nothing.
-    fn write_queued(&mut self, id: StreamId, bytes: &[u8], place: Place) -> Result<(), AllocError>
+    // The first `len` bytes of chunks go behind those that were written on a half that stands in
+    // the queue. An `Err` (want of memory) changes nothing.
+    fn write_queued(
+        &mut self,
+        id: StreamId,
+        chunks: &[Bytes],
+        len: usize,
+        place: Place,
+    ) -> Result<(), AllocError>
         requires found { IsSome (at self.old.halves.live id) }
         requires place { IfSome (at self.old.halves.live id) (λ h. h.place ≡ Some place) }
         requires reset { IfSome (at self.old.halves.live id) (λ h. h.reset ≡ None) }
-        requires half { IfSome (at self.old.halves.live id) (λ h. length bytes.now ≤ room_on h) }
-        requires room { length bytes.now ≤ room self.old }
-        ensures ok { OnOk result (self.new ≡ grown_in (at self.old.halves.live id) self.old id bytes.now) }
+        requires half { IfSome (at self.old.halves.live id) (λ h. len ≤ room_on h) }
+        requires room { len ≤ room self.old }
+        requires whole { len ≤ bytes_of chunks.now }
+        ensures ok { OnOk result (self.new ≡ chunks_grown_in (at self.old.halves.live id) self.old id len chunks.now) }
         ensures err { OnErr result (self.new ≡ self.old) }
     {
         // The proof reads that all are below 2^64.
         let _bounds = (self.send.buffered(), self.max_data.into_inner());
         let _window = self.send_window;
-        self.send.write(id, bytes, Some(place))?;
-        self.data_sent += bytes.len() as u64;
+        self.send.write_all(id, chunks, len, Some(place))?;
+        self.data_sent += len as u64;
         Ok(())
     }
 
-    // Bytes go behind those that were written on a half with nothing to send, which comes into the queue. An `Err` (want of memory)
-    // changes nothing.
+    // The first `len` bytes of chunks go behind those that were written on a half with nothing to
+    // send, which comes into the queue. An `Err` (want of memory) changes nothing.
     fn write_unqueued(
         &mut self,
         id: StreamId,
-        bytes: &[u8],
+        chunks: &[Bytes],
+        len: usize,
         priority: i32,
     ) -> Result<(), AllocError>
         requires found { IsSome (at self.old.halves.live id) }
         requires place { IfSome (at self.old.halves.live id) (λ h. h.place ≡ None) }
         requires priority { IfSome (at self.old.halves.live id) (λ h. h.priority ≡ priority) }
         requires reset { IfSome (at self.old.halves.live id) (λ h. h.reset ≡ None) }
-        requires half { IfSome (at self.old.halves.live id) (λ h. length bytes.now ≤ room_on h) }
-        requires room { length bytes.now ≤ room self.old }
-        ensures ok { OnOk result (self.new ≡ grown_in (at self.old.halves.live id) self.old id bytes.now) }
+        requires half { IfSome (at self.old.halves.live id) (λ h. len ≤ room_on h) }
+        requires room { len ≤ room self.old }
+        requires whole { len ≤ bytes_of chunks.now }
+        ensures ok { OnOk result (self.new ≡ chunks_grown_in (at self.old.halves.live id) self.old id len chunks.now) }
         ensures err { OnErr result (self.new ≡ self.old) }
     {
         // The proof reads that all are below 2^64.
         let _bounds = (self.send.buffered(), self.max_data.into_inner());
         let _window = self.send_window;
-        let place = self.pending.push(rank_of(priority), u64::from(id))?;
-        if self.send.write(id, bytes, Some(place)).is_err() {
+        let place = self.pending.push(rank_of(priority), id)?;
+        if self.send.write_all(id, chunks, len, Some(place)).is_err() {
             self.pending.take_back(place);
             return Err(AllocError);
         }
-        self.data_sent += bytes.len() as u64;
+        self.data_sent += len as u64;
         Ok(())
     }
 
@@ -209,7 +230,7 @@ impl Sending {
         let (rank, place) = (rank_of(half.priority()), half.place());
         let place = match place {
             Some(place) => place,
-            None => self.pending.push(rank, u64::from(id))?,
+            None => self.pending.push(rank, id)?,
         };
         self.send.finish(id, Some(place));
         Ok(())
@@ -250,7 +271,7 @@ impl Sending {
     {
         let _buffered = self.send.buffered();
         let mut half = half;
-        let place = self.pending.push(rank_of(half.priority()), u64::from(id))?;
+        let place = self.pending.push(rank_of(half.priority()), id)?;
         half.finish();
         half.set_place(Some(place));
         if self.send.add(side, id, half).is_err() {
@@ -267,12 +288,26 @@ impl Sending {
         self.send.set_priority(id, priority);
     }
 
-    /// Bytes go behind those that were written on a half that is in use, and wait to go. An `Err` (want of memory) changes nothing.
-    pub fn write(&mut self, id: StreamId, bytes: &[u8]) -> Result<(), AllocError>
+    /// A copy of bytes, to be a piece. An `Err` is want of memory.
+    pub fn piece(&self, bytes: &[u8]) -> Result<Bytes, AllocError>
+        ensures { IfOk result (λ piece. piece ≡ bytes.now) }
+    {
+        Bytes::copy_from_slice(self.alloc, bytes)
+    }
+
+    /// The first `len` bytes of chunks go behind those that were written on a half that is in use,
+    /// and wait to go. An `Err` (want of memory) changes nothing.
+    pub fn write_all(
+        &mut self,
+        id: StreamId,
+        chunks: &[Bytes],
+        len: usize,
+    ) -> Result<(), AllocError>
         requires reset { IfSome (at self.old.halves.live id) (λ h. h.reset ≡ None) }
-        requires half { IfSome (at self.old.halves.live id) (λ h. length bytes.now ≤ room_on h) }
-        requires room { length bytes.now ≤ room self.old }
-        ensures ok { OnOk result (self.new ≡ grown_in (at self.old.halves.live id) self.old id bytes.now) }
+        requires half { IfSome (at self.old.halves.live id) (λ h. len ≤ room_on h) }
+        requires room { len ≤ room self.old }
+        requires whole { len ≤ bytes_of chunks.now }
+        ensures ok { OnOk result (self.new ≡ chunks_grown_in (at self.old.halves.live id) self.old id len chunks.now) }
         ensures err { OnErr result (self.new ≡ self.old) }
     {
         let Some(half) = self.send.get(id) else {
@@ -280,41 +315,43 @@ impl Sending {
         };
         let (priority, place) = (half.priority(), half.place());
         match place {
-            Some(place) => self.write_queued(id, bytes, place),
-            None => self.write_unqueued(id, bytes, priority),
+            Some(place) => self.write_queued(id, chunks, len, place),
+            None => self.write_unqueued(id, chunks, len, priority),
         }
     }
 
-    /// Bytes go behind those on a half that isn't in use, and on which nothing was written, and wait to go. An `Err` (want of memory)
-    /// changes nothing.
+    /// The first `len` bytes of chunks go behind those on a half that isn't in use, and on which
+    /// nothing was written, and wait to go. An `Err` (want of memory) changes nothing.
     pub fn write_fresh(
         &mut self,
         side: Side,
         id: StreamId,
         half: Send,
-        bytes: &[u8],
+        chunks: &[Bytes],
+        len: usize,
     ) -> Result<(), AllocError>
         requires none { at self.old.halves.live id ≡ None }
         requires empty { half.buffer.kept ≡ [] }
         requires place { half.place ≡ None }
         requires reset { half.reset ≡ None }
-        requires half { length bytes.now ≤ room_on half }
-        requires room { length bytes.now ≤ room self.old }
-        ensures ok { OnOk result (self.new ≡ grown_half half self.old side id bytes.now) }
+        requires half { len ≤ room_on half }
+        requires room { len ≤ room self.old }
+        requires whole { len ≤ bytes_of chunks.now }
+        ensures ok { OnOk result (self.new ≡ chunks_grown_half half self.old side id len chunks.now) }
         ensures err { OnErr result (self.new ≡ self.old) }
     {
         // The proof reads that all are below 2^64.
         let _bounds = (self.send.buffered(), self.max_data.into_inner());
         let _window = self.send_window;
         let mut half = half;
-        half.write(bytes)?;
-        let place = self.pending.push(rank_of(half.priority()), u64::from(id))?;
+        half.write_all(chunks, len)?;
+        let place = self.pending.push(rank_of(half.priority()), id)?;
         half.set_place(Some(place));
         if self.send.add(side, id, half).is_err() {
             self.pending.take_back(place);
             return Err(AllocError);
         }
-        self.data_sent += bytes.len() as u64;
+        self.data_sent += len as u64;
         Ok(())
     }
 

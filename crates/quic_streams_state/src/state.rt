@@ -1,5 +1,5 @@
 //! All streams of one end.
-ghost use Rattle.std.specs.Prelude.{◌≡◌, ◌≢◌, ◌<◌, ◌≤◌, ◌^◌, Ok, Err, Some, None, true, false, length, OnOk, OnErr, IfSome, IsSomeAnd};
+ghost use Rattle.std.specs.Prelude.{◌≡◌, ◌≢◌, ◌<◌, ◌≤◌, ◌^◌, ℕ, List, Ok, Err, Some, None, true, false, length, OnOk, OnErr, IfSome, IsSomeAnd};
 ghost use Rattle.std.specs.Option.{option_copied};
 ghost use Rattle.quic_parameters.specs.Parameters.{AreInRange};
 ghost use Rattle.quic_streams_parts.specs.Table.{at};
@@ -15,24 +15,28 @@ ghost use Rattle.quic_streams_state.specs.Telling.{polled};
 ghost use Rattle.quic_streams_state.specs.Waiting.{can_send_stream_data, stream_data_blocked_limit, blocked_limit};
 ghost use Rattle.quic_streams_state.specs.Taking.{after_max_data, after_stop_sending, stop_at, sending_for};
 ghost use Rattle.quic_wire.specs.FrameView.{stop_sending_view};
-ghost use Rattle.quic_streams_state.specs.Writing.{blocked_at, accepted_at, after_write, write_answer, priority_answer, stopped_answer, finish_answer, after_finish, set_priority_answer, after_set_priority};
+ghost use Rattle.quic_send_buffer.specs.Source.{bytes_of};
+ghost use Rattle.quic_streams_state.specs.Writing.{blocked_at, accepted_at, chunks_accepted_at, after_write, after_write_chunks, write_answer, write_chunks_answer, written_by, priority_answer, stopped_answer, finish_answer, after_finish, set_priority_answer, after_set_priority};
 ghost use Rattle.quic_streams_parts.specs.declared.answers.WriteError.TheVariants as write_errors;
 ghost use Rattle.quic_streams_parts.specs.declared.answers.FinishError.TheVariants as finish_errors;
 ghost use Rattle.quic_streams_parts.specs.declared.answers.UpdateError.TheVariants as update_errors;
 
+use crate::chunks::{total_len, used_up};
 use crate::opening::{MAX_STREAM_COUNT, Opening};
 use crate::receiving::Receiving;
 use crate::sending::Sending;
+use bytes::Bytes;
 use quic_parameters::TransportParameters;
 use quic_retransmits::Retransmits;
 use quic_streams_halves::is_own;
 use quic_streams_parts::{
     Breach, ByDir, ClosedStream, Events, FinishError, ReceivedError, Send, StreamEvent,
-    UpdateError, WriteError,
+    UpdateError, WriteError, Written,
 };
 use quic_wire::frame::StopSending;
 use quic_wire_core::{Dir, Side, StreamId, VarInt};
 use std::alloc::{AllocError, Global};
+use std::slice;
 
 /// All streams of one end (quinn-proto's `StreamsState`).
 ///
@@ -75,7 +79,8 @@ fn finish_of(half: &Send) -> Result<(), FinishError>
 // What a write of so many bytes to a half is answered on an open end, where all streams together
 // have so much room.
 fn written_to(half: &Send, room: u64, len: usize) -> Result<usize, WriteError>
-    ensures { result ≡ written_to (Some half.now) room len }
+    ensures answer { result ≡ written_to (Some half.now) room len }
+    ensures memory { result ≢ Err write_errors.Memory }
 {
     if room == 0 {
         return Err(WriteError::Blocked);
@@ -342,7 +347,8 @@ impl StreamsState {
 
     // What a write of so many bytes is answered on an open end.
     fn written(&self, id: StreamId, len: usize) -> Result<usize, WriteError>
-        ensures { result ≡ write_answer true self.now id len }
+        ensures answer { result ≡ write_answer true self.now id len }
+        ensures memory { result ≢ Err write_errors.Memory }
     {
         let room = self.sending.room();
         match self.sending.get(id) {
@@ -382,25 +388,65 @@ impl StreamsState {
         Ok(())
     }
 
-    // Bytes that may be written on a stream go behind those before them. An `Err` (want of memory) changes nothing.
-    fn take(&mut self, id: StreamId, bytes: &[u8], len: usize) -> Result<(), AllocError>
-        requires { write_answer true self.old id len ≡ Ok (length bytes.now) }
-        ensures ok { OnOk result (self.new ≡ accepted_at (sending_half self.old id) self.old id bytes.now) }
+    // Nothing is written, for this reason: where a limit blocks the write, that is noted. Says why,
+    // which want of memory may be instead, and nothing changes then.
+    fn refuse(&mut self, id: StreamId, error: WriteError, pending: &mut Retransmits) -> WriteError
+        requires { error ≢ write_errors.Memory }
+        ensures answer { result ≢ write_errors.Memory → result ≡ error }
+        ensures new { (bytes : List ℕ) → self.new ≡ (written_by (Err result) self.old pending.old id bytes).state }
+        ensures pending { (bytes : List ℕ) → pending.new ≡ (written_by (Err result) self.old pending.old id bytes).pending }
+        ensures lacking { result ≡ write_errors.Memory → WriteMayLack (Err error) (sending_half self.old id) (room self.old.sending) }
+    {
+        match error {
+            WriteError::Blocked => match self.block(id, pending) {
+                Ok(()) => WriteError::Blocked,
+                Err(_) => WriteError::Memory,
+            },
+            _ => error,
+        }
+    }
+
+    // The first `len` bytes of chunks, which may be written on a stream, go behind those before
+    // them. An `Err` (want of memory) changes nothing.
+    fn take_all(
+        &mut self,
+        id: StreamId,
+        chunks: &[Bytes],
+        len: usize,
+        asked: usize,
+    ) -> Result<(), AllocError>
+        requires accepted { write_answer true self.old id asked ≡ Ok len }
+        requires whole { len ≤ bytes_of chunks.now }
+        ensures ok { OnOk result (self.new ≡ chunks_accepted_at (sending_half self.old id) self.old id len chunks.now) }
         ensures err { OnErr result (self.new ≡ self.old) }
-        ensures lacking { OnErr result (0 < length bytes.now) }
+        ensures lacking { OnErr result (0 < len) }
     {
         // The proof reads how many bytes these are at most.
-        let _len = len;
-        if bytes.is_empty() {
+        let _asked = asked;
+        if len == 0 {
             return Ok(());
         }
         if self.sending.get(id).is_some() {
-            return self.sending.write(id, bytes);
+            return self.sending.write_all(id, chunks, len);
         }
         let Some(half) = self.fresh_send(id) else {
             return Ok(());
         };
-        self.sending.write_fresh(self.side, id, half, bytes)
+        self.sending.write_fresh(self.side, id, half, chunks, len)
+    }
+
+    // Bytes that may be written on a stream go behind those before them. An `Err` (want of memory) changes nothing.
+    fn take(&mut self, id: StreamId, bytes: &[u8], asked: usize) -> Result<(), AllocError>
+        requires { write_answer true self.old id asked ≡ Ok (length bytes.now) }
+        ensures ok { OnOk result (self.new ≡ accepted_at (sending_half self.old id) self.old id bytes.now) }
+        ensures err { OnErr result (self.new ≡ self.old) }
+        ensures lacking { OnErr result (0 < length bytes.now) }
+    {
+        if bytes.is_empty() {
+            return Ok(());
+        }
+        let piece = self.sending.piece(bytes)?;
+        self.take_all(id, slice::from_ref(&piece), bytes.len(), asked)
     }
 
     /// Writes as many of the bytes as fit, and says how many (RFC 9000, sections 2.2 and 4.1).
@@ -427,16 +473,52 @@ impl StreamsState {
         }
         let taken = match self.written(id, bytes.len()) {
             Ok(taken) => taken,
-            Err(WriteError::Blocked) => {
-                return match self.block(id, pending) {
-                    Ok(()) => Err(WriteError::Blocked),
-                    Err(_) => Err(WriteError::Memory),
-                };
-            }
-            Err(error) => return Err(error),
+            Err(error) => return Err(self.refuse(id, error, pending)),
         };
         match self.take(id, &bytes[..taken], bytes.len()) {
             Ok(()) => Ok(taken),
+            Err(_) => Err(WriteError::Memory),
+        }
+    }
+
+    /// Writes as many bytes of several buffers as fit, as one write of all their bytes, each buffer
+    /// as a piece that shares its bytes (RFC 9000, sections 2.2 and 4.1; quinn-proto's
+    /// `SendStream::write_chunks`). Says how many bytes, and how many of the buffers they use up,
+    /// those without a byte too: the caller goes on behind these.
+    ///
+    /// [`WriteError::Blocked`] where the end isn't open; `ClosedStream` where there is no such stream, or its sending half is done;
+    /// `Blocked` where the connection's limit or the send window leaves no room; `ClosedStream` where it was finished or reset;
+    /// `Stopped` where the peer stopped it; `Blocked` where its own limit leaves no room. They are tested in this order, and none of
+    /// the bytes is taken. `Memory` where memory lacks to take some, or to note that the stream is blocked, and nothing changes.
+    pub fn write_chunks(
+        &mut self,
+        is_open: bool,
+        id: StreamId,
+        chunks: &[Bytes],
+        pending: &mut Retransmits,
+    ) -> Result<Written, WriteError>
+        ensures answer { result ≢ Err write_errors.Memory → result ≡ write_chunks_answer is_open self.old id chunks.now }
+        ensures new { self.new ≡ (after_write_chunks is_open result self.old pending.old id chunks.now).state }
+        ensures pending { pending.new ≡ (after_write_chunks is_open result self.old pending.old id chunks.now).pending }
+        ensures open { result ≡ Err write_errors.Memory → is_open ≡ true }
+        ensures lacking { result ≡ Err write_errors.Memory → WriteMayLack (write_answer true self.old id (bytes_of chunks.now)) (sending_half self.old id) (room self.old.sending) }
+    {
+        if !is_open {
+            return Err(WriteError::Blocked);
+        }
+        // The proof reads that it is below 2^64: so more bytes than can be counted are as many as
+        // that.
+        let _room = self.sending.room();
+        let len = total_len(chunks);
+        let taken = match self.written(id, len) {
+            Ok(taken) => taken,
+            Err(error) => return Err(self.refuse(id, error, pending)),
+        };
+        match self.take_all(id, chunks, taken, len) {
+            Ok(()) => Ok(Written {
+                bytes: taken,
+                chunks: used_up(chunks, taken),
+            }),
             Err(_) => Err(WriteError::Memory),
         }
     }

@@ -21,7 +21,8 @@ ghost use Rattle.quic_streams_state.specs.Taking.{stream_breach, reset_breach, a
 ghost use Rattle.quic_streams_state.specs.Reading.{told_bytes, next_answer, read_answer, stop_answer, after_stop, after_read_begun};
 ghost use Rattle.quic_streams_state.specs.Writing.{write_answer, after_write_chunks, reset_answer, after_reset, write_chunks_answer, priority_answer, after_set_priority};
 ghost use Rattle.quic_streams_state.specs.Telling.{polled};
-ghost use Rattle.quic_streams_state.specs.Worked.{client, server, wrote, sends, controls, controls_in, two_stops, resets_wait, took, hello, hello_frame, twenty, eight_written, eight_frame, eight_read, one_written, one_frame, one_read, one_ended, a_frame, one_accepted, end_read, hello_written, hello_reset, reset_taken, hello_taken, hello_stopped, a_ended, byte_lost, end_lost, whole_acked};
+ghost use Rattle.quic_streams_state.specs.Frames.{stream_frames_in};
+ghost use Rattle.quic_streams_state.specs.Worked.{client, server, wrote, sends, controls, controls_in, two_stops, resets_wait, took, hello, hello_frame, twenty, eight_written, eight_frame, eight_read, one_written, one_frame, one_read, one_ended, a_frame, one_accepted, end_read, hello_written, hello_reset, reset_taken, hello_taken, hello_stopped, a_ended, byte_lost, end_lost, whole_acked, two_written, higher_written, sends_twice, some_of_twenty};
 
 /// With a window of eight bytes a write takes eight; once the server read them, MAX_DATA tells 16, and a write takes eight more.
 #[tactic(auto, unfolding(quic_wire::specs::Writing::stream_spelling, quic_sets::specs::Offsets::without_offsets, quic_sets::specs::Offsets::with_offsets, quic_sets::specs::Offsets::parts_from, quic_sets::specs::Pieces::pieces, quic_sets::specs::Pieces::joining, quic_sets::specs::Pieces::with_range))]
@@ -150,4 +151,19 @@ pub fn retirements_wait()
     ensures merged { (merged (after_retire nothing_waits 1 2) (after_retire nothing_waits 2 3)).retire_cids ≡ 1 ∷ 2 ∷ [] }
     ensures fifty { can_retire nothing_waits 0 50 ≡ true }
     ensures more { can_retire nothing_waits 0 51 ≡ false }
+{}
+
+/// Of two streams of one priority the one that was written first goes first. Where they take turns,
+/// the other goes in the next datagram, and else what is left of the first; a stream of higher
+/// priority goes first in any case. 24 bytes are too few for a frame.
+#[tactic(auto, unfolding(quic_wire::specs::Writing::stream_spelling, quic_sets::specs::Offsets::without_offsets, quic_sets::specs::Offsets::with_offsets, quic_sets::specs::Offsets::parts_from, quic_sets::specs::Pieces::pieces, quic_sets::specs::Pieces::joining, quic_sets::specs::Pieces::with_range))]
+pub fn streams_take_turns()
+    ensures first { (stream_frames_in true 25 two_written).frames ≡ some_of_twenty 0 0 15 ∷ [] }
+    ensures bytes { (stream_frames_in true 25 two_written).bytes ≡ 0x0a ∷ 0x00 ∷ 0x0f ∷ replicate 15 0x61 }
+    ensures fair { (sends_twice true 25 two_written).frames ≡ some_of_twenty 4 0 15 ∷ [] }
+    ensures unfair { (sends_twice false 25 two_written).frames ≡ some_of_twenty 0 15 5 ∷ [] }
+    ensures both { (stream_frames_in true 48 two_written).frames ≡ some_of_twenty 0 0 20 ∷ some_of_twenty 4 0 15 ∷ [] }
+    ensures higher { (stream_frames_in true 25 higher_written).frames ≡ some_of_twenty 4 0 15 ∷ [] }
+    ensures still_higher { (sends_twice true 25 higher_written).frames ≡ some_of_twenty 4 15 5 ∷ [] }
+    ensures too_few { (stream_frames_in true 24 two_written).frames ≡ [] }
 {}

@@ -1,5 +1,6 @@
 use super::spent::spend;
 use Step::{Ack, Keep, Lose, Send, Tell, Write};
+use bytes::Bytes;
 use quic_send_buffer::SendBuffer;
 use std::alloc::AllocError;
 use std::process::Abort;
@@ -272,6 +273,51 @@ fn bytes_are_fetched_at_their_offsets(rt: HostRuntime) -> Result<(), Fail> {
     assert_eq!(rt; buffer.get(offsets), b"Hello, world wit".as_slice());
     let (offsets, _) = buffer.poll_transmit(16);
     assert_eq!(rt; buffer.get(offsets), b"h extra".as_slice());
+    Ok(())
+}
+
+// Each chunk is a piece, the last one cut; one without a byte is none.
+#[test]
+fn chunks_are_pieces(rt: HostRuntime) -> Result<(), Fail> {
+    let mut buffer = SendBuffer::new(rt.alloc());
+    let chunks = [
+        Bytes::from_static(b"Hello, "),
+        Bytes::new(),
+        Bytes::from_static(b"world and more"),
+        Bytes::from_static(b"!"),
+    ];
+    if buffer.write_all(&chunks, 12).is_err() {
+        assert_eq!(rt; buffer.offset(), 0);
+        buffer.write_all(&chunks, 12)?;
+    }
+    assert_eq!(rt; seen(&buffer), (12, 0, 12, false, true));
+    let (offsets, _) = buffer.poll_transmit(64);
+    assert_eq!(rt; (offsets.start, offsets.end), (0, 12));
+    assert_eq!(rt; buffer.get(0..12), b"Hello, ".as_slice());
+    assert_eq!(rt; buffer.get(7..12), b"world".as_slice());
+    Ok(())
+}
+
+// More chunks than one node of a map holds: all of them are taken, or none.
+#[test]
+fn chunks_are_taken_or_none(rt: HostRuntime) -> Result<(), Fail> {
+    let mut chunks = Vec::new(rt.alloc());
+    if chunks.reserve(24).is_err() {
+        chunks.reserve(24)?;
+    }
+    for _ in 0..24 {
+        chunks.push(Bytes::from_static(b"ab"))?;
+    }
+    let mut buffer = SendBuffer::new(rt.alloc());
+    if buffer.write_all(&chunks, 47).is_err() {
+        assert_eq!(rt; seen(&buffer), (0, 0, 0, true, false));
+        buffer.write_all(&chunks, 47)?;
+    }
+    assert_eq!(rt; seen(&buffer), (47, 0, 47, false, true));
+    let (offsets, _) = buffer.poll_transmit(64);
+    assert_eq!(rt; (offsets.start, offsets.end), (0, 47));
+    assert_eq!(rt; buffer.get(44..47), b"ab".as_slice());
+    assert_eq!(rt; buffer.get(46..47), b"a".as_slice());
     Ok(())
 }
 

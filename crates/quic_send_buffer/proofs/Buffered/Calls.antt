@@ -3,11 +3,13 @@
 use Rattle.std.proofs.Common.{◌≡◌, ℕ, ◌+◌, ◌-◌, ◌^◌, ◌≤◌, ◌<◌, ◌⊎◌, ◌↔◌, ◌==◌, min, max, List, [], ◌∷◌, ◌++◌, length, refl, sym, ap, subst, inl, inr, arith, ◌∙◌, length-append, length-drop}
 use Rattle.std.proofs.lemmas.Bool.{cases_lt, cases_Bool, lt-ltb, le-leb, lt-leb, eqb-true, eqb-false}
 use Rattle.std.specs.Prelude.{Result, Ok, Err, OnOk, OnErr}
+use Rattle.std.proofs.lemmas.List.Sums.{sum_by-cons}
 use Rattle.quic_sets.specs.Runs.{Run, Has, AreRuns, Adds, Drops}
 use Rattle.quic_sets.specs.Lacking.{AddsLacking, HasLacking, HasMoving}
 use Rattle.quic_sets.specs.Offsets.{first_or, first_lacking, with_offsets, without_offsets, with_all, lacking}
-use Rattle.quic_send_buffer.specs.Buffered.{Buffered, IsBuffered, HasUnacked, HasInFlight, AreFilled, ReachPast, bytes_in, written, first_unacknowledged, piece_of, after_write, passed, pieces_behind, done, trimmed, acknowledged, after_ack, after_loss, sent_count, room_behind, next_range, next_start, next_count, sent_end, after_poll}
-use Rattle.quic_send_buffer.specs.KeptBytes.{KeptBytes, with_piece, released_to}
+use Rattle.quic_send_buffer.specs.Buffered.{Buffered, IsBuffered, HasUnacked, HasInFlight, AreFilled, ReachPast, bytes_in, written, first_unacknowledged, piece_of, after_write, after_writes, passed, pieces_behind, done, trimmed, acknowledged, after_ack, after_loss, sent_count, room_behind, next_range, next_start, next_count, sent_end, after_poll}
+use Rattle.quic_send_buffer.specs.KeptBytes.{KeptBytes, with_each, released_to}
+use Rattle.quic_send_buffer.specs.Source.{bytes_of}
 use Rattle.quic_sets.proofs.Offsets.Edits.{has_not, with_runs, with_is, with_only, without_runs, without_is, without_only, without_none, lost_runs, lost_is, lost_only, first_is_least, below_first, first_by, first_rises}
 
 -- ---- pieces
@@ -97,6 +99,14 @@ write_lawful b bytes h small =
       bounded = omega (arith, len, h.bounded);
       small = omega (arith, len, small);
     }
+
+-- writes in turn
+pub writes_lawful : (b : Buffered) (cs : List (List ℕ)) → IsBuffered b → written b + bytes_of cs < 2 ^ 62 → IsBuffered (after_writes b cs)
+writes_lawful b [] h small = h
+writes_lawful b (c ∷ cs) h small =
+    let all = sum_by-cons (λ (x : List ℕ). length x) c cs in
+    let len = length-append b.kept c in
+    writes_lawful (after_write b c) cs (write_lawful b c h (omega (arith, small, all))) (omega (arith, small, all, len))
 
 -- ---- offsets are acknowledged
 
@@ -274,11 +284,21 @@ pieces_in b = record { base = b.base; bytes = b.kept; lengths = b.pieces }
 abbrev pub with_pieces : KeptBytes → Buffered → Buffered
 with_pieces k b = record b { base = k.base; kept = k.bytes; pieces = k.lengths }
 
--- bytes are put behind the others, or memory lacks
-pub write_either : {T E : Type 0} (r : Result T E) (b : Buffered) (bytes : List ℕ) (k : KeptBytes) → IsBuffered b → written b + length bytes < 2 ^ 62
-    → OnOk r (k ≡ with_piece bytes (pieces_in b)) → OnErr r (k ≡ pieces_in b) → IsBuffered (with_pieces k b)
-write_either (Ok x) b bytes k h small put same = rw put (write_lawful b bytes h small)
-write_either (Err x) b bytes k h small put same = rw same h
+-- pieces put behind the others are writes in turn
+each_written : (b : Buffered) (cs : List (List ℕ)) → with_pieces (with_each cs (pieces_in b)) b ≡ after_writes b cs
+each_written b [] = refl
+each_written b (c ∷ cs) = each_written (after_write b c) cs
+
+-- bytes are put behind the others, each chunk as a piece, or memory lacks
+pub writes_either : {T E : Type 0} (r : Result T E) (b : Buffered) (cs : List (List ℕ)) (k : KeptBytes) → IsBuffered b → written b + bytes_of cs < 2 ^ 62
+    → OnOk r (k ≡ with_each cs (pieces_in b)) → OnErr r (k ≡ pieces_in b) → IsBuffered (with_pieces k b)
+writes_either (Ok x) b cs k h small put same = rw put (subst (λ (v : Buffered). IsBuffered v) (sym (each_written b cs)) (writes_lawful b cs h small))
+writes_either (Err x) b cs k h small put same = rw same h
+
+pub writes_made : {T E : Type 0} (r : Result T E) (v b : Buffered) (cs : List (List ℕ)) (k : KeptBytes) → v ≡ b
+    → OnOk r (k ≡ with_each cs (pieces_in v)) → OnOk r (with_pieces k v ≡ after_writes b cs)
+writes_made (Ok x) v b cs k e put = ap (λ (j : KeptBytes). with_pieces j v) put ∙ each_written v cs ∙ ap (λ (w : Buffered). after_writes w cs) e
+writes_made (Err x) v b cs k e put = tt
 
 pub loss_made : (v b : Buffered) → v ≡ b → IsBuffered v → (new : List Run) (a z end : ℕ) → end ≡ min z v.unsent → AreRuns new → AddsLacking v.lost v.acked new a end → record v { lost = new } ≡ after_loss b a z
 loss_made v b e h new a z end cut runs adds =

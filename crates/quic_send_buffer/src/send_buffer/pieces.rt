@@ -1,7 +1,9 @@
 // The bytes of a stream that are kept, in the pieces that they were written in.
-ghost use Rattle.std.specs.Prelude.{◌≡◌, ◌+◌, ◌-◌, ◌<◌, ◌≤◌, ◌^◌, [], length, min, slice_range, OnOk, OnErr};
+ghost use Rattle.std.specs.Prelude.{◌≡◌, ◌+◌, ◌-◌, ◌<◌, ◌≤◌, ◌^◌, List, [], ◌∷◌, ◌++◌, length, take, min, slice_range, true, false, IfOk, OnOk, OnErr};
+ghost use Rattle.quic_sets.specs.Parts.{Part};
 ghost use Rattle.quic_send_buffer.specs.Buffered.{piece_end};
-ghost use Rattle.quic_send_buffer.specs.KeptBytes.{with_piece, released_to, first_end, behind, base_behind};
+ghost use Rattle.quic_send_buffer.specs.Source.{bytes_of, cut_to};
+ghost use Rattle.quic_send_buffer.specs.KeptBytes.{with_piece, with_each, released_to, first_end, behind, base_behind, parts_from, EndBy, ending_by};
 
 use bytes::Bytes;
 use quic_sets::by_end::{keep, next_part};
@@ -54,6 +56,78 @@ fn drop_up_to(pieces: &mut BTreeMap<u64, Bytes>, base: u64, up_to: u64) -> u64
     start
 }
 
+// Puts the first bytes of a chunk, if there are any, behind pieces that end up to `end`. An `Err`
+// changes nothing.
+fn put_front(
+    pieces: &mut BTreeMap<u64, Bytes>,
+    end: u64,
+    chunk: &Bytes,
+    len: usize,
+) -> Result<(), AllocError>
+    requires turn { EndBy end pieces.old.entries }
+    requires within { len ≤ length chunk.now }
+    requires small { end + len < 2 ^ 62 }
+    ensures ok { OnOk result (pieces.new.entries ≡ pieces.old.entries ++ parts_from end (take len chunk.now ∷ [])) }
+    ensures err { OnErr result (pieces.new.entries ≡ pieces.old.entries) }
+    ensures lacking { OnErr result (0 < len) }
+{
+    if len == 0 {
+        return Ok(());
+    }
+    let piece = chunk.slice(..len)?;
+    keep(pieces, end + len as u64, piece)
+}
+
+// Whether the last piece ends behind an offset.
+fn ends_behind(pieces: &BTreeMap<u64, Bytes>, up_to: u64) -> bool
+    ensures some { result ≡ true → 0 < length pieces.now.entries }
+    ensures last { result ≡ true → (ps : List Part) (p : Part) → pieces.now.entries ≡ ps ++ p ∷ [] → up_to < p.0 }
+    ensures none { result ≡ false → EndBy up_to pieces.now.entries }
+{
+    match pieces.last_key_value() {
+        Some((end, _)) => *end > up_to,
+        None => false,
+    }
+}
+
+// Takes off the pieces that end behind an offset.
+fn drop_behind(pieces: &mut BTreeMap<u64, Bytes>, up_to: u64)
+    ensures { pieces.new.entries ≡ ending_by up_to pieces.old.entries }
+{
+    while ends_behind(pieces, up_to) {
+        let _ = pieces.pop_last();
+    }
+}
+
+// Puts the first `len` bytes of chunks behind pieces that end up to `end`, each chunk as a piece,
+// and says where the last ends then. An `Err` changes nothing.
+fn put_each(
+    pieces: &mut BTreeMap<u64, Bytes>,
+    end: u64,
+    chunks: &[Bytes],
+    len: usize,
+) -> Result<u64, AllocError>
+    requires turn { EndBy end pieces.old.entries }
+    requires small { end + len < 2 ^ 62 }
+    ensures end { IfOk result (λ last. last ≡ end + bytes_of (cut_to len chunks.now)) }
+    ensures ok { OnOk result (pieces.new.entries ≡ pieces.old.entries ++ parts_from end (cut_to len chunks.now)) }
+    ensures err { OnErr result (pieces.new.entries ≡ pieces.old.entries) }
+    ensures lacking { OnErr result (0 < len) }
+{
+    let (mut rest, mut at, mut left) = (chunks, end, len);
+    while let Some((chunk, others)) = rest.split_first() {
+        let taken = left.min(chunk.len());
+        if put_front(pieces, at, chunk, taken).is_err() {
+            drop_behind(pieces, end);
+            return Err(AllocError);
+        }
+        at += taken as u64;
+        left -= taken;
+        rest = others;
+    }
+    Ok(at)
+}
+
 impl Pieces {
     /// Nothing is kept, and the first byte comes at offset 0.
     pub(crate) fn new(alloc: Global) -> Self
@@ -100,6 +174,22 @@ impl Pieces {
         let piece = Bytes::copy_from_slice(self.alloc, bytes)?;
         keep(&mut self.map, end, piece)?;
         self.end = end;
+        Ok(())
+    }
+
+    /// Puts the first `len` bytes of chunks behind the others, each chunk as one piece, if it has
+    /// any of them. A piece shares its chunk's bytes.
+    ///
+    /// # Errors
+    ///
+    /// [`AllocError`] where memory lacks; nothing has changed.
+    pub(crate) fn push_all(&mut self, chunks: &[Bytes], len: usize) -> Result<(), AllocError>
+        requires { self.old.base + length self.old.bytes + len < 2 ^ 62 }
+        ensures ok { OnOk result (self.new ≡ with_each (cut_to len chunks.now) self.old) }
+        ensures err { OnErr result (self.new ≡ self.old) }
+        ensures lacking { OnErr result (0 < len) }
+    {
+        self.end = put_each(&mut self.map, self.end, chunks, len)?;
         Ok(())
     }
 

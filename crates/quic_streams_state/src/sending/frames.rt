@@ -19,7 +19,7 @@ impl Sending {
     // turns, and goes behind its equals if it has something to send: its place then.
     fn next_place(
         &mut self,
-        id: u64,
+        id: StreamId,
         place: Option<Place>,
         rank: u64,
         pending: bool,
@@ -51,7 +51,7 @@ impl Sending {
         };
         let (rank, place) = (rank_of(half.priority()), half.place());
         let pending = half.has_pending();
-        let next = self.next_place(u64::from(id), place, rank, pending, fair)?;
+        let next = self.next_place(id, place, rank, pending, fair)?;
         self.send.set_place(id, next);
         Ok(())
     }

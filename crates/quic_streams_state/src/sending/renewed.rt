@@ -84,7 +84,7 @@ impl Sending {
         ensures ok { OnOk result (self.new ≡ acked_in (at self.old.halves.live frame.now.id) self.old frame.now) }
         ensures err { OnErr result (self.new ≡ self.old) }
     {
-        let place = self.pending.push(rank_of(priority), u64::from(frame.id))?;
+        let place = self.pending.push(rank_of(priority), frame.id)?;
         if self.send.ack(frame).is_err() {
             self.pending.take_back(place);
             return Err(AllocError);
@@ -119,7 +119,7 @@ impl Sending {
         ensures ok { OnOk result (self.new ≡ lost_in (at self.old.halves.live frame.now.id) self.old frame.now) }
         ensures err { OnErr result (self.new ≡ self.old) }
     {
-        let place = self.pending.push(rank_of(priority), u64::from(frame.id))?;
+        let place = self.pending.push(rank_of(priority), frame.id)?;
         if self.send.retransmit(frame).is_err() {
             self.pending.take_back(place);
             return Err(AllocError);

@@ -2,8 +2,8 @@ use Rattle.std.proofs.Common.{◌≡◌, Result, Ok, Err, OnOk, IsSome, IfSome, 
 use Rattle.std.proofs.Math.Facts.{to_z-of_z}
 use Rattle.std.specs.Result.{is_err}
 use Rattle.quic_streams_parts.specs.Table.{at}
-use Rattle.quic_streams_parts.specs.Queue.{rank_of, after_push}
-use Rattle.quic_streams_parts.specs.SendHalf.{SendHalf, half_lost}
+use Rattle.quic_streams_parts.specs.Queue.{rank_of}
+use Rattle.quic_streams_parts.specs.SendHalf.{half_lost}
 use Rattle.quic_streams_state.specs.Parts.{Sending}
 use Rattle.quic_streams_state.proofs.Requeued.{entering, lost_is}
 use Rattle.quic_streams_state.proofs.sending.Sending.retransmit_entering.Goals as goal
@@ -26,5 +26,5 @@ returns-clause-ok c =
     let ranked = subst Ranked (sym c.self.view_is) c.requires.priority in
     let told = went c.retransmit.result (sym c.is_err.ensures.value ∙ c.if-is_err.false) c.retransmit.ensures.ok in
     let rank : c.rank_of.result ≡ rank_of c.args.priority = c.rank_of.ensures ∙ ap rank_of (to_z-of_z c.ranges.priority) in
-    let pushed = c.in_ok-place.ensures.new ∙ ap (λ k. after_push s.queue c.rank_of.result k) c.from.ensures in
+    let pushed = c.in_ok-place.ensures.new in
     rw (← c.self.view_is) (c.enter.ensures ∙ lost_is s c.args.frame.now _ (entering (λ h. half_lost h c.args.frame.now) (λ h. refl) (λ h. refl) s c.args.frame.now.id c.retransmit.new.self c.push.new.self c.in_ok-place.place c.args.priority c.rank_of.result found placed ranked told rank c.in_ok-place.ensures.place pushed c.in_ok-place.ensures.back))

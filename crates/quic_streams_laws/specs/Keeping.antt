@@ -1,0 +1,130 @@
+-- The small changes that calls and frames make of all streams of one end: a fact that each of them keeps is kept by every word.
+use Rattle.std.specs.Prelude.{◌≡◌, ℕ, ◌+◌, ◌-◌, ◌<◌, ◌≤◌, ◌⊎◌, Bool, true, ◌==◌, if◌then◌else◌, List, [], ◌∷◌, Some, None}
+use Rattle.std.specs.Option.{is_some}
+use Rattle.quic_wire_core.specs.declared.stream_id.Dir.{Dir}
+use Rattle.quic_assembler.specs.Arrived.{bytes_read_of}
+use Rattle.quic_streams_parts.specs.Table.{at}
+use Rattle.quic_streams_parts.specs.Dirs.{of, with_of, more}
+use Rattle.quic_streams_parts.specs.SendHalf.{SendHalf, written_on, room_on, has_pending, is_acked, requeued_at, turned_at}
+use Rattle.quic_streams_parts.specs.RecvHalf.{RecvHalf, raised_on, credit}
+use Rattle.quic_streams_parts.specs.declared.answers.StreamEvent.{StreamEvent}
+use Rattle.quic_streams_parts.specs.declared.answers.StreamEvent.TheVariants as stream_events
+use Rattle.quic_streams_parts.specs.Events.{Events, with_event}
+use Rattle.quic_streams_state.specs.declared.state.StreamsState.{StreamsState}
+use Rattle.quic_streams_state.specs.State.{Receiving, seen, sending_half, receiving_half, with_send, with_recv, send_done, recv_done, room}
+use Rattle.quic_streams_state.specs.Limits.{most_streams, raised_data}
+use Rattle.quic_streams_state.specs.Opening.{opens, opened_if, beyond, announced_count}
+use Rattle.quic_streams_state.specs.Taking.{joined}
+use Rattle.quic_streams_state.specs.Writing.{put_queued}
+use Rattle.quic_streams_state.specs.Telling.{unblocked_at}
+
+-- a sending half that stands where it stood in the queue, and is blocked as it was
+pub record StandsAlike (old new : SendHalf) : Type 0 where
+  pub place : new.place ≡ old.place
+  pub blocked : new.blocked ≡ old.blocked
+
+-- a sending half on which nothing was written, and whose limit didn't fall
+pub record SendsOn (old new : SendHalf) : Type 0 where
+  pub stands : StandsAlike old new
+  pub as_many : written_on new ≡ written_on old
+  pub limit : old.limit ≤ new.limit
+
+-- a sending half on which so many bytes were written, within its limit and what the connection leaves
+pub record WritesOn (room : ℕ) (n : ℕ) (old new : SendHalf) : Type 0 where
+  pub stands : StandsAlike old new
+  pub more : written_on new ≡ written_on old + n
+  pub limit : new.limit ≡ old.limit
+  pub fits : n ≤ room_on old
+  pub within : n ≤ room
+
+-- a receiving half on which more has come, within what the peer was told and what all streams may bring
+pub record SeesMore (r : Receiving) (old new : RecvHalf) : Type 0 where
+  pub more : old.seen ≤ new.seen
+  pub announced : new.seen ≤ old.announced
+  pub all : seen r - old.seen + new.seen ≤ raised_data r
+
+-- what counts as consumed: all that was seen, as much as before, or more, but no more than was seen
+pub data CreditIs (old new : RecvHalf) : Type 0 where
+  all_of_it : credit new ≡ new.seen → CreditIs old new
+  as_before : credit new ≡ credit old → CreditIs old new
+  some_more : credit old ≤ credit new → credit new ≤ new.seen → CreditIs old new
+
+-- where the final size is known, it is the greatest offset that was seen
+abbrev pub EndsThere : RecvHalf → Type 0
+EndsThere h = (size : ℕ) → h.final ≡ Some size → h.seen ≡ size
+
+-- a receiving half on which something came, was read or was stopped
+pub record ReceivesOn (r : Receiving) (old new : RecvHalf) : Type 0 where
+  pub announced : new.announced ≡ old.announced
+  pub sees : (new.seen ≡ old.seen) ⊎ SeesMore r old new
+  pub read : bytes_read_of old.arrived ≤ bytes_read_of new.arrived
+  pub credit : CreditIs old new
+  pub ended : EndsThere old → EndsThere new
+
+-- the streams, with what one of those that are blocked leaves
+abbrev pub unblocked : StreamsState → ℕ → List ℕ → StreamsState
+unblocked s id ids = record s { sending = record s.sending { blocked = ids; halves = record s.sending.halves { live = unblocked_at (at s.sending.halves.live id) s.sending.halves.live id } } }
+
+-- how often it waits to be told that a stream is finished
+abbrev pub finishes_in : ℕ → List StreamEvent → ℕ
+finishes_in id [] = 0
+finishes_in id (stream_events.Finished s ∷ events) = (if s == id then 1 else 0) + finishes_in id events
+finishes_in id (event ∷ events) = finishes_in id events
+
+-- of no stream it waits more often than before
+abbrev pub NoneMoreFinished : Events → Events → Type 0
+NoneMoreFinished old new = (id : ℕ) → finishes_in id new.queue ≤ finishes_in id old.queue
+
+-- nothing is left to do on a sending half: it was reset, or all of it is acknowledged
+abbrev pub HasEnded : SendHalf → Type 0
+HasEnded h = (is_some h.reset ≡ true) ⊎ (is_acked h ≡ true)
+
+-- a fact that each small change keeps, where receiving halves change only as R says of them, sending halves as S says, and those on which bytes are written as W says; where streams of
+-- the peer's are accepted as A says; where it is told of streams that they are finished as F says; where sending halves are done as E says; and where the limit on all streams is raised as L says
+pub record KeepsWhere (R : Receiving → ℕ → RecvHalf → RecvHalf → Type 0) (S : StreamsState → ℕ → SendHalf → SendHalf → Type 0) (W : StreamsState → ℕ → ℕ → SendHalf → SendHalf → Type 0) (A : StreamsState → Dir → Type 0) (F : ℕ → Type 0) (E : ℕ → SendHalf → Type 0)
+    (L : StreamsState → ℕ → Type 0) (P : StreamsState → Type 0) : Type 0 where
+  -- what the application is told: that a stream is finished, and all else
+  pub finishes : (s : StreamsState) (id : ℕ) → F id → P s → P (record s { events = with_event (stream_events.Finished id) s.events })
+  pub events : (s : StreamsState) (e : Events) → NoneMoreFinished s.events e → P s → P (record s { events = e })
+  -- streams that this end opens and accepts, and how many it may open
+  pub opens_own : (s : StreamsState) (dir : Dir) → of dir s.opening.own < of dir s.opening.own_limit → P s → P (record s { opening = record s.opening { own = more dir s.opening.own; sending = s.opening.sending + 1 } })
+  pub accepts : (s : StreamsState) (dir : Dir) → A s dir → P s → P (record s { opening = record s.opening { accepted = more dir s.opening.accepted } })
+  pub allows : (s : StreamsState) (dir : Dir) (count : ℕ) → count ≤ most_streams → of dir s.opening.own_limit < count → P s → P (record s { opening = record s.opening { own_limit = with_of dir count s.opening.own_limit } })
+  -- those that the peer opens
+  pub opens_theirs : (s : StreamsState) (id : ℕ) → opens s id ≡ true → beyond s id ≡ None → P s → P (opened_if true id s)
+  -- how far all streams may come
+  pub raises : (s : StreamsState) (limit : ℕ) → L s limit → P s → P (record s { sending = record s.sending { limit = limit } })
+  -- a sending half, and its place in the queue
+  pub changes : (s : StreamsState) (id : ℕ) (old new : SendHalf) → sending_half s id ≡ Some old → S s id old new → has_pending new ≡ has_pending old → P s → P (with_send s id new)
+  pub queues : (s : StreamsState) (id : ℕ) (old new : SendHalf) (b : Bool) → sending_half s id ≡ Some old → S s id old new → has_pending new ≡ b → P s → P (put_queued s id (requeued_at old.place b s.sending.queue id new))
+  pub turns : (s : StreamsState) (id : ℕ) (old new : SendHalf) → sending_half s id ≡ Some old → S s id old new → has_pending new ≡ true → P s → P (put_queued s id (turned_at old.place s.sending.queue id new))
+  pub writes : (s : StreamsState) (id n : ℕ) (old new : SendHalf) → sending_half s id ≡ Some old → W s id n old new → has_pending new ≡ true → P s
+      → P (let t = put_queued s id (requeued_at old.place true s.sending.queue id new) in record t { sending = record t.sending { accepted = s.sending.accepted + n } })
+  -- it is among those that are blocked, or isn't any more
+  pub joins : (s : StreamsState) (id : ℕ) (h : SendHalf) → sending_half s id ≡ Some h → P s → P (joined s id h)
+  pub passes : (s : StreamsState) (id : ℕ) (ids : List ℕ) → s.sending.blocked ≡ id ∷ ids → P s → P (unblocked s id ids)
+  -- it is done
+  pub ends_sending : (s : StreamsState) (id : ℕ) (h : SendHalf) → at s.sending.halves.live id ≡ Some h → E id h → P s → P (send_done s id)
+  -- a receiving half, and it is done
+  pub changes_receiving : (s : StreamsState) (id : ℕ) (old new : RecvHalf) → receiving_half s id ≡ Some old → R s.receiving id old new → P s → P (with_recv s id new)
+  pub ends_receiving : (s : StreamsState) (id : ℕ) (h : RecvHalf) → at s.receiving.halves.live id ≡ Some h → P s → P (recv_done s id)
+  -- the peer is told how far it may come, on all streams and on one, and how many it may open
+  pub tells : (s : StreamsState) → P s → P (record s { receiving = record s.receiving { announced = raised_data s.receiving } })
+  pub tells_on : (s : StreamsState) (id : ℕ) (h : RecvHalf) → at s.receiving.halves.live id ≡ Some h → P s → P (with_recv s id (record h { announced = raised_on s.receiving.stream_window h }))
+  pub tells_count : (s : StreamsState) (dir : Dir) → P s → P (record s { opening = announced_count dir s.opening })
+
+-- such a fact, whichever of the sending halves are done that were reset or are wholly acknowledged, and wherever the limit on all streams doesn't fall
+abbrev pub KeepsAll : (Receiving → ℕ → RecvHalf → RecvHalf → Type 0) → (StreamsState → ℕ → SendHalf → SendHalf → Type 0) → (StreamsState → ℕ → ℕ → SendHalf → SendHalf → Type 0) → (StreamsState → Dir → Type 0) → (ℕ → Type 0) → (StreamsState → Type 0) → Type 0
+KeepsAll R S W A F P = KeepsWhere R S W A F (λ id h. HasEnded h) (λ s limit. s.sending.limit ≤ limit) P
+
+-- one of the peer's streams waits to be accepted
+abbrev pub MayAccept : StreamsState → Dir → Type 0
+MayAccept s dir = of dir s.opening.accepted < of dir s.opening.remote
+
+-- such a fact, whatever streams are accepted
+abbrev pub KeepsBy : (Receiving → ℕ → RecvHalf → RecvHalf → Type 0) → (StreamsState → ℕ → SendHalf → SendHalf → Type 0) → (StreamsState → ℕ → ℕ → SendHalf → SendHalf → Type 0) → (StreamsState → Type 0) → Type 0
+KeepsBy R S W P = KeepsAll R S W (λ s dir. MayAccept s dir) (λ id. Unit {0}) P
+
+-- a fact that each small change keeps, as streams make them
+abbrev pub Keeps : (StreamsState → Type 0) → Type 0
+Keeps P = KeepsBy (λ r id old new. ReceivesOn r old new) (λ s id old new. SendsOn old new) (λ s id n old new. WritesOn (room s.sending) n old new) P
