@@ -1,0 +1,4 @@
+-- Why ends close between honest ends.
+pub mod Closing
+pub mod UsedUp
+pub mod Come
