@@ -126,6 +126,13 @@ impl StreamsState {
         }
     }
 
+    /// Whether the end is the client or the server.
+    pub fn side(&self) -> Side
+        ensures { result ≡ self.now.side }
+    {
+        self.side
+    }
+
     /// The peer's first limits (RFC 9000, section 18.2), before any call but `new`.
     pub fn set_params(&mut self, params: &TransportParameters)
         requires { AreInRange params.now }
