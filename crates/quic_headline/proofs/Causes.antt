@@ -1,10 +1,10 @@
--- Why ends close: the limits that both keep, the frames that pass, and what is seen where one doesn't.
-pub mod Sums
-pub mod Spends
-pub mod Heard
-pub mod Fits
-pub mod Passes
+-- Why ends close between honest ends.
 pub mod Closing
+pub mod UsedUp
+pub mod Come
+pub mod Runs
 pub mod Crowded
-pub mod Step
-pub mod Clauses
+pub mod Shown
+pub mod Judged
+pub mod Pieces
+pub mod Blameless

@@ -1,5 +1,8 @@
--- What has to arrive: it waits, is under way, or came.
+-- Where what has to reach the peer is, until it arrives.
+pub mod Flies
+pub mod InStreams
 pub mod Carrier
-pub mod OnHalves
 pub mod UnderWay
+pub mod Resets
+pub mod Group
 pub mod Ledger

@@ -1,6 +1,8 @@
-pub mod Packets
-pub mod Halves
 pub mod Duties
+pub mod Halves
+pub mod Packets
+pub mod Places
 pub mod Timers
 pub mod Causes
-pub mod Places
+pub mod Settled
+pub mod Channel

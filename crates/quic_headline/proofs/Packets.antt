@@ -1,13 +1,23 @@
 -- What was given, opened, named and tracked: numbers, bytes, acknowledgements, and what is in flight.
+pub mod Invariant
+pub mod Growth
+pub mod Rising
 pub mod Window
 pub mod Intakes
 pub mod Delivered
-pub mod Growth
+pub mod Stays
 pub mod Knowing
-pub mod Naming
-pub mod PathSize
 pub mod Acking
+pub mod Named
+pub mod Carried
+pub mod Composed
+pub mod Going
+pub mod MayGo
+pub mod Given
 pub mod TrackedSteps
-pub mod Rising
 pub mod Flying
 pub mod Watching
+pub mod Entries
+pub mod Naming
+pub mod Group
+pub mod Sight

@@ -1,13 +1,14 @@
 -- A run and its places: what was told, what holds at each place, and the theorems.
-pub mod Invariant
 pub mod Told
-pub mod Steps
-pub mod Stays
-pub mod Moments
-pub mod Direction
-pub mod Acts
-pub mod Openings
-pub mod Seen
 pub mod Order
-pub mod Clauses
+pub mod Steps
+pub mod Moments
+pub mod Parties
+pub mod Groups
+pub mod Placed
+pub mod Coming
+pub mod Openings
+pub mod Flights
+pub mod Together
+pub mod Everything
 pub mod Theorems

@@ -1,7 +1,8 @@
 -- The timers of losses and of acknowledgements.
 pub mod BothEnds
-pub mod Walk
+pub mod Watched
 pub mod LossTimers
 pub mod AckTimers
+pub mod Starts
 pub mod LossMoments
 pub mod AckMoments

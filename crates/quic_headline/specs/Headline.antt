@@ -1,18 +1,19 @@
 -- What every run of two honest ends keeps (RFC 9000, sections 2.2, 2.3 and 12.3): the headline, over the run's lists alone, and in some clauses over the ends that are left.
-use Rattle.std.specs.Prelude.{ℕ, ◌+◌, ◌<◌, ◌≤◌, ◌≡◌, ◌↔◌, Bool, true, not, eqb, List, [], ◌∷◌, ◌++◌, length, take, drop, slice_get, Option, Some, None, Ok, Err}
+use Rattle.std.specs.Prelude.{ℕ, ◌+◌, ◌^◌, ◌<◌, ◌≤◌, ◌≡◌, ◌↔◌, Bool, true, false, not, eqb, List, [], ◌∷◌, ◌++◌, length, take, drop, slice_get, Option, Some, None, Ok, Err}
 use Rattle.std.specs.List.{IsDistinct}
 use Rattle.std.specs.Option.{is_some}
 use Rattle.quic_wire_core.specs.declared.stream_id.Side.{Side}
 use Rattle.quic_wire_core.specs.declared.stream_id.Dir.{Dir}
 use Rattle.quic_wire_core.specs.StreamId.{stream_id, other_side}
-use Rattle.quic_wire.specs.Value.{FrameValue, StreamValue, AckValue, ack}
+use Rattle.quic_wire.specs.Value.{FrameValue, AckValue, ack}
 use Rattle.quic_assembler.specs.declared.assembler.Chunk.{Chunk}
 use Rattle.quic_machine.specs.declared.answers.State.TheVariants as states
-use Rattle.quic_streams.specs.declared.answers.ReadError.TheVariants as read_errors
+use Rattle.quic_streams_parts.specs.declared.answers.ReadError.TheVariants as read_errors
 use Rattle.quic_machine.specs.declared.answers.Event.TheVariants as events
-use Rattle.quic_streams.specs.declared.answers.StreamEvent.TheVariants.{Finished}
+use Rattle.quic_streams_parts.specs.declared.answers.StreamEvent.TheVariants.{Finished}
 use Rattle.quic_machine.specs.declared.run.ReadCall.{ReadCall}
 use Rattle.quic_machine.specs.declared.run.Injection.{Injection}
+use Rattle.quic_machine.specs.declared.run.RunEvent.{RunEvent}
 use Rattle.quic_machine.specs.declared.run.Call.{Call}
 use Rattle.quic_machine.specs.declared.run.Call.TheVariants as calls
 use Rattle.quic_machine.specs.declared.run.Answer.{Answer}
@@ -25,7 +26,7 @@ use Rattle.quic_machine.specs.Tracking.{is_idle}
 use Rattle.quic_machine.specs.End.{End}
 use Rattle.quic_machine.specs.Poll.{IsDatagram}
 use Rattle.quic_machine.specs.Machine.{World, policy_at, end_at, Follows}
-use Rattle.quic_headline.specs.Runs.{Run, Told, Next, Packet, In, until, state_at, AreServed, written, ended, nexts, chunks_of, reads, bytes_of, offsets_of, ids_of, accepts, WasTaken, HasArrived, EndHasArrived, IsTaken, IsNamed, names, finishes_told, given_until, first_id_of_peer, expected_behind}
+use Rattle.quic_headline.specs.Runs.{Run, Told, Next, Packet, In, until, state_at, AreServed, written, ended, nexts, chunks_of, reads, bytes_of, offsets_of, ids_of, accepts, only_in_order, reset, WasNamed, HasArrived, EndHasArrived, IsTaken, IsNamed, names, finishes_told, given_until, first_id_of_peer, expected_behind}
 use Rattle.quic_headline.specs.Observer.{Sent, HoldsOffset, HoldsEnd, frames_opened, watch, took, references_until, acked_until}
 
 -- ---- the premises
@@ -33,8 +34,13 @@ use Rattle.quic_headline.specs.Observer.{Sent, HoldsOffset, HoldsEnd, frames_ope
 -- the stream that a call of an application names
 abbrev pub used : Call → Option ℕ
 used (calls.Write id bytes) = Some id
+used (calls.WriteChunks id buffers) = Some id
 used (calls.Finish id) = Some id
+used (calls.Reset id code) = Some id
+used (calls.SetPriority id priority) = Some id
 used (calls.Read read) = Some read.id
+used (calls.Stop id code) = Some id
+used (calls.ReceivedReset id) = Some id
 used call = None
 
 -- a call at an end, and what it was answered
@@ -45,6 +51,16 @@ pub record IsAt (r : Run) (i : ℕ) (side : Side) (call : Call) (a : Answer) : T
 -- applications use only ids that were opened or accepted at their end before, in each call that was answered
 abbrev pub UsesOwnIds : Run → Type 0
 UsesOwnIds r = (side : Side) (i id : ℕ) (call : Call) (a : Answer) → IsAt r i side call a → used call ≡ Some id → In id (ids_of (until r side i))
+
+-- what the type of a code says: a number below 2^62 (RFC 9000, section 16)
+abbrev pub CodeIsSmall : Call → Type 0
+CodeIsSmall (calls.Reset id code) = code < 2 ^ 62
+CodeIsSmall (calls.Stop id code) = code < 2 ^ 62
+CodeIsSmall call = Unit {0}
+
+-- so it is of the codes of all calls
+abbrev pub AreCodes : List RunEvent → Type 0
+AreCodes events = (event : RunEvent) → In event events → CodeIsSmall event.call
 
 -- the premises of the headline
 pub record IsHonest (r : Run) : Type 0 where
@@ -60,33 +76,46 @@ IsPrefixOf xs ys = (rest : List ℕ) × (xs ++ rest ≡ ys)
 
 -- Each clause speaks of the end at `side`, and of a place before which no delivery and no poll met want of memory.
 
--- the bytes read are a prefix of the bytes that the other end wrote
+-- where a stream was read in order alone, the bytes read are a prefix of the bytes that the other end wrote
 abbrev pub OrderedPrefix : Run → Type 0
-OrderedPrefix r = (side : Side) (id i : ℕ) → AreServed r i → IsPrefixOf (bytes_of (reads id (until r side i))) (written id (until r (other_side side) i))
+OrderedPrefix r = (side : Side) (id i : ℕ) → AreServed r i → only_in_order id (until r side i) ≡ true → IsPrefixOf (bytes_of (reads id (until r side i))) (written id (until r (other_side side) i))
 
 -- each chunk is a slice of what was written, at its offset
 abbrev pub Slices : Run → Type 0
 Slices r = (side : Side) (id i : ℕ) (chunk : Chunk) → AreServed r i → In chunk (reads id (until r side i)) → take (length chunk.bytes) (drop chunk.offset (written id (until r (other_side side) i))) ≡ chunk.bytes
 
--- no offset is read twice
+-- no offset is read twice, whatever the order of reads
 abbrev pub Once : Run → Type 0
 Once r = (side : Side) (id i : ℕ) → AreServed r i → IsDistinct eqb (offsets_of (reads id (until r side i)))
+
+-- each of so many offsets is that of a byte of these chunks
+abbrev pub HasOffsets : List Chunk → ℕ → Type 0
+HasOffsets chunks count = (offset : ℕ) → offset < count → In offset (offsets_of chunks)
 
 -- the end is told only where the other end finished the stream, and every byte was read before
 abbrev pub EndAfterAll : Run → Type 0
 EndAfterAll r = (side : Side) (id i : ℕ) (front behind : List Next) → AreServed r i → nexts id (until r side i) ≡ front ++ Ok None ∷ behind
-    → (ended id (until r (other_side side) i) ≡ true) × (bytes_of (chunks_of front) ≡ written id (until r (other_side side) i))
+    → (ended id (until r (other_side side) i) ≡ true) × HasOffsets (chunks_of front) (length (written id (until r (other_side side) i)))
 
--- a read is blocked only where neither the next byte nor, with all read, the end has arrived
+-- the chunks that were read of a stream up to a `next` of a read: before the read, and in it
+abbrev pub read_before : List Told → ℕ → List Next → List Chunk
+read_before told id front = reads id told ++ chunks_of front
+
+-- no offset arrived that a read may give behind these chunks: in order the one behind their bytes, in no order any that isn't theirs
+abbrev pub NoneToGive : Bool → List Packet → ℕ → List Chunk → Type 0
+NoneToGive true packets id chunks = HasArrived packets id (length (bytes_of chunks)) → ⊥
+NoneToGive false packets id chunks = (offset : ℕ) → HasArrived packets id offset → In offset (offsets_of chunks)
+
+-- a read is blocked only where no byte has arrived that it may give, nor, with all read, the end
 abbrev pub BlockedOnlyWithoutBytes : Run → Type 0
 BlockedOnlyWithoutBytes r = (side : Side) (i : ℕ) (read : ReadCall) (front behind : List Next) → AreServed r i → IsAt r i side (calls.Read read) (answers.Read (Ok (front ++ Err read_errors.Blocked ∷ behind)))
-    → (HasArrived (took r side i) read.id (length (bytes_of (reads read.id (until r side i) ++ chunks_of front))) → ⊥)
-    × (EndHasArrived (took r side i) read.id (length (bytes_of (reads read.id (until r side i) ++ chunks_of front))) → ⊥)
+    → NoneToGive read.ordered (took r side i) read.id (read_before (until r side i) read.id front)
+    × ((size : ℕ) → EndHasArrived (took r side i) read.id size → HasOffsets (read_before (until r side i) read.id front) size → ⊥)
 
--- nothing is accepted only where each stream of that kind that arrived, and each below it, was accepted
+-- nothing is accepted only where each stream of that kind that a frame opened, and each below it, was accepted
 abbrev pub AcceptsAll : Run → Type 0
-AcceptsAll r = (side : Side) (i : ℕ) (dir : Dir) (frame : StreamValue) (index below : ℕ) → AreServed r i → IsAt r i side (calls.Accept dir) (answers.Accept None)
-    → WasTaken (took r side i) frame → frame.id ≡ stream_id (other_side side) dir index → below ≤ index → In (stream_id (other_side side) dir below) (accepts (until r side i))
+AcceptsAll r = (side : Side) (i : ℕ) (dir : Dir) (index below : ℕ) → AreServed r i → IsAt r i side (calls.Accept dir) (answers.Accept None)
+    → WasNamed (took r side i) (stream_id (other_side side) dir index) → below ≤ index → In (stream_id (other_side side) dir below) (accepts (until r side i))
 
 -- ---- streams that are finished
 
@@ -106,9 +135,9 @@ pub record AllHeld (sents : List Sent) (id : ℕ) (told : List Told) : Type 0 wh
   pub bytes : (offset : ℕ) → offset < length (written id told) → HoldsOffset sents id offset
   pub end : HoldsEnd sents id
 
--- so it is of the datagrams of an end that were acknowledged in flight
+-- so it is of the datagrams of an end that were acknowledged in flight, and it didn't reset the stream
 abbrev pub IsAcknowledged : Run → Side → ℕ → ℕ → Type 0
-IsAcknowledged r side id i = AllHeld (acked_until r side i) id (until r side i)
+IsAcknowledged r side id i = AllHeld (acked_until r side i) id (until r side i) × (reset id (until r side i) ≡ None)
 
 -- how often an end told that a stream is finished
 abbrev pub times_told : Run → Side → ℕ → ℕ → ℕ
@@ -195,8 +224,9 @@ NumbersRise r = (side : Side) (i : ℕ) → AreServed r i → Rise (policy_at si
 
 -- ---- a run of the machine
 
--- the answers and views may come of the events, and these are the datagrams that the ends gave
+-- the answers and views may come of the events, whose codes are codes, and these are the datagrams that the ends gave
 pub record IsRun (r : Run) (end : World) : Type 0 where
+  pub codes : AreCodes r.events
   pub follows : Follows r.keys r.start r.events r.answers r.views end
   pub from_client : r.from_client ≡ end.from_client
   pub from_server : r.from_server ≡ end.from_server

@@ -1,11 +1,13 @@
 -- What an end waits for, against what an observer of the run's lists knows to be in flight (RFC 9002, sections 2, 6.1.1 and A.1).
-use Rattle.std.specs.Prelude.{ℕ, ◌+◌, ◌≡◌, List, [], ◌∷◌, length, map, Option, Some, None}
+use Rattle.std.specs.Prelude.{ℕ, ◌+◌, ◌≡◌, Bool, true, false, not, List, [], ◌∷◌, length, map, Option, Some, None}
+use Rattle.std.specs.List.{list_any}
 use Rattle.quic_wire_core.specs.declared.stream_id.Side.{Side}
-use Rattle.quic_wire.specs.Value.{FrameValue, StreamValue, ack, stream}
+use Rattle.quic_wire.specs.Value.{FrameValue, StreamValue, StopSendingValue, ack, stream, reset_stream, stop_sending, max_data, max_stream_data, max_streams, data_blocked, stream_data_blocked}
 use Rattle.quic_send_buffer.specs.declared.stream_meta.StreamMeta.{StreamMeta}
 use Rattle.quic_machine.specs.declared.answers.State.TheVariants as states
-use Rattle.quic_streams.specs.Table.{Table}
-use Rattle.quic_machine.specs.Tracking.{TrackedPacket}
+use Rattle.quic_streams_parts.specs.Table.{Table}
+use Rattle.quic_retransmits.specs.Retransmits.{Retransmits, with_ids}
+use Rattle.quic_machine.specs.Tracking.{Carried, TrackedPacket}
 use Rattle.quic_machine.specs.Machine.{World, end_at}
 use Rattle.quic_headline.specs.Runs.{Run, AreServed, LeadsTo}
 use Rattle.quic_headline.specs.Observer.{Sent, watch}
@@ -26,9 +28,68 @@ first_acknowledged [] = None
 first_acknowledged (ack a ∷ fs) = Some a.largest
 first_acknowledged (other ∷ fs) = first_acknowledged fs
 
+-- ---- what has to be sent again if a datagram is lost, beside the bytes of streams (RFC 9000, section 13.3)
+
+-- whether a frame is of such a kind, and what the frames of a kind say
+abbrev pub is_max_data : FrameValue → Bool
+is_max_data (max_data limit) = true
+is_max_data other = false
+
+abbrev pub is_data_blocked : FrameValue → Bool
+is_data_blocked (data_blocked limit) = true
+is_data_blocked other = false
+
+-- MAX_STREAMS of two-way or of one-way streams
+abbrev pub is_max_streams : Bool → FrameValue → Bool
+is_max_streams true (max_streams f) = f.one_way
+is_max_streams false (max_streams f) = not f.one_way
+is_max_streams one_way other = false
+
+-- the streams that RESET_STREAM frames reset, with their codes
+abbrev pub resets_in : List FrameValue → List (ℕ × ℕ)
+resets_in [] = []
+resets_in (reset_stream f ∷ fs) = (f.id, f.code) ∷ resets_in fs
+resets_in (other ∷ fs) = resets_in fs
+
+-- what STOP_SENDING frames say
+abbrev pub stops_in : List FrameValue → List StopSendingValue
+stops_in [] = []
+stops_in (stop_sending f ∷ fs) = f ∷ stops_in fs
+stops_in (other ∷ fs) = stops_in fs
+
+-- the streams of MAX_STREAM_DATA frames, and those of STREAM_DATA_BLOCKED frames
+abbrev pub limits_in : List FrameValue → List ℕ
+limits_in [] = []
+limits_in (max_stream_data f ∷ fs) = f.id ∷ limits_in fs
+limits_in (other ∷ fs) = limits_in fs
+
+abbrev pub blocked_in : List FrameValue → List ℕ
+blocked_in [] = []
+blocked_in (stream_data_blocked f ∷ fs) = f.id ∷ blocked_in fs
+blocked_in (other ∷ fs) = blocked_in fs
+
+-- all of it: of each kind, that its frames are among these, or what they say, in their order or as a set of streams
+abbrev pub again_in : List FrameValue → Retransmits
+again_in frames = record {
+  max_data = list_any is_max_data frames;
+  data_blocked = list_any is_data_blocked frames;
+  max_stream_id = record { bi = list_any (is_max_streams false) frames; uni = list_any (is_max_streams true) frames };
+  reset_stream = resets_in frames;
+  stop_sending = stops_in frames;
+  max_stream_data = with_ids (limits_in frames) [];
+  stream_data_blocked = with_ids (blocked_in frames) [];
+  new_cids = [];
+  retire_cids = [];
+  ack_frequency = false;
+}
+
+-- what a datagram with these frames carried
+abbrev pub carried_by : List FrameValue → Carried
+carried_by frames = record { largest_acked = first_acknowledged frames; stream_frames = all_offsets frames; retransmits = again_in frames }
+
 -- what an end knows of a datagram that it waits for, by its number; there is one path, the first
 abbrev pub waited_for : Sent → ℕ × TrackedPacket
-waited_for s = (s.number, record { generation = 0; time_sent = s.moment; carried = record { largest_acked = first_acknowledged s.frames; stream_frames = all_offsets s.frames } })
+waited_for s = (s.number, record { generation = 0; time_sent = s.moment; carried = carried_by s.frames })
 
 -- the datagrams of an end that are in flight behind the first so many answers, as the end is to know them
 abbrev pub in_flight : Run → Side → ℕ → Table TrackedPacket

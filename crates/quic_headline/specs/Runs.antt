@@ -1,17 +1,17 @@
 -- What a run says of its ends over its lists alone: its events, their answers, the views behind them, and the datagrams that each end gave.
-use Rattle.std.specs.Prelude.{ℕ, zero, suc, ◌+◌, ◌<◌, ◌≤◌, ◌≡◌, ◌⊎◌, max, Bool, true, false, nat_le, ◌==◌, ◌&&◌, ◌||◌, if◌then◌else◌, List, [], ◌∷◌, ◌++◌, length, take, slice_get, Option, Some, None, Result, Ok, Err}
+use Rattle.std.specs.Prelude.{ℕ, zero, suc, ◌+◌, ◌<◌, ◌≤◌, ◌≡◌, ◌⊎◌, max, Bool, true, false, nat_le, ◌==◌, ◌&&◌, ◌||◌, not, if◌then◌else◌, List, [], ◌∷◌, ◌++◌, length, take, slice_get, Option, Some, None, Result, Ok, Err}
 use Rattle.std.specs.List.{list_any}
 use Rattle.quic_wire_core.specs.declared.stream_id.Side.{Side}
 use Rattle.quic_wire_core.specs.declared.stream_id.Side.TheVariants.{Client, Server}
 use Rattle.quic_wire_core.specs.StreamId.{other_side}
-use Rattle.quic_wire.specs.Value.{FrameValue, StreamValue, AckValue, ack, stream}
+use Rattle.quic_wire.specs.Value.{FrameValue, StreamValue, ResetStreamValue, AckValue, ack, stream, reset_stream, stop_sending, max_stream_data}
 use Rattle.quic_wire.specs.Items.{items}
 use Rattle.quic_packet.specs.Datagram.{Opening}
 use Rattle.quic_wire.specs.declared.frame.InvalidFrame.{InvalidFrame}
 use Rattle.quic_assembler.specs.declared.assembler.Chunk.{Chunk}
-use Rattle.quic_streams.specs.declared.answers.ReadError.{ReadError}
+use Rattle.quic_streams_parts.specs.declared.answers.ReadError.{ReadError}
 use Rattle.quic_machine.specs.declared.answers.Event.TheVariants as events
-use Rattle.quic_streams.specs.declared.answers.StreamEvent.TheVariants.{Finished}
+use Rattle.quic_streams_parts.specs.declared.answers.StreamEvent.TheVariants.{Finished}
 use Rattle.quic_machine.specs.declared.answers.Received.TheVariants as receives
 use Rattle.quic_machine.specs.declared.answers.State.{State}
 use Rattle.quic_machine.specs.declared.answers.State.TheVariants as states
@@ -98,9 +98,15 @@ AreServed r i = list_any fails (take i r.answers) ≡ false
 
 -- ---- what the application wrote and read
 
+-- buffers, one behind another
+abbrev pub joined : List (List ℕ) → List ℕ
+joined [] = []
+joined (b ∷ bs) = b ++ joined bs
+
 -- the bytes that a call wrote on a stream: as many as were accepted
 abbrev pub written_by : ℕ → Call → Answer → List ℕ
 written_by id (calls.Write s bytes) (answers.Write (Ok count)) = if s == id then take count bytes else []
+written_by id (calls.WriteChunks s buffers) (answers.WriteChunks (Ok w)) = if s == id then take w.bytes (joined buffers.items) else []
 written_by id call a = []
 
 -- the bytes that an end wrote on a stream, in their order
@@ -117,6 +123,21 @@ ended_by id call a = false
 abbrev pub ended : ℕ → List Told → Bool
 ended id [] = false
 ended id (t ∷ ts) = ended_by id t.call t.answer || ended id ts
+
+-- the code with which a call reset a stream, where it did
+abbrev pub reset_by : ℕ → Call → Answer → Option ℕ
+reset_by id (calls.Reset s code) (answers.Reset (Ok done)) = if s == id then Some code else None
+reset_by id call a = None
+
+-- the first of two
+abbrev pub first_of : Option ℕ → Option ℕ → Option ℕ
+first_of (Some code) later = Some code
+first_of None later = later
+
+-- the code with which an end reset a stream, if it did
+abbrev pub reset : ℕ → List Told → Option ℕ
+reset id [] = None
+reset id (t ∷ ts) = first_of (reset_by id t.call t.answer) (reset id ts)
 
 -- what a `next` of a read answers
 abbrev pub Next : Type 0
@@ -138,6 +159,16 @@ nexts_by id call a = []
 abbrev pub nexts : ℕ → List Told → List Next
 nexts id [] = []
 nexts id (t ∷ ts) = nexts_by id t.call t.answer ++ nexts id ts
+
+-- whether a call read a stream in no order
+abbrev pub picks_by : ℕ → Call → Answer → Bool
+picks_by id (calls.Read read) (answers.Read (Ok said)) = (read.id == id) && not read.ordered
+picks_by id call a = false
+
+-- whether a stream was read in order alone
+abbrev pub only_in_order : ℕ → List Told → Bool
+only_in_order id [] = true
+only_in_order id (t ∷ ts) = not (picks_by id t.call t.answer) && only_in_order id ts
 
 -- the chunks that an end read of a stream, in their order
 abbrev pub reads : ℕ → List Told → List Chunk
@@ -171,7 +202,7 @@ finished id told = tells_end (nexts id told)
 
 -- the stream that a call opened or accepted
 abbrev pub id_by : Call → Answer → Option ℕ
-id_by (calls.Open dir) (answers.Open (Ok id)) = id
+id_by (calls.Open dir) (answers.Open id) = id
 id_by (calls.Accept dir) (answers.Accept id) = id
 id_by call a = None
 
@@ -284,6 +315,22 @@ pub record WasTaken (packets : List Packet) (frame : StreamValue) : Type 0 where
   pub was_taken : In packet packets
   pub carried : In (stream frame) packet.frames
 
+-- A frame opens a stream of the peer's, and those of its kind below it (RFC 9000, sections 2.1 and 3.2): STREAM, RESET_STREAM, STOP_SENDING and MAX_STREAM_DATA do.
+abbrev pub OpensStream : FrameValue → ℕ → Type 0
+OpensStream (stream f) id = f.id ≡ id
+OpensStream (reset_stream f) id = f.id ≡ id
+OpensStream (stop_sending f) id = f.id ≡ id
+OpensStream (max_stream_data f) id = f.id ≡ id
+OpensStream f id = ⊥
+
+-- Such a frame of a stream was taken.
+pub record WasNamed (packets : List Packet) (id : ℕ) : Type 0 where
+  pub packet : Packet
+  pub was_taken : In packet packets
+  pub frame : FrameValue
+  pub carried : In frame packet.frames
+  pub opens : OpensStream frame id
+
 -- An offset of a stream arrived: it stands in a frame that was taken.
 pub record HasArrived (packets : List Packet) (id offset : ℕ) : Type 0 where
   pub frame : StreamValue
@@ -299,6 +346,14 @@ pub record EndHasArrived (packets : List Packet) (id size : ℕ) : Type 0 where
   pub of_stream : frame.id ≡ id
   pub fin : frame.fin ≡ true
   pub behind : frame.offset + length frame.bytes ≡ size
+
+-- The reset of a stream arrived (RFC 9000, section 19.4).
+pub record ResetHasArrived (packets : List Packet) (id : ℕ) : Type 0 where
+  pub packet : Packet
+  pub was_taken : In packet packets
+  pub frame : ResetStreamValue
+  pub carried : In (reset_stream frame) packet.frames
+  pub of_stream : frame.id ≡ id
 
 -- A number is that of a packet that was taken.
 pub record IsTaken (packets : List Packet) (number : ℕ) : Type 0 where

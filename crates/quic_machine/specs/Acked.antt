@@ -1,15 +1,15 @@
 -- What an ACK frame makes of an end (RFC 9000, section 13.1; RFC 9002, section 6.1).
-use Rattle.std.specs.Prelude.{ℕ, Bool, true, false, List, [], ◌∷◌, ◌++◌, Option, Some, None}
+use Rattle.std.specs.Prelude.{ℕ, List, [], ◌∷◌, Option, Some, None}
 use Rattle.quic_send_buffer.specs.declared.stream_meta.StreamMeta.{StreamMeta}
 use Rattle.quic_wire.specs.Value.{AckValue}
 use Rattle.quic_recovery_core.specs.PendingAcks.{after_subtract}
-use Rattle.quic_streams.specs.declared.answers.StreamEvent.{StreamEvent}
-use Rattle.quic_streams.specs.declared.answers.StreamEvent.TheVariants.{Finished}
-use Rattle.quic_streams.specs.Table.{Table}
+use Rattle.quic_streams_parts.specs.Table.{Table}
+use Rattle.quic_retransmits.specs.Retransmits.{merged}
+use Rattle.quic_streams_state.specs.State.{streams_of}
+use Rattle.quic_streams_state.specs.Acked.{after_stream_acked, after_stream_lost, after_reset_acked}
 use Rattle.quic_machine.specs.Numbers.{cut_against}
-use Rattle.quic_machine.specs.Tracking.{TrackedPacket, acked_by, not_acked_by, lost_below, kept_above, after_answered}
-use Rattle.quic_streams.specs.Sending.{after_stream_acked, after_stream_lost, finishes}
-use Rattle.quic_machine.specs.End.{End, with_acknowledging, with_tracking}
+use Rattle.quic_machine.specs.Tracking.{TrackedPacket, Carried, acked_by, not_acked_by, lost_below, kept_above, after_answered}
+use Rattle.quic_machine.specs.End.{End, with_acknowledging, with_tracking, with_streams}
 
 -- ---- a packet that is acknowledged
 
@@ -18,23 +18,31 @@ abbrev pub without_known : Option ℕ → End → End
 without_known None e = e
 without_known (Some n) e = with_acknowledging e (after_subtract e.acknowledging n)
 
--- the event of a stream that is finished
-abbrev pub finished_event : Bool → ℕ → List StreamEvent
-finished_event true id = Finished id ∷ []
-finished_event false id = []
+-- RESET_STREAM of a stream is acknowledged
+abbrev pub reset_acked : ℕ → End → End
+reset_acked id e = with_streams e (after_reset_acked e.streams e.waiting.frames id)
+
+-- the RESET_STREAM frames of a packet, of these streams with these codes, are acknowledged
+abbrev pub resets_acked : List (ℕ × ℕ) → End → End
+resets_acked [] e = e
+resets_acked (r ∷ rs) e = resets_acked rs (reset_acked r.0 e)
 
 -- a STREAM frame is acknowledged: where its stream is wholly acknowledged then, its end too, the application is told so
 abbrev pub stream_acked : StreamMeta → End → End
-stream_acked m e = record e { sending = after_stream_acked e.sending m; events = e.events ++ finished_event (finishes e.sending m) m.id }
+stream_acked m e = with_streams e (after_stream_acked e.streams e.waiting.frames m)
 
 -- the STREAM frames of a packet are acknowledged
 abbrev pub streams_acked : List StreamMeta → End → End
 streams_acked [] e = e
 streams_acked (m ∷ ms) e = streams_acked ms (stream_acked m e)
 
+-- what a packet carried is acknowledged
+abbrev pub carried_acked : Carried → End → End
+carried_acked c e = streams_acked c.stream_frames (resets_acked c.retransmits.reset_stream (without_known c.largest_acked e))
+
 -- a packet is acknowledged
 abbrev pub packet_acked : TrackedPacket → End → End
-packet_acked p e = streams_acked p.carried.stream_frames (without_known p.carried.largest_acked e)
+packet_acked p e = carried_acked p.carried e
 
 -- packets are acknowledged, one after another
 abbrev pub packets_acked : Table TrackedPacket → End → End
@@ -45,17 +53,25 @@ packets_acked (p ∷ ps) e = packets_acked ps (packet_acked p.1 e)
 
 -- a STREAM frame is lost
 abbrev pub stream_lost : StreamMeta → End → End
-stream_lost m e = record e { sending = after_stream_lost e.sending m }
+stream_lost m e = record e { streams = after_stream_lost e.streams m }
 
 -- the STREAM frames of a packet are lost
 abbrev pub streams_lost : List StreamMeta → End → End
 streams_lost [] e = e
 streams_lost (m ∷ ms) e = streams_lost ms (stream_lost m e)
 
+-- what has to be sent again of a packet that is lost, besides
+abbrev pub again : Carried → End → End
+again c e = with_streams e (streams_of e.streams (merged e.waiting.frames c.retransmits))
+
+-- what a packet carried is lost
+abbrev pub carried_lost : Carried → End → End
+carried_lost c e = again c (streams_lost c.stream_frames e)
+
 -- packets are lost, one after another
 abbrev pub packets_lost : Table TrackedPacket → End → End
 packets_lost [] e = e
-packets_lost (p ∷ ps) e = packets_lost ps (streams_lost p.1.carried.stream_frames e)
+packets_lost (p ∷ ps) e = packets_lost ps (carried_lost p.1.carried e)
 
 -- ---- an ACK frame
 

@@ -1,54 +1,29 @@
--- What holds of a draft while frames of streams go; that a datagram has a frame; and that frames go until none has something to send or there is no room.
-use Rattle.std.proofs.Common.{◌≡◌, ℕ, ◌-◌, ◌<◌, ◌≤◌, zero, suc, List, [], ◌∷◌, ◌++◌, Bool, true, false, length, Option, Some, None, refl, sym, ap, ◌∙◌, subst, arith, nat_lt, ◌||◌, ◌&&◌, ◌⊎◌, inl, inr}
-use Rattle.std.specs.Prelude.{if◌then◌else◌, nat_le, ◌*◌}
-use Rattle.std.specs.Option.{is_some}
-use Rattle.std.proofs.lemmas.Bool.{leb-true, le-leb, and_parts}
-use Rattle.std.proofs.lemmas.List.{length-append, append_assoc}
-use Rattle.quic_wire.specs.Value.{FrameValue, stream, ack, ping}
-use Rattle.quic_wire.specs.Writing.{stream_spelling, spelling}
-use Rattle.quic_wire.proofs.FrameWritten.{stream_length}
-use Rattle.quic_send_buffer.specs.Buffered.{writes_length}
-use Rattle.quic_streams.specs.Table.{at, Table}
-use Rattle.quic_streams.specs.Sending.{SendHalf, has_pending}
-use Rattle.quic_machine.specs.Parts.{Waiting}
-use Rattle.quic_machine.specs.Poll.{Draft, frame_room, fits, with_frame, stream_room, with_ping_frame, stream_if, least_stream_room, next_stream, frame_and_more, stream_frames, with_stream_frames, with_asking, no_frames, ping_if, ack_of, with_ack, ack_fits, ack_if, composed_if, composed, waits}
-use Rattle.quic_streams.specs.Frames.{first_pending, frame_of}
-use Rattle.std.specs.Ordering.{nat_cmp}
-use Rattle.std.specs.BTreeMap.{is_at}
+-- What holds of a draft, whichever frames go; and that a datagram has a frame.
+use Rattle.std.proofs.Common.{◌≡◌, ℕ, ◌+◌, ◌-◌, ◌<◌, ◌≤◌, List, [], ◌∷◌, ◌++◌, Bool, true, false, length, Option, Some, None, refl, sym, ap, ◌∙◌, subst, arith, nat_lt, ◌||◌, ◌&&◌, ◌⊎◌, inl, inr}
+use Rattle.std.specs.Prelude.{if◌then◌else◌, nat_le, not, map, ◌*◌}
+use Rattle.std.specs.List.{fold}
+use Rattle.std.proofs.lemmas.Bool.{and_parts}
+use Rattle.std.proofs.lemmas.List.{length-append, append_assoc, append-nil}
+use Rattle.quic_wire.specs.Value.{FrameValue, StreamValue, stream, ack, ping}
+use Rattle.quic_wire.specs.Writing.{spelling, spelled_all, stream_spelling, frame_size}
 use Rattle.quic_packet.specs.Number.{width_for}
+use Rattle.quic_send_buffer.specs.Buffered.{writes_length}
+use Rattle.quic_streams_parts.specs.Table.{at}
+use Rattle.quic_streams_parts.specs.SendHalf.{SendHalf, frame_of, frame_counts}
+use Rattle.quic_streams_parts.specs.Queue.{first_queued}
+use Rattle.quic_retransmits.specs.Retransmits.{nothing_waits}
+use Rattle.quic_streams_state.specs.declared.control.ControlKind.{ControlKind}
+use Rattle.quic_streams_state.specs.declared.state.StreamsState.{StreamsState}
+use Rattle.quic_streams_state.specs.State.{streams_of}
+use Rattle.quic_streams_state.specs.Control.{Entry, waiting, without_first, first_sent, first_dropped}
+use Rattle.quic_streams_state.specs.Control as control
+use Rattle.quic_streams_state.specs.Frames as of_streams
+use Rattle.quic_streams_laws.specs.ControlWalk.{GoesOn, by_control, by_stream_frames}
 use Rattle.quic_recovery_core.specs.PendingAcks.{can_send, is_filled}
 use Rattle.quic_machine.specs.Numbers.{cut_against}
-use Rattle.quic_machine.specs.End.{End, with_waiting}
-use Rattle.quic_streams.specs.TableLaws.{at-first}
-
--- what holds of a draft, and stays where the frame of a stream goes, holds once so many went
-pub frames_keep : (P : Draft → Type 0) → ((d : Draft) (id : ℕ) → next_stream d ≡ Some id → P d → P (stream_if (at d.end.sending.halves id) d id)) → (n : ℕ) (d : Draft) → P d → P (stream_frames n d)
-frames_keep P step zero d p = p
-frames_keep P step (suc n) d p = go (next_stream d) refl (λ x q. frames_keep P step n x q)
-  where
-    go : (o : Option ℕ) → next_stream d ≡ o → ((x : Draft) → P x → P (stream_frames n x)) → P (frame_and_more o (stream_frames n) d)
-    go None is rest = p
-    go (Some id) is rest = rest (stream_if (at d.end.sending.halves id) d id) (step d id is p)
-
--- holds once all went
-pub streams_keep : (P : Draft → Type 0) → ((d : Draft) (id : ℕ) → next_stream d ≡ Some id → P d → P (stream_if (at d.end.sending.halves id) d id)) → (d : Draft) → P d → P (with_stream_frames d)
-streams_keep P step d p = frames_keep P step (frame_room d.end) d p
-
--- where the frame of a stream may go, there is room for it
-pub next_room : (d : Draft) (id : ℕ) → next_stream d ≡ Some id → 25 ≤ frame_room d.end - length d.bytes
-next_room d id is = go (nat_le least_stream_room (frame_room d.end - length d.bytes)) refl is
-  where
-    go : (b : Bool) → nat_le least_stream_room (frame_room d.end - length d.bytes) ≡ b → (if b then first_pending d.end.sending.halves else None) ≡ Some id → 25 ≤ frame_room d.end - length d.bytes
-    go true fits is = leb-true least_stream_room (frame_room d.end - length d.bytes) fits
-    go false fits is = cc
-
--- and it is that of the first stream with something to send
-pub next_first : (d : Draft) (id : ℕ) → next_stream d ≡ Some id → first_pending d.end.sending.halves ≡ Some id
-next_first d id is = go (nat_le least_stream_room (frame_room d.end - length d.bytes)) is
-  where
-    go : (b : Bool) → (if b then first_pending d.end.sending.halves else None) ≡ Some id → first_pending d.end.sending.halves ≡ Some id
-    go true is = is
-    go false is = cc
+use Rattle.quic_machine.specs.End.{End, with_streams, with_ping}
+use Rattle.quic_machine.specs.Poll.{Draft, frame_room, fits, with_frame, left, ping_if, with_ping_frame, behind_control, with_control_frames, behind_stream, no_stream_frames, with_stream_frames, Kind, order, put, with_asking, no_frames, ack_of, with_ack, ack_fits, ack_if, composed_if, composed}
+use Rattle.quic_machine.specs.Poll as poll
 
 -- a number takes four bytes at most
 width_few : (n : ℕ) → width_for n ≤ 4
@@ -66,210 +41,125 @@ room_most e short =
     let width = width_few (e.numbers.next - cut_against e.numbers) in
     omega arith
 
--- ---- a datagram has a frame
+-- ---- one frame of each kind
 
--- the first stream with something to send is there
-pub pending_is : (t : Table SendHalf) (id : ℕ) → first_pending t ≡ Some id → is_some (at t id) ≡ true
-pending_is [] id e = cc
-pending_is (x ∷ xs) id e = go (has_pending x.1) refl e (pending_is xs id)
-  where
-    rest : (b : Bool) → is_some (at xs id) ≡ true → is_some (if b then Some x.1 else at xs id) ≡ true
-    rest true q = refl
-    rest false q = q
+-- how many bytes are left behind the type and the id of a STREAM frame, behind the frames of a draft
+abbrev pub stream_room : Draft → ℕ → ℕ
+stream_room d id = of_streams.stream_room (left d) (no_stream_frames d) id
 
-    go : (b : Bool) → has_pending x.1 ≡ b → (if b then Some x.0 else first_pending xs) ≡ Some id → (first_pending xs ≡ Some id → is_some (at xs id) ≡ true) → is_some (at (x ∷ xs) id) ≡ true
-    go true is q ih =
-        let here : x.0 ≡ id = cc in
-        subst (λ (k : ℕ). is_some (at (x ∷ xs) k) ≡ true) here (ap is_some (at-first xs x.0 x.1))
-    go false is q ih = rest (is_at (nat_cmp id) x.0) (ih q)
+-- the first that waits of a kind is dropped
+abbrev pub without_entry : Draft → ControlKind → Draft
+without_entry d kind = record d { end = with_streams d.end (streams_of d.end.streams (without_first kind d.end.waiting.frames)) }
 
-some_more : (fs : List FrameValue) (f : FrameValue) → 0 < length (fs ++ f ∷ [])
-some_more [] f = omega arith
-some_more (g ∷ fs) f = omega arith
+-- its frame goes
+abbrev pub with_entry : Draft → ControlKind → Entry → FrameValue → Draft
+with_entry d kind e f = with_frame d f (spelling f) (with_streams d.end (streams_of (e.told d.end.streams) (without_first kind d.end.waiting.frames)))
 
--- the frame of a stream only adds
-half_keeps : (o : Option SendHalf) (d : Draft) (id : ℕ) → 0 < length d.frames → 0 < length (stream_if o d id).frames
-half_keeps None d id some = some
-half_keeps (Some h) d id some = some_more d.frames (stream (frame_of id h (stream_room d id)))
-
--- so do those of streams
-frames_only_add : (n : ℕ) (d : Draft) → 0 < length d.frames → 0 < length (stream_frames n d).frames
-frames_only_add n d some = frames_keep (λ x. 0 < length x.frames) (λ x id is more. half_keeps (at x.end.sending.halves id) x id more) n d some
-
--- so does what asks
-asking_keeps : (d : Draft) → 0 < length d.frames → 0 < length (with_asking d).frames
-asking_keeps d some = frames_only_add (frame_room (with_ping_frame d).end) (with_ping_frame d) (pinged d.end.waiting.ping)
-  where
-    pinged : (b : Bool) → 0 < length (ping_if b d).frames
-    pinged true = some_more d.frames ping
-    pinged false = some
-
--- where a stream has something to send and there is room, its frame goes
-stream_some : (n : ℕ) (d : Draft) (o : Option ℕ) → 0 < n → next_stream d ≡ o → is_some o ≡ true → first_pending d.end.sending.halves ≡ o → 0 < length (stream_frames n d).frames
-stream_some zero d o some next there first = absurd (omega arith)
-stream_some (suc n) d None some next there first = cc
-stream_some (suc n) d (Some id) some next there first =
-    subst (λ (o : Option ℕ). 0 < length (frame_and_more o (stream_frames n) d).frames) (sym next)
-    (frames_only_add n (stream_if (at d.end.sending.halves id) d id) (half (at d.end.sending.halves id) (pending_is d.end.sending.halves id first)))
-  where
-    half : (o : Option SendHalf) → is_some o ≡ true → 0 < length (stream_if o d id).frames
-    half None there = cc
-    half (Some h) there = some_more d.frames (stream (frame_of id h (stream_room d id)))
-
--- a datagram without frames has room
-room_next : (e : End) → length e.ids.active.id ≤ 20 → next_stream (no_frames e) ≡ first_pending e.sending.halves
-room_next e short =
-    let room = room_most e short in
-    let fits : nat_le least_stream_room (frame_room e - 0) ≡ true = le-leb least_stream_room (frame_room e - 0) (omega arith) in
-    rw fits refl
-
--- what asks is a frame at least
-asking_some : (e : End) → length e.ids.active.id ≤ 20 → (e.waiting.ping || is_some (first_pending e.sending.halves)) ≡ true → 0 < length (with_asking (no_frames e)).frames
-asking_some e short w = go e.waiting.ping w
-  where
-    go : (b : Bool) → (b || is_some (first_pending e.sending.halves)) ≡ true → 0 < length (with_stream_frames (ping_if b (no_frames e))).frames
-    go true w = frames_only_add (frame_room (ping_if true (no_frames e)).end) (ping_if true (no_frames e)) (some_more [] ping)
-    go false w =
-        let room = room_most e short in
-        stream_some (frame_room e) (no_frames e) (first_pending e.sending.halves) (omega arith) (room_next e short) w refl
-
--- what waits is a frame at least
-pub composed_some : (e : End) → length e.ids.active.id ≤ 20 → waits e ≡ true → 0 < length (composed e).frames
-composed_some e short w = go (can_send e.acknowledging) w
-  where
-    late : (b : Bool) (d : Draft) → 0 < length d.frames → 0 < length (ack_if b d).frames
-    late true d some = some_more d.frames (ack (ack_of d.end))
-    late false d some = some
-
-    go : (b : Bool) → (b || (e.waiting.ping || is_some (first_pending e.sending.halves))) ≡ true → 0 < length (composed_if b e).frames
-    go true w = asking_keeps (with_ack (no_frames e)) (omega arith)
-    go false w = let asking = with_asking (no_frames e) in late (ack_fits asking) asking (asking_some e short w)
-
--- ---- frames of streams go until none has something to send
-
--- how many bytes are left behind the frames of a draft
-abbrev pub left : Draft → ℕ
-left d = frame_room d.end - length d.bytes
-
--- where few are left, no frame goes
-none_next : (d : Draft) → left d < 25 → next_stream d ≡ None
-none_next d few = go (nat_le least_stream_room (left d)) refl
-  where
-    go : (b : Bool) → nat_le least_stream_room (left d) ≡ b → (if b then first_pending d.end.sending.halves else None) ≡ None
-    go true fits = let room = leb-true least_stream_room (left d) fits in absurd (omega arith)
-    go false fits = refl
-
--- each frame takes a byte at least
-pub less_left : (n : ℕ) (d : Draft) (id : ℕ) (o : Option SendHalf) → is_some o ≡ true → 25 ≤ left d → left d ≤ suc n → left (stream_if o d id) ≤ n
-less_left n d id None there room few = cc
-less_left n d id (Some h) there room few =
-    let frame = frame_of id h (stream_room d id) in
-    let sized : Bool = writes_length h.buffer (stream_room d id) in
-    let all = length-append d.bytes (stream_spelling sized frame) in
-    let some = stream_length sized frame in
-    omega arith
-
-filled : (n : ℕ) (d : Draft) → left d ≤ n → next_stream (stream_frames n d) ≡ None
-filled zero d few = none_next d (omega arith)
-filled (suc n) d few = go (next_stream d) refl (λ x l. filled n x l)
-  where
-    go : (o : Option ℕ) → next_stream d ≡ o → ((x : Draft) → left x ≤ n → next_stream (stream_frames n x) ≡ None) → next_stream (frame_and_more o (stream_frames n) d) ≡ None
-    go None is rest = is
-    go (Some id) is rest =
-        rest (stream_if (at d.end.sending.halves id) d id) (less_left n d id (at d.end.sending.halves id) (pending_is d.end.sending.halves id (next_first d id is)) (next_room d id is) few)
-
-pub asking_filled : (d : Draft) → next_stream (with_asking d) ≡ None
-asking_filled d = let pinged : Draft = with_ping_frame d in filled (frame_room pinged.end) pinged (omega arith)
-
--- ---- one frame, and the rest
-
--- where no frame goes, none does
-none_more : (n : ℕ) (d : Draft) → next_stream d ≡ None → stream_frames n d ≡ d
-none_more zero d none = refl
-none_more (suc n) d none = ap (λ (o : Option ℕ). frame_and_more o (stream_frames n) d) none
-
--- as many frames go, whatever the most that may, as long as it isn't below the bytes that are left
-same_frames : (n m : ℕ) (d : Draft) → left d ≤ n → left d ≤ m → stream_frames n d ≡ stream_frames m d
-same_frames zero m d few more = sym (none_more m d (none_next d (omega arith)))
-same_frames (suc n) zero d few more = none_more (suc n) d (none_next d (omega arith))
-same_frames (suc n) (suc m) d few more = go (next_stream d) refl (λ x l k. same_frames n m x l k)
-  where
-    go : (o : Option ℕ) → next_stream d ≡ o → ((x : Draft) → left x ≤ n → left x ≤ m → stream_frames n x ≡ stream_frames m x) → frame_and_more o (stream_frames n) d ≡ frame_and_more o (stream_frames m) d
-    go None is rest = refl
-    go (Some id) is rest =
-        let there = pending_is d.end.sending.halves id (next_first d id is) in
-        let room = next_room d id is in
-        rest (stream_if (at d.end.sending.halves id) d id) (less_left n d id (at d.end.sending.halves id) there room few) (less_left m d id (at d.end.sending.halves id) there room more)
-
--- where no stream has something to send, or there is no room, no frame goes
-pub no_frame : (d : Draft) → next_stream d ≡ None → with_stream_frames d ≡ d
-no_frame d none = none_more (frame_room d.end) d none
-
--- else that of the first goes, and the others behind it
-pub first_frame : (d : Draft) (id : ℕ) → next_stream d ≡ Some id → with_stream_frames d ≡ with_stream_frames (stream_if (at d.end.sending.halves id) d id)
-first_frame d id is =
-    let x : Draft = stream_if (at d.end.sending.halves id) d id in
-    let n : ℕ = frame_room d.end in
-    let there = pending_is d.end.sending.halves id (next_first d id is) in
-    let less : left x ≤ n = less_left n d id (at d.end.sending.halves id) there (next_room d id is) (omega arith) in
-    same_frames n (suc n) d (omega arith) (omega arith)
-    ∙ ap (λ (o : Option ℕ). frame_and_more o (stream_frames n) d) is
-    ∙ same_frames n (frame_room x.end) x less (omega arith)
-
--- ---- what goes doesn't depend on the frames before it
-
--- a draft with more frames before its own
-abbrev pub behind : List FrameValue → Draft → Draft
-behind fs d = record d { frames = fs ++ d.frames }
-
-half_behind : (fs : List FrameValue) (o : Option SendHalf) (d : Draft) (id : ℕ) → stream_if o (behind fs d) id ≡ behind fs (stream_if o d id)
-half_behind fs None d id = refl
-half_behind fs (Some h) d id = ap (λ (gs : List FrameValue). record (stream_if (Some h) d id) { frames = gs }) (append_assoc fs d.frames (stream (frame_of id h (stream_room d id)) ∷ []))
-
-frames_behind : (n : ℕ) (fs : List FrameValue) (d : Draft) → stream_frames n (behind fs d) ≡ behind fs (stream_frames n d)
-frames_behind zero fs d = refl
-frames_behind (suc n) fs d = go (next_stream d) (λ x. frames_behind n fs x)
-  where
-    go : (o : Option ℕ) → ((x : Draft) → stream_frames n (behind fs x) ≡ behind fs (stream_frames n x)) → frame_and_more o (stream_frames n) (behind fs d) ≡ behind fs (frame_and_more o (stream_frames n) d)
-    go None rest = refl
-    go (Some id) rest = ap (stream_frames n) (half_behind fs (at d.end.sending.halves id) d id) ∙ rest (stream_if (at d.end.sending.halves id) d id)
-
-pub streams_behind : (fs : List FrameValue) (d : Draft) → with_stream_frames (behind fs d) ≡ behind fs (with_stream_frames d)
-streams_behind fs d = frames_behind (frame_room d.end) fs d
-
--- ---- what holds of a draft, whichever frames go
-
--- a control frame, which neither acknowledges nor has bytes of a stream
-abbrev pub IsControl : FrameValue → Type 0
-IsControl ping = Unit {0}
-IsControl f = ⊥
+-- the frame of a half goes, where so many bytes are left behind its type and id
+abbrev pub with_half_frame : Draft → ℕ → SendHalf → ℕ → Draft
+with_half_frame d id h room = with_frame d (stream (frame_of id h room)) (stream_spelling (writes_length h.buffer room) (frame_of id h room)) (record d.end { streams = of_streams.after_frame_sent d.end.fair d.end.streams id h room })
 
 -- an ACK may go: no frame went before it, or it fits
 abbrev pub MayAck : Draft → Type 0
 MayAck d = (d.bytes ≡ []) ⊎ (fits d (ack (ack_of d.end)) ≡ true)
 
--- what holds of a draft stays where a frame goes, of each kind: an ACK, a control frame, or the frame of a stream
+-- what waits beside the bytes of streams is dropped, since it is no longer due
+abbrev pub Drops : (Draft → Type 0) → Type 0
+Drops P = (d : Draft) (kind : ControlKind) → P d → P (without_entry d kind)
+
+-- its frame goes
+abbrev pub SendsEntry : (Draft → Type 0) → Type 0
+SendsEntry P = (d : Draft) (kind : ControlKind) (e : Entry) (es : List Entry) (f : FrameValue) → waiting kind d.end.waiting.frames ≡ e ∷ es → e.frame d.end.streams ≡ Some f → P d → P (with_entry d kind e f)
+
+-- the frame of the stream goes that stands first in the queue, which brings something, where enough bytes are left
+abbrev pub SendsHalf : (Draft → Type 0) → Type 0
+SendsHalf P = (d : Draft) (id : ℕ) (h : SendHalf) (room : ℕ) → at d.end.streams.sending.halves.live id ≡ Some h → first_queued d.end.streams.sending.queue ≡ Some id → 25 ≤ left d → room ≡ stream_room d id → frame_counts h room ≡ true → P d
+    → P (with_half_frame d id h room)
+
+-- what holds of a draft stays where a frame goes, of each kind: ACK, PING, one that waits beside the bytes of streams, or one of a stream; and where what
+-- waits is dropped
 pub record Writing (P : Draft → Type 0) : Type 0 where
   pub ack : (d : Draft) → is_filled d.end.acknowledging.runs ≡ true → MayAck d → P d → P (with_ack d)
-  pub control : (d : Draft) (f : FrameValue) (w : Waiting) → IsControl f → P d → P (with_frame d f (spelling f) (with_waiting d.end w))
-  pub stream : (d : Draft) (id : ℕ) (h : SendHalf) → at d.end.sending.halves id ≡ Some h → 25 ≤ frame_room d.end - length d.bytes → P d → P (stream_if (Some h) d id)
+  pub ping : (d : Draft) → P d → P (with_frame d ping (spelling ping) (with_ping d.end false))
+  pub drops : Drops P
+  pub control : SendsEntry P
+  pub stream : SendsHalf P
+
+-- ---- all of them
+
+-- one more frame is spelled behind the others
+spelled_more : (fs : List FrameValue) (f : FrameValue) → spelled_all (fs ++ f ∷ []) ≡ spelled_all fs ++ spelling f
+spelled_more [] f = append-nil (spelling f)
+spelled_more (g ∷ fs) f = ap (λ (bs : List ℕ). spelling g ++ bs) (spelled_more fs f) ∙ sym (append_assoc (spelling g) (spelled_all fs) (spelling f))
+
+-- one more stream's frame among frames
+mapped_more : (fs : List StreamValue) (f : StreamValue) → map stream (fs ++ f ∷ []) ≡ map stream fs ++ stream f ∷ []
+mapped_more [] f = refl
+mapped_more (g ∷ fs) f = ap (λ (gs : List FrameValue). stream g ∷ gs) (mapped_more fs f)
+
+module _ (P : Draft → Type 0) (drops : Drops P) (sends : SendsEntry P) where
+  -- frames of control behind a draft: one more is one more frame
+  entry_behind : (d : Draft) (c : control.Draft) (kind : ControlKind) (e : Entry) (f : FrameValue) → behind_control d (first_sent kind e f c) ≡ with_entry (behind_control d c) kind e f
+  entry_behind d c kind e f =
+      let fs : d.frames ++ (c.frames ++ f ∷ []) ≡ (d.frames ++ c.frames) ++ f ∷ [] = sym (append_assoc d.frames c.frames (f ∷ [])) in
+      let bs : d.bytes ++ spelled_all (c.frames ++ f ∷ []) ≡ (d.bytes ++ spelled_all c.frames) ++ spelling f = ap (λ (x : List ℕ). d.bytes ++ x) (spelled_more c.frames f) ∙ sym (append_assoc d.bytes (spelled_all c.frames) (spelling f)) in
+      rw (fs, bs) refl
+
+  -- what waits beside the bytes of streams goes
+  pub by_entries : (d : Draft) → P d → P (with_control_frames d)
+  by_entries d p = by_control (frame_room d.end) (λ (c : control.Draft). P (behind_control d c)) steps (control.no_frames (length d.bytes) d.end.streams d.end.waiting.frames nothing_waits) first
+    where
+      steps : GoesOn (frame_room d.end) (λ (c : control.Draft). P (behind_control d c))
+      steps = record {
+        drops = λ c kind e es is due q. drops (behind_control d c) kind q;
+        sends = λ c kind e es f is due room q. subst P (sym (entry_behind d c kind e f)) (sends (behind_control d c) kind e es f is due q);
+      }
+
+      first : P (behind_control d (control.no_frames (length d.bytes) d.end.streams d.end.waiting.frames nothing_waits))
+      first = rw (append-nil d.frames, append-nil d.bytes) p
+
+module _ (P : Draft → Type 0) (stream_goes : SendsHalf P) where
+  -- STREAM frames behind a draft: one more is one more frame
+  half_behind : (d : Draft) (t : of_streams.Sent) (id : ℕ) (h : SendHalf) → behind_stream d (of_streams.frame_sent d.end.fair (left d) t id h) ≡ with_half_frame (behind_stream d t) id h (of_streams.stream_room (left d) t id)
+  half_behind d t id h =
+      let room : ℕ = of_streams.stream_room (left d) t id in
+      let f = frame_of id h room in
+      let fs : d.frames ++ map stream (t.frames ++ f ∷ []) ≡ (d.frames ++ map stream t.frames) ++ stream f ∷ [] = ap (λ (x : List FrameValue). d.frames ++ x) (mapped_more t.frames f) ∙ sym (append_assoc d.frames (map stream t.frames) (stream f ∷ [])) in
+      let bs : d.bytes ++ (t.bytes ++ stream_spelling (writes_length h.buffer room) f) ≡ (d.bytes ++ t.bytes) ++ stream_spelling (writes_length h.buffer room) f = sym (append_assoc d.bytes t.bytes (stream_spelling (writes_length h.buffer room) f)) in
+      rw (fs, bs) refl
+
+  -- frames of streams go
+  pub by_streams : (d : Draft) → P d → P (with_stream_frames d)
+  by_streams d p = by_stream_frames d.end.fair (left d) (λ (t : of_streams.Sent). P (behind_stream d t)) one (no_stream_frames d) first
+    where
+      one : (t : of_streams.Sent) (id : ℕ) (h : SendHalf) → at t.state.sending.halves.live id ≡ Some h → first_queued t.state.sending.queue ≡ Some id → length t.bytes + 25 ≤ left d → frame_counts h (of_streams.stream_room (left d) t id) ≡ true
+          → P (behind_stream d t) → P (behind_stream d (of_streams.frame_sent d.end.fair (left d) t id h))
+      one t id h found first room counts q =
+          let both = length-append d.bytes t.bytes in
+          subst P (sym (half_behind d t id h)) (stream_goes (behind_stream d t) id h (of_streams.stream_room (left d) t id) found first (omega arith) (omega arith) counts q)
+
+      first : P (behind_stream d (no_stream_frames d))
+      first = rw (append-nil d.frames, append-nil d.bytes) p
 
 module _ (P : Draft → Type 0) (w : Writing P) where
-  -- the frame of a stream
-  stream_keeps : (d : Draft) (id : ℕ) → next_stream d ≡ Some id → P d → P (stream_if (at d.end.sending.halves id) d id)
-  stream_keeps d id is p = half (at d.end.sending.halves id) refl (pending_is d.end.sending.halves id (next_first d id is))
+  -- one kind
+  kind_keeps : (kind : Kind) (d : Draft) → P d → P (put d kind)
+  kind_keeps poll.pings d p = go d.end.waiting.ping
     where
-      half : (o : Option SendHalf) → at d.end.sending.halves id ≡ o → is_some o ≡ true → P (stream_if o d id)
-      half None found there = cc
-      half (Some h) found there = w.stream d id h found (next_room d id is) p
+      go : (b : Bool) → P (ping_if b d)
+      go true = w.ping d p
+      go false = p
+  kind_keeps poll.controls d p = by_entries P w.drops w.control d p
+  kind_keeps poll.streams d p = by_streams P w.stream d p
+
+  -- several, one behind another
+  kinds_keep : (kinds : List Kind) (d : Draft) → P d → P (fold put d kinds)
+  kinds_keep [] d p = p
+  kinds_keep (kind ∷ kinds) d p = kinds_keep kinds (put d kind) (kind_keeps kind d p)
 
   -- what asks
-  asking_keeps_all : (d : Draft) → P d → P (with_asking d)
-  asking_keeps_all d p = streams_keep P stream_keeps (with_ping_frame d) (pinged d.end.waiting.ping)
-    where
-      pinged : (b : Bool) → P (ping_if b d)
-      pinged true = w.control d ping (record d.end.waiting { ping = false }) tt p
-      pinged false = p
+  pub by_asking : (d : Draft) → P d → P (with_asking d)
+  by_asking d p = kinds_keep order d p
 
   -- an ACK that isn't due
   late_keeps : (b : Bool) (d : Draft) → ack_fits d ≡ b → P d → P (ack_if b d)
@@ -283,5 +173,5 @@ pub by_writing : (P : Draft → Type 0) → Writing P → (e : End) → P (no_fr
 by_writing P w e p = go (can_send e.acknowledging) refl
   where
     go : (b : Bool) → can_send e.acknowledging ≡ b → P (composed_if b e)
-    go true due = asking_keeps_all P w (with_ack (no_frames e)) (w.ack (no_frames e) (and_parts e.acknowledging.due (is_filled e.acknowledging.runs) due).1 (inl refl) p)
-    go false due = late_keeps P w (ack_fits (with_asking (no_frames e))) (with_asking (no_frames e)) refl (asking_keeps_all P w (no_frames e) p)
+    go true due = by_asking P w (with_ack (no_frames e)) (w.ack (no_frames e) (and_parts e.acknowledging.due (is_filled e.acknowledging.runs) due).1 (inl refl) p)
+    go false due = late_keeps P w (ack_fits (with_asking (no_frames e))) (with_asking (no_frames e)) refl (by_asking P w (no_frames e) p)

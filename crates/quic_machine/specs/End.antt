@@ -17,15 +17,13 @@ use Rattle.quic_machine.specs.Acknowledging.{nothing_to_acknowledge, with_ack_ti
 use Rattle.quic_machine.specs.Ids.{Ids, first_ids}
 use Rattle.quic_machine.specs.Numbers.{Numbers, no_numbers}
 use Rattle.quic_machine.specs.Tracking.{Tracking, nothing_tracked, loss_moment}
-use Rattle.quic_streams.specs.declared.answers.StreamEvent.{StreamEvent}
+use Rattle.quic_streams_state.specs.declared.state.StreamsState.{StreamsState}
+use Rattle.quic_streams_state.specs.State.{Streams, streams_of, new_streams, after_set_params}
 use Rattle.quic_machine.specs.Parts.{Path, first_path, Messages, no_messages, Waiting, nothing_waits}
-use Rattle.quic_streams.specs.Sending.{Sending}
-use Rattle.quic_streams.specs.Receiving.{Receiving}
 use Rattle.quic_machine.specs.Policy.{Policy, keys_policy}
 
 -- one end of a connection
 pub record End : Type 0 where
-  pub side : Side
   -- its clock, and whether it is open (section 10)
   pub closing : Closing
   -- connection ids (section 5.1), packet numbers (section 12.3), and what is to be acknowledged (section 13.2)
@@ -37,14 +35,12 @@ pub record End : Type 0 where
   pub tracking : Tracking
   -- the path to the peer (section 8)
   pub path : Path
-  -- the halves of streams (sections 3.1 and 3.2)
-  pub sending : Sending
-  pub receiving : Receiving
-  -- messages (RFC 9221), and frames of control that wait to go (section 13.3)
+  -- all streams (sections 2 to 4), and whether those of one priority take turns
+  pub streams : StreamsState
+  pub fair : Bool
+  -- messages (RFC 9221), and what waits to be sent beside the bytes of streams (section 13.3)
   pub messages : Messages
   pub waiting : Waiting
-  -- what the application is to be told of streams, in its order
-  pub events : List StreamEvent
 
 -- an end with its keys and its random source
 pub record ConnectionValue (H K R : Type 0) : Type 0 where
@@ -60,40 +56,13 @@ with_end w e = record w { end = e }
 abbrev pub policy_of : {H K R : Type 0} → (H → Protection) → (K → Aead) → ConnectionValue H K R → Policy
 policy_of protection aead w = keys_policy protection aead w.keys
 
--- nothing was sent yet: the peer's parameters are the limits
-abbrev pub first_sending : Settings → ParameterValues → Sending
-first_sending settings theirs = record {
-  halves = [];
-  opened_bi = 0;
-  opened_uni = 0;
-  count_bi = theirs.initial_max_streams_bidi;
-  count_uni = theirs.initial_max_streams_uni;
-  accepted = 0;
-  limit = theirs.initial_max_data;
-  window = settings.send_window;
-  first_limit_bi = theirs.initial_max_stream_data_bidi_remote;
-  first_limit_uni = theirs.initial_max_stream_data_uni;
-}
-
--- nothing has come yet: the own settings are the limits
-abbrev pub first_receiving : Settings → Receiving
-first_receiving settings = record {
-  halves = [];
-  opened_bi = 0;
-  opened_uni = 0;
-  accepted_bi = 0;
-  accepted_uni = 0;
-  count_bi = settings.max_bidi;
-  count_uni = settings.max_uni;
-  seen = 0;
-  limit = settings.receive_window;
-  stream_limit = settings.stream_receive_window;
-}
+-- no stream is opened: the peer's parameters are the limits on what is sent, the own settings those on what comes
+abbrev pub first_streams : Side → Settings → ParameterValues → StreamsState
+first_streams side settings theirs = after_set_params (new_streams side settings.max_uni settings.max_bidi settings.send_window settings.receive_window settings.stream_receive_window) theirs
 
 -- an end as it is made at a moment
 abbrev pub new_end : Side → Settings → ParameterValues → List ℕ → List ℕ → ℕ → Bool → End
 new_end side settings theirs own_id peer_id now validated = record {
-  side = side;
   closing = record { clock = now; state = states.Open; reason = None; told = false };
   ids = first_ids own_id peer_id;
   numbers = no_numbers;
@@ -101,12 +70,15 @@ new_end side settings theirs own_id peer_id now validated = record {
   timers = no_timers;
   tracking = nothing_tracked;
   path = first_path validated;
-  sending = first_sending settings theirs;
-  receiving = first_receiving settings;
+  streams = first_streams side settings theirs;
+  fair = settings.send_fairness;
   messages = no_messages;
   waiting = nothing_waits;
-  events = [];
 }
+
+-- the client or the server
+abbrev pub side_of : End → Side
+side_of e = e.streams.side
 
 -- the end with another clock, state and reason
 abbrev pub with_closing : End → Closing → End
@@ -132,13 +104,13 @@ with_ack_timer_at e moment = record e { timers = with_ack_timer e.timers moment 
 abbrev pub with_tracking : End → Tracking → End
 with_tracking e t = record e { tracking = t; timers = record e.timers { loss_detection = loss_moment t } }
 
--- the end with other sending halves
-abbrev pub with_sending : End → Sending → End
-with_sending e s = record e { sending = s }
+-- its streams, and what waits to be sent beside their bytes
+abbrev pub streams_at : End → Streams
+streams_at e = streams_of e.streams e.waiting.frames
 
--- the end with other receiving halves
-abbrev pub with_receiving : End → Receiving → End
-with_receiving e r = record e { receiving = r }
+-- the end with others
+abbrev pub with_streams : End → Streams → End
+with_streams e t = record e { streams = t.state; waiting = record e.waiting { frames = t.pending } }
 
 -- the end where this waits
 abbrev pub with_waiting : End → Waiting → End

@@ -1,7 +1,7 @@
 -- What a datagram that comes leaves, as cases: of the packets that an ACK frame names or that are lost, of frames, and of the packet that has them.
 use Rattle.std.proofs.Common.{◌≡◌, ℕ, Bool, true, false, not, ◌||◌, ◌==◌, nat_le, List, [], ◌∷◌, map, Option, Some, None, Result, Ok, Err, refl, sym, ◌∙◌}
 use Rattle.std.specs.Prelude.{if◌then◌else◌}
-use Rattle.quic_wire.specs.Value.{FrameValue, AckValue, StreamValue, ack, stream, new_token, handshake_done}
+use Rattle.quic_wire.specs.Value.{FrameValue, AckValue, ack, stream, reset_stream, stop_sending, max_data, max_stream_data, max_streams, stream_data_blocked, streams_blocked, new_token, handshake_done}
 use Rattle.quic_wire.specs.Items.{items}
 use Rattle.quic_wire.specs.declared.frame.InvalidFrame.{InvalidFrame}
 use Rattle.quic_packet.specs.Header.{key_phase, reserved_bits}
@@ -10,8 +10,8 @@ use Rattle.quic_packet.specs.Datagram.{Opening}
 use Rattle.quic_packet.specs.declared.packet.HeaderError.{HeaderError}
 use Rattle.quic_send_buffer.specs.declared.stream_meta.StreamMeta.{StreamMeta}
 use Rattle.quic_recovery_core.specs.Duplicates.{is_duplicate}
-use Rattle.quic_streams.specs.Receiving.{after_stream}
-use Rattle.quic_streams.specs.Table.{Table}
+use Rattle.quic_streams_state.specs.State.{Streams}
+use Rattle.quic_streams_parts.specs.Table.{Table}
 use Rattle.quic_machine.specs.declared.answers.State.{State}
 use Rattle.quic_machine.specs.declared.answers.State.TheVariants as states
 use Rattle.quic_machine.specs.declared.answers.DropReason.TheVariants as drops
@@ -20,10 +20,10 @@ use Rattle.quic_machine.specs.Policy.{Policy}
 use Rattle.quic_machine.specs.Closing.{ticked}
 use Rattle.quic_machine.specs.Ids.{known}
 use Rattle.quic_machine.specs.Numbers.{cut_against, number_opened, number_named}
-use Rattle.quic_machine.specs.Tracking.{Tracking, TrackedPacket, acked_by, not_acked_by, lost_below, kept_above, after_answered}
-use Rattle.quic_machine.specs.End.{End, with_closing, closed_by, with_numbers, with_receiving, with_tracking}
+use Rattle.quic_machine.specs.Tracking.{Tracking, TrackedPacket, Carried, acked_by, not_acked_by, lost_below, kept_above, after_answered}
+use Rattle.quic_machine.specs.End.{End, with_closing, closed_by, with_numbers, with_streams, with_tracking}
 use Rattle.quic_machine.specs.Opens.{own_id_length}
-use Rattle.quic_machine.specs.Acked.{without_known, stream_acked, streams_acked, packet_acked, packets_acked, stream_lost, streams_lost, packets_lost, after_named, after_acked}
+use Rattle.quic_machine.specs.Acked.{without_known, reset_acked, resets_acked, stream_acked, streams_acked, packet_acked, packets_acked, stream_lost, streams_lost, again, carried_lost, packets_lost, after_named, after_acked}
 use Rattle.quic_machine.specs.Receive.{Fault, violation, reason_of, Progress, goes_on, take_frame, take_item, unless_fault, take_items, is_empty, take_payload, asks_in, after_taken, dropped, ends_as, by_state, opened_to, opened_as, opening, headed, received_in, received}
 
 -- ---- packets that are acknowledged, and those that are lost
@@ -34,24 +34,33 @@ module _ (P : End → Type 0) (acked : (m : StreamMeta) (e : End) → P e → P 
   streams_acked_keep [] e i = i
   streams_acked_keep (m ∷ ms) e i = streams_acked_keep ms (stream_acked m e) (acked m e i)
 
+module _ (P : End → Type 0) (acked : (id : ℕ) (e : End) → P e → P (reset_acked id e)) where
+  -- its RESET_STREAM frames are
+  pub resets_acked_keep : (rs : List (ℕ × ℕ)) (e : End) → P e → P (resets_acked rs e)
+  resets_acked_keep [] e i = i
+  resets_acked_keep (r ∷ rs) e i = resets_acked_keep rs (reset_acked r.0 e) (acked r.0 e i)
+
 module _ (P : End → Type 0) (lost : (m : StreamMeta) (e : End) → P e → P (stream_lost m e)) where
   -- the STREAM frames of a packet are lost
   pub streams_lost_keep : (ms : List StreamMeta) (e : End) → P e → P (streams_lost ms e)
   streams_lost_keep [] e i = i
   streams_lost_keep (m ∷ ms) e i = streams_lost_keep ms (stream_lost m e) (lost m e i)
 
-  -- packets are lost
-  pub packets_lost_keep : (ps : Table TrackedPacket) (e : End) → P e → P (packets_lost ps e)
-  packets_lost_keep [] e i = i
-  packets_lost_keep (p ∷ ps) e i = packets_lost_keep ps (streams_lost p.1.carried.stream_frames e) (streams_lost_keep p.1.carried.stream_frames e i)
+  -- packets are lost, of which what has to be sent again waits again
+  pub packets_lost_keep : ((c : Carried) (e : End) → P e → P (again c e)) → (ps : Table TrackedPacket) (e : End) → P e → P (packets_lost ps e)
+  packets_lost_keep waits [] e i = i
+  packets_lost_keep waits (p ∷ ps) e i =
+      packets_lost_keep waits ps (carried_lost p.1.carried e) (waits p.1.carried (streams_lost p.1.carried.stream_frames e) (streams_lost_keep p.1.carried.stream_frames e i))
 
 -- what an ACK frame makes of an end, step by step
 pub record Settling (P : End → Type 0) : Type 0 where
   -- numbers that the peer knows of need no more acknowledgement
   pub known : (n : ℕ) (e : End) → P e → P (without_known (Some n) e)
-  -- a STREAM frame is acknowledged, or lost
+  -- RESET_STREAM of a stream is acknowledged; a STREAM frame is acknowledged, or lost; and what else a packet carried is
+  pub reset : (id : ℕ) (e : End) → P e → P (reset_acked id e)
   pub acked : (m : StreamMeta) (e : End) → P e → P (stream_acked m e)
   pub lost : (m : StreamMeta) (e : End) → P e → P (stream_lost m e)
+  pub again : (carried : Carried) (e : End) → P e → P (again carried e)
   -- fewer packets are tracked
   pub tracked : (t : Tracking) (e : End) → P e → P (with_tracking e t)
 
@@ -65,7 +74,9 @@ module _ (P : End → Type 0) (c : Settling P) where
   packets_acked_keep : (ps : Table TrackedPacket) (e : End) → P e → P (packets_acked ps e)
   packets_acked_keep [] e i = i
   packets_acked_keep (p ∷ ps) e i =
-      packets_acked_keep ps (packet_acked p.1 e) (streams_acked_keep P c.acked p.1.carried.stream_frames (without_known p.1.carried.largest_acked e) (known_keeps p.1.carried.largest_acked e i))
+      let known : End = without_known p.1.carried.largest_acked e in
+      let resets = resets_acked_keep P c.reset p.1.carried.retransmits.reset_stream known (known_keeps p.1.carried.largest_acked e i) in
+      packets_acked_keep ps (packet_acked p.1 e) (streams_acked_keep P c.acked p.1.carried.stream_frames (resets_acked p.1.carried.retransmits.reset_stream known) resets)
 
   -- an ACK frame that names these packets
   named_keeps : (ps : Table TrackedPacket) (a : AckValue) (e : End) → P e → P (after_named ps a e)
@@ -74,7 +85,7 @@ module _ (P : End → Type 0) (c : Settling P) where
       let left = not_acked_by a e.tracking.packets in
       let lost = lost_below (cut_against e.numbers) left in
       let settled = packets_lost lost (packets_acked (p ∷ ps) e) in
-      c.tracked (after_answered e.tracking (kept_above (cut_against e.numbers) left)) settled (packets_lost_keep P c.lost lost (packets_acked (p ∷ ps) e) (packets_acked_keep (p ∷ ps) e i))
+      c.tracked (after_answered e.tracking (kept_above (cut_against e.numbers) left)) settled (packets_lost_keep P c.lost c.again lost (packets_acked (p ∷ ps) e) (packets_acked_keep (p ∷ ps) e i))
 
   -- an ACK frame, whose greatest number is counted already
   pub acked_keeps : (a : AckValue) (e : End) → P e → P (after_acked a e)
@@ -94,10 +105,23 @@ ack_taken b a e = if b then record { end = e; fault = Some violation } else goes
 abbrev pub passed : List FrameValue → End → Progress
 passed fs e = take_items (map Ok fs) e
 
+-- a frame on streams, which changes nothing else
+abbrev pub OnStreams : FrameValue → Type 0
+OnStreams (stream f) = Unit {0}
+OnStreams (reset_stream f) = Unit {0}
+OnStreams (stop_sending f) = Unit {0}
+OnStreams (max_data limit) = Unit {0}
+OnStreams (max_stream_data f) = Unit {0}
+OnStreams (max_streams f) = Unit {0}
+OnStreams (stream_data_blocked f) = Unit {0}
+OnStreams (streams_blocked f) = Unit {0}
+OnStreams f = ⊥
+
 -- the frames that change an end, by kind
 pub record TakesFrame (P : End → Type 0) : Type 0 where
   pub ack : (a : AckValue) (e : End) → P e → P (after_acked a (named a e))
-  pub stream : (f : StreamValue) (e : End) → P e → P (with_receiving e (after_stream e.side e.receiving f))
+  -- a frame on streams: they are left as its words say
+  pub on_streams : (f : FrameValue) (e : End) → OnStreams f → P e → P (take_frame f e).end
 
 -- one frame
 pub frame_keeps : (P : End → Type 0) → TakesFrame P → (f : FrameValue) (e : End) → P e → P (take_frame f e).end
@@ -106,10 +130,29 @@ frame_keeps P c (ack a) e i = go (nat_le e.numbers.next a.largest)
     go : (b : Bool) → P (ack_taken b a e).end
     go true = i
     go false = c.ack a e i
-frame_keeps P c (stream f) e i = c.stream f e i
+frame_keeps P c (stream f) e i = c.on_streams (stream f) e tt i
+frame_keeps P c (reset_stream f) e i = c.on_streams (reset_stream f) e tt i
+frame_keeps P c (stop_sending f) e i = c.on_streams (stop_sending f) e tt i
+frame_keeps P c (max_data limit) e i = c.on_streams (max_data limit) e tt i
+frame_keeps P c (max_stream_data f) e i = c.on_streams (max_stream_data f) e tt i
+frame_keeps P c (max_streams f) e i = c.on_streams (max_streams f) e tt i
+frame_keeps P c (stream_data_blocked f) e i = c.on_streams (stream_data_blocked f) e tt i
+frame_keeps P c (streams_blocked f) e i = c.on_streams (streams_blocked f) e tt i
 frame_keeps P c (new_token t) e i = i
 frame_keeps P c handshake_done e i = i
 frame_keeps P c f e i = i
+
+-- a frame on streams leaves other streams, and another end in nothing else
+pub frame_leaves : (P : End → Type 0) (f : FrameValue) (e : End) → OnStreams f → ((t : Streams) → P (with_streams e t)) → P (take_frame f e).end
+frame_leaves P (stream f) e on all = all _
+frame_leaves P (reset_stream f) e on all = all _
+frame_leaves P (stop_sending f) e on all = all _
+frame_leaves P (max_data limit) e on all = all _
+frame_leaves P (max_stream_data f) e on all = all _
+frame_leaves P (max_streams f) e on all = all _
+frame_leaves P (stream_data_blocked f) e on all = all _
+frame_leaves P (streams_blocked f) e on all = all _
+frame_leaves P f e on all = absurd on
 
 module _ (P : End → Type 0) (step : (f : FrameValue) (e : End) → P e → P (take_frame f e).end) where
   -- an item of a payload

@@ -1,24 +1,32 @@
 -- Where a call may lack memory.
-use Rattle.std.specs.Prelude.{ℕ, ◌≡◌, ◌≢◌, true, List, ◌∷◌, length, slice_get, Option, Some, None, IsSome, Result, Ok, Err}
+use Rattle.std.specs.Prelude.{ℕ, ◌<◌, ◌≡◌, ◌≢◌, ◌⊎◌, Bool, true, false, List, ◌∷◌, length, slice_get, Option, Some, None, IsSome, IfSome, Result, Ok, Err}
 use Rattle.quic_assembler.specs.declared.assembler.Chunk.{Chunk}
 use Rattle.quic_machine.specs.declared.answers.Failed.{Failed}
 use Rattle.quic_machine.specs.declared.answers.Received.{Received}
 use Rattle.quic_machine.specs.declared.answers.Received.TheVariants as receives
 use Rattle.quic_machine.specs.declared.answers.Transmit.{Transmit}
-use Rattle.quic_streams.specs.declared.answers.WriteError.TheVariants as write_errors
-use Rattle.quic_streams.specs.declared.answers.ReadableError.TheVariants as readable_errors
-use Rattle.quic_streams.specs.declared.answers.ReadError.{ReadError}
-use Rattle.quic_streams.specs.declared.answers.ReadError.TheVariants as read_errors
+use Rattle.quic_streams_parts.specs.declared.answers.WriteError.TheVariants as write_errors
+use Rattle.quic_streams_parts.specs.declared.answers.FinishError.TheVariants as finish_errors
+use Rattle.quic_streams_parts.specs.declared.answers.UpdateError.TheVariants as update_errors
+use Rattle.quic_streams_parts.specs.declared.answers.ReadableError.TheVariants as readable_errors
+use Rattle.quic_streams_parts.specs.declared.answers.ReadError.{ReadError}
+use Rattle.quic_streams_parts.specs.declared.answers.ReadError.TheVariants as read_errors
 use Rattle.quic_machine.specs.declared.run.Call.{Call}
 use Rattle.quic_machine.specs.declared.run.Call.TheVariants as calls
 use Rattle.quic_machine.specs.declared.run.Answer.{Answer}
 use Rattle.quic_machine.specs.declared.run.Answer.TheVariants as answers
 use Rattle.quic_machine.specs.Policy.{Policy}
-use Rattle.quic_streams.specs.Table.{at}
-use Rattle.quic_streams.specs.Sending.{TakesBytes}
-use Rattle.quic_streams.specs.Receiving.{CutsPiece}
+use Rattle.quic_streams_parts.specs.Table.{at}
+use Rattle.quic_streams_parts.specs.Lacking.{read_may_lack}
+use Rattle.quic_retransmits.specs.Retransmits.{Retransmits, has_id}
+use Rattle.quic_streams_state.specs.declared.state.StreamsState.{StreamsState}
+use Rattle.quic_streams_state.specs.State.{sending_half, receiving_half, room}
+use Rattle.quic_streams_state.specs.SendLacking.{WriteMayLack}
+use Rattle.quic_streams_state.specs.Writing.{write_answer, finish_answer, reset_answer, set_priority_answer}
+use Rattle.quic_send_buffer.specs.Source.{bytes_of}
+use Rattle.quic_streams_state.specs.Reading.{Told, told_bytes, told_by, read_answer, after_read_begun, after_next, is_closed}
 use Rattle.quic_machine.specs.End.{End}
-use Rattle.quic_machine.specs.Calls.{can_open, end_writes, end_after_next}
+use Rattle.quic_machine.specs.Calls.{is_open}
 use Rattle.quic_machine.specs.Receive.{received}
 use Rattle.quic_machine.specs.Poll.{polled}
 
@@ -35,26 +43,45 @@ GivesOrHasFailed (Ok (Some transmit)) = Unit {0}
 GivesOrHasFailed (Ok None) = ⊥
 GivesOrHasFailed (Err failed) = Unit {0}
 
--- of the `next`s of a read, each that lacks memory cuts the piece that waits next
-abbrev pub NextsLack : End → ℕ → List ℕ → List (Result (Option Chunk) ReadError) → Type 0
-NextsLack e id (most ∷ mosts) (answer ∷ answers) = (answer ≡ Err read_errors.Memory → CutsPiece (at e.receiving.halves id) most) × NextsLack (end_after_next answer e id most) id mosts answers
-NextsLack e id mosts answers = Unit {0}
+-- a `next` cuts a chunk off a part, or gives one out of its order
+abbrev pub NextLacks : Told → StreamsState → ℕ → ℕ → Type 0
+NextLacks told s id most = (told ≡ told_bytes) × IfSome (receiving_half s id) (λ h. read_may_lack h.arrived most ≡ true)
+
+-- of the `next`s of a read, each that lacks memory does so
+abbrev pub NextsLack : Told → StreamsState → ℕ → List ℕ → List (Result (Option Chunk) ReadError) → Type 0
+NextsLack told s id (most ∷ mosts) (answer ∷ answers) = (answer ≡ Err read_errors.Memory → NextLacks told s id most) × NextsLack (told_by answer told) (after_next told answer s id most) id mosts answers
+NextsLack told s id mosts answers = Unit {0}
+
+-- a read that is allowed is begun: what its end may queue is put there before, unless it waits already; and a half comes into use at the first unordered read
+abbrev pub ReadLacks : StreamsState → Retransmits → ℕ → Bool → Type 0
+ReadLacks s p id ordered = (read_answer s id ordered ≡ Ok tt) × ((has_id id p.max_stream_data ≡ false) ⊎ ((ordered ≡ false) × (at s.receiving.halves.live id ≡ None)))
+
+-- a write at an open end takes bytes, or notes that it is blocked
+abbrev pub WriteLacks : Bool → StreamsState → ℕ → ℕ → Type 0
+WriteLacks is_open s id len = (is_open ≡ true) × WriteMayLack (write_answer true s id len) (sending_half s id) (room s.sending)
+
+-- a call on streams that says that memory lacks is one that takes some: it is a write or a read such as above, or it isn't refused
+abbrev pub StreamCallLacks : Bool → StreamsState → Retransmits → Call → Answer → Type 0
+StreamCallLacks is_open s p (calls.Write id bytes) (answers.Write answer) = answer ≡ Err write_errors.Memory → WriteLacks is_open s id (length bytes)
+StreamCallLacks is_open s p (calls.WriteChunks id chunks) (answers.WriteChunks answer) = answer ≡ Err write_errors.Memory → WriteLacks is_open s id (bytes_of chunks.items)
+StreamCallLacks is_open s p (calls.Finish id) (answers.Finish answer) = answer ≡ Err finish_errors.Memory → finish_answer s id ≡ Ok tt
+StreamCallLacks is_open s p (calls.Reset id code) (answers.Reset answer) = answer ≡ Err update_errors.Memory → reset_answer s id ≡ Ok tt
+StreamCallLacks is_open s p (calls.SetPriority id priority) (answers.SetPriority answer) = answer ≡ Err update_errors.Memory → set_priority_answer s id ≡ Ok tt
+StreamCallLacks is_open s p (calls.Read read) (answers.Read (Ok nexts)) = NextsLack told_bytes (after_read_begun s read.id read.ordered) read.id read.nexts.items nexts
+StreamCallLacks is_open s p (calls.Read read) (answers.Read (Err error)) = error ≡ readable_errors.Memory → ReadLacks s p read.id read.ordered
+StreamCallLacks is_open s p (calls.Stop id code) (answers.Stop answer) = answer ≡ Err update_errors.Memory → is_closed s id ≡ false
+StreamCallLacks is_open s p call a = Unit {0}
 
 -- there is such a datagram, and its frames are taken
 abbrev pub DeliveryTakes : Policy → End → ℕ → Option (List ℕ) → Type 0
 DeliveryTakes p e now None = ⊥
 DeliveryTakes p e now (Some d) = TakesFrames (received p e now d).answer
 
--- a call that says that memory lacks is one that takes some: a stream could be opened, bytes were accepted, a chunk is cut off a piece, a datagram
--- would be given, or frames are taken. To begin a read takes none
+-- a call that says that memory lacks is one that takes some: a call on streams such as above, a datagram would be given, or frames are taken
 abbrev pub LacksWhere : Policy → End → List (List ℕ) → Call → Answer → Type 0
-LacksWhere p e theirs (calls.Open dir) (answers.Open (Err x)) = can_open e.closing.state dir e ≡ true
-LacksWhere p e theirs (calls.Write id bytes) (answers.Write answer) = answer ≡ Err write_errors.Memory → TakesBytes (end_writes e id (length bytes))
-LacksWhere p e theirs (calls.Read read) (answers.Read (Ok nexts)) = NextsLack e read.id read.nexts.items nexts
-LacksWhere p e theirs (calls.Read read) (answers.Read (Err error)) = error ≢ readable_errors.Memory
 LacksWhere p e theirs (calls.Poll now) (answers.Poll (Err x)) = GivesOrHasFailed (polled p e now).answer
 LacksWhere p e theirs (calls.Deliver delivery) (answers.Deliver receives.Failed) = DeliveryTakes p e delivery.now (slice_get theirs delivery.index)
-LacksWhere p e theirs call a = Unit {0}
+LacksWhere p e theirs call a = StreamCallLacks (is_open e.closing.state) e.streams e.waiting.frames call a
 
 -- a call for which a run takes memory of its own, before it makes it: a datagram that is given is kept, what comes is copied, and so are the answers of a
 -- read

@@ -5,12 +5,13 @@ use Rattle.quic_time.specs.Timers.{Timers, has_come}
 use Rattle.quic_machine.specs.declared.answers.State.{State}
 use Rattle.quic_machine.specs.declared.answers.State.TheVariants as states
 use Rattle.quic_machine.specs.declared.answers.LostReason.{LostReason}
-use Rattle.quic_streams.specs.declared.answers.StreamEvent.{StreamEvent}
+use Rattle.quic_streams_parts.specs.declared.answers.StreamEvent.{StreamEvent}
+use Rattle.quic_streams_state.specs.declared.state.StreamsState.{StreamsState}
 use Rattle.quic_machine.specs.Closing.{ticked, loss_to_tell, after_told}
 use Rattle.quic_machine.specs.Tracking.{Tracking}
 use Rattle.quic_machine.specs.End.{End, with_closing}
 use Rattle.quic_machine.specs.Timeouts.{acks_expired, loss_expired, timed_out_in, timed_out}
-use Rattle.quic_machine.specs.Calls.{after_telling, end_after_event}
+use Rattle.quic_machine.specs.Calls.{streams_told, closing_told, end_after_event}
 
 -- ---- a timeout
 
@@ -47,18 +48,18 @@ by_timeout e now P same changes = by_expiry e now P same (by_expired e now P (λ
 
 -- ---- an event
 
--- an end with other events to tell, whose loss was told or wasn't
-abbrev pub at_event : End → Bool → List StreamEvent → End
-at_event e told events = record e { closing = record e.closing { told = told }; events = events }
+-- an end whose streams told what they had to tell, and whose loss was told or wasn't
+abbrev pub at_event : End → Bool → End
+at_event e told = record e { closing = record e.closing { told = told }; streams = (streams_told e).state }
 
--- what holds whatever is left to tell holds after an event
-pub by_event : (e : End) (P : End → Type 0) → ((told : Bool) (events : List StreamEvent) → P (at_event e told events)) → P (end_after_event e)
-by_event e P changes = go e.events
+-- what holds whether or not the loss was told holds after an event
+pub by_event : (e : End) (P : End → Type 0) → ((told : Bool) → P (at_event e told)) → P (end_after_event e)
+by_event e P changes = go (streams_told e).answer
   where
-    loss_case : (o : Option LostReason) → P (with_closing e (after_told o e.closing))
-    loss_case None = changes e.closing.told e.events
-    loss_case (Some reason) = changes true e.events
+    loss_case : (o : Option LostReason) → P (record e { streams = (streams_told e).state; closing = after_told o e.closing })
+    loss_case None = changes e.closing.told
+    loss_case (Some reason) = changes true
 
-    go : (events : List StreamEvent) → P (after_telling events e)
-    go [] = loss_case (loss_to_tell e.closing)
-    go (event ∷ more) = changes e.closing.told more
+    go : (o : Option StreamEvent) → P (record e { streams = (streams_told e).state; closing = closing_told o e.closing })
+    go None = loss_case (loss_to_tell e.closing)
+    go (Some event) = changes e.closing.told

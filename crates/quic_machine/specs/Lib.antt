@@ -12,6 +12,7 @@ pub mod Receive
 pub mod Poll
 pub mod Timeouts
 pub mod Calls
+pub mod StreamCalls
 pub mod Lacking
 pub mod Machine
 pub mod Start

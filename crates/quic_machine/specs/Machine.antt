@@ -1,12 +1,10 @@
 -- The machine of two ends over a network: what each event is answered, and what it leaves.
-use Rattle.std.specs.Prelude.{ℕ, ◌≡◌, ◌≢◌, ◌⊎◌, Bool, true, false, List, [], ◌∷◌, ◌++◌, length, slice_get, Option, Some, None, Ok, Err, alloc_error}
+use Rattle.std.specs.Prelude.{ℕ, ◌≡◌, ◌≢◌, ◌⊎◌, Bool, true, false, List, [], ◌∷◌, ◌++◌, length, slice_get, Option, Some, None, Ok, Err}
 use Rattle.std.specs.Option.{option_to_list}
 use Rattle.quic_wire_core.specs.declared.stream_id.Side.{Side}
 use Rattle.quic_wire_core.specs.declared.stream_id.Side.TheVariants.{Client, Server}
 use Rattle.quic_wire_core.specs.StreamId.{other_side}
 use Rattle.quic_machine.specs.declared.answers.State.TheVariants as states
-use Rattle.quic_streams.specs.declared.answers.WriteError.TheVariants as write_errors
-use Rattle.quic_streams.specs.declared.answers.ReadableError.TheVariants as readable_errors
 use Rattle.quic_machine.specs.declared.answers.Received.TheVariants as receives
 use Rattle.quic_machine.specs.declared.run.RunEvent.{RunEvent}
 use Rattle.quic_machine.specs.declared.run.Call.{Call}
@@ -16,13 +14,12 @@ use Rattle.quic_machine.specs.declared.run.Answer.TheVariants as answers
 use Rattle.quic_machine.specs.declared.run.EndView.{EndView}
 use Rattle.quic_machine.specs.declared.run.View.{View}
 use Rattle.quic_machine.specs.Policy.{Policy}
-use Rattle.quic_machine.specs.End.{End}
-use Rattle.quic_streams.specs.Sending.{finish_answer}
-use Rattle.quic_streams.specs.Receiving.{read_answer}
+use Rattle.quic_machine.specs.End.{End, streams_at, with_streams}
 use Rattle.quic_time.specs.Timers.{no_timers, timer_at, each_timer, next_timer}
 use Rattle.quic_machine.specs.Opens.{would_open}
 use Rattle.quic_machine.specs.Timeouts.{timed_out}
-use Rattle.quic_machine.specs.Calls.{end_tells, end_after_event, open_answer, after_open, end_accepts, end_after_accept, end_writes, end_after_write, end_after_finish, end_after_ping, AreNexts, after_nexts}
+use Rattle.quic_machine.specs.Calls.{is_open, end_tells, end_after_event, end_after_ping}
+use Rattle.quic_machine.specs.StreamCalls.{IsStreamAnswer, after_on_streams}
 use Rattle.quic_machine.specs.Receive.{received}
 use Rattle.quic_machine.specs.Poll.{polled}
 use Rattle.quic_machine.specs.Lacking.{LacksWhere}
@@ -39,19 +36,15 @@ abbrev pub injected_if : Bool → Policy → End → ℕ → List ℕ → Answer
 injected_if true p e now d = answers.Opens
 injected_if false p e now d = answers.Inject (received p e now d).answer
 
--- what a read is answered: the stream can't be read, or each `next` answers in turn
-abbrev pub IsRead : End → ℕ → List ℕ → Answer → Type 0
-IsRead e id mosts (answers.Read (Ok nexts)) = (read_answer e.receiving id ≡ Ok tt) × AreNexts e id mosts nexts
-IsRead e id mosts (answers.Read (Err error)) = (read_answer e.receiving id ≡ Err error) ⊎ (error ≡ readable_errors.Memory)
-IsRead e id mosts a = ⊥
+-- what a call on streams may be answered, and what it leaves
+abbrev pub AnswersOnStreams : End → Call → Answer → Type 0
+AnswersOnStreams e call a = IsStreamAnswer (is_open e.closing.state) e.streams call a
+
+abbrev pub end_on_streams : End → Call → Answer → End
+end_on_streams e call a = with_streams e (after_on_streams (is_open e.closing.state) (streams_at e) call a)
 
 -- what a call may be answered: what the machine says, or that memory lacks (where it may: `LacksWhere`)
 abbrev pub IsAnswer : Policy → End → List (List ℕ) → Call → Answer → Type 0
-IsAnswer p e theirs (calls.Open dir) a = (a ≡ answers.Open (Ok (open_answer dir e))) ⊎ (a ≡ answers.Open (Err alloc_error))
-IsAnswer p e theirs (calls.Accept dir) a = a ≡ answers.Accept (end_accepts dir e)
-IsAnswer p e theirs (calls.Write id bytes) a = (a ≡ answers.Write (end_writes e id (length bytes))) ⊎ (a ≡ answers.Write (Err write_errors.Memory))
-IsAnswer p e theirs (calls.Finish id) a = a ≡ answers.Finish (finish_answer e.sending id)
-IsAnswer p e theirs (calls.Read read) a = IsRead e read.id read.nexts.items a
 IsAnswer p e theirs calls.Ping a = a ≡ answers.Ping
 IsAnswer p e theirs (calls.Poll now) a = (a ≡ answers.Poll (polled p e now).answer) ⊎ (a ≡ answers.Poll (Err (record {})))
 IsAnswer p e theirs (calls.Timeout now) a = a ≡ answers.Timeout (timed_out e now).answer
@@ -60,6 +53,7 @@ IsAnswer p e theirs (calls.Inject injection) a = a ≡ injected_if (would_open p
 IsAnswer p e theirs calls.Event a = a ≡ answers.Event (end_tells e)
 IsAnswer p e theirs (calls.Timer timer) a = a ≡ answers.Timer (timer_at timer e.timers)
 IsAnswer p e theirs calls.NextTimeout a = a ≡ answers.NextTimeout (next_timer e.timers)
+IsAnswer p e theirs call a = AnswersOnStreams e call a
 
 -- the end after a delivery
 abbrev pub after_delivered : Policy → End → ℕ → Option (List ℕ) → End
@@ -73,18 +67,15 @@ after_injected_if false p e now d = (received p e now d).end
 
 -- what a call leaves, by its answer, where memory served
 abbrev pub after_call : Policy → End → List (List ℕ) → Call → Answer → End
-after_call p e theirs (calls.Open dir) (answers.Open (Ok id)) = after_open dir e
-after_call p e theirs (calls.Accept dir) a = end_after_accept dir e
-after_call p e theirs (calls.Write id bytes) (answers.Write answer) = end_after_write answer e id bytes
-after_call p e theirs (calls.Finish id) a = end_after_finish e id
-after_call p e theirs (calls.Read read) (answers.Read (Ok nexts)) = after_nexts e read.id read.nexts.items nexts
 after_call p e theirs calls.Ping a = end_after_ping e
 after_call p e theirs (calls.Poll now) a = (polled p e now).end
 after_call p e theirs (calls.Timeout now) a = (timed_out e now).end
 after_call p e theirs (calls.Deliver delivery) a = after_delivered p e delivery.now (slice_get theirs delivery.index)
 after_call p e theirs (calls.Inject injection) a = after_injected_if (would_open p e injection.bytes) p e injection.now injection.bytes
 after_call p e theirs calls.Event a = end_after_event e
-after_call p e theirs call a = e
+after_call p e theirs (calls.Timer timer) a = e
+after_call p e theirs calls.NextTimeout a = e
+after_call p e theirs call a = end_on_streams e call a
 
 -- the datagrams that a call gives
 abbrev pub gives : Policy → End → Call → Answer → List (List ℕ)

@@ -1,6 +1,6 @@
 -- Parts of an end of which this stage uses little: each has its place, so that what comes adds fields and moves none.
 use Rattle.std.specs.Prelude.{◌≡◌, ℕ, Bool, false, List, []}
-use Rattle.quic_wire.specs.Value.{FrameValue}
+use Rattle.quic_retransmits.specs.Retransmits as retransmits
 
 -- the path to the peer (RFC 9000, section 8), and how many bytes a datagram has at most that it takes (section 14)
 pub record Path : Type 0 where
@@ -30,11 +30,11 @@ pub record Messages : Type 0 where
 abbrev pub no_messages : Messages
 no_messages = record { outgoing = []; incoming = [] }
 
--- whether PING waits to be sent (RFC 9000, section 19.2), and the control frames that do (section 13.3)
+-- whether PING waits to be sent (RFC 9000, section 19.2), and what waits beside the bytes of streams (section 13.3)
 pub record Waiting : Type 0 where
   pub ping : Bool
-  pub frames : List FrameValue
+  pub frames : retransmits.Retransmits
 
--- no duty waits
+-- nothing waits
 abbrev pub nothing_waits : Waiting
-nothing_waits = record { ping = false; frames = [] }
+nothing_waits = record { ping = false; frames = retransmits.nothing_waits }

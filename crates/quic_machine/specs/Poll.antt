@@ -1,15 +1,18 @@
 -- What an end gives when it is polled (RFC 9000, sections 12.2, 13.3 and 14.1).
-use Rattle.std.specs.Prelude.{ℕ, zero, suc, ◌+◌, ◌-◌, ◌≡◌, Bool, true, false, ◌&&◌, ◌||◌, nat_le, nat_lt, if◌then◌else◌, List, [], ◌∷◌, ◌++◌, length, replicate, Option, Some, None, Result, Ok, Err}
-use Rattle.std.specs.List.{list_any}
-use Rattle.std.specs.Option.{is_some}
+use Rattle.std.specs.Prelude.{ℕ, ◌+◌, ◌-◌, ◌≡◌, Bool, true, false, ◌&&◌, ◌||◌, not, nat_le, nat_lt, if◌then◌else◌, List, [], ◌∷◌, ◌++◌, map, length, replicate, Option, Some, None, Result, Ok, Err}
+use Rattle.std.specs.List.{list_any, fold}
 use Rattle.quic_wire_core.specs.declared.shared.EcnCodepoint.TheVariants.{Ect0}
 use Rattle.quic_packet.specs.Number.{truncated}
 use Rattle.quic_wire.specs.Value.{FrameValue, AckValue, ack, ping, stream, asks}
 use Rattle.quic_wire.specs.AckSet.{ack_of_set}
-use Rattle.quic_wire.specs.Writing.{spelling, stream_spelling, frame_size, width_of}
+use Rattle.quic_wire.specs.Writing.{spelling, spelled_all, frame_size}
 use Rattle.quic_wire.specs.Grammar.{Payload}
 use Rattle.quic_packet.specs.Datagram.{sent}
-use Rattle.quic_send_buffer.specs.Buffered.{writes_length}
+use Rattle.quic_retransmits.specs.Retransmits.{nothing_waits}
+use Rattle.quic_streams_state.specs.State.{Streams, streams_of}
+use Rattle.quic_streams_state.specs.Waiting.{is_empty, can_send_stream_data}
+use Rattle.quic_streams_state.specs.Control as control
+use Rattle.quic_streams_state.specs.Frames as of_streams
 use Rattle.quic_machine.specs.declared.answers.State.{State}
 use Rattle.quic_machine.specs.declared.answers.Failed.{Failed}
 use Rattle.quic_machine.specs.declared.answers.Transmit.{Transmit}
@@ -18,13 +21,10 @@ use Rattle.quic_machine.specs.declared.answers.LostReason.TheVariants as reasons
 use Rattle.quic_recovery_core.specs.PendingAcks.{can_send, is_filled, after_acks_sent}
 use Rattle.quic_machine.specs.Acknowledging.{delay_at}
 use Rattle.quic_machine.specs.Tracking.{carried_in, after_sent}
-use Rattle.quic_streams.specs.Table.{at, put}
 use Rattle.quic_machine.specs.Closing.{ticked}
 use Rattle.quic_machine.specs.Numbers.{can_number, cut_against, number_given}
-use Rattle.quic_streams.specs.Sending.{SendHalf}
-use Rattle.quic_streams.specs.Frames.{first_pending, frame_of, half_after}
 use Rattle.quic_machine.specs.Policy.{Policy}
-use Rattle.quic_machine.specs.End.{End, with_closing, closed_by, with_numbers, with_acknowledging, with_ack_timer_at, with_tracking, with_sending, with_ping}
+use Rattle.quic_machine.specs.End.{End, with_closing, closed_by, with_numbers, with_acknowledging, with_ack_timer_at, with_tracking, streams_at, with_streams, with_ping}
 
 -- the most bytes of a datagram (RFC 9000, section 14.1)
 abbrev pub current_mtu : ℕ
@@ -90,48 +90,29 @@ ping_if false d = d
 abbrev pub with_ping_frame : Draft → Draft
 with_ping_frame d = ping_if d.end.waiting.ping d
 
--- how many bytes are left behind the type and the id of a stream frame, where so many bytes are used
-abbrev pub room_for : End → ℕ → ℕ → ℕ
-room_for e used id = frame_room e - used - (1 + width_of id)
+-- frames of control behind those of a draft, which leave these streams, and this to be sent besides
+abbrev pub behind_control : Draft → control.Draft → Draft
+behind_control d c = record { frames = d.frames ++ c.frames; bytes = d.bytes ++ spelled_all c.frames; end = with_streams d.end (streams_of c.state c.pending) }
 
--- the same, behind the frames of a draft
-abbrev pub stream_room : Draft → ℕ → ℕ
-stream_room d id = room_for d.end (length d.bytes) id
+-- what waits beside the bytes of streams goes, kind by kind, where it fits (RFC 9000, section 13.3)
+abbrev pub with_control_frames : Draft → Draft
+with_control_frames d = behind_control d (control.control_frames (frame_room d.end) (length d.bytes) d.end.streams d.end.waiting.frames nothing_waits)
 
--- the end after the frame of a half went
-abbrev pub end_after_frame : Draft → ℕ → SendHalf → End
-end_after_frame d id h = with_sending d.end (record d.end.sending { halves = put d.end.sending.halves id (half_after h (stream_room d id)) })
+-- STREAM frames behind the frames of a draft, which leave these streams
+abbrev pub behind_stream : Draft → of_streams.Sent → Draft
+behind_stream d t = record { frames = d.frames ++ map stream t.frames; bytes = d.bytes ++ t.bytes; end = record d.end { streams = t.state } }
 
--- the frame of a half goes, where there is the half
-abbrev pub stream_if : Option SendHalf → Draft → ℕ → Draft
-stream_if None d id = d
-stream_if (Some h) d id = with_frame d (stream (frame_of id h (stream_room d id))) (stream_spelling (writes_length h.buffer (stream_room d id)) (frame_of id h (stream_room d id))) (end_after_frame d id h)
+-- how many bytes are left behind the frames of a draft
+abbrev pub left : Draft → ℕ
+left d = frame_room d.end - length d.bytes
 
--- how many bytes have to be left of a datagram at least, so that a frame of a stream goes: its type, and its id, offset and length in eight bytes each
-abbrev pub least_stream_room : ℕ
-least_stream_room = 25
+-- no STREAM frame yet
+abbrev pub no_stream_frames : Draft → of_streams.Sent
+no_stream_frames d = record { frames = []; bytes = []; state = d.end.streams }
 
--- the first stream with something to send, where there is room for a frame of it behind so many bytes
-abbrev pub next_behind : End → ℕ → Option ℕ
-next_behind e used = if nat_le least_stream_room (frame_room e - used) then first_pending e.sending.halves else None
-
--- the same, behind the frames of a draft
-abbrev pub next_stream : Draft → Option ℕ
-next_stream d = next_behind d.end (length d.bytes)
-
--- the frame of a stream goes, if there is one, and more behind it
-abbrev pub frame_and_more : Option ℕ → (Draft → Draft) → Draft → Draft
-frame_and_more None more d = d
-frame_and_more (Some id) more d = more (stream_if (at d.end.sending.halves id) d id)
-
--- frames of streams go while one has something to send and there is room, so many at most
-abbrev pub stream_frames : ℕ → Draft → Draft
-stream_frames zero d = d
-stream_frames (suc n) d = frame_and_more (next_stream d) (stream_frames n) d
-
--- frames of streams go while one has something to send and there is room: each takes a byte at least
+-- frames of streams go while one has something to send and there is room
 abbrev pub with_stream_frames : Draft → Draft
-with_stream_frames d = stream_frames (frame_room d.end) d
+with_stream_frames d = behind_stream d (of_streams.with_stream_frames d.end.fair (left d) (no_stream_frames d))
 
 -- what an ACK frame says at the moment of the end (RFC 9000, section 19.3)
 abbrev pub ack_of : End → AckValue
@@ -154,9 +135,25 @@ abbrev pub ack_if : Bool → Draft → Draft
 ack_if true d = with_ack d
 ack_if false d = d
 
--- what asks for an acknowledgement goes
+-- what asks for an acknowledgement: PING, what has to be told of streams, and their bytes
+pub data Kind : Type 0 where
+  pings : Kind
+  controls : Kind
+  streams : Kind
+
+-- the kinds, in the order in which they go
+abbrev pub order : List Kind
+order = pings ∷ controls ∷ streams ∷ []
+
+-- what waits of a kind goes behind the frames of a draft, where it fits
+abbrev pub put : Draft → Kind → Draft
+put d pings = with_ping_frame d
+put d controls = with_control_frames d
+put d streams = with_stream_frames d
+
+-- what asks goes, kind by kind
 abbrev pub with_asking : Draft → Draft
-with_asking d = with_stream_frames (with_ping_frame d)
+with_asking d = fold put d order
 
 -- an ACK that isn't due goes behind what asks, where it fits
 abbrev pub with_late_ack : Draft → Draft
@@ -196,9 +193,13 @@ after_given d = with_numbers (tracked_if (asking d.frames) d) (number_given d.en
 abbrev pub probed : End → End
 probed e = if nat_lt 0 e.tracking.probes then with_ping e true else e
 
--- whether anything waits to be sent: a due acknowledgement, PING, or a stream
+-- whether something waits beside acknowledgements: PING, what has to be told of streams, or their bytes
+abbrev pub asks_to_go : End → Bool
+asks_to_go e = e.waiting.ping || (not (is_empty e.waiting.frames e.streams) || can_send_stream_data e.streams)
+
+-- whether anything waits to be sent
 abbrev pub waits : End → Bool
-waits e = can_send e.acknowledging || (e.waiting.ping || is_some (first_pending e.sending.halves))
+waits e = can_send e.acknowledging || asks_to_go e
 
 -- An end has nothing to send, and no probe waits.
 pub record IsSilent (e : End) : Type 0 where

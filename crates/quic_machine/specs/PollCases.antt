@@ -130,20 +130,20 @@ poll_count p e now =
 
 -- ---- what a poll leaves as it was
 
--- side, ids and numbers are as they were, and so are clock and state, and the loss timer
+-- ids and numbers are as they were, and so are clock and state, and the loss timer
 pub record Composes (e f : End) : Type 0 where
-  pub side : f.side ≡ e.side
   pub ids : f.ids ≡ e.ids
   pub numbers : f.numbers ≡ e.numbers
   pub closing : f.closing ≡ e.closing
-  pub events : f.events ≡ e.events
   pub tracking : f.tracking ≡ e.tracking
   pub loss : f.timers.loss_detection ≡ e.timers.loss_detection
   pub path : f.path ≡ e.path
 
 pub composes : (e : End) → Composes e (composed e).end
 composes e = by_writing (λ (d : Draft). Composes e d.end) (record {
-  ack = λ d filled may c. record { side = c.side; ids = c.ids; numbers = c.numbers; closing = c.closing; events = c.events; tracking = c.tracking; loss = c.loss; path = c.path };
-  control = λ d f w is c. record { side = c.side; ids = c.ids; numbers = c.numbers; closing = c.closing; events = c.events; tracking = c.tracking; loss = c.loss; path = c.path };
-  stream = λ d id h found room c. record { side = c.side; ids = c.ids; numbers = c.numbers; closing = c.closing; events = c.events; tracking = c.tracking; loss = c.loss; path = c.path };
-}) e (record { side = refl; ids = refl; numbers = refl; closing = refl; events = refl; tracking = refl; loss = refl; path = refl })
+  ack = λ d filled may c. record { ids = c.ids; numbers = c.numbers; closing = c.closing; tracking = c.tracking; loss = c.loss; path = c.path };
+  ping = λ d c. record { ids = c.ids; numbers = c.numbers; closing = c.closing; tracking = c.tracking; loss = c.loss; path = c.path };
+  drops = λ d kind c. record { ids = c.ids; numbers = c.numbers; closing = c.closing; tracking = c.tracking; loss = c.loss; path = c.path };
+  control = λ d kind entry es f is goes c. record { ids = c.ids; numbers = c.numbers; closing = c.closing; tracking = c.tracking; loss = c.loss; path = c.path };
+  stream = λ d id h room found first some is counts c. record { ids = c.ids; numbers = c.numbers; closing = c.closing; tracking = c.tracking; loss = c.loss; path = c.path };
+}) e (record { ids = refl; numbers = refl; closing = refl; tracking = refl; loss = refl; path = refl })

@@ -4,7 +4,7 @@ use Rattle.std.specs.List.{list_any}
 use Rattle.quic_wire_core.specs.TransportError.{ErrorValue}
 use Rattle.quic_wire_core.specs.declared.stream_id.Side.{Side}
 use Rattle.quic_wire_core.specs.declared.stream_id.Side.TheVariants.{Client, Server}
-use Rattle.quic_wire.specs.Value.{FrameValue, AckValue, ack, stream, new_token, handshake_done, asks}
+use Rattle.quic_wire.specs.Value.{FrameValue, AckValue, ack, stream, reset_stream, stop_sending, max_data, max_stream_data, max_streams, stream_data_blocked, streams_blocked, new_token, handshake_done, asks}
 use Rattle.quic_wire.specs.Items.{items}
 use Rattle.quic_packet.specs.Header.{key_phase, reserved_bits}
 use Rattle.quic_packet.specs.Destination.{decoded, fixed_length_id}
@@ -14,8 +14,8 @@ use Rattle.quic_packet.specs.declared.packet.HeaderError.{HeaderError}
 use Rattle.quic_packet.specs.declared.packet.HeaderError.TheVariants as headers
 use Rattle.quic_machine.specs.declared.answers.State.{State}
 use Rattle.quic_machine.specs.declared.answers.State.TheVariants as states
-use Rattle.quic_streams.specs.declared.answers.Breach.{Breach}
-use Rattle.quic_streams.specs.declared.answers.Breach.TheVariants.{FlowControl, StreamLimit, StreamState, FinalSize, Pieces}
+use Rattle.quic_streams_parts.specs.declared.answers.Breach.{Breach}
+use Rattle.quic_streams_parts.specs.declared.answers.Breach.TheVariants.{FlowControl, StreamLimit, StreamState, FinalSize, FrameEncoding, Pieces}
 use Rattle.quic_machine.specs.declared.answers.LostReason.{LostReason}
 use Rattle.quic_machine.specs.declared.answers.LostReason.TheVariants as reasons
 use Rattle.quic_machine.specs.declared.answers.DropReason.{DropReason}
@@ -29,10 +29,14 @@ use Rattle.quic_recovery_core.specs.Duplicates.{Seen, is_duplicate}
 use Rattle.quic_recovery_core.specs.PendingAcks.{Pending, after_insert, after_packet, packet_starts_wait}
 use Rattle.quic_time.specs.Timers.{Timers}
 use Rattle.quic_machine.specs.Acknowledging.{ack_due, with_ack_timer}
-use Rattle.quic_streams.specs.Receiving.{stream_breach, after_stream}
+use Rattle.quic_streams_state.specs.declared.state.StreamsState.{StreamsState}
+use Rattle.quic_streams_state.specs.State.{Streams, streams_of}
+use Rattle.quic_streams_state.specs.Opening.{sending_refusal, max_streams_breach, after_max_streams}
+use Rattle.quic_streams_state.specs.Taking.{stream_breach, after_stream, reset_breach, after_reset_frame, after_stop_sending, after_max_data, after_max_stream_data, stream_data_blocked_breach, streams_blocked_breach}
 use Rattle.quic_machine.specs.Policy.{Policy}
-use Rattle.quic_machine.specs.End.{End, with_closing, closed_by, with_numbers, with_receiving}
+use Rattle.quic_machine.specs.End.{End, side_of, with_closing, closed_by, with_numbers, with_streams}
 use Rattle.quic_machine.specs.Opens.{own_id_length}
+use Rattle.quic_machine.specs.Tracking.{dir_named}
 use Rattle.quic_machine.specs.Acked.{after_acked}
 
 -- ---- what is wrong with a packet that opened
@@ -46,12 +50,13 @@ pub data Fault : Type 0 where
 abbrev pub plain_error : ℕ → ErrorValue
 plain_error code = record { code = code; frame = None }
 
--- FLOW_CONTROL_ERROR, STREAM_LIMIT_ERROR, STREAM_STATE_ERROR, FINAL_SIZE_ERROR (RFC 9000, section 20.1)
+-- FLOW_CONTROL_ERROR, STREAM_LIMIT_ERROR, STREAM_STATE_ERROR, FINAL_SIZE_ERROR, FRAME_ENCODING_ERROR (RFC 9000, section 20.1)
 abbrev pub fault_of_breach : Breach → Fault
 fault_of_breach FlowControl = broke (plain_error 3)
 fault_of_breach StreamLimit = broke (plain_error 4)
 fault_of_breach StreamState = broke (plain_error 5)
 fault_of_breach FinalSize = broke (plain_error 6)
+fault_of_breach FrameEncoding = broke (plain_error 7)
 fault_of_breach Pieces = too_many_pieces
 
 -- the fault of a broken rule of streams, where one was broken
@@ -98,12 +103,27 @@ fault_at Server = Some violation
 abbrev pub take_ack : AckValue → End → Progress
 take_ack a e = if nat_le e.numbers.next a.largest then record { end = e; fault = Some violation } else goes_on (after_acked a (with_numbers e (number_named e.numbers a.largest)))
 
+-- what a frame on streams makes of them: a rule that it broke, if it broke one, and the streams that it leaves
+abbrev pub on_streams : Option Breach → Streams → End → Progress
+on_streams breach t e = record { end = with_streams e t; fault = fault_of breach }
+
+-- a frame on streams that queues nothing beside their bytes
+abbrev pub on_state : Option Breach → StreamsState → End → Progress
+on_state breach s e = on_streams breach (streams_of s e.waiting.frames) e
+
 -- what a frame makes of the end; those of other kinds are read, and do nothing yet
 abbrev pub take_frame : FrameValue → End → Progress
 take_frame (ack a) e = take_ack a e
-take_frame (stream f) e = record { end = with_receiving e (after_stream e.side e.receiving f); fault = fault_of (stream_breach e.side e.receiving f) }
-take_frame (new_token t) e = record { end = e; fault = fault_at e.side }
-take_frame handshake_done e = record { end = e; fault = fault_at e.side }
+take_frame (stream f) e = on_streams (stream_breach e.streams f) (after_stream e.streams e.waiting.frames f) e
+take_frame (reset_stream f) e = on_streams (reset_breach e.streams f) (after_reset_frame e.streams e.waiting.frames f) e
+take_frame (stop_sending f) e = on_state (sending_refusal e.streams f.id) (after_stop_sending e.streams f) e
+take_frame (max_data limit) e = on_state None (after_max_data e.streams limit) e
+take_frame (max_stream_data f) e = on_state (sending_refusal e.streams f.id) (after_max_stream_data e.streams f.id f.limit) e
+take_frame (max_streams f) e = on_state (max_streams_breach f.count) (after_max_streams (dir_named f.one_way) f.count e.streams) e
+take_frame (stream_data_blocked f) e = on_state (stream_data_blocked_breach e.streams f.id) e.streams e
+take_frame (streams_blocked f) e = on_state (streams_blocked_breach f.count) e.streams e
+take_frame (new_token t) e = record { end = e; fault = fault_at (side_of e) }
+take_frame handshake_done e = record { end = e; fault = fault_at (side_of e) }
 take_frame f e = goes_on e
 
 -- what the next item of a payload comes to

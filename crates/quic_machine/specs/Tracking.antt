@@ -1,15 +1,21 @@
 -- Asking datagrams in flight, and when they count as lost (RFC 9002, sections 2, 6.1.1 and 6.2).
-use Rattle.std.specs.Prelude.{ℕ, ◌+◌, ◌-◌, ◌*◌, ◌^◌, min, Bool, true, false, not, nat_le, ◌&&◌, List, [], ◌∷◌, filter, Option, Some, None}
-use Rattle.std.specs.List.{list_any}
+use Rattle.std.specs.Prelude.{ℕ, ◌+◌, ◌-◌, ◌*◌, ◌^◌, min, Bool, true, false, not, nat_le, ◌&&◌, List, [], ◌∷◌, ◌++◌, filter, Option, Some, None}
+use Rattle.std.specs.List.{list_any, fold}
 use Rattle.quic_send_buffer.specs.declared.stream_meta.StreamMeta.{StreamMeta}
-use Rattle.quic_wire.specs.Value.{FrameValue, AckValue, ack, stream}
-use Rattle.quic_streams.specs.Table.{Table, added}
-use Rattle.quic_streams.specs.Frames.{meta_of}
+use Rattle.quic_wire.specs.Value.{FrameValue, AckValue, ack, stream, reset_stream, stop_sending, max_data, max_stream_data, max_streams, data_blocked, stream_data_blocked}
+use Rattle.quic_streams_parts.specs.Dirs.{with_of}
+use Rattle.quic_retransmits.specs.Retransmits.{Retransmits, nothing_waits, with_id}
+use Rattle.quic_wire_core.specs.declared.stream_id.Dir.{Dir}
+use Rattle.quic_wire_core.specs.declared.stream_id.Dir.TheVariants.{Bi, Uni}
+use Rattle.quic_streams_parts.specs.Table.{Table, added}
+use Rattle.quic_streams_parts.specs.SendHalf.{meta_of}
 
--- what a datagram carried: the greatest number that its ACK frame named, if it had one, and the offsets and ends of its STREAM frames
+-- what a datagram carried: the greatest number that its ACK frame named, if it had one, the offsets and ends of its STREAM frames, and what has to be sent
+-- again besides if it is lost (RFC 9000, section 13.3)
 pub record Carried : Type 0 where
   pub largest_acked : Option ℕ
   pub stream_frames : List StreamMeta
+  pub retransmits : Retransmits
 
 -- a datagram that asks for an acknowledgement and is neither acknowledged nor lost: the path generation, when it went, and what it carried
 pub record TrackedPacket : Type 0 where
@@ -42,9 +48,29 @@ streams_in [] = []
 streams_in (stream f ∷ fs) = meta_of f ∷ streams_in fs
 streams_in (f ∷ fs) = streams_in fs
 
+-- whether MAX_STREAMS and STREAMS_BLOCKED speak of one-way streams or of two-way ones
+abbrev pub dir_named : Bool → Dir
+dir_named true = Uni
+dir_named false = Bi
+
+-- what has to be sent again if a frame is lost, beside the bytes of streams: what it said is said anew, as it is then
+abbrev pub and_again : Retransmits → FrameValue → Retransmits
+and_again r (reset_stream f) = record r { reset_stream = r.reset_stream ++ (f.id, f.code) ∷ [] }
+and_again r (stop_sending f) = record r { stop_sending = r.stop_sending ++ f ∷ [] }
+and_again r (max_data limit) = record r { max_data = true }
+and_again r (max_stream_data f) = record r { max_stream_data = with_id f.id r.max_stream_data }
+and_again r (max_streams f) = record r { max_stream_id = with_of (dir_named f.one_way) true r.max_stream_id }
+and_again r (data_blocked limit) = record r { data_blocked = true }
+and_again r (stream_data_blocked f) = record r { stream_data_blocked = with_id f.id r.stream_data_blocked }
+and_again r f = r
+
+-- so it is of several frames
+abbrev pub retransmits_in : List FrameValue → Retransmits
+retransmits_in frames = fold and_again nothing_waits frames
+
 -- what frames carry together
 abbrev pub carried_in : List FrameValue → Carried
-carried_in frames = record { largest_acked = acked_in frames; stream_frames = streams_in frames }
+carried_in frames = record { largest_acked = acked_in frames; stream_frames = streams_in frames; retransmits = retransmits_in frames }
 
 -- ---- a datagram that asks goes
 

@@ -1,7 +1,7 @@
 //! What the calls of an end answer.
 ghost use Rattle.std.specs.Prelude.{◌≡◌};
 
-use quic_streams::StreamEvent;
+use quic_streams_parts::StreamEvent;
 use quic_wire_core::{EcnCodepoint, TransportError};
 use thiserror::Error;
 

@@ -4,10 +4,11 @@ ghost use Rattle.std.specs.Prelude.{◌≡◌};
 use crate::answers::{Event, Failed, LostReason, Received, State, Transmit};
 use bytes::Bytes;
 use quic_assembler::Chunk;
-use quic_streams::{FinishError, ReadError, ReadableError, WriteError};
+use quic_streams_parts::{
+    ClosedStream, FinishError, ReadError, ReadableError, UpdateError, WriteError, Written,
+};
 use quic_time::{Instant, Timer};
-use quic_wire_core::{Dir, EcnCodepoint, Side, StreamId};
-use std::alloc::AllocError;
+use quic_wire_core::{Dir, EcnCodepoint, Side, StreamId, VarInt};
 use std::marker::Model;
 
 /// One event of a run: a call at one end.
@@ -28,10 +29,20 @@ pub enum Call {
     Accept(Dir),
     /// Writes on a stream (`SendStream::write`).
     Write(StreamId, Bytes),
+    /// Writes several buffers on a stream, each a piece (`SendStream::write_chunks`).
+    WriteChunks(StreamId, Vec<Bytes>),
     /// Finishes a stream (`SendStream::finish`).
     Finish(StreamId),
-    /// Reads a stream in order (`RecvStream::read`): the bounds of each `Chunks::next`, then `Chunks::finalize` or a drop.
+    /// Resets a stream with this code (`SendStream::reset`).
+    Reset(StreamId, VarInt),
+    /// Sets the priority of a stream (`SendStream::set_priority`).
+    SetPriority(StreamId, i32),
+    /// Reads a stream (`RecvStream::read`): the bounds of each `Chunks::next`, then `Chunks::finalize` or a drop.
     Read(ReadCall),
+    /// Stops a stream with this code (`RecvStream::stop`).
+    Stop(StreamId, VarInt),
+    /// Asks whether the peer reset a stream (`RecvStream::received_reset`).
+    ReceivedReset(StreamId),
     /// Asks for a PING (`Connection::ping`).
     Ping,
     /// Asks for a datagram at this moment (`Connection::poll_transmit`).
@@ -55,6 +66,8 @@ pub enum Call {
 pub struct ReadCall {
     /// The stream.
     pub id: StreamId,
+    /// Whether its bytes are read in order.
+    pub ordered: bool,
     /// The greatest length of each chunk asked for, in bytes.
     pub nexts: Vec<usize>,
     /// Whether the read ends by `finalize`, and not by a drop.
@@ -92,7 +105,7 @@ pub struct Nexts {
 impl Model for Nexts {
     ghost use Rattle.std.specs.Prelude.{List, Option, Result};
     ghost use Rattle.quic_assembler.specs.declared.assembler.Chunk.{Chunk};
-    ghost use Rattle.quic_streams.specs.declared.answers.ReadError.{ReadError};
+    ghost use Rattle.quic_streams_parts.specs.declared.answers.ReadError.{ReadError};
 
     ghost Value = { List (Result (Option Chunk) ReadError) };
 
@@ -118,16 +131,26 @@ impl Nexts {
 /// What an event is answered: what its call answers.
 #[derive(Debug, Drop)]
 pub enum Answer {
-    /// The stream that was opened, or `None` where none may be; or that memory lacks.
-    Open(Result<Option<StreamId>, AllocError>),
+    /// The stream that was opened, or `None` where none may be.
+    Open(Option<StreamId>),
     /// The stream that was accepted, or `None` where none waits.
     Accept(Option<StreamId>),
     /// How many bytes were accepted, or why none were.
     Write(Result<usize, WriteError>),
+    /// How many bytes and whole buffers were accepted, or why none were.
+    WriteChunks(Result<Written, WriteError>),
     /// The stream is finished, or why it isn't.
     Finish(Result<(), FinishError>),
+    /// The stream is reset, or why it isn't.
+    Reset(Result<(), UpdateError>),
+    /// The priority is set, or why it isn't.
+    SetPriority(Result<(), UpdateError>),
     /// What each `next` of the read answered, or why the stream can't be read.
     Read(Result<Nexts, ReadableError>),
+    /// The stream is stopped, or why it isn't.
+    Stop(Result<(), UpdateError>),
+    /// The code with which the peer reset the stream, if it did; or that there is nothing to read on it.
+    ReceivedReset(Result<Option<VarInt>, ClosedStream>),
     /// PING waits to go.
     Ping,
     /// The datagram that was given, or `None` where nothing waits to go; or that the end failed.

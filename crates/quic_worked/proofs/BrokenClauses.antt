@@ -1,21 +1,21 @@
 -- Each broken run breaks a clause of the headline.
 use Rattle.std.proofs.Common.{◌≡◌, ◌+◌, ◌<◌, ◌≤◌, ℕ, List, [], ◌∷◌, ◌++◌, Some, None, Result, Ok, Err, Bool, true, false, Option, refl, inl, ap, sym, ◌∙◌, subst, arith, length}
-use Rattle.std.specs.Prelude.{slice_index, ◌==◌, eqb, if◌then◌else◌}
+use Rattle.std.specs.Prelude.{slice_index, ◌==◌, ◌&&◌, not, eqb, if◌then◌else◌}
 use Rattle.std.specs.List.{IsDistinct}
 use Rattle.quic_wire_core.specs.declared.stream_id.Side.TheVariants.{Client, Server}
 use Rattle.quic_wire_core.specs.declared.stream_id.Dir.TheVariants.{Bi}
 use Rattle.quic_wire.specs.Value.{ack, stream}
 use Rattle.quic_machine.specs.declared.run.Answer.TheVariants as answers
 use Rattle.quic_assembler.specs.declared.assembler.Chunk.{Chunk}
-use Rattle.quic_streams.specs.declared.answers.WriteError.{WriteError}
-use Rattle.quic_streams.specs.declared.answers.FinishError.{FinishError}
-use Rattle.quic_streams.specs.declared.answers.FinishError.TheVariants as finish_errors
+use Rattle.quic_streams_parts.specs.declared.answers.WriteError.{WriteError}
+use Rattle.quic_streams_parts.specs.declared.answers.FinishError.{FinishError}
+use Rattle.quic_streams_parts.specs.declared.answers.FinishError.TheVariants as finish_errors
 use Rattle.quic_machine.specs.declared.answers.Received.{Received}
 use Rattle.quic_machine.specs.declared.answers.Received.TheVariants as receives
 use Rattle.quic_machine.specs.declared.run.ReadCall.{ReadCall}
-use Rattle.quic_headline.specs.Runs.{Run, Told, Packet, Next, In, IsNamed, until, written, ended, nexts, chunks_of, reads, bytes_of, offsets_of, WasTaken, HasArrived}
+use Rattle.quic_headline.specs.Runs.{Run, Told, Packet, Next, In, IsNamed, until, written, ended, nexts, chunks_of, reads, bytes_of, offsets_of, WasNamed, HasArrived}
 use Rattle.quic_headline.specs.Observer.{Sent, took, acked_until}
-use Rattle.quic_headline.specs.Headline.{OrderedPrefix, Slices, Once, EndAfterAll, BlockedOnlyWithoutBytes, AcceptsAll, FinishedMeansArrived, AllHeld, IsAcknowledged, ToldOnce, FinishedIsTold, AcknowledgedWereTaken, LossTimerFollows, LossTimersFollow, AckTimerFollows, AckTimersFollow, NumbersRise}
+use Rattle.quic_headline.specs.Headline.{OrderedPrefix, Slices, Once, EndAfterAll, NoneToGive, BlockedOnlyWithoutBytes, AcceptsAll, FinishedMeansArrived, AllHeld, IsAcknowledged, ToldOnce, FinishedIsTold, AcknowledgedWereTaken, LossTimerFollows, LossTimersFollow, AckTimerFollows, AckTimersFollow, NumbersRise}
 use Rattle.quic_worked.specs.Acknowledged.{client_acked, server_acked}
 use Rattle.quic_worked.specs.Worked.{NextAnswers, gives_chunk, all_nexts, once_sent, once_taken, hello, hello_frame, run_with}
 use Rattle.quic_worked.specs.Broken.{answers_with, duplicate, hellp, changed_nexts, repeated_nexts, early_nexts, changed_byte, repeated_bytes, unwritten_byte, early_end, unwritten_end, taken_twice, blocked_read, never_accepted, early_finish, told_twice, early_acknowledgement, never_timed, still_timed, empty_datagram, repeated_number, answered_run, asked_run, tells_finished}
@@ -34,9 +34,17 @@ nexts_of read count done said e = nexts_are read count done receives.Taken dupli
 
 -- ---- ordered reads
 
-pub changed_prefix : (read : ReadCall) → read.id ≡ 0 → OrderedPrefix (run_with read changed_byte) → ⊥
-changed_prefix read e h =
-    let p = h Server 0 8 refl in
+-- a read in order picks of no stream
+pub reads_in_order : (read : ReadCall) (id : ℕ) → read.ordered ≡ true → not ((read.id == id) && not read.ordered) && true ≡ true
+reads_in_order read id o = rw o (both_ways (read.id == id))
+  where
+    both_ways : (b : Bool) → not (b && false) && true ≡ true
+    both_ways true = refl
+    both_ways false = refl
+
+pub changed_prefix : (read : ReadCall) → read.id ≡ 0 → read.ordered ≡ true → OrderedPrefix (run_with read changed_byte) → ⊥
+changed_prefix read e o h =
+    let p = h Server 0 8 refl (reads_in_order read 0 o) in
     let whole : hellp ++ p.0 ≡ hello = ap (λ (ns : List Next). bytes_of (chunks_of ns) ++ p.0) (sym (nexts_of read (Ok 5) (Ok tt) changed_nexts e)) ∙ p.1 in
     let fifth : ◌≡◌ {A = ℕ} 112 111 = ap (λ (xs : List ℕ). slice_index xs 4) whole in
     omega arith
@@ -49,9 +57,9 @@ changed_slice read e h =
     let fifth : ◌≡◌ {A = ℕ} 111 112 = ap (λ (xs : List ℕ). slice_index xs 4) slice in
     omega arith
 
-pub repeated_prefix : (read : ReadCall) → read.id ≡ 0 → OrderedPrefix (run_with read repeated_bytes) → ⊥
-repeated_prefix read e h =
-    let p = h Server 0 8 refl in
+pub repeated_prefix : (read : ReadCall) → read.id ≡ 0 → read.ordered ≡ true → OrderedPrefix (run_with read repeated_bytes) → ⊥
+repeated_prefix read e o h =
+    let p = h Server 0 8 refl (reads_in_order read 0 o) in
     let whole : (hello ++ hello) ++ p.0 ≡ hello = ap (λ (ns : List Next). bytes_of (chunks_of ns) ++ p.0) (sym (nexts_of read (Ok 5) (Ok tt) repeated_nexts e)) ∙ p.1 in
     cc
 
@@ -62,17 +70,16 @@ repeated_once read e h =
     let again : true ≡ false = distinct.0.1.1.1.1.0 in
     cc
 
-pub unwritten_prefix : (read : ReadCall) → read.id ≡ 0 → OrderedPrefix (run_with read unwritten_byte) → ⊥
-unwritten_prefix read e h =
-    let p = h Server 0 8 refl in
+pub unwritten_prefix : (read : ReadCall) → read.id ≡ 0 → read.ordered ≡ true → OrderedPrefix (run_with read unwritten_byte) → ⊥
+unwritten_prefix read e o h =
+    let p = h Server 0 8 refl (reads_in_order read 0 o) in
     let whole : hello ++ p.0 ≡ 104 ∷ 101 ∷ 108 ∷ 108 ∷ [] = ap (λ (ns : List Next). bytes_of (chunks_of ns) ++ p.0) (sym (nexts_of read (Ok 4) (Ok tt) all_nexts e)) ∙ p.1 in
     cc
 
 pub early_last : (read : ReadCall) → read.id ≡ 0 → EndAfterAll (run_with read early_end) → ⊥
 early_last read e h =
     let p = h Server 0 8 [] (Ok None ∷ []) refl (nexts_of read (Ok 5) (Ok tt) early_nexts e) in
-    let none : [] ≡ hello = p.1 in
-    cc
+    p.1 0 (omega arith)
 
 pub unwritten_last : (read : ReadCall) → read.id ≡ 0 → EndAfterAll (run_with read unwritten_end) → ⊥
 unwritten_last read e h =
@@ -90,9 +97,14 @@ took_blocked read = refl
 first_arrived : (id : ℕ) → id ≡ 0 → HasArrived (hello_packet ∷ []) id 0
 first_arrived id e = record { frame = hello_frame; taken = frame_taken; of_stream = sym e; from = omega arith; below = omega arith }
 
+-- where nothing was read, and nothing is to be given, the first byte hasn't come, whatever the order
+gives_first : (ordered : Bool) (packets : List Packet) (id : ℕ) → NoneToGive ordered packets id [] → HasArrived packets id 0 → ⊥
+gives_first true packets id none a = none a
+gives_first false packets id none a = none 0 a
+
 pub blocked_blocks : (read : ReadCall) → read.id ≡ 0 → BlockedOnlyWithoutBytes (run_with read blocked_read) → ⊥
 blocked_blocks read e h =
-    (h Server 7 read [] [] refl (record { event = refl; answer = refl })).0 (subst (λ (ps : List Packet). HasArrived ps read.id 0) (sym (took_blocked read)) (first_arrived read.id e))
+    gives_first read.ordered (took (run_with read blocked_read) Server 7) read.id (h Server 7 read [] [] refl (record { event = refl; answer = refl })).0 (subst (λ (ps : List Packet). HasArrived ps read.id 0) (sym (took_blocked read)) (first_arrived read.id e))
 
 pub took_once : (read : ReadCall) → took (run_with read taken_twice) Server 8 ≡ hello_packet ∷ []
 unfolding once_taken
@@ -102,10 +114,14 @@ took_unaccepted : (read : ReadCall) → took (run_with read never_accepted) Serv
 unfolding once_taken
 took_unaccepted read = refl
 
+-- its frame opens stream 0
+pub hello_named : WasNamed (hello_packet ∷ []) 0
+hello_named = record { packet = hello_packet; was_taken = inl refl; frame = stream hello_frame; carried = inl refl; opens = refl }
+
 pub never_accepts : (read : ReadCall) → AcceptsAll (run_with read never_accepted) → ⊥
 never_accepts read h =
-    let taken : WasTaken (took (run_with read never_accepted) Server 6) hello_frame = subst (λ (ps : List Packet). WasTaken ps hello_frame) (sym (took_unaccepted read)) frame_taken in
-    h Server 6 Bi hello_frame 0 0 refl (record { event = refl; answer = refl }) taken refl (omega arith)
+    let named : WasNamed (took (run_with read never_accepted) Server 6) 0 = subst (λ (ps : List Packet). WasNamed ps 0) (sym (took_unaccepted read)) hello_named in
+    h Server 6 Bi 0 0 refl (record { event = refl; answer = refl }) named (omega arith)
 
 -- the one event of the run tells that the stream ended, of which nothing came
 pub finishes_early : FinishedMeansArrived early_finish → ⊥
@@ -151,7 +167,7 @@ told_acked read = refl
 pub tells_never : (read : ReadCall) → FinishedIsTold (asked_run read (answers.Event None ∷ [])) → ⊥
 tells_never read h =
     let r : Run = asked_run read (answers.Event None ∷ []) in
-    let all : IsAcknowledged r Client 0 8 = subst (λ (sents : List Sent). AllHeld sents 0 (until r Client 8)) (sym (asked_acked read)) (all_held (until r Client 8) refl refl) in
+    let all : IsAcknowledged r Client 0 8 = (subst (λ (sents : List Sent). AllHeld sents 0 (until r Client 8)) (sym (asked_acked read)) (all_held (until r Client 8) refl refl), refl) in
     let once : ◌≡◌ {A = ℕ} 0 1 = ((h Client 0 8 refl).1 refl (record { event = refl; answer = refl })).0 all in
     omega arith
 
@@ -159,7 +175,7 @@ tells_never read h =
 pub told_exactly : (read : ReadCall) → ToldOnce (asked_run read (tells_finished ∷ answers.Event None ∷ [])) Client 0 9
 told_exactly read =
     let r : Run = asked_run read (tells_finished ∷ answers.Event None ∷ []) in
-    let all : IsAcknowledged r Client 0 9 = subst (λ (sents : List Sent). AllHeld sents 0 (until r Client 9)) (sym (told_acked read)) (all_held (until r Client 9) refl refl) in
+    let all : IsAcknowledged r Client 0 9 = (subst (λ (sents : List Sent). AllHeld sents 0 (until r Client 9)) (sym (told_acked read)) (all_held (until r Client 9) refl refl), refl) in
     (λ held. refl, λ none. absurd (none all))
 
 -- ---- acknowledgements

@@ -1,11 +1,11 @@
 -- The reference machine runs none of the broken runs.
-use Rattle.std.proofs.Common.{◌≡◌, ℕ, List, [], ◌∷◌, ◌⊎◌, Option, Some, None, Result, Ok, Err, false, refl, sym, ◌∙◌, ◌++◌, inl, inr, ap, subst, arith}
+use Rattle.std.proofs.Common.{◌≡◌, ℕ, List, [], ◌∷◌, ◌⊎◌, Option, Some, None, Result, Ok, Err, Bool, true, false, refl, sym, ◌∙◌, ◌++◌, inl, inr, ap, subst, arith}
 use Rattle.std.specs.Prelude.{slice_index}
 use Rattle.quic_wire_core.specs.StreamId.{other_side}
 use Rattle.quic_assembler.specs.declared.assembler.Chunk.{Chunk}
-use Rattle.quic_streams.specs.declared.answers.ReadError.{ReadError}
-use Rattle.quic_streams.specs.declared.answers.ReadError.TheVariants as read_errors
-use Rattle.quic_streams.specs.declared.answers.FinishError.TheVariants as finish_errors
+use Rattle.quic_streams_parts.specs.declared.answers.ReadError.{ReadError}
+use Rattle.quic_streams_parts.specs.declared.answers.ReadError.TheVariants as read_errors
+use Rattle.quic_streams_parts.specs.declared.answers.FinishError.TheVariants as finish_errors
 use Rattle.quic_machine.specs.declared.answers.Received.TheVariants as receives
 use Rattle.quic_machine.specs.declared.answers.DropReason.TheVariants as drops
 use Rattle.quic_machine.specs.declared.run.ReadCall.{ReadCall}
@@ -13,11 +13,14 @@ use Rattle.quic_machine.specs.declared.run.RunEvent.{RunEvent}
 use Rattle.quic_machine.specs.declared.run.Answer.{Answer}
 use Rattle.quic_machine.specs.declared.run.Answer.TheVariants as answers
 use Rattle.quic_machine.specs.declared.run.View.{View}
+use Rattle.quic_streams_state.specs.declared.state.StreamsState.{StreamsState}
 use Rattle.quic_machine.specs.Calls.{end_tells}
-use Rattle.quic_machine.specs.Machine.{IsAnswer, IsRead, IsStep, Follows, World, policy_at, end_at, given_by, fails}
+use Rattle.quic_machine.specs.StreamCalls.{IsRead}
+use Rattle.quic_machine.specs.Machine.{IsAnswer, IsStep, Follows, World, policy_at, end_at, given_by, fails}
+use Rattle.quic_headline.specs.Runs.{Next}
 use Rattle.quic_headline.specs.Headline.{LossTimersFollow, AckTimersFollow}
 use Rattle.quic_worked.specs.Acknowledged.{client_acked}
-use Rattle.quic_worked.specs.Worked.{once_opened, once_written, writes_hello, finishes_stream, ReadsBy, two_chunks, reads_stream, run_with, NextAnswers, gives_chunk, delivers, accepts_stream, sending_events, sending_answers, started, once_sent, once_taken, once_accepted, hello, worked_policies, worked_events}
+use Rattle.quic_worked.specs.Worked.{once_opened, once_written, writes_hello, finishes_stream, ReadsAs, ReadsBy, two_chunks, reads_stream, run_with, NextAnswers, gives_chunk, delivers, accepts_stream, sending_events, sending_answers, started, once_sent, once_taken, once_accepted, hello, worked_policies, worked_events}
 use Rattle.quic_worked.specs.Broken.{sent_alone, NeverAnswers, IsNoRun, NeverLeads, answers_with, duplicate, hellp, changed_nexts, repeated_nexts, early_nexts, changed_byte, repeated_bytes, unwritten_byte, early_end, unwritten_end, taken_twice, never_taken, blocked_read, never_accepted, early_finish, all_acked, all_told, asks_event, tells_finished, told_twice, never_told, early_acknowledgement, never_timed, still_timed}
 use Rattle.quic_worked.specs.Reordered.{blocked_nexts}
 use Rattle.quic_machine.specs.RunLaws.{one_world}
@@ -70,15 +73,27 @@ pub behind_accepted : {events : List RunEvent} {told : List Answer} → NeverAns
     (answers.Deliver receives.Taken ∷ answers.Deliver duplicate ∷ answers.Accept (Some 0) ∷ told)
 behind_accepted not_so = behind refl takes (behind refl drops_duplicate (behind refl accepts not_so))
 
+-- what a read of a stream in an order and by bounds is answered
+pub read_of : (s : StreamsState) (id : ℕ) (ordered : Bool) (mosts : List ℕ) (a : Answer) (read : ReadCall) → ReadsAs id ordered mosts read
+    → IsRead s read.id read.ordered read.nexts.items a → IsRead s id ordered mosts a
+read_of s id ordered mosts a read by h =
+    let of_stream : IsRead s id read.ordered read.nexts.items a = subst (λ (n : ℕ). IsRead s n read.ordered read.nexts.items a) by.id h in
+    let in_order : IsRead s id ordered read.nexts.items a = subst (λ (b : Bool). IsRead s id b read.nexts.items a) by.ordered of_stream in
+    subst (λ (ms : List ℕ). IsRead s id ordered ms a) by.bounds in_order
+
+-- a `next` is neither what the streams answer, which is this, nor lacks memory
+pub not_next : (wrong answer right : Next) → answer ≡ right → (wrong ≡ right → ⊥) → (wrong ≡ Err read_errors.Memory → ⊥) → (wrong ≡ answer) ⊎ (wrong ≡ Err read_errors.Memory) → ⊥
+not_next wrong answer right is other served (inl e) = other (e ∙ is)
+not_next wrong answer right is other served (inr e) = served e
+
 -- a read of two chunks isn't answered so
-unread : (nexts : NextAnswers) → (IsRead once_accepted.server 0 two_chunks (answers.Read (Ok nexts)) → ⊥)
+unread : (nexts : NextAnswers) → (IsRead once_accepted.server.streams 0 true two_chunks (answers.Read (Ok nexts)) → ⊥)
     → (read : ReadCall) → ReadsBy two_chunks read → IsRefused once_accepted (reads_stream read) (answers.Read (Ok nexts))
 unread nexts not_so read by h =
-    let of_first = subst (λ (n : ℕ). IsRead once_accepted.server n read.nexts.items (answers.Read (Ok nexts))) by.id h in
-    not_so (subst (λ (ms : List ℕ). IsRead once_accepted.server 0 ms (answers.Read (Ok nexts))) by.bounds of_first)
+    not_so (read_of once_accepted.server.streams 0 true two_chunks (answers.Read (Ok nexts)) read by h)
 
 -- so no worked run reads so
-pub never_reads : (nexts : NextAnswers) → (IsRead once_accepted.server 0 two_chunks (answers.Read (Ok nexts)) → ⊥)
+pub never_reads : (nexts : NextAnswers) → (IsRead once_accepted.server.streams 0 true two_chunks (answers.Read (Ok nexts)) → ⊥)
     → (read : ReadCall) → ReadsBy two_chunks read
     → NeverAnswers started (worked_events read) (answers_with (Ok 5) (Ok tt) receives.Taken duplicate (Some 0) nexts)
 never_reads nexts not_so read by = behind_sent (behind_accepted (stops _ _ _ _ _ (unread nexts not_so read by)))
@@ -95,19 +110,19 @@ pub other_chunk : (gives_chunk hellp ≡ gives_chunk hello) ⊎ (gives_chunk hel
 other_chunk (inl e) = let fifth : ◌≡◌ {A = ℕ} 112 111 = ap fifth_byte e in omega arith
 other_chunk (inr e) = cc
 
-changed_no : IsRead once_accepted.server 0 two_chunks (answers.Read (Ok changed_nexts)) → ⊥
+changed_no : IsRead once_accepted.server.streams 0 true two_chunks (answers.Read (Ok changed_nexts)) → ⊥
 unfolding once_taken
 changed_no h = other_chunk h.1.0
 
-repeated_no : IsRead once_accepted.server 0 two_chunks (answers.Read (Ok repeated_nexts)) → ⊥
+repeated_no : IsRead once_accepted.server.streams 0 true two_chunks (answers.Read (Ok repeated_nexts)) → ⊥
 unfolding once_taken
 repeated_no h = elim (h.1.1.0) [ inl e ↦ cc | inr e ↦ cc ]
 
-early_no : IsRead once_accepted.server 0 two_chunks (answers.Read (Ok early_nexts)) → ⊥
+early_no : IsRead once_accepted.server.streams 0 true two_chunks (answers.Read (Ok early_nexts)) → ⊥
 unfolding once_taken
 early_no h = elim (h.1.0) [ inl e ↦ cc | inr e ↦ cc ]
 
-blocked_no : IsRead once_accepted.server 0 two_chunks (answers.Read (Ok blocked_nexts)) → ⊥
+blocked_no : IsRead once_accepted.server.streams 0 true two_chunks (answers.Read (Ok blocked_nexts)) → ⊥
 unfolding once_taken
 blocked_no h = elim (h.1.0) [ inl e ↦ cc | inr e ↦ cc ]
 
@@ -130,7 +145,8 @@ twice_no (inl e) = cc
 twice_no (inr e) = cc
 
 closed_no : IsRefused once_written finishes_stream (answers.Finish (Err finish_errors.ClosedStream))
-closed_no e = cc
+closed_no (inl e) = cc
+closed_no (inr e) = cc
 
 -- ---- the runs
 

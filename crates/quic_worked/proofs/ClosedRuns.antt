@@ -26,7 +26,6 @@ use Rattle.quic_worked.specs.Broken.{IsNoRun}
 use Rattle.quic_worked.specs.Closed.{closed_view, below_limits, early_pieces, early_limit}
 use Rattle.quic_worked.proofs.BrokenRuns.{IsRefused, behind, behind_sent, stops}
 use Rattle.quic_worked.proofs.WorkedRun as worked
-use Rattle.quic_headline.proofs.Causes.Step.{none_behind}
 
 -- ---- bytes below the limits that are refused
 
@@ -161,6 +160,11 @@ one_run packet frames h = go h.starts h.distinct h.begins h.more
         let apart : eqb a b ≡ false = distinct.0.0 in
         let clash : eqb 0 0 ≡ false = sym (ap (λ (n : ℕ). eqb n b) first ∙ ap (λ (n : ℕ). eqb 0 n) second) ∙ apart in
         cc
+
+-- no call stands in no list
+none_behind : (before behind : List Told) (call : Told) → [] ≡ before ++ call ∷ behind → ⊥
+none_behind [] behind call is = cc
+none_behind (t ∷ before) behind call is = cc
 
 -- a list of one is not split but at it
 one_told : (before behind : List Told) (t call : Told) → t ∷ [] ≡ before ++ call ∷ behind → (before ≡ []) × (call ≡ t)

@@ -4,7 +4,7 @@ use Rattle.std.proofs.Common.{take, ◌≡◌, [], ◌∷◌, true, refl, ap, �
 use Rattle.quic_wire_core.specs.declared.stream_id.Side.TheVariants.{Client, Server}
 use Rattle.quic_machine.specs.declared.answers.State.TheVariants as states
 use Rattle.quic_machine.specs.declared.run.ReadCall.{ReadCall}
-use Rattle.quic_streams.specs.Table.{Table}
+use Rattle.quic_streams_parts.specs.Table.{Table}
 use Rattle.quic_machine.specs.Tracking.{TrackedPacket}
 use Rattle.quic_machine.specs.Machine.{World, Follows}
 use Rattle.quic_headline.specs.Runs.{HasArrived}
@@ -66,7 +66,7 @@ nowhere read (inr (inr a)) = a.taken.was_taken
 
 -- the client wrote five bytes, of which none waits, is under way or came
 pub loses : (read : ReadCall) → DutiesAt (sending_run read) 4 forgotten → ⊥
-loses read stands = nowhere read (stands Client (Offset 0 0) (omega arith))
+loses read stands = nowhere read (stands Client (Offset 0 0) (refl, omega arith))
 
 -- the machine gives the datagram, and waits for it
 sends : Follows worked_policies started sending_events sending_answers (take 4 worked_views) once_sent

@@ -1,3 +1,5 @@
+pub mod Codes
+pub mod Unread
 pub mod WorkedRun
 pub mod WorkedLacks
 pub mod ReorderedRun
@@ -15,4 +17,9 @@ pub mod LostRuns
 pub mod WrongAcks
 pub mod OwnIds
 pub mod Honest
+pub mod PairedRun
+mod PairedMachines
+mod PickedRun
+mod CreditRuns
+mod ChunkedRun
 mod TimedRun

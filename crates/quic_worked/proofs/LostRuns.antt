@@ -2,7 +2,7 @@
 use Rattle.std.proofs.Common.{◌≡◌, ℕ, List, [], ◌∷◌, ◌++◌, Ok, true, false, refl, inl, inr, ap, sym, ◌∙◌, subst, arith, length, drop, ◌⊎◌}
 use Rattle.quic_wire_core.specs.declared.stream_id.Side.TheVariants.{Client, Server}
 use Rattle.quic_wire.specs.Value.{StreamValue, stream, ping, padding}
-use Rattle.quic_streams.specs.Table.{Table}
+use Rattle.quic_streams_parts.specs.Table.{Table}
 use Rattle.quic_machine.specs.declared.answers.Received.TheVariants as receives
 use Rattle.quic_machine.specs.declared.answers.State.TheVariants as states
 use Rattle.quic_machine.specs.declared.run.RunEvent.{RunEvent}
@@ -206,7 +206,7 @@ gone (inr (inl g)) = nothing_carried g
 gone (inr (inr a)) = (let b : HasArrived (ping_packet ∷ []) 0 0 = subst (λ (ps : List Packet). HasArrived ps 0 0) took_last a in no_stream b.frame b.taken)
 
 pub good_duties : DutiesAt (losing_run [] []) 16 lost_for_good → ⊥
-good_duties stands = gone (stands Client (Offset 0 0) (omega arith))
+good_duties stands = gone (stands Client (Offset 0 0) (refl, omega arith))
 
 good_end : lost_for_good ≡ once_lost → ⊥
 good_end e = let clash : false ≡ true = sym good_due ∙ ap (λ (w : World). is_due w.client (Offset 0 0)) e ∙ again_due in cc

@@ -1,34 +1,35 @@
 -- The run in which the second datagram comes first, event by event.
-use Rattle.std.proofs.Common.{◌≡◌, ℕ, List, [], ◌∷◌, Option, Some, None, Ok, Err, refl, ap, inl, subst, sym}
+use Rattle.std.proofs.Common.{◌≡◌, List, [], ◌∷◌, ◌++◌, take, drop, Some, Ok, Err, true, refl, inl}
 use Rattle.quic_wire_core.specs.declared.stream_id.Side.TheVariants.{Server}
-use Rattle.quic_streams.specs.declared.answers.ReadError.TheVariants as read_errors
+use Rattle.quic_streams_parts.specs.declared.answers.ReadError.TheVariants as read_errors
 use Rattle.quic_machine.specs.declared.answers.Received.TheVariants as receives
 use Rattle.quic_machine.specs.declared.run.ReadCall.{ReadCall}
+use Rattle.quic_machine.specs.declared.run.RunEvent.{RunEvent}
+use Rattle.quic_machine.specs.declared.run.Answer.{Answer}
 use Rattle.quic_machine.specs.declared.run.Answer.TheVariants as answers
-use Rattle.quic_machine.specs.End.{End, with_receiving}
 use Rattle.quic_machine.specs.declared.run.View.{View}
-use Rattle.quic_streams.specs.Table.{at}
-use Rattle.quic_streams.specs.Receiving.{RecvHalf, Receiving, after_next}
-use Rattle.quic_machine.specs.Calls.{after_nexts}
-use Rattle.quic_machine.specs.Machine.{World, IsRead, IsStep, Follows, changed, view_of}
-use Rattle.quic_machine.specs.Lacking.{NextsLack}
-use Rattle.quic_worked.specs.Worked.{ReadsBy, once_taken, NextAnswers, worked_policies, started, ran, opens_stream, asks_datagram, accepts_stream, reads_stream, gives_bytes, open_view, sent_view, waiting_view}
+use Rattle.quic_machine.specs.Machine.{World, IsStep, Follows, changed, view_of}
+use Rattle.quic_worked.specs.Worked.{ReadsBy, once_taken, worked_policies, started, ran, opens_stream, asks_datagram, accepts_stream, gives_bytes, open_view, sent_view, waiting_view}
 use Rattle.quic_headline.specs.Observer.{took}
 use Rattle.quic_headline.specs.Headline.{IsRun}
-use Rattle.quic_worked.specs.Reordered.{abc, def, abc_datagram, def_datagram, writes_bytes, delivers_at, blocked_nexts, both_nexts, first_sent, second_written, both_sent, second_taken, second_accepted, both_taken, both_read, reordered_events, reordered_answers, reordered_views, reordered_packets, reordered_run}
+use Rattle.quic_worked.proofs.WorkedRun.{ReadsSo, reads_at}
+use Rattle.quic_worked.proofs.Codes.{no_codes}
+use Rattle.quic_worked.proofs.Unread.{stays}
+use Rattle.quic_worked.proofs.Unread as unread
+use Rattle.quic_worked.specs.Reordered.{abc, def, abc_datagram, def_datagram, writes_bytes, delivers_at, both_events, both_answers, blocked_nexts, both_nexts, first_sent, second_written, both_sent, second_taken, second_accepted, both_taken, both_read, reordered_events, reordered_answers, reordered_views, reordered_packets, reordered_run}
 
 -- ---- the events
 
 -- the stream is open
 abbrev pub opened : World
-opened = ran worked_policies started (opens_stream ∷ []) (answers.Open (Ok (Some 0)) ∷ [])
+opened = ran worked_policies started (opens_stream ∷ []) (answers.Open (Some 0) ∷ [])
 
 -- the first bytes are written
 abbrev pub first_written : World
 first_written = ran worked_policies opened (writes_bytes abc ∷ []) (answers.Write (Ok 3) ∷ [])
 
-pub opens : IsStep worked_policies started opens_stream (answers.Open (Ok (Some 0))) opened
-opens = record { answer = inl refl; end = refl; others = refl; lacking = tt }
+pub opens : IsStep worked_policies started opens_stream (answers.Open (Some 0)) opened
+opens = record { answer = refl; end = refl; others = refl; lacking = tt }
 
 pub writes_abc : IsStep worked_policies opened (writes_bytes abc) (answers.Write (Ok 3)) first_written
 writes_abc = record { answer = inl refl; end = refl; others = refl; lacking = λ lacks. cc }
@@ -45,11 +46,11 @@ pub gives_def : IsStep worked_policies second_written asks_datagram (gives_bytes
 unfolding both_sent
 gives_def = record { answer = inl refl; end = refl; others = refl; lacking = tt }
 
-takes_def : IsStep worked_policies both_sent (delivers_at 1) (answers.Deliver receives.Taken) second_taken
+pub takes_def : IsStep worked_policies both_sent (delivers_at 1) (answers.Deliver receives.Taken) second_taken
 unfolding second_taken
 takes_def = record { answer = inl refl; end = refl; others = refl; lacking = tt }
 
-accepts : IsStep worked_policies second_taken accepts_stream (answers.Accept (Some 0)) second_accepted
+pub accepts : IsStep worked_policies second_taken accepts_stream (answers.Accept (Some 0)) second_accepted
 unfolding second_taken
 accepts = record { answer = refl; end = refl; others = refl; lacking = tt }
 
@@ -59,38 +60,28 @@ takes_abc = record { answer = inl refl; end = refl; others = refl; lacking = tt 
 
 -- ---- the reads
 
--- a read at the server of this stream, by these bounds, is answered so, and leaves both ends so
-record ReadsSo (w : World) (id : ℕ) (mosts : List ℕ) (nexts : NextAnswers) (next : World) : Type 0 where
-  answer : IsRead w.server id mosts (answers.Read (Ok nexts))
-  lacking : NextsLack w.server id mosts nexts
-  end : next.server ≡ after_nexts w.server id mosts nexts
-  others : next ≡ changed Server w next.server []
-
--- it is a step
-step_of : (w : World) (read : ReadCall) (mosts : List ℕ) (nexts : NextAnswers) (next : World) → ReadsBy mosts read
-    → ReadsSo w 0 mosts nexts next → IsStep worked_policies w (reads_stream read) (answers.Read (Ok nexts)) next
-step_of w read mosts nexts next by so =
-    let by_mosts : ReadsSo w 0 read.nexts.items nexts next = subst (λ ms. ReadsSo w 0 ms nexts next) (sym by.bounds) so in
-    let all : ReadsSo w read.id read.nexts.items nexts next = subst (λ n. ReadsSo w n read.nexts.items nexts next) (sym by.id) by_mosts in
-    record { answer = all.answer; end = all.end; others = all.others; lacking = all.lacking }
-
--- a `next` that gives nothing leaves all
-stays : (half : Option RecvHalf) (r : Receiving) (id most : ℕ) → r ≡ after_next (Err read_errors.Blocked) half r id most
-stays None r id most = refl
-stays (Some h) r id most = refl
-
-unread : (e : End) (id most : ℕ) → e ≡ after_nexts e id (most ∷ []) blocked_nexts
-unread e id most = ap (λ (r : Receiving). with_receiving e r) (stays (at e.receiving.halves id) e.receiving id most)
+-- no limit grew
+nothing_grew : unread.NothingGrew second_accepted.server.streams 0
+unfolding second_taken
+nothing_grew = record { bytes = refl; two_way = refl; one_way = refl; stream = refl }
 
 -- nothing is given before the first bytes come
-blocked : ReadsSo second_accepted 0 (32 ∷ []) blocked_nexts second_accepted
+blocked : ReadsSo second_accepted.server 0 true (32 ∷ []) blocked_nexts second_accepted.server
 unfolding second_taken
-blocked = record { answer = (refl, (inl refl, tt)); lacking = (λ lacks. cc, tt); end = unread _ 0 32; others = refl }
+blocked = record { answer = (refl, (inl refl, tt)); lacking = (λ lacks. cc, tt); end = stays second_accepted.server 0 32 (Err read_errors.Blocked) (λ o s. unread.blocked o s 0 32) nothing_grew }
+
+blocks_only : second_accepted ≡ changed Server second_accepted second_accepted.server []
+unfolding second_taken
+blocks_only = refl
 
 -- then all is given in order
-gives_all : ReadsSo both_taken 0 (32 ∷ 32 ∷ 32 ∷ []) both_nexts both_read
+gives_all : ReadsSo both_taken.server 0 true (32 ∷ 32 ∷ 32 ∷ []) both_nexts both_read.server
 unfolding both_taken
-gives_all = record { answer = (refl, (inl refl, (inl refl, (inl refl, tt)))); lacking = (λ lacks. cc, (λ lacks. cc, (λ lacks. cc, tt))); end = refl; others = refl }
+gives_all = record { answer = (refl, (inl refl, (inl refl, (inl refl, tt)))); lacking = (λ lacks. cc, (λ lacks. cc, (λ lacks. cc, tt))); end = refl }
+
+reads_only : both_read ≡ changed Server both_taken both_read.server []
+unfolding both_taken
+reads_only = refl
 
 -- ---- what is seen
 
@@ -132,12 +123,20 @@ sees_read = refl
 
 -- ---- the run
 
-abbrev Leaves : ReadCall → ReadCall → World → Type 0
-Leaves first second end = Follows worked_policies started (reordered_events first second) reordered_answers reordered_views end
+-- the events until the stream is accepted, their answers, and what is seen
+abbrev pub front_events : List RunEvent
+front_events = both_events ++ delivers_at 1 ∷ accepts_stream ∷ []
 
-follows : (first second : ReadCall) → ReadsBy (32 ∷ []) first → ReadsBy (32 ∷ 32 ∷ 32 ∷ []) second
-    → Leaves first second both_read
-follows first second one three = (
+abbrev pub front_answers : List Answer
+front_answers = both_answers ++ answers.Deliver receives.Taken ∷ answers.Accept (Some 0) ∷ []
+
+abbrev pub front_views : List View
+front_views = take 7 reordered_views
+
+-- what the machine does behind them
+pub until_accepted : (events : List RunEvent) (told : List Answer) (views : List View) (end : World)
+    → Follows worked_policies second_accepted events told views end → Follows worked_policies started (front_events ++ events) (front_answers ++ told) (front_views ++ views) end
+until_accepted events told views end rest = (
   opened,
   opens,
   refl,
@@ -153,30 +152,19 @@ follows first second one three = (
         second_written,
         writes_def,
         sees_second,
-        (
-          both_sent,
-          gives_def,
-          sees_both,
-          (
-            second_taken,
-            takes_def,
-            sees_taken,
-            (
-              second_accepted,
-              accepts,
-              sees_accepted,
-              (
-                second_accepted,
-                step_of _ first _ _ _ one blocked,
-                sees_accepted,
-                (both_taken, takes_abc, sees_all, (both_read, step_of _ second _ _ _ three gives_all, sees_read, refl)),
-              ),
-            ),
-          ),
-        ),
+        (both_sent, gives_def, sees_both, (second_taken, takes_def, sees_taken, (second_accepted, accepts, sees_accepted, rest))),
       ),
     ),
   ),
+)
+
+follows : (first second : ReadCall) → ReadsBy (32 ∷ []) first → ReadsBy (32 ∷ 32 ∷ 32 ∷ []) second
+    → Follows worked_policies started (reordered_events first second) reordered_answers reordered_views both_read
+follows first second one three = until_accepted (drop 7 (reordered_events first second)) (drop 7 reordered_answers) (drop 7 reordered_views) both_read (
+  second_accepted,
+  reads_at second_accepted second_accepted 0 true (32 ∷ []) blocked_nexts blocked blocks_only first one,
+  sees_accepted,
+  (both_taken, takes_abc, sees_all, (both_read, reads_at both_taken both_read 0 true (32 ∷ 32 ∷ 32 ∷ []) both_nexts gives_all reads_only second three, sees_read, refl)),
 )
 
 -- the client gave both datagrams, and the server none
@@ -190,7 +178,7 @@ gave_none = refl
 
 pub is_run : (first second : ReadCall) → ReadsBy (32 ∷ []) first → ReadsBy (32 ∷ 32 ∷ 32 ∷ []) second
     → IsRun (reordered_run first second) both_read
-is_run first second one three = record { follows = follows first second one three; from_client = gave_both; from_server = gave_none }
+is_run first second one three = record { codes = no_codes (reordered_run first second).events refl; follows = follows first second one three; from_client = gave_both; from_server = gave_none }
 
 -- ---- what came
 

@@ -3,19 +3,19 @@ use Rattle.std.proofs.Common.{◌≡◌, ℕ, zero, suc, ◌+◌, ◌-◌, ◌^�
 use Rattle.std.specs.Prelude.{slice_get}
 use Rattle.quic_wire_core.specs.declared.stream_id.Side.{Side}
 use Rattle.quic_wire_core.specs.declared.stream_id.Side.TheVariants.{Client, Server}
-use Rattle.quic_machine.specs.declared.answers.State.TheVariants as states
 use Rattle.quic_machine.specs.declared.answers.Received.TheVariants as receives
 use Rattle.quic_machine.specs.declared.run.Answer.TheVariants as answers
 use Rattle.quic_machine.specs.declared.run.View.{View}
-use Rattle.quic_machine.specs.Machine.{World, IsStep, Follows, view_of}
+use Rattle.quic_machine.specs.Machine.{IsStep, Follows, view_of}
 use Rattle.quic_machine.specs.RunLaws.{one_run}
 use Rattle.quic_headline.specs.Runs.{In}
 use Rattle.quic_headline.specs.Headline.{IsRun}
 use Rattle.quic_headline.specs.Moments.{loss_timer, loss_due, pace, LossMoments, ack_timer, debt, IsDueFor, AckMoments}
-use Rattle.quic_worked.specs.Worked.{worked_policies, started, once_opened, once_written, once_ended, once_sent, once_taken, gives_bytes}
+use Rattle.quic_worked.specs.Worked.{worked_policies, once_opened, once_written, once_ended, once_sent, gives_bytes}
 use Rattle.quic_worked.specs.Acknowledged.{client_acked}
-use Rattle.quic_worked.specs.Timed.{serves, asks_at, comes_at, once_later, seen_with, views_with, timed_run, never_backs_off, never_resets, waits_twice, NeverShows}
+use Rattle.quic_worked.specs.Timed.{serves, asks_at, comes_at, once_later, seen_with, timed_run, never_backs_off, never_resets, waits_twice, NeverShows}
 use Rattle.quic_worked.proofs.WorkedRun.{opens, writes, finishes, gives, sent_seen}
+use Rattle.quic_worked.proofs.Codes.{no_codes}
 
 -- ---- the machine's run
 
@@ -114,7 +114,7 @@ unfolding once_later
 gave_one = refl
 
 pub timed_is_run : IsRun timed_run (once_later 6)
-timed_is_run = record { follows = follows; from_client = gave_both; from_server = gave_one }
+timed_is_run = record { codes = no_codes timed_run.events refl; follows = follows; from_client = gave_both; from_server = gave_one }
 
 -- ---- what is reckoned
 

@@ -11,6 +11,7 @@ use Rattle.quic_headline.specs.Headline.{UsesOwnIds, used, IsHonest, IsRun}
 use Rattle.quic_worked.specs.Worked.{ReadsBy, two_chunks, worked_parameters, client_id, server_id, started, once_read, opens_stream, writes_hello, finishes_stream, asks_datagram, delivers, accepts_stream, reads_stream, worked_run}
 use Rattle.quic_worked.proofs.WorkedRun.{parameters_say, client_is_made, server_is_made, follows, gave_hello, gave_none}
 use Rattle.quic_worked.proofs.WorkedKeys.{are_keys}
+use Rattle.quic_worked.proofs.Codes.{no_codes}
 
 -- an end with default settings and this id, at moment 0 on a validated path
 abbrev making : List ℕ → Making
@@ -36,10 +37,10 @@ abbrev IsOwn : ReadCall → Side → ℕ → ℕ → Type 0
 IsOwn read side i id = In id (ids_of (until (worked_run read) side i))
 
 -- an event that stands at a place is its side and its call
-side_of : (e f : RunEvent) → Some e ≡ Some f → e.side ≡ f.side
+pub side_of : (e f : RunEvent) → Some e ≡ Some f → e.side ≡ f.side
 side_of e f q = let same : e ≡ f = cc in ap (λ (x : RunEvent). x.side) same
 
-call_of : (e f : RunEvent) → Some e ≡ Some f → e.call ≡ f.call
+pub call_of : (e f : RunEvent) → Some e ≡ Some f → e.call ≡ f.call
 call_of e f q = let same : e ≡ f = cc in ap (λ (x : RunEvent). x.call) same
 
 -- what the call of an event uses
@@ -77,4 +78,4 @@ pub is_honest : (read : ReadCall) → read.id ≡ 0 → IsHonest (worked_run rea
 is_honest read z = record { start = are_started; keys = are_keys; ids = own_ids read z }
 
 pub is_run : (read : ReadCall) → ReadsBy two_chunks read → IsRun (worked_run read) once_read
-is_run read by = record { follows = follows read by; from_client = gave_hello; from_server = gave_none }
+is_run read by = record { codes = no_codes (worked_run read).events refl; follows = follows read by; from_client = gave_hello; from_server = gave_none }

@@ -1,5 +1,5 @@
 -- The worked run, event by event: what each is answered, and what it leaves.
-use Rattle.std.proofs.Common.{◌≡◌, ◌<◌, ℕ, List, [], ◌∷◌, Some, Ok, true, false, refl, inl, subst, sym, lit<, arith}
+use Rattle.std.proofs.Common.{◌≡◌, ◌<◌, ℕ, List, [], ◌∷◌, Some, Ok, Bool, true, false, refl, inl, subst, sym, lit<, arith}
 use Rattle.quic_wire_core.specs.declared.stream_id.Side.TheVariants.{Client, Server}
 use Rattle.quic_wire.specs.Value.{stream}
 use Rattle.quic_wire.specs.Grammar.{Numbers, Payload}
@@ -9,14 +9,16 @@ use Rattle.quic_machine.specs.declared.answers.DropReason.TheVariants as drops
 use Rattle.quic_machine.specs.declared.run.ReadCall.{ReadCall}
 use Rattle.quic_machine.specs.declared.run.Answer.TheVariants as answers
 use Rattle.quic_config.specs.Transport.{default_settings, parameters_of}
-use Rattle.quic_machine.specs.End.{MadeFrom, IsMade}
-use Rattle.quic_machine.specs.Machine.{IsRead, IsStep, Follows, changed, view_of}
-use Rattle.quic_machine.specs.Calls.{after_nexts}
+use Rattle.quic_streams_state.specs.Reading.{told_bytes, after_read_begun}
+use Rattle.quic_machine.specs.End.{End, MadeFrom, IsMade, streams_at, with_streams}
+use Rattle.quic_machine.specs.Machine.{World, IsStep, Follows, changed, view_of}
+use Rattle.quic_machine.specs.StreamCalls.{IsRead}
+use Rattle.quic_machine.specs.Calls.{after_reads}
 use Rattle.quic_machine.specs.Lacking.{NextsLack}
 use Rattle.quic_machine.specs.Poll.{IsDatagram}
 use Rattle.quic_headline.specs.Runs.{Packet, WasTaken, HasArrived, EndHasArrived}
 use Rattle.quic_headline.specs.Observer.{took}
-use Rattle.quic_worked.specs.Worked.{ReadsBy, two_chunks, worked_parameters, client_id, server_id, client_made, server_made, started, once_opened, once_written, once_ended, once_sent, once_taken, once_accepted, once_read, hello_frame, hello_payload, hello_datagram, opens_stream, writes_hello, finishes_stream, asks_datagram, delivers, accepts_stream, reads_stream, all_nexts, gives_bytes, worked_policies, worked_events, worked_answers, open_view, sent_view, waiting_view, worked_views, worked_run}
+use Rattle.quic_worked.specs.Worked.{NextAnswers, ReadsAs, ReadsBy, two_chunks, worked_parameters, client_id, server_id, client_made, server_made, started, once_opened, once_written, once_ended, once_sent, once_taken, once_accepted, once_read, hello_frame, hello_payload, hello_datagram, opens_stream, writes_hello, finishes_stream, asks_datagram, delivers, accepts_stream, reads_stream, all_nexts, gives_bytes, worked_policies, worked_events, worked_answers, open_view, sent_view, waiting_view, worked_views, worked_run}
 
 pub parameters_say : parameters_at worked_parameters ≡ Ok (parameters_of default_settings)
 unfolding parameters_at judged values_met met_in met_within met_after whole_at entry_at
@@ -34,14 +36,14 @@ server_is_made =
     subst (λ read. IsMade Server default_settings read server_id client_id 0 true server_made)
     (sym parameters_say) refl
 
-pub opens : IsStep worked_policies started opens_stream (answers.Open (Ok (Some 0))) once_opened
-opens = record { answer = inl refl; end = refl; others = refl; lacking = tt }
+pub opens : IsStep worked_policies started opens_stream (answers.Open (Some 0)) once_opened
+opens = record { answer = refl; end = refl; others = refl; lacking = tt }
 
 pub writes : IsStep worked_policies once_opened writes_hello (answers.Write (Ok 5)) once_written
 writes = record { answer = inl refl; end = refl; others = refl; lacking = λ lacks. cc }
 
 pub finishes : IsStep worked_policies once_written finishes_stream (answers.Finish (Ok tt)) once_ended
-finishes = record { answer = refl; end = refl; others = refl; lacking = tt }
+finishes = record { answer = inl refl; end = refl; others = refl; lacking = λ lacks. cc }
 
 pub gives : IsStep worked_policies once_ended asks_datagram (gives_bytes 34) once_sent
 unfolding once_sent
@@ -60,20 +62,30 @@ pub accepts : IsStep worked_policies once_taken accepts_stream (answers.Accept (
 unfolding once_taken
 accepts = record { answer = refl; end = refl; others = refl; lacking = tt }
 
--- a read at the server of this stream, by these bounds, is answered so, and leaves all read
-record ReadsAll (id : ℕ) (mosts : List ℕ) : Type 0 where
-  answer : IsRead once_accepted.server id mosts (answers.Read (Ok all_nexts))
-  lacking : NextsLack once_accepted.server id mosts all_nexts
-  end : once_read.server ≡ after_nexts once_accepted.server id mosts all_nexts
+-- a read at one end of this stream, in order or not, by these bounds, is answered so, and leaves this end
+pub record ReadsSo (e : End) (id : ℕ) (ordered : Bool) (mosts : List ℕ) (nexts : NextAnswers) (next : End) : Type 0 where
+  pub answer : IsRead e.streams id ordered mosts (answers.Read (Ok nexts))
+  pub lacking : NextsLack told_bytes (after_read_begun e.streams id ordered) id mosts nexts
+  pub end : next ≡ with_streams e (after_reads (streams_at e) id ordered mosts nexts)
 
-reads_two : ReadsAll 0 two_chunks
+-- so it is of any read of that stream, in that order, by these bounds
+pub reads_by : (e : End) (id : ℕ) (ordered : Bool) (mosts : List ℕ) (nexts : NextAnswers) (next : End) → ReadsSo e id ordered mosts nexts next
+    → (read : ReadCall) → ReadsAs id ordered mosts read → ReadsSo e read.id read.ordered read.nexts.items nexts next
+reads_by e id ordered mosts nexts next so read by =
+    let by_mosts : ReadsSo e id ordered read.nexts.items nexts next = subst (λ (ms : List ℕ). ReadsSo e id ordered ms nexts next) (sym by.bounds) so in
+    let by_order : ReadsSo e id read.ordered read.nexts.items nexts next = subst (λ (b : Bool). ReadsSo e id b read.nexts.items nexts next) (sym by.ordered) by_mosts in
+    subst (λ (n : ℕ). ReadsSo e n read.ordered read.nexts.items nexts next) (sym by.id) by_order
+
+-- it is a step of the server, which gives no datagram
+pub reads_at : (w next : World) (id : ℕ) (ordered : Bool) (mosts : List ℕ) (nexts : NextAnswers) → ReadsSo w.server id ordered mosts nexts next.server → next ≡ changed Server w next.server []
+    → (read : ReadCall) → ReadsAs id ordered mosts read → IsStep worked_policies w (reads_stream read) (answers.Read (Ok nexts)) next
+reads_at w next id ordered mosts nexts so others read by =
+    let all = reads_by w.server id ordered mosts nexts next.server so read by in
+    record { answer = all.answer; end = all.end; others = others; lacking = all.lacking }
+
+reads_two : ReadsSo once_accepted.server 0 true two_chunks all_nexts once_read.server
 unfolding once_taken
 reads_two = record { answer = (refl, (inl refl, (inl refl, tt))); lacking = (λ lacks. cc, (λ lacks. cc, tt)); end = refl }
-
-reads_all : (read : ReadCall) → ReadsBy two_chunks read → ReadsAll read.id read.nexts.items
-reads_all read by =
-    let all = subst (λ ms. ReadsAll 0 ms) (sym by.bounds) reads_two in
-    subst (λ n. ReadsAll n read.nexts.items) (sym by.id) all
 
 -- a read gives no datagram
 reads_only : once_read ≡ changed Server once_accepted once_read.server []
@@ -82,9 +94,7 @@ reads_only = refl
 
 reads : (read : ReadCall) → ReadsBy two_chunks read
     → IsStep worked_policies once_accepted (reads_stream read) (answers.Read (Ok all_nexts)) once_read
-reads read by =
-    let all = reads_all read by in
-    record { answer = all.answer; end = all.end; others = reads_only; lacking = all.lacking }
+reads = reads_at once_accepted once_read 0 true two_chunks all_nexts reads_two reads_only
 
 -- what is seen once the datagram was given, and once it was taken
 pub sent_seen : record { client = sent_view; server = open_view } ≡ view_of once_sent

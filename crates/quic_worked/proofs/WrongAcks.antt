@@ -1,5 +1,5 @@
 -- Machines that go wrong where an acknowledgement is given or taken, where lost bytes go again, and where numbers fall.
-use Rattle.std.proofs.Common.{◌≡◌, ◌≤◌, ℕ, List, [], ◌∷◌, ◌++◌, Some, None, Ok, refl, inl, inr, ap, sym, ◌∙◌, subst, arith, length}
+use Rattle.std.proofs.Common.{◌≡◌, ◌≤◌, ℕ, List, [], ◌∷◌, ◌++◌, Some, None, Ok, refl, inl, inr, ap, sym, true, ◌∙◌, subst, arith, length}
 use Rattle.std.specs.Prelude.{slice_index, ◌==◌, if◌then◌else◌}
 use Rattle.quic_wire_core.specs.declared.stream_id.Side.TheVariants.{Client, Server}
 use Rattle.quic_wire.specs.FrameTypes.{kind_of}
@@ -7,7 +7,7 @@ use Rattle.quic_wire.specs.AckReading.{ack_at, ranges_at, range_at, some_ecn_at}
 use Rattle.quic_wire.specs.Items.{frame_at, items_within, items}
 use Rattle.quic_wire.specs.Reading.{body_at}
 use Rattle.quic_wire.specs.Value.{FrameValue, AckValue, ack}
-use Rattle.quic_streams.specs.Table.{Table}
+use Rattle.quic_streams_parts.specs.Table.{Table}
 use Rattle.quic_machine.specs.declared.answers.Received.TheVariants as receives
 use Rattle.quic_machine.specs.declared.answers.State.TheVariants as states
 use Rattle.quic_machine.specs.declared.run.RunEvent.{RunEvent}
@@ -15,7 +15,8 @@ use Rattle.quic_machine.specs.declared.run.ReadCall.{ReadCall}
 use Rattle.quic_machine.specs.declared.run.Answer.{Answer}
 use Rattle.quic_machine.specs.declared.run.Answer.TheVariants as answers
 use Rattle.quic_machine.specs.Tracking.{TrackedPacket}
-use Rattle.quic_machine.specs.Machine.{World, IsRead, IsStep}
+use Rattle.quic_machine.specs.StreamCalls.{IsRead}
+use Rattle.quic_machine.specs.Machine.{World, IsStep}
 use Rattle.quic_headline.specs.Runs.{Packet, Next, In, IsTaken, until, nexts, chunks_of, bytes_of}
 use Rattle.quic_headline.specs.Observer.{took}
 use Rattle.quic_headline.specs.InFlight.{in_flight, TracksAt}
@@ -28,8 +29,8 @@ use Rattle.quic_worked.specs.Losses.{server_waits, server_polled, client_polled,
 use Rattle.quic_worked.specs.Machines.{NeverGives}
 use Rattle.quic_worked.proofs.WorkedNumber.{only_number}
 use Rattle.quic_worked.proofs.WorkedRun.{takes, hello_packet}
-use Rattle.quic_worked.proofs.BrokenClauses.{repeats}
-use Rattle.quic_worked.proofs.BrokenRuns.{IsRefused, stops, behind, behind_sent, other_chunk}
+use Rattle.quic_worked.proofs.BrokenClauses.{reads_in_order, repeats}
+use Rattle.quic_worked.proofs.BrokenRuns.{IsRefused, stops, behind, behind_sent, read_of, other_chunk}
 use Rattle.quic_worked.proofs.WrongRuns.{NeverEnds, ends_here, step_on, NotTo, behind_gives}
 use Rattle.quic_worked.proofs.LostRuns.{pings, gives_first, never_behind_lost}
 
@@ -50,21 +51,19 @@ accepts_again = record { answer = refl; end = refl; others = refl; lacking = tt 
 changed_nexts : (read : ReadCall) → read.id ≡ 0 → nexts 0 (until (changed_again read) Server 20) ≡ gives_chunk hellp ∷ []
 changed_nexts read e = ap (λ (n : ℕ). (if n == 0 then gives_chunk hellp ∷ [] else []) ++ []) e
 
-pub again_prefix : (read : ReadCall) → read.id ≡ 0 → OrderedPrefix (changed_again read) → ⊥
-again_prefix read e h =
-    let p = h Server 0 20 refl in
+pub again_prefix : (read : ReadCall) → read.id ≡ 0 → read.ordered ≡ true → OrderedPrefix (changed_again read) → ⊥
+again_prefix read e o h =
+    let p = h Server 0 20 refl (reads_in_order read 0 o) in
     let whole : hellp ++ p.0 ≡ hello = ap (λ (ns : List Next). bytes_of (chunks_of ns) ++ p.0) (sym (changed_nexts read e)) ∙ p.1 in
     let fifth : ◌≡◌ {A = ℕ} 112 111 = ap (λ (xs : List ℕ). slice_index xs 4) whole in
     omega arith
 
-again_no : IsRead again_accepted.server 0 (32 ∷ []) (answers.Read (Ok (gives_chunk hellp ∷ []))) → ⊥
+again_no : IsRead again_accepted.server.streams 0 true (32 ∷ []) (answers.Read (Ok (gives_chunk hellp ∷ []))) → ⊥
 unfolding again_taken
 again_no h = other_chunk h.1.0
 
 reads_no : (read : ReadCall) → ReadsBy (32 ∷ []) read → IsRefused again_accepted (reads_stream read) (answers.Read (Ok (gives_chunk hellp ∷ [])))
-reads_no read by h =
-    let of_first = subst (λ (n : ℕ). IsRead again_accepted.server n read.nexts.items (answers.Read (Ok (gives_chunk hellp ∷ [])))) by.id h in
-    again_no (subst (λ (ms : List ℕ). IsRead again_accepted.server 0 ms (answers.Read (Ok (gives_chunk hellp ∷ [])))) by.bounds of_first)
+reads_no read by h = again_no (read_of again_accepted.server.streams 0 true (32 ∷ []) (answers.Read (Ok (gives_chunk hellp ∷ []))) read by h)
 
 pub no_changed_again : (read : ReadCall) → ReadsBy (32 ∷ []) read → IsNoRun (changed_again read)
 no_changed_again read by = behind_sent (never_behind_lost (behind refl gives_again (behind refl takes_again (behind refl accepts_again (stops _ _ _ _ _ (reads_no read by))))))
@@ -116,7 +115,7 @@ wide_names read h =
     one_not (subst (λ (ps : List Packet). IsTaken ps 1) (wide_took read) (h Server 7 0 1 (from_server 0 wide_payload) refl (inl refl) there))
 
 -- the number that a datagram's ACK frame names, where it stands in the eleventh byte
-abbrev byte_of : List (List ℕ) → ℕ
+abbrev pub byte_of : List (List ℕ) → ℕ
 byte_of [] = 0
 byte_of (d ∷ ds) = slice_index d 11
 
@@ -214,9 +213,9 @@ gives_ping : IsStep worked_policies (after_ping started) asks_datagram (gives_by
 unfolding ping_given
 gives_ping = record { answer = inl refl; end = refl; others = refl; lacking = tt }
 
-opens_then : IsStep worked_policies ping_given opens_stream (answers.Open (Ok (Some 0))) (ping_and 1)
+opens_then : IsStep worked_policies ping_given opens_stream (answers.Open (Some 0)) (ping_and 1)
 unfolding ping_given
-opens_then = record { answer = inl refl; end = refl; others = refl; lacking = tt }
+opens_then = record { answer = refl; end = refl; others = refl; lacking = tt }
 
 writes_then : IsStep worked_policies (ping_and 1) writes_hello (answers.Write (Ok 5)) (ping_and 2)
 unfolding ping_given
@@ -224,7 +223,7 @@ writes_then = record { answer = inl refl; end = refl; others = refl; lacking = �
 
 finishes_then : IsStep worked_policies (ping_and 2) finishes_stream (answers.Finish (Ok tt)) (ping_and 3)
 unfolding ping_given
-finishes_then = record { answer = refl; end = refl; others = refl; lacking = tt }
+finishes_then = record { answer = inl refl; end = refl; others = refl; lacking = λ lacks. cc }
 
 gives_then : IsStep worked_policies (ping_and 3) asks_datagram (gives_bytes 34) word_given
 unfolding word_given

@@ -1,14 +1,16 @@
 -- Each run of these machines breaks a clause, and the reference machine makes none of them.
-use Rattle.std.proofs.Common.{◌≡◌, ◌<◌, ℕ, List, [], ◌∷◌, ◌++◌, Some, None, Ok, Err, Bool, true, false, refl, inl, inr, ap, sym, ◌∙◌, subst, arith, length, take, drop, ◌⊎◌}
+use Rattle.std.proofs.Common.{◌≡◌, ◌<◌, ℕ, zero, suc, List, [], ◌∷◌, ◌++◌, Some, None, Ok, Err, Bool, true, false, refl, inl, inr, ap, sym, ◌∙◌, subst, arith, length, take, drop, ◌⊎◌}
 use Rattle.std.specs.Prelude.{slice_index, eqb, ◌==◌, if◌then◌else◌}
 use Rattle.std.specs.List.{IsDistinct}
+use Rattle.quic_sets.specs.Offsets.{with_offsets}
+use Rattle.quic_sets.specs.Pieces.{with_range, joining}
 use Rattle.quic_wire_core.specs.TransportError.{plain_error}
 use Rattle.quic_wire_core.specs.declared.stream_id.Side.TheVariants.{Client, Server}
 use Rattle.quic_wire_core.specs.declared.stream_id.Dir.TheVariants.{Bi}
 use Rattle.quic_wire.specs.Value.{FrameValue, StreamValue, stream, ack}
 use Rattle.quic_send_buffer.specs.declared.stream_meta.StreamMeta.{StreamMeta}
-use Rattle.quic_streams.specs.Table.{Table}
-use Rattle.quic_streams.specs.declared.answers.ReadError.TheVariants as read_errors
+use Rattle.quic_streams_parts.specs.Table.{Table}
+use Rattle.quic_streams_parts.specs.declared.answers.ReadError.TheVariants as read_errors
 use Rattle.quic_machine.specs.declared.answers.Received.TheVariants as receives
 use Rattle.quic_machine.specs.declared.answers.State.TheVariants as states
 use Rattle.quic_machine.specs.declared.run.RunEvent.{RunEvent}
@@ -18,25 +20,27 @@ use Rattle.quic_machine.specs.declared.run.Answer.{Answer}
 use Rattle.quic_machine.specs.declared.run.Answer.TheVariants as answers
 use Rattle.quic_machine.specs.declared.run.View.{View}
 use Rattle.quic_machine.specs.Tracking.{TrackedPacket}
-use Rattle.quic_machine.specs.Machine.{World, IsRead, IsStep, Follows, fails}
+use Rattle.quic_streams_state.specs.Reading.{told_bytes, next_answer, after_read_begun}
+use Rattle.quic_machine.specs.StreamCalls.{IsRead}
+use Rattle.quic_machine.specs.Machine.{World, IsStep, Follows, fails}
 use Rattle.quic_machine.specs.RunLaws.{one_world}
-use Rattle.quic_headline.specs.Runs.{Packet, Next, In, IsTaken, IsNamed, until, written, nexts, chunks_of, bytes_of, offsets_of, WasTaken, HasArrived, EndHasArrived}
+use Rattle.quic_headline.specs.Runs.{Packet, Next, In, IsTaken, IsNamed, until, written, nexts, chunks_of, bytes_of, offsets_of, WasNamed, HasArrived, EndHasArrived}
 use Rattle.quic_headline.specs.Observer.{took}
 use Rattle.quic_headline.specs.Duties.{Offset, Waits, IsUnderWay, DutiesAt}
 use Rattle.quic_headline.specs.InFlight.{in_flight, TracksAt}
 use Rattle.quic_headline.specs.Headline.{OrderedPrefix, Once, EndAfterAll, BlockedOnlyWithoutBytes, AcceptsAll, FinishedMeansArrived, AcknowledgedWereTaken, NamesWereTaken, OpensExactly, NumbersRise, LossTimerFollows, LossTimersFollow, IsNamedIn, frames_given}
 use Rattle.quic_headline.proofs.Timers.LossTimers.{loss_timers_follow}
 use Rattle.quic_worked.specs.Acknowledged.{client_acked, ack_payload, from_server}
-use Rattle.quic_worked.specs.Worked.{gives_chunk, hello, hello_frame, started, once_opened, once_written, once_sent, once_taken, once_accepted, worked_policies, ReadsBy, two_chunks, delivers, sending_events, sending_answers, opens_stream, asks_datagram, gives_bytes, carrying, run_with}
+use Rattle.quic_worked.specs.Worked.{gives_chunk, hello, hello_frame, started, once_opened, once_written, once_sent, once_taken, once_accepted, worked_policies, ReadsBy, two_chunks, delivers, sending_events, sending_answers, opens_stream, asks_datagram, accepts_stream, gives_bytes, carrying, run_with}
 use Rattle.quic_worked.specs.Reordered.{both_events, both_answers, both_sent}
 use Rattle.quic_worked.proofs.ReorderedRun as reordered
 use Rattle.quic_worked.proofs.ReorderedRun.{writes_abc, gives_abc, writes_def, gives_def}
 use Rattle.quic_worked.specs.Broken.{NeverAnswers, IsNoRun, NeverLeads, repeated_nexts, sending_run, asks_event, tells_finished}
-use Rattle.quic_worked.specs.Machines.{unaccepted, taken_again, cut_nexts, cut_frame, endless_nexts, hidden_end, skipping_nexts, skipped_byte, all_dropped, refused_named, long_opens, used_twice, kept_four, writing_run, late_timed, misrecorded, both_run, mistimed, told_early, taken_early, nothing_given, NeverGives, second_events, second_answers, accepted_twice, accepted_last, other_stream}
+use Rattle.quic_worked.specs.Machines.{unaccepted, taken_again, cut_nexts, cut_frame, endless_nexts, hidden_end, skipping_nexts, skipped_byte, all_dropped, refused_named, long_opens, used_twice, kept_four, writing_run, late_timed, misrecorded, both_run, mistimed, told_early, taken_early, nothing_given, NeverGives, writes_second, second_events, second_answers, two_opened, two_written, two_sent, two_taken, first_accepted, both_accepted, accepted_twice, accepted_last, other_stream}
 use Rattle.quic_worked.proofs.WorkedNumber.{only_number}
 use Rattle.quic_worked.proofs.WorkedRun.{opens, writes, finishes, gives, takes, drops_duplicate, hello_packet, frame_taken}
-use Rattle.quic_worked.proofs.BrokenClauses.{nexts_are, nexts_of, repeats}
-use Rattle.quic_worked.proofs.BrokenRuns.{IsRefused, stops, behind, behind_sent, never_reads, twice_no, accept_no, not_opened_no}
+use Rattle.quic_worked.proofs.BrokenClauses.{nexts_are, nexts_of, reads_in_order, hello_named, repeats}
+use Rattle.quic_worked.proofs.BrokenRuns.{IsRefused, stops, behind, behind_sent, read_of, not_next, never_reads, twice_no, accept_no, not_opened_no}
 use Rattle.quic_worked.proofs.Named.{ack_of_hello, is_named, early_frames}
 
 -- ---- a duplicate is taken again
@@ -59,8 +63,8 @@ took_dropped read = refl
 
 pub drops_all : (read : ReadCall) → AcceptsAll (run_with read all_dropped) → ⊥
 drops_all read h =
-    let taken : WasTaken (took (run_with read all_dropped) Server 6) hello_frame = subst (λ (ps : List Packet). WasTaken ps hello_frame) (sym (took_dropped read)) frame_taken in
-    h Server 6 Bi hello_frame 0 0 refl (record { event = refl; answer = refl }) taken refl (omega arith)
+    let named : WasNamed (took (run_with read all_dropped) Server 6) 0 = subst (λ (ps : List Packet). WasNamed ps 0) (sym (took_dropped read)) hello_named in
+    h Server 6 Bi 0 0 refl (record { event = refl; answer = refl }) named (omega arith)
 
 pub no_dropped : (read : ReadCall) → IsNoRun (run_with read all_dropped)
 no_dropped read = behind_sent (stops _ _ _ _ _ not_opened_no)
@@ -71,8 +75,8 @@ took_unaccepted read = refl
 
 pub accepts_none : (read : ReadCall) → AcceptsAll (run_with read unaccepted) → ⊥
 accepts_none read h =
-    let taken : WasTaken (took (run_with read unaccepted) Server 6) hello_frame = subst (λ (ps : List Packet). WasTaken ps hello_frame) (sym (took_unaccepted read)) frame_taken in
-    h Server 6 Bi hello_frame 0 0 refl (record { event = refl; answer = refl }) taken refl (omega arith)
+    let named : WasNamed (took (run_with read unaccepted) Server 6) 0 = subst (λ (ps : List Packet). WasNamed ps 0) (sym (took_unaccepted read)) hello_named in
+    h Server 6 Bi 0 0 refl (record { event = refl; answer = refl }) named (omega arith)
 
 pub no_unaccepted : (read : ReadCall) → IsNoRun (run_with read unaccepted)
 no_unaccepted read = behind_sent (behind refl takes (behind refl drops_duplicate (stops _ _ _ _ _ accept_no)))
@@ -98,11 +102,18 @@ no_refused read = behind_sent (stops _ _ _ _ _ refuses_no)
 
 -- ---- reads
 
+-- the first four offsets aren't the fifth
+no_fifth : In {X = ℕ} 4 (0 ∷ 1 ∷ 2 ∷ 3 ∷ []) → ⊥
+no_fifth (inl e) = omega (arith, e)
+no_fifth (inr (inl e)) = omega (arith, e)
+no_fifth (inr (inr (inl e))) = omega (arith, e)
+no_fifth (inr (inr (inr (inl e)))) = omega (arith, e)
+no_fifth (inr (inr (inr (inr i)))) = i
+
 pub cut_last : (read : ReadCall) → read.id ≡ 0 → EndAfterAll (run_with read cut_frame) → ⊥
 cut_last read e h =
     let p = h Server 0 8 (gives_chunk (take 4 hello) ∷ []) [] refl (nexts_of read (Ok 5) (Ok tt) cut_nexts e) in
-    let short : ◌≡◌ {A = ℕ} 4 5 = ap (λ (bs : List ℕ). length bs) p.1 in
-    omega arith
+    no_fifth (p.1 4 (omega arith))
 
 -- how many bytes a `next` gives, and from which offset on
 abbrev size_of : Next → ℕ
@@ -119,7 +130,7 @@ cut_chunk : (gives_chunk (take 4 hello) ≡ gives_chunk hello) ⊎ (gives_chunk 
 cut_chunk (inl e) = let size : ◌≡◌ {A = ℕ} 4 5 = ap size_of e in omega arith
 cut_chunk (inr e) = let size : ◌≡◌ {A = ℕ} 4 0 = ap size_of e in omega arith
 
-cut_no : IsRead once_accepted.server 0 two_chunks (answers.Read (Ok cut_nexts)) → ⊥
+cut_no : IsRead once_accepted.server.streams 0 true two_chunks (answers.Read (Ok cut_nexts)) → ⊥
 unfolding once_taken
 cut_no h = cut_chunk h.1.0
 
@@ -133,20 +144,29 @@ took_hidden read = refl
 end_came : (id : ℕ) → id ≡ 0 → EndHasArrived (hello_packet ∷ []) id 5
 end_came id e = record { frame = hello_frame; taken = frame_taken; of_stream = sym e; fin = refl; behind = refl }
 
+-- each of the five offsets was read
+five_read : (offset : ℕ) → offset < 5 → In {X = ℕ} offset (0 ∷ 1 ∷ 2 ∷ 3 ∷ 4 ∷ [])
+five_read zero below = inl refl
+five_read (suc zero) below = inr (inl refl)
+five_read (suc (suc zero)) below = inr (inr (inl refl))
+five_read (suc (suc (suc zero))) below = inr (inr (inr (inl refl)))
+five_read (suc (suc (suc (suc zero)))) below = inr (inr (inr (inr (inl refl))))
+five_read (suc (suc (suc (suc (suc n))))) below = absurd (omega arith)
+
 pub hidden_blocks : (read : ReadCall) → read.id ≡ 0 → BlockedOnlyWithoutBytes (run_with read hidden_end) → ⊥
 hidden_blocks read e h =
-    (h Server 7 read (gives_chunk hello ∷ []) [] refl (record { event = refl; answer = refl })).1 (subst (λ (ps : List Packet). EndHasArrived ps read.id 5) (sym (took_hidden read)) (end_came read.id e))
+    (h Server 7 read (gives_chunk hello ∷ []) [] refl (record { event = refl; answer = refl })).1 5 (subst (λ (ps : List Packet). EndHasArrived ps read.id 5) (sym (took_hidden read)) (end_came read.id e)) five_read
 
-hidden_no : IsRead once_accepted.server 0 two_chunks (answers.Read (Ok endless_nexts)) → ⊥
+hidden_no : IsRead once_accepted.server.streams 0 true two_chunks (answers.Read (Ok endless_nexts)) → ⊥
 unfolding once_taken
 hidden_no h = elim (h.1.1.0) [ inl e ↦ cc | inr e ↦ cc ]
 
 pub no_hidden : (read : ReadCall) → ReadsBy two_chunks read → IsNoRun (run_with read hidden_end)
 no_hidden = never_reads endless_nexts hidden_no
 
-pub skipped_prefix : (read : ReadCall) → read.id ≡ 0 → OrderedPrefix (run_with read skipped_byte) → ⊥
-skipped_prefix read e h =
-    let p = h Server 0 8 refl in
+pub skipped_prefix : (read : ReadCall) → read.id ≡ 0 → read.ordered ≡ true → OrderedPrefix (run_with read skipped_byte) → ⊥
+skipped_prefix read e o h =
+    let p = h Server 0 8 refl (reads_in_order read 0 o) in
     let whole : drop 1 hello ++ p.0 ≡ hello = ap (λ (ns : List Next). bytes_of (chunks_of ns) ++ p.0) (sym (nexts_of read (Ok 5) (Ok tt) skipping_nexts e)) ∙ p.1 in
     let first : ◌≡◌ {A = ℕ} 101 104 = ap (λ (xs : List ℕ). slice_index xs 0) whole in
     omega arith
@@ -159,7 +179,7 @@ late_chunk : (later ≡ gives_chunk hello) ⊎ (later ≡ Err read_errors.Memory
 late_chunk (inl e) = let place : ◌≡◌ {A = ℕ} 1 0 = ap place_of e in omega arith
 late_chunk (inr e) = let place : ◌≡◌ {A = ℕ} 1 0 = ap place_of e in omega arith
 
-skipped_no : IsRead once_accepted.server 0 two_chunks (answers.Read (Ok skipping_nexts)) → ⊥
+skipped_no : IsRead once_accepted.server.streams 0 true two_chunks (answers.Read (Ok skipping_nexts)) → ⊥
 unfolding once_taken
 skipped_no h = late_chunk h.1.0
 
@@ -250,10 +270,10 @@ kept_nowhere read (inr (inl g)) = g
 kept_nowhere read (inr (inr a)) = a.taken.was_taken
 
 pub four_duties : (read : ReadCall) → DutiesAt (writing_run read) 2 kept_four → ⊥
-four_duties read stands = kept_nowhere read (stands Client (Offset 0 4) (owed read))
+four_duties read stands = kept_nowhere read (stands Client (Offset 0 4) (refl, owed read))
 
 four_here : kept_four ≡ once_written → ⊥
-four_here e = let clash : ◌≡◌ {A = ℕ} 4 5 = ap (λ (w : World). w.client.sending.accepted) e in omega arith
+four_here e = let clash : ◌≡◌ {A = ℕ} 4 5 = ap (λ (w : World). w.client.streams.sending.accepted) e in omega arith
 
 not_four : NotTo kept_four (take 2 sending_events) (take 2 sending_answers)
 not_four = step_on refl opens (step_on refl writes (ends_here four_here))
@@ -401,13 +421,44 @@ no_nothing read views end is = not_nothing.never views end is.follows is.from_cl
 
 -- ---- two streams
 
--- no second stream is opened at this stage, so the machine makes none of these runs
-second_no : IsRefused once_opened opens_stream (answers.Open (Ok (Some 4)))
-second_no (inl e) = cc
-second_no (inr e) = cc
+opens_second : IsStep worked_policies once_opened opens_stream (answers.Open (Some 4)) two_opened
+opens_second = record { answer = refl; end = refl; others = refl; lacking = tt }
 
-never_second : {events : List RunEvent} {told : List Answer} → NeverAnswers started (second_events ++ events) (second_answers ++ told)
-never_second = behind refl opens (stops _ _ _ _ _ second_no)
+writes_it : IsStep worked_policies two_opened writes_second (answers.Write (Ok 5)) two_written
+writes_it = record { answer = inl refl; end = refl; others = refl; lacking = λ lacks. cc }
+
+gives_second : IsStep worked_policies two_written asks_datagram (gives_bytes 34) two_sent
+unfolding two_sent
+gives_second = record { answer = inl refl; end = refl; others = refl; lacking = tt }
+
+takes_second : IsStep worked_policies two_sent delivers (answers.Deliver receives.Taken) two_taken
+unfolding two_taken
+takes_second = record { answer = inl refl; end = refl; others = refl; lacking = tt }
+
+accepts_first : IsStep worked_policies two_taken accepts_stream (answers.Accept (Some 0)) first_accepted
+unfolding two_taken
+accepts_first = record { answer = refl; end = refl; others = refl; lacking = tt }
+
+accepts_second : IsStep worked_policies first_accepted accepts_stream (answers.Accept (Some 4)) both_accepted
+unfolding two_taken
+accepts_second = record { answer = refl; end = refl; others = refl; lacking = tt }
+
+-- behind the datagram that came
+never_second : {events : List RunEvent} {told : List Answer} → NeverAnswers two_taken events told → NeverAnswers started (second_events ++ events) (second_answers ++ told)
+never_second not_so = behind refl opens (behind refl opens_second (behind refl writes_it (behind refl gives_second (behind refl takes_second not_so))))
+
+-- the stream that an accept gives
+abbrev accepted_in : Answer → ℕ
+accepted_in (answers.Accept (Some id)) = id
+accepted_in a = 9
+
+twice_accept_no : IsRefused first_accepted accepts_stream (answers.Accept (Some 0))
+unfolding two_taken
+twice_accept_no is = let clash : ◌≡◌ {A = ℕ} 0 4 = ap accepted_in is in omega (arith, clash)
+
+last_accept_no : IsRefused two_taken accepts_stream (answers.Accept (Some 4))
+unfolding two_taken
+last_accept_no is = let clash : ◌≡◌ {A = ℕ} 4 0 = ap accepted_in is in omega (arith, clash)
 
 -- the frame that came
 abbrev other_frame : StreamValue
@@ -416,8 +467,9 @@ other_frame = record { id = 4; offset = 0; fin = false; bytes = hello }
 abbrev other_packet : Packet
 other_packet = record { number = 0; frames = stream other_frame ∷ [] }
 
-other_came : WasTaken (other_packet ∷ []) other_frame
-other_came = record { packet = other_packet; was_taken = inl refl; carried = inl refl }
+-- it opens stream 4
+other_named : WasNamed (other_packet ∷ []) 4
+other_named = record { packet = other_packet; was_taken = inl refl; frame = stream other_frame; carried = inl refl; opens = refl }
 
 twice_took : took accepted_twice Server 7 ≡ other_packet ∷ []
 unfolding once_taken
@@ -438,29 +490,37 @@ none_in (inr i) = i
 
 pub twice_accepts : AcceptsAll accepted_twice → ⊥
 twice_accepts h =
-    let taken : WasTaken (took accepted_twice Server 7) other_frame = subst (λ (ps : List Packet). WasTaken ps other_frame) (sym twice_took) other_came in
-    four_in (h Server 7 Bi other_frame 1 1 refl (record { event = refl; answer = refl }) taken refl (omega arith))
+    let named : WasNamed (took accepted_twice Server 7) 4 = subst (λ (ps : List Packet). WasNamed ps 4) (sym twice_took) other_named in
+    four_in (h Server 7 Bi 1 1 refl (record { event = refl; answer = refl }) named (omega arith))
 
 pub last_accepts : AcceptsAll accepted_last → ⊥
 last_accepts h =
-    let taken : WasTaken (took accepted_last Server 6) other_frame = subst (λ (ps : List Packet). WasTaken ps other_frame) (sym last_took) other_came in
-    none_in (h Server 6 Bi other_frame 1 0 refl (record { event = refl; answer = refl }) taken refl (omega arith))
+    let named : WasNamed (took accepted_last Server 6) 4 = subst (λ (ps : List Packet). WasNamed ps 4) (sym last_took) other_named in
+    none_in (h Server 6 Bi 1 0 refl (record { event = refl; answer = refl }) named (omega arith))
 
 pub no_accepted_twice : IsNoRun accepted_twice
-no_accepted_twice = never_second
+no_accepted_twice = never_second (behind refl accepts_first (stops _ _ _ _ _ twice_accept_no))
 
 pub no_accepted_last : IsNoRun accepted_last
-no_accepted_last = never_second
+no_accepted_last = never_second (stops _ _ _ _ _ last_accept_no)
 
 -- what the read gave of the first stream
 other_nexts : (read : ReadCall) → read.id ≡ 0 → nexts 0 (until (other_stream read) Server 8) ≡ gives_chunk hello ∷ []
 other_nexts read e = ap (λ (n : ℕ). (if n == 0 then gives_chunk hello ∷ [] else []) ++ []) e
 
-pub other_prefix : (read : ReadCall) → read.id ≡ 0 → OrderedPrefix (other_stream read) → ⊥
-other_prefix read e h =
-    let p = h Server 0 8 refl in
+pub other_prefix : (read : ReadCall) → read.id ≡ 0 → read.ordered ≡ true → OrderedPrefix (other_stream read) → ⊥
+other_prefix read e o h =
+    let p = h Server 0 8 refl (reads_in_order read 0 o) in
     let whole : hello ++ p.0 ≡ [] = ap (λ (ns : List Next). bytes_of (chunks_of ns) ++ p.0) (sym (other_nexts read e)) ∙ p.1 in
     cc
 
-pub no_other : (read : ReadCall) → IsNoRun (other_stream read)
-no_other read = never_second
+-- nothing came on the first stream
+other_blocked : next_answer told_bytes (after_read_begun both_accepted.server.streams 0 true) 0 32 ≡ Err read_errors.Blocked
+unfolding two_taken with_offsets with_range joining
+other_blocked = refl
+
+other_no : IsRead both_accepted.server.streams 0 true (32 ∷ []) (answers.Read (Ok (gives_chunk hello ∷ []))) → ⊥
+other_no h = not_next (gives_chunk hello) (next_answer told_bytes (after_read_begun both_accepted.server.streams 0 true) 0 32) (Err read_errors.Blocked) other_blocked (λ e. cc) (λ e. cc) h.1.0
+
+pub no_other : (read : ReadCall) → ReadsBy (32 ∷ []) read → IsNoRun (other_stream read)
+no_other read by = never_second (behind refl accepts_first (behind refl accepts_second (stops _ _ _ _ _ (λ h. other_no (read_of both_accepted.server.streams 0 true (32 ∷ []) (answers.Read (Ok (gives_chunk hello ∷ []))) read by h)))))

@@ -6,7 +6,7 @@ use Rattle.quic_wire.specs.AckReading.{ack_at, ranges_at, range_at, some_ecn_at}
 use Rattle.quic_sets.specs.Offsets.{with_offsets}
 use Rattle.quic_sets.specs.Pieces.{joining, joined, with_range}
 use Rattle.quic_machine.specs.End.{End}
-use Rattle.quic_machine.specs.Calls.{end_after_write, end_after_ping}
+use Rattle.quic_machine.specs.Calls.{end_after_ping}
 use Rattle.quic_machine.specs.Policy.{Policy}
 use Rattle.quic_machine.specs.Opens.{would_open}
 use Rattle.quic_machine.specs.declared.run.Answer.{Answer}
@@ -14,7 +14,7 @@ use Rattle.quic_machine.specs.Machine.{injected_if}
 use Rattle.quic_wire.specs.Value.{AckValue}
 use Rattle.quic_machine.specs.Receive.{Outcome, received}
 use Rattle.quic_machine.specs.Timeouts.{timed_out}
-use Rattle.quic_worked.specs.Worked.{client_gives, server_gives, worked_policies, client_id, server_id, once_opened, once_sent, once_taken}
+use Rattle.quic_worked.specs.Worked.{end_after_write, client_gives, server_gives, worked_policies, client_id, server_id, once_opened, once_sent, once_taken}
 
 -- ---- what the server gives
 

@@ -2,10 +2,11 @@
 use Rattle.std.specs.Prelude.{ℕ, ◌+◌, List, [], ◌∷◌, ◌++◌, length, replicate, take, Option, Some, None, Result, Ok, Err}
 use Rattle.quic_wire_core.specs.declared.stream_id.Side.{Side}
 use Rattle.quic_wire_core.specs.declared.stream_id.Side.TheVariants.{Client, Server}
-use Rattle.quic_streams.specs.declared.answers.WriteError.{WriteError}
-use Rattle.quic_streams.specs.declared.answers.FinishError.{FinishError}
-use Rattle.quic_streams.specs.declared.answers.FinishError.TheVariants as finish_errors
-use Rattle.quic_streams.specs.declared.answers.StreamEvent.TheVariants.{Finished}
+use Rattle.quic_streams_parts.specs.declared.answers.WriteError.{WriteError}
+use Rattle.quic_streams_parts.specs.declared.answers.WriteError.TheVariants as write_errors
+use Rattle.quic_streams_parts.specs.declared.answers.FinishError.{FinishError}
+use Rattle.quic_streams_parts.specs.declared.answers.FinishError.TheVariants as finish_errors
+use Rattle.quic_streams_parts.specs.declared.answers.StreamEvent.TheVariants.{Finished}
 use Rattle.quic_time.specs.Timers.{no_timers}
 use Rattle.quic_machine.specs.declared.answers.Event.TheVariants as events
 use Rattle.quic_machine.specs.declared.answers.Received.{Received}
@@ -22,7 +23,7 @@ use Rattle.quic_machine.specs.Calls.{end_after_event}
 use Rattle.quic_machine.specs.declared.run.View.{View}
 use Rattle.quic_machine.specs.Machine.{World, IsStep, Follows}
 use Rattle.quic_headline.specs.Runs.{Run}
-use Rattle.quic_worked.specs.Worked.{NextAnswers, failed_end, worked_policies, hello, hello_datagram, started, with_client, with_server, asks_datagram, delivery, delivers, gives_chunk, all_nexts, gives_bytes, sending_events, sending_answers, once_ended, once_sent, open_view, worked_views, worked_run}
+use Rattle.quic_worked.specs.Worked.{NextAnswers, within, end_after_write, once_opened, failed_end, worked_policies, hello, hello_datagram, started, with_client, with_server, asks_datagram, delivery, delivers, gives_chunk, all_nexts, gives_bytes, sending_events, sending_answers, once_ended, once_sent, open_view, worked_views, worked_run}
 use Rattle.quic_worked.specs.Acknowledged.{client_acked, server_acked, from_server, ack_payload}
 use Rattle.quic_worked.specs.Reordered.{blocked_nexts}
 
@@ -52,6 +53,14 @@ NeverLeads events told end =
 abbrev pub writes_nothing : RunEvent
 writes_nothing = record { side = Client; call = calls.Write 0 [] }
 
+-- the other end takes no byte of the client, which has opened a stream
+abbrev pub once_full : World
+once_full = with_client once_opened (within 0 once_opened.client)
+
+-- and the client was told so by a write
+abbrev pub once_blocked : World
+once_blocked = with_client once_opened (end_after_write (Err write_errors.Blocked) (within 0 once_opened.client) 0 hello)
+
 -- the client failed, with a datagram to give
 abbrev pub once_failed : World
 once_failed = with_client once_ended (failed_end once_ended.client)
@@ -67,7 +76,7 @@ lets_expire = record { side = Client; call = calls.Timeout 0 }
 abbrev pub answers_with : Result ℕ WriteError → Result (Unit {0}) FinishError → Received → Received
     → Option ℕ → NextAnswers → List Answer
 answers_with count done first second id nexts =
-    answers.Open (Ok (Some 0))
+    answers.Open (Some 0)
     ∷ answers.Write count
     ∷ answers.Finish done
     ∷ gives_bytes 34

@@ -29,7 +29,7 @@ refusing error reason = record {
   start = started;
   events = sending_events ++ delivers ∷ [];
   answers =
-      answers.Open (Ok (Some 0))
+      answers.Open (Some 0)
       ∷ answers.Write (Ok 5)
       ∷ answers.Finish (Ok tt)
       ∷ gives_bytes 34
@@ -60,7 +60,7 @@ early_limit = record {
   start = started;
   events = sending_events;
   answers =
-      answers.Open (Ok (Some 0))
+      answers.Open (Some 0)
       ∷ answers.Write (Ok 5)
       ∷ answers.Finish (Ok tt)
       ∷ answers.Poll (Ok None)

@@ -1,8 +1,13 @@
+pub mod Exchange
 pub mod Worked
 pub mod Acknowledged
 pub mod Broken
 pub mod Reordered
 pub mod Closed
 pub mod Machines
+pub mod Paired
+pub mod Picked
+pub mod Credit
+pub mod Chunked
 pub mod Losses
 pub mod Timed

@@ -3,7 +3,7 @@
 -- datagram is acknowledged, and in which numbers fall.
 use Rattle.std.specs.Prelude.{ℕ, List, [], ◌∷◌, ◌++◌, drop, replicate, take, Some, Ok}
 use Rattle.quic_wire_core.specs.declared.stream_id.Side.TheVariants.{Client, Server}
-use Rattle.quic_streams.specs.Table.{Table}
+use Rattle.quic_streams_parts.specs.Table.{Table}
 use Rattle.quic_machine.specs.declared.answers.Received.TheVariants as receives
 use Rattle.quic_machine.specs.declared.run.RunEvent.{RunEvent}
 use Rattle.quic_machine.specs.declared.run.ReadCall.{ReadCall}
@@ -11,7 +11,7 @@ use Rattle.quic_machine.specs.declared.run.Call.TheVariants as calls
 use Rattle.quic_machine.specs.declared.run.Answer.{Answer}
 use Rattle.quic_machine.specs.declared.run.Answer.TheVariants as answers
 use Rattle.quic_machine.specs.Tracking.{TrackedPacket}
-use Rattle.quic_machine.specs.End.{End, with_sending}
+use Rattle.quic_machine.specs.End.{End}
 use Rattle.quic_machine.specs.Machine.{World}
 use Rattle.quic_headline.specs.Runs.{Run}
 use Rattle.quic_worked.specs.Acknowledged.{client_acked, client_datagram, from_server, ack_payload}
@@ -174,7 +174,7 @@ still_waiting = with_client once_lost (waiting_for (drop 2 all_given.client.trac
 
 -- what was lost doesn't go again
 abbrev pub lost_for_good : World
-lost_for_good = with_client once_lost (with_sending once_lost.client all_given.client.sending)
+lost_for_good = with_client once_lost (record once_lost.client { streams = all_given.client.streams })
 
 -- ---- the runs of wrong machines
 

@@ -2,7 +2,7 @@
 use Rattle.std.specs.Prelude.{List, [], ◌∷◌, ◌++◌, drop, replicate, take, Some, None, Ok, Err}
 use Rattle.quic_wire_core.specs.TransportError.{plain_error}
 use Rattle.quic_wire_core.specs.declared.stream_id.Side.TheVariants.{Client, Server}
-use Rattle.quic_streams.specs.declared.answers.ReadError.TheVariants as read_errors
+use Rattle.quic_streams_parts.specs.declared.answers.ReadError.TheVariants as read_errors
 use Rattle.quic_machine.specs.declared.answers.Received.TheVariants as receives
 use Rattle.quic_machine.specs.declared.answers.DropReason.TheVariants as drops
 use Rattle.quic_machine.specs.declared.run.RunEvent.{RunEvent}
@@ -10,14 +10,14 @@ use Rattle.quic_machine.specs.declared.run.ReadCall.{ReadCall}
 use Rattle.quic_machine.specs.declared.run.Call.TheVariants as calls
 use Rattle.quic_machine.specs.declared.run.Answer.{Answer}
 use Rattle.quic_machine.specs.declared.run.Answer.TheVariants as answers
-use Rattle.quic_streams.specs.Table.{Table}
+use Rattle.quic_streams_parts.specs.Table.{Table}
 use Rattle.quic_machine.specs.Tracking.{TrackedPacket}
 use Rattle.quic_machine.specs.Machine.{World}
 use Rattle.quic_machine.specs.declared.run.View.{View}
 use Rattle.quic_headline.specs.Runs.{Run}
 use Rattle.quic_headline.specs.Headline.{IsRun}
 use Rattle.quic_worked.specs.Acknowledged.{client_acked, client_datagram, from_server, ack_payload}
-use Rattle.quic_worked.specs.Worked.{NextAnswers, worked_policies, hello, hello_datagram, started, with_client, client_gives, once_ended, once_sent, ran, asks_datagram, opens_stream, delivery, delivers, accepts_stream, reads_stream, gives_chunk, gives_bytes, sending_events, sending_answers, open_view, worked_views, worked_run}
+use Rattle.quic_worked.specs.Worked.{NextAnswers, after_event, once_opened, once_taken, worked_policies, hello, hello_datagram, started, with_client, client_gives, once_ended, once_sent, ran, asks_datagram, opens_stream, delivery, delivers, accepts_stream, reads_stream, gives_chunk, gives_bytes, sending_events, sending_answers, open_view, worked_views, worked_run}
 use Rattle.quic_worked.specs.Reordered.{abc_datagram, def_datagram, both_events, both_answers, both_sent, reordered_views}
 use Rattle.quic_worked.specs.Broken.{never_accepted, answers_with, repeated_nexts, answered_run, sending_run, injects, injecting, asks_event, tells_finished}
 
@@ -92,7 +92,7 @@ used_twice read = record (worked_run read) {
 
 -- the stream accepted five bytes, and keeps four
 abbrev pub kept_four : World
-kept_four = ran worked_policies started (take 2 sending_events) (answers.Open (Ok (Some 0)) ∷ answers.Write (Ok 4) ∷ [])
+kept_four = ran worked_policies started (take 2 sending_events) (answers.Open (Some 0) ∷ answers.Write (Ok 4) ∷ [])
 
 -- the worked run until the five bytes are written
 abbrev pub writing_run : ReadCall → Run
@@ -158,21 +158,51 @@ NeverGives r = (views : List View) (end : World) → IsRun (record r { views = v
 abbrev pub nothing_given : ReadCall → Run
 nothing_given read = record (sending_run read) { from_client = [] ∷ [] }
 
--- ---- two streams: at this stage the machine opens one alone, so a client that opens two is another
+-- ---- two streams
+
+-- the client writes the word on its second stream
+abbrev pub writes_second : RunEvent
+writes_second = record { side = Client; call = calls.Write 4 hello }
 
 -- the client opens two streams, writes on the second alone, and gives its datagram, which comes
 abbrev pub second_events : List RunEvent
-second_events = opens_stream ∷ opens_stream ∷ record { side = Client; call = calls.Write 4 hello } ∷ asks_datagram ∷ delivers ∷ []
+second_events = opens_stream ∷ opens_stream ∷ writes_second ∷ asks_datagram ∷ delivers ∷ []
 
 -- what that is answered
 abbrev pub second_answers : List Answer
 second_answers =
-    answers.Open (Ok (Some 0))
-    ∷ answers.Open (Ok (Some 4))
+    answers.Open (Some 0)
+    ∷ answers.Open (Some 4)
     ∷ answers.Write (Ok 5)
     ∷ gives_bytes 34
     ∷ answers.Deliver receives.Taken
     ∷ []
+
+-- both streams are open
+abbrev pub two_opened : World
+two_opened = after_event worked_policies once_opened opens_stream (answers.Open (Some 4))
+
+-- the word is written on the second
+abbrev pub two_written : World
+two_written = after_event worked_policies two_opened writes_second (answers.Write (Ok 5))
+
+-- the datagram is given
+unfoldable pub two_sent : World
+unfolding once_sent
+two_sent = after_event worked_policies two_written asks_datagram (gives_bytes 34)
+
+-- and taken
+unfoldable pub two_taken : World
+unfolding once_taken two_sent
+two_taken = after_event worked_policies two_sent delivers (answers.Deliver receives.Taken)
+
+-- the first stream is accepted
+abbrev pub first_accepted : World
+first_accepted = after_event worked_policies two_taken accepts_stream (answers.Accept (Some 0))
+
+-- and the second
+abbrev pub both_accepted : World
+both_accepted = after_event worked_policies first_accepted accepts_stream (answers.Accept (Some 4))
 
 -- that run, with more events, answered so
 abbrev pub second_run : List RunEvent → List Answer → Run

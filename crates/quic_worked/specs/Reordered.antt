@@ -6,7 +6,7 @@ use Rattle.quic_assembler.specs.Arrived.{Arrived, after_insert}
 use Rattle.quic_assembler.specs.ArrivedHistory.{nothing_arrived}
 use Rattle.quic_send_buffer.specs.Buffered.{Buffered, nothing_written, after_write, after_poll}
 use Rattle.quic_wire.specs.Value.{stream}
-use Rattle.quic_streams.specs.declared.answers.ReadError.TheVariants as read_errors
+use Rattle.quic_streams_parts.specs.declared.answers.ReadError.TheVariants as read_errors
 use Rattle.quic_machine.specs.declared.answers.Received.TheVariants as receives
 use Rattle.quic_machine.specs.declared.run.RunEvent.{RunEvent}
 use Rattle.quic_machine.specs.declared.run.ReadCall.{ReadCall}
@@ -14,10 +14,9 @@ use Rattle.quic_machine.specs.declared.run.Call.TheVariants as calls
 use Rattle.quic_machine.specs.declared.run.Answer.{Answer}
 use Rattle.quic_machine.specs.declared.run.Answer.TheVariants as answers
 use Rattle.quic_machine.specs.declared.run.View.{View}
-use Rattle.quic_machine.specs.Calls.{after_nexts}
 use Rattle.quic_machine.specs.Machine.{World}
 use Rattle.quic_headline.specs.Runs.{Packet, Run}
-use Rattle.quic_worked.specs.Worked.{NextAnswers, worked_policies, started, once_sent, once_taken, with_server, ran, opens_stream, asks_datagram, accepts_stream, reads_stream, gives_bytes, open_view, sent_view, waiting_view}
+use Rattle.quic_worked.specs.Worked.{NextAnswers, end_after_reads, worked_policies, started, once_sent, once_taken, with_server, ran, opens_stream, asks_datagram, accepts_stream, reads_stream, gives_bytes, open_view, sent_view, waiting_view}
 
 -- the first three bytes of the stream
 abbrev pub abc : List ℕ
@@ -60,7 +59,7 @@ both_events =
 -- what they are answered
 abbrev pub both_answers : List Answer
 both_answers =
-    answers.Open (Ok (Some 0))
+    answers.Open (Some 0)
     ∷ answers.Write (Ok 3)
     ∷ gives_bytes 32
     ∷ answers.Write (Ok 3)
@@ -135,7 +134,7 @@ both_taken =
 
 -- all is read
 abbrev pub both_read : World
-both_read = with_server both_taken (after_nexts both_taken.server 0 (32 ∷ 32 ∷ 32 ∷ []) both_nexts)
+both_read = with_server both_taken (end_after_reads both_taken.server 0 (32 ∷ 32 ∷ 32 ∷ []) both_nexts)
 
 -- ---- what is seen of it
 

@@ -6,9 +6,10 @@ use Rattle.std.specs.Int.{w64, to_be_bytes}
 use Rattle.std.specs.Cmp.Lexicographic.{pointwise}
 use Rattle.quic_wire_core.specs.StreamId.{other_side}
 use Rattle.quic_wire_core.specs.declared.stream_id.Side.TheVariants.{Client, Server}
+use Rattle.quic_wire_core.specs.declared.stream_id.Dir.{Dir}
 use Rattle.quic_wire_core.specs.declared.stream_id.Dir.TheVariants.{Bi}
 use Rattle.quic_wire_core.specs.declared.shared.EcnCodepoint.TheVariants.{Ect0}
-use Rattle.quic_config.specs.Transport.{default_settings, parameters_of}
+use Rattle.quic_config.specs.Transport.{Settings, default_settings, parameters_of}
 use Rattle.quic_sets.specs.Offsets.{without_offsets, parts_from}
 use Rattle.quic_sets.specs.Pieces.{pieces}
 use Rattle.quic_wire.specs.Value.{StreamValue}
@@ -34,16 +35,23 @@ use Rattle.quic_machine.specs.declared.run.View.{View}
 use Rattle.quic_machine.specs.Policy.{Policy}
 use Rattle.quic_machine.specs.Closing.{failed}
 use Rattle.quic_machine.specs.Tracking.{TrackedPacket}
-use Rattle.quic_machine.specs.End.{End, new_end, with_closing}
-use Rattle.quic_machine.specs.Calls.{after_nexts}
+use Rattle.quic_machine.specs.End.{End, new_end, with_closing, streams_at, with_streams}
+use Rattle.quic_machine.specs.Calls.{is_open, after_reads}
 use Rattle.quic_machine.specs.Poll.{Polled, polled}
 use Rattle.quic_machine.specs.Receive.{received}
 use Rattle.quic_machine.specs.Machine.{World, Policies, policy_at, end_at, given_by, changed, after_call, gives}
 use Rattle.quic_headline.specs.Runs.{Run}
 use Rattle.quic_assembler.specs.declared.assembler.Chunk.{Chunk}
-use Rattle.quic_streams.specs.declared.answers.WriteError.TheVariants as write_errors
-use Rattle.quic_streams.specs.declared.answers.ReadError.{ReadError}
-use Rattle.quic_streams.specs.declared.answers.ReadError.TheVariants as read_errors
+use Rattle.quic_streams_parts.specs.declared.answers.WriteError.{WriteError}
+use Rattle.quic_streams_parts.specs.declared.answers.WriteError.TheVariants as write_errors
+use Rattle.quic_streams_parts.specs.declared.answers.FinishError.TheVariants as finish_errors
+use Rattle.quic_streams_parts.specs.declared.answers.ReadableError.TheVariants as readable_errors
+use Rattle.quic_streams_parts.specs.declared.answers.ReadError.{ReadError}
+use Rattle.quic_streams_parts.specs.declared.answers.ReadError.TheVariants as read_errors
+use Rattle.quic_retransmits.specs.Retransmits.{nothing_waits}
+use Rattle.quic_streams_state.specs.Opening.{open_answer, accept_answer}
+use Rattle.quic_streams_state.specs.Writing.{write_answer, after_write}
+use Rattle.quic_streams_state.specs.Reading.{told_bytes, next_answer}
 
 -- ---- what events leave
 
@@ -175,7 +183,36 @@ numbered_from next e = record e { numbers = record e.numbers { next = next } }
 
 -- an end whose peer takes so many bytes on all streams
 abbrev pub within : ℕ → End → End
-within limit e = record e { sending = record e.sending { limit = limit } }
+within limit e = record e { streams = record e.streams { sending = record e.streams.sending { limit = limit } } }
+
+-- settings by which the peer may open no two-way stream
+abbrev pub no_two_way : Settings
+no_two_way = record default_settings { max_bidi = 0 }
+
+-- the stream that an end opens, if it may
+abbrev pub end_opens : Dir → End → Option ℕ
+end_opens dir e = open_answer (is_open e.closing.state) dir e.streams
+
+-- the stream that an end accepts, if one waits
+abbrev pub end_accepts : Dir → End → Option ℕ
+end_accepts dir e = accept_answer dir e.streams
+
+-- what a write of so many bytes on a stream is answered
+abbrev pub end_writes : End → ℕ → ℕ → Result ℕ WriteError
+end_writes e id count = write_answer (is_open e.closing.state) e.streams id count
+
+-- what a write leaves that is answered so
+abbrev pub end_after_write : Result ℕ WriteError → End → ℕ → List ℕ → End
+end_after_write answer e id bytes =
+    with_streams e (after_write (is_open e.closing.state) answer e.streams e.waiting.frames id bytes)
+
+-- what the first `next` of a read of a stream gives, at most so many bytes
+abbrev pub end_next : End → ℕ → ℕ → Result (Option Chunk) ReadError
+end_next e id most = next_answer told_bytes e.streams id most
+
+-- what a read of a stream in order leaves, by these bounds, that is answered so
+abbrev pub end_after_reads : End → ℕ → List ℕ → List (Result (Option Chunk) ReadError) → End
+end_after_reads e id mosts nexts = with_streams e (after_reads (streams_at e) id true mosts nexts)
 
 -- ---- the datagram
 
@@ -231,6 +268,7 @@ carrying start end fin = record {
   carried = record {
     largest_acked = None;
     stream_frames = record { id = 0; offsets = record { start = start; end = end }; fin = fin } ∷ [];
+    retransmits = nothing_waits;
   };
 }
 
@@ -268,10 +306,15 @@ accepts_stream = record { side = Server; call = calls.Accept Bi }
 abbrev pub reads_stream : ReadCall → RunEvent
 reads_stream read = record { side = Server; call = calls.Read read }
 
--- a read is of stream 0, by these bounds
-pub record ReadsBy (mosts : List ℕ) (read : ReadCall) : Type 0 where
-  pub id : read.id ≡ 0
+-- a read is of this stream, in order or not, by these bounds
+pub record ReadsAs (stream : ℕ) (order : Bool) (mosts : List ℕ) (read : ReadCall) : Type 0 where
+  pub id : read.id ≡ stream
+  pub ordered : read.ordered ≡ order
   pub bounds : read.nexts.items ≡ mosts
+
+-- of stream 0, in order
+abbrev pub ReadsBy : List ℕ → ReadCall → Type 0
+ReadsBy mosts read = ReadsAs 0 true mosts read
 
 -- two chunks of at most 32 bytes each
 abbrev pub two_chunks : List ℕ
@@ -297,6 +340,14 @@ gives_bytes size = answers.Poll (Ok (Some (record { size = size; ecn = Some Ect0
 abbrev pub write_lacks : Answer
 write_lacks = answers.Write (Err write_errors.Memory)
 
+-- so does a finish
+abbrev pub finish_lacks : Answer
+finish_lacks = answers.Finish (Err finish_errors.Memory)
+
+-- so does a read that begins
+abbrev pub read_lacks : Answer
+read_lacks = answers.Read (Err readable_errors.Memory)
+
 -- so does the one `next` of a read
 abbrev pub next_lacks : Answer
 next_lacks = answers.Read (Ok (Err read_errors.Memory ∷ []))
@@ -312,7 +363,7 @@ sending_events = opens_stream ∷ writes_hello ∷ finishes_stream ∷ asks_data
 -- their answers
 abbrev pub sending_answers : List Answer
 sending_answers =
-    answers.Open (Ok (Some 0)) ∷ answers.Write (Ok 5) ∷ answers.Finish (Ok tt) ∷ gives_bytes 34 ∷ []
+    answers.Open (Some 0) ∷ answers.Write (Ok 5) ∷ answers.Finish (Ok tt) ∷ gives_bytes 34 ∷ []
 
 -- all events; `read` asks for two chunks
 abbrev pub worked_events : ReadCall → List RunEvent
@@ -358,7 +409,7 @@ once_accepted = after_event worked_policies once_taken accepts_stream (answers.A
 
 -- it read two chunks of at most 32 bytes: all bytes, and the end
 abbrev pub once_read : World
-once_read = with_server once_accepted (after_nexts once_accepted.server 0 two_chunks all_nexts)
+once_read = with_server once_accepted (end_after_reads once_accepted.server 0 two_chunks all_nexts)
 
 -- ---- the run
 

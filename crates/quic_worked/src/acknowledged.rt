@@ -10,7 +10,7 @@ ghost use Rattle.quic_machine.specs.declared.answers.LostReason.TheVariants.{Num
 ghost use Rattle.quic_machine.specs.declared.answers.Received.TheVariants as receives;
 ghost use Rattle.quic_machine.specs.declared.answers.DropReason.TheVariants as drops;
 ghost use Rattle.quic_machine.specs.declared.run.Answer.TheVariants as answers;
-ghost use Rattle.quic_streams.specs.declared.answers.StreamEvent.TheVariants.{Finished};
+ghost use Rattle.quic_streams_parts.specs.declared.answers.StreamEvent.TheVariants.{Finished};
 ghost use Rattle.quic_machine.specs.Acked.{after_acked};
 ghost use Rattle.quic_machine.specs.Tracking.{nothing_tracked, loss_moment};
 ghost use Rattle.quic_machine.specs.Acknowledging.{written_delay};

@@ -1,30 +1,30 @@
 //! Runs of machines with a bug, computed: each breaks a clause of the headline, or is none that the
 //! reference machine makes. Each function does nothing: its contract is the law.
-ghost use Rattle.std.specs.Prelude.{◌≡◌, ℕ, List, [], ◌∷◌, None, Ok, Err, true, false, alloc_error};
+ghost use Rattle.std.specs.Prelude.{◌≡◌, ℕ, List, [], ◌∷◌, None, Ok, Err, true, false};
 ghost use Rattle.quic_wire_core.specs.declared.stream_id.Side.TheVariants.{Client, Server};
 ghost use Rattle.quic_wire.specs.Value.{stream};
 ghost use Rattle.quic_machine.specs.declared.run.ReadCall.{ReadCall};
 ghost use Rattle.quic_machine.specs.declared.run.RunEvent.{RunEvent};
 ghost use Rattle.quic_machine.specs.declared.run.Answer.{Answer};
 ghost use Rattle.quic_machine.specs.declared.run.Answer.TheVariants as answers;
-ghost use Rattle.quic_streams.specs.declared.answers.ReadableError.TheVariants as readable_errors;
 ghost use Rattle.quic_machine.specs.declared.answers.Received.TheVariants as receives;
-ghost use Rattle.quic_machine.specs.Machine.{World, IsRead, IsStep};
+ghost use Rattle.quic_machine.specs.StreamCalls.{IsRead};
+ghost use Rattle.quic_machine.specs.Machine.{World, IsStep};
 ghost use Rattle.quic_headline.specs.Runs.{until, written, reads, bytes_of, given_until, IsTaken};
 ghost use Rattle.quic_headline.specs.Observer.{took, acked_until};
 ghost use Rattle.quic_headline.specs.Duties.{DutiesAt};
 ghost use Rattle.quic_headline.specs.InFlight.{in_flight, TracksAt};
 ghost use Rattle.quic_headline.specs.Headline.{OrderedPrefix, Slices, Once, EndAfterAll, BlockedOnlyWithoutBytes, AcceptsAll, FinishedMeansArrived, ToldOnce, FinishedIsTold, AcknowledgedWereTaken, NamesWereTaken, IsNamedIn, frames_given, OpensExactly, would_open_at, IsHonest, IsRun, LossTimersFollow, AckTimersFollow, NumbersRise};
 ghost use Rattle.quic_worked.specs.Acknowledged.{ack_payload, from_server, client_datagram};
-ghost use Rattle.quic_worked.specs.Worked.{write_lacks, next_lacks, poll_lacks, ReadsBy, two_chunks, sending_events, sending_answers, hello, hello_frame, hello_payload, hello_datagram, all_nexts, worked_policies, server_made, started, with_client, once_opened, once_ended, once_sent, once_taken, opens_stream, writes_hello, asks_datagram, delivers, reads_stream, within, run_with, carrying};
-ghost use Rattle.quic_worked.specs.Broken.{IsNoRun, IsNever, NeverLeads, writes_nothing, once_failed, lets_expire, hellp, changed_byte, repeated_bytes, unwritten_byte, early_end, unwritten_end, taken_twice, never_taken, blocked_read, never_accepted, early_finish, tells_finished, told_twice, never_told, early_acknowledgement, never_timed, still_timed, sending_run, answered_run, asked_run, forgotten, empty_datagram, repeated_number, early_name, injected_run, always_opens, never_opens};
+ghost use Rattle.quic_worked.specs.Worked.{write_lacks, finish_lacks, read_lacks, next_lacks, poll_lacks, ReadsBy, two_chunks, sending_events, sending_answers, hello, hello_frame, hello_payload, hello_datagram, all_nexts, worked_policies, server_made, started, once_opened, once_ended, once_sent, once_taken, once_read, writes_hello, finishes_stream, asks_datagram, delivers, reads_stream, run_with, carrying};
+ghost use Rattle.quic_worked.specs.Broken.{IsNoRun, IsNever, NeverLeads, writes_nothing, once_blocked, once_failed, lets_expire, hellp, changed_byte, repeated_bytes, unwritten_byte, early_end, unwritten_end, taken_twice, never_taken, blocked_read, never_accepted, early_finish, tells_finished, told_twice, never_told, early_acknowledgement, never_timed, still_timed, sending_run, answered_run, asked_run, forgotten, empty_datagram, repeated_number, early_name, injected_run, always_opens, never_opens};
 
 /// A read that changes a byte gives no prefix of what was written, and no slice of it.
 pub fn changed_byte_shows()
     ensures reads { (read : ReadCall) → read.id ≡ 0
         → bytes_of (reads 0 (until (run_with read changed_byte) Server 8)) ≡ hellp }
-    ensures prefix { (read : ReadCall) → read.id ≡ 0 → OrderedPrefix (run_with read changed_byte)
-        → ⊥ }
+    ensures prefix { (read : ReadCall) → read.id ≡ 0 → read.ordered ≡ true
+        → OrderedPrefix (run_with read changed_byte) → ⊥ }
     ensures slices { (read : ReadCall) → read.id ≡ 0 → Slices (run_with read changed_byte) → ⊥ }
     ensures machine { (read : ReadCall) → ReadsBy two_chunks read
         → IsNoRun (run_with read changed_byte) }
@@ -33,8 +33,8 @@ pub fn changed_byte_shows()
 /// A read that gives bytes twice gives offsets twice, and more than was written.
 pub fn repeated_bytes_show()
     ensures once { (read : ReadCall) → read.id ≡ 0 → Once (run_with read repeated_bytes) → ⊥ }
-    ensures prefix { (read : ReadCall) → read.id ≡ 0 → OrderedPrefix (run_with read repeated_bytes)
-        → ⊥ }
+    ensures prefix { (read : ReadCall) → read.id ≡ 0 → read.ordered ≡ true
+        → OrderedPrefix (run_with read repeated_bytes) → ⊥ }
     ensures machine { (read : ReadCall) → ReadsBy two_chunks read
         → IsNoRun (run_with read repeated_bytes) }
 {}
@@ -44,8 +44,8 @@ pub fn repeated_bytes_show()
 pub fn unwritten_byte_shows()
     ensures written { (read : ReadCall)
         → written 0 (until (run_with read unwritten_byte) Client 8) ≡ 104 ∷ 101 ∷ 108 ∷ 108 ∷ [] }
-    ensures prefix { (read : ReadCall) → read.id ≡ 0 → OrderedPrefix (run_with read unwritten_byte)
-        → ⊥ }
+    ensures prefix { (read : ReadCall) → read.id ≡ 0 → read.ordered ≡ true
+        → OrderedPrefix (run_with read unwritten_byte) → ⊥ }
     ensures machine { (read : ReadCall) → IsNoRun (run_with read unwritten_byte) }
 {}
 
@@ -88,8 +88,8 @@ pub fn told_twice_shows()
     ensures machine { IsNoRun told_twice }
 {}
 
-/// Nor is one that is never told, although all of it is acknowledged: the datagram that has it all is named by the
-/// acknowledgement that came.
+/// Nor is one that is never told, although all of it is acknowledged: the datagram that has it all
+/// is named by the acknowledgement that came.
 pub fn never_told_shows()
     ensures before { (read : ReadCall) → acked_until (answered_run read) Client 7 ≡ [] }
     ensures told { (read : ReadCall)
@@ -105,8 +105,8 @@ pub fn early_acknowledgement_shows()
     ensures machine { IsNoRun early_acknowledgement }
 {}
 
-/// The server's acknowledgement names the number that it took, and no other. One that is given before
-/// anything came names what wasn't taken.
+/// The server's acknowledgement names the number that it took, and no other. One that is given
+/// before anything came names what wasn't taken.
 pub fn early_name_shows()
     ensures given { (read : ReadCall)
         → given_until (answered_run read) Server 7 ≡ from_server 0 ack_payload ∷ [] }
@@ -194,20 +194,19 @@ pub fn never_taken_shows()
     ensures reads { (read : ReadCall) → read.id ≡ 0
         → bytes_of (reads 0 (until (run_with read never_taken) Server 8)) ≡ hello }
     ensures machine { (read : ReadCall) → IsNoRun (run_with read never_taken) }
-    ensures unread { IsRead server_made 0 (32 ∷ 32 ∷ []) (answers.Read (Ok all_nexts)) → ⊥ }
+    ensures unread { IsRead server_made.streams 0 true two_chunks (answers.Read (Ok all_nexts)) → ⊥ }
 {}
 
-/// No call lacks memory that takes none: no open without room, no write that is refused or has no
-/// byte, no read that begins, no `next` that gives all of a piece, no poll where nothing waits, and
-/// no delivery of a datagram that is dropped.
+/// No call lacks memory that takes none: no finish and no write that is refused, no write that is
+/// blocked a second time or has no byte, no read that is refused, no `next` that gives all of a
+/// piece, no poll where nothing waits, and no delivery of a datagram that is dropped.
 pub fn needless_lack_shows()
-    ensures open { IsNever once_opened opens_stream (answers.Open (Err alloc_error)) }
+    ensures finish { IsNever once_ended finishes_stream finish_lacks }
     ensures closed_write { IsNever once_ended writes_hello write_lacks }
-    ensures blocked_write { IsNever (with_client once_opened (within 0 once_opened.client))
-        writes_hello write_lacks }
+    ensures blocked_write { IsNever once_blocked writes_hello write_lacks }
     ensures empty_write { IsNever once_opened writes_nothing write_lacks }
-    ensures read { (read : ReadCall)
-        → IsNever once_taken (reads_stream read) (answers.Read (Err readable_errors.Memory)) }
+    ensures read { (read : ReadCall) → read.id ≡ 0
+        → IsNever once_read (reads_stream read) read_lacks }
     ensures next { (read : ReadCall) → ReadsBy (32 ∷ []) read
         → IsNever once_taken (reads_stream read) next_lacks }
     ensures poll { IsNever once_sent asks_datagram poll_lacks }

@@ -1,6 +1,6 @@
 //! Runs in which an end closes, or refuses a packet, that has no reason to, computed: each breaks a
-//! clause of the headline, and is none that the reference machine makes. Each function does nothing:
-//! its contract is the law.
+//! clause of the headline, and is none that the reference machine makes. Each function does
+//! nothing: its contract is the law.
 ghost use Rattle.std.specs.Prelude.{◌≡◌, [], ◌∷◌};
 ghost use Rattle.quic_wire_core.specs.declared.stream_id.Side.TheVariants.{Server};
 ghost use Rattle.quic_machine.specs.declared.run.ReadCall.{ReadCall};
@@ -21,8 +21,8 @@ pub fn hello_is_taken()
         × (c.call.answer ≡ answers.Deliver receives.Taken) }
 {}
 
-/// A machine that refuses bytes below the limits that it told blames the other end, and doesn't take what
-/// keeps the rules.
+/// A machine that refuses bytes below the limits that it told blames the other end, and doesn't
+/// take what keeps the rules.
 pub fn below_limits_shows()
     ensures blame { NoBlame below_limits → ⊥ }
     ensures taken { TakenOrTooMany below_limits → ⊥ }

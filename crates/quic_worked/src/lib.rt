@@ -4,8 +4,13 @@
 
 pub mod acknowledged;
 pub mod broken;
+pub mod chunked;
 pub mod closed;
+pub mod credit;
+pub mod exchange;
 pub mod machines;
+pub mod paired;
+pub mod picked;
 pub mod reordered;
 pub mod timed;
 pub mod worked;

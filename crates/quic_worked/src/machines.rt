@@ -1,6 +1,6 @@
-//! More machines with a bug, each by a run that it makes and the reference machine doesn't: a clause
-//! of the headline is false of it. Each function does nothing: its contract is the law.
-ghost use Rattle.std.specs.Prelude.{◌≡◌, List, [], ◌∷◌, None, take};
+//! More machines with a bug, each by a run that it makes and the reference machine doesn't: a
+//! clause of the headline is false of it. Each function does nothing: its contract is the law.
+ghost use Rattle.std.specs.Prelude.{◌≡◌, true, List, [], ◌∷◌, None, take};
 ghost use Rattle.quic_machine.specs.declared.run.ReadCall.{ReadCall};
 ghost use Rattle.quic_machine.specs.declared.run.RunEvent.{RunEvent};
 ghost use Rattle.quic_machine.specs.declared.run.Answer.{Answer};
@@ -61,8 +61,8 @@ pub fn end_is_hidden()
 
 /// Application calls: a read leaves out the first byte.
 pub fn byte_is_skipped()
-    ensures prefix { (read : ReadCall) → read.id ≡ 0 → OrderedPrefix (run_with read skipped_byte)
-        → ⊥ }
+    ensures prefix { (read : ReadCall) → read.id ≡ 0 → read.ordered ≡ true
+        → OrderedPrefix (run_with read skipped_byte) → ⊥ }
     ensures machine { (read : ReadCall) → ReadsBy two_chunks read
         → IsNoRun (run_with read skipped_byte) }
 {}
@@ -149,8 +149,7 @@ pub fn stream_is_told_twice()
         → IsNoRun (asked_run read (tells_finished ∷ tells_finished ∷ [])) }
 {}
 
-/// Application calls: a stream is accepted twice, and so another never. The reference machine opens
-/// one stream alone yet, so it makes no run of two.
+/// Application calls: a stream is accepted twice, and so another never.
 pub fn stream_is_accepted_twice()
     ensures accepts { AcceptsAll accepted_twice → ⊥ }
     ensures machine { IsNoRun accepted_twice }
@@ -164,13 +163,15 @@ pub fn stream_is_skipped()
 
 /// Application calls: a read of one stream gives the bytes of another.
 pub fn streams_are_mixed()
-    ensures prefix { (read : ReadCall) → read.id ≡ 0 → OrderedPrefix (other_stream read) → ⊥ }
-    ensures machine { (read : ReadCall) → IsNoRun (other_stream read) }
+    ensures prefix { (read : ReadCall) → read.id ≡ 0 → read.ordered ≡ true
+        → OrderedPrefix (other_stream read) → ⊥ }
+    ensures machine { (read : ReadCall) → ReadsBy (32 ∷ []) read → IsNoRun (other_stream read) }
 {}
 
 /// Loss: what was lost goes again with another last byte.
 pub fn lost_bytes_are_changed()
-    ensures prefix { (read : ReadCall) → read.id ≡ 0 → OrderedPrefix (changed_again read) → ⊥ }
+    ensures prefix { (read : ReadCall) → read.id ≡ 0 → read.ordered ≡ true
+        → OrderedPrefix (changed_again read) → ⊥ }
     ensures machine { (read : ReadCall) → ReadsBy (32 ∷ []) read → IsNoRun (changed_again read) }
 {}
 

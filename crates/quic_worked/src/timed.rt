@@ -29,8 +29,8 @@ pub fn wrong_waits_show()
     ensures machine_resets { NeverShows never_resets }
 {}
 
-/// An acknowledgement waits from when the packet that asks came until an ACK frame goes, for 25 ms. The
-/// machine's timer is set so.
+/// An acknowledgement waits from when the packet that asks came until an ACK frame goes, for 25 ms.
+/// The machine's timer is set so.
 pub fn acknowledgement_waits()
     ensures before { (debt timed_run Server 6).arrivals ≡ [] }
     ensures came { (debt timed_run Server 7).arrivals ≡ 1030000000 ∷ [] }

@@ -1,6 +1,6 @@
 //! The definitions computed on one worked run: the client opens stream 0, writes `hello` and ends
 //! it, and the server reads it. Each function does nothing: its contract is the law.
-ghost use Rattle.std.specs.Prelude.{◌≡◌, ℕ, ◌-◌, ◌<◌, ◌^◌, true, false, [], ◌∷◌, ◌++◌, length, map, take, drop, replicate, Some, None, Ok, Err, alloc_error};
+ghost use Rattle.std.specs.Prelude.{◌≡◌, ℕ, ◌-◌, ◌<◌, ◌^◌, true, false, [], ◌∷◌, ◌++◌, length, map, take, drop, replicate, Some, None, Ok, Err};
 ghost use Rattle.quic_wire_core.specs.TransportError.{error_in, plain_error};
 ghost use Rattle.quic_wire_core.specs.declared.stream_id.Side.TheVariants.{Client, Server};
 ghost use Rattle.quic_wire_core.specs.declared.stream_id.Dir.TheVariants.{Bi, Uni};
@@ -15,22 +15,21 @@ ghost use Rattle.quic_wire.specs.Writing.{spelling};
 ghost use Rattle.quic_wire.specs.Items.{items};
 ghost use Rattle.quic_machine.specs.declared.answers.LostReason.TheVariants.{NumberLimit};
 ghost use Rattle.quic_machine.specs.declared.answers.ConfigError.TheVariants.{Parameters, IdLength};
-ghost use Rattle.quic_streams.specs.declared.answers.ReadableError.TheVariants as readable_errors;
-ghost use Rattle.quic_streams.specs.declared.answers.ReadError.TheVariants as read_errors;
-ghost use Rattle.quic_streams.specs.declared.answers.WriteError.TheVariants as write_errors;
-ghost use Rattle.quic_streams.specs.declared.answers.FinishError.TheVariants as finish_errors;
+ghost use Rattle.quic_streams_parts.specs.declared.answers.ReadableError.TheVariants as readable_errors;
+ghost use Rattle.quic_streams_parts.specs.declared.answers.ReadError.TheVariants as read_errors;
+ghost use Rattle.quic_streams_parts.specs.declared.answers.WriteError.TheVariants as write_errors;
+ghost use Rattle.quic_streams_parts.specs.declared.answers.FinishError.TheVariants as finish_errors;
 ghost use Rattle.quic_machine.specs.declared.answers.DropReason.TheVariants as drops;
 ghost use Rattle.quic_machine.specs.declared.answers.Received.TheVariants.{Taken, Dropped, Closed};
 ghost use Rattle.quic_machine.specs.declared.answers.Received.TheVariants as receives;
 ghost use Rattle.quic_machine.specs.declared.run.ReadCall.{ReadCall};
 ghost use Rattle.quic_machine.specs.declared.run.Answer.TheVariants as answers;
-ghost use Rattle.quic_config.specs.Transport.{default_settings};
+ghost use Rattle.quic_config.specs.Transport.{default_settings, parameters_of};
 ghost use Rattle.quic_recovery_core.specs.Duplicates.{is_duplicate};
 ghost use Rattle.quic_recovery_core.specs.DuplicateRuns.{seen_after};
-ghost use Rattle.quic_streams.specs.Sending.{finish_answer};
-ghost use Rattle.quic_streams.specs.Receiving.{read_answer};
-ghost use Rattle.quic_machine.specs.End.{MadeFrom, refusal_of, closed_by};
-ghost use Rattle.quic_machine.specs.Calls.{open_answer, end_accepts, end_writes, end_after_write, end_next};
+ghost use Rattle.quic_streams_state.specs.Writing.{finish_answer};
+ghost use Rattle.quic_streams_state.specs.Reading.{read_answer};
+ghost use Rattle.quic_machine.specs.End.{MadeFrom, new_end, refusal_of, closed_by};
 ghost use Rattle.quic_machine.specs.Poll.{IsDatagram};
 ghost use Rattle.quic_machine.specs.Machine.{IsStep, Follows};
 ghost use Rattle.quic_machine.specs.Opens.{opens};
@@ -38,8 +37,8 @@ ghost use Rattle.quic_headline.specs.Runs.{until, written, ended, reads, finishe
 ghost use Rattle.quic_headline.specs.Observer.{took, references_until};
 ghost use Rattle.quic_machine.specs.Start.{AreStarted, AreKeys};
 ghost use Rattle.quic_headline.specs.Headline.{IsHonest, IsRun};
-ghost use Rattle.quic_worked.specs.Broken.{once_failed};
-ghost use Rattle.quic_worked.specs.Worked.{unprotected_hello, hello_opening, client_gives, write_lacks, next_lacks, poll_lacks, ReadsBy, two_chunks, worked_parameters, client_id, server_id, client_made, server_made, started, with_server, once_opened, once_ended, once_sent, once_taken, once_read, hello, hello_frame, hello_payload, hello_datagram, opens_stream, writes_hello, asks_datagram, delivers, reads_stream, failed_end, numbered_from, from_client, client_packet, at_server, within, worked_policies, worked_events, worked_answers, worked_views, worked_run};
+ghost use Rattle.quic_worked.specs.Broken.{once_full, once_failed};
+ghost use Rattle.quic_worked.specs.Worked.{unprotected_hello, hello_opening, client_gives, no_two_way, end_opens, end_accepts, end_writes, end_after_write, end_next, write_lacks, finish_lacks, read_lacks, next_lacks, poll_lacks, ReadsBy, two_chunks, worked_parameters, client_id, server_id, client_made, server_made, started, with_server, once_opened, once_written, once_ended, once_sent, once_taken, once_read, hello, hello_frame, hello_payload, hello_datagram, writes_hello, finishes_stream, asks_datagram, delivers, reads_stream, failed_end, numbered_from, from_client, client_packet, at_server, within, worked_policies, worked_events, worked_answers, worked_views, worked_run};
 
 /// Each end is made of the other's parameters and first id, at moment 0 on a validated path.
 pub fn ends_are_made()
@@ -81,16 +80,16 @@ pub fn hello_is_opened()
     ensures frames { items hello_payload ≡ Ok (stream hello_frame) ∷ [] }
 {}
 
-/// The reference machine runs the worked example: each event is answered so and is seen so. Then the
-/// client still waits for one acknowledgement, which the server still has to give, and nothing is
-/// left to read.
+/// The reference machine runs the worked example: each event is answered so and is seen so. Then
+/// the client still waits for one acknowledgement, which the server still has to give, and nothing
+/// is left to read.
 #[tactic(auto, unfolding(crate::specs::Worked::once_taken))]
 pub fn worked_run_follows()
     ensures follows { (read : ReadCall) → ReadsBy two_chunks read
         → Follows worked_policies started (worked_events read) worked_answers worked_views once_read }
     ensures tracked { map (λ p. p.0) once_read.client.tracking.packets ≡ 0 ∷ [] }
     ensures pending { once_read.server.acknowledging.runs ≡ record { start = 0; end = 1 } ∷ [] }
-    ensures read { once_read.server.receiving.halves ≡ [] }
+    ensures read { once_read.server.streams.receiving.halves.live ≡ [] }
 {}
 
 /// It meets the premises of the headline: what is proved of every run holds of this one.
@@ -177,7 +176,7 @@ pub fn broken_rules_are_found()
     ensures no_frame { at_server server_made (from_client (2 ^ 30) []) ≡ Closed (plain_error 10) }
     ensures reserved { at_server server_made (client_packet 0x48 0 hello_payload)
         ≡ Closed (plain_error 10) }
-    ensures other_stream { at_server server_made (from_client 0 (0x0a ∷ 0x04 ∷ 0x01 ∷ 0x61 ∷ []))
+    ensures unopened_stream { at_server server_made (from_client 0 (0x0a ∷ 0x01 ∷ 0x01 ∷ 0x61 ∷ []))
         ≡ Closed (plain_error 5) }
     ensures above_limit { at_server server_made
         (from_client 0 (0x0c ∷ 0x00 ∷ 0x80 ∷ 0x13 ∷ 0x12 ∷ 0xd0 ∷ 0x61 ∷ []))
@@ -190,7 +189,7 @@ pub fn broken_rules_are_found()
     ensures other_end { at_server once_taken.server (from_client 1 (0x09 ∷ 0x00 ∷ 0x61 ∷ []))
         ≡ Closed (plain_error 6) }
     ensures beyond_count { at_server
-        (record server_made { receiving = record server_made.receiving { count_bi = 0 } })
+        (new_end Server no_two_way (parameters_of default_settings) server_id client_id 0 true)
         hello_datagram ≡ Closed (plain_error 4) }
     ensures none { at_server server_made (from_client 0 (0x40 ∷ 0x00 ∷ 0x01 ∷ [])) ≡ Taken }
 {}
@@ -199,11 +198,13 @@ pub fn broken_rules_are_found()
 /// limits.
 #[tactic(auto, unfolding(crate::specs::Worked::once_taken, quic_parameters::specs::ParametersRead::parameters_at, quic_parameters::specs::ParametersRead::judged, quic_parameters::specs::ParametersRead::values_met, quic_parameters::specs::ParametersRead::met_in, quic_parameters::specs::ParametersRead::met_within, quic_parameters::specs::ParametersRead::met_after, quic_parameters::specs::ParametersRead::whole_at, quic_parameters::specs::ParametersRead::entry_at))]
 pub fn calls_are_bounded()
-    ensures second_open { open_answer Bi once_opened.client ≡ None }
-    ensures one_way { open_answer Uni client_made ≡ None }
-    ensures no_count { open_answer Bi
-        (record client_made { sending = record client_made.sending { count_bi = 0 } }) ≡ None }
-    ensures server_open { open_answer Bi server_made ≡ None }
+    ensures second_open { end_opens Bi once_opened.client ≡ Some 4 }
+    ensures one_way { end_opens Uni once_opened.client ≡ Some 2 }
+    ensures no_count { end_opens Bi
+        (new_end Client default_settings (parameters_of no_two_way) client_id server_id 0 true)
+        ≡ None }
+    ensures server_open { end_opens Bi server_made ≡ Some 1 }
+    ensures drained_open { end_opens Bi (closed_by NumberLimit client_made) ≡ None }
     ensures not_opened { end_writes client_made 0 5 ≡ Err write_errors.ClosedStream }
     ensures ended { end_writes once_ended.client 0 5 ≡ Err write_errors.ClosedStream }
     ensures within { end_writes (within 8 once_opened.client) 0 20 ≡ Ok 8 }
@@ -212,12 +213,15 @@ pub fn calls_are_bounded()
         ≡ Err write_errors.Blocked }
     ensures drained { end_writes (closed_by NumberLimit once_opened.client) 0 5
         ≡ Err write_errors.Blocked }
-    ensures second_end { finish_answer once_ended.client.sending 0
+    ensures second_end { finish_answer once_ended.client.streams 0
         ≡ Err finish_errors.ClosedStream }
-    ensures no_stream { finish_answer once_taken.server.sending 0 ≡ Err finish_errors.ClosedStream }
+    ensures no_stream { finish_answer server_made.streams 0 ≡ Err finish_errors.ClosedStream }
+    ensures other_way { finish_answer once_taken.server.streams 0 ≡ Ok tt }
     ensures none_to_accept { end_accepts Bi server_made ≡ None }
-    ensures none_to_read { read_answer server_made.receiving 0 ≡ Err readable_errors.ClosedStream }
-    ensures all_read { read_answer once_read.server.receiving 0 ≡ Err readable_errors.ClosedStream }
+    ensures none_to_read { read_answer server_made.streams 0 true
+        ≡ Err readable_errors.ClosedStream }
+    ensures all_read { read_answer once_read.server.streams 0 true
+        ≡ Err readable_errors.ClosedStream }
     ensures nothing_came { end_next once_opened.client 0 9 ≡ Err read_errors.Blocked }
     ensures a_part { end_next once_taken.server 0 2
         ≡ Ok (Some (record { offset = 0; bytes = 0x68 ∷ 0x65 ∷ [] })) }
@@ -237,13 +241,15 @@ pub fn calls_are_bounded()
 {}
 
 /// Where memory lacks, an application's call leaves all as it was, and an end that is polled or
-/// that receives has failed. It may lack where a stream is opened, bytes are kept, a chunk is cut
-/// off a piece, a datagram is given, and frames are taken. A delivery of a datagram that wasn't
-/// given is no call.
+/// that receives has failed. It may lack where bytes are kept, a blocked write is noted, an end is
+/// queued, a read begins, a chunk is cut off a piece, a datagram is given, and frames are taken. A
+/// delivery of a datagram that wasn't given is no call.
 pub fn memory_may_lack()
-    ensures open { IsStep worked_policies started opens_stream (answers.Open (Err alloc_error))
-        started }
     ensures write { IsStep worked_policies once_opened writes_hello write_lacks once_opened }
+    ensures blocked { IsStep worked_policies once_full writes_hello write_lacks once_full }
+    ensures finish { IsStep worked_policies once_written finishes_stream finish_lacks once_written }
+    ensures begin { (read : ReadCall) → ReadsBy two_chunks read
+        → IsStep worked_policies once_taken (reads_stream read) read_lacks once_taken }
     ensures next { (read : ReadCall) → ReadsBy (2 ∷ []) read
         → IsStep worked_policies once_taken (reads_stream read) next_lacks once_taken }
     ensures poll { IsStep worked_policies once_ended asks_datagram poll_lacks once_failed }

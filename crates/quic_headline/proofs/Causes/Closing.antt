@@ -78,11 +78,12 @@ used_up numbers may = go (nat_lt (numbers.next + kept_numbers) (2 ^ 62)) refl (n
 
 pub other_keeps : (p : Policy) (e : End) (theirs : List (List ℕ)) (call : Call) (a : Answer) → is_poll call ≡ false → is_delivery call ≡ false → Keeps e (after_call p e theirs call a)
 other_keeps p e theirs call a silent apart = by_plain_call p e theirs (Keeps e) call a (record {
-  streams = λ s r. record { reason = refl; state = refl };
-  waits = λ w. record { reason = refl; state = refl };
+  same = record { reason = refl; state = refl };
+  on_streams = λ t. record { reason = refl; state = refl };
+  pings = record { reason = refl; state = refl };
   heard = λ path same. record { reason = refl; state = refl };
   times = λ now acks loss set. by_expired e now (Keeps e) (λ pending tracking timers runs packets. record { reason = refl; state = refl }) acks loss;
   polls = λ now set. cc;
   hears = λ now d set. cc;
-  tells = λ told events. record { reason = refl; state = refl };
+  tells = λ told. record { reason = refl; state = refl };
 })

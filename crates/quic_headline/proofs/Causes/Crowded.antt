@@ -1,217 +1,378 @@
 -- Where a frame comes to too many pieces, more maximal runs of offsets of its stream arrived and weren't read than may wait.
-use Rattle.std.proofs.Common.{◌≡◌, ℕ, zero, suc, ◌+◌, ◌-◌, ◌<◌, ◌≤◌, ◌^◌, ◌⊎◌, inl, inr, eqb, Bool, true, false, not, nat_lt, ◌==◌, List, [], ◌∷◌, ◌++◌, length, Option, Some, None, refl, sym, ap, ◌∙◌, subst, arith}
-use Rattle.std.specs.Prelude.{cond, ltb}
-use Rattle.std.specs.List.{IsDistinct, AllByRecursion}
-use Rattle.std.specs.Option.{is_some, option_or}
-use Rattle.std.proofs.lemmas.Bool.{cases_lt, ltb-true, lt-ltb, ne_eqb, and_parts}
-use Rattle.std.proofs.lemmas.List.{length-take}
-use Rattle.quic_wire_core.specs.StreamId.{index_of}
-use Rattle.quic_sets.specs.Parts.{Part, byte_from}
-use Rattle.quic_wire.specs.Value.{FrameValue, StreamValue, stream}
+use Rattle.std.proofs.Common.{◌≡◌, ℕ, ◌<◌, ◌≤◌, ◌^◌, Bool, true, false, not, nat_lt, nat_le, List, [], ◌∷◌, ◌++◌, map, Option, Some, None, Ok, refl, sym, ap, ◌∙◌, subst, ◌⊎◌, inl, inr}
+use Rattle.std.specs.Prelude.{◌&&◌, ◌||◌, if◌then◌else◌}
+use Rattle.std.specs.Option.{is_some}
+use Rattle.std.proofs.lemmas.Bool.{ltb-true, both_ways}
+use Rattle.quic_wire_core.specs.declared.stream_id.Side.{Side}
+use Rattle.quic_wire_core.specs.declared.stream_id.Side.TheVariants.{Client, Server}
+use Rattle.quic_wire_core.specs.StreamId.{dir_of, index_of}
+use Rattle.quic_wire.specs.Value.{FrameValue, AckValue, StreamValue, ack, stream, reset_stream, stop_sending, max_data, max_stream_data, max_streams, stream_data_blocked, streams_blocked, new_token, handshake_done}
 use Rattle.quic_assembler.specs.declared.assembler.TheConstants.{MOST_PIECES}
-use Rattle.quic_assembler.specs.Arrived.{AreApart, IsLawful, byte_at, after_insert, waits, waits_before, begins_run, count_to, runs_of}
-use Rattle.quic_assembler.proofs.Arrived.Runs.{runs_counted}
-use Rattle.quic_assembler.proofs.Arrived.Lawful.{insert_lawful}
-use Rattle.quic_streams.specs.Table.{at}
-use Rattle.quic_streams.specs.Receiving.{RecvHalf, untouched, end_of, half_for, with_frame, breach_at, too_many}
-use Rattle.quic_machine.specs.End.{End}
-use Rattle.quic_headline.specs.Runs.{Told, Packet, In, WasTaken, written, ended, nexts, chunks_of, bytes_of, offsets_from, offsets_of, reads}
-use Rattle.quic_headline.specs.Causes.{BeginsRun, HasMoreRuns, IsUnread}
-use Rattle.quic_headline.proofs.Places.Invariant.{IsWritten, IsReading, IsKept, Content}
-use Rattle.quic_headline.proofs.Places.Order.{offsets_are}
-use Rattle.quic_headline.proofs.Packets.Growth.{in_more}
-use Rattle.quic_headline.proofs.Halves.Taking.{Passes, passes, half_here, reading_for, frame_is_small}
-use Rattle.quic_headline.proofs.Halves.Reading.{insert_plain, kept_frame, kept_over_frame}
-use Rattle.quic_headline.proofs.Halves.Passing.{packet_of}
-use Rattle.quic_headline.proofs.Causes.Spends.{Limits, IsWithin}
-use Rattle.quic_headline.proofs.Causes.Heard.{Waits}
-use Rattle.quic_headline.proofs.Causes.Passes.{Stand, Crowds, came_with}
+use Rattle.quic_assembler.specs.Arrived.{is_given, waits, runs_of}
+use Rattle.quic_assembler.proofs.Arrived.Lawful.{given_waits_not}
+use Rattle.quic_streams_parts.specs.declared.answers.Breach.{Breach}
+use Rattle.quic_streams_parts.specs.declared.answers.Breach.TheVariants.{FlowControl, StreamLimit, StreamState, FinalSize, FrameEncoding, Pieces}
+use Rattle.quic_streams_parts.specs.Dirs.{is_own, is_two_way}
+use Rattle.quic_streams_parts.specs.RecvHalf.{RecvHalf, end_of, breaks_final, after_frame, has_too_many}
+use Rattle.quic_retransmits.specs.Retransmits.{Retransmits}
+use Rattle.quic_streams_state.specs.declared.state.StreamsState.{StreamsState}
+use Rattle.quic_streams_state.specs.State.{Receiving, is_opened, receiving_half, with_recv}
+use Rattle.quic_streams_state.specs.Limits.{raised_count, most_streams}
+use Rattle.quic_streams_state.specs.Opening.{beyond, opens, opened_by, receiving_refusal, sending_refusal, max_streams_breach}
+use Rattle.quic_streams_state.specs.Taking.{part_for, breaks_limit, breach_at, breach_behind, refusal, readable_if, ended_if, renewed, too_many_at, breach_kept, stream_breach, after_stream, reset_breach, stream_data_blocked_breach, streams_blocked_breach}
+use Rattle.quic_streams_laws.specs.KeepingLaws.{Unbroken, stream_cases, by_opened, live_receives, at-half}
+use Rattle.quic_streams_laws.specs.QuietLaws.{is_quiet}
+use Rattle.quic_streams_laws.specs.StatusLaws.{at_half_of}
+use Rattle.quic_streams_laws.specs.Written.{Wrote}
+use Rattle.quic_streams_laws.specs.Reads.{IsRecvHalf}
+use Rattle.quic_streams_laws.specs.Content.{HoldsRead}
+use Rattle.quic_streams_laws.specs.ContentLaws.{read_at, read_stream}
+use Rattle.quic_streams_laws.specs.Kept.{IsKeptHalf, IsKeptStatus, HoldsTaken, TakesMore}
+use Rattle.quic_streams_laws.specs.TakenLaws.{goes_on_kept, taken_stream}
+use Rattle.quic_machine.specs.End.{End, side_of}
+use Rattle.quic_machine.specs.Receive.{Fault, too_many_pieces, fault_of, fault_at, Progress, take_frame, unless_fault, take_items}
+use Rattle.quic_machine.specs.FrameCases.{passed, ack_taken, frames_leave}
+use Rattle.quic_headline.specs.Runs.{Told, Packet, In, reads, offsets_of, WasTaken, HasArrived}
+use Rattle.quic_headline.specs.Causes.{HasMoreRuns, IsUnread}
+use Rattle.quic_headline.proofs.Places.Told.{in_left, in_append, in_last}
+use Rattle.quic_headline.proofs.Places.Order.{given_in, in_given}
+use Rattle.quic_headline.proofs.Halves.Ghosts.{read, SaysOf}
+use Rattle.quic_headline.proofs.Halves.QuietSteps.{frame_quiet}
+use Rattle.quic_headline.proofs.Halves.Bringing.{frames_read, Brought, frames_bring}
+use Rattle.quic_headline.proofs.Halves.ReadGroup.{WasIn}
+use Rattle.quic_headline.proofs.Causes.Come.{IsIdle, IsComeHalf, HasCome, come_frame, come_kept, come_at, come_wider, come_stream, come_reset_frame}
+use Rattle.quic_headline.proofs.Causes.Runs.{more_runs}
 
--- ---- offsets at which a test holds
+-- ---- the rule of pieces is broken by STREAM frames alone
 
--- those below a bound
-starts_to : (ℕ → Bool) → ℕ → List ℕ
-starts_to test zero = []
-starts_to test (suc n) = cond (test n) (n ∷ starts_to test n) (starts_to test n)
+-- no rule of ids is that of pieces
+way_apart : (own opened past : Bool) → (if own then (if opened then None else Some StreamState) else (if past then Some StreamLimit else None)) ≡ Some Pieces → ⊥
+way_apart true true past is = cc
+way_apart true false past is = cc
+way_apart false opened true is = cc
+way_apart false opened false is = cc
 
-starts_count : (test : ℕ → Bool) (n : ℕ) → length (starts_to test n) ≡ count_to test n
-unfolding starts_to
-starts_count test zero = refl
-starts_count test (suc n) = go (test n) (starts_count test n)
+beyond_apart : (s : StreamsState) (id : ℕ) → beyond s id ≡ Some Pieces → ⊥
+beyond_apart s id is = way_apart (is_own s.side id) (is_opened s id) (nat_le (raised_count (dir_of id) s.opening) (index_of id)) is
+
+refused_apart : (s : StreamsState) (id : ℕ) (b : Bool) → (if b then Some StreamState else beyond s id) ≡ Some Pieces → ⊥
+refused_apart s id true is = cc
+refused_apart s id false is = beyond_apart s id is
+
+receiving_apart : (s : StreamsState) (id : ℕ) → receiving_refusal s id ≡ Some Pieces → ⊥
+receiving_apart s id is = refused_apart s id (is_own s.side id && not (is_two_way (dir_of id))) is
+
+sending_apart : (s : StreamsState) (id : ℕ) → sending_refusal s id ≡ Some Pieces → ⊥
+sending_apart s id is = refused_apart s id (not (is_own s.side id) && not (is_two_way (dir_of id))) is
+
+-- nor is one of sizes and limits
+sizes_apart : (far breaks limit : Bool) → (if far then Some FlowControl else (if breaks then Some FinalSize else (if limit then Some FlowControl else None))) ≡ Some Pieces → ⊥
+sizes_apart true breaks limit is = cc
+sizes_apart false true limit is = cc
+sizes_apart false false true is = cc
+sizes_apart false false false is = cc
+
+part_apart : (o : Option RecvHalf) (r : Receiving) (end : ℕ) (fin : Bool) → breach_at o r end fin ≡ Some Pieces → ⊥
+part_apart None r end fin is = cc
+part_apart (Some h) r end fin is = sizes_apart (nat_le (2 ^ 62) end) (breaks_final h.final h.seen end fin) (breaks_limit r h end) is
+
+behind_apart : (o : Option Breach) (s : StreamsState) (id end : ℕ) (fin : Bool) → receiving_refusal s id ≡ o → breach_behind o s id end fin ≡ Some Pieces → ⊥
+behind_apart (Some b) s id end fin here is = receiving_apart s id (here ∙ is)
+behind_apart None s id end fin here is = part_apart (part_for s id) s.receiving end fin is
+
+refusal_apart : (s : StreamsState) (id end : ℕ) (fin : Bool) → refusal s id end fin ≡ Some Pieces → ⊥
+refusal_apart s id end fin is = behind_apart (receiving_refusal s id) s id end fin refl is
+
+counts_apart : (b : Bool) → (if b then Some FrameEncoding else None) ≡ Some Pieces → ⊥
+counts_apart true is = cc
+counts_apart false is = cc
+
+blocked_apart : (b : Bool) → (if b then Some StreamState else None) ≡ Some Pieces → ⊥
+blocked_apart true is = cc
+blocked_apart false is = cc
+
+-- the fault of a rule that is that of pieces
+pieces_of : (o : Option Breach) → fault_of o ≡ Some too_many_pieces → o ≡ Some Pieces
+pieces_of None is = cc
+pieces_of (Some FlowControl) is = cc
+pieces_of (Some StreamLimit) is = cc
+pieces_of (Some StreamState) is = cc
+pieces_of (Some FinalSize) is = cc
+pieces_of (Some FrameEncoding) is = cc
+pieces_of (Some Pieces) is = refl
+
+-- a frame that comes to too many pieces
+record Crowds (f : FrameValue) (e : End) : Type 0 where
+  frame : StreamValue
+  is : f ≡ stream frame
+  breach : stream_breach e.streams frame ≡ Some Pieces
+
+server_apart : (side : Side) → fault_at side ≡ Some too_many_pieces → ⊥
+server_apart Client is = cc
+server_apart Server is = cc
+
+ack_apart : (b : Bool) (a : AckValue) (e : End) → (ack_taken b a e).fault ≡ Some too_many_pieces → ⊥
+ack_apart true a e is = cc
+ack_apart false a e is = cc
+
+crowds : (f : FrameValue) (e : End) → (take_frame f e).fault ≡ Some too_many_pieces → Crowds f e
+crowds (stream g) e is = record { frame = g; is = refl; breach = pieces_of (stream_breach e.streams g) is }
+crowds (reset_stream g) e is = absurd (refusal_apart e.streams g.id g.final_size true (pieces_of (reset_breach e.streams g) is))
+crowds (stop_sending g) e is = absurd (sending_apart e.streams g.id (pieces_of (sending_refusal e.streams g.id) is))
+crowds (max_data limit) e is = cc
+crowds (max_stream_data g) e is = absurd (sending_apart e.streams g.id (pieces_of (sending_refusal e.streams g.id) is))
+crowds (max_streams g) e is = absurd (counts_apart (nat_lt most_streams g.count) (pieces_of (max_streams_breach g.count) is))
+crowds (stream_data_blocked g) e is = absurd (blocked_apart (is_own e.streams.side g.id && not (is_two_way (dir_of g.id))) (pieces_of (stream_data_blocked_breach e.streams g.id) is))
+crowds (streams_blocked g) e is = absurd (counts_apart (nat_lt most_streams g.count) (pieces_of (streams_blocked_breach g.count) is))
+crowds (new_token t) e is = absurd (server_apart (side_of e) is)
+crowds handshake_done e is = absurd (server_apart (side_of e) is)
+crowds (ack a) e is = absurd (ack_apart (nat_le e.numbers.next a.largest) a e is)
+crowds f e is = cc
+
+-- ---- the frames of a packet up to the one that comes to too many pieces
+
+pub record UpTo (frames : List FrameValue) (e : End) : Type 0 where
+  pub front : List FrameValue
+  pub frame : StreamValue
+  pub rest : List FrameValue
+  pub split : frames ≡ front ++ stream frame ∷ rest
+  pub passes : (passed front e).fault ≡ None
+  pub breach : stream_breach (passed front e).end.streams frame ≡ Some Pieces
+
+pub up_to : (frames : List FrameValue) (e : End) → (passed frames e).fault ≡ Some too_many_pieces → UpTo frames e
+up_to [] e is = cc
+up_to (f ∷ fs) e is = go (take_frame f e).fault refl is (λ j. up_to fs (take_frame f e).end j)
   where
-    go : (b : Bool) → length (starts_to test n) ≡ count_to test n → length (cond b (n ∷ starts_to test n) (starts_to test n)) ≡ cond b 1 0 + count_to test n
-    go true rest = omega arith
-    go false rest = omega arith
-
-starts_pass : (test : ℕ → Bool) (n o : ℕ) → In o (starts_to test n) → test o ≡ true
-unfolding starts_to
-starts_pass test zero o i = absurd i
-starts_pass test (suc n) o i = go (test n) refl i (starts_pass test n o)
-  where
-    go : (b : Bool) → test n ≡ b → In o (cond b (n ∷ starts_to test n) (starts_to test n)) → (In o (starts_to test n) → test o ≡ true) → test o ≡ true
-    go true is (inl same) rest = ap test same ∙ is
-    go true is (inr i) rest = rest i
-    go false is i rest = rest i
-
-starts_below : (test : ℕ → Bool) (n high : ℕ) → n ≤ high → AllByRecursion (λ y. eqb high y ≡ false) (starts_to test n)
-unfolding starts_to
-starts_below test zero high l = tt
-starts_below test (suc n) high l = go (test n) (starts_below test n high (omega arith))
-  where
-    go : (b : Bool) → AllByRecursion (λ y. eqb high y ≡ false) (starts_to test n) → AllByRecursion (λ y. eqb high y ≡ false) (cond b (n ∷ starts_to test n) (starts_to test n))
-    go true rest = (ne_eqb high n (λ e. omega arith), rest)
-    go false rest = rest
-
-starts_differ : (test : ℕ → Bool) (n : ℕ) → IsDistinct eqb (starts_to test n)
-unfolding starts_to IsDistinct
-starts_differ test zero = tt
-starts_differ test (suc n) = go (test n) (starts_differ test n)
-  where
-    go : (b : Bool) → IsDistinct eqb (starts_to test n) → IsDistinct eqb (cond b (n ∷ starts_to test n) (starts_to test n))
-    go true rest = (starts_below test n n (omega arith), rest)
-    go false rest = rest
-
--- ---- the runs of parts are the maximal runs of the offsets that wait
-
--- a bound on offsets
-some_bound : (n : ℕ) × (2 ^ 62 ≤ n)
-some_bound = (2 ^ 62, omega arith)
-
--- where a set has the offsets that wait in parts, and no others, more runs of it begin than of them
-more_runs : (S : ℕ → Type 0) (low : ℕ) (ps : List Part) (count : ℕ) → AreApart low ps → ((o : ℕ) → waits ps o ≡ true → S o) → ((o : ℕ) → S o → waits ps o ≡ true) → count < runs_of ps → HasMoreRuns S count
-more_runs S low ps count apart in_set waiting many = at some_bound
-  where
-    begins : (o : ℕ) → begins_run ps o ≡ true → BeginsRun S o
-    begins o is =
-        let parts = and_parts (waits ps o) (not (waits_before ps o)) is in
-        record { here = in_set o parts.0; alone = alone parts.1 }
-      where
-        alone : not (waits_before ps o) ≡ true → (before : ℕ) → before + 1 ≡ o → S before → ⊥
-        alone none before next there =
-            let zero_off : (before + 1 == 0) ≡ false = ne_eqb (before + 1) 0 (λ e. omega arith) in
-            let back : before + 1 - 1 ≡ before = omega arith in
-            let on : waits_before ps (before + 1) ≡ true = rw (zero_off, back) (waiting before there) in
-            let both : not (waits_before ps (before + 1)) ≡ true = subst (λ (k : ℕ). not (waits_before ps k) ≡ true) (sym next) none in
-            let clash : false ≡ true = sym (ap not on) ∙ both in
-            cc
-
-    at : (n : ℕ) × (2 ^ 62 ≤ n) → HasMoreRuns S count
-    at bound =
-        let counted : runs_of ps ≡ count_to (begins_run ps) bound.0 = runs_counted low ps bound.0 apart bound.1 in
-        let long = starts_count (begins_run ps) bound.0 in
+    go : (o : Option Fault) → (take_frame f e).fault ≡ o → (unless_fault o (take_frame f e) (take_items (map Ok fs))).fault ≡ Some too_many_pieces → ((passed fs (take_frame f e).end).fault ≡ Some too_many_pieces → UpTo fs (take_frame f e).end) → UpTo (f ∷ fs) e
+    go None none there later =
+        let w = later there in
+        let one : passed (f ∷ w.front) e ≡ passed w.front (take_frame f e).end = ap (λ (o : Option Fault). unless_fault o (take_frame f e) (take_items (map Ok w.front))) none in
         record {
-          starts = starts_to (begins_run ps) bound.0;
-          distinct = starts_differ (begins_run ps) bound.0;
-          begins = λ o i. begins o (starts_pass (begins_run ps) bound.0 o i);
-          more = omega arith;
+          front = f ∷ w.front;
+          frame = w.frame;
+          rest = w.rest;
+          split = ap (λ (xs : List FrameValue). f ∷ xs) w.split;
+          passes = ap (λ (p : Progress). p.fault) one ∙ w.passes;
+          breach = subst (λ (p : Progress). stream_breach p.end.streams w.frame ≡ Some Pieces) (sym one) w.breach;
         }
+    go (Some x) some there later =
+        let here = crowds f e there in
+        record { front = []; frame = here.frame; rest = fs; split = ap (λ (g : FrameValue). g ∷ fs) here.is; passes = refl; breach = here.breach }
 
--- ---- what was read
+-- ---- the half of its stream, once the frame is kept
 
-in_below : (o from : ℕ) (bytes : List ℕ) → In o (offsets_from from bytes) → o < from + length bytes
-in_below o from [] i = absurd i
-in_below o from (b ∷ bytes) (inl is) = omega arith
-in_below o from (b ∷ bytes) (inr i) = let rest = in_below o (from + 1) bytes i in omega arith
+-- A half that is in use, and on which too many pieces wait: neither stopped nor reset.
+record IsCrowdedHalf (id : ℕ) (s : StreamsState) : Type 0 where
+  half : RecvHalf
+  there : receiving_half s id ≡ Some half
+  many : has_too_many half ≡ true
+  goes : half.stopped ≡ false
+  free : half.reset ≡ None
 
-below_in : (o from : ℕ) (bytes : List ℕ) → from ≤ o → o < from + length bytes → In o (offsets_from from bytes)
-below_in o from [] low high = absurd (omega arith)
-below_in o from (b ∷ bytes) low high = go (cases_lt from o) (below_in o (from + 1) bytes)
+-- nothing waits of one on which nothing is taken any more
+not_idle : (came : ℕ → Type 0) (h : RecvHalf) → IsComeHalf came h → has_too_many h ≡ true → IsIdle h → ⊥
+not_idle came h c many idle =
+    let none : has_too_many h ≡ false = ap (λ ps. nat_lt MOST_PIECES (runs_of ps)) (c.idle idle) in
+    both_ways (has_too_many h) none many
+
+module _ (s : StreamsState) (p : Retransmits) (f : StreamValue) (breach : stream_breach s f ≡ Some Pieces) where
+  -- no other rule was broken
+  allowed : refusal s f.id (end_of f) f.fin ≡ None
+  allowed = go (refusal s f.id (end_of f) f.fin) refl breach
+    where
+      go : (o : Option Breach) → refusal s f.id (end_of f) f.fin ≡ o → breach_kept o s f ≡ Some Pieces → refusal s f.id (end_of f) f.fin ≡ None
+      go (Some b) here is = absurd (refusal_apart s f.id (end_of f) f.fin (here ∙ is))
+      go None here is = here
+
+  -- so it is kept, and brings its part to too many
+  at_part : too_many_at (part_for s f.id) f ≡ Some Pieces
+  at_part = subst (λ (o : Option Breach). breach_kept o s f ≡ Some Pieces) allowed breach
+
+  crowded_half : (came more : ℕ → ℕ → Type 0) → ((id o : ℕ) → came id o → more id o) → ((o : ℕ) → f.offset ≤ o → o < end_of f → more f.id o) → HasCome came s → IsCrowdedHalf f.id (after_stream s p f).state
+  crowded_half came more wider brings i = stream_cases s p f (IsCrowdedHalf f.id) refused ended takes
+    where
+      refused : (b : Breach) → refusal s f.id (end_of f) f.fin ≡ Some b → IsCrowdedHalf f.id s
+      refused b is = let clash : None ≡ Some b = sym allowed ∙ is in cc
+
+      ended : receiving_refusal s f.id ≡ None → part_for s f.id ≡ None → IsCrowdedHalf f.id s
+      ended within none = let clash : None ≡ Some Pieces = sym (ap (λ (o : Option RecvHalf). too_many_at o f) none) ∙ at_part in cc
+
+      too_many : (b : Bool) → (if b then Some Pieces else None) ≡ Some Pieces → b ≡ true
+      too_many true is = refl
+      too_many false is = cc
+
+      off : (b : Bool) → (b ≡ true → ⊥) → b ≡ false
+      off true never = absurd (never refl)
+      off false never = refl
+
+      unset : (o : Option ℕ) → (is_some o ≡ true → ⊥) → o ≡ None
+      unset (Some code) never = absurd (never refl)
+      unset None never = refl
+
+      takes : (h : RecvHalf) → beyond s f.id ≡ None → part_for s f.id ≡ Some h → Unbroken s.receiving h (end_of f) f.fin → IsCrowdedHalf f.id (renewed s f.id h (after_frame h f) true)
+      takes h within part u = record { half = new; there = there; many = many; goes = goes; free = unset new.reset (λ set. not_idle (more f.id) new now many (inr set)) }
+        where
+          new : RecvHalf
+          new = after_frame h f
+
+          many : has_too_many (after_frame h f) ≡ true
+          many = too_many (has_too_many (after_frame h f)) (sym (ap (λ (o : Option RecvHalf). too_many_at o f) part) ∙ at_part)
+
+          before : IsComeHalf (came f.id) h
+          before = come_at came (opened_by s f.id) f.id h part (by_opened (HasCome came) (come_kept came) s f.id within i)
+
+          now : IsComeHalf (more f.id) (after_frame h f)
+          now = come_frame (came f.id) (more f.id) s.receiving h f (wider f.id) brings u before
+
+          goes : (after_frame h f).stopped ≡ false
+          goes = off (after_frame h f).stopped (λ on. not_idle (more f.id) (after_frame h f) now many (inl on))
+
+          here : receiving_half (with_recv (opened_by s f.id) f.id (after_frame h f)) f.id ≡ Some (after_frame h f)
+          here = live_receives (with_recv (opened_by s f.id) f.id (after_frame h f)) f.id (after_frame h f) (at-half (opened_by s f.id).side (opened_by s f.id).receiving.halves f.id (after_frame h f))
+
+          by_end : (b c : Bool) → b ≡ false → receiving_half (readable_if c f.id (ended_if b f.id (with_recv (opened_by s f.id) f.id (after_frame h f)))) f.id ≡ Some (after_frame h f)
+          by_end true c is = cc
+          by_end false true is = here
+          by_end false false is = here
+
+          there : receiving_half (renewed s f.id h (after_frame h f) true) f.id ≡ Some (after_frame h f)
+          there = by_end ((after_frame h f).stopped && is_some (after_frame h f).final) (true && not (h.stopped || opens s f.id)) (ap (λ (b : Bool). b && is_some (after_frame h f).final) goes)
+
+-- ---- what came, over the frames of a packet
+
+-- over the frames that are left: each stands in the packet
+record Among (frames : List FrameValue) (came : ℕ → ℕ → Type 0) (left : List FrameValue) (x : End) : Type 0 where
+  among : (f : FrameValue) → In f left → In f frames
+  holds : HasCome came x.streams
+
+-- where each STREAM frame among them came
+pub frames_come : (came : ℕ → ℕ → Type 0) (frames : List FrameValue) (e : End) → ((f : StreamValue) → In (stream f) frames → (o : ℕ) → f.offset ≤ o → o < end_of f → came f.id o) → HasCome came e.streams → HasCome came (passed frames e).end.streams
+frames_come came frames e brings i = (frames_leave (Among frames came) step frames e (record { among = λ f j. j; holds = i })).1.holds
   where
-    go : (from < o) ⊎ (o ≤ from) → (from + 1 ≤ o → o < from + 1 + length bytes → In o (offsets_from (from + 1) bytes)) → In o (offsets_from from (b ∷ bytes))
-    go (inl less) rest = inr (rest (omega arith) (omega arith))
-    go (inr more) rest = inl (omega arith)
+    step : (f : FrameValue) (left : List FrameValue) (x : End) → Among frames came (f ∷ left) x → Among frames came left (take_frame f x).end
+    step f left x g = record {
+      among = λ h j. g.among h (inr j);
+      holds = frame_quiet (HasCome came) (is_quiet (HasCome came) (come_kept came)) f x
+          (λ h is. come_stream came came x.streams x.waiting.frames h (λ id o c. c) (brings h (subst (λ (y : FrameValue). In y frames) is (g.among f (inl refl)))) g.holds)
+          (λ h is. come_reset_frame came x.streams x.waiting.frames h g.holds)
+          g.holds;
+    }
 
--- ---- a frame that comes to too many
+-- what came before a packet came still
+pub came_before : (p : Packet) (took : List Packet) (id o : ℕ) → HasArrived took id o → HasArrived (p ∷ took) id o
+came_before p took id o a = record {
+  frame = a.frame;
+  taken = record { packet = a.taken.packet; was_taken = inr a.taken.was_taken; carried = a.taken.carried };
+  of_stream = a.of_stream;
+  from = a.from;
+  below = a.below;
+}
 
-module _ (l : Limits) (wrote read : List Told) (next number : ℕ) (front : List FrameValue) (took : List Packet) (small : l.stream < 2 ^ 62) (within : IsWithin l wrote) (e : End) (f : StreamValue)
-    (stand : Stand l wrote read (packet_of number front ∷ took) next e) (says : IsWritten (written f.id wrote) (ended f.id wrote) f) (crowds : Crowds e f) where
-  -- with the frame
+-- and so did what stands in it
+pub came_now : (p : Packet) (took : List Packet) (f : StreamValue) → In (stream f) p.frames → (o : ℕ) → f.offset ≤ o → o < end_of f → HasArrived (p ∷ took) f.id o
+came_now p took f i o from below = record { frame = f; taken = record { packet = p; was_taken = inl refl; carried = i }; of_stream = refl; from = from; below = below }
+
+-- ---- a packet that comes to too many pieces
+
+-- with its frames up to that one, more runs of its stream had arrived and not been read than may wait
+pub record IsCrowdedBy (told : List Told) (took : List Packet) (n : ℕ) (frames : List FrameValue) : Type 0 where
+  pub front : List FrameValue
+  pub frame : StreamValue
+  pub rest : List FrameValue
+  pub split : frames ≡ front ++ stream frame ∷ rest
+  pub many : HasMoreRuns (IsUnread (record { number = n; frames = front ++ stream frame ∷ [] } ∷ took) told frame.id) MOST_PIECES
+
+module _ (side : Side) (done : ℕ → Wrote) (told : List Told) (took : List Packet) (n : ℕ) (frames : List FrameValue) (e : End) (says : (f : FrameValue) → In f frames → SaysOf done f)
+    (reads_are : HoldsRead done (read told) e.streams) (brought : Brought side (WasIn took) e.streams) (come : HasCome (λ id o. HasArrived took id o) e.streams) (w : UpTo frames e) where
+  -- the packet up to its frame
+  abbrev part : Packet
+  part = record { number = n; frames = w.front ++ stream w.frame ∷ [] }
+
   abbrev packets : List Packet
-  packets = packet_of number (front ++ stream f ∷ []) ∷ took
+  packets = part ∷ took
 
-  -- the half of the frame
-  at_half : (h : RecvHalf) → half_for (at e.receiving.halves f.id) e.receiving f.id ≡ Some h → nat_lt MOST_PIECES (runs_of (after_insert h.arrived f.offset f.bytes).parts) ≡ true → HasMoreRuns (IsUnread packets read f.id) MOST_PIECES
-  at_half h is many =
-      more_runs (IsUnread packets read f.id) h.arrived.read (with_frame h f).arrived.parts MOST_PIECES lawful.apart
-      (λ o w. (came_with l wrote read next small within number front took e f h content p.may is near stand.came o w, unread o w)) back (ltb-true MOST_PIECES (runs_of (after_insert h.arrived f.offset f.bytes).parts) many)
+  -- the end that takes the frame
+  abbrev x : End
+  x = (passed w.front e).end
+
+  among : (g : FrameValue) → In g w.front → In g frames
+  among g i = subst (In g) (sym w.split) (in_left g w.front (stream w.frame ∷ w.rest) i)
+
+  its : In (stream w.frame) frames
+  its = subst (In (stream w.frame)) (sym w.split) (last w.front)
     where
-      content : Content e.side e.sending e.receiving wrote read
-      content = stand.rests.content
+      last : (xs : List FrameValue) → In (stream w.frame) (xs ++ stream w.frame ∷ w.rest)
+      last [] = inl refl
+      last (y ∷ xs) = inr (last xs)
 
-      p : Passes e.side e.receiving f
-      p = passes e.side e.receiving f crowds.none
+  -- what holds before the frame
+  come_there : HasCome (λ id o. HasArrived packets id o) x.streams
+  come_there = frames_come (λ id o. HasArrived packets id o) w.front e (λ g i. came_now part took g (in_left (stream g) w.front (stream w.frame ∷ []) i)) (come_wider (λ id o. HasArrived took id o) (λ id o. HasArrived packets id o) e.streams (came_before part took) come)
 
-      breach : breach_at (Some h) e.receiving f ≡ None
-      breach = subst (λ (o : Option RecvHalf). breach_at o e.receiving f ≡ None) is p.breach
+  -- and behind it
+  abbrev after : StreamsState
+  after = (after_stream x.streams x.waiting.frames w.frame).state
 
-      near : end_of f < 2 ^ 62
-      near = frame_is_small e.receiving h f breach
+  come_after : HasCome (λ id o. HasArrived packets id o) after
+  come_after = come_stream (λ id o. HasArrived packets id o) (λ id o. HasArrived packets id o) x.streams x.waiting.frames w.frame (λ id o a. a) (came_now part took w.frame (in_last (stream w.frame) w.front)) come_there
 
-      reading : IsReading (written f.id wrote) (ended f.id wrote) (nexts f.id read) h
-      reading = reading_for e.side e.sending e.receiving f.id wrote read h content p.may is
+  read_after : HoldsRead done (read told) after
+  read_after = read_stream done (read told) x.streams x.waiting.frames w.frame (says (stream w.frame) its) (frames_read done (read told) w.front e (λ g i. says g (among g i)) reads_are)
 
-      lawful : IsLawful (with_frame h f).arrived
-      lawful = insert_lawful h.arrived f.offset f.bytes reading.lawful near
+  -- what was taken before the frame
+  abbrev were : FrameValue → Type 0
+  were g = WasIn took g ⊎ In g w.front
 
-      plain : (o : ℕ) → byte_at (with_frame h f).arrived.parts o ≡ cond (ltb o h.arrived.read) None (option_or (byte_at h.arrived.parts o) (byte_from f.offset f.bytes o))
-      plain o = insert_plain h.arrived f.offset f.bytes o reading.lawful reading.ordered near
-
-      offsets : offsets_of (reads f.id read) ≡ offsets_from 0 (bytes_of (chunks_of (nexts f.id read)))
-      offsets = offsets_are (written f.id wrote) (ended f.id wrote) [] (nexts f.id read) (content.order f.id)
-
-      long : length (bytes_of (chunks_of (nexts f.id read))) ≡ h.arrived.read
-      long =
-          let cut = length-take h.arrived.read (written f.id wrote) in
-          let same = ap length reading.read in
-          let short = reading.within in
-          omega arith
-
-      -- what waits wasn't read
-      unread : (o : ℕ) → Waits (with_frame h f) o → In o (offsets_of (reads f.id read)) → ⊥
-      unread o w i =
-          let below = in_below o 0 (bytes_of (chunks_of (nexts f.id read))) (subst (λ (os : List ℕ). In o os) offsets i) in
-          let same = long in
-          let low : ltb o h.arrived.read ≡ true = lt-ltb o h.arrived.read (omega arith) in
-          let none : byte_at (with_frame h f).arrived.parts o ≡ None = rw (plain o, low) refl in
-          let clash = subst (λ (x : Option ℕ). is_some x ≡ true) none w in
-          cc
-
-      -- each frame of the stream that came is kept
-      kept_old : (g : StreamValue) → WasTaken (packet_of number front ∷ took) g → g.id ≡ f.id → IsKept g (with_frame h f)
-      kept_old g was same = kept_over_frame (written f.id wrote) (ended f.id wrote) (nexts f.id read) h f g reading says near (go (half_here (at e.receiving.halves f.id) e.receiving f.id h is))
-        where
-          go : (at e.receiving.halves f.id ≡ Some h) ⊎ ((e.receiving.opened_bi ≤ index_of f.id) × (h ≡ untouched)) → IsKept g h
-          go (inl found) = stand.rests.kept.kept g h was (ap (λ (q : ℕ). at e.receiving.halves q) same ∙ found)
-          go (inr new) =
-              let place : index_of g.id ≡ index_of f.id = ap (λ (q : ℕ). index_of q) same in
-              let below = stand.rests.kept.opened g was in
-              let above = new.0 in
-              absurd (omega arith)
-
-      kept_of : (g : StreamValue) → WasTaken packets g → g.id ≡ f.id → IsKept g (with_frame h f)
-      kept_of g was same = go was.was_taken
-        where
-          among : In (stream g) front ⊎ (stream g ≡ stream f) → IsKept g (with_frame h f)
-          among (inl i) = kept_old g (record { packet = packet_of number front; was_taken = inl refl; carried = i }) same
-          among (inr is_f) =
-              let this : g ≡ f = cc in
-              subst (λ (x : StreamValue). IsKept x (with_frame h f)) (sym this) (kept_frame (written f.id wrote) (ended f.id wrote) (nexts f.id read) h f reading near)
-
-          go : (was.packet ≡ packet_of number (front ++ stream f ∷ [])) ⊎ In was.packet took → IsKept g (with_frame h f)
-          go (inl packet) = among (in_more (stream g) (stream f) front (subst (λ (x : Packet). In (stream g) x.frames) packet was.carried))
-          go (inr i) = kept_old g (record { packet = was.packet; was_taken = inr i; carried = was.carried }) same
-
-      -- what arrived and wasn't read waits
-      back : (o : ℕ) → IsUnread packets read f.id o → waits (with_frame h f).arrived.parts o ≡ true
-      back o u = go ((kept_of u.0.frame u.0.taken u.0.of_stream).bytes o u.0.from u.0.below)
-        where
-          go : (o < (with_frame h f).arrived.read) ⊎ (is_some (byte_at (with_frame h f).arrived.parts o) ≡ true) → waits (with_frame h f).arrived.parts o ≡ true
-          go (inr w) = w
-          go (inl low) = absurd (u.1 (subst (λ (os : List ℕ). In o os) (sym offsets) (below_in o 0 (bytes_of (chunks_of (nexts f.id read))) (omega arith) (let same = long in omega arith))))
-
-  pub crowded : HasMoreRuns (IsUnread packets read f.id) MOST_PIECES
-  crowded = go (half_for (at e.receiving.halves f.id) e.receiving f.id) refl crowds.many
+  taken_after : HoldsTaken (WasTaken packets) after
+  taken_after = taken_stream (λ g. were (stream g)) (WasTaken packets) x.streams x.waiting.frames w.frame one (frames_bring side (WasIn took) were w.front e (λ g m. m) w.passes brought).taken
     where
-      go : (o : Option RecvHalf) → half_for (at e.receiving.halves f.id) e.receiving f.id ≡ o → too_many o f ≡ true → HasMoreRuns (IsUnread packets read f.id) MOST_PIECES
-      go None is many = cc
-      go (Some h) is many = at_half h is many
+      in_packet : (g : StreamValue) → In (stream g) (w.front ++ stream w.frame ∷ []) → were (stream g) ⊎ ((g ≡ w.frame) × (refusal x.streams w.frame.id (end_of w.frame) w.frame.fin ≡ None))
+      in_packet g i = elim (in_append (stream g) w.front (stream w.frame ∷ []) i) [
+        | inl old ↦ inl (inr old)
+        | inr new ↦ elim new [ inl is ↦ (let same : g ≡ w.frame = cc in inr (same, allowed x.streams x.waiting.frames w.frame w.breach)) | inr none ↦ absurd none ]
+      ]
+
+      one : TakesMore x.streams w.frame (λ g. were (stream g)) (WasTaken packets)
+      one g t = elim t.was_taken [
+        | inl is ↦ in_packet g (subst (λ (q : Packet). In (stream g) q.frames) is t.carried)
+        | inr old ↦ inl (inl (record { packet = t.packet; was_taken = old; carried = t.carried }))
+      ]
+
+  -- the half of the frame's stream
+  crowd : IsCrowdedHalf w.frame.id after
+  crowd = crowded_half x.streams x.waiting.frames w.frame w.breach (λ id o. HasArrived packets id o) (λ id o. HasArrived packets id o) (λ id o a. a) (came_now part took w.frame (in_last (stream w.frame) w.front)) come_there
+
+  pub crowded : IsCrowdedBy told took n frames
+  crowded = record { front = w.front; frame = w.frame; rest = w.rest; split = w.split; many = at_half crowd }
+    where
+      at_half : IsCrowdedHalf w.frame.id after → HasMoreRuns (IsUnread packets told w.frame.id) MOST_PIECES
+      at_half c = more_runs (IsUnread packets told w.frame.id) c.half.arrived.read c.half.arrived.parts MOST_PIECES came.lawful.apart in_set waiting (ltb-true MOST_PIECES (runs_of c.half.arrived.parts) c.many)
+        where
+          came : IsComeHalf (λ o. HasArrived packets w.frame.id o) c.half
+          came = come_at (λ id o. HasArrived packets id o) after w.frame.id c.half c.there come_after
+
+          was_read : IsRecvHalf (done w.frame.id) (read told w.frame.id) c.half
+          was_read = read_at done (read told) after w.frame.id c.half c.there read_after
+
+          kept : IsKeptHalf (WasTaken packets) w.frame.id c.half
+          kept = at_half_of (λ id s. IsKeptStatus (WasTaken packets) id s) (goes_on_kept (WasTaken packets)) after w.frame.id c.half c.there taken_after
+
+          -- what waits came, and wasn't read
+          in_set : (o : ℕ) → waits c.half.arrived.parts o ≡ true → IsUnread packets told w.frame.id o
+          in_set o on = (came.waiting o on, λ i. unread i)
+            where
+              unread : In o (offsets_of (reads w.frame.id told)) → ⊥
+              unread i =
+                  let given : is_given c.half.arrived o ≡ true = was_read.given o ∙ in_given (reads w.frame.id told) o i in
+                  let none : waits c.half.arrived.parts o ≡ false = ap is_some (given_waits_not c.half.arrived o came.lawful given) in
+                  both_ways (waits c.half.arrived.parts o) none on
+
+          -- what came, and wasn't read, waits
+          waiting : (o : ℕ) → IsUnread packets told w.frame.id o → waits c.half.arrived.parts o ≡ true
+          waiting o u =
+              let a = u.0 in
+              go (is_given c.half.arrived o) refl ((kept.frames c.goes c.free a.frame a.taken a.of_stream).bytes o a.from a.below)
+            where
+              go : (b : Bool) → is_given c.half.arrived o ≡ b → (b || waits c.half.arrived.parts o) ≡ true → waits c.half.arrived.parts o ≡ true
+              go true is on = absurd (u.1 (given_in (reads w.frame.id told) o (sym (was_read.given o) ∙ is)))
+              go false is on = on

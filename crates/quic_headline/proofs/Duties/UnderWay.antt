@@ -1,231 +1,272 @@
--- What flies of an end's duties stands in a packet that it tracks: each call keeps that, by the laws of `OnHalves`.
-use Rattle.std.proofs.Common.{◌≡◌, ℕ, ◌<◌, Bool, true, false, List, [], ◌∷◌, ◌++◌, length, Option, Some, None, Result, Ok, Err, refl, sym, ap, ◌∙◌, subst, ◌⊎◌, inl, inr, arith}
-use Rattle.std.specs.Prelude.{if◌then◌else◌, take}
-use Rattle.std.specs.Ordering.{nat_cmp, match_ordering}
-use Rattle.std.specs.declared.cmp.Ordering.{Ordering}
-use Rattle.std.specs.declared.cmp.Ordering.TheVariants.{Less, Equal, Greater}
+-- What of an end's streams is in flight stands in a packet that it tracks: each call keeps that.
+use Rattle.std.proofs.Common.{◌≡◌, ℕ, Bool, true, false, not, List, [], ◌∷◌, ◌++◌, Option, Some, None, refl, sym, ap, subst, ◌⊎◌, inl, inr}
+use Rattle.std.specs.Prelude.{nat_le}
 use Rattle.std.proofs.lemmas.Bool.{or_parts}
-use Rattle.std.proofs.lemmas.Cmp.{ranked}
-use Rattle.quic_wire_core.specs.declared.stream_id.Side.{Side}
-use Rattle.quic_wire_core.specs.declared.stream_id.Dir.{Dir}
-use Rattle.quic_wire_core.specs.declared.stream_id.Dir.TheVariants.{Bi, Uni}
-use Rattle.quic_wire.specs.Value.{FrameValue, AckValue, ack, stream, ping, asks}
-use Rattle.quic_send_buffer.specs.Buffered.{IsBuffered}
+use Rattle.quic_wire.specs.Value.{FrameValue, AckValue, ack, ping, stream, reset_stream, stop_sending, max_data, max_stream_data, max_streams, stream_data_blocked, streams_blocked, asks}
 use Rattle.quic_send_buffer.specs.declared.stream_meta.StreamMeta.{StreamMeta}
-use Rattle.quic_streams.specs.declared.answers.WriteError.{WriteError}
+use Rattle.quic_streams_parts.specs.Table.{Table, at, added}
+use Rattle.quic_streams_parts.specs.SendHalf.{SendHalf, frame_of, meta_of, half_after}
+use Rattle.quic_streams_state.specs.declared.state.StreamsState.{StreamsState}
+use Rattle.quic_streams_state.specs.Frames.{after_frame_sent}
+use Rattle.quic_streams_laws.specs.KeepingLaws.{by_stream, by_reset_frame, by_stop_sending, by_max_data, by_max_stream_data, by_max_streams, by_reset_acked, by_polled, by_frame as by_half_frame}
+use Rattle.quic_streams_laws.specs.QuietLaws.{by_told}
+use Rattle.quic_streams_laws.specs.Written.{Wrote}
+use Rattle.quic_streams_laws.specs.WrittenHalves.{stopped_holds, limited_holds, polled_holds}
 use Rattle.quic_machine.specs.declared.run.Call.{Call}
 use Rattle.quic_machine.specs.declared.run.Answer.{Answer}
 use Rattle.quic_machine.specs.Policy.{Policy}
 use Rattle.quic_machine.specs.Numbers.{Numbers, cut_against}
-use Rattle.quic_streams.specs.Table.{Table, at, put, added}
-use Rattle.quic_machine.specs.Tracking.{Tracking, TrackedPacket, streams_in, carried_in, names, acked_by, not_acked_by, is_below, lost_below, kept_above}
-use Rattle.quic_streams.specs.Frames.{meta_of, frame_of, half_after}
-use Rattle.quic_streams.specs.Sending as sending
-use Rattle.quic_streams.specs.Sending.{SendHalf, next_id, first_limit, acked_at, lost_at, grown, grown_at, ended_at, after_open, after_written}
-use Rattle.quic_machine.specs.End.{End}
-use Rattle.quic_machine.specs.Acked.{without_known, stream_acked, streams_acked, packet_acked, packets_acked, stream_lost, streams_lost, packets_lost, after_named}
-use Rattle.quic_machine.specs.Receive.{take_frame}
-use Rattle.quic_machine.specs.Poll.{Polled, Draft, stream_room, stream_if, ack_of, composed, asking, tracked_if, after_given, polled}
-use Rattle.quic_machine.specs.Machine.{after_call}
-use Rattle.quic_headline.specs.Runs.{Told, Intake, In, written, ended}
-use Rattle.quic_headline.specs.Duties.{Duty, AnyIn, Carries, StandsIn, IsUnderWay}
+use Rattle.quic_machine.specs.Tracking.{Tracking, TrackedPacket, Carried, dir_named, streams_in, carried_in, names, acked_by, not_acked_by, is_below, lost_below, kept_above}
+use Rattle.quic_machine.specs.End.{End, streams_at}
+use Rattle.quic_machine.specs.Calls.{is_open}
+use Rattle.quic_machine.specs.StreamCalls.{is_on_streams}
+use Rattle.quic_machine.specs.Acked.{without_known, resets_acked, stream_acked, streams_acked, packet_acked, packets_acked, stream_lost, streams_lost, carried_lost, packets_lost, after_named}
+use Rattle.quic_machine.specs.Receive.{take_frame, Outcome}
+use Rattle.quic_machine.specs.Poll.{Polled, Draft, ack_of, composed, asking, tracked_if, after_given, polled}
 use Rattle.quic_machine.specs.DraftLaws.{by_writing}
-use Rattle.quic_headline.proofs.Halves.Sends.{half_streams}
-use Rattle.quic_headline.proofs.Halves.Losing.{stream_acked_sends, stream_lost_sends}
-use Rattle.quic_headline.proofs.Places.Invariant.{Streams, AreTracked}
-use Rattle.quic_headline.specs.Observer.{Sent}
-use Rattle.quic_headline.proofs.Packets.Delivered.{Arrivals, arrived}
-use Rattle.quic_machine.specs.FrameCases.{named, begun, frame_keeps, frames_keep}
-use Rattle.quic_headline.proofs.Halves.Writes.{half_at}
 use Rattle.quic_machine.specs.PollCases.{at_moment, by_poll_to, composes}
+use Rattle.quic_machine.specs.FrameCases.{OnStreams, named, ack_taken, begun, passed, resets_acked_keep, frames_leave}
 use Rattle.quic_machine.specs.CallCases.{is_delivery, by_call}
 use Rattle.quic_machine.specs.LeaveCases.{by_expired, by_event}
-use Rattle.quic_headline.proofs.Duties.Carrier.{Ledger, any_either, more, rests, moves, leaves, all_leave}
-use Rattle.quic_headline.proofs.Duties.OnHalves.{flies, new_rests, ended_waits, put_rests, went_moves, acked_leaves, lost_leaves}
+use Rattle.quic_machine.specs.Machine.{IsAnswer, after_call}
+use Rattle.quic_headline.specs.Runs.{Intake, In}
+use Rattle.quic_headline.specs.Duties.{Duty, AnyIn, Carries}
+use Rattle.quic_headline.proofs.Packets.Delivered.{Arrivals, arrived}
+use Rattle.quic_headline.proofs.Packets.Named.{in_filter, by_frame, frame_fewer}
+use Rattle.quic_headline.proofs.Halves.Small.{IsSmallLimit}
+use Rattle.quic_headline.proofs.Halves.Words.{call_with}
+use Rattle.quic_headline.proofs.Halves.WordsCalls.{done_none, call_on_is}
+use Rattle.quic_headline.proofs.Halves.Wrote.{done_by}
+use Rattle.quic_headline.proofs.Duties.Flies.{flies_more, flies_went}
+use Rattle.quic_headline.proofs.Duties.InStreams.{AllFly, all_more, fly_kept, fly_calls, fly_acked, fly_lost}
+use Rattle.quic_headline.proofs.Duties.Carrier.{any_either, any_front, any_behind, any_added, IsNew, all_leave}
 
--- each duty that flies of these halves stands somewhere
-abbrev Flies : (Duty → Type 0) → Table SendHalf → Type 0
-Flies F halves = Ledger (Table SendHalf) Duty flies F halves
+-- ---- where it stands
 
--- what flies of an end stands in a packet that it tracks
-abbrev pub Fly : End → Type 0
-Fly e = Flies (IsUnderWay e.tracking.packets) e.sending.halves
+-- in these STREAM frames
+abbrev InMetas : List StreamMeta → Duty → Type 0
+InMetas metas u = AnyIn (λ m. Carries m u) metas
+
+-- in the STREAM frames that a packet carried
+abbrev InPacket : ℕ × TrackedPacket → Duty → Type 0
+InPacket p u = InMetas p.1.carried.stream_frames u
+
+-- in one of these packets
+abbrev pub InPackets : Table TrackedPacket → Duty → Type 0
+InPackets packets u = AnyIn (λ p. InPacket p u) packets
+
+-- what is in flight of an end's streams stands in a packet that it tracks
+abbrev pub Fly : (ℕ → Wrote) → End → Type 0
+Fly done e = AllFly (InPackets e.tracking.packets) done e.streams
 
 -- ---- frames that are acknowledged or lost
 
-module _ (side : Side) (told : List Told) where
-  -- the halves hold what was written, and what flies of them stands somewhere
-  abbrev Sound : (Duty → Type 0) → End → Type 0
-  Sound F e = Streams side e.sending told × Flies F e.sending.halves
+module _ (done : ℕ → Wrote) where
+  -- a STREAM frame had the end only where there is one
+  abbrev Ends : StreamMeta → Type 0
+  Ends m = m.fin ≡ true → (done m.id).ended ≡ true
 
-  more_sound : (F G : Duty → Type 0) (e : End) → ((u : Duty) → F u → G u) → Sound F e → Sound G e
-  more_sound F G e wider i = (i.0, more (Table SendHalf) Duty flies F G e.sending.halves wider i.1)
+  -- so it was of those that a packet carried
+  abbrev pub CarriesEnds : Carried → Type 0
+  CarriesEnds c = (m : StreamMeta) → In m c.stream_frames → Ends m
 
-  -- the half of a stream is lawful
-  lawful : (e : End) (id : ℕ) → Streams side e.sending told → (h : SendHalf) → at e.sending.halves id ≡ Some h → IsBuffered h.buffer
-  lawful e id streams h found = (half_at side e.sending told id h streams found).lawful
+  abbrev EndsIn : ℕ × TrackedPacket → Type 0
+  EndsIn p = CarriesEnds p.1.carried
+
+  -- what is in flight stands in F
+  abbrev Stand : (Duty → Type 0) → End → Type 0
+  Stand F e = AllFly F done e.streams
+
+  stand_more : (F G : Duty → Type 0) (e : End) → ((u : Duty) → F u → G u) → Stand F e → Stand G e
+  stand_more F G e wider i = all_more F G done e.streams wider i
 
   -- an acknowledged frame
-  frame_acked : (F : Duty → Type 0) (m : StreamMeta) (e : End) → Sound (λ u. Carries m u ⊎ F u) e → Sound F (stream_acked m e)
-  frame_acked F m e i =
-      let half : Option SendHalf = at e.sending.halves m.id in
-      ((stream_acked_sends m e).streams side told i.0, leaves (Table SendHalf) Duty flies F (Carries m) e.sending.halves (acked_at half e.sending.halves m) (acked_leaves half e.sending.halves m refl (lawful e m.id i.0)) i.1)
+  frame_acked : (F : Duty → Type 0) (m : StreamMeta) (e : End) → Ends m → Stand (λ u. Carries m u ⊎ F u) e → Stand F (stream_acked m e)
+  frame_acked F m e ends i = fly_acked F done m e.streams e.waiting.frames ends i
 
   -- a lost frame
-  frame_lost : (F : Duty → Type 0) (m : StreamMeta) (e : End) → Sound (λ u. Carries m u ⊎ F u) e → Sound F (stream_lost m e)
-  frame_lost F m e i =
-      let half : Option SendHalf = at e.sending.halves m.id in
-      ((stream_lost_sends m e).streams side told i.0, leaves (Table SendHalf) Duty flies F (Carries m) e.sending.halves (lost_at half e.sending.halves m) (lost_leaves half e.sending.halves m refl (lawful e m.id i.0)) i.1)
+  frame_lost : (F : Duty → Type 0) (m : StreamMeta) (e : End) → Ends m → Stand (λ u. Carries m u ⊎ F u) e → Stand F (stream_lost m e)
+  frame_lost F m e ends i = fly_lost F done m e.streams e.waiting.frames ends i
 
   -- numbers that the peer knows of
-  known_sound : (F : Duty → Type 0) (o : Option ℕ) (e : End) → Sound F e → Sound F (without_known o e)
-  known_sound F None e i = i
-  known_sound F (Some n) e i = i
+  known_stands : (F : Duty → Type 0) (o : Option ℕ) (e : End) → Stand F e → Stand F (without_known o e)
+  known_stands F None e i = i
+  known_stands F (Some n) e i = i
+
+  -- RESET_STREAM frames are acknowledged
+  resets_stand : (F : Duty → Type 0) (rs : List (ℕ × ℕ)) (e : End) → Stand F e → Stand F (resets_acked rs e)
+  resets_stand F = resets_acked_keep (Stand F) (λ id e i. by_reset_acked (AllFly F done) (fly_kept F done) e.streams e.waiting.frames id i)
 
   -- an acknowledged packet
-  one_acked : (F : Duty → Type 0) (p : ℕ × TrackedPacket) (e : End) → Sound (λ u. StandsIn p.1.carried u ⊎ F u) e → Sound F (packet_acked p.1 e)
-  one_acked F p e i =
-      all_leave End Duty StreamMeta Carries Sound more_sound stream_acked frame_acked streams_acked (λ x. refl) (λ m ms x. refl) F p.1.carried.stream_frames (without_known p.1.carried.largest_acked e)
-      (known_sound (λ u. StandsIn p.1.carried u ⊎ F u) p.1.carried.largest_acked e i)
+  one_acked : (F : Duty → Type 0) (p : ℕ × TrackedPacket) (e : End) → EndsIn p → Stand (λ u. InPacket p u ⊎ F u) e → Stand F (packet_acked p.1 e)
+  one_acked F p e ends i =
+      let c : Carried = p.1.carried in
+      let G : Duty → Type 0 = λ u. InPacket p u ⊎ F u in
+      all_leave End Duty StreamMeta Carries Ends Stand stand_more stream_acked frame_acked streams_acked (λ x. refl) (λ m ms x. refl) F c.stream_frames (resets_acked c.retransmits.reset_stream (without_known c.largest_acked e)) ends
+      (resets_stand G c.retransmits.reset_stream (without_known c.largest_acked e) (known_stands G c.largest_acked e i))
 
   -- acknowledged packets
-  packets_sound : (F : Duty → Type 0) (ps : Table TrackedPacket) (e : End) → Sound (λ u. IsUnderWay ps u ⊎ F u) e → Sound F (packets_acked ps e)
-  packets_sound = all_leave End Duty (ℕ × TrackedPacket) (λ p. StandsIn p.1.carried) Sound more_sound (λ p. packet_acked p.1) one_acked packets_acked (λ x. refl) (λ p ps x. refl)
+  packets_stand : (F : Duty → Type 0) (ps : Table TrackedPacket) (e : End) → ((p : ℕ × TrackedPacket) → In p ps → EndsIn p) → Stand (λ u. InPackets ps u ⊎ F u) e → Stand F (packets_acked ps e)
+  packets_stand = all_leave End Duty (ℕ × TrackedPacket) InPacket EndsIn Stand stand_more (λ p. packet_acked p.1) one_acked packets_acked (λ x. refl) (λ p ps x. refl)
 
   -- a lost packet
-  one_lost : (F : Duty → Type 0) (p : ℕ × TrackedPacket) (e : End) → Sound (λ u. StandsIn p.1.carried u ⊎ F u) e → Sound F (streams_lost p.1.carried.stream_frames e)
-  one_lost F p = all_leave End Duty StreamMeta Carries Sound more_sound stream_lost frame_lost streams_lost (λ x. refl) (λ m ms x. refl) F p.1.carried.stream_frames
+  one_lost : (F : Duty → Type 0) (p : ℕ × TrackedPacket) (e : End) → EndsIn p → Stand (λ u. InPacket p u ⊎ F u) e → Stand F (carried_lost p.1.carried e)
+  one_lost F p e ends i = all_leave End Duty StreamMeta Carries Ends Stand stand_more stream_lost frame_lost streams_lost (λ x. refl) (λ m ms x. refl) F p.1.carried.stream_frames e ends i
 
   -- lost packets
-  lost_packets_sound : (F : Duty → Type 0) (ps : Table TrackedPacket) (e : End) → Sound (λ u. IsUnderWay ps u ⊎ F u) e → Sound F (packets_lost ps e)
-  lost_packets_sound = all_leave End Duty (ℕ × TrackedPacket) (λ p. StandsIn p.1.carried) Sound more_sound (λ p. streams_lost p.1.carried.stream_frames) one_lost packets_lost (λ x. refl) (λ p ps x. refl)
+  losses_stand : (F : Duty → Type 0) (ps : Table TrackedPacket) (e : End) → ((p : ℕ × TrackedPacket) → In p ps → EndsIn p) → Stand (λ u. InPackets ps u ⊎ F u) e → Stand F (packets_lost ps e)
+  losses_stand = all_leave End Duty (ℕ × TrackedPacket) InPacket EndsIn Stand stand_more (λ p. carried_lost p.1.carried) one_lost packets_lost (λ x. refl) (λ p ps x. refl)
 
   -- ---- an ACK frame
 
-  abbrev IsSound : End → Type 0
-  IsSound e = Sound (IsUnderWay e.tracking.packets) e
+  -- the tracked packets had ends only where there are
+  abbrev pub TrackedEnds : Table TrackedPacket → Type 0
+  TrackedEnds packets = (p : ℕ × TrackedPacket) → In p packets → EndsIn p
 
   -- an ACK frame that names these packets
-  named_sound : (ps : Table TrackedPacket) (a : AckValue) (e : End) → acked_by a e.tracking.packets ≡ ps → IsSound e → IsSound (after_named ps a e)
-  named_sound [] a e is i = i
-  named_sound (p ∷ ps) a e is i =
+  named_fly : (ps : Table TrackedPacket) (a : AckValue) (e : End) → acked_by a e.tracking.packets ≡ ps → TrackedEnds e.tracking.packets → Fly done e → Fly done (after_named ps a e)
+  named_fly [] a e is ends i = i
+  named_fly (p ∷ ps) a e is ends i =
       let greatest : ℕ = cut_against e.numbers in
-      let left : Table TrackedPacket = not_acked_by a e.tracking.packets in
-      let kept : Duty → Type 0 = IsUnderWay (kept_above greatest left) in
-      let lost : Duty → Type 0 = λ u. IsUnderWay (lost_below greatest left) u ⊎ kept u in
-      let all : Sound (λ u. IsUnderWay (p ∷ ps) u ⊎ lost u) e =
-      more_sound (IsUnderWay e.tracking.packets) (λ u. IsUnderWay (p ∷ ps) u ⊎ lost u) e (λ u s. elim (any_either (λ q. StandsIn q.1.carried u) (λ q. names a q.0) e.tracking.packets s) [
-        | inl acked ↦ inl (subst (λ (t : Table TrackedPacket). IsUnderWay t u) is acked)
-        | inr other ↦ inr (any_either (λ q. StandsIn q.1.carried u) (λ q. is_below greatest q.0) left other)
+      let packets : Table TrackedPacket = e.tracking.packets in
+      let left : Table TrackedPacket = not_acked_by a packets in
+      let kept : Duty → Type 0 = InPackets (kept_above greatest left) in
+      let lost : Duty → Type 0 = λ u. InPackets (lost_below greatest left) u ⊎ kept u in
+      let all : Stand (λ u. InPackets (p ∷ ps) u ⊎ lost u) e =
+      stand_more (InPackets packets) (λ u. InPackets (p ∷ ps) u ⊎ lost u) e (λ u s. elim (any_either (λ q. InPacket q u) (λ q. names a q.0) packets s) [
+        | inl acked ↦ inl (subst (λ (t : Table TrackedPacket). InPackets t u) is acked)
+        | inr other ↦ inr (any_either (λ q. InPacket q u) (λ q. is_below greatest q.0) left other)
       ]) i in
-      lost_packets_sound kept (lost_below greatest left) (packets_acked (p ∷ ps) e) (packets_sound lost (p ∷ ps) e all)
+      losses_stand kept (lost_below greatest left) (packets_acked (p ∷ ps) e) (λ q j. ends q (in_filter (λ r. not (names a r.0)) q packets (in_filter (λ r. is_below greatest r.0) q left j)))
+      (packets_stand lost (p ∷ ps) e (λ q j. ends q (in_filter (λ r. names a r.0) q packets (subst (λ (t : Table TrackedPacket). In q t) (sym is) j))) all)
+
+  -- ---- frames on streams
+
+  -- the halves change so that what is in flight stands where it stood
+  frame_stands : (F : Duty → Type 0) (f : FrameValue) (e : End) → OnStreams f → IsSmallLimit f → Stand F e → Stand F (take_frame f e).end
+  frame_stands F (stream f) e on small i = by_stream (AllFly F done) (fly_kept F done) e.streams e.waiting.frames f (λ h is u. tt) i
+  frame_stands F (reset_stream f) e on small i = by_reset_frame (AllFly F done) (fly_kept F done) e.streams e.waiting.frames f (λ h is u. tt) i
+  frame_stands F (stop_sending f) e on small i = by_stop_sending (AllFly F done) (fly_kept F done) e.streams f (λ h is x. (stopped_holds (done f.id) h x.0 f.code, record { offsets = x.1.offsets; fin = x.1.fin })) i
+  frame_stands F (max_data limit) e on small i = by_max_data (AllFly F done) (fly_kept F done) e.streams limit i
+  frame_stands F (max_stream_data f) e on small i =
+      by_max_stream_data (AllFly F done) (fly_kept F done) e.streams f.id f.limit (λ h is above x. (limited_holds (done f.id) h x.0 f.limit above small, record { offsets = x.1.offsets; fin = x.1.fin })) i
+  frame_stands F (max_streams f) e on small i = by_max_streams (AllFly F done) (fly_kept F done) (dir_named f.one_way) f.count e.streams i
+  frame_stands F (stream_data_blocked f) e on small i = i
+  frame_stands F (streams_blocked f) e on small i = i
+  frame_stands F f e on small i = absurd on
+
+  -- a frame on streams leaves what is tracked
+  frame_tracks : (f : FrameValue) (e : End) → OnStreams f → (take_frame f e).end.tracking ≡ e.tracking
+  frame_tracks (stream f) e on = refl
+  frame_tracks (reset_stream f) e on = refl
+  frame_tracks (stop_sending f) e on = refl
+  frame_tracks (max_data limit) e on = refl
+  frame_tracks (max_stream_data f) e on = refl
+  frame_tracks (max_streams f) e on = refl
+  frame_tracks (stream_data_blocked f) e on = refl
+  frame_tracks (streams_blocked f) e on = refl
+  frame_tracks f e on = absurd on
+
+  -- ---- a delivery
+
+  -- an ACK frame, taken or refused
+  ack_fly : (b : Bool) (a : AckValue) (e : End) → TrackedEnds e.tracking.packets → Fly done e → Fly done (ack_taken b a e).end
+  ack_fly true a e ends i = i
+  ack_fly false a e ends i = named_fly (acked_by a e.tracking.packets) a (named a e) refl ends i
 
   -- any frame
-  frame_sound : (f : FrameValue) (e : End) → IsSound e → IsSound (take_frame f e).end
-  frame_sound = frame_keeps IsSound (record { ack = λ a e i. named_sound (acked_by a e.tracking.packets) a (named a e) refl i; stream = λ f e i. i })
+  frame_fly : (f : FrameValue) (e : End) → IsSmallLimit f → TrackedEnds e.tracking.packets → Fly done e → Fly done (take_frame f e).end
+  frame_fly f e small ends i = by_frame f e (λ g p. Fly done p.end) (λ a is. ack_fly (nat_le e.numbers.next a.largest) a e ends i)
+      (λ other on. subst (λ (t : Tracking). AllFly (InPackets t.packets) done (take_frame f e).end.streams) (sym (frame_tracks f e on)) (frame_stands (InPackets e.tracking.packets) f e on small i))
+      (λ other same. subst (Fly done) (sym same) i)
 
--- ---- a delivery
+  -- over the frames of a packet
+  record Going (left : List FrameValue) (e : End) : Type 0 where
+    small : (f : FrameValue) → In f left → IsSmallLimit f
+    ends : TrackedEnds e.tracking.packets
+    fly : Fly done e
 
--- each case of a delivery
-pub arrivals_fly : (side : Side) (told : List Told) (e : End) (now n : ℕ) (frames : List FrameValue) (came : Intake) → Streams side e.sending told → Fly e → Arrivals e now n frames came (λ o j. Fly o.end)
-arrivals_fly side told e now n frames came streams i = record {
-  ignored = λ reason. i;
-  noted = λ state reason. i;
-  takes = λ state new none. after.1;
-  refuses = λ state new f is. after.1;
-}
-  where
-    after : IsSound side told (arrived e now n frames).end
-    after = frames_keep (IsSound side told) (frame_sound side told) frames (begun e now n) (streams, i)
+  frames_fly : (fs : List FrameValue) (e : End) → ((f : FrameValue) → In f fs → IsSmallLimit f) → TrackedEnds e.tracking.packets → Fly done e → Fly done (passed fs e).end
+  frames_fly fs e small ends i = (frames_leave Going (λ f left x g. record {
+    small = λ h j. g.small h (inr j);
+    ends = λ p j. g.ends p (frame_fewer x f x (λ m u k. k) p.0 p.1 j);
+    fly = frame_fly f x (g.small f (inl refl)) g.ends g.fly;
+  }) fs e (record { small = small; ends = ends; fly = i })).1.fly
+
+  -- each case of a delivery
+  pub arrivals_fly : (e : End) (now n : ℕ) (frames : List FrameValue) (came : Intake) → ((f : FrameValue) → In f frames → IsSmallLimit f) → TrackedEnds e.tracking.packets → Fly done e → Arrivals e now n frames came (λ (o : Outcome) (j : Intake). Fly done o.end)
+  arrivals_fly e now n frames came small ends i = record { ignored = λ reason. i; noted = λ state reason. i; takes = λ state new none. after; refuses = λ state new f is. after }
+    where
+      after : Fly done (arrived e now n frames).end
+      after = frames_fly frames (begun e now n) small ends i
 
 -- ---- a poll
 
--- what some frames carry
-abbrev Written : List FrameValue → Duty → Type 0
-Written frames u = AnyIn (λ m. Carries m u) (streams_in frames)
+-- where what is in flight behind a draft stands: in one of its frames, or where it stood
+abbrev InDraft : (Duty → Type 0) → List FrameValue → Duty → Type 0
+InDraft F frames u = InMetas (streams_in frames) u ⊎ F u
 
--- what flies behind a draft stands in one of these places or in one of its frames
-abbrev IsDrafted : (Duty → Type 0) → Draft → Type 0
-IsDrafted F d = Flies (λ u. Written d.frames u ⊎ F u) d.end.sending.halves
-
--- what frames carry is carried with more of them
-in_front : (fs gs : List FrameValue) (u : Duty) → Written fs u → Written (fs ++ gs) u
-in_front [] gs u i = absurd i
-in_front (stream f ∷ fs) gs u (inl here) = inl here
-in_front (stream f ∷ fs) gs u (inr rest) = inr (in_front fs gs u rest)
-in_front (f ∷ fs) gs u i = in_front fs gs u i
-
-in_behind : (fs gs : List FrameValue) (u : Duty) → Written gs u → Written (fs ++ gs) u
-in_behind [] gs u i = i
-in_behind (stream f ∷ fs) gs u i = inr (in_behind fs gs u i)
-in_behind (f ∷ fs) gs u i = in_behind fs gs u i
+-- the STREAM frames of frames, one behind another
+metas_more : (fs gs : List FrameValue) → streams_in (fs ++ gs) ≡ streams_in fs ++ streams_in gs
+metas_more [] gs = refl
+metas_more (stream f ∷ fs) gs = ap (λ (ms : List StreamMeta). meta_of f ∷ ms) (metas_more fs gs)
+metas_more (f ∷ fs) gs = metas_more fs gs
 
 -- one frame more
-more_drafted : (F : Duty → Type 0) (fs gs : List FrameValue) (u : Duty) → Written fs u ⊎ F u → Written (fs ++ gs) u ⊎ F u
-more_drafted F fs gs u (inl i) = inl (in_front fs gs u i)
-more_drafted F fs gs u (inr f) = inr f
+drafted_more : (F : Duty → Type 0) (fs gs : List FrameValue) (u : Duty) → InDraft F fs u → InDraft F (fs ++ gs) u
+drafted_more F fs gs u (inl i) = inl (subst (λ (ms : List StreamMeta). InMetas ms u) (sym (metas_more fs gs)) (any_front (λ m. Carries m u) (streams_in fs) (streams_in gs) i))
+drafted_more F fs gs u (inr f) = inr f
 
-drafted_more : (F : Duty → Type 0) (halves : Table SendHalf) (fs gs : List FrameValue) → Flies (λ u. Written fs u ⊎ F u) halves → Flies (λ u. Written (fs ++ gs) u ⊎ F u) halves
-drafted_more F halves fs gs i = more (Table SendHalf) Duty flies (λ u. Written fs u ⊎ F u) (λ u. Written (fs ++ gs) u ⊎ F u) halves (more_drafted F fs gs) i
+-- what it carries
+drafted_new : (F : Duty → Type 0) (fs gs : List FrameValue) (u : Duty) → InMetas (streams_in gs) u → InDraft F (fs ++ gs) u
+drafted_new F fs gs u i = inl (subst (λ (ms : List StreamMeta). InMetas ms u) (sym (metas_more fs gs)) (any_behind (λ m. Carries m u) (streams_in fs) (streams_in gs) i))
 
--- the frame of a half goes
-half_drafted : (F : Duty → Type 0) (side : Side) (told : List Told) (h : SendHalf) (d : Draft) (id : ℕ) → at d.end.sending.halves id ≡ Some h → Streams side d.end.sending told → IsDrafted F d → IsDrafted F (stream_if (Some h) d id)
-half_drafted F side told h d id found streams i =
-    let room : ℕ = stream_room d id in
-    let own : List FrameValue = stream (frame_of id h room) ∷ [] in
-    moves (Table SendHalf) Duty flies (λ u. Written d.frames u ⊎ F u) (λ u. Written (d.frames ++ own) u ⊎ F u) (Carries (meta_of (frame_of id h room))) d.end.sending.halves (put d.end.sending.halves id (half_after h room))
-    (more_drafted F d.frames own) (λ u c. inl (in_behind d.frames own u (inl c)))
-    (went_moves (written id told) (ended id told) d.end.sending.halves id h room found (half_at side d.end.sending told id h streams found)) i
+module _ (done : ℕ → Wrote) (F : Duty → Type 0) where
+  abbrev Drafted : Draft → Type 0
+  Drafted d = AllFly (InDraft F d.frames) done d.end.streams
 
--- whichever frames go
-composed_drafted : (side : Side) (told : List Told) (e : End) → Streams side e.sending told → Fly e → IsDrafted (IsUnderWay e.tracking.packets) (composed e)
-composed_drafted side told e streams i =
-    let F : Duty → Type 0 = IsUnderWay e.tracking.packets in (
-    by_writing (λ (d : Draft). Streams side d.end.sending told × IsDrafted F d) (record {
-      ack = λ d filled may b. (b.0, drafted_more F d.end.sending.halves d.frames (ack (ack_of d.end) ∷ []) b.1);
-      control = λ d f w is b. (b.0, drafted_more F d.end.sending.halves d.frames (f ∷ []) b.1);
-      stream = λ d id h found room b. (half_streams side told id h d found b.0, half_drafted F side told h d id found b.0 b.1);
-    }) e (streams, more (Table SendHalf) Duty flies F (λ u. Written [] u ⊎ F u) e.sending.halves (λ u s. inr s) i)
-    ).1
+  -- other streams, with a frame more
+  more_drafted : (d : Draft) (gs : List FrameValue) (s : StreamsState) → AllFly (InDraft F d.frames) done s → AllFly (InDraft F (d.frames ++ gs)) done s
+  more_drafted d gs s i = all_more (InDraft F d.frames) (InDraft F (d.frames ++ gs)) done s (drafted_more F d.frames gs) i
+
+  -- the frame of a half goes
+  half_drafted : (d : Draft) (fair : Bool) (id room : ℕ) (h : SendHalf) → at d.end.streams.sending.halves.live id ≡ Some h → Drafted d → AllFly (InDraft F (d.frames ++ stream (frame_of id h room) ∷ [])) done (after_frame_sent fair d.end.streams id h room)
+  half_drafted d fair id room h is i =
+      let own : List FrameValue = stream (frame_of id h room) ∷ [] in
+      let G : Duty → Type 0 = InDraft F (d.frames ++ own) in
+      by_half_frame (AllFly G done) (fly_kept G done) fair d.end.streams id room h is
+      (λ x. (polled_holds (done id) h x.0 room, flies_more (λ u. Carries (meta_of (frame_of id h room)) u ⊎ G u) G id (half_after h room) (λ u o. elim o [ inl c ↦ drafted_new F d.frames own u (inl c) | inr g ↦ g ]) (flies_went G (done id) id h room x.0 x.1)))
+      (more_drafted d own d.end.streams i)
+
+  -- whichever frames go
+  composed_drafted : (e : End) → AllFly F done e.streams → Drafted (composed e)
+  composed_drafted e i = by_writing Drafted (record {
+    ack = λ d filled may b. more_drafted d (ack (ack_of d.end) ∷ []) d.end.streams b;
+    ping = λ d b. more_drafted d (ping ∷ []) d.end.streams b;
+    drops = λ d kind b. b;
+    control = λ d kind entry es f is due b. (
+        let G : Duty → Type 0 = InDraft F (d.frames ++ f ∷ []) in
+        by_told (AllFly G done) (fly_kept G done) kind d.end.waiting.frames entry es d.end.streams is (more_drafted d (f ∷ []) d.end.streams b));
+    stream = λ d id h room found first some is counts b. half_drafted d d.end.fair id room h found b;
+  }) e (all_more F (InDraft F []) done e.streams (λ u f. inr f) i)
 
 -- frames that don't ask have no STREAM frame among them
-none_asks : (fs : List FrameValue) (u : Duty) → asking fs ≡ false → Written fs u → ⊥
+none_asks : (fs : List FrameValue) (u : Duty) → asking fs ≡ false → InMetas (streams_in fs) u → ⊥
 none_asks [] u silent i = i
 none_asks (stream f ∷ fs) u silent i = cc
 none_asks (f ∷ fs) u silent i = none_asks fs u (or_parts (asks f) (asking fs) silent).1 i
 
--- ---- the datagram is tracked
-
--- what stands in a packet whose number is new, or in tracked ones, stands in them with that one
-any_added : (P : ℕ × TrackedPacket → Type 0) (es : Table TrackedPacket) (id : ℕ) (v : TrackedPacket) → ((n : ℕ) (t : TrackedPacket) → In (n, t) es → n ≡ id → ⊥) → P (id, v) ⊎ AnyIn P es → AnyIn P (added es id v)
-any_added P [] id v fresh i = i
-any_added P (e ∷ es) id v fresh i = go (nat_cmp id e.0) refl i (any_added P es id v (λ n t j. fresh n t (inr j)))
-  where
-    go : (r : Ordering) → nat_cmp id e.0 ≡ r → P (id, v) ⊎ (P e ⊎ AnyIn P es) → (P (id, v) ⊎ AnyIn P es → AnyIn P (added es id v)) → AnyIn P (match_ordering r ((id, v) ∷ e ∷ es) ((e.0, v) ∷ es) (e ∷ added es id v))
-    go Less is j later = j
-    go Equal is j later = absurd (fresh e.0 e.1 (inl refl) (sym (ranked id e.0 Equal (sym is))))
-    go Greater is (inl new) later = inr (later (inl new))
-    go Greater is (inr (inl here)) later = inl here
-    go Greater is (inr (inr rest)) later = inr (later (inr rest))
-
--- the number of the next datagram is new
-number_new : (sents : List Sent) (packets : Table TrackedPacket) (next : ℕ) → ((s : Sent) → In s sents → s.number < next) → AreTracked sents packets → (n : ℕ) (t : TrackedPacket) → In (n, t) packets → n ≡ next → ⊥
-number_new sents packets next below tracked n t i same =
-    let sent = tracked n t i in
-    let lower = below sent.0 sent.1.0 in
-    let number = sent.1.1 in
-    absurd (omega arith)
-
 -- a datagram that goes is tracked where it asks
-given_flies : (b : Bool) (d : Draft) → asking d.frames ≡ b → ((n : ℕ) (t : TrackedPacket) → In (n, t) d.end.tracking.packets → n ≡ d.end.numbers.next → ⊥) → IsDrafted (IsUnderWay d.end.tracking.packets) d → Fly (tracked_if b d)
-given_flies true d is fresh i u f =
+given_fly : (done : ℕ → Wrote) (b : Bool) (d : Draft) → asking d.frames ≡ b → IsNew d.end.tracking.packets d.end.numbers.next → Drafted done (InPackets d.end.tracking.packets) d → Fly done (tracked_if b d)
+given_fly done true d is new i =
+    let packets : Table TrackedPacket = d.end.tracking.packets in
     let packet : TrackedPacket = record { generation = d.end.path.generation; time_sent = d.end.closing.clock; carried = carried_in d.frames } in
-    any_added (λ p. StandsIn p.1.carried u) d.end.tracking.packets d.end.numbers.next packet fresh (i u f)
-given_flies false d is fresh i u f = elim (i u f) [ inl new ↦ absurd (none_asks d.frames u is new) | inr old ↦ old ]
+    all_more (InDraft (InPackets packets) d.frames) (InPackets (added packets d.end.numbers.next packet)) done d.end.streams (λ u o. any_added (λ p. InPacket p u) packets d.end.numbers.next packet new o) i
+given_fly done false d is new i = all_more (InDraft (InPackets d.end.tracking.packets) d.frames) (InPackets d.end.tracking.packets) done d.end.streams (λ u o. elim o [ inl went ↦ absurd (none_asks d.frames u is went) | inr old ↦ old ]) i
 
 -- after a poll
-polled_fly : (side : Side) (p : Policy) (e : End) (now : ℕ) (told : List Told) (sents : List Sent) → ((s : Sent) → In s sents → s.number < e.numbers.next) → Streams side e.sending told → AreTracked sents e.tracking.packets → Fly e → Fly (polled p e now).end
-polled_fly side p e now told sents below streams tracked i = by_poll_to p e now (λ (q : Polled). Fly q.end) (record {
+polled_fly : (done : ℕ → Wrote) (p : Policy) (e : End) (now : ℕ) → IsNew e.tracking.packets e.numbers.next → Fly done e → Fly done (polled p e now).end
+polled_fly done p e now new i = by_poll_to p e now (λ (q : Polled). Fly done q.end) (record {
   silent = i;
   failed = i;
   idle = λ pings. i;
@@ -233,56 +274,35 @@ polled_fly side p e now told sents below streams tracked i = by_poll_to p e now 
   gives = λ pings is may some ready. gives pings;
 })
   where
-    gives : (pings : Bool) → Fly (after_given (composed (at_moment e now pings)))
+    gives : (pings : Bool) → Fly done (after_given (composed (at_moment e now pings)))
     gives pings =
         let before : End = at_moment e now pings in
         let d : Draft = composed before in
         let same = composes before in
-        let number : (s : Sent) → In s sents → s.number < d.end.numbers.next = λ s among. subst (λ (x : Numbers). s.number < x.next) (sym same.numbers) (below s among) in
-        let packets : AreTracked sents d.end.tracking.packets = subst (λ (x : Tracking). AreTracked sents x.packets) (sym same.tracking) tracked in
-        let drafted : IsDrafted (IsUnderWay d.end.tracking.packets) d =
-        subst (λ (x : Tracking). IsDrafted (IsUnderWay x.packets) d) (sym same.tracking) (composed_drafted side told before streams i) in
-        given_flies (asking d.frames) d refl (number_new sents d.end.tracking.packets d.end.numbers.next number packets) drafted
+        let fresh : IsNew d.end.tracking.packets d.end.numbers.next = subst (λ (x : Numbers). IsNew d.end.tracking.packets x.next) (sym same.numbers) (subst (λ (x : Tracking). IsNew x.packets e.numbers.next) (sym same.tracking) new) in
+        let drafted : Drafted done (InPackets d.end.tracking.packets) d = subst (λ (x : Tracking). Drafted done (InPackets x.packets) d) (sym same.tracking) (composed_drafted done (InPackets e.tracking.packets) before i) in
+        given_fly done (asking d.frames) d refl fresh drafted
 
--- ---- other calls
+-- ---- any call
 
--- a stream is opened
-opened_flies : (F : Duty → Type 0) (side : Side) (dir : Dir) (s : sending.Sending) → Flies F s.halves → Flies F (after_open side dir s).halves
-opened_flies F side Bi s i = rests (Table SendHalf) Duty flies F s.halves (added s.halves (next_id side Bi s) (sending.new_half (first_limit Bi s))) (new_rests s.halves (next_id side Bi s) (first_limit Bi s)) i
-opened_flies F side Uni s i = rests (Table SendHalf) Duty flies F s.halves (added s.halves (next_id side Uni s) (sending.new_half (first_limit Uni s))) (new_rests s.halves (next_id side Uni s) (first_limit Uni s)) i
-
--- bytes are written on a half: they wait
-grown_flies : (F : Duty → Type 0) (o : Option SendHalf) (halves : Table SendHalf) (id : ℕ) (bytes : List ℕ) → at halves id ≡ o → Flies F halves → Flies F (grown_at o halves id bytes)
-grown_flies F None halves id bytes found i = i
-grown_flies F (Some h) halves id bytes found i = rests (Table SendHalf) Duty flies F halves (put halves id (grown h bytes)) (put_rests halves id h (grown h bytes) found (λ o j. j) (λ j. j)) i
-
--- bytes are written or refused
-write_flies : (F : Duty → Type 0) (r : Result ℕ WriteError) (s : sending.Sending) (id : ℕ) (bytes : List ℕ) → Flies F s.halves → Flies F (after_written r s id bytes).halves
-write_flies F (Ok n) s id bytes i = grown_flies F (at s.halves id) s.halves id (take n bytes) refl i
-write_flies F (Err x) s id bytes i = i
-
--- a half is ended: its end waits
-ended_flies : (F : Duty → Type 0) (o : Option SendHalf) (halves : Table SendHalf) (id : ℕ) → at halves id ≡ o → Flies F halves → Flies F (ended_at o halves id)
-ended_flies F None halves id found i = i
-ended_flies F (Some h) halves id found i = go h.finished
+-- but a delivery
+pub call_fly : (done : ℕ → Wrote) (p : Policy) (e : End) (theirs : List (List ℕ)) (call : Call) (a : Answer) → is_delivery call ≡ false → IsAnswer p e theirs call a → IsNew e.tracking.packets e.numbers.next → Fly done e → Fly (done_by call a done) (after_call p e theirs call a)
+call_fly done p e theirs call a apart is new i = go (is_on_streams call) refl
   where
-    go : (b : Bool) → Flies F (if b then halves else put halves id (sending.ended h))
-    go true = i
-    go false = rests (Table SendHalf) Duty flies F halves (put halves id (sending.ended h)) (put_rests halves id h (sending.ended h) found (λ o j. j) (ended_waits h.finished h.fin_acked h.fin_pending)) i
+    F : Duty → Type 0
+    F = InPackets e.tracking.packets
 
--- after a call that is no delivery
-pub fly_step : (p : Policy) (e : End) (theirs : List (List ℕ)) (call : Call) (a : Answer) (side : Side) (told : List Told) (sents : List Sent) → is_delivery call ≡ false → ((s : Sent) → In s sents → s.number < e.numbers.next)
-    → Streams side e.sending told → AreTracked sents e.tracking.packets → Fly e → Fly (after_call p e theirs call a)
-fly_step p e theirs call a side told sents other below streams tracked i = by_call p e theirs Fly call a (record {
-  same = i;
-  opens = λ dir may sends receives. opened_flies (IsUnderWay e.tracking.packets) e.side dir e.sending i;
-  receives = λ r receives. i;
-  writes = λ r id bytes said sends. write_flies (IsUnderWay e.tracking.packets) r e.sending id bytes i;
-  finishes = λ id sends. ended_flies (IsUnderWay e.tracking.packets) (at e.sending.halves id) e.sending.halves id refl i;
-  waits = λ w. i;
-  heard = λ path same. i;
-  times = λ now acks loss set. by_expired e now Fly (λ pending tracking timers runs packets. subst (λ (t : Table TrackedPacket). Flies (IsUnderWay t) e.sending.halves) (sym packets) i) acks loss;
-  polls = λ now set. polled_fly side p e now told sents below streams tracked i;
-  hears = λ now d set. cc;
-  tells = λ set. by_event e Fly (λ told events. i);
-})
+    go : (b : Bool) → is_on_streams call ≡ b → Fly (done_by call a done) (after_call p e theirs call a)
+    go true on =
+        let c = call_on_is p e theirs call a on in
+        subst (Fly (done_by call a done)) (sym c.same) (call_with (AllFly F) (fly_calls F) (is_open e.closing.state) done (streams_at e) i call a (c.answer is))
+    go false off = subst (λ (w : ℕ → Wrote). Fly w (after_call p e theirs call a)) (sym (done_none call a done off)) (by_call p e theirs (Fly done) call a (record {
+      same = i;
+      on_streams = λ on answer. cc;
+      pings = i;
+      heard = λ path same. i;
+      times = λ now acks loss set. by_expired e now (Fly done) (λ pending tracking timers runs packets. subst (λ (t : Table TrackedPacket). AllFly (InPackets t) done e.streams) (sym packets) i) acks loss;
+      polls = λ now set. polled_fly done p e now new i;
+      hears = λ now d set. cc;
+      tells = λ asks. by_event e (Fly done) (λ told. by_polled (AllFly F done) (fly_kept F done) e.streams i);
+    }))

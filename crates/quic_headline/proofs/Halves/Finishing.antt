@@ -1,121 +1,133 @@
--- Each stream is told to be finished, or waits to be told so, once if it is wholly acknowledged, and never otherwise: what acknowledged and lost frames keep of it.
-use Rattle.std.proofs.Common.{◌≡◌, ℕ, ◌+◌, min, Bool, true, false, ◌&&◌, not, ◌==◌, List, [], ◌∷◌, ◌++◌, Option, Some, None, refl, sym, ap, ◌∙◌, subst, inl, inr, arith}
-use Rattle.std.specs.Prelude.{if◌then◌else◌}
-use Rattle.std.proofs.lemmas.Bool.{eqb-true, eq-eqb, ne_eqb, and_parts, cases_eq}
-use Rattle.std.proofs.lemmas.List.{append-nil}
+-- A stream is told to be finished only where all of it arrived at the other end.
+use Rattle.std.proofs.Common.{◌≡◌, ℕ, ◌+◌, ◌<◌, Bool, List, [], ◌∷◌, length, Option, Some, None, refl, sym, ap, ◌∙◌, subst, arith}
+use Rattle.std.specs.Prelude.{if◌then◌else◌, ◌==◌, option_map}
+use Rattle.std.proofs.lemmas.Bool.{cond_both, eq-eqb}
 use Rattle.quic_wire_core.specs.declared.stream_id.Side.{Side}
-use Rattle.quic_sets.specs.Offsets.{first_lacking, with_offsets}
-use Rattle.quic_send_buffer.specs.Buffered.{IsBuffered, first_unacknowledged, after_ack}
-use Rattle.quic_send_buffer.specs.Buffered as buffered
-use Rattle.quic_send_buffer.specs.declared.stream_meta.StreamMeta.{StreamMeta}
-use Rattle.quic_send_buffer.proofs.Buffered.Calls.{acked_is, ack_lawful, ack_written, first_within}
-use Rattle.quic_sets.proofs.Offsets.Edits.{first_rises}
-use Rattle.quic_streams.specs.declared.answers.StreamEvent.{StreamEvent}
-use Rattle.quic_streams.specs.declared.answers.StreamEvent.TheVariants.{Finished}
-use Rattle.quic_streams.specs.Table.{Table, at, put}
-use Rattle.quic_streams.specs.Sending.{Sending, SendHalf, is_acked, half_acked, half_lost, acked_at, lost_at, finishes_half}
-use Rattle.quic_machine.specs.Acked.{finished_event}
-use Rattle.quic_headline.specs.Runs.{Told, finishes_told}
-use Rattle.quic_streams.specs.TableLaws.{at-put, at-put-apart}
-use Rattle.quic_headline.proofs.Places.Invariant.{Streams}
-use Rattle.quic_headline.proofs.Halves.Writes.{half_at}
+use Rattle.quic_wire_core.specs.StreamId.{other_side}
+use Rattle.quic_wire.specs.Value.{FrameValue, StreamValue, stream}
+use Rattle.quic_streams_parts.specs.declared.answers.StreamEvent.{StreamEvent}
+use Rattle.quic_streams_parts.specs.declared.answers.StreamEvent.TheVariants.{Finished}
+use Rattle.quic_streams_parts.specs.Events.{first_of, others_of}
+use Rattle.quic_streams_state.specs.declared.state.StreamsState.{StreamsState}
+use Rattle.quic_streams_state.specs.State.{room}
+use Rattle.quic_streams_state.specs.Telling.{Telling, Passing, passed, told_behind, after_passing, polled}
+use Rattle.quic_streams_laws.specs.Keeping.{finishes_in}
+use Rattle.quic_streams_laws.specs.Written.{IsStreamOf}
+use Rattle.quic_streams_laws.specs.Acknowledged.{AllArrived}
+use Rattle.quic_machine.specs.declared.answers.LostReason.{LostReason}
+use Rattle.quic_machine.specs.declared.answers.Event.TheVariants as events
+use Rattle.quic_machine.specs.declared.run.Call.TheVariants as calls
+use Rattle.quic_machine.specs.declared.run.Answer.TheVariants as answers
+use Rattle.quic_machine.specs.Closing.{Closing, loss_to_tell}
+use Rattle.quic_machine.specs.Calls.{tells_of}
+use Rattle.quic_machine.specs.End.{streams_at}
+use Rattle.quic_machine.specs.Machine.{World}
+use Rattle.quic_headline.specs.Runs.{Run, Told, Packet, Intake, In, written, until, AreServed, EndHasArrived}
+use Rattle.quic_headline.specs.Observer.{Sent}
+use Rattle.quic_headline.specs.Headline.{IsHonest, IsRun, IsAt, FinishedMeansArrived}
+use Rattle.quic_headline.specs.Headline as headline
+use Rattle.quic_headline.proofs.Packets.Invariant.{WereSent}
+use Rattle.quic_headline.proofs.Packets.Group.{PacketsHold}
+use Rattle.quic_headline.proofs.Places.Parties.{Party, came_to}
+use Rattle.quic_headline.proofs.Places.Groups.{Way, Nothing, And, Group, both}
+use Rattle.quic_headline.proofs.Places.Placed.{party_at, Placed, placed, answered}
+use Rattle.quic_headline.proofs.Places.Openings.{took_there}
+use Rattle.quic_headline.proofs.Halves.Wrote.{wrote}
+use Rattle.quic_headline.proofs.Halves.Ghosts.{SaysOf, Saying}
+use Rattle.quic_headline.proofs.Halves.Writes.{Writes}
+use Rattle.quic_headline.proofs.Halves.Arrived.{OffsetIn, EndIn, Arrives, arrives_group, spoken}
 
--- how often a stream waits to be told finished
-abbrev pub finishes_waiting : ℕ → List StreamEvent → ℕ
-finishes_waiting id [] = 0
-finishes_waiting id (Finished s ∷ events) = (if s == id then 1 else 0) + finishes_waiting id events
+-- ---- what is told next
 
--- how often a half is to be told finished in all: once if it is wholly acknowledged
-abbrev pub acked_count : Option SendHalf → ℕ
-acked_count None = 0
-acked_count (Some h) = if is_acked h then 1 else 0
+-- whether a stream is told to be finished
+abbrev pub tells : ℕ → Option StreamEvent → ℕ
+tells id (Some (Finished s)) = if s == id then 1 else 0
+tells id other = 0
 
--- each stream was told finished, or waits to be told so, as often
-abbrev pub Tells : List Told → Table SendHalf → List StreamEvent → Type 0
-Tells told halves events = (id : ℕ) → finishes_told id told + finishes_waiting id events ≡ acked_count (at halves id)
+-- the first of what waits, and the others
+first_counts : (id : ℕ) (waiting : List StreamEvent) → finishes_in id waiting ≡ tells id (first_of waiting) + finishes_in id (others_of waiting)
+first_counts id [] = omega arith
+first_counts id (Finished s ∷ waiting) = refl
+first_counts id (event ∷ waiting) = omega arith
 
--- ---- halves
+-- what waits, in step with what is told
+abbrev Counts : ℕ → StreamsState → Telling → Type 0
+Counts id s t = finishes_in id s.events.queue ≡ tells id t.answer + finishes_in id t.state.events.queue
 
--- the same halves are wholly acknowledged
-abbrev pub AckedSame : Table SendHalf → Table SendHalf → Type 0
-AckedSame before after = (id : ℕ) → acked_count (at after id) ≡ acked_count (at before id)
+behind_counts : (id : ℕ) (s : StreamsState) (o : Option ℕ) (t : StreamsState) → t.events.queue ≡ s.events.queue → Counts id s (told_behind o t)
+behind_counts id s None t same = let here = ap (finishes_in id) same in let all = first_counts id t.events.queue in omega arith
+behind_counts id s (Some n) t same = let here = ap (finishes_in id) same in omega arith
 
--- one half is changed that is wholly acknowledged if it was
-pub same_put : (halves : Table SendHalf) (id : ℕ) (h w : SendHalf) → at halves id ≡ Some h → is_acked w ≡ is_acked h → AckedSame halves (put halves id w)
-same_put halves id h w found same q = elim (cases_eq q id) [
-  | inl is ↦ (
-      let here : acked_count (at (put halves id w) id) ≡ acked_count (at halves id) =
-      ap acked_count (at-put halves id h w found) ∙ ap (λ (b : Bool). if b then 1 else 0) same ∙ ap acked_count (sym found) in
-      subst (λ (n : ℕ). acked_count (at (put halves id w) n) ≡ acked_count (at halves n)) (sym is) here)
-  | inr ne ↦ ap acked_count (at-put-apart halves id w q ne)
-]
+-- what is told waits no more, and all else does
+pub told_counts : (id : ℕ) (s : StreamsState) → Counts id s (polled s)
+told_counts id s =
+    cond_both {A = Telling} s.events.opened.bi _ _ (Counts id s) (λ bi. omega arith) (λ bi.
+    cond_both {A = Telling} s.events.opened.uni _ _ (Counts id s) (λ uni. omega arith) (λ uni.
+    cond_both {A = Telling} (room s.sending == 0) _ _ (Counts id s) (λ full. first_counts id s.events.queue) (λ free.
+    let p : Passing = passed s.sending.blocked s.sending.halves.live in
+    behind_counts id s p.found (after_passing s p) refl)))
 
--- where the same halves are wholly acknowledged, nothing more is to be told
-pub tells_same : (told : List Told) (before after : Table SendHalf) (events : List StreamEvent) → AckedSame before after → Tells told before events → Tells told after events
-tells_same told before after events same i id = i id ∙ sym (same id)
+-- a stream that is told to be finished waited to be told so
+pub told_waited : (id : ℕ) (s : StreamsState) → (polled s).answer ≡ Some (Finished id) → 0 < finishes_in id s.events.queue
+told_waited id s is =
+    let counts = told_counts id s in
+    let one : tells id (polled s).answer ≡ 1 = ap (tells id) is ∙ ap (λ (b : Bool). if b then 1 else 0) (eq-eqb id id refl) in
+    omega arith
 
--- a half that is wholly acknowledged stays so
-acked_stays : (h : SendHalf) (m : StreamMeta) → IsBuffered h.buffer → is_acked h ≡ true → is_acked (half_acked h m) ≡ true
-acked_stays h m lawful is =
-    let parts = and_parts h.fin_acked (first_unacknowledged h.buffer == buffered.written h.buffer) is in
-    let all : first_lacking h.buffer.acked ≡ buffered.written h.buffer = eqb-true (first_unacknowledged h.buffer) (buffered.written h.buffer) parts.1 in
-    let after = ack_lawful h.buffer m.offsets.start m.offsets.end lawful in
-    let same = ack_written h.buffer m.offsets.start m.offsets.end lawful in
-    let within = first_within (after_ack h.buffer m.offsets.start m.offsets.end) after in
-    let bounded = after.bounded in
-    let rises = first_rises h.buffer.acked (with_offsets m.offsets.start (min m.offsets.end h.buffer.unsent) h.buffer.acked) lawful.acked after.acked (λ o i. (acked_is h.buffer m.offsets.start m.offsets.end o lawful).1 (inl i)) in
-    let full : first_unacknowledged (after_ack h.buffer m.offsets.start m.offsets.end) ≡ buffered.written (after_ack h.buffer m.offsets.start m.offsets.end) = omega arith in
-    rw (parts.0, eq-eqb (first_unacknowledged (after_ack h.buffer m.offsets.start m.offsets.end)) (buffered.written (after_ack h.buffer m.offsets.start m.offsets.end)) full) refl
-
--- ---- events
-
--- what waits in two lists, one behind the other
-pub waiting_append : (id : ℕ) (events more : List StreamEvent) → finishes_waiting id (events ++ more) ≡ finishes_waiting id events + finishes_waiting id more
-waiting_append id [] more = omega arith
-waiting_append id (Finished s ∷ events) more = let rest = waiting_append id events more in omega arith
-
--- a half that gets wholly acknowledged waits once more to be told
-told_more : (a b : Bool) (id : ℕ) → (a ≡ true → b ≡ true) → (if a then 1 else 0) + finishes_waiting id (finished_event (not a && b) id) ≡ (if b then 1 else 0)
-told_more true true id stays = refl
-told_more true false id stays = let clash = stays refl in cc
-told_more false true id stays = rw (eq-eqb id id refl) refl
-told_more false false id stays = refl
-
--- no other does
-none_else : (b : Bool) (id q : ℕ) → (q ≡ id → ⊥) → finishes_waiting q (finished_event b id) ≡ 0
-none_else true id q ne = rw (ne_eqb id q (λ e. ne (sym e))) refl
-none_else false id q ne = refl
-
--- ---- frames
-
--- an acknowledged STREAM frame
-pub stream_tells : (told : List Told) (side : Side) (s : Sending) (events : List StreamEvent) (m : StreamMeta) (o : Option SendHalf) → at s.halves m.id ≡ o → Streams side s told → Tells told s.halves events
-    → Tells told (acked_at o s.halves m) (events ++ finished_event (finishes_half o m) m.id)
-stream_tells told side s events m None found streams i id = ap (λ (es : List StreamEvent). finishes_told id told + finishes_waiting id es) (append-nil events) ∙ i id
-stream_tells told side s events m (Some h) found streams i q = elim (cases_eq q m.id) [
-  | inl is ↦ subst (λ (n : ℕ). finishes_told n told + finishes_waiting n (events ++ more) ≡ acked_count (at (put s.halves m.id (half_acked h m)) n)) (sym is) here
-  | inr ne ↦ (
-      let before = i q in
-      let both = waiting_append q events more in
-      let none = none_else (finishes_half (Some h) m) m.id q ne in
-      let apart = ap acked_count (at-put-apart s.halves m.id (half_acked h m) q ne) in
-      omega arith)
-]
+-- what is told of a stream is what its streams tell
+told_stream : (id : ℕ) (o : Option StreamEvent) (c : Closing) → answers.Event (Some (events.Stream (Finished id))) ≡ answers.Event (tells_of o c) → o ≡ Some (Finished id)
+told_stream id (Some event) c is = cc
+told_stream id None c is = go (loss_to_tell c) is
   where
-    more : List StreamEvent
-    more = finished_event (finishes_half (Some h) m) m.id
+    go : (r : Option LostReason) → answers.Event (Some (events.Stream (Finished id))) ≡ answers.Event (option_map events.Lost r) → None ≡ Some (Finished id)
+    go None same = cc
+    go (Some reason) same = cc
 
-    here : finishes_told m.id told + finishes_waiting m.id (events ++ more) ≡ acked_count (at (put s.halves m.id (half_acked h m)) m.id)
-    here =
-        let half = half_at side s told m.id h streams found in
-        let before = i m.id in
-        let was = ap acked_count found in
-        let both = waiting_append m.id events more in
-        let one = told_more (is_acked h) (is_acked (half_acked h m)) m.id (acked_stays h m half.lawful) in
-        let now = ap acked_count (at-put s.halves m.id h (half_acked h m) found) in
-        omega arith
+-- ---- all of a stream
 
--- a lost STREAM frame
-pub lost_tells : (told : List Told) (s : Sending) (events : List StreamEvent) (m : StreamMeta) (o : Option SendHalf) → at s.halves m.id ≡ o → Tells told s.halves events → Tells told (lost_at o s.halves m) events
-lost_tells told s events m None found i = i
-lost_tells told s events m (Some h) found i = tells_same told s.halves (put s.halves m.id (half_lost h m)) events (same_put s.halves m.id h (half_lost h m) found refl) i
+-- the end that came of a stream stands behind all that was written on it
+pub end_last : (sents : List Sent) (told : List Told) (packets : List Packet) → ((s : Sent) → In s sents → (f : FrameValue) → In f s.frames → SaysOf (wrote told) f) → WereSent sents packets → (id : ℕ)
+    → EndIn packets id → EndHasArrived packets id (length (written id told))
+end_last sents told packets says sent id end =
+    let e = end.1 in
+    let f : StreamValue = e.frame in
+    let at = sent e.taken.packet e.taken.was_taken in
+    let said : IsStreamOf (wrote told f.id) f = says at.sent at.is.0 (stream f) (subst (λ (fs : List FrameValue). In (stream f) fs) (sym at.frames) e.taken.carried) in
+    record { frame = f; taken = e.taken; of_stream = e.of_stream; fin = e.fin; behind = said.last e.fin ∙ ap (λ (n : ℕ). length (written n told)) e.of_stream }
+
+-- what the packets brought that were sent, is what was written
+pub all_arrived : (sents : List Sent) (told : List Told) (packets : List Packet) → ((s : Sent) → In s sents → (f : FrameValue) → In f s.frames → SaysOf (wrote told) f) → WereSent sents packets → (id : ℕ)
+    → AllArrived (OffsetIn packets id) (EndIn packets id) (wrote told id) → headline.AllArrived packets id told
+all_arrived sents told packets says sent id a = record { ended = a.ended; bytes = a.bytes; end = end_last sents told packets says sent id a.end }
+
+-- ---- the clause
+
+-- What it rests on at a place.
+pub record SaysWhatArrived (G : Way) : Type 1 where
+  pub packets : (x y : Party) → G x y → PacketsHold x y
+  pub says : (x y : Party) → G x y → Saying x y
+  pub arrives : (x y : Party) → G x y → Arrives x y
+
+module _ (G : Way) (g : SaysWhatArrived G) (r : Run) (end : World) (honest : IsHonest r) (all : (side : Side) (i : ℕ) → AreServed r i → Placed G r end side i) where
+  -- a stream is told finished only where it was ended, and all of it arrived
+  pub finished_means_arrived : FinishedMeansArrived r
+  finished_means_arrived side id i served at =
+      let p = all side i served in
+      let x : Party = party_at r i p.world side p.sents in
+      let y : Party = party_at r i p.world (other_side side) p.theirs in
+      let is = answered r p.world end i side calls.Event (answers.Event (Some (events.Stream (Finished id)))) p.goes_on at in
+      let waited = told_waited id x.end.streams (told_stream id (polled x.end.streams).answer x.end.closing is) in
+      let arrived = all_arrived p.sents (until r side i) (came_to y x).took (g.says x y p.gives) (g.packets x y p.gives).taken id ((g.arrives x y p.gives).told id waited) in
+      subst (λ (packets : List Packet). headline.AllArrived packets id (until r side i)) (sym (ap (λ (j : Intake). j.took) (took_there r honest p.world i side p.sents p.theirs))) arrived
+
+-- ---- over a group of streams
+
+module _ (G : Way) (g : Group Nothing G) (packets : (x y : Party) → G x y → PacketsHold x y) (says : (x y : Party) → G x y → Saying x y) (writes : (x y : Party) → G x y → Writes (wrote x.told) (streams_at x.end)) where
+  -- what was acknowledged arrived, beside a group that has the packets and what was written
+  pub arrived_beside : Group Nothing (And G Arrives)
+  arrived_beside = both Nothing G Arrives g (arrives_group (And Nothing G) (spoken (And Nothing G) (λ x y h. packets x y h.1) (λ x y h. says x y h.1) (λ x y h. writes x y h.1)))
+
+  -- so the clause holds of each honest run
+  pub finished_arrived : (r : Run) (end : World) → IsHonest r → IsRun r end → FinishedMeansArrived r
+  finished_arrived r end honest run =
+      finished_means_arrived (And G Arrives) (record { packets = λ x y h. packets x y h.0; says = λ x y h. says x y h.0; arrives = λ x y h. h.1 }) r end honest (placed (And G Arrives) arrived_beside r end honest run)

@@ -1,141 +1,184 @@
--- One half of the end that reads: what was written grows, a frame comes, a read takes what waits.
-use Rattle.std.proofs.Common.{◌≡◌, ℕ, ◌+◌, ◌-◌, ◌^◌, ◌<◌, ◌≤◌, ◌⊎◌, inl, inr, ltb, length, List, [], ◌∷◌, ◌++◌, take, Bool, true, false, cond, Option, Some, None, Ok, Err, refl, sym, ap, ◌∙◌, subst, arith, slice_get, get_or, length-append, append_assoc}
-use Rattle.std.specs.Prelude.{◌||◌}
-use Rattle.std.specs.Option.{is_some, option_or}
-use Rattle.std.proofs.lemmas.Bool.{ltb-true}
-use Rattle.std.proofs.lemmas.List.{take-append-le, take_at}
-use Rattle.std.proofs.lemmas.Option.{slice_get_within}
-use Rattle.quic_wire_core.specs.declared.stream_id.Side.{Side}
+-- A read: what each `next` rests on, what all of them leave, and what was read then.
+use Rattle.std.proofs.Common.{◌≡◌, ℕ, Bool, true, false, not, ◌||◌, ◌&&◌, List, [], ◌∷◌, ◌++◌, Some, None, Result, Ok, Err, refl, sym, ap, ◌∙◌, subst, inl, inr}
+use Rattle.std.specs.Prelude.{◌==◌, if◌then◌else◌}
+use Rattle.std.proofs.lemmas.Bool.{cond-true, cond-false, eq-eqb, ne_eqb, cases_eq}
+use Rattle.std.proofs.lemmas.List.{append_assoc, append-nil}
 use Rattle.quic_wire.specs.Value.{StreamValue}
-use Rattle.quic_assembler.specs.Arrived.{Arrived, IsLawful, byte_at, is_given, after_insert}
-use Rattle.quic_sets.specs.Parts.{byte_from}
-use Rattle.quic_sets.proofs.Parts.Bytes.{get-take, from_within}
-use Rattle.quic_assembler.proofs.Arrived.Lawful.{insert_bytes, insert_lawful}
-use Rattle.quic_sets.specs.Spans.{Span, in_spans}
-use Rattle.quic_streams.specs.Receiving.{RecvHalf, Receiving, untouched, end_of, with_frame}
-use Rattle.quic_streams.specs.Sending.{Sending}
-use Rattle.quic_headline.specs.Runs.{Told, Next, nexts, written, ended, bytes_of}
-use Rattle.quic_headline.proofs.Places.Invariant.{Grows, IsWritten, IsReading, IsFresh, InOrder, IsKept, Content}
+use Rattle.quic_assembler.specs.declared.assembler.Chunk.{Chunk}
+use Rattle.quic_streams_parts.specs.declared.answers.ReadableError.{ReadableError}
+use Rattle.quic_streams_state.specs.declared.state.StreamsState.{StreamsState}
+use Rattle.quic_streams_state.specs.Reading.{read_answer, after_read_begun, Told, told_bytes, told_by, after_next}
+use Rattle.quic_streams_laws.specs.Written.{Wrote}
+use Rattle.quic_streams_laws.specs.Reads.{Reads, with_chunk_read, read_of, with_unordered, read_begun_by, read_next_by}
+use Rattle.quic_streams_laws.specs.Content.{HoldsRead, TellsRight, MayRead, IsNextAnswer}
+use Rattle.quic_streams_laws.specs.ContentLaws.{read_begun, read_next, tells_next, may_begun, may_next}
+use Rattle.quic_streams_laws.specs.Kept.{HoldsTaken}
+use Rattle.quic_streams_laws.specs.TakenLaws.{taken_begun, taken_next}
+use Rattle.quic_machine.specs.Calls.{AreNexts, after_nexts}
+use Rattle.quic_machine.specs.declared.run.Call.TheVariants as calls
+use Rattle.quic_machine.specs.declared.run.Answer.TheVariants as answers
+use Rattle.quic_machine.specs.declared.run.ReadCall.{ReadCall}
+use Rattle.quic_machine.specs.declared.answers.State.{State}
+use Rattle.quic_headline.specs.Runs as runs
+use Rattle.quic_headline.specs.Runs.{Next, chunks_of, nexts, nexts_by, reads, picks_by, only_in_order}
+use Rattle.quic_headline.proofs.Places.Told.{nexts_more, chunks_append}
+use Rattle.quic_headline.proofs.Places.Parties.{told_of}
+use Rattle.quic_headline.proofs.Halves.Ghosts.{read}
 
--- ---- what was written grows
+-- ---- what was read, once these were answered
 
--- what stood in the bytes stands there
-get_more : (xs ys : List ℕ) (o b : ℕ) → slice_get xs o ≡ Some b → slice_get (xs ++ ys) o ≡ Some b
-get_more xs ys o b e =
-    let short = slice_get_within xs o b e in
-    let same : take (length xs) (xs ++ ys) ≡ xs = take_at xs ys (length xs) refl in
-    sym (get-take (length xs) o (xs ++ ys) short) ∙ ap (λ (z : List ℕ). slice_get z o) same ∙ e
+abbrev pub read_nexts : List Next → ℕ → (ℕ → Reads) → ℕ → Reads
+read_nexts [] id r = r
+read_nexts (a ∷ answers) id r = read_nexts answers id (read_next_by a id r)
 
-pub reading_grows : (wr : List ℕ) (fin : Bool) (more : List ℕ) (fin' : Bool) (said : List Next) (h : RecvHalf) → Grows wr fin more fin' → IsReading wr fin said h → IsReading more fin' said h
-reading_grows wr fin more fin' said h g i =
-    let len : length wr + length g.rest ≡ length more = sym (length-append wr g.rest) ∙ ap (λ (z : List ℕ). length z) g.is in
-    let within = i.within in
-    record {
-      lawful = i.lawful;
-      ordered = i.ordered;
-      agrees = λ o b e. subst (λ z. slice_get z o ≡ Some b) g.is (get_more wr g.rest o b (i.agrees o b e));
-      read = i.read ∙ sym (take-append-le h.arrived.read wr g.rest i.within) ∙ ap (λ (z : List ℕ). take h.arrived.read z) g.is;
-      within = omega arith;
-      final = λ size e. let last = i.final size e in let stays = g.stays last.0 in (stays.1, last.1 ∙ sym (ap (λ (z : List ℕ). length z) stays.0));
-    }
+-- these chunks, in an order or not
+abbrev pub reads_of : List Chunk → Bool → Reads
+reads_of cs unordered = record { chunks = cs; unordered = unordered }
 
-pub order_grows : (wr : List ℕ) (fin : Bool) (more : List ℕ) (fin' : Bool) (before : List ℕ) (said : List Next) → Grows wr fin more fin' → InOrder wr fin before said → InOrder more fin' before said
-order_grows wr fin more fin' before [] g i = tt
-order_grows wr fin more fin' before (Ok (Some c) ∷ said) g i =
-    (i.0, (i.1.0 ++ g.rest, sym (append_assoc (before ++ c.bytes) i.1.0 g.rest) ∙ ap (λ (z : List ℕ). z ++ g.rest) i.1.1 ∙ g.is), order_grows wr fin more fin' (before ++ c.bytes) said g i.2)
-order_grows wr fin more fin' before (Ok None ∷ said) g i =
-    let stays = g.stays i.1 in
-    (i.0 ∙ sym stays.0, stays.1, order_grows wr fin more fin' before said g i.2)
-order_grows wr fin more fin' before (Err e ∷ said) g i = order_grows wr fin more fin' before said g i
+read_here : (id : ℕ) (more : Reads → Reads) (r : ℕ → Reads) → read_of id more r id ≡ more (r id)
+read_here id more r = cond-true (id == id) (more (r id)) (r id) (eq-eqb id id refl)
 
-pub content_grows : (side : Side) (s : Sending) (r : Receiving) (wrote more read : List Told) → ((id : ℕ) → Grows (written id wrote) (ended id wrote) (written id more) (ended id more)) → Content side s r wrote read → Content side s r more read
-content_grows side s r wrote more read g c = record {
-  sorted = c.sorted;
-  reading = λ id h e. reading_grows (written id wrote) (ended id wrote) (written id more) (ended id more) (nexts id read) h (g id) (c.reading id h e);
-  order = λ id. order_grows (written id wrote) (ended id wrote) (written id more) (ended id more) [] (nexts id read) (g id) (c.order id);
-  ready = c.ready;
-  own = c.own;
-}
+read_apart : (id : ℕ) (more : Reads → Reads) (r : ℕ → Reads) (q : ℕ) → (q ≡ id → ⊥) → read_of id more r q ≡ r q
+read_apart id more r q ne = cond-false (q == id) (more (r q)) (r q) (ne_eqb q id ne)
 
--- ---- a frame comes
+-- on their stream, their chunks
+pub nexts_here : (answers : List Next) (id : ℕ) (r : ℕ → Reads) → read_nexts answers id r id ≡ reads_of ((r id).chunks ++ chunks_of answers) (r id).unordered
+nexts_here [] id r = ap (λ (cs : List Chunk). reads_of cs (r id).unordered) (sym (append-nil (r id).chunks))
+nexts_here (Ok (Some c) ∷ answers) id r =
+    nexts_here answers id (read_of id (with_chunk_read c) r)
+    ∙ ap (λ (x : Reads). reads_of (x.chunks ++ chunks_of answers) x.unordered) (read_here id (with_chunk_read c) r)
+    ∙ ap (λ (cs : List Chunk). reads_of cs (r id).unordered) (append_assoc (r id).chunks (c ∷ []) (chunks_of answers))
+nexts_here (Ok None ∷ answers) id r = nexts_here answers id r
+nexts_here (Err e ∷ answers) id r = nexts_here answers id r
 
--- a byte that waits behind the frame waited before, or stands in the frame
-byte_agrees : (wr : List ℕ) (o b : ℕ) (x y : Option ℕ) (low : Bool) → ((b : ℕ) → x ≡ Some b → slice_get wr o ≡ Some b) → ((b : ℕ) → y ≡ Some b → slice_get wr o ≡ Some b) → cond low None (option_or x y) ≡ Some b → slice_get wr o ≡ Some b
-byte_agrees wr o b x y true was came e = cc
-byte_agrees wr o b None y false was came e = came b e
-byte_agrees wr o b (Some a) y false was came e = was b e
+-- elsewhere nothing
+pub nexts_apart : (answers : List Next) (id : ℕ) (r : ℕ → Reads) (q : ℕ) → (q ≡ id → ⊥) → read_nexts answers id r q ≡ r q
+nexts_apart [] id r q ne = refl
+nexts_apart (Ok (Some c) ∷ answers) id r q ne = nexts_apart answers id (read_of id (with_chunk_read c) r) q ne ∙ read_apart id (with_chunk_read c) r q ne
+nexts_apart (Ok None ∷ answers) id r q ne = nexts_apart answers id r q ne
+nexts_apart (Err e ∷ answers) id r q ne = nexts_apart answers id r q ne
+
+-- a read that began
+abbrev pub begun_reads : Bool → ℕ → (ℕ → Reads) → ℕ → Reads
+begun_reads ordered id r = read_begun_by (Ok tt) ordered id r
 
 or_false : (b : Bool) → (b || false) ≡ b
 or_false true = refl
 or_false false = refl
 
--- of what only ordered reads gave, all lies below the place where they go on
-plain_given : (a : Arrived) (o : ℕ) → IsLawful a → a.unordered ≡ false → is_given a o ≡ ltb o a.read
-plain_given a o h u = ap (λ (gs : List Span). ltb o a.read || in_spans gs o) (h.order u) ∙ or_false (ltb o a.read)
+or_true : (b : Bool) → (b || true) ≡ true
+or_true true = refl
+or_true false = refl
 
-pub insert_plain : (a : Arrived) (offset : ℕ) (bytes : List ℕ) (o : ℕ) → IsLawful a → a.unordered ≡ false → offset + length bytes < 2 ^ 62
-    → byte_at (after_insert a offset bytes).parts o ≡ cond (ltb o a.read) None (option_or (byte_at a.parts o) (byte_from offset bytes o))
-insert_plain a offset bytes o h u s = insert_bytes a offset bytes o h s ∙ ap (λ (b : Bool). cond b None (option_or (byte_at a.parts o) (byte_from offset bytes o))) (plain_given a o h u)
+pub begun_here : (ordered : Bool) (id : ℕ) (r : ℕ → Reads) → begun_reads ordered id r id ≡ reads_of (r id).chunks ((r id).unordered || not ordered)
+begun_here true id r = ap (λ (b : Bool). reads_of (r id).chunks b) (sym (or_false (r id).unordered))
+begun_here false id r = read_here id with_unordered r ∙ ap (λ (b : Bool). reads_of (r id).chunks b) (sym (or_true (r id).unordered))
 
--- a frame that was written keeps what is read
-pub reading_frame : (wr : List ℕ) (fin : Bool) (said : List Next) (h : RecvHalf) (f : StreamValue) → IsReading wr fin said h → IsWritten wr fin f → end_of f < 2 ^ 62 → IsReading wr fin said (with_frame h f)
-reading_frame wr fin said h f i w small = record {
-  lawful = insert_lawful h.arrived f.offset f.bytes i.lawful small;
-  ordered = i.ordered;
-  agrees = λ o b e. byte_agrees wr o b (byte_at h.arrived.parts o) (byte_from f.offset f.bytes o) (ltb o h.arrived.read) (i.agrees o) (w.bytes o) (sym (insert_plain h.arrived f.offset f.bytes o i.lawful i.ordered small) ∙ e);
-  read = i.read;
-  within = i.within;
-  final = λ size. final_is size f.fin w.last;
-}
+begun_apart : (ordered : Bool) (id : ℕ) (r : ℕ → Reads) (q : ℕ) → (q ≡ id → ⊥) → begun_reads ordered id r q ≡ r q
+begun_apart true id r q ne = refl
+begun_apart false id r q ne = read_apart id with_unordered r q ne
+
+-- ---- what the lists of a run say of it
+
+-- what was read in no order by one call more
+picks_more : (id : ℕ) (ts : List runs.Told) (t : runs.Told) → not (only_in_order id (ts ++ t ∷ [])) ≡ (not (only_in_order id ts) || picks_by id t.call t.answer)
+picks_more id [] t = last (picks_by id t.call t.answer)
   where
-    final_is : (size : ℕ) (b : Bool) → (b ≡ true → (fin ≡ true) × (end_of f ≡ length wr)) → cond b (Some (end_of f)) h.final ≡ Some size → (fin ≡ true) × (size ≡ length wr)
-    final_is size true l e = let end = l refl in let same : end_of f ≡ size = cc in (end.0, sym same ∙ end.1)
-    final_is size false l e = i.final size e
-
--- of a half that nothing touched nothing was read
-pub reading_untouched : (wr : List ℕ) (fin : Bool) (said : List Next) → IsFresh said → IsReading wr fin said untouched
-reading_untouched wr fin said fresh = record {
-  lawful = record { apart = omega arith; spans = omega arith; others = λ o e. cc; order = λ e. refl };
-  ordered = refl;
-  agrees = λ o b e. cc;
-  read = ap bytes_of fresh.chunks;
-  within = omega arith;
-  final = λ size e. cc;
-}
-
--- ---- what a frame said is kept
-
-some_or : (x : Option ℕ) (b : ℕ) → is_some (option_or x (Some b)) ≡ true
-some_or None b = refl
-some_or (Some a) b = refl
-
-some_before : (x y : Option ℕ) → is_some x ≡ true → is_some (option_or x y) ≡ true
-some_before None y e = cc
-some_before (Some a) y e = refl
-
--- a byte of a frame that was taken waits, unless it was read
-pub kept_frame : (wr : List ℕ) (fin : Bool) (said : List Next) (h : RecvHalf) (f : StreamValue) → IsReading wr fin said h → end_of f < 2 ^ 62 → IsKept f (with_frame h f)
-kept_frame wr fin said h f i small = record {
-  bytes = λ o from below. waits o from below (ltb o h.arrived.read) refl;
-  fin = λ e. rw e refl;
-}
+    last : (b : Bool) → not (not b && true) ≡ b
+    last true = refl
+    last false = refl
+picks_more id (u ∷ ts) t = go (picks_by id u.call u.answer) (only_in_order id (ts ++ t ∷ [])) (only_in_order id ts) (picks_more id ts t)
   where
-    waits : (o : ℕ) → f.offset ≤ o → o < f.offset + length f.bytes → (b : Bool) → ltb o h.arrived.read ≡ b → (o < h.arrived.read) ⊎ (is_some (byte_at (after_insert h.arrived f.offset f.bytes).parts o) ≡ true)
-    waits o from below true q = inl (ltb-true o h.arrived.read q)
-    waits o from below false q = inr (rw (insert_plain h.arrived f.offset f.bytes o i.lawful i.ordered small, q, from_within f.offset f.bytes o from below) (some_or (byte_at h.arrived.parts o) (get_or f.bytes (o - f.offset) 0)))
+    go : (p all front : Bool) → not all ≡ (not front || picks_by id t.call t.answer) → not (not p && all) ≡ (not (not p && front) || picks_by id t.call t.answer)
+    go true all front e = refl
+    go false all front e = e
 
--- what an earlier frame said stays
-pub kept_over_frame : (wr : List ℕ) (fin : Bool) (said : List Next) (h : RecvHalf) (f g : StreamValue) → IsReading wr fin said h → IsWritten wr fin f → end_of f < 2 ^ 62 → IsKept g h → IsKept g (with_frame h f)
-kept_over_frame wr fin said h f g i w small k = record {
-  bytes = λ o from below. waits o (ltb o h.arrived.read) refl (k.bytes o from below);
-  fin = λ e. same f.fin w.last (k.fin e);
-}
+-- what was read by one call more
+pub read_more : (ts : List runs.Told) (t : runs.Told) (id : ℕ) → read (ts ++ t ∷ []) id ≡ reads_of ((read ts id).chunks ++ chunks_of (nexts_by id t.call t.answer)) ((read ts id).unordered || picks_by id t.call t.answer)
+read_more ts t id =
+    ap (λ (said : List Next). reads_of (chunks_of said) (not (only_in_order id (ts ++ t ∷ [])))) (nexts_more id ts t)
+    ∙ ap (λ (cs : List Chunk). reads_of cs (not (only_in_order id (ts ++ t ∷ [])))) (chunks_append (nexts id ts) (nexts_by id t.call t.answer))
+    ∙ ap (λ (b : Bool). reads_of (reads id ts ++ chunks_of (nexts_by id t.call t.answer)) b) (picks_more id ts t)
+
+-- a call by which nothing is read leaves it
+pub read_same : (ts : List runs.Told) (t : runs.Told) (id : ℕ) → nexts_by id t.call t.answer ≡ [] → picks_by id t.call t.answer ≡ false → read (ts ++ t ∷ []) id ≡ read ts id
+read_same ts t id none picks =
+    read_more ts t id
+    ∙ ap (λ (said : List Next). reads_of ((read ts id).chunks ++ chunks_of said) ((read ts id).unordered || picks_by id t.call t.answer)) none
+    ∙ ap (λ (cs : List Chunk). reads_of cs ((read ts id).unordered || picks_by id t.call t.answer)) (append-nil (read ts id).chunks)
+    ∙ ap (λ (b : Bool). reads_of (read ts id).chunks ((read ts id).unordered || b)) picks
+    ∙ ap (λ (b : Bool). reads_of (read ts id).chunks b) (or_false (read ts id).unordered)
+
+-- a read adds what it gave
+pub read_on : (ts : List runs.Told) (rd : ReadCall) (said : List Next) (state : State) (q : ℕ) → read_nexts said rd.id (begun_reads rd.ordered rd.id (read ts)) q ≡ read (ts ++ told_of (calls.Read rd) (answers.Read (Ok said)) state ∷ []) q
+read_on ts rd said state q = elim (cases_eq q rd.id) [ inl same ↦ here same | inr ne ↦ apart ne ]
   where
-    waits : (o : ℕ) (b : Bool) → ltb o h.arrived.read ≡ b → (o < h.arrived.read) ⊎ (is_some (byte_at h.arrived.parts o) ≡ true) → (o < h.arrived.read) ⊎ (is_some (byte_at (after_insert h.arrived f.offset f.bytes).parts o) ≡ true)
-    waits o b q (inl l) = inl l
-    waits o true q (inr e) = inl (ltb-true o h.arrived.read q)
-    waits o false q (inr e) = inr (rw (insert_plain h.arrived f.offset f.bytes o i.lawful i.ordered small, q) (some_before (byte_at h.arrived.parts o) (byte_from f.offset f.bytes o) e))
+    t : runs.Told
+    t = told_of (calls.Read rd) (answers.Read (Ok said)) state
 
-    same : (b : Bool) → (b ≡ true → (fin ≡ true) × (end_of f ≡ length wr)) → h.final ≡ Some (end_of g) → cond b (Some (end_of f)) h.final ≡ Some (end_of g)
-    same true l e = let last = l refl in let size = i.final (end_of g) e in ap (λ (n : ℕ). Some n) (last.1 ∙ sym size.1)
-    same false l e = e
+    here : q ≡ rd.id → read_nexts said rd.id (begun_reads rd.ordered rd.id (read ts)) q ≡ read (ts ++ t ∷ []) q
+    here same = subst (λ (id : ℕ). read_nexts said rd.id (begun_reads rd.ordered rd.id (read ts)) id ≡ read (ts ++ t ∷ []) id) (sym same)
+        (nexts_here said rd.id (begun_reads rd.ordered rd.id (read ts))
+        ∙ ap (λ (x : Reads). reads_of (x.chunks ++ chunks_of said) x.unordered) (begun_here rd.ordered rd.id (read ts))
+        ∙ sym (read_more ts t rd.id ∙ ap (λ (b : Bool). reads_of ((read ts rd.id).chunks ++ chunks_of (if b then said else [])) ((read ts rd.id).unordered || (b && not rd.ordered))) (eq-eqb rd.id rd.id refl)))
+
+    apart : (q ≡ rd.id → ⊥) → read_nexts said rd.id (begun_reads rd.ordered rd.id (read ts)) q ≡ read (ts ++ t ∷ []) q
+    apart ne =
+        let other : (rd.id == q) ≡ false = ne_eqb rd.id q (λ e. ne (sym e)) in
+        nexts_apart said rd.id (begun_reads rd.ordered rd.id (read ts)) q ne
+        ∙ begun_apart rd.ordered rd.id (read ts) q ne
+        ∙ sym (read_same ts t q (ap (λ (b : Bool). if b then said else []) other) (ap (λ (b : Bool). b && not rd.ordered) other))
+
+-- ---- one `next` behind another
+
+-- what a `next` rests on: what was written and read, what taken frames brought, and what was told
+pub record IsReading (done : ℕ → Wrote) (taken : StreamValue → Type 0) (id : ℕ) (told : Told) (s : StreamsState) (r : ℕ → Reads) : Type 0 where
+  pub holds : HoldsRead done r s
+  pub keeps : HoldsTaken taken s
+  pub may : MayRead told s id
+  pub right : TellsRight (done id) (r id) told
+
+-- where a `next` was answered so, behind others
+pub record AtNext (done : ℕ → Wrote) (taken : StreamValue → Type 0) (id : ℕ) (r : ℕ → Reads) (front : List Next) (answer : Next) : Type 0 where
+  pub told : Told
+  pub state : StreamsState
+  pub most : ℕ
+  pub on : IsReading done taken id told state (read_nexts front id r)
+  pub is : IsNextAnswer told state id most answer
+
+module _ (done : ℕ → Wrote) (taken : StreamValue → Type 0) (id : ℕ) where
+  -- once a read began
+  pub begins : (s : StreamsState) (ordered : Bool) (r : ℕ → Reads) → read_answer s id ordered ≡ Ok tt → HoldsRead done r s → HoldsTaken taken s → IsReading done taken id told_bytes (after_read_begun s id ordered) (begun_reads ordered id r)
+  begins s ordered r is i k = record {
+    holds = subst (λ (a : Result (Unit {0}) ReadableError). HoldsRead done (read_begun_by a ordered id r) (after_read_begun s id ordered)) is (read_begun done r s id ordered i);
+    keeps = taken_begun taken s id ordered k;
+    may = may_begun s id ordered tt is;
+    right = tt;
+  }
+
+  -- and behind each answer
+  pub next_on : (told : Told) (s : StreamsState) (r : ℕ → Reads) (most : ℕ) (answer : Next) → IsNextAnswer told s id most answer → IsReading done taken id told s r
+      → IsReading done taken id (told_by answer told) (after_next told answer s id most) (read_next_by answer id r)
+  next_on told s r most answer is i = record {
+    holds = read_next done r told s id most answer is i.holds;
+    keeps = taken_next taken told s id most answer is i.keeps;
+    may = may_next told s id most answer i.may;
+    right = tells_next done r told s id most answer is i.may i.right i.holds;
+  }
+
+  -- at each answer of a read
+  pub at_next : (told : Told) (s : StreamsState) (r : ℕ → Reads) (mosts : List ℕ) (front : List Next) (answer : Next) (behind : List Next) → AreNexts told s id mosts (front ++ answer ∷ behind) → IsReading done taken id told s r → AtNext done taken id r front answer
+  at_next told s r [] [] answer behind a i = absurd a
+  at_next told s r [] (x ∷ front) answer behind a i = absurd a
+  at_next told s r (most ∷ mosts) [] answer behind a i = record { told = told; state = s; most = most; on = i; is = a.0 }
+  at_next told s r (most ∷ mosts) (x ∷ front) answer behind a i =
+      let more = at_next (told_by x told) (after_next told x s id most) (read_next_by x id r) mosts front answer behind a.1 (next_on told s r most x a.0 i) in
+      record { told = more.told; state = more.state; most = more.most; on = more.on; is = more.is }
+
+  -- what a read leaves
+  pub nexts_on : (told : Told) (s : StreamsState) (r : ℕ → Reads) (mosts : List ℕ) (answers : List Next) → AreNexts told s id mosts answers → IsReading done taken id told s r
+      → HoldsRead done (read_nexts answers id r) (after_nexts told s id mosts answers) × HoldsTaken taken (after_nexts told s id mosts answers)
+  nexts_on told s r [] [] a i = (i.holds, i.keeps)
+  nexts_on told s r [] (x ∷ answers) a i = absurd a
+  nexts_on told s r (most ∷ mosts) [] a i = absurd a
+  nexts_on told s r (most ∷ mosts) (x ∷ answers) a i = nexts_on (told_by x told) (after_next told x s id most) (read_next_by x id r) mosts answers a.1 (next_on told s r most x a.0 i)

@@ -1,225 +1,275 @@
--- One call at the end that writes: what was written and given behind it.
-use Rattle.std.proofs.Common.{◌≡◌, ℕ, ◌<◌, ◌≤◌, ◌^◌, Bool, true, false, ◌==◌, List, [], ◌∷◌, ◌++◌, length, take, Ok, Err, refl, sym, ap, ◌∙◌, subst, inl, inr, ◌⊎◌, arith}
-use Rattle.std.specs.Prelude.{if◌then◌else◌}
-use Rattle.std.specs.List.{slice_get}
-use Rattle.std.specs.List.Sorted.{IsStrictlySortedBy}
-use Rattle.std.proofs.lemmas.Bool.{eqb-true}
-use Rattle.std.proofs.lemmas.List.{append-nil}
-use Rattle.quic_wire_core.specs.declared.stream_id.Side.{Side}
+-- The writing side between two ends, as one group over their packets: the one that gives holds what was written at it, and what it sent says so.
+use Rattle.std.proofs.Common.{◌≡◌, ℕ, ◌≤◌, ◌^◌, Bool, true, false, List, [], ◌∷◌, ◌++◌, refl, sym, ◌∙◌, subst, inl, inr, append-nil}
+use Rattle.std.specs.Prelude.{nat_lt, if◌then◌else◌}
 use Rattle.quic_wire_core.specs.declared.stream_id.Dir.{Dir}
+use Rattle.quic_wire_core.specs.declared.stream_id.Dir.TheVariants.{Bi, Uni}
 use Rattle.quic_parameters.specs.Parameters.{ParameterValues}
-use Rattle.quic_machine.specs.declared.answers.State.{State}
-use Rattle.quic_machine.specs.declared.answers.State.TheVariants as states
+use Rattle.quic_config.specs.Transport.{parameters_of, IsInRange}
+use Rattle.quic_streams_parts.specs.Dirs.{of}
+use Rattle.quic_streams_state.specs.declared.state.StreamsState.{StreamsState}
+use Rattle.quic_streams_laws.specs.StartLaws.{few_new, queue_new, few_set_params, queue_set_params}
+use Rattle.quic_streams_laws.specs.WrittenResets.{resets_grow}
+use Rattle.quic_machine.specs.Closing.{ticked}
+use Rattle.quic_machine.specs.FrameCases.{begun}
+use Rattle.quic_wire.specs.Value.{FrameValue}
+use Rattle.quic_streams_state.specs.State.{Streams, new_streams}
+use Rattle.quic_streams_laws.specs.KeepingLaws.{by_polled}
+use Rattle.quic_streams_laws.specs.GrowsLaws.{grows_same}
+use Rattle.quic_streams_laws.specs.Written.{Wrote, Grows, nothing_done}
+use Rattle.quic_streams_laws.specs.WrittenLaws.{holds_same, holds_new, holds_set_params}
 use Rattle.quic_machine.specs.declared.run.Call.{Call}
 use Rattle.quic_machine.specs.declared.run.Call.TheVariants as calls
 use Rattle.quic_machine.specs.declared.run.Answer.{Answer}
-use Rattle.quic_machine.specs.declared.run.Answer.TheVariants as answers
-use Rattle.quic_config.specs.Transport.{Settings}
 use Rattle.quic_machine.specs.Policy.{Policy}
-use Rattle.quic_streams.specs.Sending.{Sending, opens}
-use Rattle.quic_machine.specs.End.{End, new_end}
-use Rattle.quic_machine.specs.Calls.{can_open, after_open_if, is_open, end_writes}
-use Rattle.quic_machine.specs.Receive.{received}
-use Rattle.quic_machine.specs.Poll.{Polled, polled}
-use Rattle.quic_machine.specs.Machine.{IsAnswer, after_call, gives, fails, gave}
-use Rattle.quic_headline.specs.Runs.{Told, written_by, written, ended}
-use Rattle.quic_headline.specs.Observer.{Sent}
-use Rattle.quic_headline.proofs.Places.Told.{written_more, ended_more}
-use Rattle.quic_headline.proofs.Places.Stays.{stays_delivered, stays_received, behind_received}
+use Rattle.quic_machine.specs.Calls.{is_open}
+use Rattle.quic_machine.specs.End.{End, streams_at, with_closing, with_ping}
+use Rattle.quic_machine.specs.Receive.{Outcome}
+use Rattle.quic_machine.specs.Poll.{Polled, composed, polled}
+use Rattle.quic_machine.specs.PollCases.{at_moment, ready_at, frames_at, by_poll}
+use Rattle.quic_machine.specs.StreamCalls.{is_on_streams, IsStreamAnswer, after_on_streams}
+use Rattle.quic_machine.specs.Machine.{IsAnswer, after_call, gave}
+use Rattle.quic_machine.specs.CallCases.{is_delivery, by_call}
 use Rattle.quic_machine.specs.LeaveCases.{by_expired, by_event}
-use Rattle.quic_machine.specs.CallCases.{changes_sending, is_delivery, is_poll, by_call, by_plain_call}
-use Rattle.quic_headline.proofs.Places.Steps.{gives_count}
-use Rattle.quic_headline.proofs.Halves.Writes.{IsQuiet, quiet_streams, half_at, opened_streams, write_taken, written_streams, finished_streams}
-use Rattle.quic_machine.specs.PollCases.{at_moment, by_poll, composes, given_as, gives_as}
-use Rattle.quic_headline.proofs.Halves.Sends.{polled_streams, gives_quiet, sent_by, sent_if, polled_gives}
-use Rattle.quic_headline.proofs.Places.Invariant.{Grows, Streams, IsBehind, Gives, Acks}
+use Rattle.quic_headline.specs.Runs.{Told, Intake, Packet, In}
+use Rattle.quic_headline.specs.Observer.{Sent}
+use Rattle.quic_headline.proofs.Packets.Growth.{in_more, step_of}
+use Rattle.quic_headline.proofs.Packets.Invariant.{IsSent}
+use Rattle.quic_headline.proofs.Packets.Delivered.{Arrivals, arrived}
+use Rattle.quic_headline.proofs.Packets.Named.{TakesOn, frames_settle}
+use Rattle.quic_headline.proofs.Packets.Group.{PacketsHold, meets}
+use Rattle.quic_headline.proofs.Places.Coming.{by_coming}
+use Rattle.quic_headline.proofs.Places.Groups.{Way, Calls, Group}
+use Rattle.quic_headline.proofs.Places.Parties.{sent_by, sent_if, sents_by, told_of, Party, called, came_to, Beginning, begun_as, AreMade}
+use Rattle.quic_headline.proofs.Halves.Ghosts.{Saying}
+use Rattle.quic_headline.proofs.Halves.Kept.{Keeping, keeping_kept}
+use Rattle.quic_headline.proofs.Halves.Wrote.{wrote, done_by, ResetsFirst, wrote_more}
+use Rattle.quic_headline.proofs.Halves.Writes.{Writes, calls_leave, calls_grow, resets_first}
+use Rattle.quic_headline.proofs.Halves.Says.{AllSay, SentSay, says_grow, sent_says, taken_says}
+use Rattle.quic_headline.proofs.Halves.Counts.{counts_in_range}
+use Rattle.quic_headline.proofs.Halves.Small.{IsSmallLimit, payload_small}
+use Rattle.quic_headline.proofs.Halves.Sends.{composed_draws, padded_say}
+use Rattle.quic_headline.proofs.Halves.Arrives.{frame_leaves, settles_leave}
 
--- ---- at the start
+-- x gives
+pub record WritesHold (x y : Party) : Type 0 where
+  -- its streams hold what was written on them, and what waits says how they were reset
+  pub writes : Writes (wrote x.told) (streams_at x.end)
+  -- each frame of what it sent says what was written
+  pub says : Saying x y
+
+-- ---- what was done
+
+-- the same was done
+writes_same : (done more : ℕ → Wrote) (t : Streams) → ((q : ℕ) → more q ≡ done q) → Writes done t → Writes more t
+writes_same done more t same w = record {
+  keeps = record { holds = holds_same done more t.state same w.keeps.holds; few = w.keeps.few; orderly = w.keeps.orderly };
+  waits = resets_grow done more t.pending (λ q. subst (Grows (done q)) (sym (same q)) (grows_same (done q))) w.waits;
+}
+
+-- a call that isn't on streams writes nothing
+done_same : (call : Call) (a : Answer) (done : ℕ → Wrote) → is_on_streams call ≡ false → (q : ℕ) → done_by call a done q ≡ done q
+done_same (calls.Write id bytes) a done off q = cc
+done_same (calls.WriteChunks id chunks) a done off q = cc
+done_same (calls.Finish id) a done off q = cc
+done_same (calls.Reset id code) a done off q = cc
+done_same call a done off q = refl
+
+-- one that is, is answered as the streams say
+on_answer : (p : Policy) (e : End) (theirs : List (List ℕ)) (call : Call) (a : Answer) → is_on_streams call ≡ true → IsAnswer p e theirs call a → IsStreamAnswer (is_open e.closing.state) e.streams call a
+on_answer p e theirs calls.Ping a on is = cc
+on_answer p e theirs (calls.Poll now) a on is = cc
+on_answer p e theirs (calls.Timeout now) a on is = cc
+on_answer p e theirs (calls.Deliver delivery) a on is = cc
+on_answer p e theirs (calls.Inject injection) a on is = cc
+on_answer p e theirs calls.Event a on is = cc
+on_answer p e theirs (calls.Timer timer) a on is = cc
+on_answer p e theirs calls.NextTimeout a on is = cc
+on_answer p e theirs call a on is = is
+
+-- a call of another kind is none on streams
+off_streams : (b : Bool) → b ≡ false → b ≡ true → ⊥
+off_streams b off on = let clash : false ≡ true = sym off ∙ on in cc
+
+module _ (p : Policy) (e : End) (theirs : List (List ℕ)) (done : ℕ → Wrote) (w : Writes done (streams_at e)) where
+  -- ---- a poll
+
+  -- an end that is ready to give has the same streams
+  ready_writes : (now : ℕ) → Writes done (streams_at (ready_at e now))
+  ready_writes now = go (nat_lt 0 e.tracking.probes)
+    where
+      go : (b : Bool) → Writes done (streams_at (if b then with_ping (with_closing e (ticked e.closing now)) true else with_closing e (ticked e.closing now)))
+      go true = w
+      go false = w
+
+  -- what it gives says what was written
+  pub poll_says : (now : ℕ) → AllSay done (frames_at e now)
+  poll_says now = padded_say done (composed (ready_at e now)) (composed_draws done (ready_at e now) (ready_writes now))
+
+  poll_writes : (now : ℕ) → Writes done (streams_at (polled p e now).end)
+  poll_writes now = by_poll p e now (λ (q : Polled). Writes done (streams_at q.end)) (record {
+    silent = w;
+    failed = w;
+    idle = λ pings. w;
+    used_up = λ pings. w;
+    gives = λ pings tracking timers is may some ready. (let d = composed_draws done (at_moment e now pings) w in record { keeps = d.writes.keeps; waits = d.writes.waits });
+  })
+
+  -- ---- calls that are no delivery
+
+  call_writes : (call : Call) (a : Answer) → IsAnswer p e theirs call a → is_delivery call ≡ false → (b : Bool) → is_on_streams call ≡ b → Writes (done_by call a done) (streams_at (after_call p e theirs call a))
+  call_writes call a is apart true on = by_on call a on (calls_leave done e.streams e.waiting.frames w (is_open e.closing.state) call a (on_answer p e theirs call a on is))
+    where
+      by_on : (call : Call) (a : Answer) → is_on_streams call ≡ true → Writes (done_by call a done) (after_on_streams (is_open e.closing.state) (streams_at e) call a) → Writes (done_by call a done) (streams_at (after_call p e theirs call a))
+      by_on calls.Ping a on left = cc
+      by_on (calls.Poll now) a on left = cc
+      by_on (calls.Timeout now) a on left = cc
+      by_on (calls.Deliver delivery) a on left = cc
+      by_on (calls.Inject injection) a on left = cc
+      by_on calls.Event a on left = cc
+      by_on (calls.Timer timer) a on left = cc
+      by_on calls.NextTimeout a on left = cc
+      by_on call a on left = left
+  call_writes call a is apart false off = writes_same done (done_by call a done) (streams_at (after_call p e theirs call a)) (done_same call a done off) (by_call p e theirs (λ (f : End). Writes done (streams_at f)) call a (record {
+    same = w;
+    on_streams = λ on answer. absurd (off_streams (is_on_streams call) off on);
+    pings = w;
+    heard = λ path same. w;
+    times = λ now acks loss set. by_expired e now (λ (f : End). Writes done (streams_at f)) (λ pending tracking timers runs packets. w) acks loss;
+    polls = λ now set. poll_writes now;
+    hears = λ now d set. absurd (off_streams (is_delivery call) apart set);
+    tells = λ asks. by_event e (λ (f : End). Writes done (streams_at f)) (λ told. record { keeps = by_polled (Keeping done) (keeping_kept done) e.streams w.keeps; waits = w.waits });
+  }))
+
+  -- what was done only grows
+  call_grows : (call : Call) (a : Answer) → IsAnswer p e theirs call a → (b : Bool) → is_on_streams call ≡ b → (q : ℕ) → Grows (done q) (done_by call a done q)
+  call_grows call a is true on q = calls_grow done e.streams e.waiting.frames w (is_open e.closing.state) call a (on_answer p e theirs call a on is) q
+  call_grows call a is false off q = subst (Grows (done q)) (sym (done_same call a done off q)) (grows_same (done q))
+
+  call_first : (call : Call) (a : Answer) → IsAnswer p e theirs call a → (b : Bool) → is_on_streams call ≡ b → ResetsFirst done call a
+  call_first call a is true on = resets_first done e.streams e.waiting.frames w (is_open e.closing.state) call a (on_answer p e theirs call a on is)
+  call_first call a is false off = none call a off
+    where
+      none : (call : Call) (a : Answer) → is_on_streams call ≡ false → ResetsFirst done call a
+      none (calls.Reset id code) a off = cc
+      none call a off = tt
+
+-- ---- a delivery
+
+module _ (x y : Party) (p : PacketsHold x y) (back : PacketsHold y x) (say : Saying x y) (w : Writes (wrote x.told) (streams_at x.end)) where
+  -- what comes leaves
+  arrivals_write : (now : ℕ) (s : Sent) → In s y.sents → Arrivals x.end now s.number s.frames (came_to x y) (λ (o : Outcome) (i : Intake). Writes (wrote x.told) (streams_at o.end))
+  arrivals_write now s among = record {
+    ignored = λ reason. w;
+    noted = λ state reason. w;
+    takes = λ state new none. (let a = passed_writes in record { keeps = a.keeps; waits = a.waits });
+    refuses = λ state new f is. (let a = passed_writes in record { keeps = a.keeps; waits = a.waits });
+  }
+    where
+      took : List Packet
+      took = (came_to y x).took
+
+      small : (f : FrameValue) → In f s.frames → IsSmallLimit f
+      small f i = let given = (step_of (IsSent y.policy x.id) y.sents y.given s back.gives.each among).1 in payload_small s.frames given.payload given.spells f i
+
+      takes : TakesOn took x.sents s.frames (λ (e : End). Writes (wrote x.told) (streams_at e))
+      takes = record {
+        settles = settles_leave (wrote x.told) took x.sents (taken_says (wrote x.told) x.sents say took p.taken) (sent_says (wrote x.told) x.sents say);
+        names = λ a e i j. j;
+        on_streams = λ f e i on j. frame_leaves (wrote x.told) e j f on (small f i);
+      }
+
+      passed_writes : Writes (wrote x.told) (streams_at (arrived x.end now s.number s.frames).end)
+      passed_writes = frames_settle took x.sents (record { taken = p.taken; rising = p.gives.rising }) s.frames (λ (e : End). Writes (wrote x.told) (streams_at e)) takes (begun x.end now s.number)
+          (λ a i k named. back.named s a k among i named) p.tracked w
+
+-- ---- any call
+
+-- one more is sent where it is given
+sent_more : (done : ℕ → Wrote) (sents : List Sent) (b : Bool) (s : Sent) → SentSay done sents → AllSay done s.frames → SentSay done (sents ++ sent_if b s)
+sent_more done sents true s before one = λ t i f j. elim (in_more t s sents i) [
+  | inl old ↦ before t old f j
+  | inr new ↦ one f (subst (λ (u : Sent). In f u.frames) new j)
+]
+sent_more done sents false s before one = subst (SentSay done) (sym (append-nil sents)) before
+
+module _ (B : Way) (packets : (x y : Party) → B x y → PacketsHold x y) (x y : Party) (call : Call) (a : Answer) (c : Calls B x y call a) (g : WritesHold x y) where
+  -- what is told then
+  more : List Told
+  more = x.told ++ told_of call a x.end.closing.state ∷ []
+
+  abbrev done : ℕ → Wrote
+  done = wrote x.told
+
+  -- what was done behind the call
+  pub done_behind : (q : ℕ) → wrote (x.told ++ told_of call a x.end.closing.state ∷ []) q ≡ done_by call a done q
+  done_behind q = wrote_more x.told (told_of call a x.end.closing.state) q (call_first x.policy x.end y.given done g.writes call a c.answer (is_on_streams call) refl)
+
+  -- it only grew
+  pub grows_behind : (q : ℕ) → Grows (done q) (wrote (x.told ++ told_of call a x.end.closing.state ∷ []) q)
+  grows_behind q = subst (Grows (done q)) (sym (done_behind q)) (call_grows x.policy x.end y.given done g.writes call a c.answer (is_on_streams call) refl q)
+
+  writes_behind : Writes (wrote (x.told ++ told_of call a x.end.closing.state ∷ [])) (streams_at (called x y.given call a).end)
+  writes_behind = writes_same (done_by call a done) (wrote (x.told ++ told_of call a x.end.closing.state ∷ [])) (streams_at (called x y.given call a).end) done_behind
+      (by_coming x y a c.joined c.served (meets y x (packets y x c.takes)) (λ (e : End) (i : Intake). Writes (done_by call a done) (streams_at e)) call c.answer (record {
+        apart = λ apart. call_writes x.policy x.end y.given done g.writes call a c.answer apart (is_on_streams call) refl;
+        none = λ delivery is. subst (λ (k : Call). Writes (done_by k a done) (streams_at x.end)) (sym is) g.writes;
+        comes = λ delivery is s among. subst (λ (k : Call). Arrivals x.end delivery.now s.number s.frames (came_to x y) (λ (o : Outcome) (i : Intake). Writes (done_by k a done) (streams_at o.end))) (sym is)
+            (arrivals_write x y (packets x y c.gives) (packets y x c.takes) g.says g.writes delivery.now s among);
+      }))
+
+  -- what was sent says so still
+  old_says : SentSay (wrote (x.told ++ told_of call a x.end.closing.state ∷ [])) x.sents
+  old_says s i f j = says_grow done (wrote (x.told ++ told_of call a x.end.closing.state ∷ [])) grows_behind f (g.says s i f j)
+
+  says_behind : SentSay (wrote (x.told ++ told_of call a x.end.closing.state ∷ [])) (x.sents ++ sents_by x.end call a)
+  says_behind = go call refl
+    where
+      go : (k : Call) → call ≡ k → SentSay (wrote (x.told ++ told_of call a x.end.closing.state ∷ [])) (x.sents ++ sents_by x.end k a)
+      go (calls.Poll now) is = sent_more (wrote (x.told ++ told_of call a x.end.closing.state ∷ [])) x.sents (gave a) (sent_by x.end now) old_says
+          (λ f i. says_grow done (wrote (x.told ++ told_of call a x.end.closing.state ∷ [])) grows_behind f (poll_says x.policy x.end y.given done g.writes now f i))
+      go k is = subst (SentSay (wrote (x.told ++ told_of call a x.end.closing.state ∷ []))) (sym (append-nil x.sents)) old_says
+
+  -- x calls
+  pub writes_on : WritesHold (called x y.given call a) y
+  writes_on = record { writes = writes_behind; says = says_behind }
+
+-- ---- the start
 
 -- nothing was written
-pub streams_first : (side : Side) (settings : Settings) (theirs : ParameterValues) (own_id peer_id : List ℕ) (now : ℕ) (validated : Bool)
-    → theirs.initial_max_stream_data_bidi_remote < 2 ^ 62 → theirs.initial_max_stream_data_uni < 2 ^ 62 → Streams side (new_end side settings theirs own_id peer_id now validated).sending []
-unfolding IsStrictlySortedBy
-streams_first side settings theirs own_id peer_id now validated bi uni = record {
-  sorted = tt;
-  halves = λ id. (refl, refl);
-  ids = λ id h e. cc;
-  new = λ dir e. refl;
-  first_bi = bi;
-  first_uni = uni;
-}
-
--- nothing was given
-pub gives_first : (p : Policy) (id : List ℕ) (side : Side) (settings : Settings) (theirs : ParameterValues) (own_id peer_id : List ℕ) (now : ℕ) (validated : Bool)
-    → Gives p id (new_end side settings theirs own_id peer_id now validated).numbers [] [] []
-gives_first p id side settings theirs own_id peer_id now validated = record { rising = tt; below = λ s i. absurd i; next = refl; behind = omega arith; each = tt }
-
--- ---- what a call leaves as it was
-
--- side and ids are as they were, and so is the next number to give, which is cut against no greater one
-pub record Keeps (e f : End) : Type 0 where
-  side : f.side ≡ e.side
-  ids : f.ids ≡ e.ids
-  pub next : f.numbers.next ≡ e.numbers.next
-  behind : IsBehind e.numbers → IsBehind f.numbers
-
--- so it is after a delivery
-keeps_received : (p : Policy) (e : End) (now : ℕ) (d : List ℕ) → Keeps e (received p e now d).end
-keeps_received p e now d = let s = stays_received p e now d in record { side = s.side; ids = s.ids; next = s.next; behind = behind_received p e now d }
-
--- a call that neither opens, writes nor finishes a stream, and is neither a poll nor a delivery, leaves the sending halves
-sending_call : (p : Policy) (e : End) (theirs : List (List ℕ)) (call : Call) (a : Answer) → changes_sending call ≡ false → is_poll call ≡ false → is_delivery call ≡ false → (after_call p e theirs call a).sending ≡ e.sending
-sending_call p e theirs call a other silent apart = by_call p e theirs (λ (f : End). f.sending ≡ e.sending) call a (record {
-  same = refl;
-  opens = λ dir may sends receives. cc;
-  receives = λ r receives. refl;
-  writes = λ r id bytes said sends. cc;
-  finishes = λ id sends. cc;
-  waits = λ w. refl;
-  heard = λ path same. refl;
-  times = λ now acks loss set. by_expired e now (λ (f : End). f.sending ≡ e.sending) (λ pending tracking timers runs packets. refl) acks loss;
-  polls = λ now set. cc;
-  hears = λ now d set. cc;
-  tells = λ set. by_event e (λ (f : End). f.sending ≡ e.sending) (λ told events. refl);
-})
-
--- only a poll gives numbers
-pub keeps_call : (p : Policy) (e : End) (theirs : List (List ℕ)) (call : Call) (a : Answer) → is_poll call ≡ false → Keeps e (after_call p e theirs call a)
-keeps_call p e theirs call a other = by_plain_call p e theirs (Keeps e) call a (record {
-  streams = λ s r. record { side = refl; ids = refl; next = refl; behind = λ b. b };
-  waits = λ w. record { side = refl; ids = refl; next = refl; behind = λ b. b };
-  heard = λ path same. record { side = refl; ids = refl; next = refl; behind = λ b. b };
-  times = λ now acks loss is. by_expired e now (Keeps e) (λ pending tracking timers runs packets. record { side = refl; ids = refl; next = refl; behind = λ b. b }) acks loss;
-  polls = λ now is. cc;
-  hears = λ now d is. keeps_received p e now d;
-  tells = λ told events. record { side = refl; ids = refl; next = refl; behind = λ b. b };
-})
-
--- no call changes the ids
-pub ids_step : (p : Policy) (e : End) (theirs : List (List ℕ)) (call : Call) (a : Answer) → (after_call p e theirs call a).ids ≡ e.ids
-ids_step p e theirs (calls.Poll now) a = by_poll p e now (λ (q : Polled). q.end.ids ≡ e.ids) (record { silent = refl; failed = refl; idle = λ pings. refl; used_up = λ pings. refl; gives = λ pings tracking timers is may some ready. (composes (at_moment e now pings)).ids })
-ids_step p e theirs call a = (keeps_call p e theirs call a refl).ids
-
--- no call changes the side
-pub side_step : (p : Policy) (e : End) (theirs : List (List ℕ)) (call : Call) (a : Answer) → (after_call p e theirs call a).side ≡ e.side
-side_step p e theirs (calls.Poll now) a = by_poll p e now (λ (q : Polled). q.end.side ≡ e.side) (record { silent = refl; failed = refl; idle = λ pings. refl; used_up = λ pings. refl; gives = λ pings tracking timers is may some ready. (composes (at_moment e now pings)).side })
-side_step p e theirs call a = (keeps_call p e theirs call a refl).side
-
--- ---- what was written
-
--- an end that opens streams may open this one
-may_opens : (state : State) (dir : Dir) (e : End) → can_open state dir e ≡ true → opens e.side dir e.sending ≡ true
-may_opens states.Open dir e is = is
-may_opens states.Closing dir e is = cc
-may_opens states.Drained dir e is = cc
-may_opens states.Failed dir e is = cc
-
-open_if_streams : (b : Bool) (dir : Dir) (e : End) (told : List Told) (t : Told) → can_open e.closing.state dir e ≡ b → ((id : ℕ) → IsQuiet id t) → Streams e.side e.sending told → Streams e.side (after_open_if b dir e).sending (told ++ t ∷ [])
-open_if_streams true dir e told t may quiet i = opened_streams e.side dir e.sending told t i (may_opens e.closing.state dir e may) quiet
-open_if_streams false dir e told t may quiet i = quiet_streams e.side e.sending told t quiet i
-
--- what was told, with one call more
-abbrev with_call : List Told → Call → Answer → State → List Told
-with_call told call a state = told ++ record { call = call; answer = a; state = state } ∷ []
-
--- the halves hold what was written, after a call
-pub streams_step : (p : Policy) (e : End) (theirs : List (List ℕ)) (call : Call) (a : Answer) (told : List Told) (state : State) → IsAnswer p e theirs call a → fails a ≡ false
-    → Streams e.side e.sending told → Streams e.side (after_call p e theirs call a).sending (told ++ record { call = call; answer = a; state = state } ∷ [])
-streams_step p e theirs (calls.Open dir) (answers.Open (Ok id)) told state is ok i =
-    open_if_streams (can_open e.closing.state dir e) dir e told (record { call = calls.Open dir; answer = answers.Open (Ok id); state = state }) refl (λ q. record { wrote = refl; ended = refl }) i
-streams_step p e theirs (calls.Open dir) a told state is ok i = quiet_streams e.side e.sending told (record { call = calls.Open dir; answer = a; state = state }) (λ q. record { wrote = refl; ended = refl }) i
-streams_step p e theirs (calls.Write id bytes) (answers.Write r) told state (inl is) ok i =
-    let same : r ≡ end_writes e id (length bytes) = cc in
-    written_streams (is_open e.closing.state) e.side e.sending told state id bytes r (inl same) i
-streams_step p e theirs (calls.Write id bytes) (answers.Write r) told state (inr is) ok i =
-    written_streams (is_open e.closing.state) e.side e.sending told state id bytes r (inr cc) i
-streams_step p e theirs (calls.Write id bytes) a told state is ok i = quiet_streams e.side e.sending told (record { call = calls.Write id bytes; answer = a; state = state }) (λ q. record { wrote = refl; ended = refl }) i
-streams_step p e theirs (calls.Finish id) a told state is ok i =
-    subst (λ (x : Answer). Streams e.side (after_call p e theirs (calls.Finish id) x).sending (with_call told (calls.Finish id) x state)) (sym is) (finished_streams e.side e.sending told state id i)
-streams_step p e theirs (calls.Poll now) a told state is ok i = polled_streams e.side p e now a told state i
-streams_step p e theirs (calls.Deliver delivery) a told state is ok i =
-    let t : Told = record { call = calls.Deliver delivery; answer = a; state = state } in
-    (stays_delivered p e delivery.now (slice_get theirs delivery.index)).sending.streams e.side (told ++ t ∷ []) (quiet_streams e.side e.sending told t (λ q. record { wrote = refl; ended = refl }) i)
-streams_step p e theirs call a told state is ok i =
-    subst (λ (s : Sending). Streams e.side s (with_call told call a state)) (sym (sending_call p e theirs call a refl refl refl)) (quiet_streams e.side e.sending told (record { call = call; answer = a; state = state }) (λ q. record { wrote = refl; ended = refl }) i)
-
--- nothing is written behind the end of a stream
-none_behind : (p : Policy) (e : End) (theirs : List (List ℕ)) (call : Call) (a : Answer) (told : List Told) → IsAnswer p e theirs call a → Streams e.side e.sending told → (id : ℕ) → ended id told ≡ true → written_by id call a ≡ []
-none_behind p e theirs (calls.Write s bytes) (answers.Write (Ok n)) told (inl is) i id over = go (s == id) refl
-  where
-    go : (b : Bool) → (s == id) ≡ b → (if b then take n bytes else []) ≡ []
-    go true here =
-        let said : end_writes e s (length bytes) ≡ Ok n = cc in
-        let taken = write_taken (is_open e.closing.state) e.sending s (length bytes) n said in
-        let half = half_at e.side e.sending told s taken.half i taken.found in
-        let same : s ≡ id = eqb-true s id here in
-        let off : ended s told ≡ false = sym half.finished ∙ taken.unfinished in
-        let on : ended s told ≡ true = rw same over in
-        cc
-    go false here = refl
-none_behind p e theirs (calls.Write s bytes) (answers.Write (Ok n)) told (inr is) i id over = cc
-none_behind p e theirs call a told is i id over = refl
-
--- so each stream only grows
-pub grows_step : (p : Policy) (e : End) (theirs : List (List ℕ)) (call : Call) (a : Answer) (told : List Told) (state : State) → IsAnswer p e theirs call a → fails a ≡ false
-    → Streams e.side e.sending told → (id : ℕ) → Grows (written id told) (ended id told) (written id (told ++ record { call = call; answer = a; state = state } ∷ [])) (ended id (told ++ record { call = call; answer = a; state = state } ∷ []))
-grows_step p e theirs call a told state is ok i id = record {
-  rest = written_by id call a;
-  is = sym (written_more id told (record { call = call; answer = a; state = state }));
-  stays = stays;
+pub writes_first : (x y : Beginning) → AreMade x y → WritesHold (begun_as x y) (begun_as y x)
+writes_first x y m = record {
+  writes = record {
+    keeps = record {
+      holds = holds_set_params (λ id. nothing_done) start theirs (record { own_bi = range.stream_receive_window; own_uni = range.stream_receive_window; remote = range.stream_receive_window })
+          (holds_new x.side x.making.settings.max_uni x.making.settings.max_bidi x.making.settings.send_window x.making.settings.receive_window x.making.settings.stream_receive_window);
+      few = few_set_params start theirs (λ d. none d) counts.0 counts.1 (few_new x.side x.making.settings.max_uni x.making.settings.max_bidi x.making.settings.send_window x.making.settings.receive_window x.making.settings.stream_receive_window);
+      orderly = queue_set_params start theirs (queue_new x.side x.making.settings.max_uni x.making.settings.max_bidi x.making.settings.send_window x.making.settings.receive_window x.making.settings.stream_receive_window);
+    };
+    waits = tt;
+  };
+  says = λ s i. absurd i;
 }
   where
-    stays : ended id told ≡ true → (written id (with_call told call a state) ≡ written id told) × (ended id (with_call told call a state) ≡ true)
-    stays over = (
-      written_more id told (record { call = call; answer = a; state = state }) ∙ ap (λ (bs : List ℕ). written id told ++ bs) (none_behind p e theirs call a told is i id over) ∙ append-nil (written id told),
-      ended_more id told (record { call = call; answer = a; state = state }) ∙ rw over refl,
-    )
+    start : StreamsState
+    start = new_streams x.side x.making.settings.max_uni x.making.settings.max_bidi x.making.settings.send_window x.making.settings.receive_window x.making.settings.stream_receive_window
 
--- ---- what was given
+    theirs : ParameterValues
+    theirs = parameters_of y.making.settings
 
--- a poll that isn't answered by want of memory is answered as the machine says
-pub poll_answer : (p : Policy) (e : End) (now : ℕ) (a : Answer) → (a ≡ answers.Poll (polled p e now).answer) ⊎ (a ≡ answers.Poll (Err (record {}))) → fails a ≡ false → a ≡ answers.Poll (polled p e now).answer
-poll_answer p e now a (inl is) ok = is
-poll_answer p e now a (inr is) ok = let lacks = ap fails is in cc
+    range : IsInRange y.making.settings
+    range = m.y_is.range
 
--- what the datagram that a call gives is sent as
-abbrev pub sents_by : End → Call → Answer → List Sent
-sents_by e (calls.Poll now) a = sent_if (gave a) (sent_by e now)
-sents_by e call a = []
+    counts : (theirs.initial_max_streams_bidi ≤ 2 ^ 60) × (theirs.initial_max_streams_uni ≤ 2 ^ 60)
+    counts = counts_in_range y.making.parameters theirs m.y_is.says
 
--- only a poll gives datagrams
-pub other_gives_none : (p : Policy) (e : End) (theirs : List (List ℕ)) (call : Call) (a : Answer) → is_poll call ≡ false → IsAnswer p e theirs call a → (gave a ≡ false) × (gives p e call a ≡ []) × (sents_by e call a ≡ [])
-other_gives_none p e theirs (calls.Poll now) a other is = cc
-other_gives_none p e theirs call a other is = (go (gave a) refl, refl, refl)
-  where
-    go : (b : Bool) → gave a ≡ b → gave a ≡ false
-    go true on =
-        let count = gives_count p e theirs call a is in
-        let one : length (gives p e call a) ≡ 1 = rw on at count in
-        cc
-    go false off = off
+    none : (d : Dir) → of d start.opening.own ≡ 0
+    none Bi = refl
+    none Uni = refl
 
-module _ (p : Policy) (e : End) (theirs : List (List ℕ)) (a : Answer) (told : List Told) (state : State) (id : List ℕ) (given : List (List ℕ)) (sents : List Sent) where
-  -- what is given, once a call gave its datagrams
-  abbrev GivesOn : Call → Type 0
-  GivesOn call = Gives p id (after_call p e theirs call a).numbers (with_call told call a state) (sents ++ sents_by e call a) (given ++ gives p e call a)
-
-  -- a poll gives a datagram or none
-  poll_gives : (now : ℕ) → IsAnswer p e theirs (calls.Poll now) a → fails a ≡ false → e.ids.active.id ≡ id → length id ≡ 8 → Acks e.acknowledging → 1200 ≤ e.path.size → Streams e.side e.sending told → Gives p id e.numbers told sents given → GivesOn (calls.Poll now)
-  poll_gives now is ok active eight acks large s g =
-      let said = poll_answer p e now a is ok in
-      let all : gives p e (calls.Poll now) a ≡ given_as (polled p e now).answer (polled p e now).datagram = ap (λ (x : Answer). gives p e (calls.Poll now) x) said ∙ gives_as p e now (polled p e now).answer in
-      rw (all, ap gave said) (polled_gives e.side p e now told (with_call told (calls.Poll now) a state) id sents given (grows_step p e theirs (calls.Poll now) a told state is ok s) active eight acks large s g)
-
-  -- another call gives none
-  other_gives : (call : Call) → is_poll call ≡ false → IsAnswer p e theirs call a → fails a ≡ false → Streams e.side e.sending told → Gives p id e.numbers told sents given → GivesOn call
-  other_gives call other is ok s g =
-      let none = other_gives_none p e theirs call a other is in
-      let keeps = keeps_call p e theirs call a other in
-      rw (none.1, none.2) (gives_quiet p id e.numbers (after_call p e theirs call a).numbers told (with_call told call a state) sents given (grows_step p e theirs call a told state is ok s) keeps.next keeps.behind g)
-
-  -- so it is after each call
-  pub gives_step : (call : Call) → IsAnswer p e theirs call a → fails a ≡ false → e.ids.active.id ≡ id → length id ≡ 8 → Acks e.acknowledging → 1200 ≤ e.path.size → Streams e.side e.sending told → Gives p id e.numbers told sents given
-      → Gives p id (after_call p e theirs call a).numbers (told ++ record { call = call; answer = a; state = state } ∷ []) (sents ++ sents_by e call a) (given ++ gives p e call a)
-  gives_step (calls.Poll now) is ok active eight acks large s g = poll_gives now is ok active eight acks large s g
-  gives_step call is ok active eight acks large s g = other_gives call refl is ok s g
+-- the writing side, over whatever gives the packets
+pub writes_group : (B : Way) → ((x y : Party) → B x y → PacketsHold x y) → Group B WritesHold
+writes_group B packets = record {
+  first = λ x y m there back. writes_first x y m;
+  writer = λ x y call a c g h. writes_on B packets x y call a c g;
+  reader = λ x y call a c g h. record { writes = h.writes; says = h.says };
+}

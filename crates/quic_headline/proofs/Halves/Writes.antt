@@ -1,311 +1,219 @@
--- What each call makes of the sending halves: they hold all that was written.
-use Rattle.std.proofs.Common.{◌≡◌, ℕ, ◌+◌, ◌-◌, ◌<◌, ◌≤◌, ◌^◌, min, Bool, true, false, ◌==◌, ◌||◌, List, [], ◌∷◌, ◌++◌, length, take, Option, Some, None, Result, Ok, Err, refl, sym, ap, ◌∙◌, subst, inl, inr, ◌⊎◌, arith}
+-- All streams of an end hold what was written on them, and what waits says how they were reset: after each call on streams.
+use Rattle.std.proofs.Common.{◌≡◌, ℕ, ◌≤◌, Bool, true, false, List, [], ◌∷◌, length, Option, Some, None, Result, Ok, Err, refl, sym, ◌∙◌, subst, ◌⊎◌, inl, inr}
+use Rattle.std.specs.Option.{is_some, option_map}
 use Rattle.std.specs.Prelude.{if◌then◌else◌}
-use Rattle.std.proofs.lemmas.Bool.{eqb-true, eq-eqb, ne_eqb, and_parts, cases_eq}
-use Rattle.std.proofs.lemmas.List.{append-nil, length-append, length-take, length-drop, drop-append-le}
-use Rattle.quic_wire_core.specs.declared.stream_id.Side.{Side}
-use Rattle.quic_wire_core.specs.declared.stream_id.Side.TheVariants.{Client, Server}
-use Rattle.quic_wire_core.specs.declared.stream_id.Dir.{Dir}
-use Rattle.quic_wire_core.specs.declared.stream_id.Dir.TheVariants.{Bi, Uni}
-use Rattle.quic_machine.specs.declared.answers.State.{State}
-use Rattle.quic_streams.specs.declared.answers.WriteError.{WriteError}
-use Rattle.quic_streams.specs.declared.answers.WriteError.TheVariants as write_errors
-use Rattle.quic_streams.specs.declared.answers.FinishError.TheVariants as finish_errors
+use Rattle.std.specs.List.{AllByRecursion}
+use Rattle.quic_assembler.specs.declared.assembler.Chunk.{Chunk}
+use Rattle.quic_send_buffer.specs.Buffered.{written}
+use Rattle.quic_streams_parts.specs.declared.answers.ReadError.{ReadError}
+use Rattle.quic_streams_parts.specs.declared.answers.ReadError.TheVariants as read_errors
+use Rattle.quic_streams_parts.specs.declared.answers.WriteError.TheVariants as write_errors
+use Rattle.quic_streams_parts.specs.declared.answers.UpdateError.{UpdateError}
+use Rattle.quic_streams_parts.specs.declared.answers.UpdateError.TheVariants as update_errors
+use Rattle.quic_streams_parts.specs.SendHalf.{SendHalf}
+use Rattle.quic_streams_parts.specs.RecvHalf.{RecvHalf}
+use Rattle.quic_retransmits.specs.Retransmits.{Retransmits}
+use Rattle.quic_streams_state.specs.declared.state.StreamsState.{StreamsState}
+use Rattle.quic_streams_state.specs.State.{Streams, streams_of, sending_half, receiving_half}
+use Rattle.quic_streams_state.specs.Opening.{after_open, after_accept}
+use Rattle.quic_streams_state.specs.Writing.{write_answer, after_write, write_chunks_answer, after_write_chunks, finish_answer, after_finish, is_reset_at, reset_answer, after_reset, set_priority_answer, after_set_priority}
+use Rattle.quic_streams_state.specs.Reading.{Told, told_bytes, told_end, told_reset, told_by, read_by, next_answer, after_next, after_read_begun, after_finalize, stop_answer, after_stop, after_received_reset}
+use Rattle.quic_streams_laws.specs.GrowsLaws.{grows_same, grows_write, grows_write_chunks, grows_finish, grows_reset}
+use Rattle.quic_streams_laws.specs.Few.{AreFew}
+use Rattle.quic_streams_laws.specs.Queued.{IsOrderly}
+use Rattle.quic_streams_laws.specs.KeepingLaws.{by_open, by_accept, by_write, by_write_chunks, by_finish, by_reset, by_set_priority, by_read_begun, by_next, by_finalize, by_stop, by_received_reset, ended_on, reset_now_on, priority_on}
+use Rattle.quic_streams_laws.specs.Written.{Wrote, Grows, IsSendHalf, SaysResets, wrote_by, wrote_chunks_by, wrote_end_by, wrote_reset_by}
+use Rattle.quic_streams_laws.specs.WrittenHalves.{prioritized_holds}
+use Rattle.quic_streams_laws.specs.WrittenLaws.{half_holds, holds_write, holds_write_chunks, holds_finish, holds_reset}
+use Rattle.quic_streams_laws.specs.WrittenResets.{resets_grow, resets_reset}
+use Rattle.quic_machine.specs.declared.run.Call.{Call}
+use Rattle.quic_machine.specs.declared.run.ReadCall.{ReadCall}
 use Rattle.quic_machine.specs.declared.run.Call.TheVariants as calls
+use Rattle.quic_machine.specs.declared.run.Answer.{Answer}
 use Rattle.quic_machine.specs.declared.run.Answer.TheVariants as answers
-use Rattle.quic_streams.specs.Table.{at, put, added}
-use Rattle.quic_streams.specs.Sending as sending
-use Rattle.quic_streams.specs.Sending.{Sending, SendHalf, is_acked, written_on, opens, next_id, new_half, after_open, taken_by, written_to, write_answer, grown, after_written, finish_of, ended_at, after_finish}
-use Rattle.quic_headline.specs.Runs.{Told, written_by, written, ended_by, ended}
-use Rattle.quic_streams.specs.TableLaws.{at-added, at-apart, at-put, at-put-apart, unknown-put, sorted-put, sorted-added}
-use Rattle.quic_headline.proofs.Places.Told.{written_more, ended_more}
-use Rattle.quic_send_buffer.proofs.Buffered.Calls.{write_lawful}
-use Rattle.quic_send_buffer.specs.Buffered.{IsBuffered, nothing_written}
-use Rattle.quic_headline.proofs.Places.Invariant.{IsHalf, HalfIs, Streams}
+use Rattle.quic_machine.specs.Calls.{AreNexts, after_nexts}
+use Rattle.quic_machine.specs.StreamCalls.{if_ok, IsRead, IsStreamAnswer, after_on_streams}
+use Rattle.quic_headline.proofs.Halves.Wrote.{done_by, ResetsFirst}
+use Rattle.quic_headline.proofs.Halves.Kept.{few_any, orderly_any, Keeping, keeping_kept}
+use Rattle.quic_headline.proofs.Halves.Waiting.{SameResets, write_same, write_chunks_same, stop_same, finalize_same, received_reset_same}
 
-or_false : (b : Bool) → (b || false) ≡ b
-or_false true = refl
-or_false false = refl
+-- all streams hold what was written on them, and what waits beside says how they were reset
+pub record Writes (done : ℕ → Wrote) (t : Streams) : Type 0 where
+  pub keeps : Keeping done t.state
+  pub waits : SaysResets done t.pending
 
--- ---- one call more
+-- the same resets wait
+pub waits_same : (done : ℕ → Wrote) (p : Retransmits) (t : Streams) → SameResets p t → SaysResets done p → SaysResets done t.pending
+waits_same done p t same says = subst (λ (rs : List (ℕ × ℕ)). AllByRecursion (λ (r : ℕ × ℕ). (done r.0).reset ≡ Some r.1) rs) (sym same) says
 
--- nothing was written and no end was set on a stream
-pub record IsQuiet (id : ℕ) (t : Told) : Type 0 where
-  pub wrote : written_by id t.call t.answer ≡ []
-  pub ended : ended_by id t.call t.answer ≡ false
+module _ (done : ℕ → Wrote) (s : StreamsState) (p : Retransmits) (w : Writes done (streams_of s p)) where
+  -- a half counts no byte as sent that wasn't written
+  within : (id : ℕ) (h : SendHalf) → sending_half s id ≡ Some h → h.buffer.unsent ≤ written h.buffer
+  within id h is = let i : IsSendHalf (done id) h = half_holds done s w.keeps.holds id h is in i.lawful.bounded
 
--- what a stream has then is what it had
-pub quiet_written : (id : ℕ) (told : List Told) (t : Told) → IsQuiet id t → written id (told ++ t ∷ []) ≡ written id told
-quiet_written id told t q = written_more id told t ∙ ap (λ (bs : List ℕ). written id told ++ bs) q.wrote ∙ append-nil (written id told)
+  -- ---- what writes
 
-pub quiet_ended : (id : ℕ) (told : List Told) (t : Told) → IsQuiet id t → ended id (told ++ t ∷ []) ≡ ended id told
-quiet_ended id told t q = ended_more id told t ∙ ap (λ (b : Bool). ended id told || b) q.ended ∙ or_false (ended id told)
+  -- a write of bytes
+  write_leaves : (b : Bool) (id : ℕ) (bytes : List ℕ) → Writes (wrote_by (write_answer b s id (length bytes)) id bytes done) (after_write b (write_answer b s id (length bytes)) s p id bytes)
+  write_leaves b id bytes =
+      let more : ℕ → Wrote = wrote_by (write_answer b s id (length bytes)) id bytes done in
+      let after : Streams = after_write b (write_answer b s id (length bytes)) s p id bytes in
+      record {
+        keeps = record {
+          holds = holds_write done s w.keeps.holds b p id bytes;
+          few = by_write AreFew few_any b s p id bytes (within id) (λ n old new is on. on) w.keeps.few;
+          orderly = by_write IsOrderly orderly_any b s p id bytes (within id) (λ n old new is on. on) w.keeps.orderly;
+        };
+        waits = waits_same more p after (write_same s p b (write_answer b s id (length bytes)) id bytes) (resets_grow done more p (grows_write done s w.keeps.holds b id bytes) w.waits);
+      }
 
--- a half holds what is equal
-pub half_moved : (wr more : List ℕ) (fin fin' : Bool) (o : Option SendHalf) → more ≡ wr → fin' ≡ fin → HalfIs wr fin o → HalfIs more fin' o
-half_moved wr more fin fin' o e f h = subst (λ (bs : List ℕ). HalfIs bs fin' o) (sym e) (subst (λ (b : Bool). HalfIs wr b o) (sym f) h)
+  -- of several buffers
+  chunks_leave : (b : Bool) (id : ℕ) (cs : List (List ℕ)) → Writes (wrote_chunks_by (write_chunks_answer b s id cs) id cs done) (after_write_chunks b (write_chunks_answer b s id cs) s p id cs)
+  chunks_leave b id cs =
+      let more : ℕ → Wrote = wrote_chunks_by (write_chunks_answer b s id cs) id cs done in
+      let after : Streams = after_write_chunks b (write_chunks_answer b s id cs) s p id cs in
+      record {
+        keeps = record {
+          holds = holds_write_chunks done s w.keeps.holds b p id cs;
+          few = by_write_chunks AreFew few_any b s p id cs (within id) (λ n old new is on. on) w.keeps.few;
+          orderly = by_write_chunks IsOrderly orderly_any b s p id cs (within id) (λ n old new is on. on) w.keeps.orderly;
+        };
+        waits = waits_same more p after (write_chunks_same s p b (write_chunks_answer b s id cs) id cs) (resets_grow done more p (grows_write_chunks done s w.keeps.holds b id cs) w.waits);
+      }
 
-quiet_half : (id : ℕ) (told : List Told) (t : Told) (o : Option SendHalf) → IsQuiet id t → HalfIs (written id told) (ended id told) o → HalfIs (written id (told ++ t ∷ [])) (ended id (told ++ t ∷ [])) o
-quiet_half id told t o q h = half_moved (written id told) (written id (told ++ t ∷ [])) (ended id told) (ended id (told ++ t ∷ [])) o (quiet_written id told t q) (quiet_ended id told t q) h
+  -- a finish
+  finish_leaves : (id : ℕ) → Writes (wrote_end_by (finish_answer s id) id done) (streams_of (after_finish s id) p)
+  finish_leaves id = record {
+    keeps = record {
+      holds = holds_finish done s w.keeps.holds id;
+      few = by_finish AreFew few_any s id (λ h is ready. ended_on h) w.keeps.few;
+      orderly = by_finish IsOrderly orderly_any s id (λ h is ready. ended_on h) w.keeps.orderly;
+    };
+    waits = resets_grow done (wrote_end_by (finish_answer s id) id done) p (grows_finish done s w.keeps.holds id) w.waits;
+  }
 
--- the halves stay as they are where nothing is written
-pub quiet_streams : (side : Side) (s : Sending) (told : List Told) (t : Told) → ((id : ℕ) → IsQuiet id t) → Streams side s told → Streams side s (told ++ t ∷ [])
-quiet_streams side s told t q i = record {
-  sorted = i.sorted;
-  halves = λ id. quiet_half id told t (at s.halves id) (q id) (i.halves id);
-  ids = i.ids;
-  new = i.new;
-  first_bi = i.first_bi;
-  first_uni = i.first_uni;
-}
+  -- a reset
+  reset_leaves : (id code : ℕ) → Writes (wrote_reset_by (reset_answer s id) id code done) (after_reset s p id code)
+  reset_leaves id code = record {
+    keeps = record {
+      holds = holds_reset done s w.keeps.holds p id code;
+      few = by_reset AreFew few_any s p id code (λ h is free. reset_now_on h) w.keeps.few;
+      orderly = by_reset IsOrderly orderly_any s p id code (λ h is free. reset_now_on h) w.keeps.orderly;
+    };
+    waits = resets_reset done s p id code w.keeps.holds w.waits;
+  }
 
--- the half that stands at an id
-pub half_at : (side : Side) (s : Sending) (told : List Told) (id : ℕ) (h : SendHalf) → Streams side s told → at s.halves id ≡ Some h → IsHalf (written id told) (ended id told) h
-half_at side s told id h i found = subst (λ (o : Option SendHalf). HalfIs (written id told) (ended id told) o) found (i.halves id)
+  -- a refused one changes nothing
+  reset_if : (id code : ℕ) (r : Result (Unit {0}) UpdateError) → reset_answer s id ≡ r → Writes (wrote_reset_by r id code done) (if_ok r (after_reset s p id code) (streams_of s p))
+  reset_if id code (Ok x) is = subst (λ (r : Result (Unit {0}) UpdateError). Writes (wrote_reset_by r id code done) (after_reset s p id code)) is (reset_leaves id code)
+  reset_if id code (Err e) is = w
 
--- one half is changed
-pub put_streams : (side : Side) (s : Sending) (told : List Told) (t : Told) (id accepted : ℕ) (h w : SendHalf) → Streams side s told → at s.halves id ≡ Some h
-    → ((q : ℕ) → (q ≡ id → ⊥) → IsQuiet q t)
-    → IsHalf (written id (told ++ t ∷ [])) (ended id (told ++ t ∷ [])) w
-    → Streams side (record s { halves = put s.halves id w; accepted = accepted }) (told ++ t ∷ [])
-put_streams side s told t id accepted h w i found quiet now = record {
-  sorted = sorted-put s.halves id w i.sorted;
-  halves = halves;
-  ids = ids;
-  new = new;
-  first_bi = i.first_bi;
-  first_uni = i.first_uni;
-}
-  where
-    halves : (q : ℕ) → HalfIs (written q (told ++ t ∷ [])) (ended q (told ++ t ∷ [])) (at (put s.halves id w) q)
-    halves q =
-        elim (cases_eq q id) [
-          | inl same ↦ rw (same, at-put s.halves id h w found) now
-          | inr ne ↦ rw (at-put-apart s.halves id w q ne) (quiet_half q told t (at s.halves q) (quiet q ne) (i.halves q))
-        ]
+  -- ---- what doesn't
 
-    ids : (q : ℕ) (k : SendHalf) → at (put s.halves id w) q ≡ Some k → q < 2 ^ 62
-    ids q k e =
-        elim (cases_eq q id) [
-          | inl same ↦ rw same (i.ids id h found)
-          | inr ne ↦ i.ids q k (sym (at-put-apart s.halves id w q ne) ∙ e)
-        ]
+  same_done : (t : Streams) → Keeping done t.state → SameResets p t → Writes done t
+  same_done t keeps same = record { keeps = keeps; waits = waits_same done p t same w.waits }
 
-    new : (dir : Dir) → opens side dir (record s { halves = put s.halves id w; accepted = accepted }) ≡ true → at (put s.halves id w) (next_id side dir (record s { halves = put s.halves id w; accepted = accepted })) ≡ None
-    new Bi e = unknown-put s.halves id w (next_id side Bi s) (i.new Bi e)
-    new Uni e = unknown-put s.halves id w (next_id side Uni s) (i.new Uni e)
+  if_leaves : {A E : Type 0} (r : Result A E) (t : Streams) → Writes done t → Writes done (if_ok r t (streams_of s p))
+  if_leaves (Ok x) t now = now
+  if_leaves (Err e) t now = w
 
--- one half is changed, and nothing is written
-pub set_streams : (side : Side) (s : Sending) (told : List Told) (id : ℕ) (h w : SendHalf) → Streams side s told → at s.halves id ≡ Some h → IsHalf (written id told) (ended id told) w → Streams side (record s { halves = put s.halves id w }) told
-set_streams side s told id h w i found now = record {
-  sorted = sorted-put s.halves id w i.sorted;
-  halves = halves;
-  ids = ids;
-  new = new;
-  first_bi = i.first_bi;
-  first_uni = i.first_uni;
-}
-  where
-    halves : (q : ℕ) → HalfIs (written q told) (ended q told) (at (put s.halves id w) q)
-    halves q =
-        elim (cases_eq q id) [
-          | inl same ↦ rw (same, at-put s.halves id h w found) now
-          | inr ne ↦ rw (at-put-apart s.halves id w q ne) (i.halves q)
-        ]
+  -- the `next`s of a read
+  nexts_keep : (told : Told) (t : StreamsState) (id : ℕ) (mosts : List ℕ) (said : List (Result (Option Chunk) ReadError)) → AreNexts told t id mosts said → Keeping done t → Keeping done (after_nexts told t id mosts said)
+  nexts_keep told t id [] [] are k = k
+  nexts_keep told t id (most ∷ mosts) (x ∷ said) are k = nexts_keep (told_by x told) (after_next told x t id most) id mosts said are.1 (one are.0)
+    where
+      lacks_on : (o : Option RecvHalf) → Keeping done (read_by (Err read_errors.Memory) o t id most)
+      lacks_on None = k
+      lacks_on (Some h) = k
 
-    ids : (q : ℕ) (k : SendHalf) → at (put s.halves id w) q ≡ Some k → q < 2 ^ 62
-    ids q k e =
-        elim (cases_eq q id) [
-          | inl same ↦ rw same (i.ids id h found)
-          | inr ne ↦ i.ids q k (sym (at-put-apart s.halves id w q ne) ∙ e)
-        ]
+      lacks : (u : Told) → Keeping done (after_next u (Err read_errors.Memory) t id most)
+      lacks told_bytes = lacks_on (receiving_half t id)
+      lacks told_end = k
+      lacks (told_reset code) = k
 
-    new : (dir : Dir) → opens side dir (record s { halves = put s.halves id w }) ≡ true → at (put s.halves id w) (next_id side dir (record s { halves = put s.halves id w })) ≡ None
-    new Bi e = unknown-put s.halves id w (next_id side Bi s) (i.new Bi e)
-    new Uni e = unknown-put s.halves id w (next_id side Uni s) (i.new Uni e)
+      one : (x ≡ next_answer told t id most) ⊎ (x ≡ Err read_errors.Memory) → Keeping done (after_next told x t id most)
+      one (inl is) = subst (λ (r : Result (Option Chunk) ReadError). Keeping done (after_next told r t id most)) (sym is) (by_next (Keeping done) (keeping_kept done) told t id most (λ h c e f. tt) k)
+      one (inr is) = subst (λ (r : Result (Option Chunk) ReadError). Keeping done (after_next told r t id most)) (sym is) (lacks told)
+  nexts_keep told t id [] (x ∷ said) are k = absurd are
+  nexts_keep told t id (most ∷ mosts) [] are k = absurd are
 
--- ---- open
+  read_leaves : (b : Bool) (read : ReadCall) (a : Answer) → IsRead s read.id read.ordered read.nexts.items a → Writes done (after_on_streams b (streams_of s p) (calls.Read read) a)
+  read_leaves b read (answers.Read (Ok said)) is =
+      let begun : Keeping done (after_read_begun s read.id read.ordered) = by_read_begun (Keeping done) (keeping_kept done) s read.id read.ordered (λ h e. tt) w.keeps in
+      let after : StreamsState = after_nexts told_bytes (after_read_begun s read.id read.ordered) read.id read.nexts.items said in
+      let read_on : Keeping done after = nexts_keep told_bytes (after_read_begun s read.id read.ordered) read.id read.nexts.items said is.1 begun in
+      same_done (after_finalize after p read.id) (by_finalize (Keeping done) (keeping_kept done) after p read.id read_on) (finalize_same after p read.id)
+  read_leaves b read (answers.Read (Err e)) is = w
+  read_leaves b read a is = absurd is
 
--- nothing was written
-nothing_lawful : IsBuffered nothing_written
-nothing_lawful = record {
-  acked = tt;
-  lost = tt;
-  apart = λ o a l. a;
-  acked_sent = λ o a. absurd a;
-  lost_sent = λ o l. absurd l;
-  filled = tt;
-  whole = refl;
-  begun = omega arith;
-  needed = tt;
-  sent = omega arith;
-  bounded = omega arith;
-  small = omega arith;
-}
+  -- ---- any of them
 
--- a half on which nothing was written
-new_is : (wr : List ℕ) (fin : Bool) (limit : ℕ) → wr ≡ [] → fin ≡ false → limit < 2 ^ 62 → IsHalf wr fin (new_half limit)
-new_is wr fin limit none off small = record {
-  lawful = nothing_lawful;
-  base = omega arith;
-  kept = sym none;
-  finished = sym off;
-  within = rw none (omega arith);
-  limit = small;
-}
+  -- each call on streams
+  pub calls_leave : (b : Bool) (call : Call) (a : Answer) → IsStreamAnswer b s call a → Writes (done_by call a done) (after_on_streams b (streams_of s p) call a)
+  calls_leave b (calls.Open dir) a is = same_done (streams_of (after_open b dir s) p) (by_open (Keeping done) (keeping_kept done) b dir s w.keeps) refl
+  calls_leave b (calls.Accept dir) a is = same_done (streams_of (after_accept dir s) p) (by_accept (Keeping done) (keeping_kept done) dir s (λ may. may) w.keeps) refl
+  calls_leave b (calls.Write id bytes) a (inl is) = subst (λ (x : Answer). Writes (done_by (calls.Write id bytes) x done) (after_on_streams b (streams_of s p) (calls.Write id bytes) x)) (sym is) (write_leaves b id bytes)
+  calls_leave b (calls.Write id bytes) a (inr is) = subst (λ (x : Answer). Writes (done_by (calls.Write id bytes) x done) (after_on_streams b (streams_of s p) (calls.Write id bytes) x)) (sym is) (lacks b)
+    where
+      lacks : (b : Bool) → Writes done (after_write b (Err write_errors.Memory) s p id bytes)
+      lacks true = w
+      lacks false = w
+  calls_leave b (calls.WriteChunks id chunks) a (inl is) = subst (λ (x : Answer). Writes (done_by (calls.WriteChunks id chunks) x done) (after_on_streams b (streams_of s p) (calls.WriteChunks id chunks) x)) (sym is) (chunks_leave b id chunks.items)
+  calls_leave b (calls.WriteChunks id chunks) a (inr is) = subst (λ (x : Answer). Writes (done_by (calls.WriteChunks id chunks) x done) (after_on_streams b (streams_of s p) (calls.WriteChunks id chunks) x)) (sym is) (lacks b)
+    where
+      lacks : (b : Bool) → Writes done (after_write_chunks b (Err write_errors.Memory) s p id chunks.items)
+      lacks true = w
+      lacks false = w
+  calls_leave b (calls.Finish id) a (inl is) = subst (λ (x : Answer). Writes (done_by (calls.Finish id) x done) (after_on_streams b (streams_of s p) (calls.Finish id) x)) (sym is) (finish_leaves id)
+  calls_leave b (calls.Finish id) a (inr is) = subst (λ (x : Answer). Writes (done_by (calls.Finish id) x done) (after_on_streams b (streams_of s p) (calls.Finish id) x)) (sym is) w
+  calls_leave b (calls.Reset id code) a (inl is) = subst (λ (x : Answer). Writes (done_by (calls.Reset id code) x done) (after_on_streams b (streams_of s p) (calls.Reset id code) x)) (sym is) (reset_if id code (reset_answer s id) refl)
+  calls_leave b (calls.Reset id code) a (inr is) = subst (λ (x : Answer). Writes (done_by (calls.Reset id code) x done) (after_on_streams b (streams_of s p) (calls.Reset id code) x)) (sym is) w
+  calls_leave b (calls.SetPriority id priority) a (inl is) = subst (λ (x : Answer). Writes done (after_on_streams b (streams_of s p) (calls.SetPriority id priority) x)) (sym is)
+      (if_leaves (set_priority_answer s id) (streams_of (after_set_priority s id priority) p)
+      (same_done (streams_of (after_set_priority s id priority) p) (by_set_priority (Keeping done) (keeping_kept done) s id priority (λ h e. (priority_on h priority, λ x. prioritized_holds (done id) h x priority)) w.keeps) refl))
+  calls_leave b (calls.SetPriority id priority) a (inr is) = subst (λ (x : Answer). Writes done (after_on_streams b (streams_of s p) (calls.SetPriority id priority) x)) (sym is) w
+  calls_leave b (calls.Read read) a is = read_leaves b read a is
+  calls_leave b (calls.Stop id code) a (inl is) = subst (λ (x : Answer). Writes done (after_on_streams b (streams_of s p) (calls.Stop id code) x)) (sym is)
+      (if_leaves (stop_answer s id) (after_stop s p id code) (same_done (after_stop s p id code) (by_stop (Keeping done) (keeping_kept done) s p id code (λ h e. tt) w.keeps) (stop_same s p id code)))
+  calls_leave b (calls.Stop id code) a (inr is) = subst (λ (x : Answer). Writes done (after_on_streams b (streams_of s p) (calls.Stop id code) x)) (sym is) w
+  calls_leave b (calls.ReceivedReset id) a is = same_done (after_received_reset s p id) (by_received_reset (Keeping done) (keeping_kept done) s p id w.keeps) (received_reset_same s p id)
+  calls_leave b call a is = absurd is
 
--- the client's first stream is opened
-opened_bi : (s : Sending) (told : List Told) (t : Told) → Streams Client s told → opens Client Bi s ≡ true → ((id : ℕ) → IsQuiet id t) → Streams Client (after_open Client Bi s) (told ++ t ∷ [])
-opened_bi s told t i may quiet = record {
-  sorted = sorted-added s.halves (next_id Client Bi s) (new_half s.first_limit_bi) i.sorted;
-  halves = halves;
-  ids = ids;
-  new = new;
-  first_bi = i.first_bi;
-  first_uni = i.first_uni;
-}
-  where
-    none : at s.halves (next_id Client Bi s) ≡ None
-    none = i.new Bi may
+  -- ---- what was done only grows
 
-    before : HalfIs (written (next_id Client Bi s) told) (ended (next_id Client Bi s) told) None
-    before = subst (λ (o : Option SendHalf). HalfIs (written (next_id Client Bi s) told) (ended (next_id Client Bi s) told) o) none (i.halves (next_id Client Bi s))
+  -- on each stream
+  pub calls_grow : (b : Bool) (call : Call) (a : Answer) → IsStreamAnswer b s call a → (q : ℕ) → Grows (done q) (done_by call a done q)
+  calls_grow b (calls.Write id bytes) a (inl is) q = subst (λ (x : Answer). Grows (done q) (done_by (calls.Write id bytes) x done q)) (sym is) (grows_write done s w.keeps.holds b id bytes q)
+  calls_grow b (calls.Write id bytes) a (inr is) q = subst (λ (x : Answer). Grows (done q) (done_by (calls.Write id bytes) x done q)) (sym is) (grows_same (done q))
+  calls_grow b (calls.WriteChunks id chunks) a (inl is) q = subst (λ (x : Answer). Grows (done q) (done_by (calls.WriteChunks id chunks) x done q)) (sym is) (grows_write_chunks done s w.keeps.holds b id chunks.items q)
+  calls_grow b (calls.WriteChunks id chunks) a (inr is) q = subst (λ (x : Answer). Grows (done q) (done_by (calls.WriteChunks id chunks) x done q)) (sym is) (grows_same (done q))
+  calls_grow b (calls.Finish id) a (inl is) q = subst (λ (x : Answer). Grows (done q) (done_by (calls.Finish id) x done q)) (sym is) (grows_finish done s w.keeps.holds id q)
+  calls_grow b (calls.Finish id) a (inr is) q = subst (λ (x : Answer). Grows (done q) (done_by (calls.Finish id) x done q)) (sym is) (grows_same (done q))
+  calls_grow b (calls.Reset id code) a (inl is) q = subst (λ (x : Answer). Grows (done q) (done_by (calls.Reset id code) x done q)) (sym is) (grows_reset done s w.keeps.holds id code q)
+  calls_grow b (calls.Reset id code) a (inr is) q = subst (λ (x : Answer). Grows (done q) (done_by (calls.Reset id code) x done q)) (sym is) (grows_same (done q))
+  calls_grow b call a is q = grows_same (done q)
 
-    now : HalfIs (written (next_id Client Bi s) (told ++ t ∷ [])) (ended (next_id Client Bi s) (told ++ t ∷ [])) (Some (new_half s.first_limit_bi))
-    now = quiet_half (next_id Client Bi s) told t (Some (new_half s.first_limit_bi)) (quiet (next_id Client Bi s)) (new_is (written (next_id Client Bi s) told) (ended (next_id Client Bi s) told) s.first_limit_bi before.0 before.1 i.first_bi)
+  -- a reset that is answered Ok is the first of its stream
+  first_at : (id : ℕ) (o : Option SendHalf) (x : Unit {0}) → sending_half s id ≡ o → (if is_reset_at o then Err update_errors.ClosedStream else Ok tt) ≡ Ok x → (done id).reset ≡ None
+  first_at id None x is ok = cc
+  first_at id (Some h) x is ok = go h.reset refl ok
+    where
+      held : IsSendHalf (done id) h
+      held = half_holds done s w.keeps.holds id h is
 
-    halves : (q : ℕ) → HalfIs (written q (told ++ t ∷ [])) (ended q (told ++ t ∷ [])) (at (added s.halves (next_id Client Bi s) (new_half s.first_limit_bi)) q)
-    halves q =
-        elim (cases_eq q (next_id Client Bi s)) [
-          | inl same ↦ rw (same, at-added s.halves (next_id Client Bi s) (new_half s.first_limit_bi)) now
-          | inr ne ↦ rw (at-apart s.halves (next_id Client Bi s) (new_half s.first_limit_bi) q ne) (quiet_half q told t (at s.halves q) (quiet q) (i.halves q))
-        ]
+      none : (o : Option ℕ) (n : ℕ) → None ≡ option_map (λ (code : ℕ). n) o → o ≡ None
+      none None n e = refl
+      none (Some code) n e = cc
 
-    first : s.opened_bi ≡ 0
-    first = eqb-true s.opened_bi 0 (and_parts (s.opened_bi == 0) _ may).0
+      go : (o : Option ℕ) → h.reset ≡ o → (if is_some o then Err update_errors.ClosedStream else Ok tt) ≡ Ok x → (done id).reset ≡ None
+      go None e ok = none (done id).reset (length (done id).bytes) (sym e ∙ held.reset)
+      go (Some size) e ok = cc
 
-    ids : (q : ℕ) (k : SendHalf) → at (added s.halves (next_id Client Bi s) (new_half s.first_limit_bi)) q ≡ Some k → q < 2 ^ 62
-    ids q k e =
-        elim (cases_eq q (next_id Client Bi s)) [
-          | inl same ↦ (let one = first in omega arith)
-          | inr ne ↦ i.ids q k (sym (at-apart s.halves (next_id Client Bi s) (new_half s.first_limit_bi) q ne) ∙ e)
-        ]
+  first_on : (id code : ℕ) (r : Result (Unit {0}) UpdateError) → reset_answer s id ≡ r → ResetsFirst done (calls.Reset id code) (answers.Reset r)
+  first_on id code (Ok x) is = first_at id (sending_half s id) x refl is
+  first_on id code (Err e) is = tt
 
-    new : (dir : Dir) → opens Client dir (after_open Client Bi s) ≡ true → at (after_open Client Bi s).halves (next_id Client dir (after_open Client Bi s)) ≡ None
-    new Bi e = let more = eqb-true (s.opened_bi + 1) 0 (and_parts (s.opened_bi + 1 == 0) _ e).0 in absurd (omega arith)
-    new Uni e = cc
-
--- a stream is opened where one may be
-pub opened_streams : (side : Side) (dir : Dir) (s : Sending) (told : List Told) (t : Told) → Streams side s told → opens side dir s ≡ true → ((id : ℕ) → IsQuiet id t) → Streams side (after_open side dir s) (told ++ t ∷ [])
-opened_streams Client Bi s told t i may quiet = opened_bi s told t i may quiet
-opened_streams Client Uni s told t i may quiet = cc
-opened_streams Server dir s told t i may quiet = cc
-
--- ---- write
-
--- a write on this half accepts so many bytes
-pub record IsTaken (s : Sending) (id len n : ℕ) : Type 0 where
-  pub half : SendHalf
-  pub found : at s.halves id ≡ Some half
-  pub unfinished : half.finished ≡ false
-  pub few : n ≤ half.max_data - written_on half
-
--- what a half takes fits its limit
-taken_few : (h : SendHalf) (room len n : ℕ) → taken_by h room len ≡ Ok n → (h.finished ≡ false) × (n ≤ h.max_data - written_on h)
-taken_few h room len n e = go h.finished (h.max_data - written_on h == 0) refl e
-  where
-    go : (a b : Bool) → h.finished ≡ a → (if a then Err write_errors.ClosedStream else (if b then Err write_errors.Blocked else Ok (min len (min room (h.max_data - written_on h))))) ≡ Ok n → (h.finished ≡ false) × (n ≤ h.max_data - written_on h)
-    go true b is f = cc
-    go false true is f = cc
-    go false false is f =
-        let count : min len (min room (h.max_data - written_on h)) ≡ n = cc in
-        (is, omega arith)
-
-taken_to : (s : Sending) (o : Option SendHalf) (id room len n : ℕ) → at s.halves id ≡ o → written_to o room len ≡ Ok n → IsTaken s id len n
-taken_to s None id room len n found e = cc
-taken_to s (Some h) id room len n found e = go (is_acked h) (room == 0) e
-  where
-    go : (done b : Bool) → (if done then Err write_errors.ClosedStream else (if b then Err write_errors.Blocked else taken_by h room len)) ≡ Ok n → IsTaken s id len n
-    go true b f = cc
-    go false true f = cc
-    go false false f =
-        let few = taken_few h room len n f in
-        record { half = h; found = found; unfinished = few.0; few = few.1 }
-
--- a write that accepts bytes finds a half that isn't finished and has room for them
-pub write_taken : (is_open : Bool) (s : Sending) (id len n : ℕ) → write_answer is_open s id len ≡ Ok n → IsTaken s id len n
-write_taken true s id len n e = taken_to s (at s.halves id) id (sending.room s) len n refl e
-write_taken false s id len n e = cc
-
--- what was written on other streams stays
-write_quiet : (id n : ℕ) (bytes : List ℕ) (state : State) (q : ℕ) → (q ≡ id → ⊥) → IsQuiet q (record { call = calls.Write id bytes; answer = answers.Write (Ok n); state = state })
-write_quiet id n bytes state q ne =
-    let off : (id == q) ≡ false = ne_eqb id q (λ e. ne (sym e)) in
-    record { wrote = rw off refl; ended = refl }
-
--- a half with more bytes holds them
-grown_is : (wr front : List ℕ) (fin : Bool) (h : SendHalf) → IsHalf wr fin h → length front ≤ h.max_data - written_on h → IsHalf (wr ++ front) fin (grown h front)
-grown_is wr front fin h i few =
-    let all = length-append wr front in
-    let base = i.base in
-    let kept = ap length i.kept in
-    let within = i.within in
-    let limit = i.limit in
-    let rest = length-drop h.buffer.base wr in
-    let written_is : written_on h ≡ length wr = omega arith in
-    record {
-      lawful = write_lawful h.buffer front i.lawful (omega arith);
-      base = omega arith;
-      kept = ap (λ (bs : List ℕ). bs ++ front) i.kept ∙ sym (drop-append-le h.buffer.base wr front i.base);
-      finished = i.finished;
-      within = omega arith;
-      limit = i.limit;
-    }
-
--- a write leaves what it says
-pub written_streams : (is_open : Bool) (side : Side) (s : Sending) (told : List Told) (state : State) (id : ℕ) (bytes : List ℕ) (r : Result ℕ WriteError) → (r ≡ write_answer is_open s id (length bytes)) ⊎ (r ≡ Err write_errors.Memory)
-    → Streams side s told → Streams side (after_written r s id bytes) (told ++ record { call = calls.Write id bytes; answer = answers.Write r; state = state } ∷ [])
-written_streams is_open side s told state id bytes (Err error) is i = quiet_streams side s told (record { call = calls.Write id bytes; answer = answers.Write (Err error); state = state }) (λ q. record { wrote = refl; ended = refl }) i
-written_streams is_open side s told state id bytes (Ok n) (inr is) i = cc
-written_streams is_open side s told state id bytes (Ok n) (inl is) i =
-    let t : Told = record { call = calls.Write id bytes; answer = answers.Write (Ok n); state = state } in
-    let taken = write_taken is_open s id (length bytes) n (sym is) in
-    let here : (id == id) ≡ true = eq-eqb id id refl in
-    let wrote : written_by id t.call t.answer ≡ take n bytes = rw here refl in
-    let cut = length-take n bytes in
-    let few = taken.few in
-    let more : IsHalf (written id told ++ take n bytes) (ended id told) (grown taken.half (take n bytes)) = grown_is (written id told) (take n bytes) (ended id told) taken.half (half_at side s told id taken.half i taken.found) (omega arith) in
-    let now : IsHalf (written id (told ++ t ∷ [])) (ended id (told ++ t ∷ [])) (grown taken.half (take n bytes)) =
-    half_moved (written id told ++ take n bytes) (written id (told ++ t ∷ [])) (ended id told) (ended id (told ++ t ∷ [])) (Some (grown taken.half (take n bytes)))
-    (written_more id told t ∙ ap (λ (bs : List ℕ). written id told ++ bs) wrote) (ended_more id told t ∙ or_false (ended id told)) more in
-    rw taken.found (put_streams side s told t id (s.accepted + n) taken.half (grown taken.half (take n bytes)) i taken.found (write_quiet id n bytes state) now)
-
--- ---- finish
-
--- no other stream ends
-finish_quiet : (id : ℕ) (state : State) (q : ℕ) → (q ≡ id → ⊥) → IsQuiet q (record { call = calls.Finish id; answer = answers.Finish (Ok tt); state = state })
-finish_quiet id state q ne = record { wrote = refl; ended = ne_eqb id q (λ e. ne (sym e)) }
-
-ended_streams : (side : Side) (s : Sending) (told : List Told) (state : State) (id : ℕ) (o : Option SendHalf) → at s.halves id ≡ o → Streams side s told
-    → Streams side (record s { halves = ended_at o s.halves id }) (told ++ record { call = calls.Finish id; answer = answers.Finish (finish_of o); state = state } ∷ [])
-ended_streams side s told state id None found i = quiet_streams side s told (record { call = calls.Finish id; answer = answers.Finish (Err finish_errors.ClosedStream); state = state }) (λ q. record { wrote = refl; ended = refl }) i
-ended_streams side s told state id (Some h) found i = go h.finished refl
-  where
-    go : (b : Bool) → h.finished ≡ b
-        → Streams side (record s { halves = if b then s.halves else put s.halves id (sending.ended h) }) (told ++ record { call = calls.Finish id; answer = answers.Finish (if b then Err finish_errors.ClosedStream else Ok tt); state = state } ∷ [])
-    go true is = quiet_streams side s told (record { call = calls.Finish id; answer = answers.Finish (Err finish_errors.ClosedStream); state = state }) (λ q. record { wrote = refl; ended = refl }) i
-    go false is =
-        let t : Told = record { call = calls.Finish id; answer = answers.Finish (Ok tt); state = state } in
-        let half = half_at side s told id h i found in
-        let wrote = written_more id told t ∙ append-nil (written id told) in
-        let here : (ended id told || (id == id)) ≡ true = rw (← half.finished, is, eq-eqb id id refl) refl in
-        let over : ended id (told ++ t ∷ []) ≡ true = ended_more id told t ∙ here in
-        let now : IsHalf (written id (told ++ t ∷ [])) (ended id (told ++ t ∷ [])) (sending.ended h) =
-        half_moved (written id told) (written id (told ++ t ∷ [])) true (ended id (told ++ t ∷ [])) (Some (sending.ended h)) wrote over
-        (record { lawful = half.lawful; base = half.base; kept = half.kept; finished = refl; within = half.within; limit = half.limit }) in
-        put_streams side s told t id s.accepted h (sending.ended h) i found (finish_quiet id state) now
-
--- a finish leaves what it says
-pub finished_streams : (side : Side) (s : Sending) (told : List Told) (state : State) (id : ℕ) → Streams side s told
-    → Streams side (after_finish s id) (told ++ record { call = calls.Finish id; answer = answers.Finish (finish_of (at s.halves id)); state = state } ∷ [])
-finished_streams side s told state id i = ended_streams side s told state id (at s.halves id) refl i
+  pub resets_first : (b : Bool) (call : Call) (a : Answer) → IsStreamAnswer b s call a → ResetsFirst done call a
+  resets_first b (calls.Reset id code) a (inl is) = subst (ResetsFirst done (calls.Reset id code)) (sym is) (first_on id code (reset_answer s id) refl)
+  resets_first b (calls.Reset id code) a (inr is) = subst (ResetsFirst done (calls.Reset id code)) (sym is) tt
+  resets_first b call a is = tt

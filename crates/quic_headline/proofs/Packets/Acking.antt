@@ -1,5 +1,5 @@
 -- The numbers that an end has to acknowledge stay few maximal runs of packet numbers, whatever comes and whatever call is made.
-use Rattle.std.proofs.Common.{◌≡◌, ℕ, ◌^◌, ◌<◌, Bool, true, false, List, ◌∷◌, length, map, Option, Some, None, Ok, refl, sym, ◌∙◌, subst, inl, inr, arith}
+use Rattle.std.proofs.Common.{◌≡◌, ℕ, ◌^◌, ◌<◌, Bool, true, false, List, ◌∷◌, length, map, Ok, refl, sym, subst, inl, inr, arith}
 use Rattle.quic_sets.specs.Runs.{Run}
 use Rattle.quic_wire.specs.Value.{FrameValue}
 use Rattle.quic_recovery_core.specs.Duplicates.{Seen}
@@ -15,13 +15,13 @@ use Rattle.quic_machine.specs.Opens.{own_id_length}
 use Rattle.quic_machine.specs.Receive.{asks_in, received}
 use Rattle.quic_machine.specs.Poll.{Draft, composed, Polled, polled}
 use Rattle.quic_machine.specs.Machine.{after_call}
-use Rattle.quic_headline.specs.Runs.{Told, Packet, Intake}
+use Rattle.quic_headline.specs.Runs.{Packet, Intake}
 use Rattle.quic_machine.specs.Start.{IsLawful}
 use Rattle.quic_machine.specs.DraftLaws.{by_writing}
-use Rattle.quic_headline.proofs.Places.Invariant.{IsGiven, KnowsIn, AreTaken, Acks}
+use Rattle.quic_headline.proofs.Packets.Invariant.{IsGiven, KnowsIn, AreTaken, Acks}
 use Rattle.quic_machine.specs.FrameCases.{begun}
 use Rattle.quic_headline.proofs.Packets.Delivered.{Arrivals, arrived, by_arrival}
-use Rattle.quic_headline.proofs.Places.Stays.{Keeps, keeps_frames}
+use Rattle.quic_headline.proofs.Packets.Stays.{Keeps, keeps_frames}
 use Rattle.quic_machine.specs.LeaveCases.{by_expired}
 use Rattle.quic_machine.specs.CallCases.{is_delivery, by_plain_call}
 use Rattle.quic_machine.specs.PollCases.{at_moment, by_poll}
@@ -69,11 +69,11 @@ acks_arrivals e now n frames i small acks = record {
     after = (keeps_frames frames (begun e now n)).acks acks
 
 -- a datagram of an honest end is delivered
-pub acks_delivered : (p q : Policy) (id : List ℕ) (told : List Told) (n reference : ℕ) (frames : List FrameValue) (d : List ℕ) → IsGiven p id told n reference frames d → (e : End) (now : ℕ) (i : Intake)
+pub acks_delivered : (p q : Policy) (id : List ℕ) (n reference : ℕ) (frames : List FrameValue) (d : List ℕ) → IsGiven p id n reference frames d → (e : End) (now : ℕ) (i : Intake)
     → CanOpen p q → IsLawful p → length id ≡ own_id_length → known e.ids ≡ i.ids → KnowsIn e.closing.state e.numbers i
     → Acks e.acknowledging → Acks (received q e now d).end.acknowledging
-acks_delivered p q id told n reference frames d g e now i mates lawful long ids k acks =
-    by_arrival p q id told n reference frames d g e now i (λ o j. Acks o.end.acknowledging) mates lawful long ids k (acks_arrivals e now n frames i g.small acks)
+acks_delivered p q id n reference frames d g e now i mates lawful long ids k acks =
+    by_arrival p q id n reference frames d g e now i (λ o j. Acks o.end.acknowledging) mates lawful long ids k (acks_arrivals e now n frames i g.small acks)
 
 -- in each case of a delivery the numbers to acknowledge are those of packets that were taken
 pub taken_arrivals : (e : End) (now n : ℕ) (frames : List FrameValue) (i : Intake) → Acks e.acknowledging → AreTaken e.acknowledging.runs i.took → Arrivals e now n frames i (λ o j. AreTaken o.end.acknowledging.runs j.took)
@@ -103,7 +103,7 @@ taken_arrivals e now n frames i acks before = record {
 
 -- whichever frames go, the numbers stay: an ACK that names them may be lost
 composed_runs : (e : End) → (composed e).end.acknowledging.runs ≡ e.acknowledging.runs
-composed_runs e = by_writing (λ (d : Draft). d.end.acknowledging.runs ≡ e.acknowledging.runs) (record { ack = λ d filled may same. same; control = λ d f w is same. same; stream = λ d id h found room same. same }) e refl
+composed_runs e = by_writing (λ (d : Draft). d.end.acknowledging.runs ≡ e.acknowledging.runs) (record { ack = λ d filled may same. same; ping = λ d same. same; drops = λ d kind same. same; control = λ d kind entry es f is due same. same; stream = λ d id h room found first some is counts same. same }) e refl
 
 -- a poll leaves the numbers to acknowledge
 polled_runs : (p : Policy) (e : End) (now : ℕ) → (polled p e now).end.acknowledging.runs ≡ e.acknowledging.runs
@@ -120,13 +120,14 @@ polled_runs p e now = by_poll p e now (λ (q : Polled). q.end.acknowledging.runs
 -- a call that is no delivery leaves the numbers to acknowledge
 runs_step : (q : Policy) (e : End) (theirs : List (List ℕ)) (call : Call) (a : Answer) → is_delivery call ≡ false → (after_call q e theirs call a).acknowledging.runs ≡ e.acknowledging.runs
 runs_step q e theirs call a other = by_plain_call q e theirs (λ (f : End). f.acknowledging.runs ≡ e.acknowledging.runs) call a (record {
-  streams = λ s r. refl;
-  waits = λ w. refl;
+  same = refl;
+  on_streams = λ t. refl;
+  pings = refl;
   heard = λ path same. refl;
   times = λ now acks loss is. by_expired e now (λ (f : End). f.acknowledging.runs ≡ e.acknowledging.runs) (λ pending tracking timers runs packets. runs) acks loss;
   polls = λ now is. polled_runs q e now;
   hears = λ now d is. cc;
-  tells = λ told events. refl;
+  tells = λ told. refl;
 })
 
 -- the numbers to acknowledge stay those of packets that were taken over a call that is no delivery

@@ -30,10 +30,10 @@ use Rattle.quic_recovery_core.specs.DuplicateRuns.{seen_after}
 use Rattle.quic_machine.specs.End.{End, closed_by, with_numbers}
 use Rattle.quic_machine.specs.Opens.{own_id_length, in_phase, opens_behind, opens}
 use Rattle.quic_machine.specs.Receive.{Fault, Progress, Outcome, error_of, reason_of, take_payload, violation, asks_in, after_taken, dropped, ends_as, judged, processed, by_state, opened_to, opened_as, headed, received_in, received}
-use Rattle.quic_headline.specs.Runs.{Told, Intake, is_again, frames_of, is_refused, expected_behind, and_opened, and_handed}
+use Rattle.quic_headline.specs.Runs.{Intake, is_again, frames_of, is_refused, expected_behind, and_opened, and_handed}
 use Rattle.quic_machine.specs.Start.{IsLawful}
 use Rattle.quic_machine.specs.FrameCases.{passed, begun}
-use Rattle.quic_headline.proofs.Places.Invariant.{IsGiven, Knows, KnowsIn}
+use Rattle.quic_headline.proofs.Packets.Invariant.{IsGiven, Knows, KnowsIn}
 use Rattle.quic_headline.proofs.Packets.Window.{is_duplicate-is}
 
 -- ---- the header
@@ -56,9 +56,9 @@ abbrev known_as : Bool → List ℕ → Result (List ℕ) HeaderError
 known_as b id = cond {A = Result (List ℕ) HeaderError} b (Ok id) (Err UnknownId)
 
 -- the datagram is for the id that it was sent to
-decoded_given : (p : Policy) (id : List ℕ) (told : List Told) (n reference : ℕ) (frames : List FrameValue) (d : List ℕ) → IsGiven p id told n reference frames d → IsLawful p → length id ≡ own_id_length → (ids : List (List ℕ))
+decoded_given : (p : Policy) (id : List ℕ) (n reference : ℕ) (frames : List FrameValue) (d : List ℕ) → IsGiven p id n reference frames d → IsLawful p → length id ≡ own_id_length → (ids : List (List ℕ))
     → decoded (fixed_length_id own_id_length) ids d ≡ known_as (is_known id ids) id
-decoded_given p id told n reference frames d g lawful long ids =
+decoded_given p id n reference frames d g lawful long ids =
     let finds : (rest : List ℕ) → fixed_length_id own_id_length (id ++ rest) ≡ Some id = λ rest. subst (λ (k : ℕ). fixed_length_id k (id ++ rest) ≡ Some id) long (fixed_length_finds id rest) in
     ap (λ (x : List ℕ). decoded (fixed_length_id own_id_length) ids x) g.is ∙ sent_is_decoded p.header p.packet lawful.form lawful.width lawful.tag (fixed_length_id own_id_length) ids n reference id g.payload finds g.near g.four
 
@@ -77,9 +77,9 @@ abbrev pub expands : ℕ → ℕ → ℕ → Bool
 expands n reference x = expanded (truncated n reference) x == n
 
 -- the datagram opens where its number's bytes expand to it
-pub opened_given : (p q : Policy) (id : List ℕ) (told : List Told) (n reference : ℕ) (frames : List FrameValue) (d : List ℕ) → (g : IsGiven p id told n reference frames d) → CanOpen p q → length id ≡ own_id_length → (x : ℕ)
+pub opened_given : (p q : Policy) (id : List ℕ) (n reference : ℕ) (frames : List FrameValue) (d : List ℕ) → (g : IsGiven p id n reference frames d) → CanOpen p q → length id ≡ own_id_length → (x : ℕ)
     → opened_packet q.header q.packet (own_id_length + 1) x d ≡ shown_if (expands n reference x) n reference g.payload
-opened_given p q id told n reference frames d g mates long x =
+opened_given p q id n reference frames d g mates long x =
     subst (λ (k : ℕ). opened_packet q.header q.packet (k + 1) x d ≡ shown_if (expands n reference x) n reference g.payload) long
     (ap (λ (y : List ℕ). opened_packet q.header q.packet (length id + 1) x y) g.is ∙ mates_open p.header p.packet q.header q.packet mates n reference x id g.payload g.near g.small)
 
@@ -89,13 +89,13 @@ in_phase_shown true n reference payload near = ap (λ (b : Bool). cond {A = Opti
 in_phase_shown false n reference payload near = refl
 
 -- what it opens to at an end that is known by these ids is that opening as well, where its id is one of them
-pub opens_given : (p q : Policy) (id : List ℕ) (told : List Told) (n reference : ℕ) (frames : List FrameValue) (d : List ℕ) → (g : IsGiven p id told n reference frames d) → CanOpen p q → IsLawful p → length id ≡ own_id_length → (ids : List (List ℕ)) (x : ℕ)
+pub opens_given : (p q : Policy) (id : List ℕ) (n reference : ℕ) (frames : List FrameValue) (d : List ℕ) → (g : IsGiven p id n reference frames d) → CanOpen p q → IsLawful p → length id ≡ own_id_length → (ids : List (List ℕ)) (x : ℕ)
     → opens q ids x d ≡ shown_if (is_known id ids && expands n reference x) n reference g.payload
-opens_given p q id told n reference frames d g mates lawful long ids x =
-    ap (λ (r : Result (List ℕ) HeaderError). opens_behind r q x d) (decoded_given p id told n reference frames d g lawful long ids) ∙ go (is_known id ids)
+opens_given p q id n reference frames d g mates lawful long ids x =
+    ap (λ (r : Result (List ℕ) HeaderError). opens_behind r q x d) (decoded_given p id n reference frames d g lawful long ids) ∙ go (is_known id ids)
   where
     go : (b : Bool) → opens_behind (known_as b id) q x d ≡ shown_if (b && expands n reference x) n reference g.payload
-    go true = ap in_phase (opened_given p q id told n reference frames d g mates long x) ∙ in_phase_shown (expands n reference x) n reference g.payload g.near
+    go true = ap in_phase (opened_given p q id n reference frames d g mates long x) ∙ in_phase_shown (expands n reference x) n reference g.payload g.near
     go false = refl
 
 -- ---- its frames
@@ -182,7 +182,7 @@ moved P came o o' i e h p = subst (λ (x : Outcome). P x (came x)) (sym e) (subs
 abbrev handed_open : Policy → End → Intake → List ℕ → Outcome → Intake
 handed_open q e i d o = and_opened (opens q i.ids (expected_behind i.took) d) (answers.Deliver o.answer) i
 
-module _ (p q : Policy) (id : List ℕ) (told : List Told) (n reference : ℕ) (frames : List FrameValue) (d : List ℕ) (g : IsGiven p id told n reference frames d) (mates : CanOpen p q) (lawful : IsLawful p) (long : length id ≡ own_id_length)
+module _ (p q : Policy) (id : List ℕ) (n reference : ℕ) (frames : List FrameValue) (d : List ℕ) (g : IsGiven p id n reference frames d) (mates : CanOpen p q) (lawful : IsLawful p) (long : length id ≡ own_id_length)
     (e : End) (now : ℕ) (i : Intake) (P : Outcome → Intake → Type 0) (ids : known e.ids ≡ i.ids) (cases : Arrivals e now n frames i P) where
   -- the outcome, where its id is known or isn't
   abbrev headed_if : Bool → Outcome
@@ -192,17 +192,17 @@ module _ (p q : Policy) (id : List ℕ) (told : List Told) (n reference : ℕ) (
   headed_given : headed (decoded (fixed_length_id own_id_length) (known e.ids) d) q e now d ≡ headed_if (is_known id i.ids)
   headed_given =
       ap (λ (x : List (List ℕ)). headed (decoded (fixed_length_id own_id_length) x d) q e now d) ids
-      ∙ ap (λ (r : Result (List ℕ) HeaderError). headed r q e now d) (decoded_given p id told n reference frames d g lawful long i.ids)
+      ∙ ap (λ (r : Result (List ℕ) HeaderError). headed r q e now d) (decoded_given p id n reference frames d g lawful long i.ids)
       ∙ go (is_known id i.ids)
     where
       go : (b : Bool) → headed (known_as b id) q e now d ≡ headed_if b
-      go true = ap (λ (o : Option Opening). opened_as o now e) (opened_given p q id told n reference frames d g mates long (expected e.numbers))
+      go true = ap (λ (o : Option Opening). opened_as o now e) (opened_given p q id n reference frames d g mates long (expected e.numbers))
       go false = refl
 
   -- what came is by the same opening
   handed_given : Knows e.numbers i → (o : Outcome) → handed_open q e i d o ≡ and_opened (shown_if (is_known id i.ids && expands n reference (expected e.numbers)) n reference g.payload) (answers.Deliver o.answer) i
   handed_given k o =
-      ap (λ (y : Option Opening). and_opened y (answers.Deliver o.answer) i) (opens_given p q id told n reference frames d g mates lawful long i.ids (expected_behind i.took))
+      ap (λ (y : Option Opening). and_opened y (answers.Deliver o.answer) i) (opens_given p q id n reference frames d g mates lawful long i.ids (expected_behind i.took))
       ∙ ap (λ (x : ℕ). and_opened (shown_if (is_known id i.ids && expands n reference x) n reference g.payload) (answers.Deliver o.answer) i) (sym k.expected)
 
   closing_tested : (b again : Bool) → e.closing.state ≡ states.Closing → is_duplicate e.numbers.opened n ≡ again → P (opened_as (shown_if b n reference g.payload) now e) i
@@ -257,8 +257,8 @@ module _ (p q : Policy) (id : List ℕ) (told : List Told) (n reference : ℕ) (
   at_state states.Failed state k = cases.ignored drops.Failed
 
 -- every delivery of a datagram that an honest end gave is one of the cases
-pub by_arrival : (p q : Policy) (id : List ℕ) (told : List Told) (n reference : ℕ) (frames : List FrameValue) (d : List ℕ) (g : IsGiven p id told n reference frames d) (e : End) (now : ℕ) (i : Intake) (P : Outcome → Intake → Type 0)
+pub by_arrival : (p q : Policy) (id : List ℕ) (n reference : ℕ) (frames : List FrameValue) (d : List ℕ) (g : IsGiven p id n reference frames d) (e : End) (now : ℕ) (i : Intake) (P : Outcome → Intake → Type 0)
     → CanOpen p q → IsLawful p → length id ≡ own_id_length → known e.ids ≡ i.ids → KnowsIn e.closing.state e.numbers i
     → Arrivals e now n frames i P
     → P (received q e now d) (and_handed e.closing.state (Some d) q (answers.Deliver (received q e now d).answer) i)
-by_arrival p q id told n reference frames d g e now i P mates lawful long ids k cases = at_state p q id told n reference frames d g mates lawful long e now i P ids cases e.closing.state refl k
+by_arrival p q id n reference frames d g e now i P mates lawful long ids k cases = at_state p q id n reference frames d g mates lawful long e now i P ids cases e.closing.state refl k

@@ -1,12 +1,8 @@
--- What was written only grows, and what holds of datagrams holds of them behind that.
-use Rattle.std.proofs.Common.{◌≡◌, ℕ, zero, suc, ◌≤◌, Bool, List, [], ◌∷◌, ◌++◌, length, Some, ◌⊎◌, inl, inr, refl, sym, ap, ◌∙◌, subst, arith}
+-- Lists that grow, and what holds of two lists in step.
+use Rattle.std.proofs.Common.{◌≡◌, ℕ, zero, suc, List, [], ◌∷◌, ◌++◌, Some, ◌⊎◌, inl, inr, refl, sym, subst}
 use Rattle.std.specs.List.{slice_get}
-use Rattle.std.proofs.lemmas.List.{length-append}
-use Rattle.quic_wire.specs.Value.{FrameValue, StreamValue, ack, padding, ping, stream}
-use Rattle.quic_machine.specs.Policy.{Policy}
-use Rattle.quic_headline.specs.Runs.{Told, In, written, ended}
-use Rattle.quic_headline.proofs.Places.Invariant.{Grows, InStep, IsWritten, Says, AllSay, IsGiven, IsSent}
-use Rattle.quic_headline.specs.Observer.{Sent}
+use Rattle.quic_headline.specs.Runs.{In}
+use Rattle.quic_headline.proofs.Packets.Invariant.{InStep}
 
 -- ---- growing
 
@@ -26,56 +22,6 @@ in_more x y (z ∷ xs) (inr i) = go (in_more x y xs i)
     go : In x xs ⊎ (x ≡ y) → In x (z ∷ xs) ⊎ (x ≡ y)
     go (inl i) = inl (inr i)
     go (inr e) = inr e
-
--- what was written stays where it was
-pub grows_get : (wr more : List ℕ) (fin fin' : Bool) (o b : ℕ) → Grows wr fin more fin' → slice_get wr o ≡ Some b → slice_get more o ≡ Some b
-grows_get wr more fin fin' o b g e = subst (λ (bs : List ℕ). slice_get bs o ≡ Some b) g.is (get_front wr g.rest o b e)
-
-pub grows_length : (wr more : List ℕ) (fin fin' : Bool) → Grows wr fin more fin' → length wr ≤ length more
-grows_length wr more fin fin' g =
-    let all = ap length g.is in
-    let sum = length-append wr g.rest in
-    omega arith
-
--- ---- frames and datagrams
-
-pub written_grows : (wr more : List ℕ) (fin fin' : Bool) (f : StreamValue) → Grows wr fin more fin' → IsWritten wr fin f → IsWritten more fin' f
-written_grows wr more fin fin' f g w =
-    let long = grows_length wr more fin fin' g in
-    let within = w.within in
-    record {
-      bytes = λ o b e. grows_get wr more fin fin' o b g (w.bytes o b e);
-      within = omega arith;
-      last = λ e. let last = w.last e in let same = g.stays last.0 in (same.1, last.1 ∙ ap length (sym same.0));
-    }
-
--- every stream of what was told grows
-abbrev pub AllGrow : List Told → List Told → Type 0
-AllGrow told more = (id : ℕ) → Grows (written id told) (ended id told) (written id more) (ended id more)
-
--- what a frame says stays so
-says_grows : (told more : List Told) (f : FrameValue) → AllGrow told more → Says told f → Says more f
-says_grows told more padding g s = tt
-says_grows told more ping g s = tt
-says_grows told more (ack a) g s = tt
-says_grows told more (stream f) g s = written_grows (written f.id told) (written f.id more) (ended f.id told) (ended f.id more) f (g f.id) s
-says_grows told more f g s = absurd s
-
-all_say_grows : (told more : List Told) (fs : List FrameValue) → AllGrow told more → AllSay told fs → AllSay more fs
-all_say_grows told more [] g s = tt
-all_say_grows told more (f ∷ fs) g s = (says_grows told more f g s.0, all_say_grows told more fs g s.1)
-
-pub given_grows : (p : Policy) (id : List ℕ) (told more : List Told) (n reference : ℕ) (frames : List FrameValue) (d : List ℕ) → AllGrow told more → IsGiven p id told n reference frames d → IsGiven p id more n reference frames d
-given_grows p id told more n reference frames d g i = record {
-  payload = i.payload;
-  spells = i.spells;
-  some = i.some;
-  four = i.four;
-  near = i.near;
-  small = i.small;
-  is = i.is;
-  says = all_say_grows told more frames g i.says;
-}
 
 -- ---- what holds of two lists in step
 
@@ -121,7 +67,3 @@ module _ {Y X : Type 0} where
   step_of P (v ∷ ys) (u ∷ xs) y a (inr i) = step_of P ys xs y a.1 i
   step_of P [] (u ∷ xs) y a i = absurd a
   step_of P (v ∷ ys) [] y a i = absurd a
-
--- the datagrams that were given stay so
-pub all_grow : (p : Policy) (id : List ℕ) (told more : List Told) (sents : List Sent) (ds : List (List ℕ)) → AllGrow told more → InStep (IsSent p id told) sents ds → InStep (IsSent p id more) sents ds
-all_grow p id told more sents ds g a = step_on (IsSent p id told) (IsSent p id more) (λ s d i. given_grows p id told more s.number s.reference s.frames d g i) sents ds a

@@ -4,11 +4,14 @@ use Rattle.std.specs.Prelude.{if◌then◌else◌}
 use Rattle.quic_packet.specs.Datagram.{Opening}
 use Rattle.quic_machine.specs.declared.answers.State.{State}
 use Rattle.quic_machine.specs.declared.answers.State.TheVariants as states
+use Rattle.quic_machine.specs.declared.run.Call.{Call}
+use Rattle.quic_machine.specs.declared.run.Call.TheVariants as calls
 use Rattle.quic_machine.specs.declared.run.Answer.{Answer}
 use Rattle.quic_machine.specs.Opens.{opens}
 use Rattle.quic_machine.specs.Policy.{Policy}
 use Rattle.quic_headline.specs.Runs.{Told, Packet, Intake, In, is_again, packet_of, handed, is_refused, expected_behind, and_opened, and_handed, and_told, folded, count_given}
 use Rattle.quic_machine.specs.Machine.{gave}
+use Rattle.quic_machine.specs.CallCases.{is_delivery}
 
 -- one call more
 pub folded_more : {S : Type 0} (step : Told → S → S) (ts : List Told) (t : Told) (s : S) → folded step (ts ++ t ∷ []) s ≡ step t (folded step ts s)
@@ -70,6 +73,11 @@ nothing_handed states.Open p a i = refl
 nothing_handed states.Closing p a i = refl
 nothing_handed states.Drained p a i = refl
 nothing_handed states.Failed p a i = refl
+
+-- a call that is no delivery hands nothing in
+pub none_handed : (given : List (List ℕ)) (call : Call) (a : Answer) → is_delivery call ≡ false → handed given call a ≡ None
+none_handed given (calls.Deliver delivery) a apart = cc
+none_handed given call a apart = refl
 
 -- how many datagrams were given by one call more
 pub count_more : (ts : List Told) (t : Told) → count_given (ts ++ t ∷ []) ≡ count_given ts + (if gave t.answer then 1 else 0)

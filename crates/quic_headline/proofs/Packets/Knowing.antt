@@ -12,13 +12,13 @@ use Rattle.quic_machine.specs.Numbers.{Numbers, no_numbers, cut_against, expecte
 use Rattle.quic_machine.specs.End.{End}
 use Rattle.quic_machine.specs.Opens.{own_id_length}
 use Rattle.quic_machine.specs.Receive.{received}
-use Rattle.quic_headline.specs.Runs.{Told, Intake, nothing_came, expected_behind, and_handed, acknowledged_in}
+use Rattle.quic_headline.specs.Runs.{Intake, nothing_came, expected_behind, and_handed, acknowledged_in}
 use Rattle.quic_machine.specs.Start.{IsLawful}
-use Rattle.quic_headline.proofs.Places.Invariant.{IsGiven, Knows, Expects, KnowsIn}
+use Rattle.quic_headline.proofs.Packets.Invariant.{IsGiven, Knows, Expects, KnowsIn}
 use Rattle.quic_recovery_core.specs.Duplicates.{Seen, after_insert}
 use Rattle.quic_machine.specs.FrameCases.{begun}
 use Rattle.quic_headline.proofs.Packets.Delivered.{Arrivals, arrived, with_taken, with_refused, by_arrival}
-use Rattle.quic_headline.proofs.Places.Stays.{keeps_frames, named_frames}
+use Rattle.quic_headline.proofs.Packets.Stays.{keeps_frames, named_frames}
 
 -- nothing came yet
 pub knows_first : (ids : List (List ℕ)) → Knows no_numbers (nothing_came ids)
@@ -92,8 +92,8 @@ knows_arrivals e now n frames i k = record {
         (knows_in_taken e.closing.state e.numbers left.numbers i n frames k keeps.numbers (named_frames frames (begun e now n) none))
 
 -- a datagram of an honest end is delivered: the end that it leaves knows what came then
-pub knows_delivered : (p q : Policy) (id : List ℕ) (told : List Told) (n reference : ℕ) (frames : List FrameValue) (d : List ℕ) → IsGiven p id told n reference frames d → (e : End) (now : ℕ) (i : Intake)
+pub knows_delivered : (p q : Policy) (id : List ℕ) (n reference : ℕ) (frames : List FrameValue) (d : List ℕ) → IsGiven p id n reference frames d → (e : End) (now : ℕ) (i : Intake)
     → CanOpen p q → IsLawful p → length id ≡ own_id_length → known e.ids ≡ i.ids → KnowsIn e.closing.state e.numbers i
     → KnowsIn (received q e now d).end.closing.state (received q e now d).end.numbers (and_handed e.closing.state (Some d) q (answers.Deliver (received q e now d).answer) i)
-knows_delivered p q id told n reference frames d g e now i mates lawful long ids k =
-    by_arrival p q id told n reference frames d g e now i (λ o j. KnowsIn o.end.closing.state o.end.numbers j) mates lawful long ids k (knows_arrivals e now n frames i k)
+knows_delivered p q id n reference frames d g e now i mates lawful long ids k =
+    by_arrival p q id n reference frames d g e now i (λ o j. KnowsIn o.end.closing.state o.end.numbers j) mates lawful long ids k (knows_arrivals e now n frames i k)

@@ -1,5 +1,5 @@
 -- ACK frames name numbers of packets that their giver took, and those alone are to be acknowledged.
-use Rattle.std.proofs.Common.{◌≡◌, ℕ, zero, suc, ◌+◌, ◌-◌, inl, inr, Bool, true, false, nat_le, ◌&&◌, ◌||◌, nat_lt, List, [], ◌∷◌, ◌++◌, length, replicate, Option, Some, None, refl, sym, ap, ◌∙◌, subst}
+use Rattle.std.proofs.Common.{◌≡◌, ℕ, zero, suc, ◌+◌, ◌-◌, inl, inr, Bool, true, false, nat_le, ◌&&◌, ◌||◌, nat_lt, List, [], ◌∷◌, ◌++◌, length, replicate, refl, sym, ap, ◌∙◌, subst}
 use Rattle.std.specs.Prelude.{if◌then◌else◌}
 use Rattle.std.specs.List.{list_any}
 use Rattle.std.proofs.lemmas.Bool.{leb-true, and_parts}
@@ -17,18 +17,18 @@ use Rattle.quic_machine.specs.declared.run.Answer.{Answer}
 use Rattle.quic_machine.specs.Closing.{ticked}
 use Rattle.quic_machine.specs.Numbers.{cut_against}
 use Rattle.quic_machine.specs.End.{End, with_closing, with_ping}
-use Rattle.quic_machine.specs.Poll.{Draft, stream_room, ack_of, composed}
-use Rattle.quic_streams.specs.Frames.{frame_of}
+use Rattle.quic_machine.specs.Poll.{Draft, ack_of, composed}
+use Rattle.quic_streams_parts.specs.SendHalf.{frame_of}
+use Rattle.quic_headline.proofs.Packets.Entries.{IsControl, entry_control}
 use Rattle.quic_headline.specs.Runs.{Packet, Intake, In, names}
 use Rattle.quic_headline.specs.Observer.{Sent}
 use Rattle.quic_machine.specs.Machine.{gave}
-use Rattle.quic_machine.specs.DraftLaws.{IsControl, by_writing}
-use Rattle.quic_headline.proofs.Places.Invariant.{SentAs, NameTaken, WereSent, AreTaken, Acks}
+use Rattle.quic_machine.specs.DraftLaws.{by_writing}
+use Rattle.quic_headline.proofs.Packets.Invariant.{SentAs, NameTaken, WereSent, AreTaken, Acks}
 use Rattle.quic_headline.proofs.Packets.Growth.{in_more}
 use Rattle.quic_machine.specs.PollCases.{ready_at, frames_at}
 use Rattle.quic_headline.proofs.Packets.Delivered.{Arrivals}
-use Rattle.quic_headline.proofs.Halves.Sends.{sent_by, sent_if}
-use Rattle.quic_headline.proofs.Halves.Writer.{sents_by}
+use Rattle.quic_headline.proofs.Places.Parties.{sent_by, sent_if, sents_by}
 use Rattle.quic_headline.proofs.Places.Told.{in_left}
 
 -- ---- what a frame names
@@ -58,10 +58,9 @@ record Acknowledges (runs : List Run) (d : Draft) : Type 0 where
 ack_more : (runs : List Run) (frames : List FrameValue) (f : FrameValue) → AckOf runs frames → ((a : AckValue) → ack a ≡ f → a.ranges ≡ ranges_of_set runs) → AckOf runs (frames ++ f ∷ [])
 ack_more runs frames f before one a i = elim (in_more (ack a) f frames i) [ inl old ↦ before a old | inr is ↦ one a is ]
 
--- a control frame has no ranges
-control_ranges : (runs : List Run) (f : FrameValue) → IsControl f → (a : AckValue) → ack a ≡ f → a.ranges ≡ ranges_of_set runs
-control_ranges runs ping is a same = cc
-control_ranges runs f is a same = absurd is
+-- a frame of control is no ACK frame
+no_ack : (f : FrameValue) (a : AckValue) → IsControl f → ack a ≡ f → ⊥
+no_ack f a is same = subst IsControl (sym same) is
 
 -- whichever frames go, ACK frames have them
 composed_acknowledges : (e : End) → Acknowledges e.acknowledging.runs (composed e)
@@ -70,8 +69,10 @@ composed_acknowledges e = by_writing (Acknowledges e.acknowledging.runs) (record
     frames = ack_more e.acknowledging.runs d.frames (ack (ack_of d.end)) k.frames (λ a is. (let same : a ≡ ack_of d.end = cc in ap (λ (x : AckValue). x.ranges) same ∙ ap ranges_of_set k.same));
     same = k.same;
   };
-  control = λ d f w is k. record { frames = ack_more e.acknowledging.runs d.frames f k.frames (control_ranges e.acknowledging.runs f is); same = k.same };
-  stream = λ d id h found room k. record { frames = ack_more e.acknowledging.runs d.frames (stream (frame_of id h (stream_room d id))) k.frames (λ a is. cc); same = k.same };
+  ping = λ d k. record { frames = ack_more e.acknowledging.runs d.frames ping k.frames (λ a is. cc); same = k.same };
+  drops = λ d kind k. record { frames = k.frames; same = k.same };
+  control = λ d kind entry es f is goes k. record { frames = ack_more e.acknowledging.runs d.frames f k.frames (λ a ack_is. absurd (no_ack f a (entry_control kind d.end.waiting.frames entry es d.end.streams f is goes) ack_is)); same = k.same };
+  stream = λ d id h room found first some is counts k. record { frames = ack_more e.acknowledging.runs d.frames (stream (frame_of id h room)) k.frames (λ a is. cc); same = k.same };
 }) e (record { frames = λ a i. absurd i; same = refl })
 
 -- PADDING behind frames has none

@@ -1,10 +1,10 @@
 -- Numbers rise: one more above all stays so, what has the same number is the same, and the datagrams given are those of the numbers.
 use Rattle.std.proofs.Common.{◌≡◌, ℕ, ◌+◌, ◌<◌, ◌≤◌, max, List, [], ◌∷◌, ◌++◌, map, inl, inr, refl, sym, ◌∙◌, arith}
 use Rattle.quic_machine.specs.Policy.{Policy}
-use Rattle.quic_headline.specs.Runs.{Told, In}
+use Rattle.quic_headline.specs.Runs.{In}
 use Rattle.quic_headline.specs.Observer.{Sent, next_number}
 use Rattle.quic_headline.specs.Headline.{Rise}
-use Rattle.quic_headline.proofs.Places.Invariant.{InStep, RisingFrom, IsSent}
+use Rattle.quic_headline.proofs.Packets.Invariant.{InStep, RisingFrom, IsSent}
 
 -- one more, with a number above all
 pub rising_push : (low : ℕ) (sents : List Sent) (s : Sent) → RisingFrom low sents → low ≤ s.number → ((t : Sent) → In t sents → t.number < s.number) → RisingFrom low (sents ++ s ∷ [])
@@ -44,10 +44,10 @@ one_number low (u ∷ sents) s t rising (inr i) (inl j) same =
 one_number low (u ∷ sents) s t rising (inr i) (inr j) same = one_number (u.number + 1) sents s t rising.1 i j same
 
 -- the datagrams given are those of numbers that rise
-pub rise : (p : Policy) (id : List ℕ) (told : List Told) (low : ℕ) (sents : List Sent) (ds : List (List ℕ)) → RisingFrom low sents → InStep (IsSent p id told) sents ds → Rise p id low (map (λ s. s.reference) sents) ds
-rise p id told low [] [] rising all = tt
-rise p id told low (s ∷ sents) (d ∷ ds) rising all =
+pub rise : (p : Policy) (id : List ℕ) (low : ℕ) (sents : List Sent) (ds : List (List ℕ)) → RisingFrom low sents → InStep (IsSent p id) sents ds → Rise p id low (map (λ s. s.reference) sents) ds
+rise p id low [] [] rising all = tt
+rise p id low (s ∷ sents) (d ∷ ds) rising all =
     let g = all.0 in
-    (s.number, rising.0, record { frames = s.frames; is = record { payload = g.payload; spells = g.spells; is = g.is } }, rise p id told (s.number + 1) sents ds rising.1 all.1)
-rise p id told low [] (d ∷ ds) rising all = absurd all
-rise p id told low (s ∷ sents) [] rising all = absurd all
+    (s.number, rising.0, record { frames = s.frames; is = record { payload = g.payload; spells = g.spells; is = g.is } }, rise p id (s.number + 1) sents ds rising.1 all.1)
+rise p id low [] (d ∷ ds) rising all = absurd all
+rise p id low (s ∷ sents) [] rising all = absurd all

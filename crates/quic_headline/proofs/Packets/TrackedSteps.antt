@@ -1,38 +1,38 @@
--- What calls but a delivery leave of the tracked packets: each was given, and carries what its frames say.
-use Rattle.std.proofs.Common.{◌≡◌, ℕ, ◌+◌, ◌-◌, Bool, true, false, List, [], ◌∷◌, ◌++◌, length, replicate, zero, suc, refl, sym, ap, ◌∙◌, subst, ◌⊎◌, inl, inr}
+-- What calls leave of the tracked packets: each was given, and carries what its frames say.
+use Rattle.std.proofs.Common.{◌≡◌, ℕ, ◌+◌, ◌-◌, Bool, true, false, List, [], ◌∷◌, ◌++◌, length, refl, sym, ap, ◌∙◌, subst, ◌⊎◌, inl, inr}
 use Rattle.std.specs.Ordering.{nat_cmp, match_ordering}
 use Rattle.std.specs.declared.cmp.Ordering.{Ordering}
 use Rattle.std.specs.declared.cmp.Ordering.TheVariants.{Less, Equal, Greater}
 use Rattle.std.proofs.lemmas.Cmp.{ranked}
-use Rattle.quic_wire.specs.Value.{FrameValue, ack, padding, stream}
 use Rattle.quic_packet.specs.Number.{truncated}
-use Rattle.quic_send_buffer.specs.declared.stream_meta.StreamMeta.{StreamMeta}
-use Rattle.quic_machine.specs.Numbers.{Numbers, cut_against}
+use Rattle.quic_streams_parts.specs.Table.{Table, added}
 use Rattle.quic_machine.specs.declared.run.Call.{Call}
 use Rattle.quic_machine.specs.declared.run.Call.TheVariants as calls
 use Rattle.quic_machine.specs.declared.run.Answer.{Answer}
 use Rattle.quic_machine.specs.declared.run.Answer.TheVariants as answers
+use Rattle.quic_machine.specs.Numbers.{Numbers, cut_against}
 use Rattle.quic_machine.specs.Policy.{Policy}
-use Rattle.quic_streams.specs.Table.{Table, added}
-use Rattle.quic_machine.specs.Tracking.{Tracking, TrackedPacket, acked_in, streams_in, carried_in}
-use Rattle.quic_streams.specs.Frames.{meta_of}
+use Rattle.quic_machine.specs.Tracking.{Tracking, TrackedPacket, carried_in}
 use Rattle.quic_machine.specs.End.{End}
+use Rattle.quic_machine.specs.Receive.{received}
 use Rattle.quic_machine.specs.Poll.{Polled, Draft, composed, asking, tracked_if, after_given, polled}
 use Rattle.quic_machine.specs.Machine.{IsAnswer, after_call, fails, gave}
+use Rattle.quic_machine.specs.PollCases.{at_moment, ready_at, frames_padded, frames_at, by_poll_to, composes}
+use Rattle.quic_machine.specs.LeaveCases.{by_expired}
+use Rattle.quic_machine.specs.CallCases.{is_poll, by_plain_call}
 use Rattle.quic_headline.specs.Runs.{In}
 use Rattle.quic_headline.specs.Observer.{Sent}
-use Rattle.quic_headline.proofs.Places.Invariant.{AreTracked}
+use Rattle.quic_headline.proofs.Packets.Invariant.{AreTracked}
+use Rattle.quic_headline.proofs.Packets.Carried.{carried_padded}
+use Rattle.quic_headline.proofs.Packets.Named.{tracked_received}
 use Rattle.quic_headline.proofs.Places.Told.{in_left, in_last}
-use Rattle.quic_machine.specs.PollCases.{at_moment, ready_at, frames_padded, frames_at, by_poll_to, composes}
-use Rattle.quic_headline.proofs.Halves.Sends.{sent_by, sent_if}
-use Rattle.quic_machine.specs.LeaveCases.{by_expired}
-use Rattle.quic_machine.specs.CallCases.{is_delivery, is_poll, by_plain_call}
-use Rattle.quic_headline.proofs.Halves.Writer.{sents_by, poll_answer}
+use Rattle.quic_headline.proofs.Places.Parties.{sent_by, sent_if, sents_by}
+use Rattle.quic_headline.proofs.Places.Steps.{poll_answer}
 
 -- ---- tables of packets
 
 -- what stands in a table to which a value was added was there before, or is that value
-in_added : (es : Table TrackedPacket) (id : ℕ) (v : TrackedPacket) (x : ℕ × TrackedPacket) → In x (added es id v) → In x es ⊎ (x ≡ (id, v))
+pub in_added : (es : Table TrackedPacket) (id : ℕ) (v : TrackedPacket) (x : ℕ × TrackedPacket) → In x (added es id v) → In x es ⊎ (x ≡ (id, v))
 in_added [] id v x (inl is) = inr is
 in_added [] id v x (inr i) = absurd i
 in_added (e ∷ es) id v x i = go (nat_cmp id e.0) refl i (in_added es id v x)
@@ -44,24 +44,6 @@ in_added (e ∷ es) id v x i = go (nat_cmp id e.0) refl i (in_added es id v x)
     go Equal is (inr more) later = inl (inr more)
     go Greater is (inl here) later = inl (inl here)
     go Greater is (inr more) later = elim (later more) [ inl old ↦ inl (inr old) | inr new ↦ inr new ]
-
--- PADDING names no number
-acked_padded : (fs : List FrameValue) (count : ℕ) → acked_in (fs ++ replicate count padding) ≡ acked_in fs
-acked_padded [] zero = refl
-acked_padded [] (suc count) = acked_padded [] count
-acked_padded (ack a ∷ fs) count = refl
-acked_padded (f ∷ fs) count = acked_padded fs count
-
--- nor has it bytes of streams
-streams_padded : (fs : List FrameValue) (count : ℕ) → streams_in (fs ++ replicate count padding) ≡ streams_in fs
-streams_padded [] zero = refl
-streams_padded [] (suc count) = streams_padded [] count
-streams_padded (stream f ∷ fs) count = ap (λ (ms : List StreamMeta). meta_of f ∷ ms) (streams_padded fs count)
-streams_padded (f ∷ fs) count = streams_padded fs count
-
--- a datagram carries what its frames do before they are padded
-pub carried_padded : (fs : List FrameValue) (count : ℕ) → carried_in fs ≡ carried_in (fs ++ replicate count padding)
-carried_padded fs count = rw (acked_padded fs count, streams_padded fs count) refl
 
 -- ---- calls
 
@@ -79,7 +61,7 @@ tracked_given true d sents s number frames i n t is = elim (in_added d.end.track
       let carried : t.carried ≡ carried_in d.frames = ap (λ (x : ℕ × TrackedPacket). x.1.carried) new in (
         s,
         (in_last s sents, number ∙ sym same),
-        carried ∙ carried_padded d.frames (4 - ((truncated d.end.numbers.next (cut_against d.end.numbers)).width + length d.bytes)) ∙ ap carried_in (sym frames),
+        carried ∙ sym (carried_padded d.frames (4 - ((truncated d.end.numbers.next (cut_against d.end.numbers)).width + length d.bytes))) ∙ ap carried_in (sym frames),
       ))
 ]
   where
@@ -108,26 +90,25 @@ tracked_polled p e now sents i =
         let frames : frames_at e now ≡ frames_padded d = ap (λ (x : End). frames_padded (composed x)) ready in
         tracked_given (asking d.frames) d sents (sent_by e now) number frames packets
 
--- a call that is neither a delivery nor a poll leaves the tracked packets
-packets_step : (p : Policy) (e : End) (theirs : List (List ℕ)) (call : Call) (a : Answer) → is_delivery call ≡ false → is_poll call ≡ false → (after_call p e theirs call a).tracking.packets ≡ e.tracking.packets
-packets_step p e theirs call a other silent = by_plain_call p e theirs (λ (f : End). f.tracking.packets ≡ e.tracking.packets) call a (record {
-  streams = λ s r. refl;
-  waits = λ w. refl;
-  heard = λ path same. refl;
-  times = λ now acks loss is. by_expired e now (λ (f : End). f.tracking.packets ≡ e.tracking.packets) (λ pending tracking timers runs packets. packets) acks loss;
-  polls = λ now is. cc;
-  hears = λ now d is. cc;
-  tells = λ told events. refl;
-})
-
 -- another call than a poll gives nothing that is tracked
-tracked_other : (p : Policy) (e : End) (theirs : List (List ℕ)) (call : Call) (a : Answer) (sents more : List Sent) → is_delivery call ≡ false → is_poll call ≡ false → AreTracked sents e.tracking.packets → AreTracked (sents ++ more) (after_call p e theirs call a).tracking.packets
-tracked_other p e theirs call a sents more other silent i =
-    tracked_more sents more (after_call p e theirs call a).tracking.packets (subst (λ (packets : Table TrackedPacket). AreTracked sents packets) (sym (packets_step p e theirs call a other silent)) i)
+tracked_other : (p : Policy) (e : End) (theirs : List (List ℕ)) (call : Call) (a : Answer) (sents more : List Sent) → is_poll call ≡ false → AreTracked sents e.tracking.packets → AreTracked (sents ++ more) (after_call p e theirs call a).tracking.packets
+tracked_other p e theirs call a sents more silent i = by_plain_call p e theirs (λ (f : End). AreTracked (sents ++ more) f.tracking.packets) call a (record {
+  same = same;
+  on_streams = λ t. same;
+  pings = same;
+  heard = λ path is. same;
+  times = λ now acks loss is. by_expired e now (λ (f : End). AreTracked (sents ++ more) f.tracking.packets) (λ pending tracking timers runs packets. subst (λ (x : Table TrackedPacket). AreTracked (sents ++ more) x) (sym packets) same) acks loss;
+  polls = λ now is. cc;
+  hears = λ now d is. tracked_more sents more (received p e now d).end.tracking.packets (tracked_received p e now d sents i);
+  tells = λ told. same;
+})
+  where
+    same : AreTracked (sents ++ more) e.tracking.packets
+    same = tracked_more sents more e.tracking.packets i
 
--- after a call that is no delivery
-pub tracked_step : (p : Policy) (e : End) (theirs : List (List ℕ)) (call : Call) (a : Answer) (sents : List Sent) → is_delivery call ≡ false → IsAnswer p e theirs call a → fails a ≡ false
-    → AreTracked sents e.tracking.packets → AreTracked (sents ++ sents_by e call a) (after_call p e theirs call a).tracking.packets
-tracked_step p e theirs (calls.Poll now) a sents other is served i =
+-- after any call that lacks no memory
+pub tracked_step : (p : Policy) (e : End) (theirs : List (List ℕ)) (call : Call) (a : Answer) (sents : List Sent) → IsAnswer p e theirs call a → fails a ≡ false → AreTracked sents e.tracking.packets
+    → AreTracked (sents ++ sents_by e call a) (after_call p e theirs call a).tracking.packets
+tracked_step p e theirs (calls.Poll now) a sents is served i =
     subst (λ (x : Answer). AreTracked (sents ++ sent_if (gave x) (sent_by e now)) (polled p e now).end.tracking.packets) (sym (poll_answer p e now a is served)) (tracked_polled p e now sents i)
-tracked_step p e theirs call a sents other is served i = tracked_other p e theirs call a sents (sents_by e call a) other refl i
+tracked_step p e theirs call a sents is served i = tracked_other p e theirs call a sents (sents_by e call a) refl i

@@ -1,5 +1,5 @@
 -- What every step keeps holds at each place of a run.
-use Rattle.std.proofs.Common.{◌≡◌, ℕ, zero, suc, List, [], ◌∷◌, ◌++◌, take, drop, Bool, true, false, ◌||◌, Some, refl, sym, ap, ◌∙◌}
+use Rattle.std.proofs.Common.{◌≡◌, ℕ, zero, suc, List, [], ◌∷◌, ◌++◌, take, drop, Bool, true, false, ◌||◌, Some, refl, sym, ap, ◌∙◌, subst}
 use Rattle.std.specs.Prelude.{slice_get}
 use Rattle.std.specs.List.{list_any}
 use Rattle.std.proofs.lemmas.List.{append_assoc, append-nil}
@@ -67,9 +67,22 @@ pub state_shown : (side : Side) (w : World) → state_in (view_of w) side ≡ (e
 state_shown Client w = refl
 state_shown Server w = refl
 
-module _ (k : Policies) (end : World) (P : World → List Told → List Told → Type 0)
-    (step : (w next : World) (event : RunEvent) (a : Answer) (client server : List Told) → P w client server → IsStep k w event a next → fails a ≡ false → Grown w end
+-- what one more event tells, and what is told behind it, as the view behind it shows the state
+told_further : (side : Side) (state : State) (told : List Told) (event : RunEvent) (a : Answer) (events : List RunEvent) (answers : List Answer) (v : View) (views : List View) (next : World) → v ≡ view_of next
+    → told ++ told_at side state (event ∷ events) (a ∷ answers) (v ∷ views) ≡ (told ++ told_by side state event a) ++ told_at side (end_at side next).closing.state events answers views
+told_further side state told event a events answers v views next is =
+    sym (append_assoc told (told_by side state event a) (told_at side (state_in v side) events answers views))
+    ∙ ap (λ (s : State). (told ++ told_by side state event a) ++ told_at side s events answers views) (ap (λ (u : View). state_in u side) is ∙ state_shown side next)
+
+-- E holds of each event and its answer, with what was told at both ends before it; P holds at each place.
+module _ (k : Policies) (end : World) (E : RunEvent → Answer → List Told → List Told → Type 0) (P : World → List Told → List Told → Type 0)
+    (step : (w next : World) (event : RunEvent) (a : Answer) (client server : List Told) → P w client server → E event a client server → IsStep k w event a next → fails a ≡ false → Grown w end → Grown next end
     → P next (client ++ told_by Client w.client.closing.state event a) (server ++ told_by Server w.server.closing.state event a)) where
+  -- so it is of the events from a place on
+  abbrev pub FromHere : World → List RunEvent → List Answer → List View → List Told → List Told → Type 0
+  FromHere w events answers views client server = (j : ℕ) (event : RunEvent) (a : Answer) → slice_get events j ≡ Some event → slice_get answers j ≡ Some a
+      → E event a (client ++ told_at Client w.client.closing.state events (take j answers) views) (server ++ told_at Server w.server.closing.state events (take j answers) views)
+
   -- the ends at a place of a run that begins here, how the run comes there and goes on from there, and the states that the views show
   pub record Moment (first : World) (i : ℕ) (events : List RunEvent) (answers : List Answer) (views : List View) (client server : List Told) : Type 0 where
     pub world : World
@@ -78,29 +91,45 @@ module _ (k : Policies) (end : World) (P : World → List Told → List Told →
     pub goes_on : Follows k world (drop i events) (drop i answers) (drop i views) end
     pub state : (side : Side) → (end_at side world).closing.state ≡ state_behind side (end_at side first).closing.state i views
 
-  pub moment : (i : ℕ) (w : World) (events : List RunEvent) (answers : List Answer) (views : List View) (client server : List Told) → P w client server → Follows k w events answers views end → list_any fails (take i answers) ≡ false
+  -- the first event
+  first_of : (w : World) (event : RunEvent) (a : Answer) (events : List RunEvent) (answers : List Answer) (views : List View) (client server : List Told) → FromHere w (event ∷ events) (a ∷ answers) views client server → E event a client server
+  first_of w event a events answers views client server each =
+      let at : E event a (client ++ []) (server ++ []) =
+      rw (told_none Client (event ∷ events) views w.client.closing.state, told_none Server (event ∷ events) views w.server.closing.state) at (each zero event a refl refl) in
+      subst (λ (ts : List Told). E event a ts server) (append-nil client) (subst (λ (ts : List Told). E event a (client ++ []) ts) (append-nil server) at)
+
+  -- the others
+  rest_of : (w next : World) (event : RunEvent) (a : Answer) (v : View) (events : List RunEvent) (answers : List Answer) (views : List View) (client server : List Told) → v ≡ view_of next → FromHere w (event ∷ events) (a ∷ answers) (v ∷ views) client server
+      → FromHere next events answers views (client ++ told_by Client w.client.closing.state event a) (server ++ told_by Server w.server.closing.state event a)
+  rest_of w next event a v events answers views client server is each j e b at_event at_answer =
+      subst (λ (ts : List Told). E e b ts ((server ++ told_by Server w.server.closing.state event a) ++ told_at Server next.server.closing.state events (take j answers) views)) (told_further Client w.client.closing.state client event a events (take j answers) v views next is)
+      (subst (λ (ts : List Told). E e b (client ++ told_at Client w.client.closing.state (event ∷ events) (a ∷ take j answers) (v ∷ views)) ts) (told_further Server w.server.closing.state server event a events (take j answers) v views next is)
+      (each (suc j) e b at_event at_answer))
+
+  pub moment : (i : ℕ) (w : World) (events : List RunEvent) (answers : List Answer) (views : List View) (client server : List Told) → P w client server → FromHere w events answers views client server → Follows k w events answers views end → list_any fails (take i answers) ≡ false
       → Moment w i events answers views (client ++ told_at Client w.client.closing.state events (take i answers) views) (server ++ told_at Server w.server.closing.state events (take i answers) views)
-  moment zero w events answers views client server h f q = record {
+  moment zero w events answers views client server h each f q = record {
     world = w;
     holds = rw (told_none Client events views w.client.closing.state, told_none Server events views w.server.closing.state, append-nil client, append-nil server) h;
     came = refl;
     goes_on = f;
     state = λ side. refl;
   }
-  moment (suc i) w [] [] [] client server h f q = record { world = w; holds = rw (append-nil client, append-nil server) h; came = refl; goes_on = f; state = λ side. refl }
-  moment (suc i) w (e ∷ events) [] [] client server h f q = record { world = w; holds = rw (append-nil client, append-nil server) h; came = refl; goes_on = f; state = λ side. refl }
-  moment (suc i) w [] [] (v ∷ views) client server h f q = absurd f
-  moment (suc i) w (e ∷ events) [] (v ∷ views) client server h f q = absurd f
-  moment (suc i) w [] (a ∷ answers) views client server h f q = absurd f
-  moment (suc i) w (e ∷ events) (a ∷ answers) [] client server h f q = absurd f
-  moment (suc i) w (e ∷ events) (a ∷ answers) (v ∷ views) client server h f q =
+  moment (suc i) w [] [] [] client server h each f q = record { world = w; holds = rw (append-nil client, append-nil server) h; came = refl; goes_on = f; state = λ side. refl }
+  moment (suc i) w (e ∷ events) [] [] client server h each f q = record { world = w; holds = rw (append-nil client, append-nil server) h; came = refl; goes_on = f; state = λ side. refl }
+  moment (suc i) w [] [] (v ∷ views) client server h each f q = absurd f
+  moment (suc i) w (e ∷ events) [] (v ∷ views) client server h each f q = absurd f
+  moment (suc i) w [] (a ∷ answers) views client server h each f q = absurd f
+  moment (suc i) w (e ∷ events) (a ∷ answers) [] client server h each f q = absurd f
+  moment (suc i) w (e ∷ events) (a ∷ answers) (v ∷ views) client server h each f q =
       let next = f.0 in
-      let behind = grown_by e.side w next end (gives (policy_at e.side k) (end_at e.side w) e.call a) f.1.others (grown k next events answers views end f.3) in
-      let holds = step w next e a client server h f.1 (served_first (fails a) _ q) behind in
-      let m = moment i next events answers views _ _ holds f.3 (served_rest (fails a) _ q) in
+      let left = grown k next events answers views end f.3 in
+      let behind = grown_by e.side w next end (gives (policy_at e.side k) (end_at e.side w) e.call a) f.1.others left in
+      let holds = step w next e a client server h (first_of w e a events answers (v ∷ views) client server each) f.1 (served_first (fails a) _ q) behind left in
+      let m = moment i next events answers views _ _ holds (rest_of w next e a v events answers views client server f.2 each) f.3 (served_rest (fails a) _ q) in
       record {
         world = m.world;
-        holds = rw (f.2, ← append_assoc client (told_by Client w.client.closing.state e a) _, ← append_assoc server (told_by Server w.server.closing.state e a) _) m.holds;
+        holds = rw (told_further Client w.client.closing.state client e a events (take i answers) v views next f.2, told_further Server w.server.closing.state server e a events (take i answers) v views next f.2) m.holds;
         came = (next, f.1, f.2, m.came);
         goes_on = m.goes_on;
         state = λ side. m.state side ∙ ap (λ (s : State). state_behind side s i views) (sym (ap (λ (u : View). state_in u side) f.2 ∙ state_shown side next));

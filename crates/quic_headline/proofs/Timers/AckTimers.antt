@@ -2,7 +2,7 @@
 use Rattle.std.proofs.Common.{◌≡◌, ℕ, ◌+◌, ◌-◌, ◌^◌, ◌<◌, Bool, true, false, cond, min, List, Option, Some, None, refl, sym, ap, ◌∙◌, arith}
 use Rattle.std.specs.Option.{is_some}
 use Rattle.quic_recovery_core.specs.Duplicates.{Seen}
-use Rattle.quic_recovery_core.specs.PendingAcks.{Pending, can_send, after_insert, asking_counted, starts_wait, after_packet}
+use Rattle.quic_recovery_core.specs.PendingAcks.{Pending, after_insert, asking_counted, starts_wait, after_packet}
 use Rattle.quic_time.specs.Timers.{Timers}
 use Rattle.quic_machine.specs.declared.answers.State.TheVariants as states
 use Rattle.quic_machine.specs.declared.answers.LostReason.{LostReason}
@@ -12,9 +12,7 @@ use Rattle.quic_machine.specs.declared.run.Call.{Call}
 use Rattle.quic_machine.specs.declared.run.Answer.{Answer}
 use Rattle.quic_machine.specs.declared.run.View.{View}
 use Rattle.quic_machine.specs.Policy.{Policy}
-use Rattle.quic_streams.specs.Table.{at}
 use Rattle.quic_machine.specs.Numbers.{number_given}
-use Rattle.quic_streams.specs.Sending.{SendHalf}
 use Rattle.quic_machine.specs.End.{End, closed_by, with_numbers}
 use Rattle.quic_machine.specs.Receive.{timers_after}
 use Rattle.quic_machine.specs.Poll.{Polled, Draft, with_ack, composed, asking, tracked_if, polled}
@@ -23,7 +21,7 @@ use Rattle.quic_headline.specs.Headline.{AckTimerFollows, AckTimersFollow}
 use Rattle.quic_machine.specs.DraftLaws.{by_writing}
 use Rattle.quic_machine.specs.LeaveCases.{at_expiry}
 use Rattle.quic_machine.specs.CallCases.{by_plain_call}
-use Rattle.quic_machine.specs.FrameCases.{Settling, Receives, named, acked_keeps, frame_keeps, by_received}
+use Rattle.quic_machine.specs.FrameCases.{Settling, Receives, named, acked_keeps, frame_keeps, frame_leaves, by_received}
 use Rattle.quic_machine.specs.PollCases.{at_moment, by_poll_to}
 use Rattle.quic_headline.proofs.Timers.BothEnds.{run_keeps}
 
@@ -39,7 +37,7 @@ closed_follows reason e = unset_follows (closed_by reason e) refl
 
 -- acknowledged and lost packets leave the timer, and the packets that ask count on
 settling : Settling AckTimerFollows
-settling = record { known = λ n e i. i; acked = λ m e i. i; lost = λ m e i. i; tracked = λ t e i. i }
+settling = record { known = λ n e i. i; reset = λ id e i. i; acked = λ m e i. i; lost = λ m e i. i; again = λ carried e i. i; tracked = λ t e i. i }
 
 -- the timer waits or is left: the count stays
 wait_counts : (b : Bool) (p : Pending) (now : ℕ) → (cond b (record p { since = Some now }) p).asking ≡ p.asking
@@ -58,7 +56,7 @@ receives : Receives AckTimerFollows
 receives = record {
   notes = λ n e i. i;
   begins = λ now n e i. i;
-  frame = frame_keeps AckTimerFollows (record { ack = λ a e i. acked_keeps AckTimerFollows settling a (named a e) i; stream = λ f e i. i });
+  frame = frame_keeps AckTimerFollows (record { ack = λ a e i. acked_keeps AckTimerFollows settling a (named a e) i; on_streams = λ f e on i. frame_leaves AckTimerFollows f e on (λ t. i) });
   takes = λ n asks e i opened. packet_counts asks e.timers (after_insert e.acknowledging n e.closing.clock) e.closing.clock n e.numbers.opened (i opened);
   closes = λ reason e i. closed_follows reason e;
 }
@@ -67,7 +65,13 @@ receives = record {
 
 -- an ACK that goes stops the timer, and no other frame changes it
 composed_follows : (e : End) → AckTimerFollows e → AckTimerFollows (composed e).end
-composed_follows = by_writing (λ (d : Draft). AckTimerFollows d.end) (record { ack = λ d filled may i. unset_follows (with_ack d).end refl; control = λ d f w is i. i; stream = λ d id h found room i. i })
+composed_follows = by_writing (λ (d : Draft). AckTimerFollows d.end) (record {
+  ack = λ d filled may i. unset_follows (with_ack d).end refl;
+  ping = λ d i. i;
+  drops = λ d kind i. i;
+  control = λ d kind entry es f is goes i. i;
+  stream = λ d id h room found first some is counts i. i;
+})
 
 -- what goes may be tracked
 given_follows : (b : Bool) (d : Draft) → AckTimerFollows d.end → AckTimerFollows (with_numbers (tracked_if b d) (number_given d.end.numbers))
@@ -94,13 +98,14 @@ expired_follows e now false false i = i
 -- what any call leaves
 call_follows : (p : Policy) (e : End) (theirs : List (List ℕ)) (call : Call) (a : Answer) → AckTimerFollows e → AckTimerFollows (after_call p e theirs call a)
 call_follows p e theirs call a i = by_plain_call p e theirs AckTimerFollows call a (record {
-  streams = λ s r. i;
-  waits = λ w. i;
+  same = i;
+  on_streams = λ t. i;
+  pings = i;
   heard = λ path same. i;
   times = λ now acks loss is. expired_follows e now acks loss i;
   polls = λ now is. polled_follows p e now i;
   hears = λ now d is. by_received AckTimerFollows receives p e now d i;
-  tells = λ told events. i;
+  tells = λ told. i;
 })
 
 -- a run

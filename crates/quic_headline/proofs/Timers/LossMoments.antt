@@ -3,12 +3,13 @@ use Rattle.std.proofs.Common.{◌≡◌, ℕ, suc, ◌+◌, ◌-◌, ◌*◌, �
 use Rattle.std.specs.Prelude.{if◌then◌else◌, nat_lt, slice_get}
 use Rattle.std.specs.List.{list_any}
 use Rattle.std.proofs.lemmas.Bool.{lt-ltb, le-ltb}
-use Rattle.std.proofs.lemmas.List.{append_assoc, length-append, length-map}
+use Rattle.std.proofs.lemmas.List.{length-append, length-map}
 use Rattle.std.proofs.lemmas.List.Filters.{length-filter_both}
-use Rattle.quic_time.specs.Timers.{Timers, has_come}
+use Rattle.quic_time.specs.Timers.{has_come}
 use Rattle.quic_wire_core.specs.declared.stream_id.Side.{Side}
+use Rattle.quic_wire_core.specs.StreamId.{other_side}
 use Rattle.quic_wire.specs.Value.{FrameValue, AckValue, ack, asks}
-use Rattle.quic_streams.specs.Table.{Table}
+use Rattle.quic_streams_parts.specs.Table.{Table}
 use Rattle.quic_machine.specs.declared.answers.State.{State}
 use Rattle.quic_machine.specs.declared.answers.State.TheVariants as states
 use Rattle.quic_machine.specs.declared.run.Call.{Call}
@@ -25,28 +26,26 @@ use Rattle.quic_machine.specs.Acked.{after_named}
 use Rattle.quic_machine.specs.Timeouts.{acks_expired, loss_expired, timed_out_in}
 use Rattle.quic_machine.specs.Receive.{received}
 use Rattle.quic_machine.specs.Poll.{Polled, Draft, composed, asking, tracked_if, polled}
-use Rattle.quic_machine.specs.Ids.{known}
 use Rattle.quic_machine.specs.Opens.{own_id_length}
-use Rattle.quic_machine.specs.Machine.{World, IsAnswer, after_call, after_delivered, gives, fails, gave, end_at}
+use Rattle.quic_machine.specs.Machine.{World, IsAnswer, after_call, after_delivered, fails, gave, end_at}
 use Rattle.quic_packet.specs.Datagram.{opened_packet}
 use Rattle.quic_machine.specs.CallCases.{is_delivery, is_poll, is_timeout, by_plain_call}
 use Rattle.quic_machine.specs.LeaveCases.{at_expiry}
-use Rattle.quic_machine.specs.FrameCases.{Receives, named, acked_keeps, frame_keeps, by_received}
+use Rattle.quic_machine.specs.FrameCases.{Receives, named, acked_keeps, frame_keeps, frame_leaves, by_received}
 use Rattle.quic_machine.specs.PollCases.{at_moment, ready_at, frames_at, frames_padded, by_poll_to, composes}
-use Rattle.quic_headline.specs.Runs.{Run, Told, Packet, given_of, acknowledged, and_told, until, folded}
+use Rattle.quic_headline.specs.Runs.{Run, Told, Packet, given_of, acknowledged, and_told, until, folded, AreServed}
 use Rattle.quic_headline.specs.Observer.{Sent, Flight, is_lost, settled_by, after_ack, after_frames, after_packets, and_sent, and_all_sent, Watch, first_watch, news, sent_as, watch_sent, Lens, watch_given, watch_told, lens_of}
 use Rattle.quic_headline.specs.InFlight.{waited_for}
-use Rattle.quic_headline.specs.Headline.{IsHonest, IsRun}
+use Rattle.quic_headline.specs.Headline.{IsHonest}
 use Rattle.quic_headline.specs.Moments.{last_asked, due_of, is_past, Pace, loss_due, is_timely, has_answered, has_expired, expiries_behind, pace_told, first_pace, pace, LossMoments}
-use Rattle.quic_headline.proofs.Halves.Sends.{sent_by, sent_if}
-use Rattle.quic_headline.proofs.Halves.Writer.{poll_answer, sents_by, other_gives_none}
 use Rattle.quic_headline.proofs.Packets.Flying.{asking_padded}
-use Rattle.quic_headline.proofs.Packets.Watching.{IsWatched, came_with, came_quiet, none_comes, lens, leaves_call, call_seen}
+use Rattle.quic_headline.proofs.Packets.Watching.{IsWatched, came_with, came_quiet, none_comes, leaves_call}
 use Rattle.quic_headline.proofs.Packets.Intakes.{folded_more}
-use Rattle.quic_headline.proofs.Halves.Reader.{told_of}
-use Rattle.quic_headline.proofs.Places.Invariant.{Streams}
-use Rattle.quic_headline.proofs.Places.Moments.{moment}
-use Rattle.quic_headline.proofs.Timers.Walk.{Held, Keeps, Begins, Reached, reached}
+use Rattle.quic_headline.proofs.Places.Steps.{only_polls_give, poll_answer}
+use Rattle.quic_headline.proofs.Places.Parties.{sent_by, sent_if, sents_by, told_of, Party, called, lens, watch_of}
+use Rattle.quic_headline.proofs.Places.Groups.{And, Calls, Group}
+use Rattle.quic_headline.proofs.Places.Placed.{Placed, party_at, known_first}
+use Rattle.quic_headline.proofs.Timers.Watched.{Observed, own_behind, watched_behind, timers_behind, open_behind}
 use Rattle.quic_headline.proofs.Timers.LossTimers.{IsLossMoment, call_sets}
 
 -- ---- an end that is open
@@ -60,8 +59,8 @@ opened_receives e = record {
   notes = λ n f i. i;
   begins = λ now n f i. i;
   frame = frame_keeps (WasOpen e) (record {
-    ack = λ a f i. acked_keeps (WasOpen e) (record { known = λ n y j. j; acked = λ m y j. j; lost = λ m y j. j; tracked = λ t y j. j }) a (named a f) i;
-    stream = λ f g i. i;
+    ack = λ a f i. acked_keeps (WasOpen e) (record { known = λ n y j. j; reset = λ id y j. j; acked = λ m y j. j; lost = λ m y j. j; again = λ carried y j. j; tracked = λ t y j. j }) a (named a f) i;
+    on_streams = λ f g on i. frame_leaves (WasOpen e) f g on (λ t. i);
   });
   takes = λ n asks f i. i;
   closes = λ reason f i opened. cc;
@@ -89,13 +88,14 @@ opened_polled p e now = by_poll_to p e now (λ (q : Polled). WasOpen e q.end) (r
 -- behind any call
 pub was_open : (p : Policy) (e : End) (theirs : List (List ℕ)) (call : Call) (a : Answer) → WasOpen e (after_call p e theirs call a)
 was_open p e theirs call a = by_plain_call p e theirs (WasOpen e) call a (record {
-  streams = λ s r opened. opened;
-  waits = λ w opened. opened;
+  same = λ opened. opened;
+  on_streams = λ t opened. opened;
+  pings = λ opened. opened;
   heard = λ path same opened. opened;
   times = λ now acks loss is. opened_expired e now acks loss;
   polls = λ now is. opened_polled p e now;
   hears = λ now d is. by_received (WasOpen e) (opened_receives e) p e now d (λ opened. opened);
-  tells = λ told events opened. opened;
+  tells = λ told opened. opened;
 })
 
 -- ---- what a datagram makes of what is tracked
@@ -134,7 +134,7 @@ received_hears : (p : Policy) (e : End) (now : ℕ) (d : List ℕ) → Hears e.t
 received_hears p e now d = by_received (λ (f : End). Hears e.tracking f.tracking) (record {
   notes = λ n f i. i;
   begins = λ now n f i. i;
-  frame = frame_keeps (λ (f : End). Hears e.tracking f.tracking) (record { ack = λ a f i. named_hears e.tracking (acked_by a f.tracking.packets) a (named a f) refl i; stream = λ f g i. i });
+  frame = frame_keeps (λ (f : End). Hears e.tracking f.tracking) (record { ack = λ a f i. named_hears e.tracking (acked_by a f.tracking.packets) a (named a f) refl i; on_streams = λ f g on i. frame_leaves (λ (h : End). Hears e.tracking h.tracking) f g on (λ t. i) });
   takes = λ n asks f i. i;
   closes = λ reason f i. i;
 }) p e now d (record { last = refl; either = inl (refl, refl) })
@@ -372,7 +372,7 @@ timeout_clock e now = go (has_come e.timers.max_ack_delay (max e.closing.clock n
     go false true = refl
     go false false = refl
 
-module _ (p : Policy) (l : Lens) (x : End) (theirs : List (List ℕ)) (wrote : List Told) (pc : Pace) (streams : Streams x.side x.sending wrote) (opened : x.closing.state ≡ states.Open)
+module _ (p : Policy) (l : Lens) (x : End) (theirs : List (List ℕ)) (pc : Pace) (opened : x.closing.state ≡ states.Open)
     (watched : IsWatched pc.watch x) (set : IsLossMoment x) (paced : IsPaced pc x) where
   -- what the observer knows behind a call
   abbrev behind : Call → Answer → Watch
@@ -431,7 +431,7 @@ module _ (p : Policy) (l : Lens) (x : End) (theirs : List (List ℕ)) (wrote : L
   quiet_paced : (call : Call) (a : Answer) → is_delivery call ≡ false → is_poll call ≡ false → is_timeout call ≡ false → sents_by x call a ≡ [] → Known call a → PacedOn call a
   quiet_paced call a apart silent other none k still =
       let t : Told = told_of call a x.closing.state in
-      let same : (after_call p x theirs call a).tracking ≡ x.tracking = (leaves_call p x theirs call a wrote apart silent other streams).tracking in
+      let same : (after_call p x theirs call a).tracking ≡ x.tracking = (leaves_call p x theirs call a apart silent other).tracking in
       record {
         expiries = quiet_counts pc t (behind call a) x (after_call p x theirs call a) (none_answered l t pc.watch apart) (untimely x.closing.state call other) (ap (λ (u : Tracking). u.timeouts) same) paced.expiries;
         asked = asked_on call a k.0 (ap (λ (u : Tracking). u.last_asking) same ∙ ap (λ (ss : List Sent). last_asked x.tracking.last_asking ss) (sym none));
@@ -440,54 +440,64 @@ module _ (p : Policy) (l : Lens) (x : End) (theirs : List (List ℕ)) (wrote : L
   call_paced : (call : Call) (a : Answer) → IsAnswer p x theirs call a → fails a ≡ false → Known call a → PacedOn call a
   call_paced (calls.Poll now) a is served k = poll_paced now a (poll_answer p x now a is served) k
   call_paced (calls.Timeout now) a is served k = timeout_paced now a refl k
-  call_paced (calls.Deliver delivery) a is served k = delivery_paced delivery a (other_gives_none p x theirs (calls.Deliver delivery) a refl is).0 k
+  call_paced (calls.Deliver delivery) a is served k = delivery_paced delivery a (only_polls_give p x theirs (calls.Deliver delivery) a refl is) k
   call_paced call a is served k = quiet_paced call a refl refl refl refl k
 
--- ---- one end of a run
+-- ---- the group
 
--- what an observer reckons of an open end that is known by an id, gives these datagrams in all, and was made at a moment
-abbrev pub paced_first : List ℕ → List (List ℕ) → ℕ → Pace
+-- what an observer reckons of an end that is known by an id, gives these datagrams in all, and was made at a moment
+abbrev paced_first : List ℕ → List (List ℕ) → ℕ → Pace
 paced_first own final start = first_pace (first_watch (own ∷ []) final start)
 
--- the end counts as its observer does, where the datagrams that it gave stand first in all that it gives
-abbrev InPace : Held
-InPace l own x given final start wrote = IsLossMoment x × ((rest : List (List ℕ)) → given ++ rest ≡ final → x.closing.state ≡ states.Open → IsPaced (folded (pace_told l) wrote (paced_first own final start)) x)
+-- what the observer of x reckons
+abbrev pub pace_of : Party → Party → Pace
+pace_of x y = folded (pace_told (lens x y)) x.told (paced_first x.id x.final x.began)
+
+-- The timer of x is set to the moment of what is tracked, and while it is open it counts as its observer does.
+pub record InPace (x y : Party) : Type 0 where
+  pub set : IsLossMoment x.end
+  pub paced : x.end.closing.state ≡ states.Open → IsPaced (pace_of x y) x.end
 
 -- so it does behind any call
-pace_step : Keeps InPace
-pace_step p q own id x y given final back theirs start wrote read to_y to_x lawful_y eight own_eight more other way call a is served sight held = (call_sets p x theirs call a held.0, paced)
+pace_step : (x y : Party) (call : Call) (a : Answer) → Calls Observed x y call a → InPace x y → InPace (called x y.given call a) y
+pace_step x y call a c i = record { set = call_sets x.policy x.end y.given call a i.set; paced = paced }
   where
-    paced : (rest : List (List ℕ)) → (given ++ gives p x call a) ++ rest ≡ final → (after_call p x theirs call a).closing.state ≡ states.Open → IsPaced (folded (pace_told (lens p q back)) (wrote ++ told_of call a x.closing.state ∷ []) (paced_first own final start)) (after_call p x theirs call a)
-    paced rest whole still =
-        let t : Told = told_of call a x.closing.state in
-        let pc : Pace = folded (pace_told (lens p q back)) wrote (paced_first own final start) in
-        let same : pc.watch ≡ folded (watch_told (lens p q back)) wrote (first_watch (own ∷ []) final start) = paced_watch (lens p q back) wrote (paced_first own final start) in
-        let opened : x.closing.state ≡ states.Open = was_open p x theirs call a still in
-        let all : given ++ (gives p x call a ++ rest) ≡ final = sym (append_assoc given (gives p x call a) rest) ∙ whole in
-        let before = sight (gives p x call a ++ rest) all in
-        let known = call_seen p q own id x y given final back theirs start wrote read to_y to_x lawful_y eight own_eight more other way call a is served rest before.left before.watched in
-        subst (λ (c : Pace). IsPaced c (after_call p x theirs call a)) (sym (folded_more (pace_told (lens p q back)) wrote t (paced_first own final start)))
-        (call_paced p (lens p q back) x theirs wrote pc way.streams opened (subst (λ (v : Watch). IsWatched v x) (sym same) before.watched) held.0 (held.1 (gives p x call a ++ rest) all opened) call a is served
-        (subst (λ (v : Watch). ((watch_told (lens p q back) t v).own ≡ v.own ++ sents_by x call a) × IsWatched (watch_told (lens p q back) t v) (after_call p x theirs call a)) (sym same) known) still)
+    pc : Pace
+    pc = pace_of x y
 
--- a new end is paced: nothing was tracked, and no timer is set
-new_paced : Begins InPace
-new_paced l own e given final start none unset = (
-  λ opened. ap (λ (t : Timers). t.loss_detection) unset ∙ ap (λ (t : Tracking). loss_moment t) (sym none),
-  λ rest whole opened. record { expiries = ap (λ (t : Tracking). min t.timeouts 16) none; asked = ap (λ (t : Tracking). t.last_asking) none },
-)
+    same : pc.watch ≡ watch_of x y
+    same = paced_watch (lens x y) x.told (paced_first x.id x.final x.began)
+
+    paced : (called x y.given call a).end.closing.state ≡ states.Open → IsPaced (pace_of (called x y.given call a) y) (called x y.given call a).end
+    paced still =
+        let opened : x.end.closing.state ≡ states.Open = was_open x.policy x.end y.given call a still in
+        subst (λ (b : Pace). IsPaced b (called x y.given call a).end) (sym (folded_more (pace_told (lens x y)) x.told (told_of call a x.end.closing.state) (paced_first x.id x.final x.began)))
+        (call_paced x.policy (lens x y) x.end y.given pc opened (subst (λ (v : Watch). IsWatched v x.end) (sym same) c.gives.1.watched) i.set (i.paced opened) call a c.answer c.served
+        (own_behind x y call a c pc.watch same, watched_behind x y call a c pc.watch same) still)
+
+-- over the packets and what observers know of them
+pub pace_group : Group Observed InPace
+pace_group = record {
+  first = λ x y m there here. record { set = λ opened. refl; paced = λ opened. record { expiries = refl; asked = refl } };
+  writer = λ x y call a c i back. pace_step x y call a c i;
+  reader = λ x y call a c i back. record { set = back.set; paced = back.paced };
+}
 
 -- ---- a run
 
--- what an observer reckons that knows the end by its own id is what the run's observer does
-reckoned : (r : Run) (side : Side) (i : ℕ) (own : List ℕ) → known (end_at side r.start).ids ≡ own ∷ [] → folded (pace_told (lens_of r side)) (until r side i) (paced_first own (given_of r side) (end_at side r.start).closing.clock) ≡ pace r side i
-reckoned r side i own same = ap (λ (ids : List (List ℕ)). folded (pace_told (lens_of r side)) (until r side i) (first_pace (first_watch ids (given_of r side) (end_at side r.start).closing.clock))) (sym same)
+-- what the observer of an end reckons is what the run's does
+reckoned : (r : Run) → IsHonest r → (w : World) (i : ℕ) (side : Side) (sents theirs : List Sent) → pace_of (party_at r i w side sents) (party_at r i w (other_side side) theirs) ≡ pace r side i
+reckoned r honest w i side sents theirs =
+    ap (λ (ids : List (List ℕ)). folded (pace_told (lens_of r side)) (until r side i) (first_pace (first_watch ids (given_of r side) (end_at side r.start).closing.clock))) (sym (known_first r honest side))
 
-pub loss_moments : (r : Run) (end : World) → IsHonest r → IsRun r end → LossMoments r
-loss_moments r end honest run side i v served shown opened =
-    let at : Reached InPace r side i v = reached InPace pace_step new_paced r end honest run side i v served shown in
-    let now_open : at.end.closing.state ≡ states.Open = sym at.state ∙ opened in
-    let start : Pace = paced_first at.own (given_of r side) (end_at side r.start).closing.clock in
-    let pc : Pace = folded (pace_told (lens_of r side)) (until r side (suc i)) start in
-    let watched : IsWatched pc.watch at.end = subst (λ (w : Watch). IsWatched w at.end) (sym (paced_watch (lens_of r side) (until r side (suc i)) start)) at.watched in
-    ap (λ (ts : List (Option ℕ)). slice_get ts 0) at.timers ∙ ap (λ (o : Option ℕ). Some o) (timer_is pc at.end now_open watched at.held.0 (at.held.1 at.whole.0 at.whole.1 now_open) ∙ ap loss_due (reckoned r side (suc i) at.own at.known))
+-- the clause, where the group holds at each place
+pub loss_moments : (r : Run) (end : World) → IsHonest r → ((side : Side) (i : ℕ) → AreServed r i → Placed (And Observed InPace) r end side i) → LossMoments r
+loss_moments r end honest all side i v served there opened =
+    let at = all side (suc i) served in
+    let x : Party = party_at r (suc i) at.world side at.sents in
+    let y : Party = party_at r (suc i) at.world (other_side side) at.theirs in
+    let now_open : x.end.closing.state ≡ states.Open = open_behind r at.world i v side at.leads there opened in
+    let pc : Pace = pace_of x y in
+    let watched : IsWatched pc.watch x.end = subst (λ (w : Watch). IsWatched w x.end) (sym (paced_watch (lens x y) x.told (paced_first x.id x.final x.began))) at.gives.0.1.watched in
+    ap (λ (ts : List (Option ℕ)). slice_get ts 0) (timers_behind r at.world i v side at.leads there)
+    ∙ ap (λ (o : Option ℕ). Some o) (timer_is pc x.end now_open watched at.gives.1.set (at.gives.1.paced now_open) ∙ ap loss_due (reckoned r honest at.world (suc i) side at.sents at.theirs))

@@ -12,7 +12,7 @@ use Rattle.quic_machine.specs.declared.run.Call.{Call}
 use Rattle.quic_machine.specs.declared.run.Answer.{Answer}
 use Rattle.quic_machine.specs.declared.run.View.{View}
 use Rattle.quic_wire.specs.Value.{AckValue}
-use Rattle.quic_streams.specs.Table.{Table}
+use Rattle.quic_streams_parts.specs.Table.{Table}
 use Rattle.quic_machine.specs.Policy.{Policy}
 use Rattle.quic_machine.specs.Closing.{Closing}
 use Rattle.quic_machine.specs.Numbers.{cut_against, number_given}
@@ -26,7 +26,7 @@ use Rattle.quic_machine.specs.Machine.{World, Policies, after_call, Follows}
 use Rattle.quic_headline.specs.Headline.{LossTimerFollows, LossTimersFollow}
 use Rattle.quic_machine.specs.LeaveCases.{at_expiry}
 use Rattle.quic_machine.specs.CallCases.{by_plain_call}
-use Rattle.quic_machine.specs.FrameCases.{Receives, named, frame_keeps, by_received}
+use Rattle.quic_machine.specs.FrameCases.{Receives, named, frame_keeps, frame_leaves, by_received}
 use Rattle.quic_machine.specs.PollCases.{at_moment, by_poll_to, composes}
 use Rattle.quic_headline.proofs.Timers.BothEnds.{run_keeps}
 
@@ -69,7 +69,7 @@ module _ (P : Option ℕ → Tracking → Type 0) (set : (t : Tracking) → P (l
   receives = record {
     notes = λ n e i. i;
     begins = λ now n e i. i;
-    frame = frame_keeps (LossStands P) (record { ack = λ a e i. named_stands (acked_by a e.tracking.packets) a (named a e) i; stream = λ f e i. i });
+    frame = frame_keeps (LossStands P) (record { ack = λ a e i. named_stands (acked_by a e.tracking.packets) a (named a e) i; on_streams = λ f e on i. frame_leaves (LossStands P) f e on (λ t. i) });
     takes = taken_stands;
     closes = λ reason e i. closed_stands reason e;
   }
@@ -109,13 +109,14 @@ module _ (P : Option ℕ → Tracking → Type 0) (set : (t : Tracking) → P (l
   -- what any call leaves
   pub call_stands : (p : Policy) (e : End) (theirs : List (List ℕ)) (call : Call) (a : Answer) → LossStands P e → LossStands P (after_call p e theirs call a)
   call_stands p e theirs call a i = by_plain_call p e theirs (LossStands P) call a (record {
-    streams = λ s r. i;
-    waits = λ w. i;
+    same = i;
+    on_streams = λ t. i;
+    pings = i;
     heard = λ path same. i;
     times = λ now acks loss is. expired_stands e now acks loss i;
     polls = λ now is. polled_stands p e now i;
     hears = λ now d is. by_received (LossStands P) receives p e now d i;
-    tells = λ told events. i;
+    tells = λ told. i;
   })
 
 -- it is set where a datagram that asks is waited for

@@ -1,4 +1,4 @@
-use Rattle.quic_headline.proofs.Timers.AckMoments.{ack_moments}
+use Rattle.quic_headline.proofs.Places.Theorems.{ack_moments}
 use Rattle.quic_headline.proofs.headline.ack_moments.Goals as goal
 
 pub returns : goal.returns

@@ -1,5 +1,5 @@
 use Rattle.quic_headline.proofs.Timers.AckTimers.{ack_timers_follow}
-use Rattle.quic_headline.proofs.Places.Theorems.{ack_timers_start}
+use Rattle.quic_headline.proofs.Timers.Starts.{ack_timers_start}
 use Rattle.quic_headline.proofs.headline.ack_timers_follow.Goals as goal
 
 pub returns : goal.returns

@@ -1,4 +1,4 @@
-use Rattle.quic_headline.proofs.Timers.LossMoments.{loss_moments}
+use Rattle.quic_headline.proofs.Places.Theorems.{loss_moments}
 use Rattle.quic_headline.proofs.headline.loss_moments.Goals as goal
 
 pub returns : goal.returns

@@ -1,4 +1,4 @@
-use Rattle.quic_headline.proofs.Causes.Clauses.{no_blame}
+use Rattle.quic_headline.proofs.Channel.Clauses.{no_blame}
 use Rattle.quic_headline.proofs.headline.no_blame.Goals as goal
 
 pub returns : goal.returns

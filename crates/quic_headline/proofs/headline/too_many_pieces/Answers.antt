@@ -1,5 +1,5 @@
-use Rattle.quic_headline.proofs.Causes.Clauses.{too_many_pieces}
+use Rattle.quic_headline.proofs.Causes.Pieces.{too_many_came}
 use Rattle.quic_headline.proofs.headline.too_many_pieces.Goals as goal
 
 pub returns : goal.returns
-returns c = too_many_pieces
+returns c = too_many_came

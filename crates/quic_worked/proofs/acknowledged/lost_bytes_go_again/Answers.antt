@@ -1,5 +1,5 @@
 use Rattle.std.proofs.Common.{◌≡◌, [], refl, ap}
-use Rattle.quic_streams.specs.Table.{Table}
+use Rattle.quic_streams_parts.specs.Table.{Table}
 use Rattle.quic_machine.specs.Tracking.{TrackedPacket, acked_by}
 use Rattle.quic_machine.specs.Acked.{after_named}
 use Rattle.quic_worked.specs.Acknowledged.{third_ack, client_lost}

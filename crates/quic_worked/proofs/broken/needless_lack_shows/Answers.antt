@@ -1,9 +1,9 @@
-use Rattle.quic_worked.proofs.WorkedLacks.{not_opens, not_closed, not_blocked, not_empty, not_begins, not_cut, not_idle, not_again}
+use Rattle.quic_worked.proofs.WorkedLacks.{not_ended, not_closed, not_blocked, not_empty, not_begins, not_cut, not_idle, not_again}
 use Rattle.quic_worked.proofs.broken.needless_lack_shows.Goals as goal
 
 pub returns : goal.returns
 returns c = record {
-  «open» = not_opens;
+  finish = not_ended;
   closed_write = not_closed;
   blocked_write = not_blocked;
   empty_write = not_empty;

@@ -1,0 +1,145 @@
+-- What has to reach the peer is somewhere, as a group: what is in flight of streams stands in tracked packets, and a reset waits, stands in one, or came.
+use Rattle.std.proofs.Common.{◌≡◌, ℕ, Bool, true, false, List, [], ◌∷◌, Option, Some, None, refl, sym, ap, ◌∙◌, subst, inl, inr}
+use Rattle.std.specs.Option.{IsSome, is_some}
+use Rattle.quic_config.specs.Transport.{Settings, parameters_of}
+use Rattle.quic_streams_state.specs.State.{new_streams}
+use Rattle.quic_streams_laws.specs.Written.{Wrote, nothing_done}
+use Rattle.quic_streams_laws.specs.WroteLaws.{with_same, with_new, with_set_params}
+use Rattle.quic_machine.specs.declared.run.Call.{Call}
+use Rattle.quic_machine.specs.declared.run.Call.TheVariants as calls
+use Rattle.quic_machine.specs.declared.run.Answer.{Answer}
+use Rattle.quic_machine.specs.End.{End, streams_at}
+use Rattle.quic_machine.specs.Calls.{is_open}
+use Rattle.quic_machine.specs.StreamCalls.{is_on_streams}
+use Rattle.quic_machine.specs.Receive.{Outcome}
+use Rattle.quic_headline.specs.Runs.{Packet, Intake, In, first_of, reset_by, reset, nothing_came}
+use Rattle.quic_headline.specs.Duties.{Duty}
+use Rattle.quic_headline.proofs.Packets.Invariant.{IsSent}
+use Rattle.quic_headline.proofs.Packets.Growth.{step_of}
+use Rattle.quic_headline.proofs.Packets.Intakes.{took_more}
+use Rattle.quic_headline.proofs.Packets.Delivered.{Arrivals}
+use Rattle.quic_headline.proofs.Packets.MayGo.{AreReady}
+use Rattle.quic_headline.proofs.Packets.Group.{PacketsHold, meets}
+use Rattle.quic_headline.proofs.Places.Parties.{told_of, Party, called, came_to, Beginning, begun_as, AreMade}
+use Rattle.quic_headline.proofs.Places.Groups.{Way, Calls, Group}
+use Rattle.quic_headline.proofs.Places.Coming.{by_coming}
+use Rattle.quic_headline.proofs.Halves.Wrote.{wrote, done_by, reset_more}
+use Rattle.quic_headline.proofs.Halves.WordsCalls.{call_on_is}
+use Rattle.quic_headline.proofs.Halves.Small.{payload_small}
+use Rattle.quic_headline.proofs.Halves.Says.{sent_says}
+use Rattle.quic_headline.proofs.Halves.Arrived.{small_limits}
+use Rattle.quic_headline.proofs.Halves.Writer.{WritesHold, done_behind}
+use Rattle.quic_headline.proofs.Duties.Flies.{FliesIn, flies_along}
+use Rattle.quic_headline.proofs.Duties.Carrier.{IsNew, number_new}
+use Rattle.quic_headline.proofs.Duties.UnderWay.{InPackets, Fly, TrackedEnds, arrivals_fly, call_fly}
+use Rattle.quic_headline.proofs.Duties.Resets.{ResetStands, reset_on, arrivals_stand, call_resets, call_stands}
+
+-- what is in flight of the streams of x stands in packets that it tracks, and each of its resets is somewhere
+pub record Flying (x y : Party) : Type 0 where
+  pub fly : Fly (wrote x.told) x.end
+  pub resets : (id : ℕ) → IsSome (reset id x.told) → ResetStands (came_to y x).took id x.end
+
+-- What that rests on: the packets between both ends, what was written, and that what waits may go.
+pub record IsReadied (B : Way) : Type 1 where
+  pub packets : (x y : Party) → B x y → PacketsHold x y
+  pub writes : (x y : Party) → B x y → WritesHold x y
+  pub ready : (x y : Party) → B x y → AreReady x.end.streams.sending.halves.live x.end.waiting.frames
+
+-- a call that is none on streams resets none
+none_reset : (id : ℕ) (call : Call) (a : Answer) → is_on_streams call ≡ false → IsSome (reset_by id call a) → ⊥
+none_reset id (calls.Reset s code) a off some = cc
+none_reset id call a off some = cc
+
+module _ (B : Way) (b : IsReadied B) (x y : Party) (call : Call) (a : Answer) (c : Calls B x y call a) (i : Flying x y) where
+  gives : PacketsHold x y
+  gives = b.packets x y c.gives
+
+  takes : PacketsHold y x
+  takes = b.packets y x c.takes
+
+  abbrev done : ℕ → Wrote
+  done = wrote x.told
+
+  abbrev took : List Packet
+  took = (came_to y x).took
+
+  -- the number that goes next is none of a tracked packet
+  new : IsNew x.end.tracking.packets x.end.numbers.next
+  new = number_new x.sents x.end.tracking.packets x.end.numbers.next gives.gives.below gives.tracked
+
+  -- what is tracked says what was done
+  ends : TrackedEnds done x.end.tracking.packets
+  ends p among =
+      let was = gives.tracked p.0 p.1 among in
+      (sent_says done x.sents (b.writes x y c.gives).says p.1.carried (record { sent = was.0; among = was.1.0; is = was.2 })).ends
+
+  -- what is in flight stands still where it is to
+  fly_call : Fly (wrote (called x y.given call a).told) (called x y.given call a).end
+  fly_call = with_same (FliesIn F) (λ id w. Unit {0}) (flies_along F) (done_by call a done) (wrote (called x y.given call a).told) (called x y.given call a).end.streams (done_behind B b.packets x y call a c (b.writes x y c.gives))
+      (by_coming x y a c.joined c.served (meets y x takes) (λ (e : End) (j : Intake). Fly (done_by call a done) e) call c.answer (record {
+        apart = λ apart. call_fly done x.policy x.end y.given call a apart c.answer new i.fly;
+        none = λ delivery is. subst (λ (k : Call). Fly (done_by k a done) x.end) (sym is) i.fly;
+        comes = λ delivery is s among. (
+            let spelled = step_of (IsSent y.policy x.id) y.sents y.given s takes.gives.each among in
+            subst (λ (k : Call). Arrivals x.end delivery.now s.number s.frames (came_to x y) (λ (o : Outcome) (j : Intake). Fly (done_by k a done) o.end)) (sym is)
+            (arrivals_fly done x.end delivery.now s.number s.frames (came_to x y) (payload_small s.frames spelled.1.payload spelled.1.spells) ends i.fly));
+      }))
+    where
+      F : Duty → Type 0
+      F = InPackets (called x y.given call a).end.tracking.packets
+
+  -- a reset that was somewhere is so still
+  old_reset : (id : ℕ) → IsSome (reset id x.told) → ResetStands took id (called x y.given call a).end
+  old_reset id some = by_coming x y a c.joined c.served (meets y x takes) (λ (e : End) (j : Intake). ResetStands took id e) call c.answer (record {
+    apart = λ apart. call_stands took id x.policy x.end y.given call a apart new (b.ready x y c.gives) (i.resets id some);
+    none = λ delivery is. i.resets id some;
+    comes = λ delivery is s among. arrivals_stand took id x.sents (record { taken = gives.taken; rising = gives.gives.rising }) x.end delivery.now s.number s.frames (came_to x y)
+        (λ ak carried k named. takes.named s ak k among carried named) gives.tracked (i.resets id some);
+  })
+
+  -- a new one waits
+  new_reset : (id : ℕ) → IsSome (reset_by id call a) → ResetStands took id (called x y.given call a).end
+  new_reset id some = go (is_on_streams call) refl
+    where
+      go : (on : Bool) → is_on_streams call ≡ on → ResetStands took id (called x y.given call a).end
+      go true on =
+          let k = call_on_is x.policy x.end y.given call a on in
+          inl (ap (λ (e : End). reset_on id e) k.same ∙ call_resets id (is_open x.end.closing.state) (streams_at x.end) call a (k.answer c.answer) some)
+      go false off = absurd (none_reset id call a off some)
+
+  flying_call : Flying (called x y.given call a) y
+  flying_call = record {
+    fly = fly_call;
+    resets = λ id some. go id (reset id x.told) refl (subst (λ (o : Option ℕ). IsSome o) (reset_more id x.told (told_of call a x.end.closing.state)) some);
+  }
+    where
+      go : (id : ℕ) (o : Option ℕ) → reset id x.told ≡ o → IsSome (first_of o (reset_by id call a)) → ResetStands took id (called x y.given call a).end
+      go id (Some code) is some = old_reset id (ap is_some is)
+      go id None is some = new_reset id some
+
+-- what came stays so
+came_on : (old more : List Packet) (id : ℕ) (e : End) → ((packet : Packet) → In packet old → In packet more) → ResetStands old id e → ResetStands more id e
+came_on old more id e stays (inl waits) = inl waits
+came_on old more id e stays (inr (inl flies)) = inr (inl flies)
+came_on old more id e stays (inr (inr came)) = inr (inr (record { packet = came.packet; was_taken = stays came.packet came.was_taken; frame = came.frame; carried = came.carried; of_stream = came.of_stream }))
+
+-- nothing was written
+flying_first : (x y : Beginning) → AreMade x y → Flying (begun_as x y) (begun_as y x)
+flying_first x y m =
+    let s : Settings = x.making.settings in
+    record {
+      fly = with_set_params (FliesIn (InPackets [])) (λ id w. Unit {0}) (λ id. nothing_done) (new_streams x.side s.max_uni s.max_bidi s.send_window s.receive_window s.stream_receive_window) (parameters_of y.making.settings) (small_limits y.making.settings m.y_is.range)
+          (with_new (FliesIn (InPackets [])) (λ id w. Unit {0}) x.side s.max_uni s.max_bidi s.send_window s.receive_window s.stream_receive_window);
+      resets = λ id some. cc;
+    }
+
+-- it holds at the start, and stays with each call at either end
+pub flying_group : (B : Way) → IsReadied B → Group B Flying
+flying_group B b = record {
+  first = λ x y m there back. flying_first x y m;
+  writer = λ x y call a c i back. flying_call B b x y call a c i;
+  reader = λ x y call a c back i. record {
+    fly = i.fly;
+    resets = λ id some. came_on (came_to x y).took (came_to (called x y.given call a) y).took id y.end (took_more x.policy y.final x.told (told_of call a x.end.closing.state) (nothing_came (x.id ∷ []))) (i.resets id some);
+  };
+}

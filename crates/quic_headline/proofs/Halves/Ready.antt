@@ -1,0 +1,46 @@
+-- What waits to be sent beside the bytes of streams may go, at each place of a run: over what was written.
+use Rattle.std.proofs.Common.{refl, arith}
+use Rattle.quic_headline.proofs.Packets.MayGo.{AreReady}
+use Rattle.quic_headline.proofs.Packets.Group.{PacketsHold}
+use Rattle.quic_headline.proofs.Places.Told.{in_left}
+use Rattle.quic_headline.proofs.Places.Parties.{Party}
+use Rattle.quic_headline.proofs.Places.Groups.{And, Group}
+use Rattle.quic_headline.proofs.Halves.Wrote.{wrote}
+use Rattle.quic_headline.proofs.Halves.Writer.{WritesHold}
+use Rattle.quic_headline.proofs.Halves.Pile.{resets_of, stops_of}
+use Rattle.quic_headline.proofs.Halves.PileSteps.{HoldsAll}
+use Rattle.quic_headline.proofs.Halves.PileCalls.{step_holds}
+
+-- RESET_STREAM and STOP_SENDING that wait at x, or that its tracked packets carried, are a pile
+pub record Ready (x y : Party) : Type 0 where
+  pub all : HoldsAll x.end
+
+-- so what waits may go
+pub ready_waits : (x y : Party) → Ready x y → AreReady x.end.streams.sending.halves.live x.end.waiting.frames
+ready_waits x y ready =
+    let h = ready.all.holds in
+    record {
+      resets = λ r i. h.pile.reset r (in_left r x.end.waiting.frames.reset_stream (resets_of x.end.tracking.packets) i);
+      stops = λ s i. h.pile.small s (in_left s x.end.waiting.frames.stop_sending (stops_of x.end.tracking.packets) i);
+      no_ids = h.others.no_ids;
+      no_retired = h.others.no_retired;
+      no_frequency = h.others.no_frequency;
+    }
+
+-- it is so at the start, and each call keeps it
+pub ready_group : Group (And PacketsHold WritesHold) Ready
+ready_group = record {
+  first = λ x y m there back. record {
+    all = record {
+      holds = record {
+        pile = record { once = λ id. omega arith; reset = λ r i. absurd i; small = λ s i. absurd i };
+        others = record { no_ids = refl; no_retired = refl; no_frequency = refl };
+      };
+      carried = λ n t i. absurd i;
+    };
+  };
+  writer = λ x y call a c gives takes. (
+      let w = c.gives.1.writes.keeps in
+      record { all = step_holds x.policy x.end y.given call a (wrote x.told) w.holds w.few c.codes c.answer gives.all });
+  reader = λ x y call a c gives takes. record { all = takes.all };
+}

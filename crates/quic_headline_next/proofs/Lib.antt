@@ -1,6 +1,0 @@
-pub mod Duties
-pub mod Halves
-pub mod Packets
-pub mod Places
-pub mod Timers
-pub mod Causes

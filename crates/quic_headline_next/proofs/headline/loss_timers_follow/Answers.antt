@@ -1,6 +1,0 @@
-use Rattle.quic_headline_next.proofs.Timers.LossTimers.{loss_timers_follow}
-use Rattle.quic_headline_next.proofs.Timers.Starts.{loss_timers_start}
-use Rattle.quic_headline_next.proofs.headline.loss_timers_follow.Goals as goal
-
-pub returns : goal.returns
-returns c = record { runs = loss_timers_follow; starts = loss_timers_start }

@@ -1,4 +1,0 @@
-pub mod Taken
-pub mod Opened
-pub mod First
-pub mod Room
