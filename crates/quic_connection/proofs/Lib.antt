@@ -1,3 +1,5 @@
+pub mod Codes
+pub mod OnStreams
 pub mod ReadAnswers
 pub mod Runs
 mod Pairs

@@ -1,5 +1,6 @@
 -- The definitions of this crate, and those of lower crates that its clauses cite.
 pub mod Ends
+pub mod OnStreams
 pub mod Settled
 pub use Rattle.quic_headline.specs.Runs
 pub use Rattle.quic_headline.specs.Observer
@@ -22,9 +23,13 @@ pub use Rattle.quic_machine.specs.Calls
 pub use Rattle.quic_machine.specs.Lacking
 pub use Rattle.quic_machine.specs.Machine
 pub use Rattle.quic_machine.specs.Start
-pub use Rattle.quic_streams.specs.Table
-pub use Rattle.quic_streams.specs.Sending
-pub use Rattle.quic_streams.specs.Receiving
+pub use Rattle.quic_machine.specs.StreamCalls
+pub use Rattle.quic_streams_parts.specs.Table
+pub use Rattle.quic_streams_state.specs.State
+pub use Rattle.quic_streams_state.specs.Opening
+pub use Rattle.quic_streams_state.specs.Writing
+pub use Rattle.quic_streams_state.specs.Reading
+pub use Rattle.quic_streams_state.specs.Telling
 pub use Rattle.quic_config.specs.Transport
 pub use Rattle.quic_packet.specs.Keys
 pub use Rattle.quic_time.specs.Timers

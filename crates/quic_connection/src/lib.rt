@@ -7,6 +7,7 @@
 //! its `poll_timeout` says when `handle_timeout` is due.
 #![tactic(auto)]
 
+mod on_streams;
 mod pair;
 mod running;
 mod settling;
@@ -14,15 +15,19 @@ mod settling;
 pub use pair::Making;
 pub use quic_assembler::Chunk;
 pub use quic_config::{AckFrequencyConfig, MtuDiscoveryConfig};
-pub use quic_connection_core::{Chunks, Config, Connection, RecvStream, SendStream, Streams};
+pub use quic_connection_core::{Config, Connection};
 pub use quic_machine::{
     Answer, Call, ConfigError, Datagram, Delivery, DropReason, EndView, Event, Failed, IdleTimeout,
     Injection, Instant, LostReason, Nexts, ReadCall, Received, RunEvent, State, Timer, Transmit,
     TransportConfig, View,
 };
 pub use quic_packet::crypto::{HeaderKey, KeyPair, Keys, NotOpened, PacketKey};
-pub use quic_send_buffer::ShouldTransmit;
-pub use quic_streams::{FinishError, ReadError, ReadableError, StreamEvent, WriteError};
+pub use quic_send_buffer::{BytesSource, ShouldTransmit};
+pub use quic_streams_handles::{Chunks, EndStreams, RecvStream, SendStream, Streams};
+pub use quic_streams_parts::{
+    ClosedStream, FinishError, ReadError, ReadableError, StreamEvent, UpdateError, WriteError,
+    Written,
+};
 pub use quic_time::Duration;
 pub use quic_wire_core::{
     Code, ConnectionId, Dir, EcnCodepoint, FrameType, Reason, Side, StreamId, TransportError,

@@ -25,7 +25,8 @@ pub struct Making<H, K, R> {
     pub config: Config,
     /// The first id of the end, of eight bytes.
     pub id: ConnectionId,
-    /// Its keys: what the `local` ones seal, the other end's `remote` ones open, and the other way round.
+    /// Its keys: what the `local` ones seal, the other end's `remote` ones open, and the other way
+    /// round.
     pub keys: Keys<H, K>,
     /// Its random source.
     pub random: R,
@@ -85,8 +86,9 @@ fn end_for<H: HeaderKey + Drop, K: PacketKey + Drop, R: Rng + Drop>(
 }
 
 impl<H: HeaderKey + Drop, K: PacketKey + Drop, R: Rng + Drop> Ends<H, K, R> {
-    /// A client and a server that are made at this moment, each from the other's parameters and first id. They meet what
-    /// the promises on runs ask of the ends; where the keys of both are mates in both directions, of keys too.
+    /// A client and a server that are made at this moment, each from the other's parameters and
+    /// first id. They meet what the promises on runs ask of the ends; where the keys of both are
+    /// mates in both directions, of keys too.
     ///
     /// `IdLength`: an id hasn't eight bytes. `Memory`: memory lacks.
     pub fn new(

@@ -3,27 +3,25 @@ ghost use Rattle.std.specs.Prelude.{◌≡◌, ◌++◌, [], length, ◌≤◌, 
 ghost use Rattle.quic_wire_core.specs.StreamId.{other_side};
 ghost use Rattle.quic_machine.specs.End.{policy_of, with_end};
 ghost use Rattle.quic_machine.specs.Machine.{IsAnswer, IsLeft, fails, gives, given_by, IsStep, view_of, end_view, Follows};
-ghost use Rattle.quic_machine.specs.Calls.{AreNexts, after_nexts};
-ghost use Rattle.quic_machine.specs.Lacking.{NextsLack, LacksWhere, TakesOfItsOwn};
+ghost use Rattle.quic_machine.specs.Lacking.{LacksWhere, TakesOfItsOwn};
 ghost use Rattle.quic_time.specs.Timers.{each_timer};
 ghost use Rattle.quic_headline.specs.Causes.{NoBlame, TooManyPieces, NumberLimit, TakenOrTooMany};
-ghost use Rattle.quic_headline.specs.Headline.{OrderedPrefix, Slices, Once, EndAfterAll, BlockedOnlyWithoutBytes, AcceptsAll, FinishedMeansArrived, FinishedIsTold, AcknowledgedWereTaken, NamesWereTaken, OpensExactly, LossTimersFollow, AckTimersFollow, NumbersRise};
+ghost use Rattle.quic_headline.specs.Headline.{CodeIsSmall, AreCodes, OrderedPrefix, Slices, Once, EndAfterAll, BlockedOnlyWithoutBytes, AcceptsAll, FinishedMeansArrived, FinishedIsTold, AcknowledgedWereTaken, NamesWereTaken, OpensExactly, LossTimersFollow, AckTimersFollow, NumbersRise};
 ghost use Rattle.quic_headline.specs.Duties.{DutiesStand};
 ghost use Rattle.quic_headline.specs.InFlight.{TracksInFlight};
 ghost use Rattle.quic_headline.specs.Moments.{LossMoments, AckMoments};
 ghost use Rattle.quic_connection.specs.Ends.{world_of, first_world, world_left, policies_of, held_of, OnHonest, AtEachPlace};
 ghost use Rattle.quic_connection.specs.declared.running.Given.{Given};
 
-use quic_assembler::Chunk;
-use quic_connection_core::{Chunks, Connection};
+use crate::on_streams;
+use quic_connection_core::Connection;
 use quic_headline::headline;
 use quic_machine::{
-    Answer, Call, Datagram, Delivery, EndView, Injection, Instant, LostReason, Nexts, ReadCall,
-    RunEvent, Timer, View,
+    Answer, Call, Datagram, Delivery, EndView, Injection, Instant, LostReason, RunEvent, Timer,
+    View,
 };
 use quic_packet::crypto::{HeaderKey, PacketKey};
-use quic_streams::ReadError;
-use quic_wire_core::{Side, StreamId};
+use quic_wire_core::Side;
 use rand_core::Rng;
 use std::alloc::{AllocError, Global};
 
@@ -69,13 +67,15 @@ pub struct Outcome<H, K, R> {
     pub given: Given,
     /// The ends.
     pub ends: Ends<H, K, R>,
-    /// Whether memory lacked in the run itself: the next event then has no answer and no view, and no call was made.
+    /// Whether memory lacked in the run itself: the next event then has no answer and no view, and
+    /// no call was made.
     pub cut_short: bool,
 }
 
-/// Makes the call of one event, and appends a datagram that it gives. The call answers want of memory only where it takes
-/// some. An error is want of memory of its own, with no call made and nothing changed: it takes some at each poll, whether that gives a
-/// datagram or not, where it keeps the answers of a read, and where it copies what comes.
+/// Makes the call of one event, and appends a datagram that it gives. The call answers want of
+/// memory only where it takes some. An error is want of memory of its own, with no call made and
+/// nothing changed: it takes some at each poll, whether that gives a datagram or not, where it
+/// keeps the answers of a read, and where it copies what comes.
 pub fn step<H: HeaderKey + Drop, K: PacketKey + Drop, R: Rng + Drop>(
     alloc: Global,
     ends: &mut Ends<H, K, R>,
@@ -134,12 +134,27 @@ fn at_end<H: HeaderKey + Drop, K: PacketKey + Drop, R: Rng + Drop>(
     ensures err_given { OnErr result (mine.new.items ≡ mine.old.items) }
     ensures own { OnErr result (TakesOfItsOwn theirs.now call.now) }
 {
+    let is_open = end.is_open();
     match call {
-        Call::Open(dir) => Ok(Answer::Open(end.streams().open(*dir))),
-        Call::Accept(dir) => Ok(Answer::Accept(end.streams().accept(*dir))),
-        Call::Write(id, data) => Ok(write_at(end, *id, data.as_slice())),
-        Call::Finish(id) => Ok(Answer::Finish(end.send_stream(*id).finish())),
-        Call::Read(read) => read_at(alloc, end, read),
+        Call::Open(dir) => Ok(on_streams::open(end.streams_mut(), is_open, *dir)),
+        Call::Accept(dir) => Ok(on_streams::accept(end.streams_mut(), is_open, *dir)),
+        Call::Write(id, data) => {
+            Ok(on_streams::write(end.streams_mut(), is_open, *id, data.as_slice()))
+        }
+        Call::WriteChunks(id, chunks) => {
+            Ok(on_streams::write_chunks(end.streams_mut(), is_open, *id, chunks))
+        }
+        Call::Finish(id) => Ok(on_streams::finish(end.streams_mut(), is_open, *id)),
+        Call::Reset(id, code) => Ok(on_streams::reset(end.streams_mut(), is_open, *id, *code)),
+        Call::SetPriority(id, priority) => {
+            Ok(on_streams::set_priority(end.streams_mut(), is_open, *id, *priority))
+        }
+        Call::Read(read) => {
+            let items = Vec::with_capacity(alloc, read.nexts.len())?;
+            Ok(on_streams::read(end.streams_mut(), read, items))
+        }
+        Call::Stop(id, code) => Ok(on_streams::stop(end.streams_mut(), *id, *code)),
+        Call::ReceivedReset(id) => Ok(on_streams::received_reset(end.streams_mut(), *id)),
         Call::Ping => Ok(ping_at(end)),
         Call::Poll(now) => poll_at(alloc, end, mine, *now),
         Call::Timeout(now) => Ok(Answer::Timeout(end.handle_timeout(*now))),
@@ -149,26 +164,6 @@ fn at_end<H: HeaderKey + Drop, K: PacketKey + Drop, R: Rng + Drop>(
         Call::Timer(timer) => Ok(Answer::Timer(end.timer(*timer))),
         Call::NextTimeout => Ok(Answer::NextTimeout(end.poll_timeout())),
     }
-}
-
-/// Bytes are written.
-fn write_at<H: HeaderKey + Drop, K: PacketKey + Drop, R: Rng + Drop>(
-    end: &mut Connection<H, K, R>,
-    id: StreamId,
-    data: &[u8],
-) -> Answer
-    ensures answer { IsAnswer (policy_of H.protection K.aead end.old) end.old.end []
-        (Call.Write id data.now) result }
-    ensures lacking { LacksWhere (policy_of H.protection K.aead end.old) end.old.end []
-        (Call.Write id data.now) result }
-    ensures end { IsLeft (fails result) (policy_of H.protection K.aead end.old) end.old.end []
-        (Call.Write id data.now) result end.new.end }
-    ensures given { gives (policy_of H.protection K.aead end.old) end.old.end
-        (Call.Write id data.now) result
-        ≡ [] }
-    ensures keys { end.new ≡ with_end end.old end.new.end }
-{
-    Answer::Write(end.send_stream(id).write(data))
 }
 
 /// A PING is asked for.
@@ -272,57 +267,6 @@ fn inject_at<H: HeaderKey + Drop, K: PacketKey + Drop, R: Rng + Drop>(
     Ok(Answer::Inject(end.receive(injection.now, injection.ecn, &mut copy)))
 }
 
-/// A read of a stream: each `next`, then `finalize` or a drop.
-fn read_at<H: HeaderKey + Drop, K: PacketKey + Drop, R: Rng + Drop>(
-    alloc: Global,
-    end: &mut Connection<H, K, R>,
-    read: &ReadCall,
-) -> Result<Answer, AllocError>
-    ensures answer { IfOk result (λ a.
-        IsAnswer (policy_of H.protection K.aead end.old) end.old.end [] (Call.Read read.now) a) }
-    ensures lacking { IfOk result (λ a.
-        LacksWhere (policy_of H.protection K.aead end.old) end.old.end [] (Call.Read read.now) a) }
-    ensures end { IfOk result (λ a.
-        IsLeft (fails a) (policy_of H.protection K.aead end.old) end.old.end [] (Call.Read read.now)
-        a end.new.end) }
-    ensures keys { end.new ≡ with_end end.old end.new.end }
-    ensures err { OnErr result (end.new ≡ end.old) }
-{
-    let mut items = Vec::with_capacity(alloc, read.nexts.len())?;
-    match end.recv_stream(read.id).read(true) {
-        Err(error) => Ok(Answer::Read(Err(error))),
-        Ok(mut chunks) => {
-            read_each(&mut chunks, &read.nexts, &mut items);
-            if read.finalize {
-                let _ = chunks.finalize();
-            }
-            Ok(Answer::Read(Ok(Nexts::new(items))))
-        }
-    }
-}
-
-/// Each `next` of a read, into room that is there.
-fn read_each<H: HeaderKey + Drop, K: PacketKey + Drop, R: Rng + Drop>(
-    chunks: &mut Chunks<'_, H, K, R>,
-    nexts: &[usize],
-    items: &mut Vec<Result<Option<Chunk>, ReadError>>,
-)
-    requires empty { items.old.items ≡ [] }
-    requires room { length nexts.now ≤ vec_capacity items.old }
-    ensures same_reference { chunks.new.connection.ghost_name ≡ chunks.old.connection.ghost_name }
-    ensures answers { AreNexts chunks.old.connection.now.end chunks.old.id nexts.now
-        items.new.items }
-    ensures lacking { NextsLack chunks.old.connection.now.end chunks.old.id nexts.now
-        items.new.items }
-    ensures end { chunks.new.connection.now
-        ≡ with_end chunks.old.connection.now (
-        after_nexts chunks.old.connection.now.end chunks.old.id nexts.now items.new.items) }
-{
-    for max_length in nexts {
-        items.push_reserved(chunks.next(*max_length));
-    }
-}
-
 /// When each timer of an end expires, if it is set.
 fn timers<H: HeaderKey + Drop, K: PacketKey + Drop, R: Rng + Drop>(
     end: &Connection<H, K, R>,
@@ -368,21 +312,27 @@ fn view<H: HeaderKey + Drop, K: PacketKey + Drop, R: Rng + Drop>(ends: &Ends<H, 
     }
 }
 
-/// Makes each event's call in turn, once: one answer and one view for each, until memory lacks in the run itself.
+/// Makes each event's call in turn, once: one answer and one view for each, until memory lacks in
+/// the run itself.
 ///
-/// Where a client and a server were made for one another, with keys that are mates, and applications use their own
-/// streams (`IsHonest`), it holds at each place up to which no delivery and no poll met want of memory: what is read of
-/// a stream is a prefix of what was written on it, each chunk at its offset, no byte comes twice, the end comes only behind all,
-/// a read is blocked only where the next byte stood in no packet that was taken, each stream that stood in one is there to be
-/// accepted, a stream is told to be finished only where the other end took all of it, an acknowledgement that came names only
-/// what the other end took, and packet numbers rise. No end closes but for more than 2048 runs of a stream that wait to be read, or
-/// for used-up numbers, and each packet of the other end that comes is taken whole, but for such runs. No stream is told to be
-/// finished twice, and where an open end has nothing left to tell, each was that is wholly acknowledged, and no other; all that was
-/// written waits to go, is under way, or arrived; and an open end waits for exactly the datagrams that are in flight, shows its loss
-/// timer set to the moment that is due for them, and its timer of acknowledgements to one that is due for a packet that it took and
-/// hasn't acknowledged since. At each place, also where memory lacks, and with any keys, an open end has its loss timer set exactly
-/// where a datagram that asks is waited for, and its timer of acknowledgements only where a packet that asks came since the last
-/// acknowledgement went, if it began so.
+/// Where a client and a server were made for one another, with keys that are mates, and
+/// applications use their own streams (`IsHonest`), it holds at each place up to which no delivery
+/// and no poll met want of memory: what is read of a stream in order is a prefix of what was
+/// written on it, each chunk that is read stands at its offset in that, no byte comes twice, the
+/// end comes only behind all, a read is blocked only where no byte that it may give stood in a
+/// packet that was taken, each stream that a frame of such a packet opened is there to be accepted,
+/// a stream is told to be finished only where the other end took all of it, an acknowledgement that
+/// came names only what the other end took, and packet numbers rise. No end closes but for more
+/// than 2048 runs of a stream that wait to be read, or for used-up numbers, and each packet of the
+/// other end that comes is taken whole, but for such runs. No stream is told to be finished twice,
+/// and where an open end has nothing left to tell, each was that is wholly acknowledged and wasn't
+/// reset, and no other; all that was written waits to go, is under way, or arrived; and an open end
+/// waits for exactly the datagrams that are in flight, shows its loss timer set to the moment that
+/// is due for them, and its timer of acknowledgements to one that is due for a packet that it took
+/// and hasn't acknowledged since. At each place, also where memory lacks, and with any keys, an
+/// open end has its loss timer set exactly where a datagram that asks is waited for, and its timer
+/// of acknowledgements only where a packet that asks came since the last acknowledgement went, if
+/// it began so.
 pub fn run<H: HeaderKey + Drop, K: PacketKey + Drop, R: Rng + Drop>(
     alloc: Global,
     ends: Ends<H, K, R>,
@@ -444,7 +394,26 @@ pub fn run<H: HeaderKey + Drop, K: PacketKey + Drop, R: Rng + Drop>(
     headline::too_many_pieces();
     headline::number_limit();
     headline::taken_or_too_many();
+    show_codes(events);
     run_events(alloc, ends, events)
+}
+
+/// The codes of events are below 2^62: their type says so.
+fn show_codes(events: &[RunEvent])
+    ensures { AreCodes events.now }
+{
+    for one in events {
+        show_code(&one.call);
+    }
+}
+
+/// The same of one call.
+fn show_code(call: &Call)
+    ensures { CodeIsSmall call.now }
+{
+    if let Call::Reset(_, code) | Call::Stop(_, code) = call {
+        let _ = code.into_inner();
+    }
 }
 
 /// Makes each event's call in turn.

@@ -19,14 +19,16 @@ use std::alloc::{AllocError, Global};
 /// How many polls a talk has at most.
 const MOST_POLLS: u64 = 10_000;
 
-/// Lets two ends talk until both rest, from this moment on: each is polled until it gives nothing, the client first, and
-/// each datagram is delivered to the other one at once, without a mark, until a round of both gives no datagram. Where a
-/// timer of loss, of acknowledgements or of pacing is set then, the moment is the earliest of these, or stays if that came
-/// before, both ends handle it, and they go on.
+/// Lets two ends talk until both rest, from this moment on: each is polled until it gives nothing,
+/// the client first, and each datagram is delivered to the other one at once, without a mark, until
+/// a round of both gives no datagram. Where a timer of loss, of acknowledgements or of pacing is
+/// set then, the moment is the earliest of these, or stays if that came before, both ends handle
+/// it, and they go on.
 ///
-/// It answers the moment at which both rest: they are open, the last call at each was a poll that answered `None`, and none
-/// of these timers is set. Whether their paths are validated isn't asked. `None` says that it gave up: an end isn't open,
-/// or 10000 polls were made. All datagrams stand in `given`.
+/// It answers the moment at which both rest: they are open, the last call at each was a poll that
+/// answered `None`, and none of these timers is set. Whether their paths are validated isn't asked.
+/// `None` says that it gave up: an end isn't open, or 10000 polls were made. All datagrams stand in
+/// `given`.
 ///
 /// # Errors
 ///
@@ -61,7 +63,8 @@ pub fn settle<H: HeaderKey + Drop, K: PacketKey + Drop, R: Rng + Drop>(
     }
 }
 
-/// Rounds at a moment until one gives no datagram: whether both ends are open then. It is `false` too where no poll is left.
+/// Rounds at a moment until one gives no datagram: whether both ends are open then. It is `false`
+/// too where no poll is left.
 fn talk<H: HeaderKey + Drop, K: PacketKey + Drop, R: Rng + Drop>(
     alloc: Global,
     ends: &mut Ends<H, K, R>,
@@ -94,8 +97,8 @@ fn talk<H: HeaderKey + Drop, K: PacketKey + Drop, R: Rng + Drop>(
     }
 }
 
-/// Polls the client until it gives nothing, and then the server: whether one gave a datagram. It is `None` where an end
-/// isn't open before a poll, or no poll is left.
+/// Polls the client until it gives nothing, and then the server: whether one gave a datagram. It is
+/// `None` where an end isn't open before a poll, or no poll is left.
 fn round<H: HeaderKey + Drop, K: PacketKey + Drop, R: Rng + Drop>(
     alloc: Global,
     ends: &mut Ends<H, K, R>,
@@ -130,8 +133,8 @@ fn round<H: HeaderKey + Drop, K: PacketKey + Drop, R: Rng + Drop>(
     Ok(Some(client || server))
 }
 
-/// Polls an end until it gives nothing: whether it gave a datagram. It is `None` where an end isn't open before a poll, or
-/// no poll is left.
+/// Polls an end until it gives nothing: whether it gave a datagram. It is `None` where an end isn't
+/// open before a poll, or no poll is left.
 fn poll_all<H: HeaderKey + Drop, K: PacketKey + Drop, R: Rng + Drop>(
     alloc: Global,
     ends: &mut Ends<H, K, R>,

@@ -1,104 +1,77 @@
 -- How what asks for an acknowledgement goes behind the frames of a payload.
-use Rattle.std.proofs.Common.{◌≡◌, ℕ, ◌-◌, ◌≤◌, ◌++◌, ◌||◌, Bool, true, false, not, List, [], ◌∷◌, length, take, drop, Option, Some, None, refl, sym, ap, ◌∙◌, subst, arith}
-use Rattle.std.specs.Prelude.{IfSome, IsSome, ◌==◌}
-use Rattle.std.specs.Option.{option_map, option_to_list}
-use Rattle.std.proofs.lemmas.Bool.{ne_eqb}
-use Rattle.std.proofs.lemmas.List.{append_assoc, append-nil, length-drop, take-append-drop, take-append-le, drop-append-le}
-use Rattle.quic_wire.specs.Value.{FrameValue, StreamValue, ping, stream, asks}
-use Rattle.quic_wire.specs.Writing.{stream_spelling}
-use Rattle.quic_wire.proofs.FrameWritten.{stream_length}
-use Rattle.quic_send_buffer.specs.Buffered.{writes_length}
-use Rattle.quic_send_buffer.specs.declared.stream_meta.StreamMeta.{StreamMeta}
-use Rattle.quic_streams.specs.Frames.{polled_at, half_bytes, half_frame, meta_of, frame_of}
-use Rattle.quic_streams.specs.Table.{at}
-use Rattle.quic_streams.specs.Sending.{Sending, SendHalf}
-use Rattle.quic_machine.specs.Tracking.{streams_in}
-use Rattle.quic_machine.specs.End.{End, with_sending}
-use Rattle.quic_machine.specs.Poll.{Draft, frame_room, room_for, stream_room, next_behind, ping_if, with_ping_frame, stream_if, with_stream_frames, with_asking, asking}
-use Rattle.quic_machine.specs.DraftLaws.{streams_keep, behind, no_frame, first_frame, streams_behind}
-use Rattle.quic_connection_core.specs.Frames.{payload_at, stream_bytes, end_after_stream, stream_metas, ping_bytes, end_after_ping_if, pinged}
+use Rattle.std.proofs.Common.{◌≡◌, ℕ, ◌+◌, ◌-◌, Bool, true, false, List, ◌++◌, length, None, refl, sym, ap, inl, inr, ◌∙◌, arith}
+use Rattle.std.specs.Prelude.{map, nat_lt}
+use Rattle.std.proofs.lemmas.List.{append_assoc, append-nil, length-append}
+use Rattle.quic_wire.specs.Value.{FrameValue, stream}
+use Rattle.quic_wire.specs.Writing.{spelled_all}
+use Rattle.quic_retransmits.specs.Retransmits.{nothing_waits}
+use Rattle.quic_streams_state.specs.State.{streams_of}
+use Rattle.quic_streams_state.specs.Control as control
+use Rattle.quic_streams_state.specs.Frames as of_streams
+use Rattle.quic_machine.specs.Tracking.{Carried, acked_in, carried_in}
+use Rattle.quic_machine.specs.End.{End, with_streams}
+use Rattle.quic_machine.specs.Poll.{Draft, frame_room, ping_if, behind_control, with_control_frames, behind_stream, with_stream_frames, with_asking, asking}
+use Rattle.quic_connection_core.specs.Frames.{control_part, stream_part, AboutStreams, about_streams, about_streams_at, ping_list, ping_bytes, end_after_ping_if, pinged, asked}
+use Rattle.quic_connection_core.proofs.AboutStreams.{Marked, marked_both, marked_asks, about_marked, about_carried}
 
--- ---- one frame of a stream, and the rest
+-- what goes behind the frames of a draft
+abbrev pub behind : Draft → Draft → Draft
+behind d x = record { frames = d.frames ++ x.frames; bytes = d.bytes ++ x.bytes; end = x.end }
 
--- the frame of a half, if it is there
-abbrev half_list : Option SendHalf → ℕ → ℕ → List FrameValue
-half_list None id room = []
-half_list (Some h) id room = stream (frame_of id h room) ∷ []
+-- ---- frames about streams
 
-half_goes : (o : Option SendHalf) (id : ℕ) (e : End) (bytes : List ℕ) → stream_if o (payload_at e bytes) id
-    ≡ behind (half_list o id (room_for e (length bytes) id)) (payload_at (with_sending e (record e.sending { halves = polled_at o e.sending.halves id (room_for e (length bytes) id) })) (bytes ++ half_bytes o id (room_for e (length bytes) id)))
-half_goes None id e bytes = ap (λ (b : List ℕ). payload_at e b) (sym (append-nil bytes))
-half_goes (Some h) id e bytes = refl
+-- frames of control and STREAM frames behind a draft
+abbrev joined : Draft → control.Draft → of_streams.Sent → Draft
+joined d c t = record { frames = d.frames ++ (c.frames ++ map stream t.frames); bytes = d.bytes ++ (spelled_all c.frames ++ t.bytes); end = with_streams d.end (streams_of t.state c.pending) }
 
-next_goes : (id : ℕ) (e : End) (bytes : List ℕ) → next_behind e (length bytes) ≡ Some id
-    → with_stream_frames (payload_at e bytes) ≡ behind (half_list (at e.sending.halves id) id (room_for e (length bytes) id)) (with_stream_frames (payload_at (end_after_stream id e (length bytes)) (bytes ++ stream_bytes id e (length bytes))))
-next_goes id e bytes is =
-    first_frame (payload_at e bytes) id is
-    ∙ ap with_stream_frames (half_goes (at e.sending.halves id) id e bytes)
-    ∙ streams_behind (half_list (at e.sending.halves id) id (room_for e (length bytes) id)) (payload_at (end_after_stream id e (length bytes)) (bytes ++ stream_bytes id e (length bytes)))
+joined_is : (d : Draft) (c : control.Draft) (t : of_streams.Sent) → behind_stream (behind_control d c) t ≡ joined d c t
+joined_is d c t =
+    let fs : (d.frames ++ c.frames) ++ map stream t.frames ≡ d.frames ++ (c.frames ++ map stream t.frames) = append_assoc d.frames c.frames (map stream t.frames) in
+    let bs : (d.bytes ++ spelled_all c.frames) ++ t.bytes ≡ d.bytes ++ (spelled_all c.frames ++ t.bytes) = append_assoc d.bytes (spelled_all c.frames) t.bytes in
+    rw (fs, bs) refl
 
-half_metas : (o : Option SendHalf) (id room : ℕ) (fs : List FrameValue) → streams_in (half_list o id room ++ fs) ≡ option_to_list (option_map meta_of (half_frame o id room)) ++ streams_in fs
-half_metas None id room fs = refl
-half_metas (Some h) id room fs = refl
+streams_goes : (d : Draft) (c : control.Draft) → with_stream_frames (behind_control d c) ≡ joined d c (of_streams.stream_frames_in d.end.fair (frame_room d.end - (length d.bytes + length (spelled_all c.frames))) c.state)
+streams_goes d c =
+    ap (λ (k : ℕ). behind_stream (behind_control d c) (of_streams.stream_frames_in d.end.fair (frame_room d.end - k) c.state)) (length-append d.bytes (spelled_all c.frames))
+    ∙ joined_is d c (of_streams.stream_frames_in d.end.fair (frame_room d.end - (length d.bytes + length (spelled_all c.frames))) c.state)
 
--- what is written and what is noted, with what goes behind it, is what goes behind a payload
-pub record Goes (first : End) (before : List ℕ) (e : End) (bytes : List ℕ) (sent : List StreamMeta) : Type 0 where
-  pub bytes_are : (with_stream_frames (payload_at e bytes)).bytes ≡ (with_stream_frames (payload_at first before)).bytes
-  pub end_is : (with_stream_frames (payload_at e bytes)).end ≡ (with_stream_frames (payload_at first before)).end
-  pub sent_are : sent ++ streams_in (with_stream_frames (payload_at e bytes)).frames ≡ streams_in (with_stream_frames (payload_at first before)).frames
+-- behind the frames of a draft
+unfoldable about_behind : Draft → AboutStreams → Draft
+about_behind d a = record { frames = d.frames ++ a.frames; bytes = d.bytes ++ a.bytes; end = with_streams d.end a.streams }
 
-pub goes_first : (e : End) (bytes : List ℕ) (sent : List StreamMeta) → sent ≡ [] → Goes e bytes e bytes sent
-goes_first e bytes sent none = record { bytes_are = refl; end_is = refl; sent_are = ap (λ (ms : List StreamMeta). ms ++ streams_in (with_stream_frames (payload_at e bytes)).frames) none }
+about_goes : (d : Draft) → with_stream_frames (with_control_frames d) ≡ about_behind d (about_streams_at d.end (length d.bytes))
+unfolding about_behind about_streams stream_part control_part
+about_goes d = streams_goes d (control.control_frames (frame_room d.end) (length d.bytes) d.end.streams d.end.waiting.frames nothing_waits)
 
-pub goes_on : (first e : End) (before bytes : List ℕ) (sent : List StreamMeta) (id : ℕ) → next_behind e (length bytes) ≡ Some id → Goes first before e bytes sent
-    → Goes first before (end_after_stream id e (length bytes)) (bytes ++ stream_bytes id e (length bytes)) (sent ++ stream_metas id e (length bytes))
-goes_on first e before bytes sent id is g =
-    let next = next_goes id e bytes is in
-    let rest : Draft = with_stream_frames (payload_at (end_after_stream id e (length bytes)) (bytes ++ stream_bytes id e (length bytes))) in
-    record {
-      bytes_are = sym (ap (λ (d : Draft). d.bytes) next) ∙ g.bytes_are;
-      end_is = sym (ap (λ (d : Draft). d.end) next) ∙ g.end_is;
-      sent_are = append_assoc sent (stream_metas id e (length bytes)) (streams_in rest.frames)
-          ∙ ap (λ (ms : List StreamMeta). sent ++ ms) (sym (half_metas (at e.sending.halves id) id (room_for e (length bytes) id) rest.frames) ∙ sym (ap (λ (d : Draft). streams_in d.frames) next))
-          ∙ g.sent_are;
-    }
+-- ---- PING, and frames about streams behind it
 
--- where no more goes, that is all
-pub record Gone (first : End) (before : List ℕ) (e : End) (bytes : List ℕ) (sent : List StreamMeta) : Type 0 where
-  pub bytes_are : bytes ≡ (with_stream_frames (payload_at first before)).bytes
-  pub end_is : e ≡ (with_stream_frames (payload_at first before)).end
-  pub sent_are : sent ≡ streams_in (with_stream_frames (payload_at first before)).frames
+unfoldable pinged_draft : Bool → Draft → Draft
+pinged_draft b d = record { frames = d.frames ++ ping_list b; bytes = d.bytes ++ ping_bytes b; end = end_after_ping_if b d.end }
 
-pub goes_no_more : (first e : End) (before bytes : List ℕ) (sent : List StreamMeta) → next_behind e (length bytes) ≡ None → Goes first before e bytes sent → Gone first before e bytes sent
-goes_no_more first e before bytes sent none g =
-    let same = no_frame (payload_at e bytes) none in
-    record {
-      bytes_are = sym (ap (λ (d : Draft). d.bytes) same) ∙ g.bytes_are;
-      end_is = sym (ap (λ (d : Draft). d.end) same) ∙ g.end_is;
-      sent_are = sym (append-nil sent) ∙ sym (ap (λ (d : Draft). sent ++ streams_in d.frames) same) ∙ g.sent_are;
-    }
+ping_goes : (b : Bool) (d : Draft) → ping_if b d ≡ pinged_draft b d
+unfolding pinged_draft
+ping_goes true d = refl
+ping_goes false d = rw (append-nil d.frames, append-nil d.bytes) refl
 
--- frames of streams leave as much room in all
-pub streams_room : (e : End) (bytes : List ℕ) → frame_room (with_stream_frames (payload_at e bytes)).end ≡ frame_room e
-streams_room e bytes =
-    streams_keep (λ x. frame_room x.end ≡ frame_room e) (λ x id is same. half (at x.end.sending.halves id) x id ∙ same) (payload_at e bytes) refl
+-- what asks goes behind the frames of a draft
+pub asked_behind : (d : Draft) → with_asking d ≡ behind d (asked d.end (length d.bytes))
+unfolding asked about_behind pinged_draft
+asked_behind d =
+    let b : Bool = d.end.waiting.ping in
+    let long : length (d.bytes ++ ping_bytes b) ≡ length d.bytes + length (ping_bytes b) = length-append d.bytes (ping_bytes b) in
+    ap (λ (x : Draft). with_stream_frames (with_control_frames x)) (ping_goes b d)
+    ∙ about_goes (pinged_draft b d)
+    ∙ ap (λ (k : ℕ). about_behind (pinged_draft b d) (about_streams_at (end_after_ping_if b d.end) k)) long
+    ∙ together (about_streams_at (end_after_ping_if b d.end) (length d.bytes + length (ping_bytes b)))
   where
-    half : (o : Option SendHalf) (x : Draft) (id : ℕ) → frame_room (stream_if o x id).end ≡ frame_room x.end
-    half None x id = refl
-    half (Some h) x id = refl
+    together : (a : AboutStreams) → about_behind (pinged_draft d.end.waiting.ping d) a
+        ≡ behind d (record { frames = ping_list d.end.waiting.ping ++ a.frames; bytes = ping_bytes d.end.waiting.ping ++ a.bytes; end = with_streams (end_after_ping_if d.end.waiting.ping d.end) a.streams })
+    together a =
+        let fs = append_assoc d.frames (ping_list d.end.waiting.ping) a.frames in
+        let bs = append_assoc d.bytes (ping_bytes d.end.waiting.ping) a.bytes in
+        rw (fs, bs) refl
 
--- ---- PING, and frames of streams behind it
-
-abbrev ping_list : Bool → List FrameValue
-ping_list true = ping ∷ []
-ping_list false = []
-
-ping_goes : (b : Bool) (e : End) (bytes : List ℕ) → ping_if b (payload_at e bytes) ≡ behind (ping_list b) (payload_at (end_after_ping_if b e) (bytes ++ ping_bytes b))
-ping_goes true e bytes = refl
-ping_goes false e bytes = ap (λ (b : List ℕ). payload_at e b) (sym (append-nil bytes))
-
-pub asking_goes : (e : End) (bytes : List ℕ) → with_asking (payload_at e bytes) ≡ behind (ping_list e.waiting.ping) (with_stream_frames (payload_at (pinged e) (bytes ++ ping_bytes e.waiting.ping)))
-asking_goes e bytes = ap with_stream_frames (ping_goes e.waiting.ping e bytes) ∙ streams_behind (ping_list e.waiting.ping) (payload_at (pinged e) (bytes ++ ping_bytes e.waiting.ping))
+-- ---- what it says
 
 -- PING leaves as much room in all
 pub pinged_room : (e : End) → frame_room (pinged e) ≡ frame_room e
@@ -109,125 +82,58 @@ pinged_room e = go e.waiting.ping
     go false = refl
 
 -- so does what asks
-pub asking_room : (e : End) (bytes : List ℕ) → frame_room (with_asking (payload_at e bytes)).end ≡ frame_room e
-asking_room e bytes = ap (λ (d : Draft). frame_room d.end) (asking_goes e bytes) ∙ streams_room (pinged e) (bytes ++ ping_bytes e.waiting.ping) ∙ pinged_room e
+pub asked_room : (e : End) (used : ℕ) → frame_room (asked e used).end ≡ frame_room e
+unfolding asked
+asked_room e used = pinged_room e
 
--- what goes behind other frames is what it is
-ping_behind : (b : Bool) (fs : List FrameValue) (d : Draft) → ping_if b (behind fs d) ≡ behind fs (ping_if b d)
-ping_behind true fs d = ap (λ (gs : List FrameValue). record (ping_if true d) { frames = gs }) (append_assoc fs d.frames (ping ∷ []))
-ping_behind false fs d = refl
+ping_marked : (b : Bool) → Marked (ping_list b) (ping_bytes b)
+ping_marked true = inl (refl, omega arith)
+ping_marked false = inr (refl, refl)
 
-pub asking_behind : (fs : List FrameValue) (d : Draft) → with_asking (behind fs d) ≡ behind fs (with_asking d)
-asking_behind fs d = ap with_stream_frames (ping_behind d.end.waiting.ping fs d) ∙ streams_behind fs (with_ping_frame d)
+pub asked_marked : (e : End) (used : ℕ) → Marked (asked e used).frames (asked e used).bytes
+unfolding asked
+asked_marked e used =
+    let a : AboutStreams = about_streams_at (pinged e) (used + length (ping_bytes e.waiting.ping)) in
+    marked_both (ping_list e.waiting.ping) a.frames (ping_bytes e.waiting.ping) a.bytes (ping_marked e.waiting.ping)
+    (about_marked (pinged e).fair (frame_room (pinged e)) (used + length (ping_bytes e.waiting.ping)) (pinged e).streams (pinged e).waiting.frames)
 
--- ---- what it says
+-- PING carries nothing
+ping_carried : (b : Bool) (fs : List FrameValue) → carried_in (ping_list b ++ fs) ≡ carried_in fs
+ping_carried true fs = refl
+ping_carried false fs = refl
 
--- whether there is a frame of a stream
-abbrev pub has_metas : List StreamMeta → Bool
-has_metas [] = false
-has_metas (m ∷ ms) = true
+pub asked_carried : (e : End) (used : ℕ) → carried_in (asked e used).frames ≡ carried_in (about_streams_at (pinged e) (used + length (ping_bytes e.waiting.ping))).frames
+unfolding asked
+asked_carried e used = ping_carried e.waiting.ping (about_streams_at (pinged e) (used + length (ping_bytes e.waiting.ping))).frames
 
-or_true : (b : Bool) → (b || true) ≡ true
-or_true true = refl
-or_true false = refl
+-- what asks names no number
+pub asked_names_none : (e : End) (used : ℕ) → acked_in (asked e used).frames ≡ None
+asked_names_none e used =
+    ap (λ (c : Carried). c.largest_acked) (asked_carried e used ∙ about_carried (pinged e).fair (frame_room (pinged e)) (used + length (ping_bytes e.waiting.ping)) (pinged e).streams (pinged e).waiting.frames)
 
-one_asks : (fs : List FrameValue) (f : StreamValue) → asking (fs ++ stream f ∷ []) ≡ true
-one_asks [] f = refl
-one_asks (g ∷ fs) f = ap (λ (b : Bool). asks g || b) (one_asks fs f) ∙ or_true (asks g)
+-- ---- PING went, and frames about streams go behind it
 
-one_has : (fs : List FrameValue) (f : StreamValue) → has_metas (streams_in (fs ++ stream f ∷ [])) ≡ true
-one_has [] f = refl
-one_has (stream x ∷ fs) f = refl
-one_has (g ∷ fs) f = one_has fs f
+module _ (e x : End) (used behind_ping : ℕ) (left : x ≡ pinged e) (grown : behind_ping ≡ used + length (ping_bytes e.waiting.ping)) where
+  about_same : about_streams_at x behind_ping ≡ about_streams_at (pinged e) (used + length (ping_bytes e.waiting.ping))
+  about_same = ap (λ (y : End). about_streams_at y behind_ping) left ∙ ap (λ (k : ℕ). about_streams_at (pinged e) k) grown
 
--- frames of streams alone ask where there is one
-streams_ask : (e : End) (bytes : List ℕ) → asking (with_stream_frames (payload_at e bytes)).frames ≡ has_metas (streams_in (with_stream_frames (payload_at e bytes)).frames)
-streams_ask e bytes = streams_keep (λ x. asking x.frames ≡ has_metas (streams_in x.frames)) (λ x id is same. half (at x.end.sending.halves id) x id same) (payload_at e bytes) refl
-  where
-    half : (o : Option SendHalf) (x : Draft) (id : ℕ) → asking x.frames ≡ has_metas (streams_in x.frames) → asking (stream_if o x id).frames ≡ has_metas (streams_in (stream_if o x id).frames)
-    half None x id same = same
-    half (Some h) x id same = one_asks x.frames (frame_of id h (stream_room x id)) ∙ sym (one_has x.frames (frame_of id h (stream_room x id)))
+  pub asked_written : (old mid new : List ℕ) → mid ≡ old ++ ping_bytes e.waiting.ping → new ≡ mid ++ (about_streams_at x behind_ping).bytes → new ≡ old ++ (asked e used).bytes
+  unfolding asked
+  asked_written old mid new first second =
+      let a : AboutStreams = about_streams_at (pinged e) (used + length (ping_bytes e.waiting.ping)) in
+      second ∙ ap (λ (b : AboutStreams). mid ++ b.bytes) about_same ∙ ap (λ (z : List ℕ). z ++ a.bytes) first ∙ append_assoc old (ping_bytes e.waiting.ping) a.bytes
 
-ping_asks : (b : Bool) (fs : List FrameValue) → asking fs ≡ has_metas (streams_in fs) → asking (ping_list b ++ fs) ≡ (b || has_metas (streams_in fs))
-ping_asks true fs same = refl
-ping_asks false fs same = same
+  pub asked_left : with_streams x (about_streams_at x behind_ping).streams ≡ (asked e used).end
+  unfolding asked
+  asked_left =
+      let a : AboutStreams = about_streams_at (pinged e) (used + length (ping_bytes e.waiting.ping)) in
+      ap (λ (b : AboutStreams). with_streams x b.streams) about_same ∙ ap (λ (y : End). with_streams y a.streams) left
 
-ping_metas : (b : Bool) (fs : List FrameValue) → streams_in (ping_list b ++ fs) ≡ streams_in fs
-ping_metas true fs = refl
-ping_metas false fs = refl
+  pub asked_kept : (carried : Carried) → carried ≡ carried_in (about_streams_at x behind_ping).frames → carried ≡ carried_in (asked e used).frames
+  asked_kept carried is = is ∙ ap (λ (b : AboutStreams). carried_in b.frames) about_same ∙ sym (asked_carried e used)
 
--- what asks asks where PING waits or a stream has a frame, and carries what the frames of streams do
-pub asking_says : (e : End) (bytes : List ℕ) → (asking (with_asking (payload_at e bytes)).frames ≡ (e.waiting.ping || has_metas (streams_in (with_stream_frames (payload_at (pinged e) (bytes ++ ping_bytes e.waiting.ping))).frames)))
-    × (streams_in (with_asking (payload_at e bytes)).frames ≡ streams_in (with_stream_frames (payload_at (pinged e) (bytes ++ ping_bytes e.waiting.ping))).frames)
-asking_says e bytes =
-    let goes = asking_goes e bytes in
-    let rest : Draft = with_stream_frames (payload_at (pinged e) (bytes ++ ping_bytes e.waiting.ping)) in (
-      ap (λ (d : Draft). asking d.frames) goes ∙ ping_asks e.waiting.ping rest.frames (streams_ask (pinged e) (bytes ++ ping_bytes e.waiting.ping)),
-      ap (λ (d : Draft). streams_in d.frames) goes ∙ ping_metas e.waiting.ping rest.frames,
-    )
-
--- ---- the frame that is written
-
--- the room that is given to it is what it has
-pub frame_put : (e : End) (s : Sending) (id most used : ℕ) (old new : List ℕ) → s ≡ e.sending → IsSome (at e.sending.halves id) → most ≡ room_for e used id
-    → IfSome (at s.halves id) (λ h. new ≡ old ++ stream_spelling (writes_length h.buffer most) (frame_of id h most)) → new ≡ old ++ stream_bytes id e used
-frame_put e s id most used old new is half room put = go (at e.sending.halves id) half (subst (λ (x : Sending). IfSome (at x.halves id) (λ h. new ≡ old ++ stream_spelling (writes_length h.buffer most) (frame_of id h most))) is put)
-  where
-    go : (o : Option SendHalf) → IsSome o → IfSome o (λ h. new ≡ old ++ stream_spelling (writes_length h.buffer most) (frame_of id h most)) → new ≡ old ++ half_bytes o id (room_for e used id)
-    go None half put = cc
-    go (Some h) half put = put ∙ ap (λ (k : ℕ). old ++ stream_spelling (writes_length h.buffer k) (frame_of id h k)) room
-
--- it has a byte at least
-pub frame_some : (e : End) (id used : ℕ) → IsSome (at e.sending.halves id) → 1 ≤ length (stream_bytes id e used)
-frame_some e id used half = go (at e.sending.halves id) half
-  where
-    go : (o : Option SendHalf) → IsSome o → 1 ≤ length (half_bytes o id (room_for e used id))
-    go None half = cc
-    go (Some h) half = let some = stream_length (writes_length h.buffer (room_for e used id)) (frame_of id h (room_for e used id)) in omega arith
-
--- ---- behind what stands in a buffer
-
-pub goes_step : (first e x : End) (before old new : List ℕ) (sent more : List StreamMeta) (body id used : ℕ) → body ≤ length old → used ≡ length old - body → next_behind e used ≡ Some id → Goes first before e (drop body old) sent
-    → new ≡ old ++ stream_bytes id e used → x ≡ end_after_stream id e used → more ≡ sent ++ stream_metas id e used → Goes first before x (drop body new) more
-goes_step first e x before old new sent more body id used below n is g written left noted =
-    let count : used ≡ length (drop body old) = n ∙ sym (length-drop body old) in
-    let next : next_behind e (length (drop body old)) ≡ Some id = sym (ap (λ (k : ℕ). next_behind e k) count) ∙ is in
-    let on = goes_on first e before (drop body old) sent id next g in
-    let bytes : drop body new ≡ drop body old ++ stream_bytes id e (length (drop body old)) =
-    ap (λ (z : List ℕ). drop body z) written ∙ drop-append-le body old (stream_bytes id e used) below ∙ ap (λ (k : ℕ). drop body old ++ stream_bytes id e k) count in
-    let end : x ≡ end_after_stream id e (length (drop body old)) = left ∙ ap (λ (k : ℕ). end_after_stream id e k) count in
-    let metas : more ≡ sent ++ stream_metas id e (length (drop body old)) = noted ∙ ap (λ (k : ℕ). sent ++ stream_metas id e k) count in
-    rw (bytes, end, metas) on
-
-pub gone_step : (first e : End) (before old : List ℕ) (sent : List StreamMeta) (body used : ℕ) → used ≡ length old - body → next_behind e used ≡ None → Goes first before e (drop body old) sent → Gone first before e (drop body old) sent
-gone_step first e before old sent body used n none g =
-    let count : used ≡ length (drop body old) = n ∙ sym (length-drop body old) in
-    goes_no_more first e before (drop body old) sent (sym (ap (λ (k : ℕ). next_behind e k) count) ∙ none) g
-
--- what stands there is what stood before a payload, and the payload
-pub whole : (body : ℕ) (old new bytes : List ℕ) → take body new ≡ take body old → drop body new ≡ bytes → new ≡ take body old ++ bytes
-whole body old new bytes front rest = sym (take-append-drop body new) ∙ ap (λ (z : List ℕ). z ++ drop body new) front ∙ ap (λ (z : List ℕ). take body old ++ z) rest
-
--- ---- PING went
-
--- what stands behind it is what stood there and PING
-pub pinged_front : (e : End) (body : ℕ) (old mid : List ℕ) → body ≤ length old → mid ≡ old ++ ping_bytes e.waiting.ping → take body mid ≡ take body old
-pinged_front e body old mid below put = ap (λ (z : List ℕ). take body z) put ∙ take-append-le body old (ping_bytes e.waiting.ping) below
-
-pub pinged_payload : (e x : End) (body : ℕ) (old mid : List ℕ) → body ≤ length old → mid ≡ old ++ ping_bytes e.waiting.ping → x ≡ pinged e → payload_at x (drop body mid) ≡ payload_at (pinged e) (drop body old ++ ping_bytes e.waiting.ping)
-pinged_payload e x body old mid below put left =
-    ap (λ (y : End). payload_at y (drop body mid)) left ∙ ap (λ (z : List ℕ). payload_at (pinged e) z) (ap (λ (z : List ℕ). drop body z) put ∙ drop-append-le body old (ping_bytes e.waiting.ping) below)
-
--- ---- what is noted
-
--- what is told of a frame is what it carries
-pub metas_put : (e : End) (s : Sending) (id most used : ℕ) (told : Option StreamMeta) → s ≡ e.sending → most ≡ room_for e used id → told ≡ option_map meta_of (half_frame (at s.halves id) id most) → option_to_list told ≡ stream_metas id e used
-metas_put e s id most used told is room put =
-    ap option_to_list put
-    ∙ ap (λ (x : Sending). option_to_list (option_map meta_of (half_frame (at x.halves id) id most))) is
-    ∙ ap (λ (k : ℕ). option_to_list (option_map meta_of (half_frame (at e.sending.halves id) id k))) room
-
--- there are some where they aren't none
-pub has_some : (ms : List StreamMeta) → not (length ms == 0) ≡ has_metas ms
-has_some [] = refl
-has_some (m ∷ ms) = ap not (ne_eqb (length (m ∷ ms)) 0 (λ e. omega arith))
+-- something asks where something is written
+pub asked_asks : (e : End) (used before after : ℕ) (old new : List ℕ) → before ≡ length old → after ≡ length new → new ≡ old ++ (asked e used).bytes → nat_lt before after ≡ asking (asked e used).frames
+asked_asks e used before after old new b a put =
+    let long : length new ≡ length old + length (asked e used).bytes = ap length put ∙ length-append old (asked e used).bytes in
+    marked_asks (asked e used).frames (asked e used).bytes before after (asked_marked e used) (omega (arith, a, b, long))

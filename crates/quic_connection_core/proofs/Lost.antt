@@ -3,23 +3,26 @@ use Rattle.std.proofs.Common.{◌≡◌, ◌≤◌, ℕ, suc, Bool, true, false,
 use Rattle.std.proofs.lemmas.List.{reverse-reverse}
 use Rattle.quic_wire.specs.Value.{AckValue}
 use Rattle.quic_send_buffer.specs.declared.stream_meta.StreamMeta.{StreamMeta}
-use Rattle.quic_streams.specs.Table.{Table}
-use Rattle.quic_machine.specs.Tracking.{TrackedPacket, Tracking, names, acked_by, not_acked_by, lost_below, kept_above, after_answered}
+use Rattle.quic_streams_parts.specs.Table.{Table}
+use Rattle.quic_machine.specs.Tracking.{TrackedPacket, Carried, Tracking, names, acked_by, not_acked_by, lost_below, kept_above, after_answered}
 use Rattle.quic_machine.specs.Numbers.{Numbers, cut_against}
 use Rattle.quic_machine.specs.End.{End, with_tracking}
-use Rattle.quic_machine.specs.Acked.{without_known, streams_acked, stream_acked, packet_acked, packets_acked, stream_lost, streams_lost, packets_lost, after_named, after_acked}
+use Rattle.quic_machine.specs.Acked.{without_known, reset_acked, resets_acked, streams_acked, stream_acked, packet_acked, packets_acked, stream_lost, streams_lost, again, carried_lost, packets_lost, after_named, after_acked}
 use Rattle.quic_connection_core.specs.Tracked.{packets_in, PopsLost, all_acked, with_tracked}
 use Rattle.quic_connection_core.proofs.Tracked.{lost_first, kept_stay}
 
 -- ---- what is lost looks at nothing that is tracked
 
-pub streams_lost_beside : (ms : List StreamMeta) (e : End) (t : Tracking) → streams_lost ms (with_tracked e t) ≡ with_tracked (streams_lost ms e) t
+streams_lost_beside : (ms : List StreamMeta) (e : End) (t : Tracking) → streams_lost ms (with_tracked e t) ≡ with_tracked (streams_lost ms e) t
 streams_lost_beside [] e t = refl
 streams_lost_beside (m ∷ ms) e t = streams_lost_beside ms (stream_lost m e) t
 
+carried_lost_beside : (c : Carried) (e : End) (t : Tracking) → carried_lost c (with_tracked e t) ≡ with_tracked (carried_lost c e) t
+carried_lost_beside c e t = ap (again c) (streams_lost_beside c.stream_frames e t)
+
 pub packets_lost_beside : (ps : Table TrackedPacket) (e : End) (t : Tracking) → packets_lost ps (with_tracked e t) ≡ with_tracked (packets_lost ps e) t
 packets_lost_beside [] e t = refl
-packets_lost_beside (p ∷ ps) e t = ap (packets_lost ps) (streams_lost_beside p.1.carried.stream_frames e t) ∙ packets_lost_beside ps (streams_lost p.1.carried.stream_frames e) t
+packets_lost_beside (p ∷ ps) e t = ap (packets_lost ps) (carried_lost_beside p.1.carried e t) ∙ packets_lost_beside ps (carried_lost p.1.carried e) t
 
 -- ---- nor does what is acknowledged
 
@@ -27,12 +30,21 @@ known_beside : (o : Option ℕ) (e : End) (t : Tracking) → without_known o (wi
 known_beside None e t = refl
 known_beside (Some n) e t = refl
 
+resets_acked_beside : (rs : List (ℕ × ℕ)) (e : End) (t : Tracking) → resets_acked rs (with_tracked e t) ≡ with_tracked (resets_acked rs e) t
+resets_acked_beside [] e t = refl
+resets_acked_beside (r ∷ rs) e t = resets_acked_beside rs (reset_acked r.0 e) t
+
 streams_acked_beside : (ms : List StreamMeta) (e : End) (t : Tracking) → streams_acked ms (with_tracked e t) ≡ with_tracked (streams_acked ms e) t
 streams_acked_beside [] e t = refl
 streams_acked_beside (m ∷ ms) e t = streams_acked_beside ms (stream_acked m e) t
 
 packet_acked_beside : (p : TrackedPacket) (e : End) (t : Tracking) → packet_acked p (with_tracked e t) ≡ with_tracked (packet_acked p e) t
-packet_acked_beside p e t = ap (streams_acked p.carried.stream_frames) (known_beside p.carried.largest_acked e t) ∙ streams_acked_beside p.carried.stream_frames (without_known p.carried.largest_acked e) t
+packet_acked_beside p e t =
+    let resets : List (ℕ × ℕ) = p.carried.retransmits.reset_stream in
+    let known : End = without_known p.carried.largest_acked e in
+    ap (λ (x : End). streams_acked p.carried.stream_frames (resets_acked resets x)) (known_beside p.carried.largest_acked e t)
+    ∙ ap (streams_acked p.carried.stream_frames) (resets_acked_beside resets known t)
+    ∙ streams_acked_beside p.carried.stream_frames (resets_acked resets known) t
 
 pub packets_acked_beside : (ps : Table TrackedPacket) (e : End) (t : Tracking) → packets_acked ps (with_tracked e t) ≡ with_tracked (packets_acked ps e) t
 packets_acked_beside [] e t = refl
@@ -52,21 +64,21 @@ left_as greatest packet old new pops =
     ∙ ap (λ (ps : Table TrackedPacket). record old { packets = ps }) (sym (kept_stay greatest packet old new pops))
 
 -- an end that loses its first packet and then the others loses all of them
-pub lost_step : (greatest : ℕ) (packet : TrackedPacket) (e f : End) (new : Tracking) → PopsLost greatest packet e.tracking new → f ≡ streams_lost packet.carried.stream_frames (with_tracked e new)
+pub lost_step : (greatest : ℕ) (packet : TrackedPacket) (e f : End) (new : Tracking) → PopsLost greatest packet e.tracking new → f ≡ carried_lost packet.carried (with_tracked e new)
     → with_tracked (packets_lost (lost_below greatest f.tracking.packets) f) (record f.tracking { packets = kept_above greatest f.tracking.packets })
     ≡ with_tracked (packets_lost (lost_below greatest e.tracking.packets) e) (record e.tracking { packets = kept_above greatest e.tracking.packets })
 lost_step greatest packet e f new pops is =
-    let behind : End = streams_lost packet.carried.stream_frames e in
-    let moved : f ≡ with_tracked behind new = is ∙ streams_lost_beside packet.carried.stream_frames e new in
+    let behind : End = carried_lost packet.carried e in
+    let moved : f ≡ with_tracked behind new = is ∙ carried_lost_beside packet.carried e new in
     ap (λ (x : End). with_tracked (packets_lost (lost_below greatest x.tracking.packets) x) (record x.tracking { packets = kept_above greatest x.tracking.packets })) moved
     ∙ ap (λ (x : End). with_tracked x (record new { packets = kept_above greatest new.packets })) (packets_lost_beside (lost_below greatest new.packets) behind new)
     ∙ ap (λ (t : Tracking). with_tracked (packets_lost (lost_below greatest new.packets) behind) t) (left_as greatest packet e.tracking new pops)
     ∙ ap (λ (ps : Table TrackedPacket). with_tracked (packets_lost ps e) (record e.tracking { packets = kept_above greatest e.tracking.packets })) (sym (lost_first greatest packet e.tracking new pops))
 
 -- a packet that was taken out is gone, whatever its streams send again
-pub lost_smaller : (greatest : ℕ) (packet : TrackedPacket) (e f : End) (new : Tracking) → PopsLost greatest packet e.tracking new → f ≡ streams_lost packet.carried.stream_frames (with_tracked e new) → suc (length f.tracking.packets) ≤ length e.tracking.packets
+pub lost_smaller : (greatest : ℕ) (packet : TrackedPacket) (e f : End) (new : Tracking) → PopsLost greatest packet e.tracking new → f ≡ carried_lost packet.carried (with_tracked e new) → suc (length f.tracking.packets) ≤ length e.tracking.packets
 lost_smaller greatest packet e f new pops is =
-    let left : length f.tracking.packets ≡ length new.packets = ap (λ (x : End). length x.tracking.packets) (is ∙ streams_lost_beside packet.carried.stream_frames e new) in
+    let left : length f.tracking.packets ≡ length new.packets = ap (λ (x : End). length x.tracking.packets) (is ∙ carried_lost_beside packet.carried e new) in
     let first : length e.tracking.packets ≡ suc (length new.packets) = ap length pops.first in
     omega (arith, left, first)
 
@@ -74,11 +86,21 @@ lost_smaller greatest packet e f new pops is =
 
 packets_acked_numbers : (ps : Table TrackedPacket) (e : End) → (packets_acked ps e).numbers ≡ e.numbers
 packets_acked_numbers [] e = refl
-packets_acked_numbers (p ∷ ps) e = packets_acked_numbers ps (packet_acked p.1 e) ∙ streams_acked_numbers p.1.carried.stream_frames (without_known p.1.carried.largest_acked e) ∙ known_numbers p.1.carried.largest_acked e
+packets_acked_numbers (p ∷ ps) e =
+    let resets : List (ℕ × ℕ) = p.1.carried.retransmits.reset_stream in
+    let known : End = without_known p.1.carried.largest_acked e in
+    packets_acked_numbers ps (packet_acked p.1 e)
+    ∙ streams_acked_numbers p.1.carried.stream_frames (resets_acked resets known)
+    ∙ resets_acked_numbers resets known
+    ∙ known_numbers p.1.carried.largest_acked e
   where
     known_numbers : (o : Option ℕ) (e : End) → (without_known o e).numbers ≡ e.numbers
     known_numbers None e = refl
     known_numbers (Some n) e = refl
+
+    resets_acked_numbers : (rs : List (ℕ × ℕ)) (e : End) → (resets_acked rs e).numbers ≡ e.numbers
+    resets_acked_numbers [] e = refl
+    resets_acked_numbers (r ∷ rs) e = resets_acked_numbers rs (reset_acked r.0 e)
 
     streams_acked_numbers : (ms : List StreamMeta) (e : End) → (streams_acked ms e).numbers ≡ e.numbers
     streams_acked_numbers [] e = refl

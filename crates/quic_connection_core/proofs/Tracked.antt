@@ -12,7 +12,7 @@ use Rattle.std.proofs.lemmas.List.{append_assoc, map-append, reverse-append}
 use Rattle.std.proofs.lemmas.List.Elements.{filter_agree}
 use Rattle.std.proofs.lemmas.Map.Keys.{sorted_head, sorted_tail}
 use Rattle.quic_wire.specs.AckGrammar.{Below}
-use Rattle.quic_streams.specs.Table.{Table, at, without}
+use Rattle.quic_streams_parts.specs.Table.{Table, at, without}
 use Rattle.quic_machine.specs.Tracking.{TrackedPacket, Tracking, is_below, lost_below, kept_above}
 use Rattle.quic_connection_core.specs.Tracked.{Ascends, packets_in, is_within, within, outside, is_among, among, apart_from, Descends, PopsLost}
 

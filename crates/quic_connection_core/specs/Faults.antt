@@ -1,7 +1,13 @@
 -- What was wrong with a packet, where memory may lack.
-use Rattle.std.specs.Prelude.{◌≡◌, ℕ, Bool, Option, Some, None, IfSome, Result, Ok, Err}
-use Rattle.quic_machine.specs.End.{End}
-use Rattle.quic_machine.specs.Receive.{Fault, broke, too_many_pieces, Progress, after_taken}
+use Rattle.std.specs.Prelude.{◌≡◌, ◌<◌, ◌^◌, ℕ, Bool, List, [], ◌∷◌, Option, Some, None, IfSome, Result, Ok, Err}
+use Rattle.quic_wire.specs.Value.{FrameValue, ack, max_stream_data}
+use Rattle.quic_wire.specs.declared.frame.InvalidFrame.{InvalidFrame}
+use Rattle.quic_streams_parts.specs.declared.answers.ReceivedError.{ReceivedError}
+use Rattle.quic_streams_parts.specs.declared.answers.ReceivedError.TheVariants as errors
+use Rattle.quic_streams_handles.specs.declared.end_streams.EndStreams.{EndStreams}
+use Rattle.quic_streams_state.specs.State.{streams_of}
+use Rattle.quic_machine.specs.End.{End, with_streams}
+use Rattle.quic_machine.specs.Receive.{Fault, broke, too_many_pieces, fault_of_breach, Progress, take_frame, after_taken}
 use Rattle.quic_connection_core.specs.declared.connection.receiving.Trouble.{Trouble}
 use Rattle.quic_connection_core.specs.declared.connection.receiving.Trouble.TheVariants as troubles
 
@@ -25,3 +31,38 @@ TakesAllAs (Err trouble) p asking e = IfSome (fault_view trouble) (λ fault. p �
 abbrev pub TakesPacketAs : Result (Unit {0}) Trouble → Progress → Bool → ℕ → End → Type 0
 TakesPacketAs (Ok x) p asking n e = (p.fault ≡ None) × (e ≡ after_taken n asking p.end)
 TakesPacketAs (Err trouble) p asking n e = IfSome (fault_view trouble) (λ fault. p ≡ record { end = e; fault = Some fault })
+
+-- ---- frames for streams
+
+-- what an error of streams comes to
+abbrev pub Becomes : ReceivedError → Trouble → Type 0
+Becomes (errors.Breach b) trouble = fault_view trouble ≡ Some (fault_of_breach b)
+Becomes errors.Memory trouble = trouble ≡ troubles.Memory
+
+-- the end whose streams are these
+abbrev pub holding : EndStreams → End → End
+holding s e = with_streams e (streams_of s.state s.pending)
+
+-- a frame is taken as the machine takes it, whatever else the end is that has these streams, and leaves those
+abbrev pub TakesOn : Result (Unit {0}) Trouble → FrameValue → EndStreams → EndStreams → Type 0
+TakesOn result f old new = (e : End) → TakesAs result (take_frame f (holding old e)) (holding new e)
+
+-- a frame that isn't an ACK frame
+abbrev pub IsOther : FrameValue → Type 0
+IsOther (ack a) = ⊥
+IsOther f = Unit {0}
+
+-- the limit on a stream that a frame tells, if it tells one, has a form as a variable-length integer (RFC 9000, section 16)
+abbrev pub HasForm : FrameValue → Type 0
+HasForm (max_stream_data f) = f.limit < 2 ^ 62
+HasForm f = Unit {0}
+
+-- so it is of what was read of a payload
+abbrev pub ItemHasForm : Result FrameValue InvalidFrame → Type 0
+ItemHasForm (Ok f) = HasForm f
+ItemHasForm (Err x) = Unit {0}
+
+-- and of all of it
+abbrev pub AllHaveForm : List (Result FrameValue InvalidFrame) → Type 0
+AllHaveForm [] = Unit {0}
+AllHaveForm (i ∷ is) = ItemHasForm i × AllHaveForm is

@@ -1,35 +1,54 @@
 -- What the frames that are sent say, and which bytes stand behind so many others.
-use Rattle.std.specs.Prelude.{ℕ, ◌+◌, Bool, true, false, ◌&&◌, nat_le, List, [], Option, Some, None}
-use Rattle.std.specs.Option.{option_map, option_to_list}
-use Rattle.quic_wire.specs.Value.{AckValue, ack, ping}
+use Rattle.std.specs.Prelude.{ℕ, ◌+◌, ◌-◌, Bool, true, false, ◌&&◌, nat_le, List, [], ◌∷◌, ◌++◌, map, length, Option, Some, None}
+use Rattle.quic_wire.specs.Value.{FrameValue, AckValue, ack, ping, stream}
 use Rattle.quic_wire.specs.AckSet.{ack_of_set}
-use Rattle.quic_wire.specs.Writing.{spelling, frame_size}
+use Rattle.quic_wire.specs.Writing.{spelling, spelled_all, frame_size}
 use Rattle.quic_recovery_core.specs.PendingAcks.{Pending, is_filled}
-use Rattle.quic_send_buffer.specs.declared.stream_meta.StreamMeta.{StreamMeta}
+use Rattle.quic_retransmits.specs.Retransmits.{Retransmits, nothing_waits}
+use Rattle.quic_streams_state.specs.declared.state.StreamsState.{StreamsState}
+use Rattle.quic_streams_state.specs.State.{Streams, streams_of}
+use Rattle.quic_streams_state.specs.Control as control
+use Rattle.quic_streams_state.specs.Frames as of_streams
 use Rattle.quic_machine.specs.Acknowledging.{delay_at}
 use Rattle.quic_machine.specs.Tracking.{Carried, after_sent}
-use Rattle.quic_streams.specs.Frames.{meta_of, polled_at, half_bytes, half_frame}
-use Rattle.quic_machine.specs.Poll.{Draft, room_for, frame_room, ack_of, after_ack}
-use Rattle.quic_streams.specs.Table.{at}
-use Rattle.quic_machine.specs.End.{End, with_tracking, with_sending, with_ping}
+use Rattle.quic_machine.specs.Poll.{Draft, frame_room, ack_of, after_ack}
+use Rattle.quic_machine.specs.End.{End, with_tracking, with_streams, with_ping}
 
--- a payload that is written so far, and the end that its frames left: which they are doesn't matter to what goes behind them
-abbrev pub payload_at : End → List ℕ → Draft
-payload_at e bytes = record { frames = []; bytes = bytes; end = e }
+-- ---- frames about streams, behind so many bytes of a payload that may have so many in all
 
--- how the next frame of a stream is written, where so many bytes are used
-abbrev pub stream_bytes : ℕ → End → ℕ → List ℕ
-stream_bytes id e used = half_bytes (at e.sending.halves id) id (room_for e used id)
+-- those but for STREAM, and what they leave
+unfoldable pub control_part : ℕ → ℕ → StreamsState → Retransmits → control.Draft
+control_part most used s p = control.control_frames most used s p nothing_waits
 
--- the end after that frame went
-abbrev pub end_after_stream : ℕ → End → ℕ → End
-end_after_stream id e used = with_sending e (record e.sending { halves = polled_at (at e.sending.halves id) e.sending.halves id (room_for e used id) })
+-- the STREAM frames behind them
+unfoldable pub stream_part : Bool → ℕ → ℕ → StreamsState → Retransmits → of_streams.Sent
+stream_part fair most used s p = of_streams.stream_frames_in fair (most - (used + length (spelled_all (control_part most used s p).frames))) (control_part most used s p).state
 
--- what that frame carries
-abbrev pub stream_metas : ℕ → End → ℕ → List StreamMeta
-stream_metas id e used = option_to_list (option_map meta_of (half_frame (at e.sending.halves id) id (room_for e used id)))
+-- both: the frames, how they are written, and the streams that they leave
+pub record AboutStreams : Type 0 where
+  pub frames : List FrameValue
+  pub bytes : List ℕ
+  pub streams : Streams
 
--- how PING is written, where it waits
+unfoldable pub about_streams : Bool → ℕ → ℕ → StreamsState → Retransmits → AboutStreams
+about_streams fair most used s p = record {
+  frames = (control_part most used s p).frames ++ map stream (stream_part fair most used s p).frames;
+  bytes = spelled_all (control_part most used s p).frames ++ (stream_part fair most used s p).bytes;
+  streams = streams_of (stream_part fair most used s p).state (control_part most used s p).pending;
+}
+
+-- those of an end
+abbrev pub about_streams_at : End → ℕ → AboutStreams
+about_streams_at e used = about_streams e.fair (frame_room e) used e.streams e.waiting.frames
+
+-- ---- PING
+
+-- PING, where it waits
+abbrev pub ping_list : Bool → List FrameValue
+ping_list true = ping ∷ []
+ping_list false = []
+
+-- how it is written
 abbrev pub ping_bytes : Bool → List ℕ
 ping_bytes true = spelling ping
 ping_bytes false = []
@@ -42,6 +61,16 @@ end_after_ping_if false e = e
 -- the end after PING went if it waits
 abbrev pub pinged : End → End
 pinged e = end_after_ping_if e.waiting.ping e
+
+-- ---- what asks
+
+-- what asks for an acknowledgement behind so many bytes of a payload: PING, and frames about streams behind it; how they are written, and the end that they leave
+unfoldable pub asked : End → ℕ → Draft
+asked e used = record {
+  frames = ping_list e.waiting.ping ++ (about_streams_at (pinged e) (used + length (ping_bytes e.waiting.ping))).frames;
+  bytes = ping_bytes e.waiting.ping ++ (about_streams_at (pinged e) (used + length (ping_bytes e.waiting.ping))).bytes;
+  end = with_streams (pinged e) (about_streams_at (pinged e) (used + length (ping_bytes e.waiting.ping))).streams;
+}
 
 -- ---- ACK
 

@@ -1,6 +1,6 @@
 pub mod Frames
 pub mod Faults
 pub mod Given
-pub mod Lending
+pub mod Handed
 pub mod Views
 pub mod Tracked

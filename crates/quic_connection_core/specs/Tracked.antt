@@ -5,8 +5,13 @@ use Rattle.std.specs.List.Sorted.{IsStrictlySortedBy}
 use Rattle.std.specs.Map.{keys_of}
 use Rattle.std.specs.Ordering.{nat_cmp}
 use Rattle.quic_wire.specs.AckGrammar.{Below}
-use Rattle.quic_streams.specs.Table.{Table}
-use Rattle.quic_machine.specs.Tracking.{TrackedPacket, Tracking, is_below}
+use Rattle.quic_send_buffer.specs.declared.stream_meta.StreamMeta.{StreamMeta}
+use Rattle.quic_streams_parts.specs.Table.{Table}
+use Rattle.quic_retransmits.specs.Retransmits.{merged}
+use Rattle.quic_streams_state.specs.declared.state.StreamsState.{StreamsState}
+use Rattle.quic_streams_state.specs.State.{Streams, streams_of}
+use Rattle.quic_streams_state.specs.Acked.{after_stream_acked, after_stream_lost, after_reset_acked}
+use Rattle.quic_machine.specs.Tracking.{TrackedPacket, Carried, Tracking, is_below}
 use Rattle.quic_machine.specs.End.{End}
 use Rattle.quic_machine.specs.Acked.{packet_acked}
 
@@ -64,3 +69,28 @@ all_acked (p ∷ ps) e = all_acked ps (packet_acked p e)
 -- the end with other tracked packets, and the loss timer as it was
 abbrev pub with_tracked : End → Tracking → End
 with_tracked e t = record e { tracking = t }
+
+-- ---- what an ACK frame makes of streams alone
+
+-- RESET_STREAM frames, of these streams with these codes, are acknowledged
+abbrev pub with_resets_acked : List (ℕ × ℕ) → Streams → Streams
+with_resets_acked [] t = t
+with_resets_acked (r ∷ rs) t = with_resets_acked rs (after_reset_acked t.state t.pending r.0)
+
+-- STREAM frames are acknowledged
+abbrev pub with_frames_acked : List StreamMeta → Streams → Streams
+with_frames_acked [] t = t
+with_frames_acked (m ∷ ms) t = with_frames_acked ms (after_stream_acked t.state t.pending m)
+
+-- what a packet carried is acknowledged
+abbrev pub with_carried_acked : Carried → Streams → Streams
+with_carried_acked c t = with_frames_acked c.stream_frames (with_resets_acked c.retransmits.reset_stream t)
+
+-- STREAM frames are lost
+abbrev pub with_frames_lost : List StreamMeta → StreamsState → StreamsState
+with_frames_lost [] s = s
+with_frames_lost (m ∷ ms) s = with_frames_lost ms (after_stream_lost s m)
+
+-- what a packet carried is lost
+abbrev pub with_carried_lost : Carried → Streams → Streams
+with_carried_lost c t = streams_of (with_frames_lost c.stream_frames t.state) (merged t.pending c.retransmits)

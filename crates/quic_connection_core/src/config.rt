@@ -12,9 +12,11 @@ use std::marker::Model;
 
 /// The configuration of an end. Contracts see its settings.
 ///
-/// At this stage an end acts on the windows for what it receives (which it never raises), on the send window and on the peer's
-/// counts of streams. It tells the peer of the other settings that have a transport parameter, and doesn't act on them yet:
-/// it has no idle timeout, takes no messages, and an ACK_FREQUENCY frame changes nothing.
+/// At this stage an end acts on the windows for what it receives, on the send window, on the counts
+/// of streams that the peer may have open at once, and on whether streams of one priority take
+/// turns. It tells the peer of the other settings that have a transport parameter, and doesn't act
+/// on them yet: it has no idle timeout, takes no messages, and an ACK_FREQUENCY frame changes
+/// nothing.
 #[derive(Clone, Copy, Debug)]
 pub struct Config {
     transport: TransportConfig,
@@ -52,8 +54,8 @@ impl Config {
         self.transport
     }
 
-    /// Whether the peer is told that it can ask when to acknowledge, with 1000 microseconds as the least delay (QUIC
-    /// Acknowledgement Frequency, section 3).
+    /// Whether the peer is told that it can ask when to acknowledge, with 1000 microseconds as the
+    /// least delay (QUIC Acknowledgement Frequency, section 3).
     pub fn ack_frequency_support(&mut self, value: bool) -> &mut Self
         ensures same_reference { result.ghost_name ≡ self.entry.ghost_name }
         ensures value { result.now ≡ record self.old { ack_frequency_support = value } }
@@ -78,9 +80,9 @@ impl Config {
         }
     }
 
-    /// The transport parameters that the peer is told, as bytes (RFC 9000, section 18), in this order of their places, which
-    /// has each of 0 to 12 once (`TransportParameters::write`): what the peer reads of them are these settings. An error
-    /// is want of memory.
+    /// The transport parameters that the peer is told, as bytes (RFC 9000, section 18), in this
+    /// order of their places, which has each of 0 to 12 once (`TransportParameters::write`): what
+    /// the peer reads of them are these settings. An error is want of memory.
     pub fn write_parameters(&self, alloc: Global, order: &[u8; 13]) -> Result<Vec<u8>, AllocError>
         requires { IsWriteOrder order.now }
         ensures bytes { IfOk result (λ v. v.items ≡ written_parameters (parameters_of self.now) order.now) }

@@ -6,8 +6,6 @@
 
 mod config;
 mod connection;
-mod handles;
 
 pub use config::Config;
 pub use connection::Connection;
-pub use handles::{Chunks, RecvStream, SendStream, Streams};

@@ -4,22 +4,22 @@ ghost use Rattle.quic_wire.specs.Items.{items};
 ghost use Rattle.quic_packet.specs.Destination.{decoded, fixed_length_id};
 ghost use Rattle.quic_machine.specs.Ids.{known};
 ghost use Rattle.quic_time.specs.Timers.{no_timers};
-ghost use Rattle.quic_wire.specs.Value.{stream};
-ghost use Rattle.quic_wire.specs.FrameView.{stream_view, frame_view, item_view};
+ghost use Rattle.quic_wire.specs.FrameView.{frame_view, item_view};
 ghost use Rattle.quic_machine.specs.End.{with_end, policy_of, closed_by, HasFailed};
 ghost use Rattle.quic_machine.specs.Opens.{own_id_length, would_open};
-ghost use Rattle.quic_machine.specs.Receive.{received, opened_to, processed, fault_of_breach, fault_at, plain_error, take_ack, take_frame, take_item, take_items, take_payload, item_asks, asks_in, opening, error_of, reason_of, drop_of, violation};
-ghost use Rattle.quic_connection_core.specs.Faults.{fault_view, TakesAs, TakesAllAs, TakesPacketAs};
+ghost use Rattle.quic_machine.specs.Receive.{received, opened_to, processed, fault_of_breach, plain_error, take_ack, take_frame, take_item, take_items, take_payload, item_asks, asks_in, opening, error_of, reason_of, drop_of, violation};
+ghost use Rattle.quic_connection_core.specs.Faults.{fault_view, TakesAs, TakesAllAs, TakesPacketAs, HasForm, ItemHasForm};
 ghost use Rattle.quic_machine.specs.Lacking.{TakesFrames};
 
 use crate::connection::Connection;
 use crate::connection::ids::OWN_ID_LENGTH;
+use crate::connection::stream_frames::take_other;
 use quic_machine::{DropReason, Instant, LostReason, Received, State};
 use quic_packet::crypto::{HeaderKey, NotOpened, PacketKey};
 use quic_packet::{HeaderError, Opened, open_packet};
-use quic_streams::{Breach, ReceivedError};
-use quic_wire::frame::{Ack, Frame, InvalidFrame, Iter, Stream};
-use quic_wire_core::{Code, ConnectionId, EcnCodepoint, Reason, Side, TransportError};
+use quic_streams_parts::{Breach, ReceivedError};
+use quic_wire::frame::{Ack, Frame, InvalidFrame, Iter};
+use quic_wire_core::{Code, ConnectionId, EcnCodepoint, Reason, TransportError};
 use rand_core::Rng;
 use std::alloc::AllocError;
 
@@ -45,6 +45,19 @@ impl From<AllocError> for Trouble {
     }
 }
 
+impl From<ReceivedError> for Trouble {
+    ghost use Rattle.quic_connection_core.specs.Faults.{Becomes};
+
+    ghost from_gives = { Becomes };
+
+    fn from(error: ReceivedError) -> Trouble {
+        match error {
+            ReceivedError::Breach(breach) => trouble_of(breach),
+            ReceivedError::Memory => Trouble::Memory,
+        }
+    }
+}
+
 /// An error that names no frame.
 fn plain_error(code: Code, reason: Reason) -> TransportError
     ensures { result ≡ plain_error code }
@@ -53,7 +66,7 @@ fn plain_error(code: Code, reason: Reason) -> TransportError
 }
 
 /// What a broken rule of streams comes to.
-fn trouble_of(breach: Breach) -> Trouble
+pub(crate) fn trouble_of(breach: Breach) -> Trouble
     ensures { fault_view result ≡ Some (fault_of_breach breach) }
 {
     let error = match breach {
@@ -61,6 +74,7 @@ fn trouble_of(breach: Breach) -> Trouble
         Breach::StreamLimit => plain_error(Code::STREAM_LIMIT_ERROR, Reason::TooManyStreams),
         Breach::StreamState => plain_error(Code::STREAM_STATE_ERROR, Reason::NotSendable),
         Breach::FinalSize => plain_error(Code::FINAL_SIZE_ERROR, Reason::FinalSize),
+        Breach::FrameEncoding => plain_error(Code::FRAME_ENCODING_ERROR, Reason::TooManyStreams),
         Breach::Pieces => return Trouble::TooManyPieces,
     };
     Trouble::Broke(error)
@@ -79,12 +93,14 @@ fn drop_reason(error: HeaderError) -> DropReason
 }
 
 impl<H: HeaderKey + Drop, K: PacketKey + Drop, R: Rng + Drop> Connection<H, K, R> {
-    /// Takes a datagram that came at this moment with this mark, opening it in place (RFC 9000, sections 5.2 and 12).
+    /// Takes a datagram that came at this moment with this mark, opening it in place (RFC 9000,
+    /// sections 5.2 and 12).
     ///
-    /// A datagram that is dropped changes nothing, but that the new number of one that a closing end opened counts as seen.
-    /// Where it breaks a rule, the end closes; the frames before keep their effect, and its number isn't taken.
-    /// Where memory lacks, the end fails for good. Its number is to be acknowledged once all its frames were taken. Marks
-    /// are not read yet. The datagram's bytes may be changed; to what isn't said.
+    /// A datagram that is dropped changes nothing, but that the new number of one that a closing
+    /// end opened counts as seen. Where it breaks a rule, the end closes; the frames before keep
+    /// their effect, and its number isn't taken. Where memory lacks, the end fails for good. Its
+    /// number is to be acknowledged once all its frames were taken. Marks are not read yet. The
+    /// datagram's bytes may be changed; to what isn't said.
     pub fn receive(
         &mut self,
         now: Instant,
@@ -121,9 +137,10 @@ impl<H: HeaderKey + Drop, K: PacketKey + Drop, R: Rng + Drop> Connection<H, K, R
         self.ids.decode(datagram)
     }
 
-    /// Whether a datagram would open here, whatever the state of the end, and also where it came before: it has a short header
-    /// with an own id, its packet opens under its number, and its key phase is 0. It is opened in place, so `scratch` is
-    /// a copy of it, whose bytes may be changed; the end stays as it is.
+    /// Whether a datagram would open here, whatever the state of the end, and also where it came
+    /// before: it has a short header with an own id, its packet opens under its number, and its key
+    /// phase is 0. It is opened in place, so `scratch` is a copy of it, whose bytes may be changed;
+    /// the end stays as it is.
     pub fn would_open(&self, scratch: &mut [u8]) -> bool
         ensures { result ≡ would_open (policy_of H.protection K.aead self.now) self.now.end scratch.old }
     {
@@ -235,6 +252,7 @@ impl<H: HeaderKey + Drop, K: PacketKey + Drop, R: Rng + Drop> Connection<H, K, R
 
     /// Takes a frame, or what can't be read as one.
     fn take_item(&mut self, item: &Result<Frame<'_>, InvalidFrame>) -> Result<(), Trouble>
+        requires { ItemHasForm (item_view item.now) }
         ensures takes { TakesAs result (take_item (item_view item.now) self.old.end) self.new.end }
         ensures others { self.new ≡ with_end self.old self.new.end }
     {
@@ -244,32 +262,21 @@ impl<H: HeaderKey + Drop, K: PacketKey + Drop, R: Rng + Drop> Connection<H, K, R
         }
     }
 
-    /// Takes a frame. Those of other kinds do nothing yet.
+    /// Takes a frame. Those that speak of neither packets nor streams do nothing yet.
     fn take_frame(&mut self, frame: &Frame<'_>) -> Result<(), Trouble>
+        requires { HasForm (frame_view frame.now) }
         ensures takes { TakesAs result (take_frame (frame_view frame.now) self.old.end) self.new.end }
         ensures others { self.new ≡ with_end self.old self.new.end }
     {
         match frame {
             Frame::Ack(frame) => self.take_ack(frame),
-            Frame::Stream(frame) => self.take_stream(frame),
-            Frame::NewToken { .. } | Frame::HandshakeDone => self.take_of_server(),
-            _ => Ok(()),
+            _ => take_other(&mut self.streams, frame),
         }
     }
 
-    /// Takes a frame that only servers send, and does nothing with it: a server gets none (RFC 9000, sections 19.7 and
-    /// 19.20).
-    fn take_of_server(&self) -> Result<(), Trouble>
-        ensures { TakesAs result (record { end = self.now.end; fault = fault_at self.now.end.side }) self.now.end }
-    {
-        match self.side {
-            Side::Client => Ok(()),
-            Side::Server => Err(violation(Reason::OfServers)),
-        }
-    }
-
-    /// Takes an ACK frame: the greatest number that it names counts, and the tracked packets that it names are acknowledged.
-    /// A number that was never given breaks a rule (RFC 9000, section 13.1).
+    /// Takes an ACK frame: the greatest number that it names counts, and the tracked packets that
+    /// it names are acknowledged. A number that was never given breaks a rule (RFC 9000, section
+    /// 13.1).
     fn take_ack(&mut self, frame: &Ack<'_>) -> Result<(), Trouble>
         ensures takes { TakesAs result (take_ack frame.now self.old.end) self.new.end }
         ensures others { self.new ≡ with_end self.old self.new.end }
@@ -281,18 +288,6 @@ impl<H: HeaderKey + Drop, K: PacketKey + Drop, R: Rng + Drop> Connection<H, K, R
         self.numbers.name(largest);
         self.on_ack_received(frame)?;
         Ok(())
-    }
-
-    /// Takes a STREAM frame.
-    fn take_stream(&mut self, frame: &Stream<'_>) -> Result<(), Trouble>
-        ensures takes { TakesAs result (take_frame (stream (stream_view frame.now)) self.old.end) self.new.end }
-        ensures others { self.new ≡ with_end self.old self.new.end }
-    {
-        match self.receiving.received(self.side, frame) {
-            Ok(()) => Ok(()),
-            Err(ReceivedError::Breach(breach)) => Err(trouble_of(breach)),
-            Err(ReceivedError::Memory) => Err(Trouble::Memory),
-        }
     }
 
     /// Closes for what was wrong with a packet, or fails.
@@ -332,7 +327,7 @@ fn item_asks(item: &Result<Frame<'_>, InvalidFrame>) -> bool
 }
 
 /// PROTOCOL_VIOLATION.
-fn violation(reason: Reason) -> Trouble
+pub(crate) fn violation(reason: Reason) -> Trouble
     ensures { fault_view result ≡ Some violation }
 {
     Trouble::Broke(plain_error(Code::PROTOCOL_VIOLATION, reason))

@@ -5,37 +5,35 @@ ghost use Rattle.quic_packet.specs.Header.{header_bytes};
 ghost use Rattle.quic_packet.specs.Datagram.{protected};
 ghost use Rattle.quic_wire.specs.AckSet.{ranges_of_set, greatest};
 ghost use Rattle.quic_wire.specs.Value.{ack, ping};
-ghost use Rattle.quic_wire.specs.Writing.{spelling, frame_size};
+ghost use Rattle.quic_wire.specs.Writing.{spelling, spelled_all, frame_size};
 ghost use Rattle.quic_recovery_core.specs.declared.spaces.pending_acks.TheConstants.{MAX_ACK_RUNS};
 ghost use Rattle.quic_recovery_core.specs.PendingAcks.{can_send, is_filled};
 ghost use Rattle.quic_time.specs.Timers.{no_timers};
-ghost use Rattle.quic_machine.specs.End.{with_end, with_numbers, policy_of, HasFailed};
+ghost use Rattle.quic_retransmits.specs.Kept.{made};
+ghost use Rattle.quic_streams_state.specs.State.{streams_of};
+ghost use Rattle.quic_machine.specs.End.{with_end, with_numbers, with_streams, policy_of, HasFailed};
 ghost use Rattle.quic_machine.specs.Numbers.{can_number, cut_against, number_given};
-ghost use Rattle.quic_machine.specs.Tracking.{carried_in, streams_in};
-ghost use Rattle.quic_streams.specs.Table.{at};
-ghost use Rattle.quic_machine.specs.Poll.{IsSilent, polled, composed, frame_room, least_stream_room, next_behind, with_stream_frames, with_asking, payload_of, datagram_of, after_given, asking, tracked_if, probed, ack_of, after_ack};
-ghost use Rattle.quic_connection_core.specs.Frames.{payload_at, stream_bytes, end_after_stream, stream_metas, ping_bytes, pinged, most_ack_bytes, fits_behind, ack_bytes_if, acked_if, end_after_ack_if, tracked_as};
+ghost use Rattle.quic_machine.specs.Tracking.{carried_in, retransmits_in};
+ghost use Rattle.quic_machine.specs.Poll.{IsSilent, polled, composed, frame_room, payload_of, datagram_of, after_given, asking, tracked_if, probed, ack_of, after_ack};
+ghost use Rattle.quic_connection_core.specs.Frames.{control_part, about_streams, about_streams_at, asked, ping_bytes, pinged, most_ack_bytes, fits_behind, ack_bytes_if, acked_if, end_after_ack_if, tracked_as};
 ghost use Rattle.quic_connection_core.specs.Given.{given_bytes};
 ghost use Rattle.quic_machine.specs.Lacking.{GivesOrHasFailed};
 
 use crate::connection::Connection;
-use crate::connection::tracking::{Carried, SentPacket, StreamMetas};
+use crate::connection::tracking::{Carried, SentPacket};
 use quic_machine::{Failed, Instant, LostReason, State, Timer, Transmit};
 use quic_packet::crypto::{HeaderKey, PacketKey, TAG_LEN};
 use quic_packet::{ShortHeader, seal_reserved};
+use quic_retransmits::{Retransmits, ThinRetransmits};
+use quic_streams_handles::EndStreams;
 use quic_wire::frame::{Ack, Frame, Stream, put_frame};
-use quic_wire_core::reserved::{append_zeros, varint_size};
-use quic_wire_core::{EcnCodepoint, StreamId};
+use quic_wire_core::EcnCodepoint;
+use quic_wire_core::reserved::append_zeros;
 use rand_core::Rng;
-use smallvec::SmallVec;
-use std::alloc::AllocError;
+use std::alloc::{AllocError, Global};
 
 /// The most bytes of a datagram (RFC 9000, section 14.1).
 const CURRENT_MTU: usize = 1200;
-
-/// How many bytes have to be left of a datagram so that a frame of a stream goes: its type, and its id, offset and length in
-/// eight bytes each.
-const LEAST_STREAM_ROOM: usize = 25;
 
 /// What went into a datagram (quinn-proto's `SentFrames`).
 #[derive(Drop)]
@@ -46,35 +44,38 @@ struct SentFrames {
 }
 
 impl SentFrames {
-    /// Frames that ask or don't, an ACK frame that names numbers up to this one, and the frames of streams.
-    fn new(asks: bool, largest_acked: Option<u64>, stream_frames: StreamMetas) -> Self
-        ensures asks { result.asks ≡ asks }
-        ensures carried { result.carried ≡ record { largest_acked = largest_acked; stream_frames = stream_frames.items } }
+    /// An ACK frame that names numbers up to this one went besides, or none did.
+    fn with_ack(self, largest_acked: Option<u64>) -> Self
+        ensures asks { result.asks ≡ self.asks }
+        ensures carried { result.carried ≡ record self.carried { largest_acked = largest_acked } }
     {
+        let SentFrames { asks, carried } = self;
         SentFrames {
             asks,
             carried: Carried {
                 largest_acked,
-                stream_frames,
+                stream_frames: carried.stream_frames,
+                retransmits: carried.retransmits,
             },
         }
     }
 }
 
 impl<H: HeaderKey + Drop, K: PacketKey + Drop, R: Rng + Drop> Connection<H, K, R> {
-    /// Appends the next datagram to `out`, if there is something to send at this moment: a due acknowledgement, PING, or
-    /// bytes of streams (RFC 9000, sections 13.2 and 13.3). An acknowledgement that isn't due goes along where it fits, and
-    /// where a probe waits, a PING does (RFC 9002, section 6.2.4). A datagram that asks for an acknowledgement is tracked
-    /// until it is acknowledged or lost, and sets the loss timer anew.
+    /// Appends the next datagram to `out`, if there is something to send at this moment: a due
+    /// acknowledgement, PING, what has to be told of streams, or bytes of them (RFC 9000, sections
+    /// 13.2 and 13.3). An acknowledgement that isn't due goes along where it fits, and where a
+    /// probe waits, a PING does (RFC 9002, section 6.2.4). A datagram that asks for an
+    /// acknowledgement is tracked until it is acknowledged or lost, and sets the loss timer anew.
     ///
-    /// The datagram has at most 1200 bytes and is to be marked ECT(0). Where something waits and the packet numbers are
-    /// used up, the end closes, no timer of it is set any more, and nothing is given. An end that gives nothing and is open
-    /// has nothing left to send.
+    /// The datagram has at most 1200 bytes and is to be marked ECT(0). Where something waits and
+    /// the packet numbers are used up, the end closes, no timer of it is set any more, and nothing
+    /// is given. An end that gives nothing and is open has nothing left to send.
     ///
     /// # Errors
     ///
-    /// [`Failed`] where memory lacks now, and the end fails for good and has no timer, or where it had failed before, and
-    /// nothing changes; `out` is as it was.
+    /// [`Failed`] where memory lacks now, and the end fails for good and has no timer, or where it
+    /// had failed before, and nothing changes; `out` is as it was.
     pub fn poll_transmit(
         &mut self,
         now: Instant,
@@ -125,8 +126,9 @@ impl<H: HeaderKey + Drop, K: PacketKey + Drop, R: Rng + Drop> Connection<H, K, R
         }
     }
 
-    /// Appends the datagram of what waits, for which there is room, tracks it where it asks for an acknowledgement, and
-    /// counts it as given: its size. Where memory lacks, nothing is appended, and the end fails for good.
+    /// Appends the datagram of what waits, for which there is room, tracks it where it asks for an
+    /// acknowledgement, and counts it as given: its size. Where memory lacks, nothing is appended,
+    /// and the end fails for good.
     fn give(&mut self, out: &mut Vec<u8>) -> Result<usize, Failed>
         requires number { can_number self.old.end.numbers ≡ true }
         requires room { vec_len out.old + 1200 ≤ vec_capacity out.old }
@@ -149,8 +151,9 @@ impl<H: HeaderKey + Drop, K: PacketKey + Drop, R: Rng + Drop> Connection<H, K, R
         Ok(out.len() - start)
     }
 
-    /// Appends the packet of what waits, for which there is room, unsealed, and tracks it where it asks for an
-    /// acknowledgement. An error is want of memory; the end is of no more use then, and some of the packet may stand in `out`.
+    /// Appends the packet of what waits, for which there is room, unsealed, and tracks it where it
+    /// asks for an acknowledgement. An error is want of memory; the end is of no more use then, and
+    /// some of the packet may stand in `out`.
     fn put_tracked(&mut self, out: &mut Vec<u8>) -> Result<(), AllocError>
         requires number { can_number self.old.end.numbers ≡ true }
         requires room { vec_len out.old + 1200 ≤ vec_capacity out.old }
@@ -170,8 +173,8 @@ impl<H: HeaderKey + Drop, K: PacketKey + Drop, R: Rng + Drop> Connection<H, K, R
         self.track(sent)
     }
 
-    /// The next datagram has these frames: where they ask for an acknowledgement, it is tracked, and the loss timer set
-    /// anew. An error is want of memory, and nothing has changed.
+    /// The next datagram has these frames: where they ask for an acknowledgement, it is tracked,
+    /// and the loss timer set anew. An error is want of memory, and nothing has changed.
     fn track(&mut self, sent: SentFrames) -> Result<(), AllocError>
         ensures ok { OnOk result (self.new ≡ with_end self.old (tracked_as sent.asks sent.carried self.old.end)) }
         ensures err { OnErr result (self.new ≡ self.old) }
@@ -190,8 +193,9 @@ impl<H: HeaderKey + Drop, K: PacketKey + Drop, R: Rng + Drop> Connection<H, K, R
         Ok(())
     }
 
-    /// Appends the packet of what waits, for which there is room, unsealed; its frames are taken: what went. An error is want
-    /// of memory; the end is of no more use then, and some of the packet may stand in `out`.
+    /// Appends the packet of what waits, for which there is room, unsealed; its frames are taken:
+    /// what went. An error is want of memory; the end is of no more use then, and some of the
+    /// packet may stand in `out`.
     fn put_plain(&mut self, out: &mut Vec<u8>) -> Result<SentFrames, AllocError>
         requires number { can_number self.old.end.numbers ≡ true }
         requires room { vec_len out.old + 1200 ≤ vec_capacity out.old }
@@ -216,9 +220,10 @@ impl<H: HeaderKey + Drop, K: PacketKey + Drop, R: Rng + Drop> Connection<H, K, R
         Ok(sent)
     }
 
-    /// Appends the frames of what waits as a payload, for which there is room. A due ACK goes first, so that it always
-    /// fits; one that isn't due goes last, where it fits, so that it takes no room from what waits. This answers what went.
-    /// An error is want of memory; the end is of no more use then, and some of the frames may stand in `out`.
+    /// Appends the frames of what waits as a payload, for which there is room. A due ACK goes
+    /// first, so that it always fits; one that isn't due goes last, where it fits, so that it takes
+    /// no room from what waits. This answers what went. An error is want of memory; the end is of
+    /// no more use then, and some of the frames may stand in `out`.
     fn put_frames(&mut self, out: &mut Vec<u8>) -> Result<SentFrames, AllocError>
         requires some { 1159 ≤ frame_room self.old.end }
         requires room { vec_len out.old + frame_room self.old.end ≤ vec_capacity out.old }
@@ -235,12 +240,12 @@ impl<H: HeaderKey + Drop, K: PacketKey + Drop, R: Rng + Drop> Connection<H, K, R
         let body = out.len();
         if self.is_ack_due() {
             let largest = self.put_ack(out);
-            let (asks, stream_frames) = self.put_asking(body, out)?;
-            Ok(SentFrames::new(asks, Some(largest), stream_frames))
+            let sent = self.put_asking(body, out)?;
+            Ok(sent.with_ack(Some(largest)))
         } else {
-            let (asks, stream_frames) = self.put_asking(body, out)?;
+            let sent = self.put_asking(body, out)?;
             let largest = self.put_late_ack(body, out);
-            Ok(SentFrames::new(asks, largest, stream_frames))
+            Ok(sent.with_ack(largest))
         }
     }
 
@@ -251,8 +256,9 @@ impl<H: HeaderKey + Drop, K: PacketKey + Drop, R: Rng + Drop> Connection<H, K, R
         self.acknowledging.is_due()
     }
 
-    /// Appends an ACK where there is a number to acknowledge and its frame fits behind the frames of the packet whose
-    /// payload begins at `body`; there is room for the whole payload. This answers the greatest number that it names.
+    /// Appends an ACK where there is a number to acknowledge and its frame fits behind the frames
+    /// of the packet whose payload begins at `body`; there is room for the whole payload. This
+    /// answers the greatest number that it names.
     fn put_late_ack(&mut self, body: usize, out: &mut Vec<u8>) -> Option<u64>
         requires body { body ≤ vec_len out.old }
         requires within { vec_len out.old ≤ body + frame_room self.old.end }
@@ -271,7 +277,8 @@ impl<H: HeaderKey + Drop, K: PacketKey + Drop, R: Rng + Drop> Connection<H, K, R
         }
     }
 
-    /// Whether there is a number to acknowledge, and its frame fits behind so many bytes of a payload.
+    /// Whether there is a number to acknowledge, and its frame fits behind so many bytes of a
+    /// payload.
     fn ack_fits(&self, used: usize) -> bool
         requires { used ≤ frame_room self.now.end }
         ensures { result ≡ fits_behind self.now.end used }
@@ -280,8 +287,8 @@ impl<H: HeaderKey + Drop, K: PacketKey + Drop, R: Rng + Drop> Connection<H, K, R
         self.acknowledging.is_filled() && self.acknowledging.size(self.closing.clock()) <= room
     }
 
-    /// Appends an ACK, for which there is room, and stops its timer: the greatest number that it names. There is a number to
-    /// acknowledge.
+    /// Appends an ACK, for which there is room, and stops its timer: the greatest number that it
+    /// names. There is a number to acknowledge.
     fn put_ack(&mut self, out: &mut Vec<u8>) -> u64
         requires some { is_filled self.old.end.acknowledging.runs ≡ true }
         requires room { length self.old.end.acknowledging.runs ≤ MAX_ACK_RUNS → vec_len out.old + frame_size (ack (ack_of self.old.end)) ≤ vec_capacity out.old }
@@ -298,114 +305,65 @@ impl<H: HeaderKey + Drop, K: PacketKey + Drop, R: Rng + Drop> Connection<H, K, R
         largest
     }
 
-    /// Appends what asks for an acknowledgement, PING and frames of streams, behind the frames of the packet whose payload
-    /// begins at `body`: none, or an ACK. There is room for the whole payload. This answers whether something went, and what
-    /// the frames of streams carry. An error is want of memory; the end is of no more use then.
-    fn put_asking(
-        &mut self,
-        body: usize,
-        out: &mut Vec<u8>,
-    ) -> Result<(bool, StreamMetas), AllocError>
+    /// Appends what asks for an acknowledgement, PING and frames about streams, behind the frames
+    /// of the packet whose payload begins at `body`: none, or an ACK. There is room for the whole
+    /// payload. This answers what went. An error is want of memory; the end is of no more use then.
+    fn put_asking(&mut self, body: usize, out: &mut Vec<u8>) -> Result<SentFrames, AllocError>
         requires body { body ≤ vec_len out.old }
         requires few { vec_len out.old ≤ body + most_ack_bytes }
         requires some { 1159 ≤ frame_room self.old.end }
         requires room { body + frame_room self.old.end ≤ vec_capacity out.old }
-        ensures items { OnOk result (out.new.items ≡ take body out.old.items ++ (with_asking (payload_at self.old.end (drop body out.old.items))).bytes) }
+        ensures items { OnOk result (out.new.items ≡ out.old.items ++ (asked self.old.end (vec_len out.old - body)).bytes) }
         ensures within { vec_len out.new ≤ body + frame_room self.old.end }
         ensures grows { vec_len out.old ≤ vec_len out.new }
         ensures capacity { vec_capacity out.old ≤ vec_capacity out.new }
-        ensures end { OnOk result (self.new ≡ with_end self.old (with_asking (payload_at self.old.end (drop body out.old.items))).end) }
-        ensures asks { IfOk result (λ sent. sent.0 ≡ asking (with_asking (payload_at self.old.end (drop body out.old.items))).frames) }
-        ensures streams { IfOk result (λ sent. sent.1.items ≡ streams_in (with_asking (payload_at self.old.end (drop body out.old.items))).frames) }
-        ensures front { take body out.new.items ≡ take body out.old.items }
+        ensures end { OnOk result (self.new ≡ with_end self.old (asked self.old.end (vec_len out.old - body)).end) }
+        ensures asks { IfOk result (λ sent. sent.asks ≡ asking (asked self.old.end (vec_len out.old - body)).frames) }
+        ensures carried { IfOk result (λ sent. sent.carried ≡ carried_in (asked self.old.end (vec_len out.old - body)).frames) }
+        ensures front { take (vec_len out.old) out.new.items ≡ out.old.items }
         ensures others { self.new ≡ with_end self.old self.new.end }
     {
-        let pinged = self.put_ping(out);
-        let stream_frames = self.put_streams(body, out)?;
-        Ok((pinged || !stream_frames.is_empty(), stream_frames))
+        let before = out.len();
+        self.put_ping(out);
+        let carried = self.put_streams(body, out)?;
+        Ok(SentFrames {
+            asks: before < out.len(),
+            carried,
+        })
     }
 
-    /// Appends PING if it waits, for which there is room: whether it does.
-    fn put_ping(&mut self, out: &mut Vec<u8>) -> bool
+    /// Appends PING if it waits, for which there is room.
+    fn put_ping(&mut self, out: &mut Vec<u8>)
         requires { vec_len out.old + 1 ≤ vec_capacity out.old }
         ensures items { out.new.items ≡ out.old.items ++ ping_bytes self.old.end.waiting.ping }
         ensures len { vec_len out.new ≡ vec_len out.old + length (ping_bytes self.old.end.waiting.ping) }
         ensures few { length (ping_bytes self.old.end.waiting.ping) ≤ 1 }
         ensures capacity { vec_capacity out.old ≤ vec_capacity out.new }
         ensures end { self.new ≡ with_end self.old (pinged self.old.end) }
-        ensures waited { result ≡ self.old.end.waiting.ping }
     {
-        let waited = self.take_ping();
-        if waited {
+        if self.take_ping() {
             put_ping(out);
         }
-        waited
     }
 
-    /// Appends frames of streams behind the frames of the packet whose payload begins at `body`, while a stream has something
-    /// to send and there is room for a frame of it; there is room for the whole payload. This answers what they carry. An
-    /// error is want of memory; the end is of no more use then.
-    fn put_streams(&mut self, body: usize, out: &mut Vec<u8>) -> Result<StreamMetas, AllocError>
+    /// Appends frames about streams behind the frames of the packet whose payload begins at `body`;
+    /// there is room for the whole payload. This answers what they carry. An error is want of
+    /// memory; the end is of no more use then.
+    fn put_streams(&mut self, body: usize, out: &mut Vec<u8>) -> Result<Carried, AllocError>
         requires body { body ≤ vec_len out.old }
         requires within { vec_len out.old ≤ body + frame_room self.old.end }
         requires room { body + frame_room self.old.end ≤ vec_capacity out.old }
-        ensures items { OnOk result (out.new.items ≡ take body out.old.items ++ (with_stream_frames (payload_at self.old.end (drop body out.old.items))).bytes) }
+        ensures items { OnOk result (out.new.items ≡ out.old.items ++ (about_streams_at self.old.end (vec_len out.old - body)).bytes) }
         ensures within { vec_len out.new ≤ body + frame_room self.old.end }
         ensures grows { vec_len out.old ≤ vec_len out.new }
         ensures capacity { vec_capacity out.old ≤ vec_capacity out.new }
-        ensures end { OnOk result (self.new ≡ with_end self.old (with_stream_frames (payload_at self.old.end (drop body out.old.items))).end) }
-        ensures streams { IfOk result (λ sent. sent.items ≡ streams_in (with_stream_frames (payload_at self.old.end (drop body out.old.items))).frames) }
-        ensures front { take body out.new.items ≡ take body out.old.items }
+        ensures end { OnOk result (self.new ≡ with_end self.old (with_streams self.old.end (about_streams_at self.old.end (vec_len out.old - body)).streams)) }
+        ensures carried { IfOk result (λ carried. carried ≡ carried_in (about_streams_at self.old.end (vec_len out.old - body)).frames) }
+        ensures front { take (vec_len out.old) out.new.items ≡ out.old.items }
         ensures others { self.new ≡ with_end self.old self.new.end }
     {
-        let mut sent = SmallVec::new(self.alloc);
-        while let Some(id) = self.next_stream(out.len() - body) {
-            self.put_stream(id, body, out, &mut sent)?;
-        }
-        Ok(sent)
-    }
-
-    /// The first stream with something to send, where there is room for a frame of it behind so many bytes of a payload.
-    fn next_stream(&self, used: usize) -> Option<StreamId>
-        requires { used ≤ frame_room self.now.end }
-        ensures id { result ≡ next_behind self.now.end used }
-        ensures half { IfSome result (λ id. IsSome (at self.now.end.sending.halves id)) }
-        ensures room { IsSome result → least_stream_room ≤ frame_room self.now.end - used }
-    {
-        if self.frame_room() - used < LEAST_STREAM_ROOM {
-            return None;
-        }
-        self.pending()
-    }
-
-    /// Appends the next frame of a stream behind the frames of the packet whose payload begins at `body`, and notes what it
-    /// carries; there is room for the whole payload. An error is want of memory, and nothing has changed.
-    fn put_stream(
-        &mut self,
-        id: StreamId,
-        body: usize,
-        out: &mut Vec<u8>,
-        sent: &mut StreamMetas,
-    ) -> Result<(), AllocError>
-        requires body { body ≤ vec_len out.old }
-        requires some { vec_len out.old + least_stream_room ≤ body + frame_room self.old.end }
-        requires room { body + frame_room self.old.end ≤ vec_capacity out.old }
-        requires half { IsSome (at self.old.end.sending.halves id) }
-        ensures items { OnOk result (out.new.items ≡ out.old.items ++ stream_bytes id self.old.end (vec_len out.old - body)) }
-        ensures grows { OnOk result (vec_len out.old < vec_len out.new) }
-        ensures within { vec_len out.new ≤ body + frame_room self.old.end }
-        ensures capacity { vec_capacity out.old ≤ vec_capacity out.new }
-        ensures end { OnOk result (self.new ≡ with_end self.old (end_after_stream id self.old.end (vec_len out.old - body))) }
-        ensures streams { OnOk result (sent.new.items ≡ sent.old.items ++ stream_metas id self.old.end (vec_len out.old - body)) }
-        ensures nothing { OnErr result ((out.new ≡ out.old) × (self.new ≡ self.old)) }
-    {
-        sent.reserve(1)?;
-        let used = out.len() - body;
-        let room = self.frame_room() - used - (1 + varint_size(id.into()));
-        if let Some(frame) = self.sending.put_frame(id, room, out) {
-            sent.push_reserved(frame);
-        }
-        Ok(())
+        let most = self.frame_room();
+        put_about_streams(&mut self.streams, self.fair, self.alloc, body, most, out)
     }
 
     /// How many bytes are left for frames in the next datagram.
@@ -418,7 +376,8 @@ impl<H: HeaderKey + Drop, K: PacketKey + Drop, R: Rng + Drop> Connection<H, K, R
         CURRENT_MTU - (header + TAG_LEN)
     }
 
-    /// Appends the header of the next datagram, for which there is room: how many bytes its number takes.
+    /// Appends the header of the next datagram, for which there is room: how many bytes its number
+    /// takes.
     fn put_header(&self, out: &mut Vec<u8>) -> usize
         requires { vec_len out.old + 25 ≤ vec_capacity out.old }
         ensures items { out.new.items ≡ out.old.items ++ header_bytes self.now.end.ids.active.id (truncated self.now.end.numbers.next (cut_against self.now.end.numbers)) }
@@ -464,6 +423,74 @@ impl<H: HeaderKey + Drop, K: PacketKey + Drop, R: Rng + Drop> Connection<H, K, R
     }
 }
 
+/// Appends frames about streams behind the frames of a packet whose payload begins at `body` and
+/// may have `most` bytes, for which there is room: frames of control, and STREAM frames behind
+/// them. This answers what they carry. An error is want of memory; the streams are of no more use
+/// then.
+fn put_about_streams(
+    streams: &mut EndStreams,
+    fair: bool,
+    alloc: Global,
+    body: usize,
+    most: usize,
+    out: &mut Vec<u8>,
+) -> Result<Carried, AllocError>
+    requires body { body ≤ vec_len out.old }
+    requires within { vec_len out.old ≤ body + most }
+    requires room { body + most ≤ vec_capacity out.old }
+    ensures items { OnOk result (out.new.items ≡ out.old.items ++ (about_streams fair most (vec_len out.old - body) streams.old.state streams.old.pending).bytes) }
+    ensures within { vec_len out.new ≤ body + most }
+    ensures grows { vec_len out.old ≤ vec_len out.new }
+    ensures capacity { vec_capacity out.old ≤ vec_capacity out.new }
+    ensures streams { OnOk result (streams_of streams.new.state streams.new.pending ≡ (about_streams fair most (vec_len out.old - body) streams.old.state streams.old.pending).streams) }
+    ensures carried { IfOk result (λ carried. carried ≡ carried_in (about_streams fair most (vec_len out.old - body) streams.old.state streams.old.pending).frames) }
+    ensures front { take (vec_len out.old) out.new.items ≡ out.old.items }
+{
+    let retransmits = put_control_frames(streams, alloc, body, most, out)?;
+    let mut stream_frames = Vec::new(alloc);
+    streams
+        .state
+        .write_stream_frames(out, body + most, fair, &mut stream_frames)?;
+    Ok(Carried {
+        largest_acked: None,
+        stream_frames,
+        retransmits,
+    })
+}
+
+/// Appends frames about streams but for STREAM behind the frames of a packet whose payload begins
+/// at `body` and may have `most` bytes, for which there is room. This answers what has to be sent
+/// again if the datagram is lost. An error is want of memory; the streams are of no more use then.
+fn put_control_frames(
+    streams: &mut EndStreams,
+    alloc: Global,
+    body: usize,
+    most: usize,
+    out: &mut Vec<u8>,
+) -> Result<ThinRetransmits, AllocError>
+    requires body { body ≤ vec_len out.old }
+    requires within { vec_len out.old ≤ body + most }
+    requires room { body + most ≤ vec_capacity out.old }
+    ensures items { OnOk result (out.new.items ≡ out.old.items ++ spelled_all (control_part most (vec_len out.old - body) streams.old.state streams.old.pending).frames) }
+    ensures within { vec_len out.new ≤ body + most }
+    ensures grows { vec_len out.old ≤ vec_len out.new }
+    ensures capacity { vec_capacity out.old ≤ vec_capacity out.new }
+    ensures state { OnOk result (streams.new.state ≡ (control_part most (vec_len out.old - body) streams.old.state streams.old.pending).state) }
+    ensures pending { OnOk result (streams.new.pending ≡ (control_part most (vec_len out.old - body) streams.old.state streams.old.pending).pending) }
+    ensures carried { IfOk result (λ kept. made kept ≡ retransmits_in (control_part most (vec_len out.old - body) streams.old.state streams.old.pending).frames) }
+    ensures front { take (vec_len out.old) out.new.items ≡ out.old.items }
+{
+    let before = out.len();
+    let mut sent = Retransmits::new(alloc);
+    streams
+        .state
+        .write_control_frames(out, body + most, &mut streams.pending, &mut sent)?;
+    if out.len() == before {
+        return Ok(ThinRetransmits::new());
+    }
+    ThinRetransmits::of(alloc, sent)
+}
+
 /// Appends a PING frame, for which there is room.
 fn put_ping(out: &mut Vec<u8>)
     requires { vec_len out.old + 1 ≤ vec_capacity out.old }
@@ -475,7 +502,8 @@ fn put_ping(out: &mut Vec<u8>)
     put_frame(out, &Frame::Ping);
 }
 
-/// Pads the payload that begins there, so that it has four bytes with its number (RFC 9001, section 5.4.2).
+/// Pads the payload that begins there, so that it has four bytes with its number (RFC 9001, section
+/// 5.4.2).
 fn pad(out: &mut Vec<u8>, width: usize, body: usize)
     requires width { width ≤ 4 }
     requires body { body ≤ vec_len out.old }

@@ -82,7 +82,7 @@ impl<H: HeaderKey + Drop, K: PacketKey + Drop, R: Rng + Drop> Connection<H, K, R
         ensures answer { result ≡ end_tells self.old.end }
         ensures end { self.new ≡ with_end self.old (end_after_event self.old.end) }
     {
-        match self.events.pop_front() {
+        match self.streams.state.poll() {
             Some(event) => Some(Event::Stream(event)),
             None => self.closing.poll().map(Event::Lost),
         }

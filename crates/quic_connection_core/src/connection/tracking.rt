@@ -3,10 +3,10 @@ ghost use Rattle.std.specs.Prelude.{◌≡◌, ◌≤◌, ◌^◌, ◌++◌, ◌
 ghost use Rattle.quic_machine.specs.Tracking.{nothing_tracked, is_idle, after_sent, loss_moment, most_doublings, after_loss_timeout, acked_by, not_acked_by, lost_below, kept_above, after_answered};
 ghost use Rattle.quic_connection_core.specs.Tracked.{Ascends, packets_in, within, outside, among, apart_from, Descends, PopsLost};
 
+use quic_retransmits::ThinRetransmits;
 use quic_send_buffer::StreamMeta;
 use quic_time::Instant;
 use quic_wire::frame::{Ack, AckIter};
-use smallvec::SmallVec;
 use std::alloc::{AllocError, Global};
 use std::collections::BTreeMap;
 use std::marker::Model;
@@ -21,24 +21,28 @@ const MOST_DOUBLINGS: u64 = 16;
 /// How far below the greatest acknowledged number a packet counts as lost (RFC 9002, section 6.1.1).
 const PACKET_THRESHOLD: u64 = 3;
 
-/// What the STREAM frames of a datagram carried, in their order (quinn-proto's `StreamMetaVec`): one stands in place.
-pub(crate) type StreamMetas = SmallVec<StreamMeta, 1>;
-
 /// What a datagram carried that matters once it is acknowledged or lost.
 #[derive(Drop)]
 pub(crate) struct Carried {
     /// The greatest number that its ACK frame named, if it had one.
     pub(crate) largest_acked: Option<u64>,
-    /// The offsets and the ends of its STREAM frames.
-    pub(crate) stream_frames: StreamMetas,
+    /// The offsets and the ends of its STREAM frames (quinn-proto's `StreamMetaVec`).
+    pub(crate) stream_frames: Vec<StreamMeta>,
+    /// What has to be sent again besides if it is lost (RFC 9000, section 13.3).
+    pub(crate) retransmits: ThinRetransmits,
 }
 
 impl Model for Carried {
     ghost use Rattle.quic_machine.specs.Tracking as words;
+    ghost use Rattle.quic_retransmits.specs.Kept.{made};
 
     ghost Value = { words.Carried };
 
-    ghost view = { λ c. record { largest_acked = c.largest_acked; stream_frames = c.stream_frames.items } };
+    ghost view = { λ c. record {
+      largest_acked = c.largest_acked;
+      stream_frames = c.stream_frames.items;
+      retransmits = made c.retransmits;
+    } };
 }
 
 /// A datagram that was sent and asks for an acknowledgement (quinn-proto's `SentPacket`).
