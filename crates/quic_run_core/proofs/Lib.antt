@@ -6,3 +6,4 @@ pub mod Showing
 pub mod Taking
 pub mod Running
 pub mod Making
+pub mod Given

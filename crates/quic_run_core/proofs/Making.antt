@@ -26,6 +26,10 @@ pub eight : (side : Side) → length (first_id side) ≡ 8
 eight Client = refl
 eight Server = refl
 
+-- these ends, which gave these datagrams
+abbrev pub the_world : End → End → List (List ℕ) → List (List ℕ) → World
+the_world a b x y = record { client = a; server = b; from_client = x; from_server = y }
+
 -- two ends that are made so meet the premises on ends
 pub are_started : (client server : Options) → IsMaking (making Client client) → IsMaking (making Server server) → AreStarted (first_world client server)
 are_started client server client_is server_is = record {
@@ -42,6 +46,10 @@ are_started client server client_is server_is = record {
     made : (side : Side) (own peer : Options) → parameters_at (making (other_side side) peer).parameters ≡ Ok (parameters_of (settings_with peer.transport true))
         → MadeFrom side (making side own).settings (making (other_side side) peer).parameters (first_id side) (first_id (other_side side)) 0 true (first_end side own peer)
     made side own peer says = rw says refl
+
+-- two such ends that gave nothing are the first ones
+pub first_ends : (client server : Options) (a b : End) (x y : List (List ℕ)) → a ≡ first_end Client client server → b ≡ first_end Server server client → x ≡ [] → y ≡ [] → the_world a b x y ≡ first_world client server
+first_ends client server a b x y is_client is_server no_client no_server = rw (is_client, is_server, no_client, no_server) refl
 
 -- an end is never refused
 pub never_refused : {E : Type 0} (side other : Side) (e : ConfigError) (read : Result ParameterValues E) (theirs : ParameterValues) (own_id peer_id : List ℕ) → read ≡ Ok theirs → own_id ≡ first_id side → other ≡ other_side side → peer_id ≡ first_id other → Some e ≡ refusal_of read own_id peer_id → ⊥

@@ -1,5 +1,5 @@
 -- What a line of a script asks for.
-use Rattle.std.specs.Prelude.{ℕ, ◌≡◌, ◌^◌, Bool, true, false, ◌==◌, ◌&&◌, nat_lt, if◌then◌else◌, List, [], ◌∷◌, length, codes, Option, Some, None, Result, Ok, Err, nat_eq}
+use Rattle.std.specs.Prelude.{ℕ, ℤ, pos, ◌≡◌, ◌^◌, Bool, true, false, ◌==◌, ◌&&◌, nat_lt, nat_le, if◌then◌else◌, List, [], ◌∷◌, length, codes, Option, Some, None, Result, Ok, Err, nat_eq}
 use denote.Ref.{Bor}
 use Rattle.std.specs.Cmp.Lexicographic.{pointwise}
 use Rattle.std.specs.List.{slice_split}
@@ -17,7 +17,7 @@ use Rattle.quic_run_core.specs.declared.script.Line.TheVariants as lines
 use Rattle.quic_run_core.specs.declared.script.LineError.{LineError}
 use Rattle.quic_run_core.specs.declared.script.LineError.TheVariants.{BadCommand, OutOfMemory}
 use Rattle.quic_run_core.specs.declared.script.Setting.{Setting}
-use Rattle.quic_run_core.specs.declared.script.Setting.TheVariants.{ReceiveWindow, StreamWindow, SendWindow, Word}
+use Rattle.quic_run_core.specs.declared.script.Setting.TheVariants.{ReceiveWindow, StreamWindow, SendWindow, Bidi, Uni, Word}
 use Rattle.quic_run_core.specs.Named.{side_named, dir_named, mark_named, timer_named, bytes_named}
 
 -- ---- what may be asked for
@@ -28,8 +28,12 @@ pub data Asked : Type 0 where
   accepts : Dir → Asked
   writes : ℕ → List ℕ → Asked
   finishes : ℕ → Asked
-  -- one `next` of at most so many bytes, and `finalize`
+  resets : ℕ → ℕ → Asked
+  sets_priority : ℕ → ℤ → Asked
+  -- one `next` of at most so many bytes, and `finalize`, in order or not
   reads : ℕ → ℕ → Asked
+  picks : ℕ → ℕ → Asked
+  stops : ℕ → ℕ → Asked
   pings : Asked
   polls : ℕ → Asked
   times_out : ℕ → Asked
@@ -38,7 +42,7 @@ pub data Asked : Type 0 where
   asks_event : Asked
   asks_timer : Timer → Asked
   asks_next : Asked
-  -- a read that no line asks for
+  -- a call that no line asks for
   others : Asked
 
 -- what is done at a line
@@ -87,6 +91,24 @@ varint_in (Some n) = varint_of n
 abbrev pub varint_named : List ℕ → Option ℕ
 varint_named word = varint_in (number_named word)
 
+-- a count of streams, 2^60 at most (RFC 9000, section 4.6)
+abbrev pub count_in : Option ℕ → Option ℕ
+count_in None = None
+count_in (Some n) = if nat_le n (2 ^ 60) then Some n else None
+
+-- the count of streams that a word names
+abbrev pub count_named : List ℕ → Option ℕ
+count_named word = count_in (number_named word)
+
+-- a priority, below 2^31
+abbrev pub priority_in : Option ℕ → Option ℤ
+priority_in None = None
+priority_in (Some n) = if nat_lt n (2 ^ 31) then Some (pos n) else None
+
+-- the priority that a word names
+abbrev pub priority_named : List ℕ → Option ℤ
+priority_named word = priority_in (number_named word)
+
 -- ---- words that stand alone behind a name
 
 -- a whole that names something, if no words are left behind it
@@ -129,13 +151,20 @@ setting_said name args =
     if is_word name (codes "receive_window") then one ReceiveWindow varint_named args
     else (if is_word name (codes "stream_window") then one StreamWindow varint_named args
     else (if is_word name (codes "send_window") then one SendWindow number_named args
+    else (if is_word name (codes "bidi") then one Bidi count_named args
+    else (if is_word name (codes "uni") then one Uni count_named args
     else (if is_word name (codes "word") then one Word number_named args
-    else None)))
+    else None)))))
 
 -- the same, where there is a name
 abbrev pub settings_said : List (List ℕ) → Option Setting
 settings_said [] = None
 settings_said (name ∷ args) = setting_said name args
+
+-- a read of one `next`, in order or not
+abbrev pub reading : Bool → ℕ → ℕ → Asked
+reading true = reads
+reading false = picks
 
 -- the call that these words ask for
 abbrev pub call_said : List ℕ → List (List ℕ) → Option Asked
@@ -144,7 +173,11 @@ call_said name args =
     else (if is_word name (codes "accept") then one accepts dir_named args
     else (if is_word name (codes "write") then two writes varint_named bytes_named args
     else (if is_word name (codes "finish") then one finishes varint_named args
-    else (if is_word name (codes "read") then two reads varint_named number_named args
+    else (if is_word name (codes "reset") then two resets varint_named varint_named args
+    else (if is_word name (codes "priority") then two sets_priority varint_named priority_named args
+    else (if is_word name (codes "read") then two (reading true) varint_named number_named args
+    else (if is_word name (codes "pick") then two (reading false) varint_named number_named args
+    else (if is_word name (codes "stop") then two stops varint_named varint_named args
     else (if is_word name (codes "ping") then ends args (Some pings)
     else (if is_word name (codes "poll") then one polls number_named args
     else (if is_word name (codes "timeout") then one times_out number_named args
@@ -153,7 +186,7 @@ call_said name args =
     else (if is_word name (codes "event") then ends args (Some asks_event)
     else (if is_word name (codes "timer") then one asks_timer timer_named args
     else (if is_word name (codes "next") then ends args (Some asks_next)
-    else None))))))))))))
+    else None))))))))))))))))
 
 -- what the words behind an end's ask for
 abbrev pub command_said : Side → List ℕ → List (List ℕ) → Option Command
@@ -190,11 +223,11 @@ said line =
 -- ---- what was read of a line
 
 -- a read, by its nexts and by whether it ends by `finalize`
-abbrev pub asked_read : ℕ → List ℕ → Bool → Asked
-asked_read id [] done = others
-asked_read id (most ∷ []) true = reads id most
-asked_read id (most ∷ []) false = others
-asked_read id (most ∷ next ∷ mosts) done = others
+abbrev pub asked_read : ℕ → Bool → List ℕ → Bool → Asked
+asked_read id ordered [] done = others
+asked_read id ordered (most ∷ []) true = reading ordered id most
+asked_read id ordered (most ∷ []) false = others
+asked_read id ordered (most ∷ next ∷ mosts) done = others
 
 -- what a call asks for
 abbrev pub asked_of : Call → Asked
@@ -202,7 +235,12 @@ asked_of (calls.Open dir) = opens dir
 asked_of (calls.Accept dir) = accepts dir
 asked_of (calls.Write id bytes) = writes id bytes
 asked_of (calls.Finish id) = finishes id
-asked_of (calls.Read read) = asked_read read.id read.nexts.items read.finalize
+asked_of (calls.Reset id code) = resets id code
+asked_of (calls.SetPriority id priority) = sets_priority id priority
+asked_of (calls.Read read) = asked_read read.id read.ordered read.nexts.items read.finalize
+asked_of (calls.Stop id code) = stops id code
+asked_of (calls.WriteChunks id chunks) = others
+asked_of (calls.ReceivedReset id) = others
 asked_of calls.Ping = pings
 asked_of (calls.Poll now) = polls now
 asked_of (calls.Timeout now) = times_out now

@@ -1,17 +1,25 @@
 -- What is printed of an answer.
-use Rattle.std.specs.Prelude.{ℕ, ◌-◌, List, [], ◌∷◌, ◌++◌, codes, Option, Some, None, Result, Ok, Err}
+use Rattle.std.specs.Prelude.{ℕ, Bool, true, false, ◌-◌, List, [], ◌∷◌, ◌++◌, codes, Option, Some, None, Result, Ok, Err}
 use Rattle.std.specs.Fmt.{decimal}
 use Rattle.hex.specs.Hex.{encode_lower}
 use Rattle.quic_wire_core.specs.declared.shared.EcnCodepoint.{EcnCodepoint}
 use Rattle.quic_wire_core.specs.declared.shared.EcnCodepoint.TheVariants.{Ect0, Ect1, Ce}
 use Rattle.quic_assembler.specs.declared.assembler.Chunk.{Chunk}
-use Rattle.quic_streams.specs.declared.answers.WriteError.{WriteError}
-use Rattle.quic_streams.specs.declared.answers.WriteError.TheVariants as writes
-use Rattle.quic_streams.specs.declared.answers.FinishError.{FinishError}
-use Rattle.quic_streams.specs.declared.answers.FinishError.TheVariants as finishes
-use Rattle.quic_streams.specs.declared.answers.ReadError.{ReadError}
-use Rattle.quic_streams.specs.declared.answers.ReadError.TheVariants as reads
-use Rattle.quic_streams.specs.declared.answers.ReadableError.TheVariants as readables
+use Rattle.quic_streams_parts.specs.declared.answers.WriteError.{WriteError}
+use Rattle.quic_streams_parts.specs.declared.answers.WriteError.TheVariants as writes
+use Rattle.quic_streams_parts.specs.declared.answers.FinishError.{FinishError}
+use Rattle.quic_streams_parts.specs.declared.answers.FinishError.TheVariants as finishes
+use Rattle.quic_streams_parts.specs.declared.answers.ReadError.{ReadError}
+use Rattle.quic_streams_parts.specs.declared.answers.ReadError.TheVariants as reads
+use Rattle.quic_streams_parts.specs.declared.answers.UpdateError.{UpdateError}
+use Rattle.quic_streams_parts.specs.declared.answers.UpdateError.TheVariants as updates
+use Rattle.quic_streams_parts.specs.declared.answers.ClosedStream.{ClosedStream}
+use Rattle.quic_streams_parts.specs.declared.answers.Written.{Written}
+use Rattle.quic_streams_parts.specs.declared.answers.StreamEvent.{StreamEvent}
+use Rattle.quic_wire_core.specs.declared.stream_id.Dir.{Dir}
+use Rattle.quic_wire_core.specs.declared.stream_id.Dir.TheVariants.{Bi, Uni}
+use Rattle.quic_streams_parts.specs.declared.answers.ReadableError.{ReadableError}
+use Rattle.quic_streams_parts.specs.declared.answers.ReadableError.TheVariants as readables
 use Rattle.quic_machine.specs.declared.answers.DropReason.{DropReason}
 use Rattle.quic_machine.specs.declared.answers.DropReason.TheVariants as drops
 use Rattle.quic_machine.specs.declared.answers.Received.{Received}
@@ -20,7 +28,7 @@ use Rattle.quic_machine.specs.declared.answers.Transmit.{Transmit}
 use Rattle.quic_machine.specs.declared.answers.Failed.{Failed}
 use Rattle.quic_machine.specs.declared.answers.LostReason.{LostReason}
 use Rattle.quic_machine.specs.declared.answers.LostReason.TheVariants as losses
-use Rattle.quic_streams.specs.declared.answers.StreamEvent.TheVariants as happenings
+use Rattle.quic_streams_parts.specs.declared.answers.StreamEvent.TheVariants as happenings
 use Rattle.quic_machine.specs.declared.answers.Event.{Event}
 use Rattle.quic_machine.specs.declared.answers.Event.TheVariants as events
 use Rattle.quic_machine.specs.declared.run.Call.{Call}
@@ -71,6 +79,24 @@ abbrev pub finish_text : Result (Unit {0}) FinishError → List ℕ
 finish_text (Ok done) = codes "ok"
 finish_text (Err (finishes.Stopped code)) = coded_text (codes "stopped") code
 finish_text (Err finishes.ClosedStream) = codes "closed"
+finish_text (Err finishes.Memory) = codes "memory"
+
+-- how many bytes and whole buffers a write took, or why none
+abbrev pub chunks_text : Result Written WriteError → List ℕ
+chunks_text (Ok written) = decimal written.bytes ++ (codes " " ++ decimal written.chunks)
+chunks_text (Err error) = write_text (Err error)
+
+-- whether a stream was reset, stopped or given a priority, or why not
+abbrev pub update_text : Result (Unit {0}) UpdateError → List ℕ
+update_text (Ok done) = codes "ok"
+update_text (Err updates.ClosedStream) = codes "closed"
+update_text (Err updates.Memory) = codes "memory"
+
+-- the code with which the peer reset a stream, if it did
+abbrev pub reset_text : Result (Option ℕ) ClosedStream → List ℕ
+reset_text (Ok (Some code)) = coded_text (codes "reset") code
+reset_text (Ok None) = codes "none"
+reset_text (Err closed) = codes "closed"
 
 -- a chunk's offset and bytes, the end of the stream, or why there is neither
 abbrev pub next_text : Result (Option Chunk) ReadError → List ℕ
@@ -79,6 +105,12 @@ next_text (Ok None) = codes "end"
 next_text (Err reads.Blocked) = codes "blocked"
 next_text (Err (reads.Reset code)) = coded_text (codes "reset") code
 next_text (Err reads.Memory) = codes "memory"
+
+-- why a stream can't be read
+abbrev pub unreadable_text : ReadableError → List ℕ
+unreadable_text readables.ClosedStream = codes "closed"
+unreadable_text readables.IllegalOrderedRead = codes "illegal"
+unreadable_text readables.Memory = codes "memory"
 
 -- the answer of the first `next` of a read
 abbrev pub first_next_text : List (Result (Option Chunk) ReadError) → List ℕ
@@ -123,9 +155,23 @@ loss_text losses.KeyLimit = codes "keylimit"
 loss_text losses.NumberLimit = codes "numberlimit"
 loss_text (losses.Transport error) = codes "transport"
 
+-- how a kind of stream is named
+abbrev pub dir_text : Dir → List ℕ
+dir_text Bi = codes "bi"
+dir_text Uni = codes "uni"
+
+-- what happened to streams
+abbrev pub stream_event_text : StreamEvent → List ℕ
+stream_event_text (happenings.Opened dir) = codes "opened " ++ dir_text dir
+stream_event_text (happenings.Readable id) = coded_text (codes "readable") id
+stream_event_text (happenings.Writable id) = coded_text (codes "writable") id
+stream_event_text (happenings.Finished id) = coded_text (codes "finished") id
+stream_event_text (happenings.Stopped id code) = coded_text (coded_text (codes "stopped") id) code
+stream_event_text (happenings.Available dir) = codes "available " ++ dir_text dir
+
 -- what the application is told, if anything
 abbrev pub event_text : Option Event → List ℕ
-event_text (Some (events.Stream (happenings.Finished id))) = coded_text (codes "finished") id
+event_text (Some (events.Stream event)) = stream_event_text event
 event_text (Some (events.Lost reason)) = codes "lost " ++ loss_text reason
 event_text None = codes "none"
 
@@ -138,14 +184,17 @@ rest_text None = codes "gave up"
 
 -- An answer, where the end gave so many datagrams by then: a datagram is the last of these, counted from 0.
 abbrev pub answer_text : ℕ → Answer → List ℕ
-answer_text given (answers.Open (Ok id)) = id_text id
-answer_text given (answers.Open (Err lacked)) = codes "memory"
+answer_text given (answers.Open id) = id_text id
 answer_text given (answers.Accept id) = id_text id
 answer_text given (answers.Write written) = write_text written
 answer_text given (answers.Finish finished) = finish_text finished
+answer_text given (answers.WriteChunks written) = chunks_text written
+answer_text given (answers.Reset done) = update_text done
+answer_text given (answers.SetPriority done) = update_text done
+answer_text given (answers.Stop done) = update_text done
+answer_text given (answers.ReceivedReset code) = reset_text code
 answer_text given (answers.Read (Ok nexts)) = first_next_text nexts
-answer_text given (answers.Read (Err readables.ClosedStream)) = codes "closed"
-answer_text given (answers.Read (Err readables.Memory)) = codes "memory"
+answer_text given (answers.Read (Err error)) = unreadable_text error
 answer_text given answers.Ping = codes "ok"
 answer_text given (answers.Poll (Ok (Some transmit))) = transmit_text (given - 1) transmit
 answer_text given (answers.Poll (Ok None)) = codes "none"
@@ -161,13 +210,23 @@ answer_text given (answers.NextTimeout moment) = moment_text moment
 
 -- ---- calls
 
+-- how a read is named, in order or not
+abbrev pub read_name : Bool → List ℕ
+read_name true = codes "read"
+read_name false = codes "pick"
+
 -- how a call is named
 abbrev pub call_text : Call → List ℕ
 call_text (calls.Open dir) = codes "open"
 call_text (calls.Accept dir) = codes "accept"
 call_text (calls.Write id bytes) = codes "write"
 call_text (calls.Finish id) = codes "finish"
-call_text (calls.Read read) = codes "read"
+call_text (calls.WriteChunks id chunks) = codes "write_chunks"
+call_text (calls.Reset id code) = codes "reset"
+call_text (calls.SetPriority id priority) = codes "priority"
+call_text (calls.Read read) = read_name read.ordered
+call_text (calls.Stop id code) = codes "stop"
+call_text (calls.ReceivedReset id) = codes "received_reset"
 call_text calls.Ping = codes "ping"
 call_text (calls.Poll now) = codes "poll"
 call_text (calls.Timeout now) = codes "timeout"

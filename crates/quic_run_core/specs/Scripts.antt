@@ -1,5 +1,5 @@
 -- What a script does: its lines in turn, each with what it prints.
-use Rattle.std.specs.Prelude.{◌≡◌, ◌≤◌, ◌==◌, ℕ, true, List, [], ◌∷◌, ◌++◌, length, replicate, codes, Option, Some, None, IsSome, IfSome, Ok}
+use Rattle.std.specs.Prelude.{min, ◌^◌, ◌≡◌, ◌≤◌, ◌==◌, ℕ, true, List, [], ◌∷◌, ◌++◌, length, replicate, codes, Option, Some, None, IsSome, IfSome, Ok}
 use Rattle.std.specs.declared.alloc.AllocError.{AllocError}
 use Rattle.std.specs.List.{slice_split}
 use Rattle.quic_wire_core.specs.declared.stream_id.Side.{Side}
@@ -16,7 +16,7 @@ use Rattle.quic_machine.specs.declared.run.Answer.{Answer}
 use Rattle.quic_connection.specs.Settled.{AreAtRest, Settles}
 use Rattle.quic_run_core.specs.declared.options.Options.{Options}
 use Rattle.quic_run_core.specs.declared.script.Setting.{Setting}
-use Rattle.quic_run_core.specs.declared.script.Setting.TheVariants.{ReceiveWindow, StreamWindow, SendWindow, Word}
+use Rattle.quic_run_core.specs.declared.script.Setting.TheVariants.{ReceiveWindow, StreamWindow, SendWindow, Bidi, Uni, Word}
 use Rattle.quic_run_core.specs.Policies.{plain_policies}
 use Rattle.quic_run_core.specs.Printed.{call_text, rest_text, answer_text}
 use Rattle.quic_run_core.specs.Shown.{shown_text}
@@ -33,6 +33,8 @@ abbrev pub with_setting : Setting → Options → Options
 with_setting (ReceiveWindow value) o = record { transport = record o.transport { receive_window = value }; word = o.word }
 with_setting (StreamWindow value) o = record { transport = record o.transport { stream_receive_window = value }; word = o.word }
 with_setting (SendWindow value) o = record { transport = record o.transport { send_window = value }; word = o.word }
+with_setting (Bidi count) o = record { transport = record o.transport { max_bidi = min count (2 ^ 60) }; word = o.word }
+with_setting (Uni count) o = record { transport = record o.transport { max_uni = min count (2 ^ 60) }; word = o.word }
 with_setting (Word word) o = record { transport = o.transport; word = word }
 
 -- ---- the ends

@@ -1,12 +1,12 @@
 //! What is printed of an answer.
 ghost use Rattle.std.specs.Prelude.{◌≡◌, ◌++◌, OnOk, string_bytes};
-ghost use Rattle.quic_run_core.specs.Printed.{bytes_text, coded_text, id_text, moment_text, mark_text, write_text, finish_text, next_text, transmit_text, reason_text, received_text, timeout_text, loss_text, event_text, rest_text, answer_text, call_text};
+ghost use Rattle.quic_run_core.specs.Printed.{bytes_text, coded_text, id_text, moment_text, mark_text, write_text, chunks_text, finish_text, update_text, reset_text, dir_text, stream_event_text, unreadable_text, next_text, transmit_text, reason_text, received_text, timeout_text, loss_text, event_text, rest_text, answer_text, call_text};
 
 use quic_connection::{
-    Answer, Call, Chunk, DropReason, Event, Failed, FinishError, Instant, LostReason, ReadError,
-    ReadableError, Received, StreamEvent, Transmit, WriteError,
+    Answer, Call, Chunk, ClosedStream, DropReason, Event, Failed, FinishError, Instant, LostReason,
+    ReadError, ReadableError, Received, StreamEvent, Transmit, UpdateError, WriteError, Written,
 };
-use quic_wire_core::{EcnCodepoint, StreamId, VarInt};
+use quic_wire_core::{Dir, EcnCodepoint, StreamId, VarInt};
 use std::alloc::{AllocError, Global};
 
 /// Appends a number in words, as `stopped 7`.
@@ -75,6 +75,45 @@ fn put_finish(out: &mut String, finished: &Result<(), FinishError>) -> Result<()
         Ok(()) => out.push_str("ok"),
         Err(FinishError::Stopped(code)) => put_code(out, "stopped", *code),
         Err(FinishError::ClosedStream) => out.push_str("closed"),
+        Err(FinishError::Memory) => out.push_str("memory"),
+    }
+}
+
+/// Appends how many bytes and whole buffers a write took, or why none.
+fn put_write_chunks(
+    out: &mut String,
+    written: &Result<Written, WriteError>,
+) -> Result<(), AllocError>
+    ensures { OnOk result (string_bytes out.new ≡ string_bytes out.old ++ chunks_text written.now) }
+{
+    match written {
+        Ok(Written { bytes, chunks }) => write!(out, "{bytes} {chunks}"),
+        Err(error) => put_write(out, &Err(*error)),
+    }
+}
+
+/// How it is printed whether a stream was reset, stopped or given a priority.
+fn update_name(done: &Result<(), UpdateError>) -> &'static str
+    ensures { result.now ≡ update_text done.now }
+{
+    match done {
+        Ok(()) => "ok",
+        Err(UpdateError::ClosedStream) => "closed",
+        Err(UpdateError::Memory) => "memory",
+    }
+}
+
+/// Appends the code with which the peer reset a stream, if it did.
+fn put_reset(
+    out: &mut String,
+    reset: &Result<Option<VarInt>, ClosedStream>,
+) -> Result<(), AllocError>
+    ensures { OnOk result (string_bytes out.new ≡ string_bytes out.old ++ reset_text reset.now) }
+{
+    match reset {
+        Ok(Some(code)) => put_code(out, "reset", *code),
+        Ok(None) => out.push_str("none"),
+        Err(ClosedStream) => out.push_str("closed"),
     }
 }
 
@@ -96,6 +135,17 @@ fn put_next(
         Err(ReadError::Blocked) => out.push_str("blocked"),
         Err(ReadError::Reset(code)) => put_code(out, "reset", *code),
         Err(ReadError::Memory) => out.push_str("memory"),
+    }
+}
+
+/// How it is printed why a stream can't be read.
+fn unreadable_name(error: ReadableError) -> &'static str
+    ensures { result.now ≡ unreadable_text error }
+{
+    match error {
+        ReadableError::ClosedStream => "closed",
+        ReadableError::IllegalOrderedRead => "illegal",
+        ReadableError::Memory => "memory",
     }
 }
 
@@ -177,14 +227,46 @@ fn loss_name(reason: &LostReason) -> &'static str
     }
 }
 
+/// How a kind of stream is printed.
+fn dir_name(dir: Dir) -> &'static str
+    ensures { result.now ≡ dir_text dir }
+{
+    match dir {
+        Dir::Bi => "bi",
+        Dir::Uni => "uni",
+    }
+}
+
+/// Appends what happened to streams.
+fn put_stream_event(out: &mut String, event: &StreamEvent) -> Result<(), AllocError>
+    ensures { OnOk result (string_bytes out.new ≡ string_bytes out.old ++ stream_event_text event.now) }
+{
+    match event {
+        StreamEvent::Opened { dir } => {
+            let name = dir_name(*dir);
+            write!(out, "opened {name}")
+        }
+        StreamEvent::Readable { id } => put_code(out, "readable", VarInt::from(*id)),
+        StreamEvent::Writable { id } => put_code(out, "writable", VarInt::from(*id)),
+        StreamEvent::Finished { id } => put_code(out, "finished", VarInt::from(*id)),
+        StreamEvent::Stopped { id, error_code } => {
+            put_code(out, "stopped", VarInt::from(*id))?;
+            let code = error_code.into_inner();
+            write!(out, " {code}")
+        }
+        StreamEvent::Available { dir } => {
+            let name = dir_name(*dir);
+            write!(out, "available {name}")
+        }
+    }
+}
+
 /// Appends what the application is told, if anything.
 fn put_event(out: &mut String, event: &Option<Event>) -> Result<(), AllocError>
     ensures { OnOk result (string_bytes out.new ≡ string_bytes out.old ++ event_text event.now) }
 {
     match event {
-        Some(Event::Stream(StreamEvent::Finished(id))) => {
-            put_code(out, "finished", VarInt::from(*id))
-        }
+        Some(Event::Stream(event)) => put_stream_event(out, event),
         Some(Event::Lost(reason)) => {
             let name = loss_name(reason);
             write!(out, "lost {name}")
@@ -216,12 +298,15 @@ pub(crate) fn put_answer(
     ensures { OnOk result (string_bytes out.new ≡ string_bytes out.old ++ answer_text given answer.now) }
 {
     match answer {
-        Answer::Open(Ok(id)) => put_id(out, *id),
-        Answer::Accept(id) => put_id(out, *id),
-        Answer::Open(Err(_)) | Answer::Read(Err(ReadableError::Memory)) => out.push_str("memory"),
+        Answer::Open(id) | Answer::Accept(id) => put_id(out, *id),
         Answer::Write(written) => put_write(out, written),
+        Answer::WriteChunks(written) => put_write_chunks(out, written),
         Answer::Finish(finished) => put_finish(out, finished),
-        Answer::Read(Err(ReadableError::ClosedStream)) => out.push_str("closed"),
+        Answer::Reset(done) | Answer::SetPriority(done) | Answer::Stop(done) => {
+            out.push_str(update_name(done))
+        }
+        Answer::ReceivedReset(reset) => put_reset(out, reset),
+        Answer::Read(Err(error)) => out.push_str(unreadable_name(*error)),
         Answer::Read(Ok(nexts)) => match nexts.as_slice() {
             [next, ..] => put_next(alloc, out, next),
             [] => Ok(()),
@@ -247,8 +332,14 @@ pub(crate) fn call_name(call: &Call) -> &'static str
         Call::Open(_) => "open",
         Call::Accept(_) => "accept",
         Call::Write(_, _) => "write",
+        Call::WriteChunks(_, _) => "write_chunks",
         Call::Finish(_) => "finish",
-        Call::Read(_) => "read",
+        Call::Reset(_, _) => "reset",
+        Call::SetPriority(_, _) => "priority",
+        Call::Read(read) if read.ordered => "read",
+        Call::Read(_) => "pick",
+        Call::Stop(_, _) => "stop",
+        Call::ReceivedReset(_) => "received_reset",
         Call::Ping => "ping",
         Call::Poll(_) => "poll",
         Call::Timeout(_) => "timeout",

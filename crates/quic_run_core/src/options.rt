@@ -40,6 +40,12 @@ impl Options {
             Setting::SendWindow(value) => {
                 self.transport.send_window(value);
             }
+            Setting::Bidi(count) => {
+                self.transport.max_concurrent_bidi_streams(count);
+            }
+            Setting::Uni(count) => {
+                self.transport.max_concurrent_uni_streams(count);
+            }
             Setting::Word(word) => self.word = word,
         }
     }

@@ -5,7 +5,7 @@ ghost use Rattle.std.specs.List.{list_any};
 ghost use Rattle.std.specs.Option.{SomeIff};
 ghost use Rattle.std.specs.Str.Parse.{IsNumeral, digits_value};
 ghost use Rattle.quic_run_core.specs.Named.{side_named, dir_named, mark_named, timer_named, bytes_named};
-ghost use Rattle.quic_run_core.specs.Language.{number_named, varint_named, first, two, three, reads, delivers, injects, words_left, setting_said, settings_said, call_said, command_said, end_said, words_said, is_skipped, said, command_of, asked_of, asked_read, Reads, words as words_of};
+ghost use Rattle.quic_run_core.specs.Language.{number_named, varint_named, count_in, count_named, priority_named, first, two, three, reading, resets, stops, delivers, injects, words_left, setting_said, settings_said, call_said, command_said, end_said, words_said, is_skipped, said, command_of, asked_of, asked_read, Reads, words as words_of};
 
 use bytes::Bytes;
 use hex::FromHexError;
@@ -41,6 +41,10 @@ pub enum Setting {
     StreamWindow(VarInt),
     /// How many bytes may be written that the peer hasn't acknowledged.
     SendWindow(u64),
+    /// How many two-way streams the peer may have open at a time, 2^60 at most.
+    Bidi(VarInt),
+    /// How many one-way streams the peer may have open at a time, 2^60 at most.
+    Uni(VarInt),
     /// The random word that the end is given each time.
     Word(u64),
 }
@@ -105,6 +109,20 @@ impl<'a> LineWords<'a> {
         VarInt::from_u64(self.number()?).map_err(|_| LineError::BadCommand)
     }
 
+    fn count(&mut self) -> Result<VarInt, LineError>
+        ensures answer { result ≡ ok_or (first count_named (words_left self.old.rest)) LineError.BadCommand }
+        ensures rest { words_left self.new.rest ≡ drop 1 (words_left self.old.rest) }
+    {
+        count_of(self.number()?).ok_or(LineError::BadCommand)
+    }
+
+    fn priority(&mut self) -> Result<i32, LineError>
+        ensures answer { result ≡ ok_or (first priority_named (words_left self.old.rest)) LineError.BadCommand }
+        ensures rest { words_left self.new.rest ≡ drop 1 (words_left self.old.rest) }
+    {
+        i32::try_from(self.number()?).map_err(|_| LineError::BadCommand)
+    }
+
     fn stream_id(&mut self) -> Result<StreamId, LineError>
         ensures answer { result ≡ ok_or (first varint_named (words_left self.old.rest)) LineError.BadCommand }
         ensures rest { words_left self.new.rest ≡ drop 1 (words_left self.old.rest) }
@@ -164,13 +182,14 @@ impl<'a> LineWords<'a> {
         setting_of(name, self)
     }
 
-    fn read_call(&mut self, alloc: Global) -> Result<ReadCall, LineError>
-        ensures { Reads result (λ read. asked_read read.id read.nexts.items read.finalize) (two reads varint_named number_named (words_left self.old.rest)) (words_left self.new.rest) }
+    fn read_call(&mut self, alloc: Global, ordered: bool) -> Result<ReadCall, LineError>
+        ensures { Reads result (λ read. asked_read read.id read.ordered read.nexts.items read.finalize) (two (reading ordered) varint_named number_named (words_left self.old.rest)) (words_left self.new.rest) }
     {
         let id = self.stream_id()?;
         let max = self.index()?;
         Ok(ReadCall {
             id,
+            ordered,
             nexts: Vec::from_slice(alloc, &[max])?,
             finalize: true,
         })
@@ -206,6 +225,16 @@ fn number(word: &str) -> Option<u64>
         [b'+', ..] => None,
         _ => word.parse().ok(),
     }
+}
+
+/// A count of streams, 2^60 at most (RFC 9000, section 4.6).
+fn count_of(number: u64) -> Option<VarInt>
+    ensures { result ≡ count_in (Some number) }
+{
+    if number > 1 << 60 {
+        return None;
+    }
+    VarInt::from_u64(number).ok()
 }
 
 /// An end: `c` for the client, `s` for the server.
@@ -295,6 +324,8 @@ fn setting_of(name: &str, words: &mut LineWords) -> Result<Setting, LineError>
         "receive_window" => Ok(Setting::ReceiveWindow(words.varint()?)),
         "stream_window" => Ok(Setting::StreamWindow(words.varint()?)),
         "send_window" => Ok(Setting::SendWindow(words.number()?)),
+        "bidi" => Ok(Setting::Bidi(words.count()?)),
+        "uni" => Ok(Setting::Uni(words.count()?)),
         "word" => Ok(Setting::Word(words.number()?)),
         _ => Err(LineError::BadCommand),
     }
@@ -312,7 +343,20 @@ fn call_of(alloc: Global, name: &str, words: &mut LineWords) -> Result<Call, Lin
             Ok(Call::Write(id, words.bytes(alloc)?))
         }
         "finish" => Ok(Call::Finish(words.stream_id()?)),
-        "read" => Ok(Call::Read(words.read_call(alloc)?)),
+        "reset" => {
+            let id = words.stream_id()?;
+            Ok(Call::Reset(id, words.varint()?))
+        }
+        "priority" => {
+            let id = words.stream_id()?;
+            Ok(Call::SetPriority(id, words.priority()?))
+        }
+        "read" => Ok(Call::Read(words.read_call(alloc, true)?)),
+        "pick" => Ok(Call::Read(words.read_call(alloc, false)?)),
+        "stop" => {
+            let id = words.stream_id()?;
+            Ok(Call::Stop(id, words.varint()?))
+        }
         "ping" => Ok(Call::Ping),
         "poll" => Ok(Call::Poll(words.moment()?)),
         "timeout" => Ok(Call::Timeout(words.moment()?)),

@@ -14,7 +14,7 @@ use quic_connection::{
 use quic_run_core::Words;
 use quic_run_core::key::{PlainHeaderKey, PlainKey, keys_for};
 use quic_run_core::laws::keys_meet_the_premises;
-use quic_wire_core::{ConnectionId, Dir, EcnCodepoint, Side, StreamId};
+use quic_wire_core::{ConnectionId, Dir, EcnCodepoint, Side, StreamId, VarInt};
 use std::alloc::{AllocError, Global};
 
 type BothEnds = Ends<PlainHeaderKey, PlainKey, Words>;
@@ -27,11 +27,11 @@ fn id_of(side: Side) -> ConnectionId {
     }
 }
 
-fn making(side: Side) -> Making<PlainHeaderKey, PlainKey, Words>
+fn making(side: Side, transport: TransportConfig) -> Making<PlainHeaderKey, PlainKey, Words>
     ensures { result.keys ≡ keys_of side }
 {
     Making {
-        config: Config::new(TransportConfig::default()),
+        config: Config::new(transport),
         id: id_of(side),
         keys: keys_for(side),
         random: Words::word(63),
@@ -41,13 +41,38 @@ fn making(side: Side) -> Making<PlainHeaderKey, PlainKey, Words>
 
 /// Two ends that are made for one another at the moment 0: they and their keys meet what the promises
 /// on runs ask.
-pub(crate) fn new_ends(alloc: Global) -> Result<BothEnds, ConfigError>
+fn ends_with(alloc: Global, transport: TransportConfig) -> Result<BothEnds, ConfigError>
     ensures started { IfOk result (λ ends. AreStarted (first_world ends)) }
     ensures keys { IfOk result (λ ends. AreKeys (policies_in ends)) }
 {
     keys_meet_the_premises();
     let now = Instant::from_nanos(0);
-    Ends::new(alloc, now, making(Side::Client), making(Side::Server))
+    let client = making(Side::Client, transport);
+    let server = making(Side::Server, transport);
+    Ends::new(alloc, now, client, server)
+}
+
+/// Two such ends where nothing is set.
+pub(crate) fn new_ends(alloc: Global) -> Result<BothEnds, ConfigError>
+    ensures started { IfOk result (λ ends. AreStarted (first_world ends)) }
+    ensures keys { IfOk result (λ ends. AreKeys (policies_in ends)) }
+{
+    ends_with(alloc, TransportConfig::default())
+}
+
+/// Two such ends under small limits: 48 bytes on all streams, 16 on each, 40 that aren't acknowledged, two streams of
+/// either kind at once.
+pub(crate) fn limited_ends(alloc: Global) -> Result<BothEnds, ConfigError>
+    ensures started { IfOk result (λ ends. AreStarted (first_world ends)) }
+    ensures keys { IfOk result (λ ends. AreKeys (policies_in ends)) }
+{
+    let mut transport = TransportConfig::default();
+    transport.receive_window(VarInt::from_u32(48));
+    transport.stream_receive_window(VarInt::from_u32(16));
+    transport.send_window(40);
+    transport.max_concurrent_bidi_streams(VarInt::from_u32(2));
+    transport.max_concurrent_uni_streams(VarInt::from_u32(2));
+    ends_with(alloc, transport)
 }
 
 /// Two ends, and the datagrams that they gave.
@@ -60,11 +85,15 @@ pub(crate) struct Pair {
 
 impl Pair {
     pub(crate) fn new(alloc: Global) -> Result<Pair, ConfigError> {
-        Ok(Pair {
+        Ok(Pair::of(alloc, new_ends(alloc)?))
+    }
+
+    pub(crate) fn of(alloc: Global, ends: BothEnds) -> Pair {
+        Pair {
             alloc,
-            ends: new_ends(alloc)?,
+            ends,
             given: Given::new(alloc),
-        })
+        }
     }
 
     /// Makes the call of one event.
@@ -92,6 +121,7 @@ pub(crate) fn event(side: Side, call: Call) -> RunEvent {
 pub(crate) fn read_call(alloc: Global, bounds: &[usize]) -> Result<Call, AllocError> {
     Ok(Call::Read(ReadCall {
         id: stream(),
+        ordered: true,
         nexts: Vec::from_slice(alloc, bounds)?,
         finalize: true,
     }))
@@ -137,7 +167,7 @@ pub(crate) fn is_hello(answer: &Answer) -> bool {
 /// Whether the event of this index of `hello` is answered as where memory serves.
 pub(crate) fn is_served(index: usize, answer: &Answer) -> bool {
     match (index, answer) {
-        (0, Answer::Open(Ok(Some(id)))) => *id == stream(),
+        (0, Answer::Open(Some(id))) => *id == stream(),
         (1, Answer::Write(Ok(5))) | (2, Answer::Finish(Ok(()))) => true,
         (3, Answer::Poll(Ok(Some(transmit)))) => transmit.size == 34,
         (4, Answer::Deliver(Received::Taken)) => true,

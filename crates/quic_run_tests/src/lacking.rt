@@ -3,7 +3,8 @@
 use crate::config::DEFAULTS;
 use crate::ends::{Pair, hello, is_served, new_ends, ran};
 use quic_connection::{
-    Answer, Call, Config, ConfigError, Instant, Received, RunEvent, TransportConfig, WriteError,
+    Answer, Call, Config, ConfigError, FinishError, Instant, ReadableError, Received, RunEvent,
+    TransportConfig, WriteError,
 };
 use quic_parameters::TransportParameters;
 use quic_wire_core::Side;
@@ -84,8 +85,9 @@ fn a_step(rt: HostRuntime) -> Result<(), Fail> {
 fn lacks_memory(answer: &Answer) -> bool {
     matches!(
         answer,
-        Answer::Open(Err(AllocError))
-            | Answer::Write(Err(WriteError::Memory))
+        Answer::Write(Err(WriteError::Memory))
+            | Answer::Finish(Err(FinishError::Memory))
+            | Answer::Read(Err(ReadableError::Memory))
             | Answer::Poll(Err(_))
             | Answer::Deliver(Received::Failed)
     )

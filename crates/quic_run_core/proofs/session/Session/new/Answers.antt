@@ -1,6 +1,6 @@
 use Rattle.std.proofs.Common.{refl}
 use Rattle.std.proofs.lemmas.Result.{err_from_is_err_and}
-use Rattle.quic_run_core.proofs.Making.{are_started}
+use Rattle.quic_run_core.proofs.Making.{first_ends, are_started}
 use Rattle.quic_run_core.proofs.session.Session.new.Goals as goal
 
 pub returns-clause-started : goal.returns-clause-started
@@ -17,3 +17,6 @@ invariant_of-result c = record {
   client_known = rw (c.new.ensures.client, c.new-2.ensures.items) refl;
   server_known = rw (c.new.ensures.server, c.new-3.ensures.items) refl;
 }
+
+pub returns-clause-world : goal.returns-clause-world
+returns-clause-world c = first_ends c.args.client.now c.args.server.now _ _ _ _ c.in_ok-make_end.ensures.end c.in_ok-make_end-2.ensures.end c.new.ensures.client c.new.ensures.server
