@@ -120,6 +120,14 @@ impl Way {
     }
 }
 
+/// The stream that was told to be finished, if one was.
+fn finished_of(told: &Answer) -> Option<StreamId> {
+    match told {
+        Answer::Event(Some(Event::Stream(StreamEvent::Finished { id }))) => Some(*id),
+        _ => None,
+    }
+}
+
 /// Two ends in mid-run.
 #[derive(Drop)]
 struct World {
@@ -247,13 +255,11 @@ impl World {
 
     /// An end asks what it is told, and accepts what the other opened.
     fn hear(&mut self, side: Side) -> Result<(), Fail> {
-        match self.call(side, Call::Event)? {
-            Answer::Event(Some(Event::Stream(StreamEvent::Finished { id }))) => {
-                self.finish(side, id)
-            }
-            Answer::Event(Some(Event::Lost(_))) => self.is_wrong = true,
-            _ => {}
+        let told = self.call(side, Call::Event)?;
+        if let Some(id) = finished_of(&told) {
+            self.finish(side, id);
         }
+        self.is_wrong = self.is_wrong || matches!(told, Answer::Event(Some(Event::Lost(_))));
         self.call(side, Call::Accept(Dir::Bi))?;
         self.call(side, Call::Accept(Dir::Uni))?;
         Ok(())
