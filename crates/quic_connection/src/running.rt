@@ -8,6 +8,7 @@ ghost use Rattle.quic_time.specs.Timers.{each_timer};
 ghost use Rattle.quic_headline.specs.Causes.{NoBlame, TooManyPieces, NumberLimit, TakenOrTooMany};
 ghost use Rattle.quic_headline.specs.Headline.{CodeIsSmall, AreCodes, OrderedPrefix, Slices, Once, EndAfterAll, BlockedOnlyWithoutBytes, AcceptsAll, FinishedMeansArrived, FinishedIsTold, AcknowledgedWereTaken, NamesWereTaken, OpensExactly, LossTimersFollow, AckTimersFollow, NumbersRise};
 ghost use Rattle.quic_headline.specs.Duties.{DutiesStand};
+ghost use Rattle.quic_headline.specs.Grown.{GrownLimitsWait};
 ghost use Rattle.quic_headline.specs.InFlight.{TracksInFlight};
 ghost use Rattle.quic_headline.specs.Moments.{LossMoments, AckMoments};
 ghost use Rattle.quic_connection.specs.Ends.{world_of, first_world, world_left, policies_of, held_of, OnHonest, AtEachPlace};
@@ -354,6 +355,8 @@ pub fn run<H: HeaderKey + Drop, K: PacketKey + Drop, R: Rng + Drop>(
         FinishedMeansArrived }
     ensures finished_is_told { OnHonest H.protection K.aead ends events.now result FinishedIsTold }
     ensures duties_stand { OnHonest H.protection K.aead ends events.now result DutiesStand }
+    ensures grown_limits_wait { OnHonest H.protection K.aead ends events.now result
+        GrownLimitsWait }
     ensures tracks_in_flight { OnHonest H.protection K.aead ends events.now result TracksInFlight }
     ensures loss_moments { OnHonest H.protection K.aead ends events.now result LossMoments }
     ensures ack_moments { OnHonest H.protection K.aead ends events.now result AckMoments }
@@ -381,6 +384,7 @@ pub fn run<H: HeaderKey + Drop, K: PacketKey + Drop, R: Rng + Drop>(
     headline::finished_means_arrived();
     headline::finished_is_told();
     headline::duties_stand();
+    headline::grown_limits_wait();
     headline::tracks_in_flight();
     headline::loss_moments();
     headline::ack_moments();

@@ -6,3 +6,4 @@ pub mod Timers
 pub mod Causes
 pub mod Settled
 pub mod Channel
+pub mod Limits

@@ -5,3 +5,4 @@ pub mod Duties
 pub mod InFlight
 pub mod Causes
 pub mod Moments
+pub mod Grown

@@ -7,6 +7,7 @@ ghost use Rattle.quic_machine.specs.declared.run.View.{View};
 ghost use Rattle.quic_machine.specs.Machine.{World, Policies, Follows};
 ghost use Rattle.quic_headline.specs.Runs.{Run};
 ghost use Rattle.quic_headline.specs.Duties.{DutiesStand};
+ghost use Rattle.quic_headline.specs.Grown.{GrownLimitsWait};
 ghost use Rattle.quic_headline.specs.InFlight.{TracksInFlight};
 ghost use Rattle.quic_headline.specs.Causes.{NoBlame, NumberLimit, TooManyPieces, TakenOrTooMany};
 ghost use Rattle.quic_headline.specs.Moments.{LossMoments, AckMoments};
@@ -128,6 +129,14 @@ pub fn numbers_rise()
 /// that was reset (RFC 9000, section 13.3).
 pub fn duties_stand()
     ensures { (r : Run) (end : World) → IsHonest r → IsRun r end → DutiesStand r }
+{}
+
+/// At each place and at both ends, a limit that grew waits to be told: where the peer may come a
+/// window past what was consumed of all streams, and this lies an eighth of the window above what
+/// the peer was told, or one, MAX_DATA waits; so it is with MAX_STREAM_DATA of each stream whose
+/// limits matter, and with MAX_STREAMS of each direction (RFC 9000, sections 4.1, 4.2 and 4.6).
+pub fn grown_limits_wait()
+    ensures { (r : Run) (end : World) → IsHonest r → IsRun r end → GrownLimitsWait r }
 {}
 
 /// At each place an open end waits for exactly the datagrams that are in flight: those that an

@@ -1,9 +1,10 @@
 -- What waits to be told once limits are decided, and where what was lost waits again.
 use Rattle.std.proofs.Common.{◌≡◌, ℕ, List, [], ◌∷◌, Bool, true, false, refl, sym, ap, ◌∙◌, subst, inl, inr}
-use Rattle.std.specs.Ordering.{nat_cmp, match_ordering}
+use Rattle.std.specs.Ordering.{nat_cmp, match_ordering, is_eq}
 use Rattle.std.specs.BTreeMap.{is_at}
 use Rattle.std.specs.declared.cmp.Ordering.{Ordering}
 use Rattle.std.specs.declared.cmp.Ordering.TheVariants.{Less, Equal, Greater}
+use Rattle.std.proofs.lemmas.Cmp.{ranked}
 use Rattle.std.proofs.lemmas.Bool.{or_left, or_right, or_cases, cases_eq, both_ways}
 use Rattle.quic_streams_parts.specs.TableLaws.{nat_cmp-same}
 use Rattle.quic_wire_core.specs.declared.stream_id.Dir.{Dir}
@@ -28,8 +29,17 @@ told_decided s p each = record { all = counts_decided s p; each = each }
 
 -- ---- sets of ids
 
+-- the id at which an entry stands
+pub first_is : (q k : ℕ) → is_at (nat_cmp q) k ≡ true → q ≡ k
+first_is q k on = go (nat_cmp q k) refl on
+  where
+    go : (r : Ordering) → nat_cmp q k ≡ r → is_eq r ≡ true → q ≡ k
+    go Less is on = cc
+    go Equal is on = ranked q k Equal (sym is)
+    go Greater is on = cc
+
 -- what is added is there
-has_added : (id : ℕ) (ids : List ℕ) → has_id id (with_id id ids) ≡ true
+pub has_added : (id : ℕ) (ids : List ℕ) → has_id id (with_id id ids) ≡ true
 has_added id [] = rw (nat_cmp-same id) refl
 has_added id (x ∷ xs) = go (nat_cmp id x) refl (has_added id xs)
   where
@@ -54,6 +64,14 @@ has_kept id q (x ∷ xs) e = go (nat_cmp id x) (has_kept id q xs)
 pub has_all : (ks ids : List ℕ) (q : ℕ) → has_id q ids ≡ true → has_id q (with_ids ks ids) ≡ true
 has_all [] ids q e = e
 has_all (k ∷ ks) ids q e = has_all ks (with_id k ids) q (has_kept k q ids e)
+
+-- all that are added are there
+pub has_given : (ks ids : List ℕ) (q : ℕ) → has_id q ks ≡ true → has_id q (with_ids ks ids) ≡ true
+has_given [] ids q e = cc
+has_given (k ∷ ks) ids q e = elim (or_cases (is_at (nat_cmp q) k) (has_id q ks) e) [
+  | inl here ↦ has_all ks (with_id k ids) q (subst (λ x. has_id x (with_id k ids) ≡ true) (sym (first_is q k here)) (has_added k ids))
+  | inr there ↦ has_given ks (with_id k ids) q there
+]
 
 -- ---- a read is over, and a lost record waits again
 

@@ -6,6 +6,7 @@ use Rattle.quic_headline.specs.Runs.{Run, AreServed}
 use Rattle.quic_headline.specs.InFlight.{TracksInFlight}
 use Rattle.quic_headline.specs.Causes.{NumberLimit}
 use Rattle.quic_headline.specs.Duties.{DutiesStand}
+use Rattle.quic_headline.specs.Grown.{GrownLimitsWait}
 use Rattle.quic_headline.specs.Headline.{IsHonest, IsRun, OrderedPrefix, Slices, Once, EndAfterAll, BlockedOnlyWithoutBytes, AcceptsAll, FinishedMeansArrived, AcknowledgedWereTaken, NamesWereTaken, OpensExactly, NumbersRise}
 use Rattle.quic_headline.specs.Moments.{LossMoments, AckMoments}
 use Rattle.quic_headline.proofs.Packets.MayGo.{AreReady}
@@ -28,6 +29,8 @@ use Rattle.quic_headline.proofs.Causes.UsedUp.{Shut, shut_group}
 use Rattle.quic_headline.proofs.Causes.UsedUp as used_up
 use Rattle.quic_headline.proofs.Duties.Group.{Flying, flying_group}
 use Rattle.quic_headline.proofs.Duties.Ledger as ledger
+use Rattle.quic_headline.proofs.Limits.Clause.{GrownWait, grown_group}
+use Rattle.quic_headline.proofs.Limits.Clause as limits
 
 -- what waits to go of streams, as a group over the packets and what is written
 pub record IsReadying (Ready : Way) : Type 1 where
@@ -71,6 +74,12 @@ module _ (Ready : Way) (ready : IsReadying Ready) where
   -- and what is read
   pub all_read : Group Nothing (And All ReadsHold)
   all_read = both Nothing All ReadsHold all (reads_group (And Nothing All) is_writing)
+
+  -- ---- limits that grew
+
+  -- and what waits of limits that grew
+  pub all_grown : Group Nothing (And (And All ReadsHold) GrownWait)
+  all_grown = both Nothing (And All ReadsHold) GrownWait all_read (over (And Nothing All) (And Nothing (And All ReadsHold)) GrownWait (λ x y h. (h.0, h.1.0)) (grown_group (And Nothing All) is_writing))
 
   -- ---- why ends close
 
@@ -147,3 +156,6 @@ module _ (Ready : Way) (ready : IsReadying Ready) where
 
     pub duties_stand : DutiesStand r
     duties_stand = ledger.duties_stand (And (And All Arrives) Flying) (record { packets = λ x y h. h.0.0.0.0; writes = λ x y h. h.0.0.0.1.0; arrives = λ x y h. h.0.1; flying = λ x y h. h.1 }) r end honest (placed (And (And All Arrives) Flying) all_flying r end honest run)
+
+    pub grown_limits_wait : GrownLimitsWait r
+    grown_limits_wait = limits.grown_limits_wait (And (And All ReadsHold) GrownWait) (record { grown = λ x y h. h.1; reads = λ x y h. h.0.1 }) r end honest (placed (And (And All ReadsHold) GrownWait) all_grown r end honest run)

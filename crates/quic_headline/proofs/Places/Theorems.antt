@@ -2,6 +2,7 @@
 use Rattle.quic_machine.specs.Machine.{World}
 use Rattle.quic_headline.specs.Runs.{Run}
 use Rattle.quic_headline.specs.Duties.{DutiesStand}
+use Rattle.quic_headline.specs.Grown.{GrownLimitsWait}
 use Rattle.quic_headline.specs.InFlight.{TracksInFlight}
 use Rattle.quic_headline.specs.Causes.{NumberLimit}
 use Rattle.quic_headline.specs.Moments.{LossMoments, AckMoments}
@@ -55,6 +56,9 @@ tracks_in_flight = everything.tracks_in_flight Ready ready
 
 pub duties_stand : (r : Run) (end : World) → IsHonest r → IsRun r end → DutiesStand r
 duties_stand = everything.duties_stand Ready ready
+
+pub grown_limits_wait : (r : Run) (end : World) → IsHonest r → IsRun r end → GrownLimitsWait r
+grown_limits_wait = everything.grown_limits_wait Ready ready
 
 -- ---- timers
 
