@@ -4,5 +4,8 @@ pub mod InStreams
 pub mod Carrier
 pub mod UnderWay
 pub mod Resets
+pub mod Lasting
+pub mod Limits
+pub mod Saying
 pub mod Group
 pub mod Ledger

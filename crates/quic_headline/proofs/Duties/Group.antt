@@ -1,5 +1,5 @@
 -- What has to reach the peer is somewhere, as a group: what is in flight of streams stands in tracked packets, and a reset waits, stands in one, or came.
-use Rattle.std.proofs.Common.{◌≡◌, ℕ, Bool, true, false, List, [], ◌∷◌, Option, Some, None, refl, sym, ap, ◌∙◌, subst, inl, inr}
+use Rattle.std.proofs.Common.{◌≡◌, ℕ, Bool, true, false, List, [], ◌∷◌, ◌++◌, Option, Some, None, refl, sym, ap, ◌∙◌, subst, inl, inr}
 use Rattle.std.specs.Option.{IsSome, is_some}
 use Rattle.quic_config.specs.Transport.{Settings, parameters_of}
 use Rattle.quic_streams_state.specs.State.{new_streams}
@@ -11,16 +11,23 @@ use Rattle.quic_machine.specs.declared.run.Answer.{Answer}
 use Rattle.quic_machine.specs.End.{End, streams_at}
 use Rattle.quic_machine.specs.Calls.{is_open}
 use Rattle.quic_machine.specs.StreamCalls.{is_on_streams}
+use Rattle.quic_machine.specs.Poll.{polled}
+use Rattle.quic_machine.specs.CallCases.{is_delivery}
+use Rattle.quic_machine.specs.Machine.{IsAnswer, after_call, gave}
+use Rattle.quic_streams_laws.specs.Quiet.{IsSentWithin}
 use Rattle.quic_machine.specs.Receive.{Outcome}
 use Rattle.quic_headline.specs.Runs.{Packet, Intake, In, first_of, reset_by, reset, nothing_came}
-use Rattle.quic_headline.specs.Duties.{Duty}
+use Rattle.quic_headline.specs.Observer.{Sent}
+use Rattle.quic_headline.specs.Duties.{Duty, Limited, limit_frame, WasGiven, LimitHasArrived}
 use Rattle.quic_headline.proofs.Packets.Invariant.{IsSent}
 use Rattle.quic_headline.proofs.Packets.Growth.{step_of}
 use Rattle.quic_headline.proofs.Packets.Intakes.{took_more}
 use Rattle.quic_headline.proofs.Packets.Delivered.{Arrivals}
 use Rattle.quic_headline.proofs.Packets.MayGo.{AreReady}
 use Rattle.quic_headline.proofs.Packets.Group.{PacketsHold, meets}
-use Rattle.quic_headline.proofs.Places.Parties.{told_of, Party, called, came_to, Beginning, begun_as, AreMade}
+use Rattle.quic_headline.proofs.Places.Parties.{sent_by, sent_if, sents_by, told_of, Party, called, came_to, Beginning, begun_as, AreMade}
+use Rattle.quic_headline.proofs.Places.Told.{in_append}
+use Rattle.quic_headline.proofs.Places.Steps.{poll_answer}
 use Rattle.quic_headline.proofs.Places.Groups.{Way, Calls, Group}
 use Rattle.quic_headline.proofs.Places.Coming.{by_coming}
 use Rattle.quic_headline.proofs.Halves.Wrote.{wrote, done_by, reset_more}
@@ -29,21 +36,31 @@ use Rattle.quic_headline.proofs.Halves.Small.{payload_small}
 use Rattle.quic_headline.proofs.Halves.Says.{sent_says}
 use Rattle.quic_headline.proofs.Halves.Arrived.{small_limits}
 use Rattle.quic_headline.proofs.Halves.Writer.{WritesHold, done_behind}
+use Rattle.quic_headline.proofs.Halves.QuietSteps.{sent_within}
+use Rattle.quic_headline.proofs.Channel.Names.{NamesHold}
+use Rattle.quic_headline.proofs.Channel.Received.{Stays}
+use Rattle.quic_headline.proofs.Channel.Within.{Within}
 use Rattle.quic_headline.proofs.Duties.Flies.{FliesIn, flies_along}
 use Rattle.quic_headline.proofs.Duties.Carrier.{IsNew, number_new}
 use Rattle.quic_headline.proofs.Duties.UnderWay.{InPackets, Fly, TrackedEnds, arrivals_fly, call_fly}
 use Rattle.quic_headline.proofs.Duties.Resets.{ResetStands, reset_on, arrivals_stand, call_resets, call_stands}
+use Rattle.quic_headline.proofs.Duties.Lasting.{Knows, knows_lasts, call_lasts}
+use Rattle.quic_headline.proofs.Duties.Limits.{LimitStands, Stated, arrivals_stated}
+use Rattle.quic_headline.proofs.Duties.Saying.{stands_more, polled_stands, polled_says, call_stated}
 
--- what is in flight of the streams of x stands in packets that it tracks, and each of its resets is somewhere
+-- what is in flight of the streams of x stands in packets that it tracks, and each of its resets is somewhere, and each limit that it said
 pub record Flying (x y : Party) : Type 0 where
   pub fly : Fly (wrote x.told) x.end
   pub resets : (id : ℕ) → IsSome (reset id x.told) → ResetStands (came_to y x).took id x.end
+  pub limits : (what : Limited) (value : ℕ) → WasGiven x.sents (limit_frame what value) → Stated (came_to y x).took x.sents what value x.end
 
--- What that rests on: the packets between both ends, what was written, and that what waits may go.
+-- What that rests on: the packets between both ends, what was written, that what waits may go, and that the limits which an end said don't fall.
 pub record IsReadied (B : Way) : Type 1 where
   pub packets : (x y : Party) → B x y → PacketsHold x y
   pub writes : (x y : Party) → B x y → WritesHold x y
   pub ready : (x y : Party) → B x y → AreReady x.end.streams.sending.halves.live x.end.waiting.frames
+  pub names : (x y : Party) → B x y → NamesHold x y
+  pub within : (x y : Party) → B x y → Within x y
 
 -- a call that is none on streams resets none
 none_reset : (id : ℕ) (call : Call) (a : Answer) → is_on_streams call ≡ false → IsSome (reset_by id call a) → ⊥
@@ -107,9 +124,77 @@ module _ (B : Way) (b : IsReadied B) (x y : Party) (call : Call) (a : Answer) (c
           inl (ap (λ (e : End). reset_on id e) k.same ∙ call_resets id (is_open x.end.closing.state) (streams_at x.end) call a (k.answer c.answer) some)
       go false off = absurd (none_reset id call a off some)
 
+  -- ---- limits
+
+  -- what the call sends
+  abbrev more : List Sent
+  more = sents_by x.end call a
+
+  -- what was said before is somewhere where more was sent
+  further : (what : Limited) (value : ℕ) (e : End) → Stated took x.sents what value e → Stated took (x.sents ++ more) what value e
+  further what value e s = record { knows = s.knows; stand = stands_more took x.sents more what value e s.stand }
+
+  -- the streams of x hold what it told
+  stays : Stays x.end.streams x.end.streams
+  stays = (b.within y x c.takes).stays
+
+  -- a limit that was said before, behind a call but a delivery
+  apart_on : (what : Limited) (value : ℕ) → WasGiven x.sents (limit_frame what value) → (k : Call) → is_delivery k ≡ false → IsAnswer x.policy x.end y.given k a → Stated took (x.sents ++ sents_by x.end k a) what value (after_call x.policy x.end y.given k a)
+  apart_on what value said (calls.Poll now) apart is = record {
+    knows = call_lasts (Knows what) (knows_lasts what) x.policy x.end y.given (calls.Poll now) a within apart is was.knows;
+    stand = subst (λ (o : Answer). LimitStands took (x.sents ++ sent_if (gave o) (sent_by x.end now)) what value (polled x.policy x.end now).end) (sym (poll_answer x.policy x.end now a is c.served))
+        (polled_stands took x.sents what value x.policy x.end now new ((b.within y x c.takes).told said.sent said.among (limit_frame what value) said.carried) ((b.names x y c.gives).given said.sent said.among (limit_frame what value) said.carried) stays was.knows was.stand);
+  }
+    where
+      was : Stated took x.sents what value x.end
+      was = i.limits what value said
+
+      within : (id : ℕ) → IsSentWithin x.end.streams id
+      within = sent_within done x.end.streams (b.writes x y c.gives).writes.keeps.holds
+  apart_on what value said k apart is = record {
+    knows = call_lasts (Knows what) (knows_lasts what) x.policy x.end y.given k a within apart is was.knows;
+    stand = stands_more took x.sents [] what value (after_call x.policy x.end y.given k a) (call_stated took x.sents what value x.policy x.end y.given k a within apart refl is was.stand);
+  }
+    where
+      was : Stated took x.sents what value x.end
+      was = i.limits what value said
+
+      within : (id : ℕ) → IsSentWithin x.end.streams id
+      within = sent_within done x.end.streams (b.writes x y c.gives).writes.keeps.holds
+
+  -- behind any call
+  old_limit : (what : Limited) (value : ℕ) → WasGiven x.sents (limit_frame what value) → Stated took (x.sents ++ more) what value (called x y.given call a).end
+  old_limit what value said = by_coming x y a c.joined c.served (meets y x takes) (λ (e : End) (j : Intake). Stated took (x.sents ++ more) what value e) call c.answer (record {
+    apart = λ apart. apart_on what value said call apart c.answer;
+    none = λ delivery is. further what value x.end (i.limits what value said);
+    comes = λ delivery is s among. (
+        let all = arrivals_stated took x.sents what value (record { taken = gives.taken; rising = gives.gives.rising }) x.end delivery.now s.number s.frames (came_to x y) (λ ak carried k named. takes.named s ak k among carried named) gives.tracked (i.limits what value said) in
+        record {
+          ignored = λ reason. further what value _ (all.ignored reason);
+          noted = λ state reason. further what value _ (all.noted state reason);
+          takes = λ state new none. further what value _ (all.takes state new none);
+          refuses = λ state new f is. further what value _ (all.refuses state new f is);
+        });
+  })
+
+  -- a new one is under way
+  new_limit : (what : Limited) (value : ℕ) (k : Call) → IsAnswer x.policy x.end y.given k a → (t : Sent) → In t (sents_by x.end k a) → In (limit_frame what value) t.frames → Stated took (x.sents ++ sents_by x.end k a) what value (after_call x.policy x.end y.given k a)
+  new_limit what value (calls.Poll now) is t among carried =
+      let same = poll_answer x.policy x.end now a is c.served in
+      let says = polled_says took x.sents what value x.policy x.end now new stays.shape t (subst (λ (o : Answer). In t (sent_if (gave o) (sent_by x.end now))) same among) carried in
+      record { knows = says.0; stand = subst (λ (o : Answer). LimitStands took (x.sents ++ sent_if (gave o) (sent_by x.end now)) what value (polled x.policy x.end now).end) (sym same) says.1 }
+  new_limit what value k is t among carried = absurd among
+
+  said_limit : (what : Limited) (value : ℕ) → WasGiven (x.sents ++ more) (limit_frame what value) → Stated took (x.sents ++ more) what value (called x y.given call a).end
+  said_limit what value said = elim (in_append said.sent x.sents more said.among) [
+    | inl old ↦ old_limit what value (record { sent = said.sent; among = old; carried = said.carried })
+    | inr now ↦ new_limit what value call c.answer said.sent now said.carried
+  ]
+
   flying_call : Flying (called x y.given call a) y
   flying_call = record {
     fly = fly_call;
+    limits = said_limit;
     resets = λ id some. go id (reset id x.told) refl (subst (λ (o : Option ℕ). IsSome o) (reset_more id x.told (told_of call a x.end.closing.state)) some);
   }
     where
@@ -123,6 +208,12 @@ came_on old more id e stays (inl waits) = inl waits
 came_on old more id e stays (inr (inl flies)) = inr (inl flies)
 came_on old more id e stays (inr (inr came)) = inr (inr (record { packet = came.packet; was_taken = stays came.packet came.was_taken; frame = came.frame; carried = came.carried; of_stream = came.of_stream }))
 
+limit_came_on : (old more : List Packet) (own : List Sent) (what : Limited) (value : ℕ) (e : End) → ((packet : Packet) → In packet old → In packet more) → LimitStands old own what value e → LimitStands more own what value e
+limit_came_on old more own what value e stays (inl ends) = inl ends
+limit_came_on old more own what value e stays (inr (inl waits)) = inr (inl waits)
+limit_came_on old more own what value e stays (inr (inr (inl flies))) = inr (inr (inl flies))
+limit_came_on old more own what value e stays (inr (inr (inr came))) = inr (inr (inr (record { packet = came.packet; was_taken = stays came.packet came.was_taken; limit = came.limit; carried = came.carried; enough = came.enough })))
+
 -- nothing was written
 flying_first : (x y : Beginning) → AreMade x y → Flying (begun_as x y) (begun_as y x)
 flying_first x y m =
@@ -131,6 +222,7 @@ flying_first x y m =
       fly = with_set_params (FliesIn (InPackets [])) (λ id w. Unit {0}) (λ id. nothing_done) (new_streams x.side s.max_uni s.max_bidi s.send_window s.receive_window s.stream_receive_window) (parameters_of y.making.settings) (small_limits y.making.settings m.y_is.range)
           (with_new (FliesIn (InPackets [])) (λ id w. Unit {0}) x.side s.max_uni s.max_bidi s.send_window s.receive_window s.stream_receive_window);
       resets = λ id some. cc;
+      limits = λ what value said. absurd said.among;
     }
 
 -- it holds at the start, and stays with each call at either end
@@ -141,5 +233,9 @@ flying_group B b = record {
   reader = λ x y call a c back i. record {
     fly = i.fly;
     resets = λ id some. came_on (came_to x y).took (came_to (called x y.given call a) y).took id y.end (took_more x.policy y.final x.told (told_of call a x.end.closing.state) (nothing_came (x.id ∷ []))) (i.resets id some);
+    limits = λ what value said. (let was = i.limits what value said in record {
+      knows = was.knows;
+      stand = limit_came_on (came_to x y).took (came_to (called x y.given call a) y).took y.sents what value y.end (took_more x.policy y.final x.told (told_of call a x.end.closing.state) (nothing_came (x.id ∷ []))) was.stand;
+    });
   };
 }

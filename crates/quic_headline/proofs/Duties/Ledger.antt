@@ -2,9 +2,12 @@
 use Rattle.std.proofs.Common.{◌≡◌, ℕ, ◌<◌, Bool, true, false, ltb, leb, ◌||◌, ◌&&◌, not, List, [], ◌∷◌, length, take, Option, Some, None, refl, sym, ap, ◌∙◌, subst, inl, inr, arith}
 use Rattle.std.specs.Option.{IsSome, is_some, option_map}
 use Rattle.std.specs.Map.{lookup}
-use Rattle.std.proofs.lemmas.Bool.{cases_Bool, both_ways, or_left, or_right, and_from, not_from_false, or_from, le-leb, lt-ltb, ltb-false}
+use Rattle.std.specs.List.{list_any}
+use Rattle.std.specs.Ordering.{nat_cmp}
+use Rattle.std.proofs.lemmas.Bool.{cases_Bool, both_ways, or_left, or_right, or_cases, and_from, not_from_false, or_from, le-leb, lt-ltb, ltb-false}
 use Rattle.std.proofs.lemmas.List.{length-drop}
 use Rattle.quic_wire_core.specs.declared.stream_id.Side.{Side}
+use Rattle.quic_wire_core.specs.declared.stream_id.Dir.TheVariants.{Bi, Uni}
 use Rattle.quic_wire_core.specs.StreamId.{other_side}
 use Rattle.quic_recovery_core.specs.PendingAcks.{can_send}
 use Rattle.quic_send_buffer.specs.Buffered.{is_acknowledged, is_lost, is_unsent, is_in_flight, has_unsent}
@@ -15,12 +18,16 @@ use Rattle.quic_streams_parts.specs.Table.{at}
 use Rattle.std.specs.BTreeMap.{is_at}
 use Rattle.quic_streams_parts.specs.Queue.{Place, place_cmp, is_any as is_any_queued}
 use Rattle.quic_streams_parts.specs.SendHalf.{SendHalf, has_pending}
-use Rattle.quic_retransmits.specs.Retransmits.{Retransmits}
+use Rattle.quic_streams_parts.specs.RecvHalf.{RecvHalf, takes_limits}
+use Rattle.quic_retransmits.specs.Retransmits.{Retransmits, has_id}
 use Rattle.quic_streams_halves.specs.Halves.{status_from, has_place}
 use Rattle.quic_streams_state.specs.declared.state.StreamsState.{StreamsState}
-use Rattle.quic_streams_state.specs.State.{is_opened, sends_on}
+use Rattle.quic_streams_state.specs.State.{is_opened, sends_on, receives_on}
+use Rattle.quic_streams_state.specs.Limits.{takes_limits_of, can_send_flow_control}
 use Rattle.quic_streams_state.specs.Waiting.{is_any, is_empty, can_send_stream_data}
 use Rattle.quic_streams_laws.specs.Each.{HalfIs}
+use Rattle.quic_streams_laws.specs.Content.{AllReceiving}
+use Rattle.quic_streams_laws.specs.ToldLaws.{first_is}
 use Rattle.quic_streams_laws.specs.Queued.{place_of, IsOrderly}
 use Rattle.quic_streams_laws.specs.Written.{Wrote, IsSendHalf, nothing_done}
 use Rattle.quic_streams_laws.specs.Acknowledged.{HalfArrived, IsSettled, IsAckedStatus}
@@ -29,13 +36,14 @@ use Rattle.quic_machine.specs.Poll.{waits, asks_to_go}
 use Rattle.quic_machine.specs.Machine.{World, end_at}
 use Rattle.quic_machine.specs.RunLaws.{one_run}
 use Rattle.quic_headline.specs.Runs.{Run, Packet, Intake, AreServed, until, written, ended, EndHasArrived}
-use Rattle.quic_headline.specs.Observer.{took}
-use Rattle.quic_headline.specs.Duties.{Duty, Offset, Fin, Reset, IsOwed, on_half, is_due, has_reset, IsSomewhere, DutiesStand}
+use Rattle.quic_headline.specs.Observer.{Sent, Watch, took, sents_until}
+use Rattle.quic_headline.specs.Duties.{Limited, AllData, StreamData, StreamCount, Duty, Offset, Fin, Reset, Limit, limit_frame, limit_waits, Matters, IsSaid, IsOwed, on_half, is_due, has_reset, IsInFlight, IsSomewhere, DutiesStand}
 use Rattle.quic_headline.specs.Headline.{IsHonest}
 use Rattle.quic_headline.proofs.Packets.Group.{PacketsHold}
+use Rattle.quic_headline.proofs.Packets.Sight.{Sight}
 use Rattle.quic_headline.proofs.Places.Parties.{Party, came_to}
 use Rattle.quic_headline.proofs.Places.Groups.{Way}
-use Rattle.quic_headline.proofs.Places.Placed.{party_at, Placed}
+use Rattle.quic_headline.proofs.Places.Placed.{party_at, Placed, watch_is}
 use Rattle.quic_headline.proofs.Places.Openings.{took_there}
 use Rattle.quic_headline.proofs.Halves.Wrote.{wrote}
 use Rattle.quic_headline.proofs.Halves.Arrived.{OffsetIn, EndIn, Arrives}
@@ -43,6 +51,8 @@ use Rattle.quic_headline.proofs.Halves.Finishing.{end_last}
 use Rattle.quic_headline.proofs.Halves.Writer.{WritesHold}
 use Rattle.quic_headline.proofs.Duties.Flies.{FliesIn}
 use Rattle.quic_headline.proofs.Duties.UnderWay.{InPackets}
+use Rattle.quic_headline.proofs.Duties.Lasting.{WasUsed, Ends}
+use Rattle.quic_headline.proofs.Duties.Limits.{LimitStands}
 use Rattle.quic_headline.proofs.Duties.Group.{Flying}
 
 -- ---- what waits is queued
@@ -74,6 +84,20 @@ one_of true b c d e f g = some b c d e f g
     some b c d e f g = refl
 one_of false b c d e f g = refl
 
+some_flow : (a b c d e : Bool) → not (not (a || true || b || c || d || e)) ≡ true
+some_flow true b c d e = refl
+some_flow false b c d e = refl
+
+some_count : (a b c d e f g h i : Bool) → not (not (a || (true || b) || c || d || e || f || g || h || i)) ≡ true
+some_count true b c d e f g h i = refl
+some_count false b c d e f g h i = refl
+
+some_other : (a b c d e f g h i : Bool) → not (not (a || (b || true) || c || d || e || f || g || h || i)) ≡ true
+some_other true true c d e f g h i = refl
+some_other true false c d e f g h i = refl
+some_other false true c d e f g h i = refl
+some_other false false c d e f g h i = refl
+
 -- where a reset waits, something does
 not_empty : (p : Retransmits) (s : StreamsState) → is_any p.reset_stream ≡ true → not (is_empty p s) ≡ true
 not_empty p s any = rw any (one_of _ _ _ _ _ _ _)
@@ -87,6 +111,36 @@ reset_queued e id is =
     or_right (can_send e.acknowledging) (asks_to_go e)
     (or_right e.waiting.ping (not (is_empty e.waiting.frames e.streams) || can_send_stream_data e.streams)
     (or_left (not (is_empty e.waiting.frames e.streams)) (can_send_stream_data e.streams) (not_empty e.waiting.frames e.streams (any_reset id e.waiting.frames.reset_stream is))))
+
+-- a limit that matters, and waits, is something that waits
+limit_any : (what : Limited) (e : End) → Matters e what → limit_waits e.waiting.frames what ≡ true → not (is_empty e.waiting.frames e.streams) ≡ true
+limit_any AllData e matters waits = rw waits refl
+limit_any (StreamData id) e matters waits = rw (listed e.waiting.frames.max_stream_data waits) (some_flow _ _ _ _ _)
+  where
+    listed : (ids : List ℕ) → has_id id ids ≡ true → list_any (λ q. can_send_flow_control e.streams q) ids ≡ true
+    listed [] is = cc
+    listed (q ∷ ids) is = elim (or_cases (is_at (nat_cmp id) q) (has_id id ids) is) [
+      | inl here ↦ or_left (can_send_flow_control e.streams q) (list_any (λ j. can_send_flow_control e.streams j) ids) (ap (can_send_flow_control e.streams) (sym (first_is id q here)) ∙ matters)
+      | inr more ↦ or_right (can_send_flow_control e.streams q) (list_any (λ j. can_send_flow_control e.streams j) ids) (listed ids more)
+    ]
+limit_any (StreamCount Bi) e matters waits = rw waits (some_count _ e.waiting.frames.max_stream_id.uni _ _ _ _ _ _ _)
+limit_any (StreamCount Uni) e matters waits = rw waits (some_other _ _ _ _ _ _ _ _ _)
+
+limit_queued : (e : End) (what : Limited) → Matters e what → limit_waits e.waiting.frames what ≡ true → waits e ≡ true
+limit_queued e what matters waits =
+    or_right (can_send e.acknowledging) (asks_to_go e)
+    (or_right e.waiting.ping (not (is_empty e.waiting.frames e.streams) || can_send_stream_data e.streams)
+    (or_left (not (is_empty e.waiting.frames e.streams)) (can_send_stream_data e.streams) (limit_any what e matters waits)))
+
+-- a limit that matters isn't one that matters no more
+matters_still : (what : Limited) (e : End) → Matters e what → AllReceiving (Ends what) e.streams → ⊥
+matters_still AllData e matters ends = ends.each 0
+matters_still (StreamCount dir) e matters ends = ends.each 0
+matters_still (StreamData id) e matters ends = go (at e.streams.receiving.halves.live id) (receives_on e.streams.side id && is_opened e.streams id) (has_place e.streams.side e.streams.receiving.halves.places id) matters (ends.each id refl)
+  where
+    go : (o : Option RecvHalf) (m used : Bool) → takes_limits_of o ≡ true → WasUsed (λ h. takes_limits h ≡ false) (status_from o m used) → ⊥
+    go (Some h) m used takes none = both_ways (takes_limits h) none takes
+    go None m used takes none = cc
 
 -- an offset that is lost or was never sent is something to send
 waiting_pending : (h : SendHalf) (o : ℕ) → (is_lost h.buffer o || is_unsent h.buffer o) ≡ true → has_pending h ≡ true
@@ -109,7 +163,7 @@ module _ (x y : Party) (writes : WritesHold x y) (packets : PacketsHold x y) (ar
   w = wrote x.told
 
   abbrev Somewhere : Duty → Type 0
-  Somewhere u = IsSomewhere x.end (came_to y x).took x.told u
+  Somewhere u = IsSomewhere x.end x.sents (came_to y x).took x.told u
 
   -- the end that came stands behind all that was written
   end_at_last : (id : ℕ) → EndIn (came_to y x).took id → EndHasArrived (came_to y x).took id (length (written id x.told))
@@ -173,8 +227,23 @@ module _ (x y : Party) (writes : WritesHold x y) (packets : PacketsHold x y) (ar
       go None true false is acked fly = none acked
       go None false used is acked fly = none acked
 
+  -- a limit
+  limit_somewhere : (what : Limited) (value : ℕ) → IsSaid x.end x.sents what value → Somewhere (Limit what value)
+  limit_somewhere what value owed = go (flying.limits what value owed.said).stand
+    where
+      go : LimitStands (came_to y x).took x.sents what value x.end → Somewhere (Limit what value)
+      go (inl ends) = absurd (matters_still what x.end owed.matters ends)
+      go (inr (inl waits)) = inl (record { due = waits; queued = limit_queued x.end what owed.matters waits })
+      go (inr (inr (inl i))) =
+          let f : IsInFlight x.sents x.end.tracking.packets (limit_frame what i.limit) = i.flies in
+          let most = owed.greatest i.limit (record { sent = f.sent; among = f.among; carried = f.carried }) in
+          let least = i.enough in
+          let same : i.limit ≡ value = omega arith in
+          inr (inl (subst (λ n. IsInFlight x.sents x.end.tracking.packets (limit_frame what n)) same f))
+      go (inr (inr (inr came))) = inr (inr came)
+
   -- each duty is somewhere
-  pub duty_somewhere : (u : Duty) → IsOwed x.told u → Somewhere u
+  pub duty_somewhere : (u : Duty) → IsOwed x.end x.sents x.told u → Somewhere u
   duty_somewhere (Offset id o) owed = by_half id (Offset id o)
       (λ nothing. (let size : length (written id x.told) ≡ 0 = ap (λ (v : Wrote). length v.bytes) nothing in let below = owed.1 in absurd (omega arith)))
       (λ h found held acked flies. half_offset id h o found owed.0 held acked flies owed.1)
@@ -187,6 +256,7 @@ module _ (x y : Party) (writes : WritesHold x y) (packets : PacketsHold x y) (ar
     | inl waits ↦ inl (record { due = waits; queued = reset_queued x.end id waits })
     | inr more ↦ inr more
   ]
+  duty_somewhere (Limit what value) owed = limit_somewhere what value owed
 
 -- ---- the clause
 
@@ -196,6 +266,7 @@ pub record SaysWhereDutiesAre (G : Way) : Type 1 where
   pub writes : (x y : Party) → G x y → WritesHold x y
   pub arrives : (x y : Party) → G x y → Arrives x y
   pub flying : (x y : Party) → G x y → Flying x y
+  pub sight : (x y : Party) → G x y → Sight x y
 
 module _ (G : Way) (g : SaysWhereDutiesAre G) (r : Run) (end : World) (honest : IsHonest r) (all : (side : Side) (i : ℕ) → AreServed r i → Placed G r end side i) where
   -- each duty is somewhere, wherever the run leads
@@ -205,6 +276,9 @@ module _ (G : Way) (g : SaysWhereDutiesAre G) (r : Run) (end : World) (honest : 
       let x : Party = party_at r i p.world side p.sents in
       let y : Party = party_at r i p.world (other_side side) p.theirs in
       let is : v ≡ p.world = (one_run r.keys (take i r.answers) r.start (take i r.events) (take i r.views) (take i r.views) v p.world served leads p.leads).1 in
-      let there : IsSomewhere (end_at side p.world) (came_to y x).took (until r side i) duty = duty_somewhere x y (g.writes x y p.gives) (g.packets x y p.gives) (g.arrives x y p.gives) (g.flying x y p.gives) duty owed in
-      subst (λ (u : World). IsSomewhere (end_at side u) (took r (other_side side) i) (until r side i) duty) (sym is)
-      (subst (λ (packets : List Packet). IsSomewhere (end_at side p.world) packets (until r side i) duty) (sym (ap (λ (j : Intake). j.took) (took_there r honest p.world i side p.sents p.theirs))) there)
+      let own : sents_until r side i ≡ p.sents = ap (λ (w : Watch). w.own) (watch_is r honest p.world i side p.sents p.theirs) ∙ (g.sight x y p.gives).own in
+      let due : IsOwed (end_at side p.world) p.sents (until r side i) duty = subst (λ (sents : List Sent). IsOwed (end_at side p.world) sents (until r side i) duty) own (subst (λ (u : World). IsOwed (end_at side u) (sents_until r side i) (until r side i) duty) is owed) in
+      let there : IsSomewhere (end_at side p.world) p.sents (came_to y x).took (until r side i) duty = duty_somewhere x y (g.writes x y p.gives) (g.packets x y p.gives) (g.arrives x y p.gives) (g.flying x y p.gives) duty due in
+      subst (λ (u : World). IsSomewhere (end_at side u) (sents_until r side i) (took r (other_side side) i) (until r side i) duty) (sym is)
+      (subst (λ (sents : List Sent). IsSomewhere (end_at side p.world) sents (took r (other_side side) i) (until r side i) duty) (sym own)
+      (subst (λ (packets : List Packet). IsSomewhere (end_at side p.world) p.sents packets (until r side i) duty) (sym (ap (λ (j : Intake). j.took) (took_there r honest p.world i side p.sents p.theirs))) there))

@@ -44,7 +44,7 @@ use Rattle.quic_machine.specs.Machine.{after_call}
 use Rattle.quic_headline.specs.Runs.{Packet, Intake, In, reset_by, ResetHasArrived}
 use Rattle.quic_headline.specs.Observer.{Sent}
 use Rattle.quic_headline.specs.InFlight.{resets_in}
-use Rattle.quic_headline.specs.Duties.{Reset, has_reset, IsUnderWay}
+use Rattle.quic_headline.specs.Duties.{Reset, has_reset, IsCarried}
 use Rattle.quic_headline.proofs.Packets.Invariant.{AreTracked}
 use Rattle.quic_headline.proofs.Packets.Carried.{carried_same}
 use Rattle.quic_headline.proofs.Packets.Delivered.{Arrivals, arrived}
@@ -78,7 +78,7 @@ frame_resets (reset_stream f ∷ fs) id is = elim (or_cases (f.id == id) (has_re
 frame_resets (f ∷ fs) id is = let rest = frame_resets fs id is in (rest.0, inr rest.1, rest.2)
 
 -- what packets carried
-packets_reset : (ps : Table TrackedPacket) (id : ℕ) → IsUnderWay ps (Reset id) → has_reset id (resets_of ps) ≡ true
+packets_reset : (ps : Table TrackedPacket) (id : ℕ) → IsCarried ps (Reset id) → has_reset id (resets_of ps) ≡ true
 packets_reset [] id i = absurd i
 packets_reset (p ∷ ps) id (inl here) = has_front id p.1.carried.retransmits.reset_stream (resets_of ps) here
 packets_reset (p ∷ ps) id (inr more) = has_behind id p.1.carried.retransmits.reset_stream (resets_of ps) (packets_reset ps id more)
@@ -95,7 +95,7 @@ reset_on id e = has_reset id e.waiting.frames.reset_stream
 
 -- it waits, stands in a tracked packet, or came
 abbrev pub ResetStands : List Packet → ℕ → End → Type 0
-ResetStands took id e = (reset_on id e ≡ true) ⊎ IsUnderWay e.tracking.packets (Reset id) ⊎ ResetHasArrived took id
+ResetStands took id e = (reset_on id e ≡ true) ⊎ IsCarried e.tracking.packets (Reset id) ⊎ ResetHasArrived took id
 
 -- ---- an ACK frame
 
@@ -128,7 +128,7 @@ lost_wait [] e = refl
 lost_wait (m ∷ ms) e = lost_wait ms (stream_lost m e)
 
 -- what lost packets carried waits, and what waited
-losses_wait : (ps : Table TrackedPacket) (e : End) (id : ℕ) → (has_reset id (waiting_of e) ≡ true) ⊎ IsUnderWay ps (Reset id) → has_reset id (waiting_of (packets_lost ps e)) ≡ true
+losses_wait : (ps : Table TrackedPacket) (e : End) (id : ℕ) → (has_reset id (waiting_of e) ≡ true) ⊎ IsCarried ps (Reset id) → has_reset id (waiting_of (packets_lost ps e)) ≡ true
 losses_wait [] e id (inl was) = was
 losses_wait [] e id (inr none) = absurd none
 losses_wait (p ∷ ps) e id i = losses_wait ps (carried_lost p.1.carried e) id (one i)
@@ -139,7 +139,7 @@ losses_wait (p ∷ ps) e id i = losses_wait ps (carried_lost p.1.carried e) id (
     same : waiting_of (carried_lost c e) ≡ waiting_of e ++ c.retransmits.reset_stream
     same = ap (λ w. w.frames.reset_stream ++ c.retransmits.reset_stream) (lost_wait c.stream_frames e)
 
-    one : (has_reset id (waiting_of e) ≡ true) ⊎ IsUnderWay (p ∷ ps) (Reset id) → (has_reset id (waiting_of (carried_lost c e)) ≡ true) ⊎ IsUnderWay ps (Reset id)
+    one : (has_reset id (waiting_of e) ≡ true) ⊎ IsCarried (p ∷ ps) (Reset id) → (has_reset id (waiting_of (carried_lost c e)) ≡ true) ⊎ IsCarried ps (Reset id)
     one (inl was) = inl (ap (has_reset id) same ∙ has_front id (waiting_of e) c.retransmits.reset_stream was)
     one (inr (inl here)) = inl (ap (has_reset id) same ∙ has_behind id (waiting_of e) c.retransmits.reset_stream here)
     one (inr (inr more)) = inr more
@@ -166,7 +166,7 @@ module _ (took : List Packet) (id : ℕ) where
       lost = lost_below (cut_against e.numbers) left
 
       -- what waits, or is lost
-      waits : (has_reset id (waiting_of e) ≡ true) ⊎ IsUnderWay lost (Reset id) → ResetStands took id (after_named (p ∷ ps) a e)
+      waits : (has_reset id (waiting_of e) ≡ true) ⊎ IsCarried lost (Reset id) → ResetStands took id (after_named (p ∷ ps) a e)
       waits (inl was) = inl (losses_wait lost (packets_acked (p ∷ ps) e) id (inl (ap (has_reset id) (packets_wait (p ∷ ps) e) ∙ was)))
       waits (inr gone) = inl (losses_wait lost (packets_acked (p ∷ ps) e) id (inr gone))
 
@@ -332,7 +332,7 @@ none_resets (f ∷ fs) id silent is = none_resets fs id (or_parts (asks f) (aski
 module _ (took : List Packet) (id : ℕ) where
   -- a datagram that goes is tracked where it asks
   given_stands : (b : Bool) (d : Draft) → asking d.frames ≡ b → IsNew d.end.tracking.packets d.end.numbers.next
-      → ((has_reset id (waiting_of d.end) ≡ true) ⊎ (has_reset id (resets_in d.frames) ≡ true)) ⊎ IsUnderWay d.end.tracking.packets (Reset id) ⊎ ResetHasArrived took id → ResetStands took id (tracked_if b d)
+      → ((has_reset id (waiting_of d.end) ≡ true) ⊎ (has_reset id (resets_in d.frames) ≡ true)) ⊎ IsCarried d.end.tracking.packets (Reset id) ⊎ ResetHasArrived took id → ResetStands took id (tracked_if b d)
   given_stands true d is new (inl (inl waits)) = inl waits
   given_stands true d is new (inl (inr went)) = inr (inl (any_added (λ p. has_reset id p.1.carried.retransmits.reset_stream ≡ true) d.end.tracking.packets d.end.numbers.next _ new (inl (carried_resets d.frames id ∙ went))))
   given_stands true d is new (inr (inl flies)) = inr (inl (any_added (λ p. has_reset id p.1.carried.retransmits.reset_stream ≡ true) d.end.tracking.packets d.end.numbers.next _ new (inr flies)))
@@ -360,7 +360,7 @@ module _ (took : List Packet) (id : ℕ) where
           let fresh : IsNew d.end.tracking.packets d.end.numbers.next = subst (λ (x : Numbers). IsNew d.end.tracking.packets x.next) (sym same.numbers) (subst (λ (x : Tracking). IsNew x.packets e.numbers.next) (sym same.tracking) new) in
           given_stands (asking d.frames) d refl fresh (elim i [
             | inl waits ↦ inl (composed_moved before ready id waits)
-            | inr more ↦ inr (subst (λ (x : Tracking). IsUnderWay x.packets (Reset id) ⊎ ResetHasArrived took id) (sym same.tracking) more)
+            | inr more ↦ inr (subst (λ (x : Tracking). IsCarried x.packets (Reset id) ⊎ ResetHasArrived took id) (sym same.tracking) more)
           ])
 
 -- ---- calls on streams

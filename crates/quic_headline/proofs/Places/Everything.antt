@@ -27,6 +27,8 @@ use Rattle.quic_headline.proofs.Halves.Finishing.{finished_arrived, arrived_besi
 use Rattle.quic_headline.proofs.Halves.Arrived.{Arrives}
 use Rattle.quic_headline.proofs.Causes.UsedUp.{Shut, shut_group}
 use Rattle.quic_headline.proofs.Causes.UsedUp as used_up
+use Rattle.quic_headline.proofs.Channel.Names.{NamesHold, names_group}
+use Rattle.quic_headline.proofs.Channel.Within.{Within, within_group}
 use Rattle.quic_headline.proofs.Duties.Group.{Flying, flying_group}
 use Rattle.quic_headline.proofs.Duties.Ledger as ledger
 use Rattle.quic_headline.proofs.Limits.Clause.{GrownWait, grown_group}
@@ -93,9 +95,31 @@ module _ (Ready : Way) (ready : IsReadying Ready) where
   pub all_arrived : Group Nothing (And All Arrives)
   all_arrived = arrived_beside All all (λ x y h. h.0.0) (λ x y h. h.0.1.0.says) (λ x y h. h.0.1.0.writes)
 
+  -- and what was said of counts and limits
+  abbrev pub Said : Way
+  Said = And NamesHold Within
+
+  arrived_writing : IsWriting (And Nothing (And All Arrives))
+  arrived_writing = record {
+    packets = λ x y h. h.1.0.0.0;
+    written = λ x y h. h.1.0.0.1.0.writes.keeps.holds;
+    says = λ x y h. h.1.0.0.1.0.says;
+    grows = λ x y call a c. grows_behind (And Nothing (And All Arrives)) (λ x y h. h.1.0.0.0) x y call a c c.gives.1.0.0.1.0;
+  }
+
+  pub all_said : Group Nothing (And (And All Arrives) Said)
+  all_said = both Nothing (And All Arrives) Said all_arrived
+      (beside (And Nothing (And All Arrives)) NamesHold Within (names_group (And Nothing (And All Arrives)) (record { packets = λ x y h. h.1.0.0.0; written = λ x y h. h.1.0.0.1.0.writes.keeps.holds })) (within_group (And Nothing (And All Arrives)) arrived_writing))
+
   -- and where what has to arrive is
-  pub all_flying : Group Nothing (And (And All Arrives) Flying)
-  all_flying = both Nothing (And All Arrives) Flying all_arrived (flying_group (And Nothing (And All Arrives)) (record { packets = λ x y h. h.1.0.0.0; writes = λ x y h. h.1.0.0.1.0; ready = λ x y h. ready.waits x y h.1.0.0.1.1.1 }))
+  pub all_flying : Group Nothing (And (And (And All Arrives) Said) Flying)
+  all_flying = both Nothing (And (And All Arrives) Said) Flying all_said (flying_group (And Nothing (And (And All Arrives) Said)) (record {
+    packets = λ x y h. h.1.0.0.0.0;
+    writes = λ x y h. h.1.0.0.0.1.0;
+    ready = λ x y h. ready.waits x y h.1.0.0.0.1.1.1;
+    names = λ x y h. h.1.1.0;
+    within = λ x y h. h.1.1.1;
+  }))
 
   -- ---- the clauses
 
@@ -155,7 +179,8 @@ module _ (Ready : Way) (ready : IsReadying Ready) where
     number_limit = used_up.number_limit (And All Shut) (record { packets = λ x y h. h.0.0.0; sight = λ x y h. h.0.1; shut = λ x y h. h.1 }) r end honest (placed (And All Shut) all_shut r end honest run)
 
     pub duties_stand : DutiesStand r
-    duties_stand = ledger.duties_stand (And (And All Arrives) Flying) (record { packets = λ x y h. h.0.0.0.0; writes = λ x y h. h.0.0.0.1.0; arrives = λ x y h. h.0.1; flying = λ x y h. h.1 }) r end honest (placed (And (And All Arrives) Flying) all_flying r end honest run)
+    duties_stand = ledger.duties_stand (And (And (And All Arrives) Said) Flying)
+        (record { packets = λ x y h. h.0.0.0.0.0; writes = λ x y h. h.0.0.0.0.1.0; arrives = λ x y h. h.0.0.1; flying = λ x y h. h.1; sight = λ x y h. h.0.0.0.1 }) r end honest (placed (And (And (And All Arrives) Said) Flying) all_flying r end honest run)
 
     pub grown_limits_wait : GrownLimitsWait r
     grown_limits_wait = limits.grown_limits_wait (And (And All ReadsHold) GrownWait) (record { grown = λ x y h. h.1; reads = λ x y h. h.0.1 }) r end honest (placed (And (And All ReadsHold) GrownWait) all_grown r end honest run)
