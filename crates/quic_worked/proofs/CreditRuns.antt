@@ -40,21 +40,21 @@ one_heard = record { client = waiting_view; server = sent_view }
 
 -- ---- bytes
 
-opens : IsStep worked_policies narrow_bytes opens_stream (answers.Open (Some 0)) credit_opened
+pub opens : IsStep worked_policies narrow_bytes opens_stream (answers.Open (Some 0)) credit_opened
 opens = record { answer = refl; end = refl; others = refl; lacking = tt }
 
-writes : IsStep worked_policies credit_opened (writes_on 0 (eight ++ eight)) (answers.Write (Ok 8)) credit_written
+pub writes : IsStep worked_policies credit_opened (writes_on 0 (eight ++ eight)) (answers.Write (Ok 8)) credit_written
 writes = record { answer = inl refl; end = refl; others = refl; lacking = λ lacks. cc }
 
-gives : IsStep worked_policies credit_written asks_datagram (gives_bytes 37) credit_sent
+pub gives : IsStep worked_policies credit_written asks_datagram (gives_bytes 37) credit_sent
 unfolding credit_sent
 gives = record { answer = inl refl; end = refl; others = refl; lacking = tt }
 
-takes : IsStep worked_policies credit_sent delivers (answers.Deliver receives.Taken) credit_taken
+pub takes : IsStep worked_policies credit_sent delivers (answers.Deliver receives.Taken) credit_taken
 unfolding credit_taken
 takes = record { answer = inl refl; end = refl; others = refl; lacking = tt }
 
-accepts : IsStep worked_policies credit_taken accepts_stream (answers.Accept (Some 0)) credit_accepted
+pub accepts : IsStep worked_policies credit_taken accepts_stream (answers.Accept (Some 0)) credit_accepted
 unfolding credit_taken
 accepts = record { answer = refl; end = refl; others = refl; lacking = tt }
 
@@ -66,10 +66,10 @@ reads_only : credit_read ≡ changed Server credit_accepted credit_read.server [
 unfolding credit_taken
 reads_only = refl
 
-reads : (read : ReadCall) → ReadsEight read → IsStep worked_policies credit_accepted (reads_stream read) (answers.Read (Ok eight_nexts)) credit_read
+pub reads : (read : ReadCall) → ReadsEight read → IsStep worked_policies credit_accepted (reads_stream read) (answers.Read (Ok eight_nexts)) credit_read
 reads = reads_at credit_accepted credit_read 0 true eight_bounds eight_nexts reads_so reads_only
 
-raises : IsStep worked_policies credit_read asks_server (gives_bytes 33) credit_given
+pub raises : IsStep worked_policies credit_read asks_server (gives_bytes 33) credit_given
 unfolding credit_given
 raises = record { answer = inl refl; end = refl; others = refl; lacking = tt }
 

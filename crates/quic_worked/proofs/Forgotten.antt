@@ -8,7 +8,7 @@ use Rattle.quic_streams_parts.specs.Table.{Table}
 use Rattle.quic_machine.specs.Tracking.{TrackedPacket}
 use Rattle.quic_machine.specs.Machine.{World, Follows}
 use Rattle.quic_headline.specs.Runs.{HasArrived}
-use Rattle.quic_headline.specs.Duties.{Offset, Waits, IsUnderWay, DutiesAt}
+use Rattle.quic_headline.specs.Duties.{Offset, Waits, IsCarried, DutiesAt}
 use Rattle.quic_headline.specs.Observer.{took}
 use Rattle.quic_headline.specs.InFlight.{in_flight, TracksAt}
 use Rattle.quic_worked.specs.Worked.{sending_events, sending_answers, worked_views, carrying, started, once_opened, once_written, once_ended, once_sent, once_taken, worked_policies}
@@ -59,7 +59,7 @@ waits_not : Waits forgotten.client (Offset 0 0) → ⊥
 unfolding once_sent
 waits_not w = let due = w.due in cc
 
-nowhere : (read : ReadCall) → Waits forgotten.client (Offset 0 0) ⊎ IsUnderWay forgotten.client.tracking.packets (Offset 0 0) ⊎ HasArrived (took (sending_run read) Server 4) 0 0 → ⊥
+nowhere : (read : ReadCall) → Waits forgotten.client (Offset 0 0) ⊎ IsCarried forgotten.client.tracking.packets (Offset 0 0) ⊎ HasArrived (took (sending_run read) Server 4) 0 0 → ⊥
 nowhere read (inl w) = waits_not w
 nowhere read (inr (inl g)) = g
 nowhere read (inr (inr a)) = a.taken.was_taken

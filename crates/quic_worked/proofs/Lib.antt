@@ -20,6 +20,7 @@ pub mod Honest
 pub mod PairedRun
 mod PairedMachines
 mod PickedRun
-mod CreditRuns
+pub mod CreditRuns
+mod RaisedRun
 mod ChunkedRun
 mod TimedRun

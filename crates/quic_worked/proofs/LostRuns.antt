@@ -12,7 +12,7 @@ use Rattle.quic_machine.specs.Tracking.{TrackedPacket}
 use Rattle.quic_machine.specs.Machine.{World, IsStep}
 use Rattle.quic_headline.specs.Runs.{Packet, In, WasTaken, HasArrived, EndHasArrived}
 use Rattle.quic_headline.specs.Observer.{took}
-use Rattle.quic_headline.specs.Duties.{Offset, Waits, IsUnderWay, DutiesAt, is_due}
+use Rattle.quic_headline.specs.Duties.{Offset, Waits, IsCarried, DutiesAt, is_due}
 use Rattle.quic_headline.specs.InFlight.{in_flight, TracksAt}
 use Rattle.quic_headline.specs.Headline.{FinishedMeansArrived}
 use Rattle.quic_worked.specs.Acknowledged.{client_acked}
@@ -194,13 +194,13 @@ no_stream : (frame : StreamValue) → WasTaken (ping_packet ∷ []) frame → �
 no_stream frame w = in_packet frame w.packet w.was_taken w.carried
 
 -- the two that are in flight carry none
-nothing_carried : IsUnderWay lost_for_good.client.tracking.packets (Offset 0 0) → ⊥
+nothing_carried : IsCarried lost_for_good.client.tracking.packets (Offset 0 0) → ⊥
 unfolding once_lost
 nothing_carried (inl g) = g
 nothing_carried (inr (inl g)) = g
 nothing_carried (inr (inr g)) = g
 
-gone : Waits lost_for_good.client (Offset 0 0) ⊎ IsUnderWay lost_for_good.client.tracking.packets (Offset 0 0) ⊎ HasArrived (took (losing_run [] []) Server 16) 0 0 → ⊥
+gone : Waits lost_for_good.client (Offset 0 0) ⊎ IsCarried lost_for_good.client.tracking.packets (Offset 0 0) ⊎ HasArrived (took (losing_run [] []) Server 16) 0 0 → ⊥
 gone (inl w) = let clash : true ≡ false = sym w.due ∙ good_due in cc
 gone (inr (inl g)) = nothing_carried g
 gone (inr (inr a)) = (let b : HasArrived (ping_packet ∷ []) 0 0 = subst (λ (ps : List Packet). HasArrived ps 0 0) took_last a in no_stream b.frame b.taken)

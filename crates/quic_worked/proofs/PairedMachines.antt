@@ -19,7 +19,7 @@ use Rattle.quic_machine.specs.Machine.{World}
 use Rattle.quic_headline.specs.Runs.{Packet, Next, In, until, nexts, chunks_of, WasNamed, ResetHasArrived}
 use Rattle.quic_headline.specs.Observer.{took}
 use Rattle.quic_headline.specs.InFlight.{in_flight, TracksAt}
-use Rattle.quic_headline.specs.Duties.{Reset, Waits, IsUnderWay, DutiesAt, has_reset}
+use Rattle.quic_headline.specs.Duties.{Reset, Waits, IsCarried, DutiesAt, has_reset}
 use Rattle.quic_headline.specs.Headline.{Slices, AcceptsAll, FinishedMeansArrived, IsHonest}
 use Rattle.quic_worked.specs.Worked.{NextAnswers, started, accepts_stream, reads_stream}
 use Rattle.quic_worked.specs.Reordered.{abc, def}
@@ -78,12 +78,12 @@ waits_not : Waits reset_forgotten.client (Reset 0) → ⊥
 unfolding pair_sent
 waits_not w = let due : false ≡ true = w.due in cc
 
-flies_not : IsUnderWay reset_forgotten.client.tracking.packets (Reset 0) → ⊥
+flies_not : IsCarried reset_forgotten.client.tracking.packets (Reset 0) → ⊥
 unfolding pair_sent
 flies_not (inl e) = let clash : false ≡ true = e in cc
 flies_not (inr g) = g
 
-nowhere : (read : ReadCall) → Waits reset_forgotten.client (Reset 0) ⊎ IsUnderWay reset_forgotten.client.tracking.packets (Reset 0) ⊎ ResetHasArrived (took (pair_giving read) Server 6) 0 → ⊥
+nowhere : (read : ReadCall) → Waits reset_forgotten.client (Reset 0) ⊎ IsCarried reset_forgotten.client.tracking.packets (Reset 0) ⊎ ResetHasArrived (took (pair_giving read) Server 6) 0 → ⊥
 nowhere read (inl w) = waits_not w
 nowhere read (inr (inl g)) = flies_not g
 nowhere read (inr (inr a)) = a.was_taken

@@ -26,7 +26,7 @@ use Rattle.quic_machine.specs.Machine.{World, IsStep, Follows, fails}
 use Rattle.quic_machine.specs.RunLaws.{one_world}
 use Rattle.quic_headline.specs.Runs.{Packet, Next, In, IsTaken, IsNamed, until, written, nexts, chunks_of, bytes_of, offsets_of, WasNamed, HasArrived, EndHasArrived}
 use Rattle.quic_headline.specs.Observer.{took}
-use Rattle.quic_headline.specs.Duties.{Offset, Waits, IsUnderWay, DutiesAt}
+use Rattle.quic_headline.specs.Duties.{Offset, Waits, IsCarried, DutiesAt}
 use Rattle.quic_headline.specs.InFlight.{in_flight, TracksAt}
 use Rattle.quic_headline.specs.Headline.{OrderedPrefix, Once, EndAfterAll, BlockedOnlyWithoutBytes, AcceptsAll, FinishedMeansArrived, AcknowledgedWereTaken, NamesWereTaken, OpensExactly, NumbersRise, LossTimerFollows, LossTimersFollow, IsNamedIn, frames_given}
 use Rattle.quic_headline.proofs.Timers.LossTimers.{loss_timers_follow}
@@ -264,7 +264,7 @@ owed read = omega arith
 keeps_no : Waits kept_four.client (Offset 0 4) → ⊥
 keeps_no w = let due = w.due in cc
 
-kept_nowhere : (read : ReadCall) → Waits kept_four.client (Offset 0 4) ⊎ IsUnderWay kept_four.client.tracking.packets (Offset 0 4) ⊎ HasArrived (took (writing_run read) Server 2) 0 4 → ⊥
+kept_nowhere : (read : ReadCall) → Waits kept_four.client (Offset 0 4) ⊎ IsCarried kept_four.client.tracking.packets (Offset 0 4) ⊎ HasArrived (took (writing_run read) Server 2) 0 4 → ⊥
 kept_nowhere read (inl w) = keeps_no w
 kept_nowhere read (inr (inl g)) = g
 kept_nowhere read (inr (inr a)) = a.taken.was_taken

@@ -10,4 +10,5 @@ pub mod Picked
 pub mod Credit
 pub mod Chunked
 pub mod Losses
+pub mod Raised
 pub mod Timed

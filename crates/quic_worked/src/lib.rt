@@ -11,6 +11,7 @@ pub mod exchange;
 pub mod machines;
 pub mod paired;
 pub mod picked;
+pub mod raised;
 pub mod reordered;
 pub mod timed;
 pub mod worked;
