@@ -7,6 +7,7 @@ ghost use Rattle.quic_machine.specs.Lacking.{LacksWhere, TakesOfItsOwn};
 ghost use Rattle.quic_time.specs.Timers.{each_timer};
 ghost use Rattle.quic_headline.specs.Causes.{NoBlame, TooManyPieces, NumberLimit, TakenOrTooMany};
 ghost use Rattle.quic_headline.specs.Headline.{CodeIsSmall, AreCodes, OrderedPrefix, Slices, Once, EndAfterAll, BlockedOnlyWithoutBytes, AcceptsAll, FinishedMeansArrived, FinishedIsTold, AcknowledgedWereTaken, NamesWereTaken, OpensExactly, LossTimersFollow, AckTimersFollow, NumbersRise};
+ghost use Rattle.quic_headline.specs.Amounts.{WritesTakeWhatLimitsAllow};
 ghost use Rattle.quic_headline.specs.Duties.{DutiesStand};
 ghost use Rattle.quic_headline.specs.Grown.{GrownLimitsWait};
 ghost use Rattle.quic_headline.specs.InFlight.{TracksInFlight};
@@ -327,13 +328,15 @@ fn view<H: HeaderKey + Drop, K: PacketKey + Drop, R: Rng + Drop>(ends: &Ends<H, 
 /// than 2048 runs of a stream that wait to be read, or for used-up numbers, and each packet of the
 /// other end that comes is taken whole, but for such runs. No stream is told to be finished twice,
 /// and where an open end has nothing left to tell, each was that is wholly acknowledged and wasn't
-/// reset, and no other; all that was written waits to go, is under way, or arrived; and an open end
-/// waits for exactly the datagrams that are in flight, shows its loss timer set to the moment that
-/// is due for them, and its timer of acknowledgements to one that is due for a packet that it took
-/// and hasn't acknowledged since. At each place, also where memory lacks, and with any keys, an
-/// open end has its loss timer set exactly where a datagram that asks is waited for, and its timer
-/// of acknowledgements only where a packet that asks came since the last acknowledgement went, if
-/// it began so.
+/// reset, and no other; all that was written waits to go, is under way, or arrived, and so does
+/// each limit that was said; a limit that grew waits to be said; a write at an open end takes what
+/// the peer's limits and the send window leave; and an open end waits for exactly
+/// the datagrams that are in flight, shows its loss timer set to the moment that is due for them,
+/// and its timer of acknowledgements to one that is due for a packet that it took and hasn't
+/// acknowledged since. At each place, also where memory lacks, and with any keys, an open end has
+/// its loss timer set exactly where a datagram that asks is waited for, and its timer of
+/// acknowledgements only where a packet that asks came since the last acknowledgement went, if it
+/// began so.
 pub fn run<H: HeaderKey + Drop, K: PacketKey + Drop, R: Rng + Drop>(
     alloc: Global,
     ends: Ends<H, K, R>,
@@ -357,6 +360,8 @@ pub fn run<H: HeaderKey + Drop, K: PacketKey + Drop, R: Rng + Drop>(
     ensures duties_stand { OnHonest H.protection K.aead ends events.now result DutiesStand }
     ensures grown_limits_wait { OnHonest H.protection K.aead ends events.now result
         GrownLimitsWait }
+    ensures writes_take_what_limits_allow { OnHonest H.protection K.aead ends events.now result
+        WritesTakeWhatLimitsAllow }
     ensures tracks_in_flight { OnHonest H.protection K.aead ends events.now result TracksInFlight }
     ensures loss_moments { OnHonest H.protection K.aead ends events.now result LossMoments }
     ensures ack_moments { OnHonest H.protection K.aead ends events.now result AckMoments }
@@ -385,6 +390,7 @@ pub fn run<H: HeaderKey + Drop, K: PacketKey + Drop, R: Rng + Drop>(
     headline::finished_is_told();
     headline::duties_stand();
     headline::grown_limits_wait();
+    headline::writes_take_what_limits_allow();
     headline::tracks_in_flight();
     headline::loss_moments();
     headline::ack_moments();

@@ -6,6 +6,6 @@ pub mod UnderWay
 pub mod Resets
 pub mod Lasting
 pub mod Limits
-pub mod Saying
+pub mod LimitsGo
 pub mod Group
 pub mod Ledger

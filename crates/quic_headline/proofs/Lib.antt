@@ -6,4 +6,5 @@ pub mod Timers
 pub mod Causes
 pub mod Settled
 pub mod Channel
-pub mod Limits
+pub mod Amounts
+pub mod Grown

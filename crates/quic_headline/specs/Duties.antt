@@ -59,8 +59,8 @@ pub record IsSaid (e : End) (own : List Sent) (what : Limited) (value : ℕ) : T
   pub greatest : (other : ℕ) → WasGiven own (limit_frame what other) → other ≤ value
   pub matters : Matters e what
 
--- what an end owes that gave these datagrams and was told this: of each stream that it didn't reset, each offset that was written, and the end if it was finished; each reset;
--- and each limit
+-- what an end owes that gave these datagrams and was told this: of each stream that it didn't reset, each offset that was written, and
+-- the end if it was finished; each reset; and each limit
 abbrev pub IsOwed : End → List Sent → List Told → Duty → Type 0
 IsOwed e own told (Offset id offset) = (reset id told ≡ None) × (offset < length (written id told))
 IsOwed e own told (Fin id) = (reset id told ≡ None) × (ended id told ≡ true)

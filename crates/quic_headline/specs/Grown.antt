@@ -12,18 +12,18 @@ use Rattle.quic_machine.specs.End.{End}
 use Rattle.quic_machine.specs.Machine.{World, end_at}
 use Rattle.quic_headline.specs.Runs.{Run, Told, until, reads, bytes_of, AreServed, LeadsTo}
 
--- A window is how far past what was used up the peer may come, though never past the greatest limit that there is. The limit grew where it lies an eighth of the window
--- above the one that the peer was told, or one, if that is more.
+-- A window is how far past what was used up the peer may come, though never past the greatest limit that there is. The limit grew
+-- where it lies an eighth of the window above the one that the peer was told, or one, if that is more.
 abbrev pub HasGrown : (window used most told : ℕ) → Type 0
 HasGrown window used most told = told + max (window / 8) 1 ≤ min (window + used) most
 
--- on all data: what is used up is what was consumed, the sum over all streams of the bytes that were read, and of the greatest offset that arrived where the stream was
--- stopped or reset (section 4.1)
+-- on all data: what is used up is what was consumed, the sum over all streams of the bytes that were read, and of the greatest offset
+-- that arrived where the stream was stopped or reset (section 4.1)
 abbrev pub DataHasGrown : Receiving → Type 0
 DataHasGrown r = HasGrown r.window (consumed r) greatest_offset r.announced
 
--- on the data of a stream, while its limits matter: this end didn't stop it, nor is its end known; what is used up are the bytes that an application read of it, which was told
--- this
+-- On the data of a stream, while its limits matter: this end didn't stop it, nor is its end known. What is used up are the bytes that
+-- were read of it, by what was told at the end.
 pub record StreamHasGrown (told : List Told) (r : Receiving) (id : ℕ) : Type 0 where
   pub half : RecvHalf
   pub found : at r.halves.live id ≡ Some half

@@ -6,6 +6,7 @@ ghost use Rattle.quic_machine.specs.declared.run.Answer.{Answer};
 ghost use Rattle.quic_machine.specs.declared.run.View.{View};
 ghost use Rattle.quic_machine.specs.Machine.{World, Policies, Follows};
 ghost use Rattle.quic_headline.specs.Runs.{Run};
+ghost use Rattle.quic_headline.specs.Amounts.{WritesTakeWhatLimitsAllow};
 ghost use Rattle.quic_headline.specs.Duties.{DutiesStand};
 ghost use Rattle.quic_headline.specs.Grown.{GrownLimitsWait};
 ghost use Rattle.quic_headline.specs.InFlight.{TracksInFlight};
@@ -126,7 +127,9 @@ pub fn numbers_rise()
 /// At each place each offset that was written on a stream that wasn't reset waits to go, and then
 /// its end has something to send; or it stands in a datagram that is neither acknowledged nor lost
 /// yet; or it arrived. So does the end of each such stream that was finished, and the reset of each
-/// that was reset (RFC 9000, section 13.3).
+/// that was reset; and so does the greatest limit of each kind that the end said and that matters
+/// still: it waits to be said anew, stands with its value in such a datagram, or one as great
+/// arrived (RFC 9000, section 13.3).
 pub fn duties_stand()
     ensures { (r : Run) (end : World) → IsHonest r → IsRun r end → DutiesStand r }
 {}
@@ -167,4 +170,13 @@ pub fn ack_moments()
 /// A.2).
 pub fn number_limit()
     ensures { (r : Run) (end : World) → IsHonest r → IsRun r end → NumberLimit r }
+{}
+
+/// A write of an open end, on a stream that was neither finished nor reset and that the peer didn't
+/// stop, takes the least of its length, what is left of the greatest limit on all data and on that
+/// of the stream that the peer told, and what is left of the send window, which pieces use up until
+/// they are acknowledged. It is blocked where one of the last three leaves nothing (RFC 9000,
+/// section 4.1).
+pub fn writes_take_what_limits_allow()
+    ensures { (r : Run) (end : World) → IsHonest r → IsRun r end → WritesTakeWhatLimitsAllow r }
 {}

@@ -1,2 +1,4 @@
 mod Sums
 mod Totals
+mod QueuedIds
+mod Counted

@@ -1,5 +1,6 @@
 -- What is kept on all streams, after a change of one.
-use Rattle.std.proofs.Common.{◌≡◌, ℕ, ◌+◌, ◌≤◌, length, Some, None, Option, sym, ap, ◌∙◌, subst, length-drop, arith}
+use Rattle.std.proofs.Common.{◌≡◌, ℕ, ◌+◌, ◌≤◌, Bool, true, false, length, Some, None, Option, Result, Ok, Err, OnOk, OnErr, refl, sym, ap, ◌∙◌, subst, length-drop, arith}
+use Rattle.std.specs.Prelude.{◌&&◌, if◌then◌else◌}
 use Rattle.std.specs.Option.{unwrap_or, option_map}
 use Rattle.std.specs.List.{sum_by}
 use Rattle.std.specs.Ordering.{nat_cmp}
@@ -9,8 +10,10 @@ use Rattle.std.specs.List.Sorted.{IsStrictlySortedBy}
 use Rattle.std.specs.Map.{keys_of, values_of}
 use Rattle.std.proofs.lemmas.Map.Entries.{sum_by-set_value, sum_by-remove_entry, sum_by-insert_entry}
 use Rattle.quic_send_buffer.specs.declared.stream_meta.StreamMeta.{StreamMeta}
-use Rattle.quic_send_buffer.specs.Buffered.{done, acknowledged}
-use Rattle.quic_streams_parts.specs.SendHalf.{SendHalf, half_acked}
+use Rattle.quic_send_buffer.specs.Buffered.{Buffered, done, acknowledged}
+use Rattle.quic_streams_parts.specs.Queue.{Queue, Place}
+use Rattle.quic_streams_parts.specs.SendHalf.{SendHalf, Queued, is_ready, has_pending, frame_counts, half_after, half_acked, half_lost, requeued, requeued_at, turned, turned_at}
+use Rattle.quic_streams_halves.specs.Queued.{unmoved, acked_with, acked_if_ready, lost_with, sent_if_counts}
 use Rattle.quic_streams_parts.specs.Table.{Table, at, put, without, added}
 
 module _ {A : Type 0} (f : A → ℕ) where
@@ -47,3 +50,46 @@ module _ {A : Type 0} (f : A → ℕ) where
 -- an acknowledged frame leaves no more bytes on its half
 pub acked_shrinks : (h : SendHalf) (m : StreamMeta) → length (half_acked h m).buffer.kept ≤ length h.buffer.kept
 acked_shrinks h m = let left = length-drop (done (acknowledged h.buffer m.offsets.start m.offsets.end)) h.buffer.kept in omega arith
+
+-- a half keeps its bytes where the queue follows it
+pub requeued_kept : (p : Option Place) (b : Bool) (q : Queue) (id : ℕ) (h : SendHalf) → (requeued_at p b q id h).half.buffer ≡ h.buffer
+requeued_kept None true q id h = refl
+requeued_kept None false q id h = refl
+requeued_kept (Some place) true q id h = refl
+requeued_kept (Some place) false q id h = refl
+
+turned_kept : (b : Bool) (q : Queue) (id : ℕ) (h : SendHalf) → (if b then turned_at h.place q id h else requeued q id h).half.buffer ≡ h.buffer
+turned_kept true q id h = go h.place
+  where
+    go : (p : Option Place) → (turned_at p q id h).half.buffer ≡ h.buffer
+    go None = refl
+    go (Some place) = refl
+turned_kept false q id h = requeued_kept h.place (has_pending h) q id h
+
+-- and has no more of them once a frame of it was acknowledged
+pub acked_kept : (m : StreamMeta) (q : Queue) (h w : SendHalf) → w ≡ (acked_with m q h).half → length w.buffer.kept ≤ length h.buffer.kept
+acked_kept m q h w is =
+    let same : length w.buffer.kept ≡ length (half_acked h m).buffer.kept = ap (λ (v : SendHalf). length v.buffer.kept) is ∙ ap (λ (b : Buffered). length b.kept) (requeued_kept (half_acked h m).place (has_pending (half_acked h m)) q m.id (half_acked h m)) in
+    let fewer = acked_shrinks h m in
+    omega arith
+
+pub acked_if_kept : (m : StreamMeta) (q : Queue) (h w : SendHalf) → w ≡ (acked_if_ready m q h).half → length w.buffer.kept ≤ length h.buffer.kept
+acked_if_kept m q h w is = go (is_ready h) is
+  where
+    go : (b : Bool) → w ≡ (if b then acked_with m q h else unmoved q h).half → length w.buffer.kept ≤ length h.buffer.kept
+    go true e = acked_kept m q h w e
+    go false e = let same : length w.buffer.kept ≡ length h.buffer.kept = ap (λ (v : SendHalf). length v.buffer.kept) e in omega arith
+
+-- as many after a frame of it was lost, whether memory lacked or not
+pub lost_kept : {T E : Type 0} (r : Result T E) (m : StreamMeta) (q : Queue) (h w : SendHalf) → OnOk r (w ≡ (lost_with m q h).half) → OnErr r (w ≡ h) → length w.buffer.kept ≡ length h.buffer.kept
+lost_kept (Ok x) m q h w ok err = ap (λ (v : SendHalf). length v.buffer.kept) ok ∙ ap (λ (b : Buffered). length b.kept) (requeued_kept (half_lost h m).place (has_pending (half_lost h m)) q m.id (half_lost h m))
+lost_kept (Err e) m q h w ok err = ap (λ (v : SendHalf). length v.buffer.kept) err
+
+-- and after one of it went
+pub sent_kept : {T E : Type 0} (r : Result T E) (fair : Bool) (id room : ℕ) (q : Queue) (h w : SendHalf) → OnOk r (w ≡ (sent_if_counts fair id room q h).half) → OnErr r (w ≡ half_after h room) → length w.buffer.kept ≡ length h.buffer.kept
+sent_kept (Ok x) fair id room q h w ok err = go (frame_counts h room) ok
+  where
+    go : (b : Bool) → w ≡ (if b then turned fair q id (half_after h room) else unmoved q h).half → length w.buffer.kept ≡ length h.buffer.kept
+    go true e = ap (λ (v : SendHalf). length v.buffer.kept) e ∙ ap (λ (b : Buffered). length b.kept) (turned_kept (fair && has_pending (half_after h room)) q id (half_after h room))
+    go false e = ap (λ (v : SendHalf). length v.buffer.kept) e
+sent_kept (Err e) fair id room q h w ok err = ap (λ (v : SendHalf). length v.buffer.kept) err

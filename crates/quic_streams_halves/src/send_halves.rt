@@ -1,14 +1,17 @@
 //! The sending parts of all streams.
-ghost use Rattle.std.specs.Prelude.{◌≡◌, ◌≢◌, ◌<◌, ◌≤◌, ◌+◌, ◌^◌, ◌++◌, length, false, IfSome, IfOk, OnOk, OnErr, IsSome, IsSomeAnd, Some, None, vec_len, vec_capacity};
+ghost use Rattle.std.specs.Prelude.{◌≡◌, ◌⊎◌, ◌<◌, ◌≤◌, ◌+◌, ◌^◌, ◌++◌, length, false, IfSome, IfOk, OnOk, OnErr, IsSome, IsSomeAnd, Some, None, vec_len, vec_capacity};
 ghost use Rattle.std.specs.Option.{option_copied, option_map};
 ghost use Rattle.quic_wire.specs.Writing.{stream_spelling, width_of};
 ghost use Rattle.quic_send_buffer.specs.Buffered.{writes_length};
-ghost use Rattle.quic_send_buffer.specs.Source.{bytes_of, cut_to};
+ghost use Rattle.quic_send_buffer.specs.Source.{bytes_of};
 ghost use Rattle.quic_streams_parts.specs.Table.{at, without};
-ghost use Rattle.quic_streams_parts.specs.SendHalf.{SendHalf, grown_all, room_on, has_pending, ended, reset_now, half_acked, half_lost, half_after, frame_of, meta_of, HasSent};
+ghost use Rattle.quic_streams_parts.specs.SendHalf.{SendHalf, room_on, ended, reset_now, frame_of, meta_of, HasSent};
 ghost use Rattle.quic_streams_halves.specs.Halves.{Halves, no_halves, has_place, used, changed, without_half, buffered_in};
+ghost use Rattle.quic_streams_halves.specs.Queued.{queue_with, acked_with, acked_if_ready, is_ended_at, lost_with, counting_at, sent_if_counts, chunks_grown_with};
 
+use crate::pending_streams::PendingStreams;
 use crate::places::Places;
+use crate::queued;
 use bytes::Bytes;
 use quic_send_buffer::StreamMeta;
 use quic_streams_parts::{Place, Send};
@@ -139,30 +142,28 @@ impl SendHalves {
         half.set_blocked(blocked);
     }
 
-    /// Takes over the first `len` bytes of chunks on a part, which is in use, each chunk as a piece
-    /// that shares its bytes, and sets where it stands in the queue. An `Err` (want of memory)
-    /// changes nothing.
+    /// The first `len` bytes of chunks go behind those that were written on a part, if it is in use, each chunk as a piece that
+    /// shares its bytes, and wait to go. An `Err` (want of memory) changes nothing.
     pub fn write_all(
         &mut self,
         id: StreamId,
         chunks: &[Bytes],
         len: usize,
-        place: Option<Place>,
+        queue: &mut PendingStreams,
     ) -> Result<(), AllocError>
-        requires found { IsSome (at self.old.live id) }
         requires reset { IfSome (at self.old.live id) (λ h. h.reset ≡ None) }
         requires whole { len ≤ bytes_of chunks.now }
         requires room { IfSome (at self.old.live id) (λ h. len ≤ room_on h) }
         requires window { buffered_in self.old.live + len < 2 ^ 64 }
-        ensures ok { OnOk result (self.new ≡ changed (λ h. record (grown_all h (cut_to len chunks.now)) { place = place }) self.old id) }
+        ensures ok { OnOk result (self.new ≡ changed (λ h. (chunks_grown_with id len chunks.now queue.old h).half) self.old id) }
+        ensures queue { OnOk result (queue.new ≡ queue_with (chunks_grown_with id len chunks.now queue.old) (at self.old.live id) queue.old) }
         ensures err { OnErr result (self.new ≡ self.old) }
-        ensures lacking { OnErr result (0 < len) }
+        ensures same { OnErr result (queue.new ≡ queue.old) }
     {
         let Some(half) = self.live.get_mut(&u64::from(id)) else {
             return Ok(());
         };
-        half.write_all(chunks, len)?;
-        half.set_place(place);
+        queued::write_all(half, id, chunks, len, queue)?;
         self.buffered += len as u64;
         Ok(())
     }
@@ -201,55 +202,89 @@ impl SendHalves {
         half.set_place(place);
     }
 
-    /// A frame of a part, which is in use, was acknowledged. An `Err` (want of memory, where some of it was sent) changes
-    /// nothing.
-    pub fn ack(&mut self, frame: &StreamMeta) -> Result<(), AllocError>
-        ensures ok { OnOk result (self.new ≡ changed (λ h. half_acked h frame.now) self.old frame.now.id) }
+    /// A frame of a part was acknowledged, if it is in use. An `Err` (want of memory) changes nothing.
+    pub fn ack(&mut self, frame: &StreamMeta, queue: &mut PendingStreams) -> Result<(), AllocError>
+        ensures ok { OnOk result (self.new ≡ changed (λ h. (acked_with frame.now queue.old h).half) self.old frame.now.id) }
+        ensures queue { OnOk result (queue.new ≡ queue_with (acked_with frame.now queue.old) (at self.old.live frame.now.id) queue.old) }
         ensures err { OnErr result (self.new ≡ self.old) }
-        ensures lacking { OnErr result (IsSomeAnd (at self.old.live frame.now.id) (λ h. HasSent h frame.now)) }
-        ensures idle { IfSome (at self.old.live frame.now.id) (λ h. has_pending h ≡ false → has_pending (half_acked h frame.now) ≡ false) }
+        ensures same { OnErr result (queue.new ≡ queue.old) }
+        ensures lacking { OnErr result (IsSomeAnd (at self.old.live frame.now.id) (λ h. HasSent h frame.now ⊎ (h.place ≡ None))) }
     {
         let Some(half) = self.live.get_mut(&u64::from(frame.id)) else {
             return Ok(());
         };
         let kept = half.buffered();
-        half.ack(frame)?;
+        queued::ack(half, frame, queue)?;
         self.buffered -= kept - half.buffered();
         Ok(())
     }
 
-    /// A frame of a part, which is in use, was lost. An `Err` (want of memory, where some of it was sent) changes nothing.
-    pub fn retransmit(&mut self, frame: &StreamMeta) -> Result<(), AllocError>
-        ensures ok { OnOk result (self.new ≡ changed (λ h. half_lost h frame.now) self.old frame.now.id) }
+    /// The same, unless the part's end or a reset was told: it stays then. Says whether the part is in use, its end was told, and no
+    /// reset. An `Err` (want of memory) changes nothing.
+    pub fn ack_if_ready(
+        &mut self,
+        frame: &StreamMeta,
+        queue: &mut PendingStreams,
+    ) -> Result<bool, AllocError>
+        ensures answer { IfOk result (λ ended. ended ≡ is_ended_at (at self.old.live frame.now.id)) }
+        ensures ok { OnOk result (self.new ≡ changed (λ h. (acked_if_ready frame.now queue.old h).half) self.old frame.now.id) }
+        ensures queue { OnOk result (queue.new ≡ queue_with (acked_if_ready frame.now queue.old) (at self.old.live frame.now.id) queue.old) }
         ensures err { OnErr result (self.new ≡ self.old) }
-        ensures lacking { OnErr result (IsSomeAnd (at self.old.live frame.now.id) (λ h. HasSent h frame.now)) }
+        ensures same { OnErr result (queue.new ≡ queue.old) }
+        ensures lacking { OnErr result (IsSomeAnd (at self.old.live frame.now.id) (λ h. (h.reset ≡ None) × (HasSent h frame.now ⊎ (h.place ≡ None)))) }
+    {
+        let Some(half) = self.live.get_mut(&u64::from(frame.id)) else {
+            return Ok(false);
+        };
+        let kept = half.buffered();
+        let ended = queued::ack_if_ready(half, frame, queue)?;
+        self.buffered -= kept - half.buffered();
+        Ok(ended)
+    }
+
+    /// A frame of a part was lost, if it is in use. An `Err` (want of memory) changes nothing.
+    pub fn retransmit(
+        &mut self,
+        frame: &StreamMeta,
+        queue: &mut PendingStreams,
+    ) -> Result<(), AllocError>
+        ensures ok { OnOk result (self.new ≡ changed (λ h. (lost_with frame.now queue.old h).half) self.old frame.now.id) }
+        ensures queue { OnOk result (queue.new ≡ queue_with (lost_with frame.now queue.old) (at self.old.live frame.now.id) queue.old) }
+        ensures err { OnErr result (self.new ≡ self.old) }
+        ensures same { OnErr result (queue.new ≡ queue.old) }
+        ensures lacking { OnErr result (IsSomeAnd (at self.old.live frame.now.id) (λ h. HasSent h frame.now ⊎ (h.place ≡ None))) }
     {
         let Some(half) = self.live.get_mut(&u64::from(frame.id)) else {
             return Ok(());
         };
-        half.retransmit(frame)
+        queued::retransmit(half, frame, queue)
     }
 
-    /// Appends the next frame of a part, which is in use, with `max_len` bytes of room, 16 at least, behind its type and id, and
-    /// takes it: what it carries.
+    /// Appends the next frame of a part, if it is in use and the frame brings a byte or the end, with `max_len` bytes of room, 16 at
+    /// least, behind its type and id, and takes it: what it carries. Where streams take turns (`fair`) the part goes behind its
+    /// equals. After an `Err` (want of memory) the frame is taken, and its part may stand nowhere in the queue.
     pub fn put_frame(
         &mut self,
         id: StreamId,
+        fair: bool,
         max_len: usize,
         out: &mut Vec<u8>,
-    ) -> Option<StreamMeta>
+        queue: &mut PendingStreams,
+    ) -> Result<Option<StreamMeta>, AllocError>
         requires some { 16 ≤ max_len }
         requires room { vec_len out.old + (1 + width_of id) + max_len ≤ vec_capacity out.old }
-        ensures items { IfSome (at self.old.live id) (λ h. out.new.items ≡ out.old.items ++ stream_spelling (writes_length h.buffer max_len) (frame_of id h max_len)) }
-        ensures nothing { at self.old.live id ≡ None → out.new.items ≡ out.old.items }
+        ensures items { IfSome (counting_at (at self.old.live id) max_len) (λ h. out.new.items ≡ out.old.items ++ stream_spelling (writes_length h.buffer max_len) (frame_of id h max_len)) }
+        ensures nothing { counting_at (at self.old.live id) max_len ≡ None → out.new.items ≡ out.old.items }
         ensures len { vec_len out.new ≤ vec_len out.old + (1 + width_of id) + max_len }
         ensures capacity { vec_capacity out.old ≤ vec_capacity out.new }
-        ensures new { self.new ≡ changed (λ h. half_after h max_len) self.old id }
-        ensures meta { result ≡ option_map (λ h. meta_of (frame_of id h max_len)) (at self.old.live id) }
+        ensures new { OnOk result (self.new ≡ changed (λ h. (sent_if_counts fair id max_len queue.old h).half) self.old id) }
+        ensures queue { OnOk result (queue.new ≡ queue_with (sent_if_counts fair id max_len queue.old) (at self.old.live id) queue.old) }
+        ensures lacking { OnErr result (IsSome (counting_at (at self.old.live id) max_len)) }
+        ensures meta { IfOk result (λ meta. meta ≡ option_map (λ h. meta_of (frame_of id h max_len)) (counting_at (at self.old.live id) max_len)) }
     {
         let Some(half) = self.live.get_mut(&u64::from(id)) else {
-            return None;
+            return Ok(None);
         };
-        Some(half.put_frame(id, max_len, out))
+        queued::put_frame(half, id, fair, max_len, out, queue)
     }
 }

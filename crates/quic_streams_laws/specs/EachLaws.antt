@@ -91,7 +91,7 @@ module _ {A : Type 0} (side : Side) (h : Halves A) where
 
 -- ---- sending halves
 
-module _ (F : ℕ → Type 0) (N : ℕ → Type 0) (Q : ℕ → SendHalf → Type 0) (D : ℕ → Type 0) (k : AreOfHalves F N Q D) where
+module _ (F : ℕ → ℕ → Type 0) (N : ℕ → Type 0) (Q : ℕ → SendHalf → Type 0) (D : ℕ → Type 0) (k : AreOfHalves F N Q D) where
   -- what is said of a half that is in use, or on which nothing was done
   pub said_of : (s : StreamsState) (id : ℕ) (h : SendHalf) → sending_half s id ≡ Some h → EachSends F N Q D s → Q id h
   said_of s id h e i = go (was_half s id h e)

@@ -528,7 +528,7 @@ module _ {R : Receiving → ℕ → RecvHalf → RecvHalf → Type 0} {S : Strea
       k.events (with_send s id (stopped_half h code)) _ (none_more s.events.queue (stream_events.Stopped id code) (λ id. refl)) (k.changes s id h (stopped_half h code) e (on h e) refl q)))
 
   -- a stream that may be named by a frame for a sending half is within what was opened, or may be
-  sends_within : (s : StreamsState) (id : ℕ) → sending_refusal s id ≡ None → beyond s id ≡ None
+  pub sends_within : (s : StreamsState) (id : ℕ) → sending_refusal s id ≡ None → beyond s id ≡ None
   sends_within s id = cond_both {A = Option Breach} (not (is_own s.side id) && not (is_two_way (dir_of id))) _ _ (λ t. t ≡ None → beyond s id ≡ None) (λ e f. cc) (λ e f. f)
 
   pub by_stop_sending : (s : StreamsState) (f : StopSendingValue) → ((h : SendHalf) → sending_half (opened_by s f.id) f.id ≡ Some h → S (opened_by s f.id) f.id h (stopped_half h f.code)) → P s → P (after_stop_sending s f)

@@ -72,11 +72,11 @@ pub record GoesAlong (X : ℕ → SendHalf → Type 0) (D : ℕ → Wrote → Ty
 
 -- each half holds what was written, and X; each that is done is D
 abbrev pub HoldsWith : (ℕ → SendHalf → Type 0) → (ℕ → Wrote → Type 0) → (ℕ → Wrote) → StreamsState → Type 0
-HoldsWith X D wrote s = EachSends (λ limit. limit < 2 ^ 62) (λ id. wrote id ≡ nothing_done) (λ id h. IsSendHalf (wrote id) h × X id h) (λ id. D id (wrote id)) s
+HoldsWith X D wrote s = EachSends (λ id limit. limit < 2 ^ 62) (λ id. wrote id ≡ nothing_done) (λ id h. IsSendHalf (wrote id) h × X id h) (λ id. D id (wrote id)) s
 
 module _ (X : ℕ → SendHalf → Type 0) (D : ℕ → Wrote → Type 0) (k : GoesAlong X D) where
   -- it is said of halves by their place
-  of_halves : (wrote : ℕ → Wrote) → AreOfHalves (λ limit. limit < 2 ^ 62) (λ id. wrote id ≡ nothing_done) (λ id h. IsSendHalf (wrote id) h × X id h) (λ id. D id (wrote id))
+  of_halves : (wrote : ℕ → Wrote) → AreOfHalves (λ id limit. limit < 2 ^ 62) (λ id. wrote id ≡ nothing_done) (λ id h. IsSendHalf (wrote id) h × X id h) (λ id. D id (wrote id))
   of_halves wrote = record {
     fresh = λ id limit small none. (subst (λ w. IsSendHalf w (new_send_half limit)) (sym none) (new_holds limit small), k.fresh id limit);
     over = λ id h i ended. k.over (wrote id) id h i.0 i.1 ended;
@@ -86,11 +86,11 @@ module _ (X : ℕ → SendHalf → Type 0) (D : ℕ → Wrote → Type 0) (k : G
 
   -- each word keeps it that changes halves only so that they hold what they held, and X
   pub with_kept : (wrote : ℕ → Wrote) → KeepsBy (λ r id old new. Unit {0}) (λ s id old new. IsSendHalf (wrote id) old × X id old → IsSendHalf (wrote id) new × X id new) (λ s id n old new. IsSendHalf (wrote id) old × X id old → IsSendHalf (wrote id) new × X id new) (HoldsWith X D wrote)
-  with_kept wrote = each_kept (λ limit. limit < 2 ^ 62) (λ id. wrote id ≡ nothing_done) (λ id h. IsSendHalf (wrote id) h × X id h) (λ id. D id (wrote id)) (of_halves wrote)
+  with_kept wrote = each_kept (λ id limit. limit < 2 ^ 62) (λ id. wrote id ≡ nothing_done) (λ id h. IsSendHalf (wrote id) h × X id h) (λ id. D id (wrote id)) (of_halves wrote)
 
   -- what is said of a half on which something may be done
   pub with_half : (wrote : ℕ → Wrote) (s : StreamsState) (id : ℕ) (h : SendHalf) → sending_half s id ≡ Some h → HoldsWith X D wrote s → IsSendHalf (wrote id) h × X id h
-  with_half wrote s id h e i = said_of (λ limit. limit < 2 ^ 62) (λ id. wrote id ≡ nothing_done) (λ id h. IsSendHalf (wrote id) h × X id h) (λ id. D id (wrote id)) (of_halves wrote) s id h e i
+  with_half wrote s id h e i = said_of (λ id limit. limit < 2 ^ 62) (λ id. wrote id ≡ nothing_done) (λ id h. IsSendHalf (wrote id) h × X id h) (λ id. D id (wrote id)) (of_halves wrote) s id h e i
 
   -- where the same was done
   pub with_same : (wrote more : ℕ → Wrote) (s : StreamsState) → ((q : ℕ) → more q ≡ wrote q) → HoldsWith X D wrote s → HoldsWith X D more s

@@ -7,8 +7,7 @@ mod Raised
 mod Requeued
 mod Tables
 mod Taken
-mod Turning
 mod Arriving
 mod Coming
-mod QueuedIds
 mod Framing
+mod Putting

@@ -81,9 +81,13 @@ abbrev pub counting : Option ℕ → StreamsState → ℕ → Option ℕ
 counting None s left = None
 counting (Some id) s left = stream_if (at s.sending.halves.live id) left id
 
+-- the stream that stands first, where so many bytes are left of a datagram that a frame may go
+abbrev pub first_in : StreamsState → ℕ → Option ℕ
+first_in s left = if nat_le least_stream_room left then first_queued s.sending.queue else None
+
 -- the stream whose frame goes next, where so many bytes are left of a datagram
 abbrev pub going : StreamsState → ℕ → Option ℕ
-going s left = counting (if nat_le least_stream_room left then first_queued s.sending.queue else None) s left
+going s left = counting (first_in s left) s left
 
 -- what frames carry, with that of a part behind it, if the part is in use
 abbrev pub noted_in : Option SendHalf → ℕ → ℕ → List StreamMeta → List StreamMeta

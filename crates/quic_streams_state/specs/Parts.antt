@@ -1,6 +1,6 @@
 -- What is kept of all streams of one end: how many there are, what is sent on them, and what has come (RFC 9000, section 4).
-use Rattle.std.specs.Prelude.{ℕ, ◌+◌, ◌-◌, ◌^◌, ◌<◌, min, Bool, nat_lt, if◌then◌else◌, List, length}
-use Rattle.std.specs.List.{sum_by, AllByRecursion}
+use Rattle.std.specs.Prelude.{ℕ, ◌+◌, ◌-◌, ◌^◌, min, Bool, nat_lt, if◌then◌else◌, List, length}
+use Rattle.std.specs.List.{sum_by}
 use Rattle.std.specs.Map.{values_of}
 use Rattle.quic_wire_core.specs.declared.stream_id.Side.{Side}
 use Rattle.quic_wire_core.specs.declared.stream_id.Dir.{Dir}
@@ -8,7 +8,7 @@ use Rattle.quic_wire_core.specs.StreamId.{dir_of, index_of}
 use Rattle.quic_streams_parts.specs.Dirs.{Counts, of, with_of, no_count, is_own}
 use Rattle.quic_streams_parts.specs.SendHalf.{SendHalf}
 use Rattle.quic_streams_parts.specs.RecvHalf.{RecvHalf, credit}
-use Rattle.quic_streams_parts.specs.Queue.{Queue, Place}
+use Rattle.quic_streams_parts.specs.Queue.{Queue}
 use Rattle.quic_streams_halves.specs.Halves.{Halves}
 
 -- how many streams of each kind this end opened, and how many it may open; how many the peer opened, how many of these were accepted, and how many of them
@@ -90,9 +90,3 @@ is_opened_in o side id = nat_lt (index_of id) (of (dir_of id) (if is_own side id
 -- one more stream of a kind is done both ways
 abbrev pub one_done : Dir → Opening → Opening
 one_done dir o = record o { done = with_of dir (min (of dir o.done + 1) most_streams) o.done }
-
--- ---- ids
-
--- the ids of streams are queued (section 2.1)
-abbrev pub AreQueuedIds : List (Place × ℕ) → Type 0
-AreQueuedIds es = AllByRecursion (λ e. e.1 < 2 ^ 62) es

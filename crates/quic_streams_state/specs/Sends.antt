@@ -4,8 +4,8 @@ use Rattle.quic_wire_core.specs.declared.stream_id.Side.{Side}
 use Rattle.quic_send_buffer.specs.Source.{cut_to}
 use Rattle.quic_streams_parts.specs.Table.{put}
 use Rattle.quic_send_buffer.specs.declared.stream_meta.StreamMeta.{StreamMeta}
-use Rattle.quic_streams_parts.specs.SendHalf.{SendHalf, Queued, has_pending, requeued, requeued_at, dequeued, grown, grown_all, ended, reset_now, half_after, half_acked, half_lost, turned}
-use Rattle.quic_streams_parts.specs.Queue.{Queue, Place, after_remove, taken_back}
+use Rattle.quic_streams_parts.specs.SendHalf.{SendHalf, Queued, is_ready, requeued, requeued_at, grown, grown_all, ended, reset_now, frame_counts, half_after, half_acked, half_lost, turned}
+use Rattle.quic_streams_parts.specs.Queue.{Queue, Place, after_remove}
 use Rattle.quic_streams_halves.specs.Halves.{with_half, without_half}
 use Rattle.quic_streams_state.specs.Parts.{Sending}
 
@@ -72,15 +72,20 @@ abbrev pub lost_in : Option SendHalf → Sending → StreamMeta → Sending
 lost_in None s m = s
 lost_in (Some h) s m = replaced_in s m.id (half_lost h m)
 
--- the queue follows a half in use of which a frame went, where streams take turns or don't
-abbrev pub followed_in : Bool → Option SendHalf → Sending → ℕ → Sending
-followed_in fair None s id = s
-followed_in fair (Some h) s id = with_live_queued s id (turned fair s.queue id h)
+-- the same, unless its end or a reset was told
+abbrev pub acked_if_ready_in : Option SendHalf → Sending → StreamMeta → Sending
+acked_if_ready_in None s m = s
+acked_if_ready_in (Some h) s m = if is_ready h then acked_in (Some h) s m else s
 
--- a frame of a half in use goes, where so many bytes are left behind its type and id
+-- a frame of a half in use goes, where streams take turns or don't, and so many bytes are left behind its type and id
 abbrev pub sent_in : Bool → Option SendHalf → Sending → ℕ → ℕ → Sending
 sent_in fair None s id room = s
-sent_in fair (Some h) s id room = followed_in fair (Some (half_after h room)) s id
+sent_in fair (Some h) s id room = with_live_queued s id (turned fair s.queue id (half_after h room))
+
+-- the same, if that frame brings a byte or the end
+abbrev pub sent_if_counts_in : Bool → Option SendHalf → Sending → ℕ → ℕ → Sending
+sent_if_counts_in fair None s id room = s
+sent_if_counts_in fair (Some h) s id room = if frame_counts h room then sent_in fair (Some h) s id room else s
 
 -- ---- a half is done
 
@@ -97,20 +102,3 @@ unqueued (Some h) q = given_up h.place q
 -- a half is no longer in use, and stands nowhere in the queue
 abbrev pub removed_in : Option SendHalf → Sending → ℕ → Sending
 removed_in o s id = record s { halves = without_half s.halves id; queue = unqueued o s.queue }
-
--- ---- the queue follows a half in use whose value changed
-
--- it gives up its place, if it has one
-abbrev pub place_left : Option Place → SendHalf → Sending → ℕ → Sending
-place_left None h s id = s
-place_left (Some place) h s id = with_live_queued s id (dequeued s.queue h place)
-
--- it leaves the queue once it has nothing to send
-abbrev pub left_in : Option SendHalf → Sending → ℕ → Sending
-left_in None s id = s
-left_in (Some h) s id = if has_pending h then s else place_left h.place h s id
-
--- the last place of the queue is its own if it has something to send, and else is taken back
-abbrev pub entered_in : Option SendHalf → Sending → ℕ → Place → Sending
-entered_in None s id place = record s { queue = taken_back s.queue place }
-entered_in (Some h) s id place = if has_pending h then record s { halves = record s.halves { live = put s.halves.live id (record h { place = Some place }) } } else record s { queue = taken_back s.queue place }

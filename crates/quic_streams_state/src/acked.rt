@@ -78,16 +78,9 @@ impl StreamsState {
         ensures err { OnErr result (self.new ≡ self.old) }
         ensures lacking { OnErr result (IsSomeAnd (sent_half self.old frame.now.id) (λ h. (h.reset ≡ None) × ((h.finished ≡ true) ⊎ FrameMayLack frame.now h))) }
     {
-        let Some(half) = self.sending.get(frame.id) else {
-            return Ok(false);
-        };
-        if half.reset_size().is_some() {
-            return Ok(false);
-        }
-        if !half.is_ready() {
+        if self.sending.ack_if_ready(frame)? {
             return self.ack_finished(frame);
         }
-        self.sending.ack(frame)?;
         Ok(false)
     }
 

@@ -12,13 +12,11 @@ ghost use Rattle.quic_streams_parts.specs.Queue.{no_queue, is_waiting, first_que
 ghost use Rattle.quic_streams_halves.specs.Halves.{no_halves, has_place, with_half, changed};
 
 mod frames;
-mod queue;
 mod renewed;
 
 use bytes::Bytes;
-use queue::PendingStreams;
-use quic_streams_halves::{SendHalves, is_own};
-use quic_streams_parts::{ByDir, Place, Send, rank_of};
+use quic_streams_halves::{PendingStreams, SendHalves, is_own};
+use quic_streams_parts::{ByDir, Send, rank_of};
 use quic_wire_core::{Dir, Side, StreamId, VarInt};
 use std::alloc::{AllocError, Global};
 use std::collections::VecDeque;
@@ -161,63 +159,6 @@ impl Sending {
         limited.min(self.send_window.saturating_sub(self.send.buffered()))
     }
 
-    // The first `len` bytes of chunks go behind those that were written on a half that stands in
-    // the queue. An `Err` (want of memory) changes nothing.
-    fn write_queued(
-        &mut self,
-        id: StreamId,
-        chunks: &[Bytes],
-        len: usize,
-        place: Place,
-    ) -> Result<(), AllocError>
-        requires found { IsSome (at self.old.halves.live id) }
-        requires place { IfSome (at self.old.halves.live id) (λ h. h.place ≡ Some place) }
-        requires reset { IfSome (at self.old.halves.live id) (λ h. h.reset ≡ None) }
-        requires half { IfSome (at self.old.halves.live id) (λ h. len ≤ room_on h) }
-        requires room { len ≤ room self.old }
-        requires whole { len ≤ bytes_of chunks.now }
-        ensures ok { OnOk result (self.new ≡ chunks_grown_in (at self.old.halves.live id) self.old id len chunks.now) }
-        ensures err { OnErr result (self.new ≡ self.old) }
-    {
-        // The proof reads that all are below 2^64.
-        let _bounds = (self.send.buffered(), self.max_data.into_inner());
-        let _window = self.send_window;
-        self.send.write_all(id, chunks, len, Some(place))?;
-        self.data_sent += len as u64;
-        Ok(())
-    }
-
-    // The first `len` bytes of chunks go behind those that were written on a half with nothing to
-    // send, which comes into the queue. An `Err` (want of memory) changes nothing.
-    fn write_unqueued(
-        &mut self,
-        id: StreamId,
-        chunks: &[Bytes],
-        len: usize,
-        priority: i32,
-    ) -> Result<(), AllocError>
-        requires found { IsSome (at self.old.halves.live id) }
-        requires place { IfSome (at self.old.halves.live id) (λ h. h.place ≡ None) }
-        requires priority { IfSome (at self.old.halves.live id) (λ h. h.priority ≡ priority) }
-        requires reset { IfSome (at self.old.halves.live id) (λ h. h.reset ≡ None) }
-        requires half { IfSome (at self.old.halves.live id) (λ h. len ≤ room_on h) }
-        requires room { len ≤ room self.old }
-        requires whole { len ≤ bytes_of chunks.now }
-        ensures ok { OnOk result (self.new ≡ chunks_grown_in (at self.old.halves.live id) self.old id len chunks.now) }
-        ensures err { OnErr result (self.new ≡ self.old) }
-    {
-        // The proof reads that all are below 2^64.
-        let _bounds = (self.send.buffered(), self.max_data.into_inner());
-        let _window = self.send_window;
-        let place = self.pending.push(rank_of(priority), id)?;
-        if self.send.write_all(id, chunks, len, Some(place)).is_err() {
-            self.pending.take_back(place);
-            return Err(AllocError);
-        }
-        self.data_sent += len as u64;
-        Ok(())
-    }
-
     /// The end of a half that is in use has to go. An `Err` (want of memory) changes nothing.
     pub fn finish(&mut self, id: StreamId) -> Result<(), AllocError>
         ensures ok { OnOk result (self.new ≡ finished_in (at self.old.halves.live id) self.old id) }
@@ -303,6 +244,7 @@ impl Sending {
         chunks: &[Bytes],
         len: usize,
     ) -> Result<(), AllocError>
+        requires found { IsSome (at self.old.halves.live id) }
         requires reset { IfSome (at self.old.halves.live id) (λ h. h.reset ≡ None) }
         requires half { IfSome (at self.old.halves.live id) (λ h. len ≤ room_on h) }
         requires room { len ≤ room self.old }
@@ -310,14 +252,12 @@ impl Sending {
         ensures ok { OnOk result (self.new ≡ chunks_grown_in (at self.old.halves.live id) self.old id len chunks.now) }
         ensures err { OnErr result (self.new ≡ self.old) }
     {
-        let Some(half) = self.send.get(id) else {
-            return Ok(());
-        };
-        let (priority, place) = (half.priority(), half.place());
-        match place {
-            Some(place) => self.write_queued(id, chunks, len, place),
-            None => self.write_unqueued(id, chunks, len, priority),
-        }
+        // The proof reads that all are below 2^64.
+        let _bounds = (self.send.buffered(), self.max_data.into_inner());
+        let _window = self.send_window;
+        self.send.write_all(id, chunks, len, &mut self.pending)?;
+        self.data_sent += len as u64;
+        Ok(())
     }
 
     /// The first `len` bytes of chunks go behind those on a half that isn't in use, and on which

@@ -1,11 +1,13 @@
 //! The STREAM frames that go into a datagram (RFC 9000, sections 2.2, 2.3 and 19.8).
-ghost use Rattle.std.specs.Prelude.{◌≡◌, ◌+◌, ◌-◌, ◌<◌, ◌≤◌, ◌++◌, length, take, map, OnOk, OnErr, IfSome, None, vec_len, vec_capacity};
+ghost use Rattle.std.specs.Prelude.{◌≡◌, ◌+◌, ◌-◌, ◌<◌, ◌≤◌, ◌++◌, ℕ, length, take, map, IfOk, OnOk, OnErr, IfSome, IsSome, Some, None, vec_len, vec_capacity};
+ghost use Rattle.std.specs.Option.{is_some};
 ghost use Rattle.quic_wire.specs.Writing.{stream_spelling, width_of};
 ghost use Rattle.quic_send_buffer.specs.Buffered.{writes_length};
 ghost use Rattle.quic_streams_parts.specs.Table.{at};
 ghost use Rattle.quic_streams_parts.specs.SendHalf.{frame_of, meta_of};
-ghost use Rattle.quic_streams_state.specs.Sends.{sent_in};
-ghost use Rattle.quic_streams_state.specs.Frames.{stream_frames_in, going, noted_in};
+ghost use Rattle.quic_streams_halves.specs.Queued.{counting_at};
+ghost use Rattle.quic_streams_state.specs.Sends.{sent_in, sent_if_counts_in};
+ghost use Rattle.quic_streams_state.specs.Frames.{least_stream_room, stream_frames_in, first_in, going, noted_in};
 
 use crate::state::StreamsState;
 use quic_send_buffer::StreamMeta;
@@ -17,46 +19,76 @@ use std::alloc::AllocError;
 const LEAST_STREAM_ROOM: usize = 25;
 
 impl StreamsState {
-    // The stream whose frame goes next, where so many bytes are left of a datagram.
+    // The stream that stands first in the queue, where a datagram has enough bytes left for a frame.
     fn next_stream(&self, left: usize) -> Option<StreamId>
-        ensures { result ≡ going self.now left }
+        ensures next { result ≡ first_in self.now left }
+        ensures room { IsSome result → least_stream_room ≤ left }
     {
         if left < LEAST_STREAM_ROOM {
             return None;
         }
-        let id = self.sending.first()?;
-        let half = self.sending.get(id)?;
-        if half.frame_counts(left - (1 + VarInt::from(id).size())) {
-            Some(id)
-        } else {
-            None
-        }
+        self.sending.first()
     }
 
-    // Appends the frame of a stream, with `max_len` bytes of room behind its type and id, and notes
-    // what it carries. After an `Err` (want of memory) the frame is taken, and its stream may stand
-    // nowhere in the queue.
-    fn put_next(
+    // Appends the frame of a stream, if it brings a byte or the end, with `max_len` bytes of room behind
+    // its type and id, and notes what it carries: whether it did. After an `Err` (want of memory) the
+    // frame is taken, and its stream may stand nowhere in the queue.
+    fn put_if_counts(
         &mut self,
         id: StreamId,
         fair: bool,
         max_len: usize,
         out: &mut Vec<u8>,
         sent: &mut Vec<StreamMeta>,
-    ) -> Result<(), AllocError>
+    ) -> Result<bool, AllocError>
         requires some { 16 ≤ max_len }
         requires room { vec_len out.old + (1 + width_of id) + max_len ≤ vec_capacity out.old }
-        ensures items { IfSome (at self.old.sending.halves.live id) (λ h. out.new.items ≡ out.old.items ++ stream_spelling (writes_length h.buffer max_len) (frame_of id h max_len)) }
-        ensures nothing { at self.old.sending.halves.live id ≡ None → out.new.items ≡ out.old.items }
+        ensures answer { IfOk result (λ went. went ≡ is_some (counting_at (at self.old.sending.halves.live id) max_len)) }
+        ensures items { IfSome (counting_at (at self.old.sending.halves.live id) max_len) (λ h. out.new.items ≡ out.old.items ++ stream_spelling (writes_length h.buffer max_len) (frame_of id h max_len)) }
+        ensures nothing { counting_at (at self.old.sending.halves.live id) max_len ≡ None → out.new.items ≡ out.old.items }
         ensures len { vec_len out.new ≤ vec_len out.old + (1 + width_of id) + max_len }
         ensures capacity { vec_capacity out.old ≤ vec_capacity out.new }
-        ensures state { OnOk result (self.new ≡ record self.old { sending = sent_in fair (at self.old.sending.halves.live id) self.old.sending id max_len }) }
-        ensures sent { OnOk result (sent.new.items ≡ noted_in (at self.old.sending.halves.live id) id max_len sent.old.items) }
+        ensures state { OnOk result (self.new ≡ record self.old { sending = sent_if_counts_in fair (at self.old.sending.halves.live id) self.old.sending id max_len }) }
+        ensures sent { OnOk result (sent.new.items ≡ noted_in (counting_at (at self.old.sending.halves.live id) max_len) id max_len sent.old.items) }
+        ensures lacking { OnErr result (IsSome (counting_at (at self.old.sending.halves.live id) max_len)) }
     {
-        if let Some(frame) = self.sending.put_frame(id, fair, max_len, out)? {
-            sent.push(frame)?;
+        let Some(frame) = self.sending.put_frame(id, fair, max_len, out)? else {
+            return Ok(false);
+        };
+        sent.push(frame)?;
+        Ok(true)
+    }
+
+    // Appends the frame that goes next, where so many bytes are left of a datagram, and notes what it
+    // carries: of which stream it is. After an `Err` (want of memory) the frame is taken, and its stream
+    // may stand nowhere in the queue.
+    fn put_next(
+        &mut self,
+        left: usize,
+        fair: bool,
+        out: &mut Vec<u8>,
+        sent: &mut Vec<StreamMeta>,
+    ) -> Result<Option<StreamId>, AllocError>
+        requires room { vec_len out.old + left ≤ vec_capacity out.old }
+        ensures answer { IfOk result (λ id. id ≡ going self.old left) }
+        ensures items { (id : ℕ) → going self.old left ≡ Some id → IfSome (at self.old.sending.halves.live id) (λ h. out.new.items ≡ out.old.items ++ stream_spelling (writes_length h.buffer (left - (1 + width_of id))) (frame_of id h (left - (1 + width_of id)))) }
+        ensures nothing { going self.old left ≡ None → out.new.items ≡ out.old.items }
+        ensures len { vec_len out.new ≤ vec_len out.old + left }
+        ensures capacity { vec_capacity out.old ≤ vec_capacity out.new }
+        ensures state { OnOk result ((id : ℕ) → going self.old left ≡ Some id → self.new ≡ record self.old { sending = sent_in fair (at self.old.sending.halves.live id) self.old.sending id (left - (1 + width_of id)) }) }
+        ensures sent { OnOk result ((id : ℕ) → going self.old left ≡ Some id → sent.new.items ≡ noted_in (at self.old.sending.halves.live id) id (left - (1 + width_of id)) sent.old.items) }
+        ensures same { OnOk result (going self.old left ≡ None → self.new ≡ self.old) }
+        ensures kept { OnOk result (going self.old left ≡ None → sent.new.items ≡ sent.old.items) }
+        ensures lacking { OnErr result (IsSome (going self.old left)) }
+    {
+        let Some(id) = self.next_stream(left) else {
+            return Ok(None);
+        };
+        let room = left - (1 + VarInt::from(id).size());
+        if self.put_if_counts(id, fair, room, out, sent)? {
+            return Ok(Some(id));
         }
-        Ok(())
+        Ok(None)
     }
 
     /// Appends STREAM frames of the streams with something to send, so that `out` has at most
@@ -90,10 +122,7 @@ impl StreamsState {
         ensures stays { vec_len out.new ≤ max_size }
         ensures capacity { vec_capacity out.old ≤ vec_capacity out.new }
     {
-        'frames: while let Some(id) = self.next_stream(max_size - out.len()) {
-            let room = max_size - out.len() - (1 + VarInt::from(id).size());
-            self.put_next(id, fair, room, out, sent)?;
-        }
+        'frames: while let Some(_) = self.put_next(max_size - out.len(), fair, out, sent)? {}
         Ok(())
     }
 }

@@ -24,3 +24,5 @@ pub mod CreditRuns
 mod RaisedRun
 mod ChunkedRun
 mod TimedRun
+mod LimitedRun
+mod UsedUpRun

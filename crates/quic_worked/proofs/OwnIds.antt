@@ -12,7 +12,7 @@ use Rattle.quic_machine.specs.declared.run.View.{View}
 use Rattle.quic_machine.specs.Machine.{end_at}
 use Rattle.quic_machine.specs.Start.{AreStarted, AreKeys}
 use Rattle.quic_headline.specs.Runs.{Run, Told, In, same_side, state_in, told_at, and_id, id_by, ids_of}
-use Rattle.quic_headline.specs.Headline.{used, IsHonest}
+use Rattle.quic_headline.specs.Headline.{used, IsHonest, UsesOwnIds}
 use Rattle.quic_worked.specs.Worked.{started, worked_policies}
 use Rattle.quic_worked.proofs.WorkedHonest.{are_started}
 use Rattle.quic_worked.proofs.WorkedKeys.{are_keys}
@@ -86,9 +86,9 @@ of_side : (r : Run) → BothOwn r → (side : Side) → AreOwn side [] r.events 
 of_side r own Client = own.client
 of_side r own Server = own.server
 
+-- from any start
+pub own_ids : (r : Run) → ((side : Side) → AreOwn side [] r.events r.answers r.views) → UsesOwnIds r
+own_ids r own side i id call a at u = own_at i side (end_at side r.start).closing.state [] r.events r.answers r.views id call a (own side) at.event at.answer u
+
 pub honest : (r : Run) → BothOwn r → IsHonest r
-honest r own = record {
-  start = subst AreStarted own.start are_started;
-  keys = subst AreKeys own.keys are_keys;
-  ids = λ side i id call a at u. own_at i side (end_at side r.start).closing.state [] r.events r.answers r.views id call a (of_side r own side) at.event at.answer u;
-}
+honest r own = record { start = subst AreStarted own.start are_started; keys = subst AreKeys own.keys are_keys; ids = own_ids r (of_side r own) }

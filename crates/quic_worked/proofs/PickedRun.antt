@@ -3,7 +3,7 @@ use Rattle.std.proofs.Common.{◌≡◌, ℕ, List, [], ◌∷◌, ◌++◌, dro
 use Rattle.std.specs.Prelude.{eqb, not, ◌==◌, ◌&&◌, if◌then◌else◌}
 use Rattle.std.specs.List.{IsDistinct}
 use Rattle.quic_wire_core.specs.declared.stream_id.Side.TheVariants.{Server}
-use Rattle.quic_wire.specs.Value.{StreamValue, stream}
+use Rattle.quic_wire.specs.Value.{StreamValue}
 use Rattle.quic_streams_parts.specs.declared.answers.ReadError.TheVariants as read_errors
 use Rattle.quic_streams_state.specs.Reading.{told_bytes, after_read_begun, next_answer, after_next}
 use Rattle.quic_machine.specs.declared.answers.Received.TheVariants as receives

@@ -2,6 +2,7 @@
 use Rattle.std.proofs.Common.{◌≡◌, ℕ, ◌+◌, ◌≤◌, ◌/◌, map, List, [], ◌∷◌, ◌++◌, take, Some, None, Ok, Bool, true, false, refl, inl, inr, sym, ap, ◌∙◌, subst, arith, ◌⊎◌}
 use Rattle.std.specs.Prelude.{max, min}
 use Rattle.quic_wire_core.specs.declared.stream_id.Side.TheVariants.{Client, Server}
+use Rattle.quic_wire_core.specs.declared.stream_id.Dir.TheVariants.{Uni}
 use Rattle.quic_wire.specs.Value.{FrameValue, max_data}
 use Rattle.quic_streams_parts.specs.Table.{Table}
 use Rattle.quic_machine.specs.declared.answers.Received.TheVariants as receives
@@ -16,13 +17,13 @@ use Rattle.quic_headline.specs.Runs.{Packet, In, until}
 use Rattle.quic_headline.specs.Observer.{Sent, took, sents_until}
 use Rattle.quic_headline.specs.Headline.{IsRun}
 use Rattle.quic_headline.proofs.Places.Told.{in_left, in_right, in_append}
-use Rattle.quic_headline.specs.Grown.{DataHasGrown, GrownLimitsWaitAt}
+use Rattle.quic_headline.specs.Grown.{DataHasGrown, CountHasGrown, GrownLimitsWaitAt}
 use Rattle.quic_headline.specs.Duties.{AllData, Limit, limit_frame, WasGiven, IsSaid, IsOwed, Waits, IsInFlight, IsUnderWay, LimitHasArrived, HasCome, DutiesAt, is_due}
 use Rattle.quic_worked.specs.Worked.{worked_policies, opens_stream, asks_datagram, delivers, accepts_stream, reads_stream, gives_bytes}
 use Rattle.quic_worked.specs.Paired.{writes_on, asks_server}
 use Rattle.quic_worked.specs.Acknowledged.{client_acked}
 use Rattle.quic_worked.specs.Losses.{client_polled, server_polled}
-use Rattle.quic_worked.specs.Credit.{narrow_bytes, eight, credit_opened, credit_written, credit_sent, credit_taken, credit_accepted, credit_read, credit_given, credit_events, credit_until, ReadsEight}
+use Rattle.quic_worked.specs.Credit.{narrow_bytes, eight, credit_opened, credit_written, credit_sent, credit_taken, credit_accepted, credit_read, credit_given, credit_events, credit_until, count_taken, count_read, ReadsEight}
 use Rattle.quic_worked.specs.Raised.{server_pings, comes_to_client, client_waits, ack_comes, losing_limit, raised_events, losing_told, raised_told, after_server_ping, first_ping, second_ping, third_ping, third_came, third_due, third_named, limit_lost, limit_again, limit_came, limit_used, raised_views, raised_run, NeverComes, never_noted, limit_forgotten}
 use Rattle.quic_worked.proofs.Codes.{no_codes}
 use Rattle.quic_worked.proofs.CreditRuns as credit
@@ -183,6 +184,26 @@ data_has_grown = rw (told_eight, window_eight, read_eight) (omega arith)
 pub data_waits : credit_read.server.waiting.frames.max_data ≡ true
 unfolding credit_taken
 data_waits = refl
+
+-- the client may open one one-way stream, which is done
+told_one : count_read.server.streams.opening.announced.uni ≡ 1
+unfolding count_taken
+told_one = refl
+
+one_at_once : count_read.server.streams.opening.configured.uni ≡ 1
+unfolding count_taken
+one_at_once = refl
+
+one_done : count_read.server.streams.opening.done.uni ≡ 1
+unfolding count_taken
+one_done = refl
+
+pub count_has_grown : CountHasGrown count_read.server.streams.opening Uni
+count_has_grown = rw (told_one, one_at_once, one_done) (omega arith)
+
+pub count_waits : count_read.server.waiting.frames.max_stream_id.uni ≡ true
+unfolding count_taken
+count_waits = refl
 
 pub not_noted : (read : ReadCall) → GrownLimitsWaitAt (until (raised_run read) Server 6) never_noted.server → ⊥
 not_noted read h = let clash : false ≡ true = h.bytes data_has_grown in cc

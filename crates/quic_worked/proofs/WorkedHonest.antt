@@ -14,13 +14,13 @@ use Rattle.quic_worked.proofs.WorkedKeys.{are_keys}
 use Rattle.quic_worked.proofs.Codes.{no_codes}
 
 -- an end with default settings and this id, at moment 0 on a validated path
-abbrev making : List ℕ → Making
+abbrev pub making : List ℕ → Making
 making id = record { settings = default_settings; parameters = worked_parameters; id = id; moment = 0; validated = true }
 
-in_range : IsInRange default_settings
+pub in_range : IsInRange default_settings
 in_range = record { receive_window = lit< tt; stream_receive_window = lit< tt }
 
-pub are_started : AreStarted started
+unfoldable pub are_started : AreStarted started
 are_started = record {
   client_making = making client_id;
   server_making = making server_id;

@@ -12,3 +12,4 @@ pub mod Chunked
 pub mod Losses
 pub mod Raised
 pub mod Timed
+pub mod Limited

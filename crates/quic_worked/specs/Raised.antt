@@ -1,6 +1,6 @@
--- A run in which the datagram is lost that lets the client go further (RFC 9000, sections 4.1 and 13.3): the server takes 8 bytes at a time, and once these are read it says that
--- 16 may come, in MAX_DATA. That datagram never comes; once three later ones went, and the client acknowledged the last of them, the limit waits again, goes again, and comes.
--- And what machines leave that forget it.
+-- A run in which the datagram is lost that lets the client go further (RFC 9000, sections 4.1 and 13.3): the server takes 8 bytes at a
+-- time, and once these are read it says that 16 may come, in MAX_DATA. That datagram never comes; once three later ones went, and the
+-- client acknowledged the last of them, the limit waits again, goes again, and comes. And what machines leave that forget it.
 use Rattle.std.specs.Prelude.{◌≡◌, ℕ, false, List, [], ◌∷◌, ◌++◌, take, None, Ok}
 use Rattle.quic_wire_core.specs.declared.stream_id.Side.TheVariants.{Client, Server}
 use Rattle.quic_sets.specs.Offsets.{with_offsets}

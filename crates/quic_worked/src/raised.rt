@@ -2,13 +2,14 @@
 //! forget one. Each function does nothing: its contract is the law.
 ghost use Rattle.std.specs.Prelude.{◌≡◌, take, true};
 ghost use Rattle.quic_wire_core.specs.declared.stream_id.Side.TheVariants.{Client, Server};
+ghost use Rattle.quic_wire_core.specs.declared.stream_id.Dir.TheVariants.{Uni};
 ghost use Rattle.quic_machine.specs.declared.run.ReadCall.{ReadCall};
 ghost use Rattle.quic_headline.specs.Runs.{until};
 ghost use Rattle.quic_headline.specs.Observer.{took, sents_until};
 ghost use Rattle.quic_headline.specs.Headline.{IsRun};
-ghost use Rattle.quic_headline.specs.Grown.{DataHasGrown, GrownLimitsWaitAt};
+ghost use Rattle.quic_headline.specs.Grown.{DataHasGrown, CountHasGrown, GrownLimitsWaitAt};
 ghost use Rattle.quic_headline.specs.Duties.{AllData, Limit, IsOwed, Waits, IsUnderWay, HasCome, DutiesAt};
-ghost use Rattle.quic_worked.specs.Credit.{ReadsEight, credit_read, credit_events, credit_until};
+ghost use Rattle.quic_worked.specs.Credit.{ReadsEight, credit_read, credit_events, credit_until, count_read};
 ghost use Rattle.quic_worked.specs.Raised.{raised_run, limit_used, limit_lost, limit_again, losing_limit, losing_told, NeverComes, never_noted, limit_forgotten};
 
 /// With a window of 8 bytes, once 8 are read, the limit on all bytes grew, and MAX_DATA waits. Its
@@ -23,6 +24,13 @@ pub fn lost_limit_goes_again()
         limit_again.server.tracking.packets (Limit AllData 16) }
     ensures came { (read : ReadCall) → HasCome (took (raised_run read) Client 19)
         (until (raised_run read) Server 19) (Limit AllData 16) }
+{}
+
+/// Once the one one-way stream that may be open is done, the count of such streams grew, and
+/// MAX_STREAMS waits (section 4.6).
+pub fn grown_count_waits()
+    ensures grew { CountHasGrown count_read.server.streams.opening Uni }
+    ensures noted { count_read.server.waiting.frames.max_stream_id.uni ≡ true }
 {}
 
 /// A server that isn't to say that more may come, though all was read, breaks the clause, and no

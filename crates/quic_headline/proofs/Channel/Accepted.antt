@@ -35,7 +35,7 @@ use Rattle.quic_machine.specs.CallCases.{is_delivery}
 use Rattle.quic_headline.specs.Runs.{joined as joined_bytes}
 use Rattle.quic_headline.proofs.Halves.QuietSteps.{frame_quiet}
 use Rattle.quic_headline.proofs.Halves.ReadCalls.{IsKept, call_kept}
-use Rattle.quic_headline.proofs.Channel.Sums.{amount_by}
+use Rattle.quic_headline.specs.Amounts.{amount_by}
 
 -- so many bytes were accepted at least, and no more than the limit of all streams lets come
 abbrev pub Accepts : ℕ → StreamsState → Type 0

@@ -34,7 +34,8 @@ use Rattle.quic_headline.proofs.Halves.Counts.{counts_in_range}
 use Rattle.quic_headline.proofs.Halves.Ghosts.{wrote, SaysOf, IsWriting}
 use Rattle.quic_headline.proofs.Halves.QuietSteps.{sent_within}
 use Rattle.quic_headline.proofs.Halves.ReadCalls.{call_kept}
-use Rattle.quic_headline.proofs.Channel.Sums.{all_written, all_more, amount_by, each_written}
+use Rattle.quic_headline.specs.Amounts.{all_written, amount_by}
+use Rattle.quic_headline.proofs.Channel.Sums.{all_more, each_written}
 use Rattle.quic_headline.proofs.Channel.Seen.{SeenBelow, Fits, below_kept, below_calls, frame_seen, all_fit, seen_wider, seen_first}
 use Rattle.quic_headline.proofs.Channel.Accepted.{Accepts, frame_accepts, call_accepts, call_counts}
 

@@ -48,22 +48,22 @@ use Rattle.quic_headline.proofs.Channel.Told.{IsTold}
 
 -- the other lets come as far as a half of a stream may go, as far as one may at first, and as far as all streams may go
 abbrev pub Limits : StreamsState → StreamsState → Type 0
-Limits t s = EachSends (λ limit. (id : ℕ) → Allows t id limit) (λ id. Unit {0}) (λ id h. Allows t id h.limit) (λ id. Unit {0}) s
+Limits t s = EachSends (λ q limit. (id : ℕ) → Allows t id limit) (λ id. Unit {0}) (λ id h. Allows t id h.limit) (λ id. Unit {0}) s
 
 pub record Heard (t s : StreamsState) : Type 0 where
   pub halves : Limits t s
   pub all : s.sending.limit ≤ t.receiving.announced
 
-of_halves : (t : StreamsState) → AreOfHalves (λ limit. (id : ℕ) → Allows t id limit) (λ id. Unit {0}) (λ id h. Allows t id h.limit) (λ id. Unit {0})
+of_halves : (t : StreamsState) → AreOfHalves (λ q limit. (id : ℕ) → Allows t id limit) (λ id. Unit {0}) (λ id h. Allows t id h.limit) (λ id. Unit {0})
 of_halves t = record { fresh = λ id limit first none. first id; over = λ id h is ended. tt; blocked = λ id h b is. is; placed = λ id h p is. is }
 
 -- the limit of a half that there is
 pub half_heard : (t s : StreamsState) (id : ℕ) (h : SendHalf) → sending_half s id ≡ Some h → Heard t s → Allows t id h.limit
-half_heard t s id h e i = said_of (λ limit. (id : ℕ) → Allows t id limit) (λ id. Unit {0}) (λ id h. Allows t id h.limit) (λ id. Unit {0}) (of_halves t) s id h e i.halves
+half_heard t s id h e i = said_of (λ q limit. (id : ℕ) → Allows t id limit) (λ id. Unit {0}) (λ id h. Allows t id h.limit) (λ id. Unit {0}) (of_halves t) s id h e i.halves
 
 module _ (t : StreamsState) where
   halves_kept : KeepsBy (λ r id old new. Unit {0}) (λ s id old new. Allows t id old.limit → Allows t id new.limit) (λ s id n old new. Allows t id old.limit → Allows t id new.limit) (Limits t)
-  halves_kept = each_kept (λ limit. (id : ℕ) → Allows t id limit) (λ id. Unit {0}) (λ id h. Allows t id h.limit) (λ id. Unit {0}) (of_halves t)
+  halves_kept = each_kept (λ q limit. (id : ℕ) → Allows t id limit) (λ id. Unit {0}) (λ id h. Allows t id h.limit) (λ id. Unit {0}) (of_halves t)
 
   done_all : (b : Bool) (id : ℕ) (s : StreamsState) → s.sending.limit ≤ t.receiving.announced → (done_if b id s).sending.limit ≤ t.receiving.announced
   done_all true id s le = le

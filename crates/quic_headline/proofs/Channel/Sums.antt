@@ -9,6 +9,7 @@ use Rattle.quic_machine.specs.declared.run.Call.TheVariants as calls
 use Rattle.quic_machine.specs.declared.run.Answer.{Answer}
 use Rattle.quic_machine.specs.declared.run.Answer.TheVariants as answers
 use Rattle.quic_headline.specs.Runs.{Told, joined, written_by, written}
+use Rattle.quic_headline.specs.Amounts.{amount_by, all_written}
 
 -- ---- sums below a bound
 
@@ -67,17 +68,6 @@ sum_plus (suc n) f g h both =
     omega arith
 
 -- ---- what calls wrote
-
--- how many bytes a call wrote, on whichever stream
-abbrev pub amount_by : Call → Answer → ℕ
-amount_by (calls.Write s bytes) (answers.Write (Ok count)) = length (take count bytes)
-amount_by (calls.WriteChunks s buffers) (answers.WriteChunks (Ok w)) = length (take w.bytes (joined buffers.items))
-amount_by call a = 0
-
--- how many all calls wrote
-abbrev pub all_written : List Told → ℕ
-all_written [] = 0
-all_written (t ∷ ts) = amount_by t.call t.answer + all_written ts
 
 pub all_more : (ts : List Told) (t : Told) → all_written (ts ++ t ∷ []) ≡ all_written ts + amount_by t.call t.answer
 all_more [] t = omega arith

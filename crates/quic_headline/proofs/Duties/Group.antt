@@ -46,7 +46,7 @@ use Rattle.quic_headline.proofs.Duties.UnderWay.{InPackets, Fly, TrackedEnds, ar
 use Rattle.quic_headline.proofs.Duties.Resets.{ResetStands, reset_on, arrivals_stand, call_resets, call_stands}
 use Rattle.quic_headline.proofs.Duties.Lasting.{Knows, knows_lasts, call_lasts}
 use Rattle.quic_headline.proofs.Duties.Limits.{LimitStands, Stated, arrivals_stated}
-use Rattle.quic_headline.proofs.Duties.Saying.{stands_more, polled_stands, polled_says, call_stated}
+use Rattle.quic_headline.proofs.Duties.LimitsGo.{stands_more, polled_stands, polled_says, call_stated}
 
 -- what is in flight of the streams of x stands in packets that it tracks, and each of its resets is somewhere, and each limit that it said
 pub record Flying (x y : Party) : Type 0 where
@@ -127,23 +127,23 @@ module _ (B : Way) (b : IsReadied B) (x y : Party) (call : Call) (a : Answer) (c
   -- ---- limits
 
   -- what the call sends
-  abbrev more : List Sent
-  more = sents_by x.end call a
+  abbrev sends : List Sent
+  sends = sents_by x.end call a
 
   -- what was said before is somewhere where more was sent
-  further : (what : Limited) (value : ℕ) (e : End) → Stated took x.sents what value e → Stated took (x.sents ++ more) what value e
-  further what value e s = record { knows = s.knows; stand = stands_more took x.sents more what value e s.stand }
+  further : (what : Limited) (value : ℕ) (e : End) → Stated took x.sents what value e → Stated took (x.sents ++ sends) what value e
+  further what value e s = record { knows = s.knows; stand = stands_more took x.sents sends what value e s.stand }
 
   -- the streams of x hold what it told
-  stays : Stays x.end.streams x.end.streams
-  stays = (b.within y x c.takes).stays
+  told_stays : Stays x.end.streams x.end.streams
+  told_stays = (b.within y x c.takes).stays
 
   -- a limit that was said before, behind a call but a delivery
   apart_on : (what : Limited) (value : ℕ) → WasGiven x.sents (limit_frame what value) → (k : Call) → is_delivery k ≡ false → IsAnswer x.policy x.end y.given k a → Stated took (x.sents ++ sents_by x.end k a) what value (after_call x.policy x.end y.given k a)
   apart_on what value said (calls.Poll now) apart is = record {
     knows = call_lasts (Knows what) (knows_lasts what) x.policy x.end y.given (calls.Poll now) a within apart is was.knows;
     stand = subst (λ (o : Answer). LimitStands took (x.sents ++ sent_if (gave o) (sent_by x.end now)) what value (polled x.policy x.end now).end) (sym (poll_answer x.policy x.end now a is c.served))
-        (polled_stands took x.sents what value x.policy x.end now new ((b.within y x c.takes).told said.sent said.among (limit_frame what value) said.carried) ((b.names x y c.gives).given said.sent said.among (limit_frame what value) said.carried) stays was.knows was.stand);
+        (polled_stands took x.sents what value x.policy x.end now new ((b.within y x c.takes).told said.sent said.among (limit_frame what value) said.carried) ((b.names x y c.gives).given said.sent said.among (limit_frame what value) said.carried) told_stays was.knows was.stand);
   }
     where
       was : Stated took x.sents what value x.end
@@ -163,8 +163,8 @@ module _ (B : Way) (b : IsReadied B) (x y : Party) (call : Call) (a : Answer) (c
       within = sent_within done x.end.streams (b.writes x y c.gives).writes.keeps.holds
 
   -- behind any call
-  old_limit : (what : Limited) (value : ℕ) → WasGiven x.sents (limit_frame what value) → Stated took (x.sents ++ more) what value (called x y.given call a).end
-  old_limit what value said = by_coming x y a c.joined c.served (meets y x takes) (λ (e : End) (j : Intake). Stated took (x.sents ++ more) what value e) call c.answer (record {
+  old_limit : (what : Limited) (value : ℕ) → WasGiven x.sents (limit_frame what value) → Stated took (x.sents ++ sends) what value (called x y.given call a).end
+  old_limit what value said = by_coming x y a c.joined c.served (meets y x takes) (λ (e : End) (j : Intake). Stated took (x.sents ++ sends) what value e) call c.answer (record {
     apart = λ apart. apart_on what value said call apart c.answer;
     none = λ delivery is. further what value x.end (i.limits what value said);
     comes = λ delivery is s among. (
@@ -181,12 +181,12 @@ module _ (B : Way) (b : IsReadied B) (x y : Party) (call : Call) (a : Answer) (c
   new_limit : (what : Limited) (value : ℕ) (k : Call) → IsAnswer x.policy x.end y.given k a → (t : Sent) → In t (sents_by x.end k a) → In (limit_frame what value) t.frames → Stated took (x.sents ++ sents_by x.end k a) what value (after_call x.policy x.end y.given k a)
   new_limit what value (calls.Poll now) is t among carried =
       let same = poll_answer x.policy x.end now a is c.served in
-      let says = polled_says took x.sents what value x.policy x.end now new stays.shape t (subst (λ (o : Answer). In t (sent_if (gave o) (sent_by x.end now))) same among) carried in
+      let says = polled_says took x.sents what value x.policy x.end now new told_stays.shape t (subst (λ (o : Answer). In t (sent_if (gave o) (sent_by x.end now))) same among) carried in
       record { knows = says.0; stand = subst (λ (o : Answer). LimitStands took (x.sents ++ sent_if (gave o) (sent_by x.end now)) what value (polled x.policy x.end now).end) (sym same) says.1 }
   new_limit what value k is t among carried = absurd among
 
-  said_limit : (what : Limited) (value : ℕ) → WasGiven (x.sents ++ more) (limit_frame what value) → Stated took (x.sents ++ more) what value (called x y.given call a).end
-  said_limit what value said = elim (in_append said.sent x.sents more said.among) [
+  said_limit : (what : Limited) (value : ℕ) → WasGiven (x.sents ++ sends) (limit_frame what value) → Stated took (x.sents ++ sends) what value (called x y.given call a).end
+  said_limit what value said = elim (in_append said.sent x.sents sends said.among) [
     | inl old ↦ old_limit what value (record { sent = said.sent; among = old; carried = said.carried })
     | inr now ↦ new_limit what value call c.answer said.sent now said.carried
   ]

@@ -1,5 +1,5 @@
--- A limit that was said waits to be said anew, stands in a datagram that is tracked, or came, each no less than it was said; or it matters no more. Each call keeps that, but a
--- poll.
+-- A limit that was said waits to be said anew, stands in a datagram that is tracked, or came, each no less than it was said; or it matters
+-- no more. Each frame that comes keeps that, and calls take nothing off what waits.
 use Rattle.std.proofs.Common.{◌≡◌, ℕ, ◌+◌, ◌≤◌, Bool, true, false, not, nat_le, ◌||◌, cond, List, [], ◌∷◌, ◌++◌, filter, Option, Some, None, Ok, Err, refl, sym, ap, ◌∙◌, subst, ◌⊎◌, inl, inr}
 use Rattle.std.specs.List.{list_any}
 use Rattle.std.specs.Ordering.{nat_cmp}
@@ -43,7 +43,7 @@ use Rattle.quic_headline.proofs.Packets.Carried.{carried_same}
 use Rattle.quic_headline.proofs.Packets.Delivered.{Arrivals, arrived}
 use Rattle.quic_headline.proofs.Packets.Named.{NamesTaken, Stands, in_filter, by_frame, frame_fewer}
 use Rattle.quic_headline.proofs.Packets.Rising.{one_number}
-use Rattle.quic_headline.proofs.Limits.Flags.{KeptIn, Decides, LimitsAlike, is_read, calls_keep, polled_keeps, acked_keeps as acked_flags, reset_acked_keeps, lost_keeps, frame_keeps}
+use Rattle.quic_headline.proofs.Grown.Flags.{KeptIn, Decides, LimitsAlike, is_read, calls_keep, polled_keeps, acked_keeps as acked_flags, reset_acked_keeps, lost_keeps, frame_keeps}
 use Rattle.quic_headline.proofs.Duties.Lasting.{Knows, Ends, knows_lasts, ends_lasts, frame_lasts}
 
 -- ---- what waits

@@ -112,7 +112,7 @@ opened_now s id theirs = by_opening (opens s id) refl
         (subst (λ n. nat_lt (index_of id) n ≡ true) (sym (behind (dir_of id) (index_of id + 1) s.opening)) (lt-ltb (index_of id) (index_of id + 1) (omega arith)))
     by_opening false f = was (is_own s.side id) (is_opened s id) theirs f
 
-side_now : (s : StreamsState) (id : ℕ) → (opened_by s id).side ≡ s.side
+pub side_now : (s : StreamsState) (id : ℕ) → (opened_by s id).side ≡ s.side
 side_now s id = go (opens s id)
   where
     go : (b : Bool) → (opened_if b id s).side ≡ s.side

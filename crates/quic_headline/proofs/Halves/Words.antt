@@ -1,5 +1,5 @@
 -- A fact of what was done on streams and of their state, that each word about streams keeps, is kept by each call, by what goes and by what comes.
-use Rattle.std.proofs.Common.{◌≡◌, ℕ, ◌^◌, ◌<◌, Bool, true, false, List, [], ◌∷◌, length, Option, Some, None, Result, Ok, Err, sym, subst, inl, inr}
+use Rattle.std.proofs.Common.{◌≡◌, ℕ, ◌^◌, ◌<◌, Bool, true, false, List, [], ◌∷◌, length, Option, Some, None, Result, Ok, Err, refl, sym, subst, inl, inr}
 use Rattle.std.specs.Prelude.{ℤ}
 use Rattle.quic_wire_core.specs.declared.stream_id.Dir.{Dir}
 use Rattle.quic_wire.specs.Value.{FrameValue, StreamValue, ResetStreamValue, StopSendingValue, stream, reset_stream, stop_sending, max_data, max_stream_data, max_streams, stream_data_blocked, streams_blocked}
@@ -87,6 +87,40 @@ pub record CallWords (F : (ℕ → Wrote) → StreamsState → Type 0) : Type 0 
   pub stops : (done : ℕ → Wrote) (s : StreamsState) (p : Retransmits) (id code : ℕ) → F done s → F done (after_stop s p id code).state
   pub hears_reset : (done : ℕ → Wrote) (s : StreamsState) (p : Retransmits) (id : ℕ) → F done s → F done (after_received_reset s p id).state
 
+-- those of an application that write nothing
+pub record OtherWords (F : (ℕ → Wrote) → StreamsState → Type 0) : Type 0 where
+  pub finishes : (done : ℕ → Wrote) (s : StreamsState) (id : ℕ) → F done s → F (wrote_end_by (finish_answer s id) id done) (after_finish s id)
+  pub resets : (done : ℕ → Wrote) (s : StreamsState) (p : Retransmits) (id code : ℕ) → F done s → F (wrote_reset_by (reset_answer s id) id code done) (after_reset s p id code).state
+  pub opens : (is_open : Bool) (dir : Dir) (done : ℕ → Wrote) (s : StreamsState) → F done s → F done (after_open is_open dir s)
+  pub accepts : (dir : Dir) (done : ℕ → Wrote) (s : StreamsState) → F done s → F done (after_accept dir s)
+  pub sets_priority : (done : ℕ → Wrote) (s : StreamsState) (id : ℕ) (priority : ℤ) → F done s → F done (after_set_priority s id priority)
+  pub begins : (done : ℕ → Wrote) (s : StreamsState) (id : ℕ) (ordered : Bool) → F done s → F done (after_read_begun s id ordered)
+  pub nexts : (done : ℕ → Wrote) (told : Told) (s : StreamsState) (id most : ℕ) → F done s → F done (after_next told (next_answer told s id most) s id most)
+  pub finalizes : (done : ℕ → Wrote) (s : StreamsState) (p : Retransmits) (id : ℕ) → F done s → F done (after_finalize s p id).state
+  pub stops : (done : ℕ → Wrote) (s : StreamsState) (p : Retransmits) (id code : ℕ) → F done s → F done (after_stop s p id code).state
+  pub hears_reset : (done : ℕ → Wrote) (s : StreamsState) (p : Retransmits) (id : ℕ) → F done s → F done (after_received_reset s p id).state
+
+-- the same, of all that an application does
+abbrev pub others_of : (F : (ℕ → Wrote) → StreamsState → Type 0) → CallWords F → OtherWords F
+others_of F w = record {
+  finishes = w.finishes;
+  resets = w.resets;
+  opens = w.opens;
+  accepts = w.accepts;
+  sets_priority = w.sets_priority;
+  begins = w.begins;
+  nexts = w.nexts;
+  finalizes = w.finalizes;
+  stops = w.stops;
+  hears_reset = w.hears_reset;
+}
+
+-- whether a call writes
+abbrev pub is_write : Call → Bool
+is_write (calls.Write id bytes) = true
+is_write (calls.WriteChunks id chunks) = true
+is_write call = false
+
 abbrev pub calls_of : (F : (ℕ → Wrote) → StreamsState → Type 0) → Words F → CallWords F
 calls_of F w = record {
   writes = w.writes;
@@ -103,7 +137,7 @@ calls_of F w = record {
   hears_reset = w.hears_reset;
 }
 
-module _ (F : (ℕ → Wrote) → StreamsState → Type 0) (w : CallWords F) where
+module _ (F : (ℕ → Wrote) → StreamsState → Type 0) (w : OtherWords F) where
   -- ---- calls
 
   -- a read that finds no memory
@@ -132,15 +166,6 @@ module _ (F : (ℕ → Wrote) → StreamsState → Type 0) (w : CallWords F) whe
   read_on b done t id ordered mosts said are i = w.finalizes done _ t.pending id (nexts_on done told_bytes (after_read_begun t.state id ordered) id mosts said are (w.begins done t.state id ordered i))
 
   module _ (b : Bool) (done : ℕ → Wrote) (t : Streams) (i : F done t.state) where
-    -- a write that finds no memory
-    write_lacks : (c : Bool) (id : ℕ) (bytes : List ℕ) → F done (after_write c (Err write_errors.Memory) t.state t.pending id bytes).state
-    write_lacks true id bytes = i
-    write_lacks false id bytes = i
-
-    chunks_lack : (c : Bool) (id : ℕ) (chunks : List (List ℕ)) → F done (after_write_chunks c (Err write_errors.Memory) t.state t.pending id chunks).state
-    chunks_lack true id chunks = i
-    chunks_lack false id chunks = i
-
     -- an update that is answered or refused
     if_done : {A E : Type 0} (r : Result A E) (after : Streams) → F done after.state → F done (if_ok r after t).state
     if_done (Ok x) after now = now
@@ -154,27 +179,47 @@ module _ (F : (ℕ → Wrote) → StreamsState → Type 0) (w : CallWords F) whe
     abbrev CallOn : Call → Answer → Type 0
     CallOn call a = F (done_by call a done) (after_on_streams b t call a).state
 
-    pub call_with : (call : Call) (a : Answer) → IsStreamAnswer b t.state call a → CallOn call a
-    call_with (calls.Open dir) a is = w.opens b dir done t.state i
-    call_with (calls.Accept dir) a is = w.accepts dir done t.state i
-    call_with (calls.Write id bytes) a (inl is) = subst (CallOn (calls.Write id bytes)) (sym is) (w.writes b done t.state t.pending id bytes i)
-    call_with (calls.Write id bytes) a (inr is) = subst (CallOn (calls.Write id bytes)) (sym is) (write_lacks b id bytes)
-    call_with (calls.WriteChunks id chunks) a (inl is) = subst (CallOn (calls.WriteChunks id chunks)) (sym is) (w.writes_chunks b done t.state t.pending id chunks.items i)
-    call_with (calls.WriteChunks id chunks) a (inr is) = subst (CallOn (calls.WriteChunks id chunks)) (sym is) (chunks_lack b id chunks.items)
-    call_with (calls.Finish id) a (inl is) = subst (CallOn (calls.Finish id)) (sym is) (w.finishes done t.state id i)
-    call_with (calls.Finish id) a (inr is) = subst (CallOn (calls.Finish id)) (sym is) i
-    call_with (calls.Reset id code) a (inl is) = subst (CallOn (calls.Reset id code)) (sym is) (reset_on (reset_answer t.state id) id code (after_reset t.state t.pending id code) (w.resets done t.state t.pending id code i))
-    call_with (calls.Reset id code) a (inr is) = subst (CallOn (calls.Reset id code)) (sym is) i
-    call_with (calls.SetPriority id priority) a (inl is) =
+    pub other_with : (call : Call) (a : Answer) → is_write call ≡ false → IsStreamAnswer b t.state call a → CallOn call a
+    other_with (calls.Open dir) a none is = w.opens b dir done t.state i
+    other_with (calls.Accept dir) a none is = w.accepts dir done t.state i
+    other_with (calls.Finish id) a none (inl is) = subst (CallOn (calls.Finish id)) (sym is) (w.finishes done t.state id i)
+    other_with (calls.Finish id) a none (inr is) = subst (CallOn (calls.Finish id)) (sym is) i
+    other_with (calls.Reset id code) a none (inl is) = subst (CallOn (calls.Reset id code)) (sym is) (reset_on (reset_answer t.state id) id code (after_reset t.state t.pending id code) (w.resets done t.state t.pending id code i))
+    other_with (calls.Reset id code) a none (inr is) = subst (CallOn (calls.Reset id code)) (sym is) i
+    other_with (calls.SetPriority id priority) a none (inl is) =
         subst (CallOn (calls.SetPriority id priority)) (sym is) (if_done (set_priority_answer t.state id) (record t { state = after_set_priority t.state id priority }) (w.sets_priority done t.state id priority i))
-    call_with (calls.SetPriority id priority) a (inr is) = subst (CallOn (calls.SetPriority id priority)) (sym is) i
-    call_with (calls.Read read) (answers.Read (Ok said)) is = read_on b done t read.id read.ordered read.nexts.items said is.1 i
-    call_with (calls.Read read) (answers.Read (Err error)) is = i
-    call_with (calls.Read read) a is = absurd is
-    call_with (calls.Stop id code) a (inl is) = subst (CallOn (calls.Stop id code)) (sym is) (if_done (stop_answer t.state id) (after_stop t.state t.pending id code) (w.stops done t.state t.pending id code i))
-    call_with (calls.Stop id code) a (inr is) = subst (CallOn (calls.Stop id code)) (sym is) i
-    call_with (calls.ReceivedReset id) a is = w.hears_reset done t.state t.pending id i
-    call_with call a is = absurd is
+    other_with (calls.SetPriority id priority) a none (inr is) = subst (CallOn (calls.SetPriority id priority)) (sym is) i
+    other_with (calls.Read read) (answers.Read (Ok said)) none is = read_on b done t read.id read.ordered read.nexts.items said is.1 i
+    other_with (calls.Read read) (answers.Read (Err error)) none is = i
+    other_with (calls.Read read) a none is = absurd is
+    other_with (calls.Stop id code) a none (inl is) = subst (CallOn (calls.Stop id code)) (sym is) (if_done (stop_answer t.state id) (after_stop t.state t.pending id code) (w.stops done t.state t.pending id code i))
+    other_with (calls.Stop id code) a none (inr is) = subst (CallOn (calls.Stop id code)) (sym is) i
+    other_with (calls.ReceivedReset id) a none is = w.hears_reset done t.state t.pending id i
+    other_with (calls.Write id bytes) a none is = cc
+    other_with (calls.WriteChunks id chunks) a none is = cc
+    other_with call a none is = absurd is
+
+module _ (F : (ℕ → Wrote) → StreamsState → Type 0) (w : CallWords F) where
+  module _ (b : Bool) (done : ℕ → Wrote) (t : Streams) (i : F done t.state) where
+    -- a write that finds no memory
+    write_lacks : (c : Bool) (id : ℕ) (bytes : List ℕ) → F done (after_write c (Err write_errors.Memory) t.state t.pending id bytes).state
+    write_lacks true id bytes = i
+    write_lacks false id bytes = i
+
+    chunks_lack : (c : Bool) (id : ℕ) (chunks : List (List ℕ)) → F done (after_write_chunks c (Err write_errors.Memory) t.state t.pending id chunks).state
+    chunks_lack true id chunks = i
+    chunks_lack false id chunks = i
+
+    -- what a call on streams leaves
+    abbrev Leaves : Call → Answer → Type 0
+    Leaves call a = F (done_by call a done) (after_on_streams b t call a).state
+
+    pub call_with : (call : Call) (a : Answer) → IsStreamAnswer b t.state call a → Leaves call a
+    call_with (calls.Write id bytes) a (inl is) = subst (Leaves (calls.Write id bytes)) (sym is) (w.writes b done t.state t.pending id bytes i)
+    call_with (calls.Write id bytes) a (inr is) = subst (Leaves (calls.Write id bytes)) (sym is) (write_lacks b id bytes)
+    call_with (calls.WriteChunks id chunks) a (inl is) = subst (Leaves (calls.WriteChunks id chunks)) (sym is) (w.writes_chunks b done t.state t.pending id chunks.items i)
+    call_with (calls.WriteChunks id chunks) a (inr is) = subst (Leaves (calls.WriteChunks id chunks)) (sym is) (chunks_lack b id chunks.items)
+    call_with call a is = other_with F (others_of F w) b done t i call a refl is
 
 module _ (F : (ℕ → Wrote) → StreamsState → Type 0) (w : Words F) where
   -- ---- calls

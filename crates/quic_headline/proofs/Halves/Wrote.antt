@@ -47,7 +47,7 @@ first_assoc : (a b c : Option ℕ) → first_of a (first_of b c) ≡ first_of (f
 first_assoc None b c = refl
 first_assoc (Some code) b c = refl
 
-written_more : (id : ℕ) (told : List Told) (t : Told) → written id (told ++ t ∷ []) ≡ written id told ++ written_by id t.call t.answer
+pub written_more : (id : ℕ) (told : List Told) (t : Told) → written id (told ++ t ∷ []) ≡ written id told ++ written_by id t.call t.answer
 written_more id [] t = append-nil (written_by id t.call t.answer)
 written_more id (u ∷ told) t = ap (λ (bs : List ℕ). written_by id u.call u.answer ++ bs) (written_more id told t) ∙ sym (append_assoc (written_by id u.call u.answer) (written id told) (written_by id t.call t.answer))
 

@@ -31,8 +31,8 @@ use Rattle.quic_headline.proofs.Channel.Names.{NamesHold, names_group}
 use Rattle.quic_headline.proofs.Channel.Within.{Within, within_group}
 use Rattle.quic_headline.proofs.Duties.Group.{Flying, flying_group}
 use Rattle.quic_headline.proofs.Duties.Ledger as ledger
-use Rattle.quic_headline.proofs.Limits.Clause.{GrownWait, grown_group}
-use Rattle.quic_headline.proofs.Limits.Clause as limits
+use Rattle.quic_headline.proofs.Grown.Clause.{GrownWait, grown_group}
+use Rattle.quic_headline.proofs.Grown.Clause as grown
 
 -- what waits to go of streams, as a group over the packets and what is written
 pub record IsReadying (Ready : Way) : Type 1 where
@@ -183,4 +183,4 @@ module _ (Ready : Way) (ready : IsReadying Ready) where
         (record { packets = λ x y h. h.0.0.0.0.0; writes = λ x y h. h.0.0.0.0.1.0; arrives = λ x y h. h.0.0.1; flying = λ x y h. h.1; sight = λ x y h. h.0.0.0.1 }) r end honest (placed (And (And (And All Arrives) Said) Flying) all_flying r end honest run)
 
     pub grown_limits_wait : GrownLimitsWait r
-    grown_limits_wait = limits.grown_limits_wait (And (And All ReadsHold) GrownWait) (record { grown = λ x y h. h.1; reads = λ x y h. h.0.1 }) r end honest (placed (And (And All ReadsHold) GrownWait) all_grown r end honest run)
+    grown_limits_wait = grown.grown_limits_wait (And (And All ReadsHold) GrownWait) (record { grown = λ x y h. h.1; reads = λ x y h. h.0.1 }) r end honest (placed (And (And All ReadsHold) GrownWait) all_grown r end honest run)

@@ -38,14 +38,15 @@ told_of call a state = record { call = call; answer = a; state = state }
 
 -- ---- one end
 
--- one end of a run: its side, its keys, the id that it is known by, the moment at which it was made, and the datagrams that it gives in
--- all; and, at a place: the end, the datagrams that it gave, how they were sent, and what was told at it
+-- one end of a run: its side, its keys, the id that it is known by, the moment at which it was made, the datagrams that it gives in all,
+-- and the end as it was made; and, at a place: the end, the datagrams that it gave, how they were sent, and what was told at it
 pub record Party : Type 0 where
   pub side : Side
   pub policy : Policy
   pub id : List ℕ
   pub began : ℕ
   pub final : List (List ℕ)
+  pub made : End
   pub end : End
   pub given : List (List ℕ)
   pub sents : List Sent
@@ -120,6 +121,7 @@ begun_as x y = record {
   id = x.making.id;
   began = x.making.moment;
   final = x.final;
+  made = new_end x.side x.making.settings (parameters_of y.making.settings) x.making.id y.making.id x.making.moment x.making.validated;
   end = new_end x.side x.making.settings (parameters_of y.making.settings) x.making.id y.making.id x.making.moment x.making.validated;
   given = [];
   sents = [];

@@ -16,11 +16,12 @@ use Rattle.quic_machine.specs.Ids.{known, own_id}
 use Rattle.quic_machine.specs.Opens.{own_id_length}
 use Rattle.quic_machine.specs.Policy.{Policy}
 use Rattle.quic_machine.specs.End.{End, IsMade, new_end}
-use Rattle.quic_machine.specs.Start.{AreStarted, Making}
+use Rattle.quic_machine.specs.Start.{AreStarted}
 use Rattle.quic_machine.specs.Machine.{World, Policies, IsAnswer, IsLeft, IsStep, after_call, end_at, given_by, gives, policy_at, fails, Follows, view_of}
 use Rattle.quic_headline.specs.Runs.{Run, Told, In, given_of, told_by, ids_of, folded, until, state_at, LeadsTo, AreServed}
 use Rattle.quic_headline.specs.Observer.{Sent, first_watch, watch_told, lens_of, watch}
 use Rattle.quic_headline.specs.Headline.{IsHonest, IsRun, IsAt, used, CodeIsSmall}
+use Rattle.quic_headline.specs.Amounts.{making_at}
 use Rattle.quic_headline.proofs.Places.Parties.{sents_by, told_of, Party, called, watch_of, AreJoined, turned, Beginning, begun_as, AreMade}
 use Rattle.quic_headline.proofs.Places.Groups.{Way, Nothing, Calls, Group, turned_makings}
 use Rattle.quic_headline.proofs.Places.Moments.{Grown, grown, Moment, moment, last_view}
@@ -30,11 +31,6 @@ use Rattle.quic_headline.proofs.Places.Moments.{Grown, grown, Moment, moment, la
 -- what an end is made as
 made_is : {E : Type 0} (side : Side) (settings : Settings) (r : Result ParameterValues E) (theirs : ParameterValues) (own_id peer_id : List ℕ) (now : ℕ) (validated : Bool) (e : End) → r ≡ Ok theirs → IsMade side settings r own_id peer_id now validated e → e ≡ new_end side settings theirs own_id peer_id now validated
 made_is side settings r theirs own_id peer_id now validated e is made = rw is at made
-
--- how an end was made
-abbrev pub making_at : Side → (w : World) → AreStarted w → Making
-making_at Client w s = s.client_making
-making_at Server w s = s.server_making
 
 -- the ends as they were made
 pub start_is : (w : World) (s : AreStarted w) (side : Side)
@@ -62,6 +58,7 @@ party r side w sents told = record {
   id = first_id r side;
   began = (end_at side r.start).closing.clock;
   final = given_of r side;
+  made = end_at side r.start;
   end = end_at side w;
   given = given_by side w;
   sents = sents;
@@ -171,7 +168,7 @@ module _ (G : Way) (g : Group Nothing G) (r : Run) (end : World) (honest : IsHon
 
   -- an end that has given these, before anything was told
   abbrev fresh : Side → End → List (List ℕ) → Party
-  fresh side e ds = record { side = side; policy = policy_at side r.keys; id = own_id e.ids.living; began = e.closing.clock; final = given_of r side; end = e; given = ds; sents = []; told = [] }
+  fresh side e ds = record { side = side; policy = policy_at side r.keys; id = own_id e.ids.living; began = e.closing.clock; final = given_of r side; made = e; end = e; given = ds; sents = []; told = [] }
 
   gave_nothing : (side : Side) → given_by side r.start ≡ []
   gave_nothing Client = honest.start.client_gave

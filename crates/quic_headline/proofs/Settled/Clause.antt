@@ -176,10 +176,10 @@ module _ (G : Way) (settles : (x y : Party) → G x y → Settled x y) (r : Run)
           subst (λ (acked : List Sent). ((AllHeld acked id x.told × (reset id x.told ≡ None)) → told_so x id ≡ 1) × (((AllHeld acked id x.told × (reset id x.told ≡ None)) → ⊥) → told_so x id ≡ 0)) (sym (ap (λ (w : Watch). w.flight.acked) (watch_is r honest p.world i side p.sents p.theirs))) found
 
 -- all that holds between the ends of an honest run, and this
-abbrev Held : Way
+abbrev pub Held : Way
 Held = And (everything.All Ready ready) Settled
 
-held : Group Nothing Held
+pub held : Group Nothing Held
 held = both Nothing (everything.All Ready ready) Settled (everything.all Ready ready) (settled_group (And Nothing (everything.All Ready ready)) (record {
   spoken = spoken (And Nothing (everything.All Ready ready)) (λ x y h. h.1.0.0) (λ x y h. h.1.0.1.0.says) (λ x y h. h.1.0.1.0.writes);
   sight = λ x y h. h.1.1;

@@ -71,7 +71,7 @@ DoneSettles t id = t.times id ≡ times_done (t.reset id)
 
 -- so it is of each stream
 abbrev pub Settles : Known → Tells → StreamsState → Type 0
-Settles k t s = EachSends (λ limit. Unit {0}) (UnusedSettles k t) (HalfSettles k t) (DoneSettles t) s
+Settles k t s = EachSends (λ id limit. Unit {0}) (UnusedSettles k t) (HalfSettles k t) (DoneSettles t) s
 
 -- ---- halves
 
@@ -94,7 +94,7 @@ unended true true true z is = cc
 
 module _ (k : Known) (t : Tells) where
   -- of halves by their place
-  pub settles_of_halves : AreOfHalves (λ limit. Unit {0}) (UnusedSettles k t) (HalfSettles k t) (DoneSettles t)
+  pub settles_of_halves : AreOfHalves (λ id limit. Unit {0}) (UnusedSettles k t) (HalfSettles k t) (DoneSettles t)
   settles_of_halves = record {
     fresh = λ id limit f n. (n.0, refl, sym n.1, λ none. ((λ o x. absurd (n.2.0 o x)), (λ o x. absurd (n.2.2 o x)), λ x. absurd (n.2.3 x)));
     over = λ id h q ended. elim ended [
@@ -106,11 +106,11 @@ module _ (k : Known) (t : Tells) where
   }
 
   pub settles_kept : KeepsBy (λ r id old new. Unit {0}) (λ s id old new. HalfSettles k t id old → HalfSettles k t id new) (λ s id n old new. HalfSettles k t id old → HalfSettles k t id new) (Settles k t)
-  settles_kept = each_kept (λ limit. Unit {0}) (UnusedSettles k t) (HalfSettles k t) (DoneSettles t) settles_of_halves
+  settles_kept = each_kept (λ id limit. Unit {0}) (UnusedSettles k t) (HalfSettles k t) (DoneSettles t) settles_of_halves
 
   -- what is said of a half that is in use, or on which nothing was done
   pub half_settles : (s : StreamsState) (id : ℕ) (h : SendHalf) → sending_half s id ≡ Some h → Settles k t s → HalfSettles k t id h
-  half_settles s id h is i = said_of (λ limit. Unit {0}) (UnusedSettles k t) (HalfSettles k t) (DoneSettles t) settles_of_halves s id h is i
+  half_settles s id h is i = said_of (λ id limit. Unit {0}) (UnusedSettles k t) (HalfSettles k t) (DoneSettles t) settles_of_halves s id h is i
 
   -- on one that isn't finished bytes are written
   grown_settles : (id : ℕ) (h : SendHalf) (bytes : List ℕ) → is_ready h ≡ true → HalfSettles k t id h → HalfSettles k t id (grown h bytes)

@@ -75,6 +75,13 @@ returns-clause-grown_limits_wait g c =
     let r : Run = run_of keys c.args.ends c.args.events.now o.answers.items o.views.items o.given in
     λ honest. c.grown_limits_wait.ensures r (world_of o.ends o.given) honest (record { codes = c.show_codes.ensures; follows = c.run_events.ensures.follows; from_client = refl; from_server = refl })
 
+pub returns-clause-writes_take_what_limits_allow : goal.returns-clause-writes_take_what_limits_allow
+returns-clause-writes_take_what_limits_allow g c =
+    let o = c.run_events.result in
+    let keys : Policies = policies_of g.H.HeaderKey.protection g.K.PacketKey.aead c.args.ends in
+    let r : Run = run_of keys c.args.ends c.args.events.now o.answers.items o.views.items o.given in
+    λ honest. c.writes_take_what_limits_allow.ensures r (world_of o.ends o.given) honest (record { codes = c.show_codes.ensures; follows = c.run_events.ensures.follows; from_client = refl; from_server = refl })
+
 pub returns-clause-tracks_in_flight : goal.returns-clause-tracks_in_flight
 returns-clause-tracks_in_flight g c =
     let o = c.run_events.result in

@@ -1,31 +1,25 @@
-use Rattle.std.proofs.Common.{◌≡◌, length, rules, ap, ◌∙◌, arith, Result, Ok, Err, OnOk, OnErr}
+use Rattle.std.proofs.Common.{rules, ap, ◌∙◌, length, arith, Result, Ok, Err, OnErr}
 use Rattle.std.specs.Ordering.{nat_cmp}
 use Rattle.std.specs.BTreeMap.{is_at}
 use Rattle.std.proofs.lemmas.Map.Steps.{set_value_same}
-use Rattle.quic_send_buffer.specs.declared.stream_meta.StreamMeta.{StreamMeta}
 use Rattle.quic_streams_parts.specs.Table.{put}
-use Rattle.quic_streams_parts.specs.SendHalf.{SendHalf, half_lost}
-use Rattle.quic_streams_halves.proofs.Sums.{put_sum}
+use Rattle.quic_streams_parts.specs.SendHalf.{SendHalf}
+use Rattle.quic_streams_halves.proofs.Sums.{put_sum, lost_kept}
 use Rattle.quic_streams_halves.proofs.send_halves.SendHalves.retransmit.Goals as goal
 
 on_err : {T E P Q : Type 0} (r : Result T E) → OnErr r P → (P → Q) → OnErr r Q
 on_err (Ok x) p f = tt
 on_err (Err e) p f = f p
 
--- a half keeps its bytes, whether memory lacks or not
-same_length : {T E : Type 0} (r : Result T E) (h w : SendHalf) (m : StreamMeta) → OnOk r (w ≡ half_lost h m) → OnErr r (w ≡ h) → length w.buffer.kept ≡ length h.buffer.kept
-same_length (Ok x) h w m ok err = ap (λ (v : SendHalf). length v.buffer.kept) ok
-same_length (Err e) h w m ok err = ap (λ (v : SendHalf). length v.buffer.kept) err
-
 pub invariant_of-self-2 : goal.invariant_of-self-2
 invariant_of-self-2 c =
-    let told = (c.get_mut.follows.holds c.retransmit.new.self).0 ∙ ap (λ k. put c.self.inside.live.entries k c.retransmit.new.self) c.from.ensures in
-    let kept = same_length c.retransmit.result c.in-Some.half.now c.retransmit.new.self c.args.frame.now c.retransmit.ensures.ok c.retransmit.ensures.err in
-    put_sum (λ (h : SendHalf). length h.buffer.kept) c.self.inside.live.entries _ c.args.frame.now.id c.in-Some.half.now c.retransmit.new.self c.self.inside.buffered _ c.self.invariant (search rules) told (omega arith)
+    let told = (c.get_mut.follows.holds c.retransmit.new.half).0 ∙ ap (λ k. put c.self.inside.live.entries k c.retransmit.new.half) c.from.ensures in
+    let kept = lost_kept c.retransmit.result c.args.frame.now c.args.queue.now c.in-Some.half.now c.retransmit.new.half c.retransmit.ensures.half c.retransmit.ensures.err in
+    put_sum (λ (h : SendHalf). length h.buffer.kept) c.self.inside.live.entries _ c.args.frame.now.id c.in-Some.half.now c.retransmit.new.half c.self.inside.buffered _ c.self.invariant (search rules) told (omega arith)
 
 pub returns-clause-err : goal.returns-clause-err
 returns-clause-err c =
-    let told = (c.get_mut.follows.holds c.retransmit.new.self).0 ∙ ap (λ k. put c.self.inside.live.entries k c.retransmit.new.self) c.from.ensures in
+    let told = (c.get_mut.follows.holds c.retransmit.new.half).0 ∙ ap (λ k. put c.self.inside.live.entries k c.retransmit.new.half) c.from.ensures in
     on_err c.retransmit.result c.retransmit.ensures.err (λ e.
     let same = told ∙ ap (λ w. put c.self.inside.live.entries c.args.frame.now.id w) e ∙ set_value_same (is_at (nat_cmp c.args.frame.now.id)) c.self.inside.live.entries c.in-Some.half.now (search rules) in
     rw same c.self.view_is)

@@ -1,8 +1,8 @@
-use Rattle.std.proofs.Common.{◌≡◌, ◌∙◌, ◌+◌, ◌-◌, ◌≤◌, ℕ, Some, sym, ap, subst, length, vec_len, arith}
-use Rattle.quic_wire.specs.Writing.{width_of}
+use Rattle.std.proofs.Common.{◌≡◌, ◌∙◌, ◌+◌, ◌-◌, ◌≤◌, ℕ, None, IsSome, refl, sym, ap, length, vec_len, arith, rules}
 use Rattle.quic_streams_state.specs.Frames.{going}
 use Rattle.quic_streams_state.proofs.Going.{on_err}
 use Rattle.quic_streams_state.proofs.Framing.{goes, framed_more, framed_some, framed_longer, framed_begins, done_items, done_state, done_noted}
+use Rattle.quic_streams_state.proofs.Putting.{next, wide}
 use Rattle.quic_streams_state.proofs.state.StreamsState.write_stream_frames.Goals as goal
 
 pub frames-smaller : goal.frames-smaller
@@ -16,13 +16,12 @@ frames-smaller c =
     let len = c.len.ensures in
     let left : ℕ = c.args.max_size - c.len.result in
     let within : left + length out ≡ (c.args.max_size - vec_len c.args.out.now) + length before = omega arith in
-    let id = c.in-Some.id in
-    let is : going c.frames.self left ≡ Some id = sym c.next_stream.ensures ∙ c.in-Some.is in
-    let same : c.size.result ≡ width_of id = c.size.ensures.spelled ∙ ap width_of c.from.ensures in
-    let wide : 1 ≤ width_of id = subst (λ (n : ℕ). 1 ≤ n) same c.size.ensures.some in
-    let longer = framed_longer _ _ _ _ _ _ _ _ c.frames.invariant.framed left within id _ is c.put_next.new.out.items c.put_next.ensures.items in
+    let some : IsSome (going c.frames.self left) = search rules in
+    let x = next (going c.frames.self left) some in
+    let wide = wide x.id in
+    let longer = framed_longer _ _ _ _ _ _ _ _ c.frames.invariant.framed left within x.id _ x.is c.put_next.new.out.items (c.put_next.ensures.items x.id x.is) in
     let ok2 = c.put_next.new.out.ok in
-    let g = goes c.frames.self left id is in
+    let g = goes c.frames.self left x.id x.is in
     let room = g.room in
     omega arith
 
@@ -37,17 +36,16 @@ frames-preserved c =
     let len = c.len.ensures in
     let left : ℕ = c.args.max_size - c.len.result in
     let within : left + length out ≡ (c.args.max_size - vec_len c.args.out.now) + length before = omega arith in
-    let id = c.in-Some.id in
-    let is : going c.frames.self left ≡ Some id = sym c.next_stream.ensures ∙ c.in-Some.is in
-    let same : c.size.result ≡ width_of id = c.size.ensures.spelled ∙ ap width_of c.from.ensures in
-    let wide : 1 ≤ width_of id = subst (λ (n : ℕ). 1 ≤ n) same c.size.ensures.some in
-    let longer = framed_longer _ _ _ _ _ _ _ _ c.frames.invariant.framed left within id _ is c.put_next.new.out.items c.put_next.ensures.items in
+    let some : IsSome (going c.frames.self left) = search rules in
+    let x = next (going c.frames.self left) some in
+    let wide = wide x.id in
+    let longer = framed_longer _ _ _ _ _ _ _ _ c.frames.invariant.framed left within x.id _ x.is c.put_next.new.out.items (c.put_next.ensures.items x.id x.is) in
     let ok2 = c.put_next.new.out.ok in
     record {
-      framed = framed_more _ _ _ _ _ _ _ _ c.frames.invariant.framed left within id _ is wide (ap (λ (n : ℕ). c.args.max_size - n - (1 + c.size.result)) (c.len-in-Some.ensures ∙ sym c.len.ensures) ∙ ap (λ (n : ℕ). left - (1 + n)) same) c.put_next.new.out.items c.put_next.new.sent.items c.put_next.new.self c.put_next.ensures.items c.in_ok-put_next.ensures.state c.in_ok-put_next.ensures.sent;
-      begins = framed_begins _ _ _ _ _ _ _ _ c.frames.invariant.framed left within id _ is c.put_next.new.out.items c.put_next.ensures.items (vec_len c.args.out.now) c.frames.invariant.begins (omega arith);
+      framed = framed_more _ _ _ _ _ _ _ _ c.frames.invariant.framed left within x.id _ x.is wide refl c.put_next.new.out.items c.put_next.new.sent.items c.put_next.new.self (c.put_next.ensures.items x.id x.is) (c.in_ok-put_next.ensures.state x.id x.is) (c.in_ok-put_next.ensures.sent x.id x.is);
+      begins = framed_begins _ _ _ _ _ _ _ _ c.frames.invariant.framed left within x.id _ x.is c.put_next.new.out.items (c.put_next.ensures.items x.id x.is) (vec_len c.args.out.now) c.frames.invariant.begins (omega arith);
       grows = omega arith;
-      stays = (let g = goes c.frames.self left id is in let room = g.room in let most = c.size.ensures.most in omega (arith, c.put_next.ensures.len, same, c.len-in-Some.ensures));
+      stays = omega (arith, c.put_next.ensures.len);
       capacity = omega (arith, c.put_next.ensures.capacity, c.frames.invariant.capacity);
       room = omega (arith, c.put_next.ensures.capacity, c.frames.invariant.room);
     }
@@ -63,9 +61,8 @@ returns-in_err-put_next-clause-lacking c =
     let len = c.len.ensures in
     let left : ℕ = c.args.max_size - c.len.result in
     let within : left + length out ≡ (c.args.max_size - vec_len c.args.out.now) + length before = omega arith in
-    let id = c.in-Some.id in
-    let is : going c.frames.self left ≡ Some id = sym c.next_stream.ensures ∙ c.in-Some.is in
-    on_err c.from_residual.result (framed_some _ _ _ _ _ _ _ _ c.frames.invariant.framed left within id is)
+    let x = next (going c.frames.self left) c.in_err-put_next.ensures.lacking in
+    on_err c.from_residual.result (framed_some _ _ _ _ _ _ _ _ c.frames.invariant.framed left within x.id x.is)
 
 pub returns-in_err-put_next-clause-begins : goal.returns-in_err-put_next-clause-begins
 returns-in_err-put_next-clause-begins c =
@@ -78,9 +75,8 @@ returns-in_err-put_next-clause-begins c =
     let len = c.len.ensures in
     let left : ℕ = c.args.max_size - c.len.result in
     let within : left + length out ≡ (c.args.max_size - vec_len c.args.out.now) + length before = omega arith in
-    let id = c.in-Some.id in
-    let is : going c.frames.self left ≡ Some id = sym c.next_stream.ensures ∙ c.in-Some.is in
-    framed_begins _ _ _ _ _ _ _ _ c.frames.invariant.framed left within id _ is c.put_next.new.out.items c.put_next.ensures.items (vec_len c.args.out.now) c.frames.invariant.begins (omega arith)
+    let x = next (going c.frames.self left) c.in_err-put_next.ensures.lacking in
+    framed_begins _ _ _ _ _ _ _ _ c.frames.invariant.framed left within x.id _ x.is c.put_next.new.out.items (c.put_next.ensures.items x.id x.is) (vec_len c.args.out.now) c.frames.invariant.begins (omega arith)
 
 pub returns-clause-items : goal.returns-clause-items
 returns-clause-items c =
@@ -93,7 +89,8 @@ returns-clause-items c =
     let len = c.len.ensures in
     let left : ℕ = c.args.max_size - c.len.result in
     let within : left + length out ≡ (c.args.max_size - vec_len c.args.out.now) + length before = omega arith in
-    done_items _ _ _ _ _ _ _ _ c.frames.invariant.framed left within (sym c.next_stream.ensures ∙ c.in_default.is)
+    let none : going c.frames.self left ≡ None = search rules in
+    c.put_next.ensures.nothing none ∙ done_items _ _ _ _ _ _ _ _ c.frames.invariant.framed left within none
 
 pub returns-clause-state : goal.returns-clause-state
 returns-clause-state c =
@@ -106,7 +103,8 @@ returns-clause-state c =
     let len = c.len.ensures in
     let left : ℕ = c.args.max_size - c.len.result in
     let within : left + length out ≡ (c.args.max_size - vec_len c.args.out.now) + length before = omega arith in
-    done_state _ _ _ _ _ _ _ _ c.frames.invariant.framed left within (sym c.next_stream.ensures ∙ c.in_default.is)
+    let none : going c.frames.self left ≡ None = search rules in
+    c.in_ok-put_next.ensures.same none ∙ done_state _ _ _ _ _ _ _ _ c.frames.invariant.framed left within none
 
 pub returns-clause-sent : goal.returns-clause-sent
 returns-clause-sent c =
@@ -119,4 +117,5 @@ returns-clause-sent c =
     let len = c.len.ensures in
     let left : ℕ = c.args.max_size - c.len.result in
     let within : left + length out ≡ (c.args.max_size - vec_len c.args.out.now) + length before = omega arith in
-    done_noted _ _ _ _ _ _ _ _ c.frames.invariant.framed left within (sym c.next_stream.ensures ∙ c.in_default.is)
+    let none : going c.frames.self left ≡ None = search rules in
+    c.in_ok-put_next.ensures.kept none ∙ done_noted _ _ _ _ _ _ _ _ c.frames.invariant.framed left within none

@@ -1,5 +1,0 @@
-use Rattle.quic_streams_state.proofs.QueuedIds.{ids_removed}
-use Rattle.quic_streams_state.proofs.sending.queue.PendingStreams.take_back.Goals as goal
-
-pub invariant_of-self : goal.invariant_of-self
-invariant_of-self c = rw c.take_back.ensures (ids_removed _ _ c.self.invariant)
