@@ -1,6 +1,7 @@
 -- What is kept on all streams, after a change of one.
-use Rattle.std.proofs.Common.{◌≡◌, ℕ, ◌+◌, ◌≤◌, Bool, true, false, length, Some, None, Option, Result, Ok, Err, OnOk, OnErr, refl, sym, ap, ◌∙◌, subst, length-drop, arith}
+use Rattle.std.proofs.Common.{◌≡◌, ℕ, ◌+◌, ◌≤◌, Bool, true, false, List, [], ◌∷◌, length, Some, None, Option, Result, Ok, Err, OnOk, OnErr, refl, sym, ap, ◌∙◌, subst, length-append, length-drop, arith}
 use Rattle.std.specs.Prelude.{◌&&◌, if◌then◌else◌}
+use Rattle.std.proofs.Math.Dec.{eqb-suc-zero}
 use Rattle.std.specs.Option.{unwrap_or, option_map}
 use Rattle.std.specs.List.{sum_by}
 use Rattle.std.specs.Ordering.{nat_cmp}
@@ -12,8 +13,8 @@ use Rattle.std.proofs.lemmas.Map.Entries.{sum_by-set_value, sum_by-remove_entry,
 use Rattle.quic_send_buffer.specs.declared.stream_meta.StreamMeta.{StreamMeta}
 use Rattle.quic_send_buffer.specs.Buffered.{Buffered, done, acknowledged}
 use Rattle.quic_streams_parts.specs.Queue.{Queue, Place}
-use Rattle.quic_streams_parts.specs.SendHalf.{SendHalf, Queued, is_ready, has_pending, frame_counts, half_after, half_acked, half_lost, requeued, requeued_at, turned, turned_at}
-use Rattle.quic_streams_halves.specs.Queued.{unmoved, acked_with, acked_if_ready, lost_with, sent_if_counts}
+use Rattle.quic_streams_parts.specs.SendHalf.{SendHalf, Queued, is_ready, has_pending, frame_counts, half_after, half_acked, half_lost, grown, requeued, requeued_at, turned, turned_at}
+use Rattle.quic_streams_halves.specs.Queued.{unmoved, accepted_with, acked_with, acked_if_ready, lost_with, sent_if_counts}
 use Rattle.quic_streams_parts.specs.Table.{Table, at, put, without, added}
 
 module _ {A : Type 0} (f : A → ℕ) where
@@ -93,3 +94,12 @@ sent_kept (Ok x) fair id room q h w ok err = go (frame_counts h room) ok
     go true e = ap (λ (v : SendHalf). length v.buffer.kept) e ∙ ap (λ (b : Buffered). length b.kept) (turned_kept (fair && has_pending (half_after h room)) q id (half_after h room))
     go false e = ap (λ (v : SendHalf). length v.buffer.kept) e
 sent_kept (Err e) fair id room q h w ok err = ap (λ (v : SendHalf). length v.buffer.kept) err
+
+-- as many more as were accepted
+pub accepted_kept : (id : ℕ) (bytes : List ℕ) (q : Queue) (h w : SendHalf) → w ≡ (accepted_with id bytes q h).half → length w.buffer.kept ≡ length h.buffer.kept + length bytes
+accepted_kept id [] q h w is = let same : length w.buffer.kept ≡ length h.buffer.kept = ap (λ (v : SendHalf). length v.buffer.kept) is in omega arith
+accepted_kept id (b ∷ bytes) q h w is =
+    let some : w ≡ (requeued_at h.place true q id (grown h (b ∷ bytes))).half = is ∙ ap (λ (z : Bool). (if z then unmoved q h else requeued_at h.place true q id (grown h (b ∷ bytes))).half) (eqb-suc-zero (length bytes)) in
+    let same : length w.buffer.kept ≡ length (grown h (b ∷ bytes)).buffer.kept = ap (λ (v : SendHalf). length v.buffer.kept) some ∙ ap (λ (x : Buffered). length x.kept) (requeued_kept h.place true q id (grown h (b ∷ bytes))) in
+    let more = length-append h.buffer.kept (b ∷ bytes) in
+    omega arith

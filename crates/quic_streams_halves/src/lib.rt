@@ -10,5 +10,6 @@ mod send_halves;
 
 pub use pending_streams::PendingStreams;
 pub use places::{Indices, Places, is_own};
+pub use queued::written_to;
 pub use recv_halves::RecvHalves;
 pub use send_halves::SendHalves;

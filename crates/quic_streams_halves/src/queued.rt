@@ -1,19 +1,21 @@
 //! A sending part changes, and the queue of those with something to send follows it.
-ghost use Rattle.std.specs.Prelude.{◌≡◌, ◌⊎◌, ◌≤◌, ◌+◌, ◌++◌, ℕ, true, false, if◌then◌else◌, IfOk, OnOk, OnErr, Some, None, vec_len, vec_capacity};
+ghost use Rattle.std.specs.Prelude.{◌≡◌, ◌≢◌, ◌⊎◌, ◌<◌, ◌≤◌, ◌+◌, ◌++◌, ℕ, true, false, if◌then◌else◌, length, take, IfOk, IsOkAnd, OnOk, OnErr, Some, None, Err, vec_len, vec_capacity};
 ghost use Rattle.std.specs.Option.{option_map};
 ghost use Rattle.quic_wire.specs.Writing.{stream_spelling, width_of};
 ghost use Rattle.quic_send_buffer.specs.Buffered.{writes_length};
 ghost use Rattle.quic_send_buffer.specs.Source.{bytes_of};
 ghost use Rattle.quic_streams_parts.specs.Queue.{IsLast, taken_back};
-ghost use Rattle.quic_streams_parts.specs.SendHalf.{room_on, has_pending, half_after, frame_counts, frame_of, meta_of, requeued, turned, HasSent};
-ghost use Rattle.quic_streams_halves.specs.Queued.{acked_with, acked_if_ready, is_ended, lost_with, counting_at, sent_if_counts, chunks_grown_with};
+ghost use Rattle.quic_streams_parts.specs.declared.answers.WriteError.TheVariants as write_errors;
+ghost use Rattle.quic_streams_parts.specs.SendHalf.{written_to, grown, requeued_at, room_on, has_pending, half_after, frame_counts, frame_of, meta_of, requeued, turned, HasSent};
+ghost use Rattle.quic_streams_halves.specs.Queued.{acked_with, acked_if_ready, is_ended, lost_with, counting_at, sent_if_counts, chunks_grown_with, accepted_with};
 
 use crate::pending_streams::PendingStreams;
 use bytes::Bytes;
 use quic_send_buffer::StreamMeta;
-use quic_streams_parts::{Place, Send, rank_of};
+use quic_streams_parts::{Place, Send, WriteError, rank_of};
 use quic_wire_core::StreamId;
-use std::alloc::AllocError;
+use std::alloc::{AllocError, Global};
+use std::slice;
 
 // A part that stands in the queue, or has nothing to send, is in the queue while it has something to
 // send.
@@ -238,4 +240,73 @@ pub(crate) fn write_all(
     }
     half.set_place(Some(place));
     Ok(())
+}
+
+/// What a write of so many bytes to a part is answered on an open end, where all streams together have so much room.
+pub fn written_to(half: &Send, room: u64, len: usize) -> Result<usize, WriteError>
+    ensures answer { result ≡ written_to (Some half.now) room len }
+    ensures memory { result ≢ Err write_errors.Memory }
+{
+    if room == 0 {
+        return Err(WriteError::Blocked);
+    }
+    if !half.is_ready() {
+        return Err(WriteError::ClosedStream);
+    }
+    if let Some(code) = half.stop_reason() {
+        return Err(WriteError::Stopped(code));
+    }
+    let free = half.room();
+    if free == 0 {
+        return Err(WriteError::Blocked);
+    }
+    Ok((len as u64).min(room.min(free)) as usize)
+}
+
+// Bytes go behind those that were written on a part, and wait to go. An `Err` (want of memory)
+// changes nothing.
+fn grow(
+    half: &mut Send,
+    id: StreamId,
+    bytes: &[u8],
+    alloc: Global,
+    queue: &mut PendingStreams,
+) -> Result<(), AllocError>
+    requires reset { half.old.reset ≡ None }
+    requires room { length bytes.now ≤ room_on half.old }
+    ensures half { OnOk result (half.new ≡ (requeued_at half.old.place true queue.old id (grown half.old bytes.now)).half) }
+    ensures queue { OnOk result (queue.new ≡ (requeued_at half.old.place true queue.old id (grown half.old bytes.now)).queue) }
+    ensures err { OnErr result (half.new ≡ half.old) }
+    ensures same { OnErr result (queue.new ≡ queue.old) }
+{
+    let piece = Bytes::copy_from_slice(alloc, bytes)?;
+    write_all(half, id, slice::from_ref(&piece), bytes.len(), queue)
+}
+
+/// Writes as many of the bytes to a part as fit, where all streams together have so much room: how many. Any error, as
+/// [`written_to`] says, or want of memory, changes nothing.
+pub(crate) fn write(
+    half: &mut Send,
+    id: StreamId,
+    bytes: &[u8],
+    room: u64,
+    alloc: Global,
+    queue: &mut PendingStreams,
+) -> Result<usize, WriteError>
+    ensures answer { result ≢ Err write_errors.Memory → result ≡ written_to (Some half.old) room (length bytes.now) }
+    ensures half { IfOk result (λ n. half.new ≡ (accepted_with id (take n bytes.now) queue.old half.old).half) }
+    ensures queue { IfOk result (λ n. queue.new ≡ (accepted_with id (take n bytes.now) queue.old half.old).queue) }
+    ensures within { IfOk result (λ n. (n ≤ length bytes.now) × (n ≤ room)) }
+    ensures err { OnErr result (half.new ≡ half.old) }
+    ensures same { OnErr result (queue.new ≡ queue.old) }
+    ensures lacking { result ≡ Err write_errors.Memory → IsOkAnd (written_to (Some half.old) room (length bytes.now)) (λ n. 0 < n) }
+{
+    let taken = written_to(half, room, bytes.len())?;
+    if taken == 0 {
+        return Ok(0);
+    }
+    match grow(half, id, &bytes[..taken], alloc, queue) {
+        Ok(()) => Ok(taken),
+        Err(_) => Err(WriteError::Memory),
+    }
 }

@@ -1,20 +1,21 @@
 //! The sending parts of all streams.
-ghost use Rattle.std.specs.Prelude.{◌≡◌, ◌⊎◌, ◌<◌, ◌≤◌, ◌+◌, ◌^◌, ◌++◌, length, false, IfSome, IfOk, OnOk, OnErr, IsSome, IsSomeAnd, Some, None, vec_len, vec_capacity};
+ghost use Rattle.std.specs.Prelude.{◌≡◌, ◌≢◌, ◌⊎◌, take, Err, ◌<◌, ◌≤◌, ◌+◌, ◌^◌, ◌++◌, length, false, IfSome, IfOk, IsOkAnd, OnOk, OnErr, IsSome, IsSomeAnd, Some, None, vec_len, vec_capacity};
 ghost use Rattle.std.specs.Option.{option_copied, option_map};
 ghost use Rattle.quic_wire.specs.Writing.{stream_spelling, width_of};
 ghost use Rattle.quic_send_buffer.specs.Buffered.{writes_length};
 ghost use Rattle.quic_send_buffer.specs.Source.{bytes_of};
+ghost use Rattle.quic_streams_parts.specs.declared.answers.WriteError.TheVariants as write_errors;
 ghost use Rattle.quic_streams_parts.specs.Table.{at, without};
-ghost use Rattle.quic_streams_parts.specs.SendHalf.{SendHalf, room_on, ended, reset_now, frame_of, meta_of, HasSent};
+ghost use Rattle.quic_streams_parts.specs.SendHalf.{SendHalf, written_to, room_on, ended, reset_now, frame_of, meta_of, HasSent};
 ghost use Rattle.quic_streams_halves.specs.Halves.{Halves, no_halves, has_place, used, changed, without_half, buffered_in};
-ghost use Rattle.quic_streams_halves.specs.Queued.{queue_with, acked_with, acked_if_ready, is_ended_at, lost_with, counting_at, sent_if_counts, chunks_grown_with};
+ghost use Rattle.quic_streams_halves.specs.Queued.{queue_with, acked_with, acked_if_ready, is_ended_at, lost_with, counting_at, sent_if_counts, chunks_grown_with, accepted_with};
 
 use crate::pending_streams::PendingStreams;
 use crate::places::Places;
 use crate::queued;
 use bytes::Bytes;
 use quic_send_buffer::StreamMeta;
-use quic_streams_parts::{Place, Send};
+use quic_streams_parts::{Place, Send, WriteError};
 use quic_wire_core::{Side, StreamId, VarInt};
 use std::alloc::{AllocError, Global};
 use std::collections::BTreeMap;
@@ -166,6 +167,34 @@ impl SendHalves {
         queued::write_all(half, id, chunks, len, queue)?;
         self.buffered += len as u64;
         Ok(())
+    }
+
+    /// Writes as many of the bytes to a part as fit, where all streams together have so much room: how many. [`WriteError::ClosedStream`]
+    /// where the part isn't in use. That and any other error, as [`written_to`](crate::written_to) says, or want of memory, changes
+    /// nothing.
+    pub fn write(
+        &mut self,
+        id: StreamId,
+        bytes: &[u8],
+        room: u64,
+        alloc: Global,
+        queue: &mut PendingStreams,
+    ) -> Result<usize, WriteError>
+        requires window { buffered_in self.old.live + room < 2 ^ 64 }
+        ensures answer { result ≢ Err write_errors.Memory → result ≡ written_to (at self.old.live id) room (length bytes.now) }
+        ensures ok { IfOk result (λ n. self.new ≡ changed (λ h. (accepted_with id (take n bytes.now) queue.old h).half) self.old id) }
+        ensures queue { IfOk result (λ n. queue.new ≡ queue_with (accepted_with id (take n bytes.now) queue.old) (at self.old.live id) queue.old) }
+        ensures within { IfOk result (λ n. (n ≤ length bytes.now) × (n ≤ room)) }
+        ensures err { OnErr result (self.new ≡ self.old) }
+        ensures same { OnErr result (queue.new ≡ queue.old) }
+        ensures lacking { result ≡ Err write_errors.Memory → IsOkAnd (written_to (at self.old.live id) room (length bytes.now)) (λ n. 0 < n) }
+    {
+        let Some(half) = self.live.get_mut(&u64::from(id)) else {
+            return Err(WriteError::ClosedStream);
+        };
+        let taken = queued::write(half, id, bytes, room, alloc, queue)?;
+        self.buffered += taken as u64;
+        Ok(taken)
     }
 
     /// The end of a part has to go, if it is in use, and it stands there in the queue.

@@ -1,6 +1,6 @@
 -- Writes of several chunks.
-use Rattle.std.proofs.Common.{◌≡◌, ℕ, zero, suc, ◌+◌, ◌<◌, ◌≤◌, min, Bool, true, ◌==◌, List, [], ◌∷◌, length, Option, Some, None, Result, Ok, Err, refl, sym, ap, ◌∙◌, arith}
-use Rattle.std.specs.Prelude.{OnOk, if◌then◌else◌}
+use Rattle.std.proofs.Common.{◌≡◌, ◌≢◌, ℕ, zero, suc, ◌+◌, ◌<◌, ◌≤◌, min, Bool, true, false, ◌==◌, List, [], ◌∷◌, length, Option, Some, None, Result, Ok, Err, refl, sym, ap, subst, ◌∙◌, arith}
+use Rattle.std.specs.Prelude.{OnOk, IsOkAnd, if◌then◌else◌}
 use Rattle.std.proofs.Math.Dec.{eqb-suc-zero}
 use Rattle.std.specs.Option.{is_some}
 use Rattle.quic_send_buffer.specs.Source.{bytes_of}
@@ -8,11 +8,12 @@ use Rattle.quic_send_buffer.specs.WritesLaws.{cut_one}
 use Rattle.quic_streams_parts.specs.declared.answers.Written.{Written}
 use Rattle.quic_streams_parts.specs.declared.answers.WriteError.{WriteError}
 use Rattle.quic_streams_parts.specs.declared.answers.WriteError.TheVariants as write_errors
-use Rattle.quic_streams_parts.specs.SendHalf.{SendHalf, room_on, is_ready, grown_all, requeued_at, written_to, taken_unless}
-use Rattle.quic_streams_state.specs.Sends.{with_queued, chunks_grown_in}
+use Rattle.quic_streams_parts.specs.SendHalf.{SendHalf, room_on, is_ready, grown, grown_all, requeued_at, written_to, taken_unless}
+use Rattle.quic_streams_state.specs.Sends.{with_queued, with_live_queued, accepted_in, chunks_grown_in}
 use Rattle.quic_streams_parts.specs.Table.{at}
 use Rattle.quic_streams_state.specs.Parts.{Sending}
 use Rattle.quic_streams_state.specs.State.{StreamsState, sending_half, room}
+use Rattle.quic_streams_state.specs.SendLacking.{WriteMayLack}
 use Rattle.quic_streams_state.specs.Writing.{write_answer, write_chunks_answer, chunks_of, accepted_at, grown_by, chunks_grown_by, chunks_accepted_at}
 
 -- more bytes than there is room for are as many as the room
@@ -78,3 +79,43 @@ refused_answer s id len most cs error told b is_open e le answer same =
     ap (λ (x : WriteError). let y : Result Written WriteError = Err x in y) same
     ∙ ap (λ (r : Result ℕ WriteError). chunks_of r cs) (answer ∙ chunks_answer s id len most cs e le)
     ∙ ap (λ (z : Bool). write_chunks_answer z s id cs) (sym is_open)
+
+-- ---- a write to a half in use
+
+in_use : (s : StreamsState) (id : ℕ) (h : SendHalf) → at s.sending.halves.live id ≡ Some h → sending_half s id ≡ Some h
+in_use s id h found = rw found refl
+
+-- what it is answered is what any write is
+pub live_answer : (s : StreamsState) (id len : ℕ) (r : Result ℕ WriteError) → r ≢ Err write_errors.ClosedStream → r ≡ written_to (at s.sending.halves.live id) (room s.sending) len → r ≡ write_answer true s id len
+live_answer s id len r used told = told ∙ go (at s.sending.halves.live id) refl
+  where
+    go : (o : Option SendHalf) → at s.sending.halves.live id ≡ o → written_to o (room s.sending) len ≡ write_answer true s id len
+    go None found = absurd (used (told ∙ ap (λ (o : Option SendHalf). written_to o (room s.sending) len) found))
+    go (Some h) found = sym (ap (λ (o : Option SendHalf). written_to o (room s.sending) len) (in_use s id h found))
+
+-- and what it leaves
+pub live_written : (s : StreamsState) (t : Sending) (id : ℕ) (bytes : List ℕ) → (at s.sending.halves.live id ≡ None → ⊥) → t ≡ accepted_in (at s.sending.halves.live id) s.sending id bytes
+    → record s { sending = t } ≡ accepted_at (sending_half s id) s id bytes
+live_written s t id bytes used is = ap (λ (x : Sending). let y : StreamsState = record s { sending = x } in y) is ∙ go (at s.sending.halves.live id) refl
+  where
+    by_some : (b : Bool) (h : SendHalf) → at s.sending.halves.live id ≡ Some h
+        → record s { sending = if b then s.sending else record (with_live_queued s.sending id (requeued_at h.place true s.sending.queue id (grown h bytes))) { accepted = s.sending.accepted + length bytes } } ≡ (if b then s else grown_by h s id bytes)
+    by_some true h found = refl
+    by_some false h found = rw found refl
+
+    go : (o : Option SendHalf) → at s.sending.halves.live id ≡ o → record s { sending = accepted_in o s.sending id bytes } ≡ accepted_at (sending_half s id) s id bytes
+    go None found = absurd (used found)
+    go (Some h) found = by_some (length bytes == 0) h found ∙ sym (ap (λ (o : Option SendHalf). accepted_at o s id bytes) (in_use s id h found))
+
+-- and it lacks memory where any write may
+pub live_lacks : (s : StreamsState) (id len : ℕ) → IsOkAnd (written_to (at s.sending.halves.live id) (room s.sending) len) (λ n. 0 < n)
+    → WriteMayLack (written_to (sending_half s id) (room s.sending) len) (sending_half s id) (room s.sending)
+live_lacks s id len ok = go (at s.sending.halves.live id) refl ok
+  where
+    by_answer : (r : Result ℕ WriteError) (o : Option SendHalf) → IsOkAnd r (λ n. 0 < n) → WriteMayLack r o (room s.sending)
+    by_answer (Ok n) o some = some
+    by_answer (Err e) o some = absurd some
+
+    go : (o : Option SendHalf) → at s.sending.halves.live id ≡ o → IsOkAnd (written_to o (room s.sending) len) (λ n. 0 < n) → WriteMayLack (written_to (sending_half s id) (room s.sending) len) (sending_half s id) (room s.sending)
+    go None found some = absurd some
+    go (Some h) found some = by_answer (written_to (sending_half s id) (room s.sending) len) (sending_half s id) (subst (λ (o : Option SendHalf). IsOkAnd (written_to o (room s.sending) len) (λ n. 0 < n)) (sym (in_use s id h found)) some)

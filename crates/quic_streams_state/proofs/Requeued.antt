@@ -1,17 +1,18 @@
 -- What is sent after a half in use changed, and the queue with it.
-use Rattle.std.proofs.Common.{◌≡◌, ℕ, Bool, true, false, Option, Some, None, Result, Ok, Err, OnOk, refl, ap, ◌∙◌}
+use Rattle.std.proofs.Common.{◌≡◌, ℕ, ◌+◌, ◌≤◌, Bool, true, false, List, [], ◌∷◌, length, take, Option, Some, None, Result, Ok, Err, OnOk, refl, ap, arith, ◌∙◌}
 use Rattle.std.specs.Prelude.{if◌then◌else◌}
 use Rattle.std.specs.Ordering.{nat_cmp}
 use Rattle.std.specs.BTreeMap.{is_at}
 use Rattle.std.proofs.lemmas.Map.Steps.{set_value_same}
+use Rattle.std.proofs.Math.Dec.{eqb-suc-zero}
 use Rattle.quic_send_buffer.specs.declared.stream_meta.StreamMeta.{StreamMeta}
 use Rattle.quic_streams_parts.specs.Table.{at, put}
 use Rattle.quic_streams_parts.specs.Queue.{Queue}
-use Rattle.quic_streams_parts.specs.SendHalf.{SendHalf, Queued, is_ready, frame_counts, half_after, turned}
+use Rattle.quic_streams_parts.specs.SendHalf.{SendHalf, Queued, is_ready, grown, requeued_at, frame_counts, half_after, turned}
 use Rattle.quic_streams_halves.specs.Halves.{Halves, changed, changed_at}
-use Rattle.quic_streams_halves.specs.Queued.{queue_with, unmoved, acked_with, acked_if_ready, lost_with, sent_if_counts, chunks_grown_with}
+use Rattle.quic_streams_halves.specs.Queued.{queue_with, unmoved, accepted_with, acked_with, acked_if_ready, lost_with, sent_if_counts}
 use Rattle.quic_streams_state.specs.Parts.{Sending}
-use Rattle.quic_streams_state.specs.Sends.{with_live_queued, chunks_grown_in, acked_in, acked_if_ready_in, lost_in, sent_in, sent_if_counts_in}
+use Rattle.quic_streams_state.specs.Sends.{with_live_queued, accepted_in, acked_in, acked_if_ready_in, lost_in, sent_in, sent_if_counts_in}
 
 -- what two facts of a call that went well come to
 pub on_both : {T E P Q R : Type 0} (r : Result T E) → OnOk r P → OnOk r Q → (P → Q → R) → OnOk r R
@@ -72,3 +73,20 @@ sent_is fair s id room hs q e g = both_changed (sent_if_counts fair id room s.qu
     go : (o : Option SendHalf) → at s.halves.live id ≡ o → together (sent_if_counts fair id room s.queue) o s id ≡ sent_if_counts_in fair o s id room
     go None found = refl
     go (Some h) found = by_counts (frame_counts h room) h found
+
+-- bytes were accepted
+pub accepted_is : (s : Sending) (id n : ℕ) (bytes : List ℕ) (hs : Halves SendHalf) (q : Queue) → n ≡ length bytes → (at s.halves.live id ≡ None → ⊥)
+    → hs ≡ changed (λ h. (accepted_with id bytes s.queue h).half) s.halves id → q ≡ queue_with (accepted_with id bytes s.queue) (at s.halves.live id) s.queue
+    → record s { halves = hs; queue = q; accepted = s.accepted + n } ≡ accepted_in (at s.halves.live id) s id bytes
+accepted_is s id n bytes hs q len used e g =
+    ap (λ (t : Sending). record t { accepted = s.accepted + n }) (both_changed (accepted_with id bytes s.queue) s id hs q e g)
+    ∙ ap (λ (k : ℕ). record (together (accepted_with id bytes s.queue) (at s.halves.live id) s id) { accepted = s.accepted + k }) len
+    ∙ go (at s.halves.live id) refl bytes
+  where
+    go : (o : Option SendHalf) → at s.halves.live id ≡ o → (bs : List ℕ) → record (together (accepted_with id bs s.queue) o s id) { accepted = s.accepted + length bs } ≡ accepted_in o s id bs
+    go None found bs = absurd (used found)
+    go (Some h) found [] = ap (λ (t : Sending). record t { accepted = s.accepted + 0 }) (stays s id h found) ∙ ap (λ (k : ℕ). record s { accepted = k }) (none s.accepted)
+      where
+        none : (k : ℕ) → k + 0 ≡ k
+        none k = omega arith
+    go (Some h) found (b ∷ bs) = rw (eqb-suc-zero (length bs)) refl

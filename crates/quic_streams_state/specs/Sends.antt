@@ -1,5 +1,5 @@
 -- What calls on one sending half leave of what is sent on all streams.
-use Rattle.std.specs.Prelude.{ℕ, ◌+◌, Bool, true, false, if◌then◌else◌, List, ◌∷◌, length, Option, Some, None}
+use Rattle.std.specs.Prelude.{ℕ, ◌+◌, ◌==◌, Bool, true, false, if◌then◌else◌, List, ◌∷◌, length, Option, Some, None}
 use Rattle.quic_wire_core.specs.declared.stream_id.Side.{Side}
 use Rattle.quic_send_buffer.specs.Source.{cut_to}
 use Rattle.quic_streams_parts.specs.Table.{put}
@@ -38,6 +38,11 @@ with_live_queued s id q = record s { halves = record s.halves { live = put s.hal
 abbrev pub chunks_grown_in : Option SendHalf → Sending → ℕ → ℕ → List (List ℕ) → Sending
 chunks_grown_in None s id n cs = s
 chunks_grown_in (Some h) s id n cs = record (with_live_queued s id (requeued_at h.place true s.queue id (grown_all h (cut_to n cs)))) { accepted = s.accepted + n }
+
+-- bytes that were accepted on a half in use wait to go; none leave all as it was
+abbrev pub accepted_in : Option SendHalf → Sending → ℕ → List ℕ → Sending
+accepted_in None s id bytes = s
+accepted_in (Some h) s id bytes = if length bytes == 0 then s else record (with_live_queued s id (requeued_at h.place true s.queue id (grown h bytes))) { accepted = s.accepted + length bytes }
 
 -- the end of a half in use waits to go
 abbrev pub finished_in : Option SendHalf → Sending → ℕ → Sending

@@ -1,12 +1,13 @@
 //! What is sent on all streams.
-ghost use Rattle.std.specs.Prelude.{◌≡◌, ◌≤◌, [], length, max, nat_le, false, IsSome, IsSomeAnd, IfSome, IfOk, OnOk, OnErr, Some, None, MatchOption, ◌∷◌};
+ghost use Rattle.std.specs.Prelude.{◌≡◌, ◌≢◌, ◌<◌, ◌≤◌, [], take, Err, length, max, nat_le, false, IsSome, IsSomeAnd, IfSome, IfOk, IsOkAnd, OnOk, OnErr, Some, None, MatchOption, ◌∷◌};
 ghost use Rattle.std.specs.Option.{option_copied};
 ghost use Rattle.quic_send_buffer.specs.Source.{bytes_of};
 ghost use Rattle.quic_streams_parts.specs.Table.{at};
-ghost use Rattle.quic_streams_parts.specs.SendHalf.{new_send_half, room_on};
+ghost use Rattle.quic_streams_parts.specs.SendHalf.{new_send_half, room_on, written_to};
+ghost use Rattle.quic_streams_parts.specs.declared.answers.WriteError.TheVariants as write_errors;
 ghost use Rattle.quic_streams_state.specs.Parts.{first_limit_in, room};
 ghost use Rattle.quic_streams_state.specs.Telling.{is_writable, unblocked_at, passed, after_passed};
-ghost use Rattle.quic_streams_state.specs.Sends.{blocked_in, blocked_fresh, chunks_grown_in, chunks_grown_half, finished_in, finished_half, reset_in};
+ghost use Rattle.quic_streams_state.specs.Sends.{blocked_in, blocked_fresh, accepted_in, chunks_grown_in, chunks_grown_half, finished_in, finished_half, reset_in};
 ghost use Rattle.quic_streams_parts.specs.Dirs.{no_count};
 ghost use Rattle.quic_streams_parts.specs.Queue.{no_queue, is_waiting, first_queued};
 ghost use Rattle.quic_streams_halves.specs.Halves.{no_halves, has_place, with_half, changed};
@@ -16,7 +17,7 @@ mod renewed;
 
 use bytes::Bytes;
 use quic_streams_halves::{PendingStreams, SendHalves, is_own};
-use quic_streams_parts::{ByDir, Send, rank_of};
+use quic_streams_parts::{ByDir, Send, WriteError, rank_of};
 use quic_wire_core::{Dir, Side, StreamId, VarInt};
 use std::alloc::{AllocError, Global};
 use std::collections::VecDeque;
@@ -258,6 +259,25 @@ impl Sending {
         self.send.write_all(id, chunks, len, &mut self.pending)?;
         self.data_sent += len as u64;
         Ok(())
+    }
+
+    /// Writes as many of the bytes to a half as fit, where the end is open: how many. [`WriteError::ClosedStream`] where the half isn't
+    /// in use. Any error changes nothing.
+    pub fn write(&mut self, id: StreamId, bytes: &[u8]) -> Result<usize, WriteError>
+        ensures answer { result ≢ Err write_errors.Memory → result ≡ written_to (at self.old.halves.live id) (room self.old) (length bytes.now) }
+        ensures ok { IfOk result (λ n. self.new ≡ accepted_in (at self.old.halves.live id) self.old id (take n bytes.now)) }
+        ensures err { OnErr result (self.new ≡ self.old) }
+        ensures lacking { result ≡ Err write_errors.Memory → IsOkAnd (written_to (at self.old.halves.live id) (room self.old) (length bytes.now)) (λ n. 0 < n) }
+    {
+        // The proof reads that all are below 2^64.
+        let _bounds = (self.send.buffered(), self.max_data.into_inner());
+        let _window = self.send_window;
+        let room = self.room();
+        let taken = self
+            .send
+            .write(id, bytes, room, self.alloc, &mut self.pending)?;
+        self.data_sent += taken as u64;
+        Ok(taken)
     }
 
     /// The first `len` bytes of chunks go behind those on a half that isn't in use, and on which

@@ -3,7 +3,7 @@ ghost use Rattle.std.specs.Prelude.{◌≡◌, ◌≢◌, ◌<◌, ◌≤◌, �
 ghost use Rattle.std.specs.Option.{option_copied};
 ghost use Rattle.quic_parameters.specs.Parameters.{AreInRange};
 ghost use Rattle.quic_streams_parts.specs.Table.{at};
-ghost use Rattle.quic_streams_parts.specs.SendHalf.{new_send_half, finish_of, written_to};
+ghost use Rattle.quic_streams_parts.specs.SendHalf.{new_send_half, finish_of};
 ghost use Rattle.quic_streams_parts.specs.Answered.{AnswersBreach, UnlessMemory, OnMemory};
 ghost use Rattle.quic_streams_state.specs.State.{new_streams, after_set_params, send_streams, remote_open_streams, sending_half, is_opened, sends_on};
 ghost use Rattle.quic_streams_state.specs.Opening.{opened_by, sending_refusal, open_answer, after_open, accept_answer, after_accept, max_streams_breach, after_max_streams};
@@ -28,7 +28,7 @@ use crate::sending::Sending;
 use bytes::Bytes;
 use quic_parameters::TransportParameters;
 use quic_retransmits::Retransmits;
-use quic_streams_halves::is_own;
+use quic_streams_halves::{is_own, written_to};
 use quic_streams_parts::{
     Breach, ByDir, ClosedStream, Events, FinishError, ReceivedError, Send, StreamEvent,
     UpdateError, WriteError, Written,
@@ -74,28 +74,6 @@ fn finish_of(half: &Send) -> Result<(), FinishError>
         return Err(FinishError::ClosedStream);
     }
     Ok(())
-}
-
-// What a write of so many bytes to a half is answered on an open end, where all streams together
-// have so much room.
-fn written_to(half: &Send, room: u64, len: usize) -> Result<usize, WriteError>
-    ensures answer { result ≡ written_to (Some half.now) room len }
-    ensures memory { result ≢ Err write_errors.Memory }
-{
-    if room == 0 {
-        return Err(WriteError::Blocked);
-    }
-    if !half.is_ready() {
-        return Err(WriteError::ClosedStream);
-    }
-    if let Some(code) = half.stop_reason() {
-        return Err(WriteError::Stopped(code));
-    }
-    let free = half.room();
-    if free == 0 {
-        return Err(WriteError::Blocked);
-    }
-    Ok((len as u64).min(room.min(free)) as usize)
 }
 
 impl StreamsState {
@@ -456,6 +434,28 @@ impl StreamsState {
         self.take_all(id, slice::from_ref(&piece), bytes.len(), asked)
     }
 
+    // What a write leaves and answers on an open end, whether the half of the stream is in use or not.
+    fn write_any(
+        &mut self,
+        id: StreamId,
+        bytes: &[u8],
+        pending: &mut Retransmits,
+    ) -> Result<usize, WriteError>
+        ensures answer { result ≢ Err write_errors.Memory → result ≡ write_answer true self.old id (length bytes.now) }
+        ensures new { self.new ≡ (written_by result self.old pending.old id bytes.now).state }
+        ensures pending { pending.new ≡ (written_by result self.old pending.old id bytes.now).pending }
+        ensures lacking { result ≡ Err write_errors.Memory → WriteMayLack (write_answer true self.old id (length bytes.now)) (sending_half self.old id) (room self.old.sending) }
+    {
+        let taken = match self.written(id, bytes.len()) {
+            Ok(taken) => taken,
+            Err(error) => return Err(self.refuse(id, error, pending)),
+        };
+        match self.take(id, &bytes[..taken], bytes.len()) {
+            Ok(()) => Ok(taken),
+            Err(_) => Err(WriteError::Memory),
+        }
+    }
+
     /// Writes as many of the bytes as fit, and says how many (RFC 9000, sections 2.2 and 4.1).
     ///
     /// [`WriteError::Blocked`] where the end isn't open; `ClosedStream` where there is no such stream, or its sending half is done;
@@ -478,13 +478,12 @@ impl StreamsState {
         if !is_open {
             return Err(WriteError::Blocked);
         }
-        let taken = match self.written(id, bytes.len()) {
-            Ok(taken) => taken,
-            Err(error) => return Err(self.refuse(id, error, pending)),
-        };
-        match self.take(id, &bytes[..taken], bytes.len()) {
-            Ok(()) => Ok(taken),
-            Err(_) => Err(WriteError::Memory),
+        match self.sending.write(id, bytes) {
+            Ok(taken) => Ok(taken),
+            Err(WriteError::Memory) => Err(WriteError::Memory),
+            // Its half may not be in use.
+            Err(WriteError::ClosedStream) => self.write_any(id, bytes, pending),
+            Err(error) => Err(self.refuse(id, error, pending)),
         }
     }
 
