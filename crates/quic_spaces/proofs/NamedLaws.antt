@@ -1,0 +1,235 @@
+-- What an ACK frame takes out of tracked packets.
+use Rattle.std.proofs.Common.{◌≡◌, ℕ, ◌≤◌, ◌<◌, Bool, true, false, not, ◌||◌, nat_le, cond, List, [], ◌∷◌, ◌++◌, filter, reverse, Option, Some, None, is_some, refl, sym, ap, ◌∙◌, subst, arith}
+use Rattle.std.specs.Option.{option_map}
+use Rattle.std.specs.List.{AllByRecursion}
+use Rattle.std.specs.Map.{keys_of}
+use Rattle.std.specs.BTreeMap.{is_at}
+use Rattle.std.specs.Ordering.{nat_cmp}
+use Rattle.std.specs.declared.cmp.Ordering.TheVariants.{Less}
+use Rattle.std.specs.Cmp.{unsigned_tied, ranked}
+use Rattle.std.proofs.lemmas.Bool.{leb-true, lt-leb, eq-eqb, and_parts, and_right}
+use Rattle.std.proofs.lemmas.List.{append_assoc, reverse-append}
+use Rattle.std.proofs.lemmas.Map.Keys.{sorted_head, sorted_tail}
+use Rattle.quic_wire.specs.AckGrammar.{Below}
+use Rattle.quic_streams_parts.specs.Table.{Table, at, without}
+use Rattle.quic_sent_packets.specs.Packets.{TrackedPacket, Ascends, newest, newest_behind, is_within, within}
+use Rattle.quic_spaces.specs.Named.{outside, is_among, among, apart_from, Descends}
+use Rattle.quic_spaces.proofs.Tails.{other_behind}
+
+less : (a b : ℕ) → nat_cmp a b ≡ Less → a < b
+less a b e = ranked a b Less (sym e)
+
+-- ---- the greatest number of a range is taken out
+
+-- what stays and what is found, where the last packet that passes a test is taken out
+record TakesLast (test : ℕ → Bool) (es rest : Table TrackedPacket) (n : ℕ) (v : TrackedPacket) : Type 0 where
+  pub found : at es n ≡ Some v
+  pub passes : filter (λ e. test e.0) (without es n) ≡ rest
+  pub others : filter (λ e. not (test e.0)) (without es n) ≡ filter (λ e. not (test e.0)) es
+
+takes_last : (test : ℕ → Bool) (es rest : Table TrackedPacket) (n : ℕ) (v : TrackedPacket) → Ascends es → filter (λ e. test e.0) es ≡ rest ++ (n, v) ∷ [] → TakesLast test es rest n v
+takes_last test [] [] n v up e = absurd cc
+takes_last test [] (y ∷ rest) n v up e = absurd cc
+takes_last test (x ∷ es) rest n v up e = go (test x.0) refl rest e (λ left. takes_last test es left n v (sorted_tail nat_cmp x.0 (keys_of es) up))
+  where
+    -- the packet stands behind the first
+    behind : (left : Table TrackedPacket) → TakesLast test es left n v → is_at (nat_cmp n) x.0 ≡ false
+    behind left t = other_behind es x.0 n v (sorted_head nat_cmp x.0 (keys_of es) up) t.found
+
+    go : (b : Bool) → test x.0 ≡ b → (left : Table TrackedPacket) → cond b (x ∷ filter (λ e. test e.0) es) (filter (λ e. test e.0) es) ≡ left ++ (n, v) ∷ [] → ((l : Table TrackedPacket) → filter (λ e. test e.0) es ≡ l ++ (n, v) ∷ [] → TakesLast test es l n v) → TakesLast test (x ∷ es) left n v
+    go true is [] f ih =
+        let first : x ≡ (n, v) = cc in
+        let none : filter (λ e. test e.0) es ≡ [] = cc in
+        let here : is_at (nat_cmp n) x.0 ≡ true = unsigned_tied n x.0 ∙ eq-eqb n x.0 (sym (ap (λ y. y.0) first)) in
+        record { found = rw here (ap (λ y. Some y.1) first); passes = rw here none; others = rw (here, is) refl }
+    go true is (y ∷ left) f ih =
+        let first : x ≡ y = cc in
+        let more : filter (λ e. test e.0) es ≡ left ++ (n, v) ∷ [] = cc in
+        let t = ih left more in
+        let apart = behind left t in
+        record { found = rw apart t.found; passes = rw (apart, is, t.passes) (ap (λ z. z ∷ left) first); others = rw (apart, is) t.others }
+    go false is left f ih =
+        let t = ih left f in
+        let apart = behind left t in
+        record { found = rw apart t.found; passes = rw (apart, is) t.passes; others = rw (apart, is) (ap (λ l. x ∷ l) t.others) }
+
+-- the packet with the greatest number of a range is there, and its map without it
+pub taken_last : (low high : ℕ) (es rest : Table TrackedPacket) (n : ℕ) (v : TrackedPacket) → Ascends es → within low high es ≡ rest ++ (n, v) ∷ [] → (at es n ≡ Some v) × (within low high (without es n) ≡ rest) × (outside low high (without es n) ≡ outside low high es)
+taken_last low high es rest n v up e = let t = takes_last (is_within low high) es rest n v up e in (t.found, t.passes, t.others)
+
+-- where no number lies within, all lie outside
+pub all_outside : (low high : ℕ) (es : Table TrackedPacket) → within low high es ≡ [] → outside low high es ≡ es
+all_outside low high [] none = refl
+all_outside low high (x ∷ es) none = go (is_within low high x.0) refl none (all_outside low high es)
+  where
+    go : (b : Bool) → is_within low high x.0 ≡ b → cond b (x ∷ within low high es) (within low high es) ≡ [] → (within low high es ≡ [] → outside low high es ≡ es) → cond (not b) (x ∷ outside low high es) (outside low high es) ≡ x ∷ es
+    go true is f ih = absurd cc
+    go false is f ih = ap (λ l. x ∷ l) (ih f)
+
+-- ---- the ranges of an ACK frame, one below the other
+
+-- a number from the end of these ranges on is in none of them
+none_has : (low n : ℕ) (rs : List (ℕ × ℕ)) → Below low rs → low ≤ n → is_among rs n ≡ false
+none_has low n [] below le = refl
+none_has low n (r ∷ rs) below le =
+    let under = below.1 in
+    let start = below.0 in
+    let past : nat_le n r.1 ≡ false = lt-leb n r.1 (omega arith) in
+    let here : is_within r.0 r.1 n ≡ false = and_right (nat_le r.0 n) (nat_le n r.1) past in
+    rw here (none_has r.0 n rs below.2 (omega arith))
+
+-- behind such a number no packet is in them
+none_among : (low m a z : ℕ) (rs : List (ℕ × ℕ)) (es : Table TrackedPacket) → Below low rs → low ≤ m → AllByRecursion (λ y. nat_cmp m y ≡ Less) (keys_of es) → among rs (outside a z es) ≡ []
+none_among low m a z rs [] below le above = refl
+none_among low m a z rs (x ∷ es) below le above = go (is_within a z x.0) (none_among low m a z rs es below le above.1)
+  where
+    go : (b : Bool) → among rs (outside a z es) ≡ [] → among rs (cond (not b) (x ∷ outside a z es) (outside a z es)) ≡ []
+    go true ih = ih
+    go false ih = let l = less m x.0 above.0 in rw (none_has low x.0 rs below (omega arith)) ih
+
+-- the packets of a range stand behind those of the ranges below it
+among_first : (low high : ℕ) (rs : List (ℕ × ℕ)) (es : Table TrackedPacket) → Ascends es → Below low rs → among ((low, high) ∷ rs) es ≡ among rs (outside low high es) ++ within low high es
+among_first low high rs [] up below = refl
+among_first low high rs (x ∷ es) up below = go (is_within low high x.0) refl (among_first low high rs es (sorted_tail nat_cmp x.0 (keys_of es) up) below)
+  where
+    go : (b : Bool) → is_within low high x.0 ≡ b → among ((low, high) ∷ rs) es ≡ among rs (outside low high es) ++ within low high es
+        → cond (b || is_among rs x.0) (x ∷ among ((low, high) ∷ rs) es) (among ((low, high) ∷ rs) es) ≡ among rs (cond (not b) (x ∷ outside low high es) (outside low high es)) ++ cond b (x ∷ within low high es) (within low high es)
+    go true is ih =
+        let from = leb-true low x.0 (and_parts (nat_le low x.0) (nat_le x.0 high) is).0 in
+        let none : among rs (outside low high es) ≡ [] = none_among low x.0 low high rs es below from (sorted_head nat_cmp x.0 (keys_of es) up) in
+        let rest : among ((low, high) ∷ rs) es ≡ within low high es = ih ∙ ap (λ l. l ++ within low high es) none in
+        rw (none, rest) refl
+    go false is ih = else (is_among rs x.0) ih
+      where
+        else : (d : Bool) → among ((low, high) ∷ rs) es ≡ among rs (outside low high es) ++ within low high es
+            → cond d (x ∷ among ((low, high) ∷ rs) es) (among ((low, high) ∷ rs) es) ≡ cond d (x ∷ among rs (outside low high es)) (among rs (outside low high es)) ++ within low high es
+        else true ih = ap (λ l. x ∷ l) ih
+        else false ih = ih
+
+-- what no range has is what lies outside the first, and what none of the others has of that
+apart_first : (low high : ℕ) (rs : List (ℕ × ℕ)) (es : Table TrackedPacket) → apart_from ((low, high) ∷ rs) es ≡ apart_from rs (outside low high es)
+apart_first low high rs [] = refl
+apart_first low high rs (x ∷ es) = go (is_within low high x.0) (is_among rs x.0) refl (apart_first low high rs es)
+  where
+    go : (b d : Bool) → is_among rs x.0 ≡ d → apart_from ((low, high) ∷ rs) es ≡ apart_from rs (outside low high es)
+        → cond (not (b || d)) (x ∷ apart_from ((low, high) ∷ rs) es) (apart_from ((low, high) ∷ rs) es) ≡ apart_from rs (cond (not b) (x ∷ outside low high es) (outside low high es))
+    go true d is ih = ih
+    go false true is ih = rw is ih
+    go false false is ih = rw is (ap (λ l. x ∷ l) ih)
+
+-- the ranges below a number go down
+pub below_descends : (low : ℕ) (rs : List (ℕ × ℕ)) → Below low rs → Descends rs
+below_descends low [] below = tt
+below_descends low (r ∷ rs) below = (below.0, below.2)
+
+-- no ranges take nothing
+pub among_none : (es : Table TrackedPacket) → among [] es ≡ []
+among_none [] = refl
+among_none (x ∷ es) = among_none es
+
+-- and leave all
+pub apart_from_none : (es : Table TrackedPacket) → apart_from [] es ≡ es
+apart_from_none [] = refl
+apart_from_none (x ∷ es) = ap (λ l. x ∷ l) (apart_from_none es)
+
+-- ---- the last of some packets
+
+behind_last : (p : ℕ × TrackedPacket) (ps : Table TrackedPacket) → (rest : Table TrackedPacket) × (p ∷ ps ≡ rest ++ newest_behind p ps ∷ [])
+behind_last p [] = ([], refl)
+behind_last p (q ∷ qs) = let r = behind_last q qs in (p ∷ r.0, ap (λ (l : Table TrackedPacket). p ∷ l) r.1)
+
+-- where there is a last number, its packet is the last
+pub has_last : (ps : Table TrackedPacket) (n : ℕ) → option_map (λ p. p.0) (newest ps) ≡ Some n → (rest : Table TrackedPacket) × (v : TrackedPacket) × (ps ≡ rest ++ (n, v) ∷ [])
+has_last [] n e = absurd cc
+has_last (p ∷ ps) n e =
+    let r = behind_last p ps in
+    let same : (newest_behind p ps).0 ≡ n = cc in
+    (r.0, (newest_behind p ps).1, r.1 ∙ ap (λ (m : ℕ). r.0 ++ (m, (newest_behind p ps).1) ∷ []) same)
+
+-- where there is none, there are none
+pub has_none : (ps : Table TrackedPacket) → option_map (λ p. p.0) (newest ps) ≡ None → ps ≡ []
+has_none [] e = refl
+has_none (p ∷ ps) e = absurd cc
+
+-- ---- ranges below all packets
+
+-- where no packet lies up to the end of the first range, none is in any
+pub stops : (low high : ℕ) (rs : List (ℕ × ℕ)) (es : Table TrackedPacket) → Descends ((low, high) ∷ rs) → within 0 high es ≡ [] → (among ((low, high) ∷ rs) es ≡ []) × (apart_from ((low, high) ∷ rs) es ≡ es)
+stops low high rs [] down none = (refl, refl)
+stops low high rs (x ∷ es) down none = go (is_within 0 high x.0) refl none (λ left. stops low high rs es down left)
+  where
+    go : (b : Bool) → is_within 0 high x.0 ≡ b → cond b (x ∷ within 0 high es) (within 0 high es) ≡ [] → (within 0 high es ≡ [] → (among ((low, high) ∷ rs) es ≡ []) × (apart_from ((low, high) ∷ rs) es ≡ es)) → (among ((low, high) ∷ rs) (x ∷ es) ≡ []) × (apart_from ((low, high) ∷ rs) (x ∷ es) ≡ x ∷ es)
+    go true is f ih = absurd cc
+    go false is f ih =
+        let past : high < x.0 = grind arith in
+        let first : nat_le x.0 high ≡ false = lt-leb x.0 high past in
+        let apart : is_within low high x.0 ≡ false = and_right (nat_le low x.0) (nat_le x.0 high) first in
+        let order : low ≤ high = down.0 in
+        let others : is_among rs x.0 ≡ false = none_has low x.0 rs down.1 (omega arith) in
+        let r = ih f in
+        (rw (apart, others) r.0, rw (apart, others) (ap (λ (l : Table TrackedPacket). x ∷ l) r.1))
+
+-- ---- steps
+
+-- one packet more is taken, and the others are taken as before
+pub takes_on : (ps qs all taken more : Table TrackedPacket) (p : ℕ × TrackedPacket) → ps ≡ qs ++ p ∷ [] → more ≡ taken ++ p ∷ [] → ps ++ reverse taken ≡ all → qs ++ reverse more ≡ all
+takes_on ps qs all taken more p e pushed so_far =
+    ap (λ (xs : Table TrackedPacket). qs ++ reverse xs) pushed
+    ∙ ap (λ (xs : Table TrackedPacket). qs ++ xs) (reverse-append taken (p ∷ []))
+    ∙ sym (append_assoc qs (p ∷ []) (reverse taken))
+    ∙ ap (λ (xs : Table TrackedPacket). xs ++ reverse taken) (sym e)
+    ∙ so_far
+
+-- the packets of one range are taken out: what is left to take, taken, gives the same
+pub ranges_step : (low high : ℕ) (all rs : List (ℕ × ℕ)) (es new : Table TrackedPacket) (taken more end : Table TrackedPacket) → all ≡ (low, high) ∷ rs → Ascends es → Descends all → new ≡ outside low high es → reverse more ≡ within low high es ++ reverse taken → among all es ++ reverse taken ≡ end → among rs new ++ reverse more ≡ end
+ranges_step low high all rs es new taken more end ranges up down left took so_far =
+    let below : Descends ((low, high) ∷ rs) = subst Descends ranges down in
+    let parts = ap (λ (l : List (ℕ × ℕ)). among l es) ranges ∙ among_first low high rs es up below.1 in
+    ap (λ (ps : Table TrackedPacket). among rs ps ++ reverse more) left
+    ∙ ap (λ (xs : Table TrackedPacket). among rs (outside low high es) ++ xs) took
+    ∙ sym (append_assoc (among rs (outside low high es)) (within low high es) (reverse taken))
+    ∙ ap (λ (xs : Table TrackedPacket). xs ++ reverse taken) (sym parts)
+    ∙ so_far
+
+-- and what is left then is the same
+pub ranges_left : (low high : ℕ) (all rs : List (ℕ × ℕ)) (es new end : Table TrackedPacket) → all ≡ (low, high) ∷ rs → new ≡ outside low high es → apart_from all es ≡ end → apart_from rs new ≡ end
+ranges_left low high all rs es new end ranges left so_far = ap (apart_from rs) left ∙ sym (apart_first low high rs es) ∙ ap (λ l. apart_from l es) (sym ranges) ∙ so_far
+
+-- ---- the last packet of a range
+
+-- it is there, and what is left without it
+pub record IsLast (low high : ℕ) (es : Table TrackedPacket) (n : ℕ) : Type 0 where
+  pub packet : TrackedPacket
+  pub there : at es n ≡ Some packet
+  pub within : within low high es ≡ within low high (without es n) ++ (n, packet) ∷ []
+  pub outside : outside low high (without es n) ≡ outside low high es
+
+pub is_last : (low high n : ℕ) (es : Table TrackedPacket) → Ascends es → Some n ≡ option_map (λ p. p.0) (newest (within low high es)) → IsLast low high es n
+is_last low high n es up last =
+    let found = has_last (within low high es) n (sym last) in
+    let t = taken_last low high es found.0 n found.1 up found.2 in
+    record { packet = found.1; there = t.0; within = found.2 ∙ ap (λ (l : Table TrackedPacket). l ++ (n, found.1) ∷ []) (sym t.1); outside = t.2 }
+
+-- the packet that was taken out is the last
+pub last_within : (low high n : ℕ) (es new : Table TrackedPacket) (v : TrackedPacket) → IsLast low high es n → Some v ≡ at es n → new ≡ without es n → within low high es ≡ within low high new ++ (n, v) ∷ []
+last_within low high n es new v l there left =
+    let same : v ≡ l.packet = cc (there ∙ l.there) in
+    l.within ∙ ap (λ (p : TrackedPacket). within low high (without es n) ++ (n, p) ∷ []) (sym same) ∙ ap (λ (es : Table TrackedPacket). within low high es ++ (n, v) ∷ []) (sym left)
+
+pub none_last : (low high n : ℕ) (es : Table TrackedPacket) → IsLast low high es n → None ≡ at es n → ⊥
+none_last low high n es l none = let e = none ∙ l.there in cc
+
+pub last_outside : (low high n : ℕ) (es new : Table TrackedPacket) → IsLast low high es n → new ≡ without es n → outside low high new ≡ outside low high es
+last_outside low high n es new l left = ap (outside low high) left ∙ l.outside
+
+-- ---- the early end
+
+pub was_none : (o : Option ℕ) (none : Bool) → is_some o ≡ not none → none ≡ true → o ≡ None
+was_none None none is e = refl
+was_none (Some n) none is e = let no : true ≡ false = is ∙ ap not e in absurd cc
+
+-- where nothing lies up to the end of the first range, nothing is taken
+pub stops_at : (low high : ℕ) (rs all : List (ℕ × ℕ)) (es : Table TrackedPacket) → all ≡ (low, high) ∷ rs → Descends all → option_map (λ p. p.0) (newest (within 0 high es)) ≡ None → (among all es ≡ []) × (apart_from all es ≡ es)
+stops_at low high rs all es e down none =
+    let s = stops low high rs es (subst Descends e down) (has_none (within 0 high es) none) in
+    (ap (λ (l : List (ℕ × ℕ)). among l es) e ∙ s.0, ap (λ (l : List (ℕ × ℕ)). apart_from l es) e ∙ s.1)

@@ -1,0 +1,14 @@
+pub mod Numbers
+pub mod Filter
+pub mod Tracking
+pub mod Tail
+pub mod Named
+pub mod Views
+pub mod Loss
+pub mod Walks
+pub mod Persistent
+pub mod PersistentSteps
+pub mod Acknowledging
+pub mod Records
+pub mod Space
+pub mod Probes
