@@ -26,3 +26,12 @@ pub use Rattle.quic_recovery_core.specs.AckSteps
 pub use Rattle.quic_recovery_core.specs.CidQueue
 pub use Rattle.quic_recovery_core.specs.AckFrequency
 pub use Rattle.quic_recovery_core.specs.CidState
+pub use Rattle.quic_sent_packets.specs.Packets
+pub use Rattle.quic_spaces.specs.Numbers
+pub use Rattle.quic_spaces.specs.Filter
+pub use Rattle.quic_spaces.specs.Tracking
+pub use Rattle.quic_spaces.specs.Loss
+pub use Rattle.quic_spaces.specs.Persistent
+pub use Rattle.quic_spaces.specs.Acknowledging
+pub use Rattle.quic_spaces.specs.Records
+pub use Rattle.quic_spaces.specs.Space
