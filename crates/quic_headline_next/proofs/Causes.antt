@@ -1,0 +1,10 @@
+-- Why ends close between honest ends.
+pub mod Closing
+pub mod UsedUp
+pub mod Come
+pub mod Runs
+pub mod Crowded
+pub mod Shown
+pub mod Judged
+pub mod Pieces
+pub mod Blameless

@@ -1,0 +1,236 @@
+-- What a delivery comes to: nothing that is new, or a packet that the other end sent, taken or refused; and what came stays so by more calls.
+use Rattle.std.proofs.Common.{◌≡◌, ℕ, suc, ◌&&◌, Bool, true, false, List, [], ◌∷◌, ◌++◌, length, map, Option, Some, None, Ok, refl, sym, ap, ◌∙◌, subst, inl, inr, arith}
+use Rattle.std.specs.Prelude.{slice_get}
+use Rattle.std.proofs.lemmas.List.{append_assoc}
+use Rattle.quic_wire.specs.Value.{FrameValue}
+use Rattle.quic_wire.specs.Items.{items}
+use Rattle.quic_packet.specs.Datagram.{Opening}
+use Rattle.quic_packet.specs.Destination.{is_known}
+use Rattle.quic_machine_next.specs.declared.answers.State.{State}
+use Rattle.quic_machine_next.specs.declared.answers.State.TheVariants as states
+use Rattle.quic_machine_next.specs.declared.answers.Received.TheVariants.{Taken, Closed}
+use Rattle.quic_machine_next.specs.declared.run.Call.TheVariants as calls
+use Rattle.quic_machine_next.specs.declared.run.Delivery.{Delivery}
+use Rattle.quic_machine_next.specs.declared.run.Answer.{Answer}
+use Rattle.quic_machine_next.specs.declared.run.Answer.TheVariants as answers
+use Rattle.quic_machine_next.specs.Policy.{Policy}
+use Rattle.quic_machine_next.specs.Closing.{Closing}
+use Rattle.quic_machine_next.specs.Opens.{opens}
+use Rattle.quic_machine_next.specs.Receive.{Fault, error_of, reason_of, Outcome, asks_in, after_taken, received}
+use Rattle.quic_machine_next.specs.End.{End}
+use Rattle.quic_machine_next.specs.Machine.{IsAnswer, IsDelivered, after_delivered, after_call, fails}
+use Rattle.quic_machine_next.specs.FrameCases.{begun}
+use Rattle.quic_headline_next.specs.Runs.{Told, Intake, In, frames_of, is_again, expected_behind, handed, and_opened, and_handed}
+use Rattle.quic_headline_next.specs.Observer.{Sent}
+use Rattle.quic_headline_next.specs.Causes.{came_by, PacketCame, IsCrowded, CrowdCame, most_runs}
+use Rattle.quic_headline_next.proofs.Packets.Invariant.{IsSent}
+use Rattle.quic_headline_next.proofs.Packets.Growth.{get_front, step_at}
+use Rattle.quic_headline_next.proofs.Packets.Stays.{keeps_frames}
+use Rattle.quic_headline_next.proofs.Packets.Delivered.{Arrivals, arrived, with_refused, with_taken, shown, shown_if, expands, opens_given, frames_of_payload, by_arrival}
+use Rattle.quic_headline_next.proofs.Places.Parties.{told_of, Party, came_to, AreJoined}
+use Rattle.quic_headline_next.proofs.Places.Coming.{Meets}
+use Rattle.quic_headline_next.proofs.Causes.Closing.{Keeps}
+use Rattle.quic_headline_next.proofs.Causes.Crowded.{IsCrowdedBy}
+
+-- ---- what came stays so by more calls
+
+abbrev packet_more : (p : Policy) (ids given : List (List ℕ)) (told : List Told) (t : Told) → PacketCame p ids given told → PacketCame p ids given (told ++ t ∷ [])
+packet_more p ids given told t c = record {
+  before = c.before;
+  call = c.call;
+  behind = c.behind ++ t ∷ [];
+  split = ap (λ (ts : List Told). ts ++ t ∷ []) c.split ∙ append_assoc c.before (c.call ∷ c.behind) (t ∷ []);
+  was_open = c.was_open;
+  datagram = c.datagram;
+  handed_in = c.handed_in;
+  opening = c.opening;
+  opened = c.opened;
+  new = c.new;
+}
+
+pub crowd_more : (p : Policy) (ids given : List (List ℕ)) (told : List Told) (t : Told) → CrowdCame p ids given told → CrowdCame p ids given (told ++ t ∷ [])
+crowd_more p ids given told t m = record {
+  packet = packet_more p ids given told t m.packet;
+  crowded = record { front = m.crowded.front; frame = m.crowded.frame; rest = m.crowded.rest; frames = m.crowded.frames; many = m.crowded.many };
+}
+
+-- ---- a delivery
+
+module _ (x y : Party) (delivery : Delivery) (a : Answer) where
+  -- what is told of it
+  abbrev pub now_told : Told
+  now_told = told_of (calls.Deliver delivery) a x.end.closing.state
+
+  abbrev pub then : List Told
+  then = x.told ++ now_told ∷ []
+
+  -- a packet that came by calls up to this one
+  abbrev pub CameThen : Type 0
+  CameThen = PacketCame x.policy (x.id ∷ []) y.final then
+
+  -- The packet of what y sent so came by this call, and no other.
+  pub record IsNew (s : Sent) : Type 0 where
+    pub packet : CameThen
+    pub before : packet.before ≡ x.told
+    pub call : packet.call ≡ now_told
+    pub number : packet.opening.number ≡ s.number
+    pub frames : frames_of (items packet.opening.payload) ≡ s.frames
+    pub alone : (h : CameThen) → h.before ≡ x.told → h.call ≡ now_told → h.opening ≡ packet.opening
+
+  -- what it leaves of x
+  pub data Judged (after : End) : Type 0 where
+    -- no packet that is new came
+    nothing : Keeps x.end after → ((h : CameThen) → h.before ≡ x.told → h.call ≡ now_told → ⊥) → Judged after
+    -- one came, and was taken
+    taken : (s : Sent) → In s y.sents → IsNew s → x.end.closing.state ≡ states.Open → (arrived x.end delivery.now s.number s.frames).fault ≡ None → a ≡ answers.Deliver Taken → Keeps x.end after → Judged after
+    -- one came, and was refused
+    refused : (s : Sent) → In s y.sents → IsNew s → x.end.closing.state ≡ states.Open → (f : Fault) → (arrived x.end delivery.now s.number s.frames).fault ≡ Some f → a ≡ answers.Deliver (Closed (error_of f))
+        → after.closing.reason ≡ Some (reason_of f) → after.closing.state ≡ states.Drained → Judged after
+
+  -- where the packet is crowded, it is so by what the lists say
+  pub crowd_is : (s : Sent) → IsCrowdedBy x.told (came_to x y).took s.number s.frames → (n : IsNew s) → (h : CameThen) → h.before ≡ x.told → h.call ≡ now_told → IsCrowded x.policy (x.id ∷ []) y.final then h most_runs
+  crowd_is s c n h same call = record {
+    front = c.front;
+    frame = c.frame;
+    rest = c.rest;
+    frames = ap (λ (o : Opening). frames_of (items o.payload)) (n.alone h same call) ∙ n.frames ∙ c.split;
+    many = rw (same, n.alone h same call, n.number) c.many;
+  }
+
+  module _ (joined : AreJoined x y) (meets : Meets y x) (s : Sent) (among : In s y.sents) (d : List ℕ) (given : IsSent y.policy x.id s d) (at_final : slice_get y.final delivery.index ≡ Some d) (is : a ≡ answers.Deliver (received x.policy x.end delivery.now d).answer) where
+    abbrev i : Intake
+    i = came_to x y
+
+    abbrev now : ℕ
+    now = delivery.now
+
+    abbrev n : ℕ
+    n = s.number
+
+    abbrev frames : List FrameValue
+    frames = s.frames
+
+    -- what becomes of x, by an outcome and by what came then
+    data Met (o : Outcome) (j : Intake) : Type 0 where
+      met_nothing : Keeps x.end o.end → (x.end.closing.state ≡ states.Open → j ≡ i) → Met o j
+      met_taken : x.end.closing.state ≡ states.Open → is_again n i.opened ≡ false → (arrived x.end now n frames).fault ≡ None → o.answer ≡ Taken → Keeps x.end o.end → j ≡ with_taken i n frames → Met o j
+      met_refused : x.end.closing.state ≡ states.Open → is_again n i.opened ≡ false → (f : Fault) → (arrived x.end now n frames).fault ≡ Some f → o.answer ≡ Closed (error_of f) → o.end.closing.reason ≡ Some (reason_of f) → o.end.closing.state ≡ states.Drained
+          → j ≡ with_refused i n frames → Met o j
+
+    keeps_taken : Keeps x.end (after_taken n (asks_in (map Ok frames)) (arrived x.end now n frames).end)
+    keeps_taken =
+        let k = keeps_frames frames (begun x.end now n) in
+        record { reason = ap (λ (c : Closing). c.reason) k.closing; state = ap (λ (c : Closing). c.state) k.closing }
+
+    cases : Arrivals x.end now n frames i Met
+    cases = record {
+      ignored = λ reason. met_nothing (record { reason = refl; state = refl }) (λ still. refl);
+      noted = λ state reason. met_nothing (record { reason = refl; state = refl }) (λ still. refl);
+      takes = λ still_open new none. met_taken still_open new none refl keeps_taken refl;
+      refuses = λ still_open new f fault. met_refused still_open new f fault refl refl refl refl;
+    }
+
+    -- what came then
+    abbrev next : Intake
+    next = and_handed x.end.closing.state (Some d) x.policy (answers.Deliver (received x.policy x.end now d).answer) i
+
+    met : Met (received x.policy x.end now d) next
+    met = by_arrival y.policy x.policy x.id n s.reference frames d given x.end now i Met joined.to_x joined.y_lawful joined.x_long meets.known meets.knows cases
+
+    abbrev opening : Opening
+    opening = shown n s.reference given.payload
+
+    -- what opened is new where one more opened then
+    opened_is : x.end.closing.state ≡ states.Open → length next.opened ≡ suc (length i.opened) → opens x.policy i.ids (expected_behind i.took) d ≡ Some opening
+    opened_is still_open more = go (is_known x.id i.ids && expands n s.reference (expected_behind i.took)) refl
+      where
+        shows : (b : Bool) → (is_known x.id i.ids && expands n s.reference (expected_behind i.took)) ≡ b → opens x.policy i.ids (expected_behind i.took) d ≡ shown_if b n s.reference given.payload
+        shows b e = opens_given y.policy x.policy x.id n s.reference frames d given joined.to_x joined.y_lawful joined.x_long i.ids (expected_behind i.took) ∙ ap (λ (b : Bool). shown_if b n s.reference given.payload) e
+
+        none_came : opens x.policy i.ids (expected_behind i.took) d ≡ None → next ≡ i
+        none_came none =
+            ap (λ (state : State). and_handed state (Some d) x.policy (answers.Deliver (received x.policy x.end now d).answer) i) still_open
+            ∙ ap (λ (o : Option Opening). and_opened o (answers.Deliver (received x.policy x.end now d).answer) i) none
+
+        go : (b : Bool) → (is_known x.id i.ids && expands n s.reference (expected_behind i.took)) ≡ b → opens x.policy i.ids (expected_behind i.took) d ≡ Some opening
+        go true e = shows true e
+        go false e =
+            let same : length next.opened ≡ length i.opened = ap (λ (j : Intake). length j.opened) (none_came (shows false e)) in
+            absurd (omega arith)
+
+    -- what the call handed in
+    handed_now : handed y.final (calls.Deliver delivery) a ≡ Some d
+    handed_now = ap (λ (b : Answer). handed y.final (calls.Deliver delivery) b) is ∙ at_final
+
+    datagram_is : (h : CameThen) → h.call ≡ now_told → h.datagram ≡ d
+    datagram_is h call = let both : Some h.datagram ≡ Some d = sym h.handed_in ∙ ap (λ (t : Told). handed y.final t.call t.answer) call ∙ handed_now in cc
+
+    opens_now : (h : CameThen) → h.before ≡ x.told → h.call ≡ now_told → opens x.policy i.ids (expected_behind i.took) d ≡ Some h.opening
+    opens_now h same call =
+        ap (λ (ts : List Told). opens x.policy (came_by x.policy (x.id ∷ []) y.final ts).ids (expected_behind (came_by x.policy (x.id ∷ []) y.final ts).took) d) (sym same)
+        ∙ ap (λ (ds : List ℕ). opens x.policy (came_by x.policy (x.id ∷ []) y.final h.before).ids (expected_behind (came_by x.policy (x.id ∷ []) y.final h.before).took) ds) (sym (datagram_is h call))
+        ∙ h.opened
+
+    -- the packet that came
+    is_new : x.end.closing.state ≡ states.Open → is_again n i.opened ≡ false → length next.opened ≡ suc (length i.opened) → IsNew s
+    is_new still_open new more = record {
+      packet = this;
+      before = refl;
+      call = refl;
+      number = refl;
+      frames = frames_of_payload frames given.payload given.spells;
+      alone = λ h same call. (let both : Some h.opening ≡ Some opening = sym (opens_now h same call) ∙ opened_is still_open more in cc);
+    }
+      where
+        this : CameThen
+        this = record {
+          before = x.told;
+          call = now_told;
+          behind = [];
+          split = refl;
+          was_open = still_open;
+          datagram = d;
+          handed_in = handed_now;
+          opening = opening;
+          opened = opened_is still_open more;
+          new = new;
+        }
+
+    -- where nothing more came, no packet that is new did
+    none_new : (x.end.closing.state ≡ states.Open → next ≡ i) → (h : CameThen) → h.before ≡ x.told → h.call ≡ now_told → ⊥
+    none_new none h same call =
+        let still_open : x.end.closing.state ≡ states.Open = ap (λ (t : Told). t.state) (sym call) ∙ h.was_open in
+        let next_is : next ≡ and_opened (Some h.opening) (answers.Deliver (received x.policy x.end now d).answer) i =
+        ap (λ (state : State). and_handed state (Some d) x.policy (answers.Deliver (received x.policy x.end now d).answer) i) still_open
+        ∙ ap (λ (o : Option Opening). and_opened o (answers.Deliver (received x.policy x.end now d).answer) i) (opens_now h same call) in
+        let new : is_again h.opening.number i.opened ≡ false = ap (λ (ts : List Told). is_again h.opening.number (came_by x.policy (x.id ∷ []) y.final ts).opened) (sym same) ∙ h.new in
+        let count : length i.opened ≡ suc (length i.opened) = ap (λ (j : Intake). length j.opened) (sym (none still_open) ∙ next_is) ∙ fresh h.opening (answers.Deliver (received x.policy x.end now d).answer) i new in
+        omega arith
+      where
+        fresh : (o : Opening) (b : Answer) (j : Intake) → is_again o.number j.opened ≡ false → length (and_opened (Some o) b j).opened ≡ suc (length j.opened)
+        fresh o b j new = rw new refl
+
+    judged_met : Judged (received x.policy x.end now d).end
+    judged_met = go met
+      where
+        go : Met (received x.policy x.end now d) next → Judged (received x.policy x.end now d).end
+        go (met_nothing keeps none) = nothing keeps (none_new none)
+        go (met_taken still_open new none answer keeps came) = taken s among (is_new still_open new (ap (λ (j : Intake). length j.opened) came)) still_open none (is ∙ ap (λ r. answers.Deliver r) answer) keeps
+        go (met_refused still_open new f fault answer reason state came) = refused s among (is_new still_open new (ap (λ (j : Intake). length j.opened) came)) still_open f fault (is ∙ ap (λ r. answers.Deliver r) answer) reason state
+
+  -- a delivery, by whether there is such a datagram
+  judged_at : AreJoined x y → Meets y x → fails a ≡ false → (o : Option (List ℕ)) → slice_get y.given delivery.index ≡ o → IsDelivered x.policy x.end delivery.now o a → Judged (after_delivered x.policy x.end delivery.now o)
+  judged_at joined meets served None at is = nothing (record { reason = refl; state = refl }) (λ h same call. none h call)
+    where
+      none : (h : CameThen) → h.call ≡ now_told → ⊥
+      none h call = let clash : Some h.datagram ≡ None = sym h.handed_in ∙ ap (λ (t : Told). handed y.final t.call t.answer) call ∙ ap (λ (b : Answer). handed y.final (calls.Deliver delivery) b) is in cc
+  judged_at joined meets served (Some d) at (inr is) = cc
+  judged_at joined meets served (Some d) at (inl is) =
+      let found = step_at (IsSent y.policy x.id) y.sents y.given delivery.index d meets.each at in
+      let more = joined.y_more in
+      let there : slice_get y.final delivery.index ≡ Some d = subst (λ (ds : List (List ℕ)). slice_get ds delivery.index ≡ Some d) more.1 (get_front y.given more.0 delivery.index d at) in
+      judged_met joined meets found.0 found.1 d found.2 there is
+
+  -- any delivery
+  pub judged : AreJoined x y → Meets y x → fails a ≡ false → IsAnswer x.policy x.end y.given (calls.Deliver delivery) a → Judged (after_call x.policy x.end y.given (calls.Deliver delivery) a)
+  judged joined meets served is = judged_at joined meets served (slice_get y.given delivery.index) refl is

@@ -1,0 +1,22 @@
+-- What passes between honest ends: each frame that one gave breaks no rule at the other, but that of pieces.
+pub mod Passing
+pub mod Counted
+pub mod Given
+pub mod Stops
+pub mod Names
+pub mod Counts
+pub mod Plain
+pub mod Passes
+pub mod Below
+pub mod Received
+pub mod Told
+pub mod Heard
+pub mod Sums
+pub mod Seen
+pub mod Accepted
+pub mod AllStreams
+pub mod Sizes
+pub mod Assembled
+pub mod Passed
+pub mod Within
+pub mod Clauses

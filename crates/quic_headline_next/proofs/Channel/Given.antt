@@ -1,0 +1,327 @@
+-- Frames that an end may give: of streams that it knows, and counts that it keeps; and so they stay, since streams only open and counts only grow.
+use Rattle.std.proofs.Common.{◌≡◌, ℕ, zero, suc, ◌+◌, ◌-◌, ◌≤◌, Bool, true, false, not, List, [], ◌∷◌, ◌++◌, length, replicate, Option, Some, None, refl, sym, ap, ◌∙◌, subst, inl, inr, arith}
+use Rattle.std.specs.Prelude.{if◌then◌else◌, ◌&&◌, ◌||◌, nat_lt}
+use Rattle.std.specs.Option.{option_map}
+use Rattle.std.proofs.lemmas.Bool.{and_parts, cond_both}
+use Rattle.quic_wire_core.specs.declared.stream_id.Dir.{Dir}
+use Rattle.quic_wire_core.specs.declared.stream_id.Dir.TheVariants.{Bi, Uni}
+use Rattle.quic_wire_core.specs.declared.stream_id.Side.{Side}
+use Rattle.quic_wire_core.specs.StreamId.{dir_of, index_of}
+use Rattle.quic_packet.specs.Number.{truncated}
+use Rattle.quic_wire.specs.Value.{FrameValue, StopSendingValue, padding, ping, stream, reset_stream, stop_sending, max_data, max_stream_data, max_streams, data_blocked, stream_data_blocked, streams_blocked, new_token, handshake_done}
+use Rattle.quic_wire.specs.FrameView.{is_one_way}
+use Rattle.quic_streams_parts.specs.Dirs.{of, is_own, is_two_way}
+use Rattle.quic_streams_parts.specs.Table.{at}
+use Rattle.quic_streams_parts.specs.SendHalf.{SendHalf, frame_of}
+use Rattle.quic_streams_parts.specs.RecvHalf.{RecvHalf, takes_limits, raised_on}
+use Rattle.quic_streams_halves.specs.Halves.{is_done}
+use Rattle.quic_retransmits.specs.Retransmits.{Retransmits, others_of, merged}
+use Rattle.quic_streams_state.specs.declared.state.StreamsState.{StreamsState}
+use Rattle.quic_streams_state.specs.declared.control.ControlKind.{ControlKind}
+use Rattle.quic_streams_state.specs.declared.control.ControlKind.TheVariants.{StopSending}
+use Rattle.quic_streams_state.specs.State.{Streams, Opening, is_opened, is_opened_in, sends_on, receives_on, sending_half, sending_status, receiving_status, one_done, done_if}
+use Rattle.quic_streams_state.specs.Limits.{raised_count, raised_data, can_send_data_blocked}
+use Rattle.quic_streams_state.specs.Opening.{with_remote}
+use Rattle.quic_streams_state.specs.Waiting.{stream_data_blocked_limit, blocked_limit}
+use Rattle.quic_streams_state.specs.Control.{Entry, reset_frame, reset_entry, limit_frame, limit_entry, waiting, without_first}
+use Rattle.quic_streams_laws.specs.Quiet.{IsSentWithin}
+use Rattle.quic_streams_laws.specs.QuietLaws.{is_quiet}
+use Rattle.quic_streams_laws.specs.Keeping.{KeepsAll}
+use Rattle.quic_streams_laws.specs.KeepingLaws.{by_accept, by_stream, by_reset_frame, by_frame, by_limit_told}
+use Rattle.quic_streams_laws.specs.Shape.{IsShaped}
+use Rattle.quic_streams_laws.specs.ShapeLaws.{OpensMore, opened_more, more_own, more_remote, past_remote, shape_any, sends_may}
+use Rattle.quic_machine_next.specs.declared.run.Call.{Call}
+use Rattle.quic_machine_next.specs.declared.run.Answer.{Answer}
+use Rattle.quic_machine_next.specs.Policy.{Policy}
+use Rattle.quic_spaces.specs.Numbers.{cut_against}
+use Rattle.quic_machine_next.specs.Tracking.{TrackedPacket, dir_named}
+use Rattle.quic_headline_next.proofs.Packets.Probes.{ready_streams, ready_state}
+use Rattle.quic_machine_next.specs.End.{End, number_of}
+use Rattle.quic_machine_next.specs.Receive.{take_frame}
+use Rattle.quic_machine_next.specs.Poll.{Draft, composed, lazied}
+use Rattle.quic_machine_next.specs.DraftLaws.{by_writing}
+use Rattle.quic_machine_next.specs.PollCases.{ready_at, draft_at, frames_at}
+use Rattle.quic_machine_next.specs.FrameCases.{passed, frames_keep}
+use Rattle.quic_machine_next.specs.CallCases.{is_delivery}
+use Rattle.quic_machine_next.specs.Machine.{IsAnswer, after_call}
+use Rattle.quic_headline_next.specs.Runs.{In}
+use Rattle.quic_headline_next.proofs.Packets.Growth.{in_more}
+use Rattle.quic_headline_next.proofs.Packets.Entries.{by_first}
+use Rattle.quic_headline_next.proofs.Places.Told.{in_append}
+use Rattle.quic_headline_next.proofs.Halves.QuietSteps.{frame_quiet}
+use Rattle.quic_headline_next.proofs.Halves.ReadCalls.{any_kept, call_kept}
+
+-- ---- what grows
+
+-- the same side's streams, of which no fewer are opened, and more may be opened by the peer
+abbrev pub Grown : StreamsState → StreamsState → Type 0
+Grown s t = (t.side ≡ s.side) × ((d : Dir) → of d s.opening.own ≤ of d t.opening.own) × ((d : Dir) → of d s.opening.remote ≤ of d t.opening.remote) × ((d : Dir) → raised_count d s.opening ≤ raised_count d t.opening)
+
+-- as they are
+pub grown_same : (s : StreamsState) → Grown s s
+grown_same s = (refl, λ d. omega arith, λ d. omega arith, λ d. omega arith)
+
+-- one more that is done makes room for one
+done_more : (dir d : Dir) (o : Opening) → raised_count d o ≤ raised_count d (one_done dir o)
+done_more Bi Bi o = omega arith
+done_more Bi Uni o = omega arith
+done_more Uni Bi o = omega arith
+done_more Uni Uni o = omega arith
+
+done_own : (dir d : Dir) (o : Opening) → (of d (one_done dir o).own ≡ of d o.own) × (of d (one_done dir o).remote ≡ of d o.remote)
+done_own dir d o = (refl, refl)
+
+grown_done : (s : StreamsState) (b : Bool) (id : ℕ) (t : StreamsState) → Grown s t → Grown s (done_if b id t)
+grown_done s false id t g = g
+grown_done s true id t g = (g.0, g.1, g.2, λ d. (let before = g.3 d in let now = done_more (dir_of id) d t.opening in omega arith))
+
+-- streams that the peer opens are no more room
+remote_room : (dir d : Dir) (n : ℕ) (o : Opening) → raised_count d (with_remote dir n o) ≡ raised_count d o
+remote_room Bi d n o = refl
+remote_room Uni d n o = refl
+
+-- each small change lets them grow
+pub grown_kept : (s : StreamsState) → KeepsAll (λ r id old new. Unit {0}) (λ t id old new. Unit {0}) (λ t id n old new. Unit {0}) (λ t dir. Unit {0}) (λ id. Unit {0}) (Grown s)
+grown_kept s = record {
+  finishes = λ t id f i. i;
+  events = λ t e less i. i;
+  opens_own = λ t dir lt i. (i.0, λ d. (let before = i.1 d in let now = more_own dir d t.opening.own in omega arith), i.2, i.3);
+  accepts = λ t dir may i. i;
+  allows = λ t dir count le lt i. i;
+  opens_theirs = λ t id e within i. (
+      let past = past_remote t id e in
+      let more : OpensMore t.opening (with_remote (dir_of id) (index_of id + 1) t.opening) = more_remote (dir_of id) (index_of id + 1) t.opening (omega (arith, past.1)) in
+      (i.0, λ d. (let before = i.1 d in let now = more.own d in omega arith), λ d. (let before = i.2 d in let now = more.remote d in omega arith), λ d. (let before = i.3 d in let now = remote_room (dir_of id) d (index_of id + 1) t.opening in omega arith)));
+  raises = λ t limit le i. i;
+  changes = λ t id old new is on same i. i;
+  queues = λ t id old new b is on same i. i;
+  turns = λ t id old new is on same i. i;
+  writes = λ t id n old new is on same i. i;
+  joins = λ t id h is i. cond_both h.blocked t _ (Grown s) (λ e. i) (λ e. i);
+  passes = λ t id ids is i. i;
+  ends_sending = λ t id h is over i. grown_done s (not (is_own t.side id) && is_done (receiving_status t id)) id _ i;
+  changes_receiving = λ t id old new is on i. i;
+  ends_receiving = λ t id h is i. grown_done s (not (is_own t.side id) && (not (is_two_way (dir_of id)) || is_done (sending_status t id))) id _ i;
+  tells = λ t i. i;
+  tells_on = λ t id h is i. i;
+  tells_count = λ t dir i. i;
+}
+
+-- so does any call but a delivery
+pub call_grows : (p : Policy) (e : End) (theirs : List (List ℕ)) (call : Call) (a : Answer) → ((id : ℕ) → IsSentWithin e.streams id) → IsAnswer p e theirs call a → is_delivery call ≡ false → Grown e.streams (after_call p e theirs call a).streams
+call_grows p e theirs call a within is apart =
+    let same = grown_same e.streams in
+    let keeps = grown_kept e.streams in
+    call_kept (Grown e.streams) (any_kept (Grown e.streams) keeps) p e theirs within same call a is apart (λ dir is_accept. by_accept (Grown e.streams) keeps dir e.streams (λ may. tt) same)
+
+-- and any frame
+pub frame_grows : (s : StreamsState) (f : FrameValue) (e : End) → Grown s e.streams → Grown s (take_frame f e).end.streams
+frame_grows s f e i = frame_quiet (Grown s) (is_quiet (Grown s) (grown_kept s)) f e
+    (λ g is. by_stream (Grown s) (grown_kept s) e.streams e.waiting.frames g (λ h a u. tt) i)
+    (λ g is. by_reset_frame (Grown s) (grown_kept s) e.streams e.waiting.frames g (λ h a u. tt) i)
+    i
+
+-- and all frames of a packet
+pub frames_grow : (fs : List FrameValue) (e : End) → Grown e.streams (passed fs e).end.streams
+frames_grow fs e = frames_keep (λ (x : End). Grown e.streams x.streams) (frame_grows e.streams) fs e (grown_same e.streams)
+
+-- ---- what may be given
+
+-- the end sends on a stream that is opened; or it receives on one
+abbrev pub Sends : StreamsState → ℕ → Type 0
+Sends s id = (sends_on s.side id ≡ true) × (is_opened s id ≡ true)
+
+abbrev pub Receives : StreamsState → ℕ → Type 0
+Receives s id = (receives_on s.side id ≡ true) × (is_opened s id ≡ true)
+
+-- a frame of such a stream, or of a count that the end keeps; and none that it never gives
+abbrev pub Given : StreamsState → FrameValue → Type 0
+Given s (stream f) = Sends s f.id
+Given s (reset_stream f) = Sends s f.id
+Given s (stop_sending f) = Receives s f.id
+Given s (max_stream_data f) = Receives s f.id
+Given s (max_streams f) = f.count ≤ raised_count (dir_named f.one_way) s.opening
+Given s (stream_data_blocked f) = sends_on s.side f.id ≡ true
+Given s (streams_blocked f) = ⊥
+Given s (new_token t) = ⊥
+Given s handshake_done = ⊥
+Given s f = Unit {0}
+
+module _ (s t : StreamsState) (g : Grown s t) where
+  pub opened_grows : (id : ℕ) → is_opened s id ≡ true → is_opened t id ≡ true
+  opened_grows id is = subst (λ (side : Side). is_opened_in t.opening side id ≡ true) (sym g.0) (opened_more s.opening t.opening s.side id (record { own = g.1; remote = g.2 }) is)
+
+  sends_grow : (id : ℕ) → Sends s id → Sends t id
+  sends_grow id is = (ap (λ (side : Side). sends_on side id) g.0 ∙ is.0, opened_grows id is.1)
+
+  pub receives_grow : (id : ℕ) → Receives s id → Receives t id
+  receives_grow id is = (ap (λ (side : Side). receives_on side id) g.0 ∙ is.0, opened_grows id is.1)
+
+  -- what may be given stays so
+  pub given_grows : (f : FrameValue) → Given s f → Given t f
+  given_grows (stream f) is = sends_grow f.id is
+  given_grows (reset_stream f) is = sends_grow f.id is
+  given_grows (stop_sending f) is = receives_grow f.id is
+  given_grows (max_stream_data f) is = receives_grow f.id is
+  given_grows (max_streams f) is = let more = g.3 (dir_named f.one_way) in omega arith
+  given_grows (stream_data_blocked f) is = ap (λ (side : Side). sends_on side f.id) g.0 ∙ is
+  given_grows (streams_blocked f) is = is
+  given_grows (new_token t) is = is
+  given_grows handshake_done is = is
+  given_grows f is = tt
+
+-- ---- what waits, and goes
+
+-- STOP_SENDING waits of streams on which the end receives
+abbrev pub StopsHold : StreamsState → Retransmits → Type 0
+StopsHold s p = (r : StopSendingValue) → In r p.stop_sending → Receives s r.id
+
+module _ (s : StreamsState) (shape : IsShaped s) where
+  -- a half that is in use
+  live_sends : (id : ℕ) (h : SendHalf) → at s.sending.halves.live id ≡ Some h → Sends s id
+  live_sends id h is = and_parts (sends_on s.side id) (is_opened s id) (shape.sending.allowed id (shape.sending.placed id h is))
+
+  live_receives : (id : ℕ) (h : RecvHalf) → at s.receiving.halves.live id ≡ Some h → Receives s id
+  live_receives id h is = and_parts (receives_on s.side id) (is_opened s id) (shape.receiving.allowed id (shape.receiving.placed id h is))
+
+  -- the frame that an entry has may be given
+  abbrev MayGive : Entry → Type 0
+  MayGive e = (f : FrameValue) → e.frame s ≡ Some f → Given s f
+
+  one_is : (g f : FrameValue) → Given s g → Some g ≡ Some f → Given s f
+  one_is g f is due = let same : g ≡ f = cc in subst (Given s) same is
+
+  resets_may : (r : ℕ × ℕ) → MayGive (reset_entry r)
+  resets_may r f = go (at s.sending.halves.live r.0) refl
+    where
+      sized : Sends s r.0 → (o : Option ℕ) → option_map (λ size. reset_stream (record { id = r.0; code = r.1; final_size = size })) o ≡ Some f → Given s f
+      sized here None due = cc
+      sized here (Some size) due = one_is (reset_stream (record { id = r.0; code = r.1; final_size = size })) f here due
+
+      go : (o : Option SendHalf) → at s.sending.halves.live r.0 ≡ o → reset_frame r o ≡ Some f → Given s f
+      go None is due = cc
+      go (Some h) is due = sized (live_sends r.0 h is) h.reset due
+
+  limits_may : (id : ℕ) → MayGive (limit_entry id)
+  limits_may id f = go (at s.receiving.halves.live id) refl
+    where
+      taken : Receives s id → (h : RecvHalf) (b : Bool) → (if b then Some (max_stream_data (record { id = id; limit = raised_on s.receiving.stream_window h })) else None) ≡ Some f → Given s f
+      taken here h true due = one_is (max_stream_data (record { id = id; limit = raised_on s.receiving.stream_window h })) f here due
+      taken here h false due = cc
+
+      go : (o : Option RecvHalf) → at s.receiving.halves.live id ≡ o → limit_frame s.receiving.stream_window id o ≡ Some f → Given s f
+      go None is due = cc
+      go (Some h) is due = taken (live_receives id h is) h (takes_limits h) due
+
+  counts_may : (dir : Dir) (f : FrameValue) → Some (max_streams (record { one_way = is_one_way dir; count = raised_count dir s.opening })) ≡ Some f → Given s f
+  counts_may Bi f due = one_is (max_streams (record { one_way = false; count = raised_count Bi s.opening })) f (omega arith) due
+  counts_may Uni f due = one_is (max_streams (record { one_way = true; count = raised_count Uni s.opening })) f (omega arith) due
+
+  all_blocked_may : (f : FrameValue) (b : Bool) → (if b then Some (data_blocked s.sending.limit) else None) ≡ Some f → Given s f
+  all_blocked_may f true due = one_is (data_blocked s.sending.limit) f tt due
+  all_blocked_may f false due = cc
+
+  blocked_may : (id : ℕ) (f : FrameValue) → option_map (λ limit. stream_data_blocked (record { id = id; limit = limit })) (stream_data_blocked_limit s id) ≡ Some f → Given s f
+  blocked_may id f = go (sending_half s id) refl
+    where
+      named : sends_on s.side id ≡ true → (o : Option ℕ) → option_map (λ limit. stream_data_blocked (record { id = id; limit = limit })) o ≡ Some f → Given s f
+      named here None due = cc
+      named here (Some limit) due = one_is (stream_data_blocked (record { id = id; limit = limit })) f here due
+
+      go : (o : Option SendHalf) → sending_half s id ≡ o → option_map (λ limit. stream_data_blocked (record { id = id; limit = limit })) (blocked_limit o) ≡ Some f → Given s f
+      go None is due = cc
+      go (Some h) is due = named (and_parts (sends_on s.side id) (is_opened s id) (sends_may s id h shape is)).0 (blocked_limit (Some h)) due
+
+  entry_may : (kind : ControlKind) (p : Retransmits) (e : Entry) (es : List Entry) (f : FrameValue) → waiting kind p ≡ e ∷ es → StopsHold s p → e.frame s ≡ Some f → Given s f
+  entry_may kind p e es f is stops due = by_first p MayGive (record {
+    resets = λ r i. resets_may r;
+    stops = λ r i f due. one_is (stop_sending r) f (stops r i) due;
+    all_limits = λ f due. one_is (max_data (raised_data s.receiving)) f tt due;
+    limits = λ id i. limits_may id;
+    counts = counts_may;
+    all_blocked = λ f due. all_blocked_may f (can_send_data_blocked s) due;
+    blocked = λ id i. blocked_may id;
+  }) kind e es is f due
+
+-- what stands behind the first stands in a list
+pub in_others : {X : Type 0} (x : X) (xs : List X) → In x (others_of xs) → In x xs
+in_others x [] i = i
+in_others x (y ∷ xs) i = inr i
+
+fewer_stops : (s : StreamsState) (kind : ControlKind) (p : Retransmits) → StopsHold s p → StopsHold s (without_first kind p)
+fewer_stops s StopSending p stops r i = stops r (in_others r p.stop_sending i)
+fewer_stops s kind p stops r i = stops r i
+
+-- frames of a draft may be given by an end that has these streams, and the draft's streams are of the same ids and counts
+record Goes (s : StreamsState) (d : Draft) : Type 0 where
+  shape : IsShaped d.end.streams
+  back : Grown d.end.streams s
+  stops : StopsHold d.end.streams d.end.waiting.frames
+  frames : (f : FrameValue) → In f d.frames → Given s f
+
+module _ (s : StreamsState) where
+  more_given : (fs : List FrameValue) (g : FrameValue) → ((f : FrameValue) → In f fs → Given s f) → Given s g → (f : FrameValue) → In f (fs ++ g ∷ []) → Given s f
+  more_given fs g all one f i = elim (in_more f g fs i) [ inl old ↦ all f old | inr new ↦ subst (Given s) (sym new) one ]
+
+  told_goes : (d : Draft) (kind : ControlKind) (e : Entry) (es : List Entry) → waiting kind d.end.waiting.frames ≡ e ∷ es → Goes s d → IsShaped (e.told d.end.streams) × Grown (e.told d.end.streams) s × StopsHold (e.told d.end.streams) d.end.waiting.frames
+  told_goes d kind e es is g = by_first d.end.waiting.frames (λ (x : Entry). IsShaped (x.told d.end.streams) × Grown (x.told d.end.streams) s × StopsHold (x.told d.end.streams) d.end.waiting.frames) (record {
+    resets = λ r i. (g.shape, g.back, g.stops);
+    stops = λ r i. (g.shape, g.back, g.stops);
+    all_limits = (shape_any.tells d.end.streams g.shape, g.back, g.stops);
+    limits = λ id i. (by_limit_told IsShaped shape_any d.end.streams id g.shape, g.back, g.stops);
+    counts = λ dir. (shape_any.tells_count d.end.streams dir g.shape, g.back, g.stops);
+    all_blocked = (g.shape, g.back, g.stops);
+    blocked = λ id i. (g.shape, g.back, g.stops);
+  }) kind e es is
+
+  composed_goes : (e : End) → Goes s (record { frames = []; bytes = []; end = e }) → Goes s (composed e)
+  composed_goes e first = by_writing (Goes s) (record {
+    ack = λ d filled may g. record { shape = g.shape; back = g.back; stops = g.stops; frames = more_given d.frames _ g.frames tt };
+    ping = λ d g. record { shape = g.shape; back = g.back; stops = g.stops; frames = more_given d.frames ping g.frames tt };
+    drops = λ d kind g. record { shape = g.shape; back = g.back; stops = fewer_stops d.end.streams kind d.end.waiting.frames g.stops; frames = g.frames };
+    control = λ d kind entry es f is due g. (
+        let t = told_goes d kind entry es is g in
+        record {
+          shape = t.0;
+          back = t.1;
+          stops = fewer_stops (entry.told d.end.streams) kind d.end.waiting.frames t.2;
+          frames = more_given d.frames f g.frames (given_grows d.end.streams s g.back f (entry_may d.end.streams g.shape kind d.end.waiting.frames entry es f is g.stops due));
+        });
+    stream = λ d id h room found first some is counts g. record {
+      shape = by_frame IsShaped shape_any d.end.transport.send_fairness d.end.streams id room h found tt g.shape;
+      back = g.back;
+      stops = g.stops;
+      frames = more_given d.frames (stream (frame_of id h room)) g.frames (given_grows d.end.streams s g.back (stream (frame_of id h room)) (live_sends d.end.streams g.shape id h found));
+    };
+  }) e first
+
+  padded_given : (fs : List FrameValue) (count : ℕ) → ((f : FrameValue) → In f fs → Given s f) → (f : FrameValue) → In f (fs ++ replicate count padding) → Given s f
+  padded_given fs count all f i = elim (in_append f fs (replicate count padding) i) [ inl here ↦ all f here | inr behind ↦ zeros count behind ]
+    where
+      zeros : (n : ℕ) → In f (replicate n padding) → Given s f
+      zeros zero i = absurd i
+      zeros (suc n) (inl is) = subst (Given s) (sym is) tt
+      zeros (suc n) (inr i) = zeros n i
+
+-- the frames that an end gives at a moment, if what its tracked packets carried stops only such streams
+pub polled_given : (e : End) (now : ℕ) → IsShaped e.streams → StopsHold e.streams e.waiting.frames → ((n : ℕ) (t : TrackedPacket) → In (n, t) e.tracking.packets → StopsHold e.streams t.carried.retransmits) → (f : FrameValue) → In f (frames_at e now) → Given e.streams f
+polled_given e now shape stops carried =
+    let d : Draft = draft_at e now in
+    padded_given e.streams d.frames (4 - ((truncated (number_of d.end) (cut_against d.end.numbers)).width + length d.bytes)) (composed_goes e.streams (lazied (ready_at e now)) ready).frames
+  where
+    -- what waits, with what a packet carried
+    more : (n : ℕ) (t : TrackedPacket) → In (n, t) e.tracking.packets → StopsHold e.streams (merged e.waiting.frames t.carried.retransmits)
+    more n t among r i = elim (in_append r e.waiting.frames.stop_sending t.carried.retransmits.stop_sending i) [ inl old ↦ stops r old | inr new ↦ carried n t among r new ]
+
+    held : StopsHold e.streams (ready_at e now).waiting.frames
+    held = ready_streams (λ (t : Streams). StopsHold e.streams t.pending) e now stops more
+
+    ready : Goes e.streams (record { frames = []; bytes = []; end = lazied (ready_at e now) })
+    ready =
+        let same : (ready_at e now).streams ≡ e.streams = ready_state e now in
+        record {
+          shape = subst IsShaped (sym same) shape;
+          back = subst (λ (t : StreamsState). Grown t e.streams) (sym same) (grown_same e.streams);
+          stops = subst (λ (t : StreamsState). StopsHold t (ready_at e now).waiting.frames) (sym same) held;
+          frames = λ f i. absurd i;
+        }

@@ -1,0 +1,137 @@
+-- Each frame that an end gave is of streams that it knows and counts that it keeps, and STOP_SENDING that waits too: a group over what is written.
+use Rattle.std.proofs.Common.{◌≡◌, ℕ, Bool, true, false, List, ◌++◌, Some, subst, inl, inr, append-nil}
+use Rattle.std.proofs.lemmas.Bool.{and_parts}
+use Rattle.quic_wire.specs.Value.{FrameValue, StopSendingValue, stop_sending}
+use Rattle.quic_streams_parts.specs.RecvHalf.{RecvHalf}
+use Rattle.quic_streams_state.specs.declared.state.StreamsState.{StreamsState}
+use Rattle.quic_streams_state.specs.State.{is_opened, receives_on, receiving_half}
+use Rattle.quic_streams_laws.specs.ShapeLaws.{receives_may}
+use Rattle.quic_streams_laws.specs.Written.{HoldsWritten}
+use Rattle.quic_machine_next.specs.declared.run.Call.{Call}
+use Rattle.quic_machine_next.specs.declared.run.Call.TheVariants as calls
+use Rattle.quic_machine_next.specs.declared.run.Answer.{Answer}
+use Rattle.quic_machine_next.specs.End.{End}
+use Rattle.quic_machine_next.specs.Receive.{Outcome}
+use Rattle.quic_machine_next.specs.Machine.{gave}
+use Rattle.quic_machine_next.specs.FrameCases.{begun}
+use Rattle.quic_headline_next.specs.Runs.{Packet, Intake, In}
+use Rattle.quic_headline_next.specs.Observer.{Sent}
+use Rattle.quic_headline_next.proofs.Packets.Growth.{in_more}
+use Rattle.quic_headline_next.proofs.Packets.Delivered.{Arrivals, arrived}
+use Rattle.quic_headline_next.proofs.Packets.Named.{TakesOn, frames_settle, tracked_carried}
+use Rattle.quic_headline_next.proofs.Packets.Group.{PacketsHold, meets}
+use Rattle.quic_headline_next.proofs.Places.Coming.{by_coming}
+use Rattle.quic_headline_next.proofs.Places.Groups.{Way, Calls, Group}
+use Rattle.quic_headline_next.proofs.Places.Parties.{sent_by, sent_if, sents_by, Party, called, came_to}
+use Rattle.quic_headline_next.proofs.Halves.Wrote.{wrote}
+use Rattle.quic_headline_next.proofs.Halves.QuietSteps.{sent_within}
+use Rattle.quic_headline_next.proofs.Channel.Given.{Grown, grown_same, call_grows, frames_grow, Receives, receives_grow, Given, given_grows, StopsHold, polled_given}
+use Rattle.quic_headline_next.proofs.Channel.Stops.{StopsOf, from_stops, TrackedStops, call_stops, frame_stops, settles_stops}
+
+-- x gives
+pub record NamesHold (x y : Party) : Type 0 where
+  pub given : (s : Sent) → In s x.sents → (f : FrameValue) → In f s.frames → Given x.end.streams f
+  pub stops : StopsHold x.end.streams x.end.waiting.frames
+
+-- What that rests on.
+pub record RestsOn (B : Way) : Type 1 where
+  pub packets : (x y : Party) → B x y → PacketsHold x y
+  pub written : (x y : Party) → B x y → HoldsWritten (wrote x.told) x.end.streams
+
+module _ (B : Way) (rests : RestsOn B) (x y : Party) (call : Call) (a : Answer) (c : Calls B x y call a) where
+  written : HoldsWritten (wrote x.told) x.end.streams
+  written = rests.written x y c.gives
+
+  -- streams only open, and counts only grow
+  pub grows_behind : Grown x.end.streams (called x y.given call a).end.streams
+  grows_behind = by_coming x y a c.joined c.served (meets y x (rests.packets y x c.takes)) (λ (e : End) (i : Intake). Grown x.end.streams e.streams) call c.answer (record {
+    apart = λ apart. call_grows x.policy x.end y.given call a (sent_within (wrote x.told) x.end.streams written) c.answer apart;
+    none = λ delivery is. grown_same x.end.streams;
+    comes = λ delivery is s among. record {
+      ignored = λ reason. grown_same x.end.streams;
+      noted = λ state reason. grown_same x.end.streams;
+      takes = λ state new none. frames_grow s.frames (begun x.end delivery.now s.number);
+      refuses = λ state new f is. frames_grow s.frames (begun x.end delivery.now s.number);
+    };
+  })
+
+  module _ (n : NamesHold x y) where
+    -- the streams behind the call
+    abbrev t : StreamsState
+    t = (called x y.given call a).end.streams
+
+    abbrev Known : ℕ → Type 0
+    Known id = Receives t id
+
+    stops_before : StopsOf Known x.end.waiting.frames
+    stops_before r i = receives_grow x.end.streams t grows_behind r.id (n.stops r i)
+
+    -- what is stopped is a stream on which the end receives
+    stopped_known : (id : ℕ) (h : RecvHalf) → receiving_half x.end.streams id ≡ Some h → Known id
+    stopped_known id h is = receives_grow x.end.streams t grows_behind id (and_parts (receives_on x.end.streams.side id) (is_opened x.end.streams id) (receives_may x.end.streams id h written.shape is))
+
+    -- what was sent was for such streams
+    sent_known : (s : Sent) → In s x.sents → (g : StopSendingValue) → In (stop_sending g) s.frames → Known g.id
+    sent_known s i g j = given_grows x.end.streams t grows_behind (stop_sending g) (n.given s i (stop_sending g) j)
+
+    -- and so was what is tracked
+    tracked_stops : (Q : ℕ → Type 0) → ((s : Sent) → In s x.sents → (g : StopSendingValue) → In (stop_sending g) s.frames → Q g.id) → TrackedStops Q x.end.tracking.packets
+    tracked_stops Q sent k t among =
+        let was = tracked_carried x.sents x.end.tracking.packets (rests.packets x y c.gives).tracked k t among in
+        from_stops Q t.carried was.sent.frames was.is (sent was.sent was.among)
+
+    arrivals_stop : (now : ℕ) (s : Sent) → In s y.sents → Arrivals x.end now s.number s.frames (came_to x y) (λ (o : Outcome) (i : Intake). StopsOf Known o.end.waiting.frames)
+    arrivals_stop now s among = record {
+      ignored = λ reason. stops_before;
+      noted = λ state reason. stops_before;
+      takes = λ state new none. passed_stops;
+      refuses = λ state new f is. passed_stops;
+    }
+      where
+        took : List Packet
+        took = (came_to y x).took
+
+        p : PacketsHold x y
+        p = rests.packets x y c.gives
+
+        back : PacketsHold y x
+        back = rests.packets y x c.takes
+
+        takes_on : TakesOn took x.sents s.frames (λ (e : End). StopsOf Known e.waiting.frames)
+        takes_on = record { settles = settles_stops Known took x.sents sent_known; names = λ a e i j. j; on_streams = λ f e i on j. frame_stops Known f e on j }
+
+        passed_stops : StopsOf Known (arrived x.end now s.number s.frames).end.waiting.frames
+        passed_stops = frames_settle took x.sents (record { taken = p.taken; rising = p.gives.rising }) s.frames (λ (e : End). StopsOf Known e.waiting.frames) takes_on (begun x.end now s.number)
+            (λ b i k named. back.named s b k among i named) p.tracked stops_before
+
+    stops_behind : StopsOf Known (called x y.given call a).end.waiting.frames
+    stops_behind = by_coming x y a c.joined c.served (meets y x (rests.packets y x c.takes)) (λ (e : End) (i : Intake). StopsOf Known e.waiting.frames) call c.answer (record {
+      apart = λ apart. call_stops Known x.policy x.end y.given call a apart stopped_known (λ n t among. tracked_stops Known sent_known n t among) stops_before;
+      none = λ delivery is. stops_before;
+      comes = λ delivery is s among. arrivals_stop delivery.now s among;
+    })
+
+    -- what was sent before, and what the call sends
+    old_given : (s : Sent) → In s x.sents → (f : FrameValue) → In f s.frames → Given t f
+    old_given s i f j = given_grows x.end.streams t grows_behind f (n.given s i f j)
+
+    more_given : (b : Bool) (now : ℕ) (s : Sent) → In s (x.sents ++ sent_if b (sent_by x.end now)) → (f : FrameValue) → In f s.frames → Given t f
+    more_given true now s i f j = elim (in_more s (sent_by x.end now) x.sents i) [
+      | inl old ↦ old_given s old f j
+      | inr new ↦ given_grows x.end.streams t grows_behind f (polled_given x.end now written.shape n.stops (λ k t among. tracked_stops (λ id. Receives x.end.streams id) (λ u i g j. n.given u i (stop_sending g) j) k t among) f (subst (λ (u : Sent). In f u.frames) new j))
+    ]
+    more_given false now s i f j = old_given s (subst (In s) (append-nil x.sents) i) f j
+
+    given_behind : (k : Call) → (s : Sent) → In s (x.sents ++ sents_by x.end k a) → (f : FrameValue) → In f s.frames → Given t f
+    given_behind (calls.Poll now) s i f j = more_given (gave a) now s i f j
+    given_behind k s i f j = old_given s (subst (In s) (append-nil x.sents) i) f j
+
+    pub names_behind : NamesHold (called x y.given call a) y
+    names_behind = record { given = given_behind call; stops = stops_behind }
+
+pub names_group : (B : Way) → RestsOn B → Group B NamesHold
+names_group B rests = record {
+  first = λ x y m there back. record { given = λ s i. absurd i; stops = λ r i. absurd i };
+  writer = λ x y call a c n back. names_behind B rests x y call a c n;
+  reader = λ x y call a c there n. record { given = n.given; stops = n.stops };
+}

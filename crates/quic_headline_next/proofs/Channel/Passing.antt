@@ -1,0 +1,121 @@
+-- A frame passes at an end that breaks no rule there but that of pieces: by rules of ids and counts, by those of limits and sizes, and by those apart from streams.
+use Rattle.std.proofs.Common.{◌≡◌, ℕ, Bool, true, false, List, [], ◌∷◌, map, Option, Some, None, Ok, refl, sym, ap, ◌∙◌, inl, inr}
+use Rattle.std.specs.Prelude.{if◌then◌else◌}
+use Rattle.quic_wire.specs.Value.{FrameValue, StreamValue, ack, stream, reset_stream, stop_sending, max_data, max_stream_data, max_streams, stream_data_blocked, streams_blocked, new_token, handshake_done}
+use Rattle.quic_streams_parts.specs.declared.answers.Breach.{Breach}
+use Rattle.quic_streams_parts.specs.declared.answers.Breach.TheVariants.{Pieces}
+use Rattle.quic_streams_parts.specs.RecvHalf.{RecvHalf, end_of, after_frame, has_too_many}
+use Rattle.quic_streams_state.specs.declared.state.StreamsState.{StreamsState}
+use Rattle.quic_streams_state.specs.Opening.{receiving_refusal, sending_refusal, max_streams_breach}
+use Rattle.quic_streams_state.specs.Taking.{part_for, breach_at, breach_behind, refusal, too_many_at, breach_kept, reset_breach, stream_data_blocked_breach, streams_blocked_breach}
+use Rattle.quic_machine_next.specs.declared.answers.State.TheVariants as states
+use Rattle.quic_machine_next.specs.End.{End, side_of}
+use Rattle.quic_machine_next.specs.Receive.{Fault, too_many_pieces, fault_of, fault_at, names_ungiven, take_frame, unless_fault, take_items}
+use Rattle.quic_machine_next.specs.FrameCases.{passed, ack_taken}
+use Rattle.quic_headline_next.specs.Runs.{In}
+use Rattle.quic_headline_next.specs.Observer.{Sent}
+use Rattle.quic_headline_next.proofs.Places.Parties.{Party}
+use Rattle.quic_headline_next.proofs.Places.Groups.{Way}
+use Rattle.quic_headline_next.proofs.Packets.Delivered.{arrived}
+
+-- ---- the rules, in three parts
+
+-- those of ids and counts: STREAM_STATE_ERROR, STREAM_LIMIT_ERROR and FRAME_ENCODING_ERROR
+abbrev pub IdsPass : StreamsState → FrameValue → Type 0
+IdsPass s (stream f) = receiving_refusal s f.id ≡ None
+IdsPass s (reset_stream f) = receiving_refusal s f.id ≡ None
+IdsPass s (stop_sending f) = sending_refusal s f.id ≡ None
+IdsPass s (max_stream_data f) = sending_refusal s f.id ≡ None
+IdsPass s (max_streams f) = max_streams_breach f.count ≡ None
+IdsPass s (stream_data_blocked f) = stream_data_blocked_breach s f.id ≡ None
+IdsPass s (streams_blocked f) = streams_blocked_breach f.count ≡ None
+IdsPass s f = Unit {0}
+
+-- those of limits and final sizes: FLOW_CONTROL_ERROR and FINAL_SIZE_ERROR
+abbrev pub SizesPass : StreamsState → FrameValue → Type 0
+SizesPass s (stream f) = breach_at (part_for s f.id) s.receiving (end_of f) f.fin ≡ None
+SizesPass s (reset_stream f) = breach_at (part_for s f.id) s.receiving f.final_size true ≡ None
+SizesPass s f = Unit {0}
+
+-- those apart from streams: ACK names no number that wasn't given, and not the one that was left out last, and no server gets what only servers send
+abbrev pub PlainPass : End → FrameValue → Type 0
+PlainPass e (ack a) = names_ungiven a e ≡ false
+PlainPass e (new_token t) = fault_at (side_of e) ≡ None
+PlainPass e handshake_done = fault_at (side_of e) ≡ None
+PlainPass e f = Unit {0}
+
+-- ---- one frame
+
+-- no other fault is left
+abbrev OnlyPieces : Option Fault → Type 0
+OnlyPieces o = (fault : Fault) → o ≡ Some fault → fault ≡ too_many_pieces
+
+nothing_broken : (o : Option Breach) → o ≡ None → OnlyPieces (fault_of o)
+nothing_broken o none fault is = let clash : None ≡ Some fault = sym (ap fault_of none) ∙ is in cc
+
+many_only : (o : Option RecvHalf) (f : StreamValue) → OnlyPieces (fault_of (too_many_at o f))
+many_only None f fault is = cc
+many_only (Some h) f fault is = go (has_too_many (after_frame h f)) is
+  where
+    go : (b : Bool) → fault_of (if b then Some Pieces else None) ≡ Some fault → fault ≡ too_many_pieces
+    go true is = cc
+    go false is = cc
+
+-- what is not refused by its id is refused by its sizes alone
+allowed : (s : StreamsState) (id end : ℕ) (fin : Bool) → receiving_refusal s id ≡ None → breach_at (part_for s id) s.receiving end fin ≡ None → refusal s id end fin ≡ None
+allowed s id end fin ids sizes = ap (λ (o : Option Breach). breach_behind o s id end fin) ids ∙ sizes
+
+-- a frame that passes
+pub frame_passes : (f : FrameValue) (e : End) → IdsPass e.streams f → SizesPass e.streams f → PlainPass e f → (fault : Fault) → (take_frame f e).fault ≡ Some fault → fault ≡ too_many_pieces
+frame_passes (stream f) e ids sizes plain fault is =
+    many_only (part_for e.streams f.id) f fault (sym (ap (λ (o : Option Breach). fault_of (breach_kept o e.streams f)) (allowed e.streams f.id (end_of f) f.fin ids sizes)) ∙ is)
+frame_passes (reset_stream f) e ids sizes plain fault is = nothing_broken (reset_breach e.streams f) (allowed e.streams f.id f.final_size true ids sizes) fault is
+frame_passes (stop_sending f) e ids sizes plain fault is = nothing_broken (sending_refusal e.streams f.id) ids fault is
+frame_passes (max_data limit) e ids sizes plain fault is = cc
+frame_passes (max_stream_data f) e ids sizes plain fault is = nothing_broken (sending_refusal e.streams f.id) ids fault is
+frame_passes (max_streams f) e ids sizes plain fault is = nothing_broken (max_streams_breach f.count) ids fault is
+frame_passes (stream_data_blocked f) e ids sizes plain fault is = nothing_broken (stream_data_blocked_breach e.streams f.id) ids fault is
+frame_passes (streams_blocked f) e ids sizes plain fault is = nothing_broken (streams_blocked_breach f.count) ids fault is
+frame_passes (new_token t) e ids sizes plain fault is = let clash : None ≡ Some fault = sym plain ∙ is in cc
+frame_passes handshake_done e ids sizes plain fault is = let clash : None ≡ Some fault = sym plain ∙ is in cc
+frame_passes (ack a) e ids sizes plain fault is = let clash : None ≡ Some fault = sym (ap (λ (b : Bool). (ack_taken b a e).fault) plain) ∙ is in cc
+frame_passes f e ids sizes plain fault is = cc
+
+-- ---- the frames of a packet
+
+-- What holds of an end lets these frames pass, and each of them leaves it so.
+pub record LetsPass (among : FrameValue → Type 0) (P : End → Type 0) : Type 0 where
+  pub ids : (f : FrameValue) (e : End) → among f → P e → IdsPass e.streams f
+  pub sizes : (f : FrameValue) (e : End) → among f → P e → SizesPass e.streams f
+  pub plain : (f : FrameValue) (e : End) → among f → P e → PlainPass e f
+  pub stays : (f : FrameValue) (e : End) → among f → P e → P (take_frame f e).end
+
+-- so all of them pass
+pub frames_pass : (among : FrameValue → Type 0) (P : End → Type 0) → LetsPass among P → (fs : List FrameValue) (e : End) → ((f : FrameValue) → In f fs → among f) → P e → (fault : Fault) → (passed fs e).fault ≡ Some fault → fault ≡ too_many_pieces
+frames_pass among P lets [] e all here fault is = cc
+frames_pass among P lets (f ∷ fs) e all here fault is =
+    go (take_frame f e).fault refl is (λ j. frames_pass among P lets fs (take_frame f e).end (λ g i. all g (inr i)) (lets.stays f e first here) fault j)
+  where
+    first : among f
+    first = all f (inl refl)
+
+    go : (o : Option Fault) → (take_frame f e).fault ≡ o → (unless_fault o (take_frame f e) (take_items (map Ok fs))).fault ≡ Some fault → ((passed fs (take_frame f e).end).fault ≡ Some fault → fault ≡ too_many_pieces) → fault ≡ too_many_pieces
+    go None none there later = later there
+    go (Some x) some there later = frame_passes f e (lets.ids f e first here) (lets.sizes f e first here) (lets.plain f e first here) fault there
+
+-- ---- the word between two ends
+
+-- Each packet that x gave passes at y, while that is open, whenever it comes.
+pub record PassesAt (x y : Party) : Type 0 where
+  pub passes : (s : Sent) → In s x.sents → y.end.closing.state ≡ states.Open → (now : ℕ) (fault : Fault) → (arrived y.end now s.number s.frames).fault ≡ Some fault → fault ≡ too_many_pieces
+
+-- The part of ids and counts: each frame that x gave passes these rules at y, and so it stays.
+pub record IdsHold (x y : Party) : Type 0 where
+  pub ids : (s : Sent) → In s x.sents → (f : FrameValue) → In f s.frames → IdsPass y.end.streams f
+
+-- The part of limits and sizes: what fits the streams of y, while it is open, lets each frame that x gave pass these rules, and stays
+-- where one is taken that the rules of ids let pass.
+pub record SizesHold (B : Way) (Fits : Party → Party → StreamsState → Type 0) : Type 1 where
+  pub holds : (x y : Party) → B x y → y.end.closing.state ≡ states.Open → Fits x y y.end.streams
+  pub sizes : (x y : Party) → B x y → (s : Sent) → In s x.sents → (f : FrameValue) → In f s.frames → (t : StreamsState) → Fits x y t → IdsPass t f → SizesPass t f
+  pub stays : (x y : Party) → B x y → (s : Sent) → In s x.sents → (f : FrameValue) → In f s.frames → (e : End) → Fits x y e.streams → IdsPass e.streams f → Fits x y (take_frame f e).end.streams

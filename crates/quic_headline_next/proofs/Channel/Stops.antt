@@ -1,0 +1,248 @@
+-- STOP_SENDING that waits at an end is for streams of which something is known, where it is added for such streams alone and what was lost was: after each call, and what comes.
+use Rattle.std.proofs.Common.{◌≡◌, ℕ, Bool, true, false, List, [], ◌∷◌, Option, Some, None, Result, Ok, Err, refl, sym, subst, inl, inr}
+use Rattle.std.specs.Prelude.{if◌then◌else◌, ◌==◌}
+use Rattle.std.specs.Option.{is_some}
+use Rattle.std.specs.List.{fold}
+use Rattle.quic_wire.specs.Value.{FrameValue, StreamValue, ResetStreamValue, StopSendingValue, stream, reset_stream, stop_sending, max_data, max_stream_data, max_streams, stream_data_blocked, streams_blocked}
+use Rattle.quic_send_buffer.specs.declared.stream_meta.StreamMeta.{StreamMeta}
+use Rattle.quic_streams_parts.specs.declared.answers.Breach.{Breach}
+use Rattle.quic_streams_parts.specs.declared.answers.WriteError.{WriteError}
+use Rattle.quic_streams_parts.specs.declared.answers.WriteError.TheVariants as write_errors
+use Rattle.quic_streams_parts.specs.declared.answers.ClosedStream.{ClosedStream}
+use Rattle.quic_streams_parts.specs.declared.answers.Written.{Written}
+use Rattle.quic_streams_parts.specs.SendHalf.{SendHalf, is_acked, half_acked}
+use Rattle.quic_streams_parts.specs.RecvHalf.{RecvHalf, end_of}
+use Rattle.quic_retransmits.specs.Retransmits.{Retransmits, nothing_waits, merged}
+use Rattle.quic_streams_parts.specs.Table.{Table}
+use Rattle.quic_streams_state.specs.declared.state.StreamsState.{StreamsState}
+use Rattle.quic_streams_state.specs.State.{Streams, streams_of, room, sending_half, receiving_half, send_done}
+use Rattle.quic_streams_state.specs.Limits.{settled, with_stream_if, stream_grew}
+use Rattle.quic_streams_state.specs.Writing.{blocked_by_all, blocked_by_own, blocked_at, written_by, after_write, after_write_chunks, reset_at, after_reset, replaced}
+use Rattle.quic_streams_state.specs.Reading.{told_bytes, after_read_begun, after_finalize, stopped_if, with_stop, stopped_at, after_stop, reset_told, received_reset_answer}
+use Rattle.quic_streams_state.specs.Taking.{part_for, refusal, reset_breach, stream_unless, stream_at, after_stream, reset_unless, reset_at as taken_reset, after_reset_frame}
+use Rattle.quic_streams_state.specs.declared.control.ControlKind.{ControlKind}
+use Rattle.quic_streams_state.specs.declared.control.ControlKind.TheVariants.{StopSending}
+use Rattle.quic_streams_state.specs.Control.{without_first}
+use Rattle.quic_streams_state.specs.Acked.{sent_half, finished, acked_on, acked_at, reset_acked_at}
+use Rattle.quic_machine_next.specs.declared.run.Call.{Call}
+use Rattle.quic_machine_next.specs.declared.run.Call.TheVariants as calls
+use Rattle.quic_machine_next.specs.declared.run.Answer.{Answer}
+use Rattle.quic_machine_next.specs.declared.run.Answer.TheVariants as answers
+use Rattle.quic_machine_next.specs.Policy.{Policy}
+use Rattle.quic_machine_next.specs.Tracking.{Carried, TrackedPacket, and_again, carried_in}
+use Rattle.quic_machine_next.specs.Calls.{is_open, after_nexts}
+use Rattle.quic_machine_next.specs.StreamCalls.{if_ok, after_on_streams}
+use Rattle.quic_machine_next.specs.End.{End, streams_at}
+use Rattle.quic_machine_next.specs.Receive.{take_frame}
+use Rattle.quic_machine_next.specs.Poll.{Draft, composed}
+use Rattle.quic_machine_next.specs.DraftLaws.{by_writing}
+use Rattle.quic_headline_next.proofs.Packets.Invariant.{IsCarriedFrom}
+use Rattle.quic_headline_next.proofs.Packets.Losses.{Losing, expiry_stays, ready_stays}
+use Rattle.quic_headline_next.proofs.Packets.Probes.{poll_streams}
+use Rattle.quic_machine_next.specs.LeaveCases.{by_expired, by_event}
+use Rattle.quic_machine_next.specs.CallCases.{is_delivery, by_call}
+use Rattle.quic_machine_next.specs.Machine.{after_call}
+use Rattle.quic_machine_next.specs.FrameCases.{OnStreams}
+use Rattle.quic_headline_next.specs.Runs.{Packet, In}
+use Rattle.quic_headline_next.specs.Observer.{Sent}
+use Rattle.quic_headline_next.proofs.Packets.Growth.{in_more}
+use Rattle.quic_headline_next.proofs.Packets.Named.{SettlesOn}
+use Rattle.quic_headline_next.proofs.Places.Told.{in_append}
+use Rattle.quic_headline_next.proofs.Channel.Given.{in_others}
+
+-- STOP_SENDING waits for streams of which this is so
+abbrev pub StopsOf : (ℕ → Type 0) → Retransmits → Type 0
+StopsOf Q p = (r : StopSendingValue) → In r p.stop_sending → Q r.id
+
+-- ---- what frames carried
+
+-- the STOP_SENDING of frames
+again_stops : (Q : ℕ → Type 0) (r : Retransmits) (f : FrameValue) → ((g : StopSendingValue) → f ≡ stop_sending g → Q g.id) → StopsOf Q r → StopsOf Q (and_again r f)
+again_stops Q r (stop_sending g) one before = λ s i. elim (in_more s g r.stop_sending i) [ inl old ↦ before s old | inr new ↦ subst (λ (x : StopSendingValue). Q x.id) (sym new) (one g refl) ]
+again_stops Q r f one before = before
+
+fold_stops : (Q : ℕ → Type 0) (fs : List FrameValue) (r : Retransmits) → ((g : StopSendingValue) → In (stop_sending g) fs → Q g.id) → StopsOf Q r → StopsOf Q (fold and_again r fs)
+fold_stops Q [] r all before = before
+fold_stops Q (f ∷ fs) r all before = fold_stops Q fs (and_again r f) (λ g i. all g (inr i)) (again_stops Q r f (λ g is. all g (inl (sym is))) before)
+
+pub carried_stops : (Q : ℕ → Type 0) (fs : List FrameValue) → ((g : StopSendingValue) → In (stop_sending g) fs → Q g.id) → StopsOf Q (carried_in fs).retransmits
+carried_stops Q fs all = fold_stops Q fs nothing_waits all (λ r i. absurd i)
+
+-- or all but what has to be sent again
+pub from_stops : (Q : ℕ → Type 0) (c : Carried) (fs : List FrameValue) → IsCarriedFrom c fs → ((g : StopSendingValue) → In (stop_sending g) fs → Q g.id) → StopsOf Q c.retransmits
+from_stops Q c fs (inl is) all = subst (λ (x : Carried). StopsOf Q x.retransmits) (sym is) (carried_stops Q fs all)
+from_stops Q c fs (inr is) all = subst (λ (x : Carried). StopsOf Q x.retransmits) (sym is) (λ r i. absurd i)
+
+module _ (Q : ℕ → Type 0) where
+  -- ---- small steps
+
+  either : (b : Bool) (x y : Streams) → StopsOf Q x.pending → StopsOf Q y.pending → StopsOf Q (if b then x else y).pending
+  either true x y i j = i
+  either false x y i j = j
+
+  -- ---- calls of an application
+
+  module _ (s : StreamsState) (p : Retransmits) (i : StopsOf Q p) where
+    blocked_stops : (o : Option SendHalf) (id : ℕ) → StopsOf Q (blocked_at o s p id).pending
+    blocked_stops None id = i
+    blocked_stops (Some h) id = either (room s.sending == 0) (blocked_by_all s p id h) (blocked_by_own s p id) i i
+
+    written_stops : (r : Result ℕ WriteError) (id : ℕ) (bytes : List ℕ) → StopsOf Q (written_by r s p id bytes).pending
+    written_stops (Ok n) id bytes = i
+    written_stops (Err write_errors.Blocked) id bytes = blocked_stops (sending_half s id) id
+    written_stops (Err (write_errors.Stopped code)) id bytes = i
+    written_stops (Err write_errors.ClosedStream) id bytes = i
+    written_stops (Err write_errors.Memory) id bytes = i
+
+    write_stops : (b : Bool) (r : Result ℕ WriteError) (id : ℕ) (bytes : List ℕ) → StopsOf Q (after_write b r s p id bytes).pending
+    write_stops true r id bytes = written_stops r id bytes
+    write_stops false r id bytes = i
+
+    chunks_stops : (b : Bool) (r : Result Written WriteError) (id : ℕ) (cs : List (List ℕ)) → StopsOf Q (after_write_chunks b r s p id cs).pending
+    chunks_stops true (Ok w) id cs = i
+    chunks_stops true (Err e) id cs = written_stops (Err e) id []
+    chunks_stops false r id cs = i
+
+    reset_stops : (o : Option SendHalf) (id code : ℕ) → StopsOf Q (reset_at o s p id code).pending
+    reset_stops None id code = i
+    reset_stops (Some h) id code = either (is_some h.reset) _ _ i i
+
+    finalize_stops : (id : ℕ) → StopsOf Q (after_finalize s p id).pending
+    finalize_stops id = go (stream_grew s id)
+      where
+        go : (b : Bool) → StopsOf Q (with_stream_if b id (settled s p).pending)
+        go true = i
+        go false = i
+
+    told_stops : (r : Result (Option ℕ) ClosedStream) (id : ℕ) → StopsOf Q (reset_told r s p id).pending
+    told_stops (Ok (Some code)) id = i
+    told_stops (Ok None) id = i
+    told_stops (Err e) id = i
+
+    -- a stop is for a stream on which the end receives
+    stop_stops : (id code : ℕ) → ((h : RecvHalf) → receiving_half s id ≡ Some h → Q id) → StopsOf Q (after_stop s p id code).pending
+    stop_stops id code known = go (receiving_half s id) refl
+      where
+        added : Q id → (o : Option ℕ) → StopsOf Q (with_stop o id code p)
+        added here (Some reset) = i
+        added here None = λ r j. elim (in_more r (record { id = id; code = code }) p.stop_sending j) [ inl old ↦ i r old | inr new ↦ subst (λ (x : StopSendingValue). Q x.id) (sym new) here ]
+
+        go : (o : Option RecvHalf) → receiving_half s id ≡ o → StopsOf Q (stopped_at o s p id code).pending
+        go None is = i
+        go (Some h) is = either h.stopped (streams_of s p) (settled (stopped_if (is_some h.final) s id h) (with_stop h.reset id code p)) i (added (known h is) h.reset)
+
+  if_stops : {A E : Type 0} (r : Result A E) (after before : Streams) → StopsOf Q after.pending → StopsOf Q before.pending → StopsOf Q (if_ok r after before).pending
+  if_stops (Ok x) after before i j = i
+  if_stops (Err e) after before i j = j
+
+  -- each call on streams
+  calls_stops : (b : Bool) (t : Streams) (call : Call) (a : Answer) → ((id : ℕ) (h : RecvHalf) → receiving_half t.state id ≡ Some h → Q id) → StopsOf Q t.pending → StopsOf Q (after_on_streams b t call a).pending
+  calls_stops b t (calls.Open dir) a known i = i
+  calls_stops b t (calls.Accept dir) a known i = i
+  calls_stops b t (calls.Write id bytes) (answers.Write answer) known i = write_stops t.state t.pending i b answer id bytes
+  calls_stops b t (calls.WriteChunks id chunks) (answers.WriteChunks answer) known i = chunks_stops t.state t.pending i b answer id chunks.items
+  calls_stops b t (calls.Finish id) (answers.Finish answer) known i = i
+  calls_stops b t (calls.Reset id code) (answers.Reset answer) known i = if_stops answer (after_reset t.state t.pending id code) t (reset_stops t.state t.pending i (sending_half t.state id) id code) i
+  calls_stops b t (calls.SetPriority id priority) (answers.SetPriority answer) known i = if_stops answer _ t i i
+  calls_stops b t (calls.Read read) (answers.Read (Ok nexts)) known i = finalize_stops (after_nexts told_bytes (after_read_begun t.state read.id read.ordered) read.id read.nexts.items nexts) t.pending i read.id
+  calls_stops b t (calls.Stop id code) (answers.Stop answer) known i = if_stops answer (after_stop t.state t.pending id code) t (stop_stops t.state t.pending i id code (known id)) i
+  calls_stops b t (calls.ReceivedReset id) a known i = told_stops t.state t.pending i (received_reset_answer t.state id) id
+  calls_stops b t call a known i = i
+
+  -- ---- what goes
+
+  fewer_stops : (kind : ControlKind) (p : Retransmits) → StopsOf Q p → StopsOf Q (without_first kind p)
+  fewer_stops StopSending p i = λ r j. i r (in_others r p.stop_sending j)
+  fewer_stops kind p i = i
+
+  composed_stops : (e : End) → StopsOf Q e.waiting.frames → StopsOf Q (composed e).end.waiting.frames
+  composed_stops e i = by_writing (λ (d : Draft). StopsOf Q d.end.waiting.frames) (record {
+    ack = λ d filled may j. j;
+    ping = λ d j. j;
+    drops = λ d kind j. fewer_stops kind d.end.waiting.frames j;
+    control = λ d kind entry es f is due j. fewer_stops kind d.end.waiting.frames j;
+    stream = λ d id h room found first some is counts j. j;
+  }) e i
+
+  -- what tracked packets carried stops only such streams
+  abbrev pub TrackedStops : Table TrackedPacket → Type 0
+  TrackedStops packets = (n : ℕ) (t : TrackedPacket) → In (n, t) packets → StopsOf Q t.carried.retransmits
+
+  -- what such a packet carried waits again
+  again_holds : (p r : Retransmits) → StopsOf Q p → StopsOf Q r → StopsOf Q (merged p r)
+  again_holds p r i more s j = elim (in_append s p.stop_sending r.stop_sending j) [ inl old ↦ i s old | inr new ↦ more s new ]
+
+  losing : (packets : Table TrackedPacket) → TrackedStops packets → Losing packets (λ (t : Streams). StopsOf Q t.pending)
+  losing packets carried = record { lost = λ n t m e among inside i. i; again = λ n t e among i. again_holds e.waiting.frames t.carried.retransmits i (carried n t among) }
+
+  -- any call but a delivery
+  pub call_stops : (p : Policy) (e : End) (theirs : List (List ℕ)) (call : Call) (a : Answer) → is_delivery call ≡ false → ((id : ℕ) (h : RecvHalf) → receiving_half e.streams id ≡ Some h → Q id) → TrackedStops e.tracking.packets → StopsOf Q e.waiting.frames
+      → StopsOf Q (after_call p e theirs call a).waiting.frames
+  call_stops p e theirs call a apart known carried i = by_call p e theirs (λ (f : End). StopsOf Q f.waiting.frames) call a (record {
+    same = i;
+    on_streams = λ on answer. calls_stops (is_open e.closing.state) (streams_at e) call a known i;
+    pings = i;
+    heard = λ path same. i;
+    times = λ now acks loss set. by_expired e now (λ (f : End). StopsOf Q f.waiting.frames) (λ pending tracking timers runs packets. i) (λ pending timers runs. expiry_stays (λ (t : Streams). StopsOf Q t.pending) e now (losing e.tracking.packets carried) i pending timers) acks loss;
+    polls = λ now set. poll_streams (λ (t : Streams). StopsOf Q t.pending) p e now composed_stops i (ready_stays (λ (t : Streams). StopsOf Q t.pending) e now (losing e.tracking.packets carried) i);
+    hears = λ now d set. cc;
+    tells = λ asks. by_event e (λ (f : End). StopsOf Q f.waiting.frames) (λ told. i);
+  })
+
+  -- ---- what comes
+
+  -- frames on streams
+  stream_stops : (s : StreamsState) (p : Retransmits) (f : StreamValue) → StopsOf Q p → StopsOf Q (after_stream s p f).pending
+  stream_stops s p f i = go (refusal s f.id (end_of f) f.fin)
+    where
+      part : (o : Option RecvHalf) → StopsOf Q (stream_at o s p f).pending
+      part None = i
+      part (Some h) = i
+
+      go : (o : Option Breach) → StopsOf Q (stream_unless o s p f).pending
+      go (Some b) = i
+      go None = part (part_for s f.id)
+
+  reset_frame_stops : (s : StreamsState) (p : Retransmits) (f : ResetStreamValue) → StopsOf Q p → StopsOf Q (after_reset_frame s p f).pending
+  reset_frame_stops s p f i = go (reset_breach s f)
+    where
+      part : (o : Option RecvHalf) → StopsOf Q (taken_reset o s p f).pending
+      part None = i
+      part (Some h) = i
+
+      go : (o : Option Breach) → StopsOf Q (reset_unless o s p f).pending
+      go (Some b) = i
+      go None = part (part_for s f.id)
+
+  pub frame_stops : (f : FrameValue) (e : End) → OnStreams f → StopsOf Q e.waiting.frames → StopsOf Q (take_frame f e).end.waiting.frames
+  frame_stops (stream f) e on i = stream_stops e.streams e.waiting.frames f i
+  frame_stops (reset_stream f) e on i = reset_frame_stops e.streams e.waiting.frames f i
+  frame_stops (stop_sending f) e on i = i
+  frame_stops (max_data limit) e on i = i
+  frame_stops (max_stream_data f) e on i = i
+  frame_stops (max_streams f) e on i = i
+  frame_stops (stream_data_blocked f) e on i = i
+  frame_stops (streams_blocked f) e on i = i
+  frame_stops f e on i = absurd on
+
+  -- what is acknowledged or lost
+  acked_stops : (o : Option SendHalf) (s : StreamsState) (p : Retransmits) (m : StreamMeta) → StopsOf Q p → StopsOf Q (acked_at o s p m).pending
+  acked_stops None s p m i = i
+  acked_stops (Some h) s p m i = either (is_some h.reset) (streams_of s p) (acked_on h s p m) i
+      (either (is_acked (half_acked h m)) (settled (finished (replaced s m.id (half_acked h m)) m.id) p) (streams_of (replaced s m.id (half_acked h m)) p) i i)
+
+  reset_acked_stops : (o : Option SendHalf) (s : StreamsState) (p : Retransmits) (id : ℕ) → StopsOf Q p → StopsOf Q (reset_acked_at o s p id).pending
+  reset_acked_stops None s p id i = i
+  reset_acked_stops (Some h) s p id i = either (is_some h.reset) (settled (send_done s id) p) (streams_of s p) i i
+
+  -- where each STOP_SENDING that was sent is for such a stream
+  pub settles_stops : (took : List Packet) (sents : List Sent) → ((s : Sent) → In s sents → (g : StopSendingValue) → In (stop_sending g) s.frames → Q g.id) → SettlesOn took sents (λ (e : End). StopsOf Q e.waiting.frames)
+  settles_stops took sents sent = record {
+    known = λ n e i. i;
+    reset = λ c r e was among i. reset_acked_stops (sent_half e.streams r.0) e.streams e.waiting.frames r.0 i;
+    acked = λ c m e was among i. acked_stops (sent_half e.streams m.id) e.streams e.waiting.frames m i;
+    lost = λ c m e was among i. i;
+    again = λ c e was i. again_holds e.waiting.frames c.retransmits i (from_stops Q c was.sent.frames was.is (sent was.sent was.among));
+    tracked = λ t e i. i;
+    measured = λ r e i. i;
+  }

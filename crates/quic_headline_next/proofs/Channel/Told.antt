@@ -1,0 +1,237 @@
+-- How far an end told its peer that it may come, on all streams and on each, the peer may come at it, whatever it does later (RFC 9000, sections 4.1, 19.9 and 19.10).
+use Rattle.std.proofs.Common.{◌≡◌, ℕ, zero, suc, ◌+◌, ◌-◌, ◌≤◌, Bool, true, false, List, [], ◌∷◌, ◌++◌, length, replicate, Option, Some, None, refl, sym, ap, subst, inl, inr, arith}
+use Rattle.std.specs.Prelude.{if◌then◌else◌}
+use Rattle.std.specs.Option.{option_map}
+use Rattle.quic_packet.specs.Number.{truncated}
+use Rattle.quic_wire.specs.Value.{FrameValue, padding, ping, stream, reset_stream, stop_sending, max_data, max_stream_data, max_streams, data_blocked, stream_data_blocked}
+use Rattle.quic_wire.specs.FrameView.{is_one_way}
+use Rattle.quic_streams_parts.specs.Table.{at}
+use Rattle.quic_streams_parts.specs.TableLaws.{at-put}
+use Rattle.quic_streams_parts.specs.SendHalf.{SendHalf, frame_of}
+use Rattle.quic_streams_parts.specs.RecvHalf.{RecvHalf, takes_limits, raised_on}
+use Rattle.quic_streams_halves.specs.Halves.{has_place, changed_at}
+use Rattle.quic_streams_state.specs.declared.state.StreamsState.{StreamsState}
+use Rattle.quic_streams_state.specs.declared.control.ControlKind.{ControlKind}
+use Rattle.quic_streams_state.specs.Limits.{raised_data, raised_count, can_send_data_blocked}
+use Rattle.quic_streams_state.specs.Waiting.{stream_data_blocked_limit}
+use Rattle.quic_streams_state.specs.Control.{Entry, reset_frame, reset_entry, limit_frame, limit_entry, count_entry, waiting}
+use Rattle.quic_streams_laws.specs.Each.{HalfIs}
+use Rattle.quic_streams_laws.specs.ContentLaws.{by_next_answer}
+use Rattle.quic_streams_laws.specs.KeepingLaws.{by_accept, by_read_begun, by_next, by_stop, by_received_reset, by_stream, by_reset_frame, by_frame}
+use Rattle.quic_streams_laws.specs.QuietLaws.{is_quiet, by_told}
+use Rattle.quic_machine_next.specs.declared.run.Call.{Call}
+use Rattle.quic_machine_next.specs.declared.run.Call.TheVariants as calls
+use Rattle.quic_machine_next.specs.declared.run.Answer.{Answer}
+use Rattle.quic_machine_next.specs.declared.run.Answer.TheVariants as answers
+use Rattle.quic_machine_next.specs.Policy.{Policy}
+use Rattle.quic_spaces.specs.Numbers.{cut_against}
+use Rattle.quic_machine_next.specs.End.{End, number_of}
+use Rattle.quic_machine_next.specs.Receive.{Outcome, take_frame}
+use Rattle.quic_machine_next.specs.Poll.{Draft, Polled, composed, lazied, polled}
+use Rattle.quic_machine_next.specs.DraftLaws.{by_writing}
+use Rattle.quic_machine_next.specs.PollCases.{at_moment, frames_padded, frames_at, by_poll}
+use Rattle.quic_machine_next.specs.FrameCases.{begun, passed, frames_keep}
+use Rattle.quic_machine_next.specs.Machine.{IsAnswer, after_call, gave}
+use Rattle.quic_headline_next.specs.Runs.{In, Intake}
+use Rattle.quic_headline_next.specs.Observer.{Sent}
+use Rattle.quic_headline_next.proofs.Packets.Growth.{in_more}
+use Rattle.quic_headline_next.proofs.Packets.Entries.{by_first}
+use Rattle.quic_headline_next.proofs.Packets.Delivered.{Arrivals}
+use Rattle.quic_headline_next.proofs.Packets.Group.{meets}
+use Rattle.quic_headline_next.proofs.Places.Told.{in_append}
+use Rattle.quic_headline_next.proofs.Places.Steps.{poll_answer}
+use Rattle.quic_headline_next.proofs.Places.Parties.{Party, called, came_to, sent_by, sent_if, sents_by}
+use Rattle.quic_headline_next.proofs.Places.Groups.{Way, Calls}
+use Rattle.quic_headline_next.proofs.Places.Coming.{by_coming}
+use Rattle.quic_headline_next.proofs.Halves.Ghosts.{wrote, IsWriting}
+use Rattle.quic_headline_next.proofs.Halves.QuietSteps.{frame_quiet, sent_within}
+use Rattle.quic_headline_next.proofs.Halves.ReadCalls.{IsKept, call_kept}
+use Rattle.quic_headline_next.proofs.Channel.Below.{frame_below, reset_below, read_below, begun_below, stopped_below}
+use Rattle.quic_headline_next.proofs.Channel.Received.{Allows, Stays, stays_self, stays_then, stays_kept}
+
+-- ---- calls and frames
+
+-- each word about what an end receives leaves it within what was told before
+stays_calls : (before : StreamsState) → IsKept (Stays before)
+stays_calls before = record {
+  quiet = is_quiet (Stays before) (stays_kept before);
+  begun = λ s id ordered i. by_read_begun (Stays before) (stays_kept before) s id ordered (λ h e b ended. begun_below s.receiving h b) i;
+  next = λ told s id most answer is i. by_next_answer (Stays before) told s id most answer is (by_next (Stays before) (stays_kept before) told s id most (λ h c e f b ended. read_below s.receiving h most b) i) i;
+  stop = λ s p id code i. by_stop (Stays before) (stays_kept before) s p id code (λ h e b ended. stopped_below s.receiving h b) i;
+  received_reset = λ s p id i. by_received_reset (Stays before) (stays_kept before) s p id i;
+}
+
+-- so does a frame
+pub stays_frame : (before : StreamsState) (f : FrameValue) (e : End) → Stays before e.streams → Stays before (take_frame f e).end.streams
+stays_frame before f e i = frame_quiet (Stays before) (is_quiet (Stays before) (stays_kept before)) f e
+    (λ g is. by_stream (Stays before) (stays_kept before) e.streams e.waiting.frames g (λ h a u b ended. frame_below e.streams.receiving h g u b) i)
+    (λ g is. by_reset_frame (Stays before) (stays_kept before) e.streams e.waiting.frames g (λ h a u b ended. reset_below e.streams.receiving h g.code g.final_size ended u b) i)
+    i
+
+-- and all frames of a packet
+stays_frames : (before : StreamsState) (fs : List FrameValue) (e : End) → Stays before e.streams → Stays before (passed fs e).end.streams
+stays_frames before fs e i = frames_keep (λ (x : End). Stays before x.streams) (stays_frame before) fs e i
+
+-- ---- what a frame tells
+
+-- how far the peer may come now is as far as a frame tells, or further
+abbrev pub IsTold : StreamsState → FrameValue → Type 0
+IsTold s (max_data limit) = limit ≤ s.receiving.announced
+IsTold s (max_stream_data f) = Allows s f.id f.limit
+IsTold s f = Unit {0}
+
+-- and so it stays
+pub told_stays : (before s : StreamsState) (f : FrameValue) → Stays before s → IsTold before f → IsTold s f
+told_stays before s (max_data limit) i is = let more = i.receives.more in omega arith
+told_stays before s (max_stream_data f) i is = i.receives.allows f.id f.limit is
+told_stays before s f i is = tt
+
+-- the frame of what waits tells no more than what the end holds then
+abbrev TellsSo : Entry → Type 0
+TellsSo e = (s : StreamsState) (f : FrameValue) → e.frame s ≡ Some f → IsTold (e.told s) f
+
+one_is : (s : StreamsState) (g f : FrameValue) → IsTold s g → Some g ≡ Some f → IsTold s f
+one_is s g f is due = let same : g ≡ f = cc in subst (IsTold s) same is
+
+reset_tells : (r : ℕ × ℕ) → TellsSo (reset_entry r)
+reset_tells r s f = go (at s.sending.halves.live r.0)
+  where
+    sized : (o : Option ℕ) → option_map (λ size. reset_stream (record { id = r.0; code = r.1; final_size = size })) o ≡ Some f → IsTold s f
+    sized None due = cc
+    sized (Some size) due = one_is s (reset_stream (record { id = r.0; code = r.1; final_size = size })) f tt due
+
+    go : (o : Option SendHalf) → reset_frame r o ≡ Some f → IsTold s f
+    go None due = cc
+    go (Some h) due = sized h.reset due
+
+-- a half whose limit is told, and the streams with it
+abbrev raised_half : ℕ → RecvHalf → RecvHalf
+raised_half window h = record h { announced = raised_on window h }
+
+abbrev with_raised : StreamsState → ℕ → Option RecvHalf → StreamsState
+with_raised s id o = record s { receiving = record s.receiving { halves = record s.receiving.halves { live = changed_at o (raised_half s.receiving.stream_window) s.receiving.halves.live id } } }
+
+limit_tells : (id : ℕ) → TellsSo (limit_entry id)
+limit_tells id s f = go (at s.receiving.halves.live id) refl
+  where
+    here : (h : RecvHalf) → at s.receiving.halves.live id ≡ Some h → Allows (with_raised s id (Some h)) id (raised_on s.receiving.stream_window h)
+    here h is =
+        let n : ℕ = raised_on s.receiving.stream_window h in
+        let enough : n ≤ (raised_half s.receiving.stream_window h).announced = omega arith in
+        subst (λ o. HalfIs (n ≤ s.receiving.stream_window) (λ (x : RecvHalf). n ≤ x.announced) (Unit {0}) o (has_place s.side s.receiving.halves.places id)) (sym (at-put s.receiving.halves.live id h (raised_half s.receiving.stream_window h) is)) enough
+
+    taken : (h : RecvHalf) → at s.receiving.halves.live id ≡ Some h → (b : Bool) → (if b then Some (max_stream_data (record { id = id; limit = raised_on s.receiving.stream_window h })) else None) ≡ Some f → IsTold (with_raised s id (Some h)) f
+    taken h is true due = one_is (with_raised s id (Some h)) (max_stream_data (record { id = id; limit = raised_on s.receiving.stream_window h })) f (here h is) due
+    taken h is false due = cc
+
+    go : (o : Option RecvHalf) → at s.receiving.halves.live id ≡ o → limit_frame s.receiving.stream_window id o ≡ Some f → IsTold (with_raised s id o) f
+    go None is due = cc
+    go (Some h) is due = taken h is (takes_limits h) due
+
+all_blocked_tells : (s : StreamsState) (f : FrameValue) (b : Bool) → (if b then Some (data_blocked s.sending.limit) else None) ≡ Some f → IsTold s f
+all_blocked_tells s f true due = one_is s (data_blocked s.sending.limit) f tt due
+all_blocked_tells s f false due = cc
+
+blocked_tells : (id : ℕ) (s : StreamsState) (f : FrameValue) (o : Option ℕ) → option_map (λ limit. stream_data_blocked (record { id = id; limit = limit })) o ≡ Some f → IsTold s f
+blocked_tells id s f None due = cc
+blocked_tells id s f (Some limit) due = one_is s (stream_data_blocked (record { id = id; limit = limit })) f tt due
+
+entry_tells : (kind : ControlKind) (e : Entry) (es : List Entry) (d : Draft) → waiting kind d.end.waiting.frames ≡ e ∷ es → TellsSo e
+entry_tells kind e es d is = by_first d.end.waiting.frames TellsSo (record {
+  resets = λ r i. reset_tells r;
+  stops = λ r i s f due. one_is s (stop_sending r) f tt due;
+  all_limits = λ s f due. (let t : StreamsState = record s { receiving = record s.receiving { announced = raised_data s.receiving } } in one_is t (max_data (raised_data s.receiving)) f (omega arith) due);
+  limits = λ id i. limit_tells id;
+  counts = λ dir s f due. one_is ((count_entry dir).told s) (max_streams (record { one_way = is_one_way dir; count = raised_count dir s.opening })) f tt due;
+  all_blocked = λ s f due. all_blocked_tells s f (can_send_data_blocked s) due;
+  blocked = λ id i s f due. blocked_tells id s f (stream_data_blocked_limit s id) due;
+}) kind e es is
+
+-- ---- what an end gives
+
+-- the frames of a draft are told, and its streams stay within what was told before
+record Tells (before : StreamsState) (d : Draft) : Type 0 where
+  stays : Stays before d.end.streams
+  frames : (f : FrameValue) → In f d.frames → IsTold d.end.streams f
+
+-- one frame more, that leaves other streams
+more_told : (s t : StreamsState) (fs : List FrameValue) (g : FrameValue) → Stays s t → ((f : FrameValue) → In f fs → IsTold s f) → IsTold t g → (f : FrameValue) → In f (fs ++ g ∷ []) → IsTold t f
+more_told s t fs g stays all one f i = elim (in_more f g fs i) [ inl old ↦ told_stays s t f stays (all f old) | inr new ↦ subst (IsTold t) (sym new) one ]
+
+composed_tells : (before : StreamsState) (e : End) → Stays before e.streams → Tells before (composed e)
+composed_tells before e i = by_writing (Tells before) (record {
+  ack = λ d filled may t. record { stays = t.stays; frames = more_told d.end.streams d.end.streams d.frames _ (stays_self before d.end.streams t.stays) t.frames tt };
+  ping = λ d t. record { stays = t.stays; frames = more_told d.end.streams d.end.streams d.frames ping (stays_self before d.end.streams t.stays) t.frames tt };
+  drops = λ d kind t. record { stays = t.stays; frames = t.frames };
+  control = λ d kind entry es f is due t. (
+      let s : StreamsState = d.end.streams in
+      let on : Stays s (entry.told s) = by_told (Stays s) (stays_kept s) kind d.end.waiting.frames entry es s is (stays_self before s t.stays) in
+      record { stays = stays_then before s (entry.told s) t.stays on; frames = more_told s (entry.told s) d.frames f on t.frames (entry_tells kind entry es d is s f due) });
+  stream = λ d id h room found first some is counts t. (
+      let s : StreamsState = d.end.streams in
+      let on = by_frame (Stays s) (stays_kept s) d.end.transport.send_fairness s id room h found tt (stays_self before s t.stays) in
+      record { stays = stays_then before s _ t.stays on; frames = more_told s _ d.frames (stream (frame_of id h room)) on t.frames tt });
+}) e (record { stays = i; frames = λ f j. absurd j })
+
+-- PADDING tells nothing
+padded_told : (s : StreamsState) (fs : List FrameValue) (count : ℕ) → ((f : FrameValue) → In f fs → IsTold s f) → (f : FrameValue) → In f (fs ++ replicate count padding) → IsTold s f
+padded_told s fs count all f i = elim (in_append f fs (replicate count padding) i) [ inl here ↦ all f here | inr behind ↦ zeros count behind ]
+  where
+    zeros : (n : ℕ) → In f (replicate n padding) → IsTold s f
+    zeros zero i = absurd i
+    zeros (suc n) (inl is) = subst (IsTold s) (sym is) tt
+    zeros (suc n) (inr i) = zeros n i
+
+-- each frame of these is told
+abbrev pub AllTold : StreamsState → List Sent → Type 0
+AllTold s sents = (t : Sent) → In t sents → (f : FrameValue) → In f t.frames → IsTold s f
+
+-- what a poll gives is told at the end that it leaves
+poll_told : (p : Policy) (e : End) (now : ℕ) → Stays e.streams e.streams → AllTold (polled p e now).end.streams (sent_if (gave (answers.Poll (polled p e now).answer)) (sent_by e now))
+poll_told p e now i = by_poll p e now (λ (q : Polled). AllTold q.end.streams (sent_if (gave (answers.Poll q.answer)) (sent_by e now))) (record {
+  silent = λ t j. absurd j;
+  failed = λ t j. absurd j;
+  idle = λ tracked waits ready t j. absurd j;
+  used_up = λ tracked waits ready t j. absurd j;
+  gives = λ tracked waits tracking timers is may some ready t j f k. (
+      let x : End = lazied (at_moment e now tracked waits) in
+      let d : Draft = composed x in
+      let frames_are : frames_at e now ≡ frames_padded d = ap (λ (y : End). frames_padded (composed (lazied y))) ready in
+      let among : In f (frames_at e now) = one t j f k in
+      padded_told d.end.streams d.frames (4 - ((truncated (number_of d.end) (cut_against d.end.numbers)).width + length d.bytes)) (composed_tells e.streams x i).frames f (subst (In f) frames_are among));
+})
+  where
+    one : (t : Sent) → In t (sent_by e now ∷ []) → (f : FrameValue) → In f t.frames → In f (frames_at e now)
+    one t (inl is) f k = subst (λ (u : Sent). In f u.frames) is k
+    one t (inr none) f k = absurd none
+
+-- ---- a call
+
+module _ (B : Way) (w : IsWriting B) (x y : Party) (call : Call) (a : Answer) (c : Calls B x y call a) (here : Stays x.end.streams x.end.streams) where
+  -- it leaves the end within what was told before
+  pub stays_call : Stays x.end.streams (called x y.given call a).end.streams
+  stays_call = by_coming x y a c.joined c.served (meets y x (w.packets y x c.takes)) (λ (e : End) (i : Intake). Stays x.end.streams e.streams) call c.answer (record {
+    apart = λ apart. call_kept (Stays x.end.streams) (stays_calls x.end.streams) x.policy x.end y.given (sent_within (wrote x.told) x.end.streams (w.written x y c.gives)) here call a c.answer apart
+        (λ dir is. by_accept (Stays x.end.streams) (stays_kept x.end.streams) dir x.end.streams (λ may. may) here);
+    none = λ delivery is. here;
+    comes = λ delivery is s among. arrivals delivery.now s.number s.frames;
+  })
+    where
+      arrivals : (now n : ℕ) (fs : List FrameValue) → Arrivals x.end now n fs (came_to x y) (λ (o : Outcome) (i : Intake). Stays x.end.streams o.end.streams)
+      arrivals now n fs = record {
+        ignored = λ reason. here;
+        noted = λ state reason. here;
+        takes = λ state new none. stays_frames x.end.streams fs (begun x.end now n) here;
+        refuses = λ state new f is. stays_frames x.end.streams fs (begun x.end now n) here;
+      }
+
+  -- and what it gave is told
+  pub told_call : AllTold x.end.streams x.sents → AllTold (called x y.given call a).end.streams (x.sents ++ sents_by x.end call a)
+  told_call before t i = elim (in_append t x.sents (sents_by x.end call a) i) [
+    | inl old ↦ λ f k. told_stays x.end.streams (called x y.given call a).end.streams f stays_call (before t old f k)
+    | inr new ↦ go call c.answer t new
+  ]
+    where
+      go : (k : Call) → IsAnswer x.policy x.end y.given k a → AllTold (after_call x.policy x.end y.given k a).streams (sents_by x.end k a)
+      go (calls.Poll now) is = subst (λ (b : Answer). AllTold (polled x.policy x.end now).end.streams (sent_if (gave b) (sent_by x.end now))) (sym (poll_answer x.policy x.end now a is c.served)) (poll_told x.policy x.end now here)
+      go k is = λ t j. absurd j

@@ -1,0 +1,12 @@
+-- Where what has to reach the peer is, until it arrives.
+pub mod Flies
+pub mod InStreams
+pub mod Carrier
+pub mod Tail
+pub mod UnderWay
+pub mod Resets
+pub mod Lasting
+pub mod Limits
+pub mod LimitsGo
+pub mod Group
+pub mod Ledger

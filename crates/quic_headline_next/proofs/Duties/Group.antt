@@ -1,0 +1,248 @@
+-- What has to reach the peer is somewhere, as a group: what is in flight of streams stands in tracked packets, and a reset waits, stands in one, or came.
+use Rattle.std.proofs.Common.{◌≡◌, ℕ, Bool, true, false, List, [], ◌∷◌, ◌++◌, Option, Some, None, refl, sym, ap, ◌∙◌, subst, inl, inr}
+use Rattle.std.specs.Option.{IsSome, is_some}
+use Rattle.quic_config.specs.Transport.{Settings, parameters_of}
+use Rattle.quic_streams_state.specs.State.{new_streams}
+use Rattle.quic_streams_laws.specs.Written.{Wrote, nothing_done}
+use Rattle.quic_streams_laws.specs.WroteLaws.{with_same, with_new, with_set_params}
+use Rattle.quic_machine_next.specs.declared.run.Call.{Call}
+use Rattle.quic_machine_next.specs.declared.run.Call.TheVariants as calls
+use Rattle.quic_machine_next.specs.declared.run.Answer.{Answer}
+use Rattle.quic_machine_next.specs.End.{End, streams_at, number_of}
+use Rattle.quic_machine_next.specs.Calls.{is_open}
+use Rattle.quic_machine_next.specs.StreamCalls.{is_on_streams}
+use Rattle.quic_machine_next.specs.Poll.{polled}
+use Rattle.quic_machine_next.specs.PollCases.{ready_at}
+use Rattle.quic_machine_next.specs.CallCases.{is_delivery}
+use Rattle.quic_machine_next.specs.Machine.{IsAnswer, after_call, gave}
+use Rattle.quic_streams_laws.specs.Quiet.{IsSentWithin}
+use Rattle.quic_machine_next.specs.Receive.{Outcome}
+use Rattle.quic_headline_next.specs.Runs.{Packet, Intake, In, first_of, reset_by, reset, nothing_came}
+use Rattle.quic_headline_next.specs.Observer.{Sent}
+use Rattle.quic_headline_next.specs.Duties.{Duty, Limited, limit_frame, WasGiven}
+use Rattle.quic_headline_next.proofs.Packets.Invariant.{IsSent}
+use Rattle.quic_headline_next.proofs.Packets.Growth.{step_of}
+use Rattle.quic_headline_next.proofs.Packets.Intakes.{took_more}
+use Rattle.quic_headline_next.proofs.Packets.Delivered.{Arrivals}
+use Rattle.quic_headline_next.proofs.Packets.MayGo.{AreReady}
+use Rattle.quic_headline_next.proofs.Packets.Group.{PacketsHold, meets}
+use Rattle.quic_headline_next.proofs.Places.Parties.{sent_by, sent_if, sents_by, told_of, Party, called, came_to, Beginning, begun_as, AreMade}
+use Rattle.quic_headline_next.proofs.Places.Told.{in_append}
+use Rattle.quic_headline_next.proofs.Places.Steps.{poll_answer}
+use Rattle.quic_headline_next.proofs.Places.Groups.{Way, Calls, Group}
+use Rattle.quic_headline_next.proofs.Places.Coming.{by_coming}
+use Rattle.quic_headline_next.proofs.Halves.Wrote.{wrote, done_by, reset_more}
+use Rattle.quic_headline_next.proofs.Halves.WordsCalls.{call_on_is}
+use Rattle.quic_headline_next.proofs.Halves.Small.{payload_small}
+use Rattle.quic_headline_next.proofs.Halves.Says.{sent_says}
+use Rattle.quic_headline_next.proofs.Halves.Arrived.{small_limits}
+use Rattle.quic_headline_next.proofs.Halves.Writer.{WritesHold, done_behind}
+use Rattle.quic_headline_next.proofs.Halves.QuietSteps.{sent_within}
+use Rattle.quic_headline_next.proofs.Channel.Names.{NamesHold}
+use Rattle.quic_headline_next.proofs.Channel.Received.{Stays}
+use Rattle.quic_headline_next.proofs.Channel.Within.{Within}
+use Rattle.quic_headline_next.proofs.Duties.Flies.{FliesIn, flies_along}
+use Rattle.quic_headline_next.proofs.Duties.Carrier.{IsNew}
+use Rattle.quic_headline_next.proofs.Duties.Tail.{AskBefore, next_new, before_call}
+use Rattle.quic_headline_next.proofs.Duties.UnderWay.{InPackets, Fly, TrackedEnds, arrivals_fly, call_fly}
+use Rattle.quic_headline_next.proofs.Duties.Resets.{ResetStands, reset_on, arrivals_stand, call_resets, call_stands}
+use Rattle.quic_headline_next.proofs.Duties.Lasting.{Knows, knows_lasts, call_lasts}
+use Rattle.quic_headline_next.proofs.Duties.Limits.{LimitStands, Stated, arrivals_stated}
+use Rattle.quic_headline_next.proofs.Duties.LimitsGo.{stands_more, polled_stands, polled_says, call_stated}
+
+-- what is in flight of the streams of x stands in packets that it tracks, and each of its resets is somewhere, and each limit that it said
+pub record Flying (x y : Party) : Type 0 where
+  pub fly : Fly (wrote x.told) x.end
+  pub resets : (id : ℕ) → IsSome (reset id x.told) → ResetStands (came_to y x).took id x.end
+  pub limits : (what : Limited) (value : ℕ) → WasGiven x.sents (limit_frame what value) → Stated (came_to y x).took x.sents what value x.end
+  -- what was sent since the last datagram that asks doesn't ask
+  pub asked : AskBefore x.sents x.end.tracking.greatest_asking
+
+-- What that rests on: the packets between both ends, what was written, that what waits may go, and that the limits which an end said don't fall.
+pub record IsReadied (B : Way) : Type 1 where
+  pub packets : (x y : Party) → B x y → PacketsHold x y
+  pub writes : (x y : Party) → B x y → WritesHold x y
+  pub ready : (x y : Party) → B x y → (now : ℕ) → AreReady (ready_at x.end now).streams.sending.halves.live (ready_at x.end now).waiting.frames
+  pub names : (x y : Party) → B x y → NamesHold x y
+  pub within : (x y : Party) → B x y → Within x y
+
+-- a call that is none on streams resets none
+none_reset : (id : ℕ) (call : Call) (a : Answer) → is_on_streams call ≡ false → IsSome (reset_by id call a) → ⊥
+none_reset id (calls.Reset s code) a off some = cc
+none_reset id call a off some = cc
+
+module _ (B : Way) (b : IsReadied B) (x y : Party) (call : Call) (a : Answer) (c : Calls B x y call a) (i : Flying x y) where
+  gives : PacketsHold x y
+  gives = b.packets x y c.gives
+
+  takes : PacketsHold y x
+  takes = b.packets y x c.takes
+
+  abbrev done : ℕ → Wrote
+  done = wrote x.told
+
+  abbrev took : List Packet
+  took = (came_to y x).took
+
+  -- the number that goes next is none of a tracked packet
+  new : IsNew x.end.tracking.packets (number_of x.end)
+  new = next_new x.sents x.end gives.gives.below gives.tracked
+
+  -- what is tracked says what was done
+  ends : TrackedEnds done x.end.tracking.packets
+  ends p among =
+      let was = gives.tracked p.0 p.1 among in
+      (sent_says done x.sents (b.writes x y c.gives).says p.1.carried (record { sent = was.0; among = was.1.0; is = was.2 })).ends
+
+  -- what is in flight stands still where it is to
+  fly_call : Fly (wrote (called x y.given call a).told) (called x y.given call a).end
+  fly_call = with_same (FliesIn F) (λ id w. Unit {0}) (flies_along F) (done_by call a done) (wrote (called x y.given call a).told) (called x y.given call a).end.streams (done_behind B b.packets x y call a c (b.writes x y c.gives))
+      (by_coming x y a c.joined c.served (meets y x takes) (λ (e : End) (j : Intake). Fly (done_by call a done) e) call c.answer (record {
+        apart = λ apart. call_fly done x.sents x.policy x.end y.given call a apart c.answer gives.ascends gives.tracked i.asked new ends i.fly;
+        none = λ delivery is. subst (λ (k : Call). Fly (done_by k a done) x.end) (sym is) i.fly;
+        comes = λ delivery is s among. (
+            let spelled = step_of (IsSent y.policy x.id) y.sents y.given s takes.gives.each among in
+            subst (λ (k : Call). Arrivals x.end delivery.now s.number s.frames (came_to x y) (λ (o : Outcome) (j : Intake). Fly (done_by k a done) o.end)) (sym is)
+            (arrivals_fly done x.end delivery.now s.number s.frames (came_to x y) (payload_small s.frames spelled.1.payload spelled.1.spells) ends i.fly));
+      }))
+    where
+      F : Duty → Type 0
+      F = InPackets (called x y.given call a).end.tracking.packets
+
+  -- a reset that was somewhere is so still
+  old_reset : (id : ℕ) → IsSome (reset id x.told) → ResetStands took id (called x y.given call a).end
+  old_reset id some = by_coming x y a c.joined c.served (meets y x takes) (λ (e : End) (j : Intake). ResetStands took id e) call c.answer (record {
+    apart = λ apart. call_stands took x.sents id x.policy x.end y.given call a apart gives.ascends gives.tracked i.asked new (b.ready x y c.gives) (i.resets id some);
+    none = λ delivery is. i.resets id some;
+    comes = λ delivery is s among. arrivals_stand took id x.sents (record { taken = gives.taken; rising = gives.gives.rising }) x.end delivery.now s.number s.frames (came_to x y)
+        (λ ak carried k named. takes.named s ak k among carried named) gives.tracked (i.resets id some);
+  })
+
+  -- a new one waits
+  new_reset : (id : ℕ) → IsSome (reset_by id call a) → ResetStands took id (called x y.given call a).end
+  new_reset id some = go (is_on_streams call) refl
+    where
+      go : (on : Bool) → is_on_streams call ≡ on → ResetStands took id (called x y.given call a).end
+      go true on =
+          let k = call_on_is x.policy x.end y.given call a on in
+          inl (ap (λ (e : End). reset_on id e) k.same ∙ call_resets id (is_open x.end.closing.state) (streams_at x.end) call a (k.answer c.answer) some)
+      go false off = absurd (none_reset id call a off some)
+
+  -- ---- limits
+
+  -- what the call sends
+  abbrev sends : List Sent
+  sends = sents_by x.end call a
+
+  -- what was said before is somewhere where more was sent
+  further : (what : Limited) (value : ℕ) (e : End) → Stated took x.sents what value e → Stated took (x.sents ++ sends) what value e
+  further what value e s = record { knows = s.knows; stand = stands_more took x.sents sends what value e s.stand }
+
+  -- the streams of x hold what it told
+  told_stays : Stays x.end.streams x.end.streams
+  told_stays = (b.within y x c.takes).stays
+
+  -- a limit that was said before, behind a call but a delivery
+  apart_on : (what : Limited) (value : ℕ) → WasGiven x.sents (limit_frame what value) → (k : Call) → is_delivery k ≡ false → IsAnswer x.policy x.end y.given k a → Stated took (x.sents ++ sents_by x.end k a) what value (after_call x.policy x.end y.given k a)
+  apart_on what value said (calls.Poll now) apart is = record {
+    knows = call_lasts (Knows what) (knows_lasts what) x.policy x.end y.given (calls.Poll now) a within apart is was.knows;
+    stand = subst (λ (o : Answer). LimitStands took (x.sents ++ sent_if (gave o) (sent_by x.end now)) what value (polled x.policy x.end now).end) (sym (poll_answer x.policy x.end now a is c.served))
+        (polled_stands took x.sents what value x.policy x.end now gives.ascends i.asked new ((b.within y x c.takes).told said.sent said.among (limit_frame what value) said.carried) ((b.names x y c.gives).given said.sent said.among (limit_frame what value) said.carried) told_stays was.knows was.stand);
+  }
+    where
+      was : Stated took x.sents what value x.end
+      was = i.limits what value said
+
+      within : (id : ℕ) → IsSentWithin x.end.streams id
+      within = sent_within done x.end.streams (b.writes x y c.gives).writes.keeps.holds
+  apart_on what value said k apart is = record {
+    knows = call_lasts (Knows what) (knows_lasts what) x.policy x.end y.given k a within apart is was.knows;
+    stand = stands_more took x.sents [] what value (after_call x.policy x.end y.given k a) (call_stated took x.sents what value x.policy x.end y.given k a within apart refl is was.stand);
+  }
+    where
+      was : Stated took x.sents what value x.end
+      was = i.limits what value said
+
+      within : (id : ℕ) → IsSentWithin x.end.streams id
+      within = sent_within done x.end.streams (b.writes x y c.gives).writes.keeps.holds
+
+  -- behind any call
+  old_limit : (what : Limited) (value : ℕ) → WasGiven x.sents (limit_frame what value) → Stated took (x.sents ++ sends) what value (called x y.given call a).end
+  old_limit what value said = by_coming x y a c.joined c.served (meets y x takes) (λ (e : End) (j : Intake). Stated took (x.sents ++ sends) what value e) call c.answer (record {
+    apart = λ apart. apart_on what value said call apart c.answer;
+    none = λ delivery is. further what value x.end (i.limits what value said);
+    comes = λ delivery is s among. (
+        let all = arrivals_stated took x.sents what value (record { taken = gives.taken; rising = gives.gives.rising }) x.end delivery.now s.number s.frames (came_to x y) (λ ak carried k named. takes.named s ak k among carried named) (i.limits what value said) in
+        record {
+          ignored = λ reason. further what value _ (all.ignored reason);
+          noted = λ state reason. further what value _ (all.noted state reason);
+          takes = λ state new none. further what value _ (all.takes state new none);
+          refuses = λ state new f is. further what value _ (all.refuses state new f is);
+        });
+  })
+
+  -- a new one is under way
+  new_limit : (what : Limited) (value : ℕ) (k : Call) → IsAnswer x.policy x.end y.given k a → (t : Sent) → In t (sents_by x.end k a) → In (limit_frame what value) t.frames → Stated took (x.sents ++ sents_by x.end k a) what value (after_call x.policy x.end y.given k a)
+  new_limit what value (calls.Poll now) is t among carried =
+      let same = poll_answer x.policy x.end now a is c.served in
+      let says = polled_says took x.sents what value x.policy x.end now gives.ascends i.asked new told_stays.shape t (subst (λ (o : Answer). In t (sent_if (gave o) (sent_by x.end now))) same among) carried in
+      record { knows = says.0; stand = subst (λ (o : Answer). LimitStands took (x.sents ++ sent_if (gave o) (sent_by x.end now)) what value (polled x.policy x.end now).end) (sym same) says.1 }
+  new_limit what value k is t among carried = absurd among
+
+  said_limit : (what : Limited) (value : ℕ) → WasGiven (x.sents ++ sends) (limit_frame what value) → Stated took (x.sents ++ sends) what value (called x y.given call a).end
+  said_limit what value said = elim (in_append said.sent x.sents sends said.among) [
+    | inl old ↦ old_limit what value (record { sent = said.sent; among = old; carried = said.carried })
+    | inr now ↦ new_limit what value call c.answer said.sent now said.carried
+  ]
+
+  flying_call : Flying (called x y.given call a) y
+  flying_call = record {
+    fly = fly_call;
+    limits = said_limit;
+    asked = before_call x.policy x.end y.given call a x.sents c.answer c.served gives.gives.below i.asked;
+    resets = λ id some. go id (reset id x.told) refl (subst (λ (o : Option ℕ). IsSome o) (reset_more id x.told (told_of call a x.end.closing.state)) some);
+  }
+    where
+      go : (id : ℕ) (o : Option ℕ) → reset id x.told ≡ o → IsSome (first_of o (reset_by id call a)) → ResetStands took id (called x y.given call a).end
+      go id (Some code) is some = old_reset id (ap is_some is)
+      go id None is some = new_reset id some
+
+-- what came stays so
+came_on : (old later : List Packet) (id : ℕ) (e : End) → ((packet : Packet) → In packet old → In packet later) → ResetStands old id e → ResetStands later id e
+came_on old later id e keeps (inl waits) = inl waits
+came_on old later id e keeps (inr (inl flies)) = inr (inl flies)
+came_on old later id e keeps (inr (inr came)) = inr (inr (record { packet = came.packet; was_taken = keeps came.packet came.was_taken; frame = came.frame; carried = came.carried; of_stream = came.of_stream }))
+
+limit_came_on : (old later : List Packet) (own : List Sent) (what : Limited) (value : ℕ) (e : End) → ((packet : Packet) → In packet old → In packet later) → LimitStands old own what value e → LimitStands later own what value e
+limit_came_on old later own what value e keeps (inl ends) = inl ends
+limit_came_on old later own what value e keeps (inr (inl waits)) = inr (inl waits)
+limit_came_on old later own what value e keeps (inr (inr (inl flies))) = inr (inr (inl flies))
+limit_came_on old later own what value e keeps (inr (inr (inr came))) = inr (inr (inr (record { packet = came.packet; was_taken = keeps came.packet came.was_taken; limit = came.limit; carried = came.carried; enough = came.enough })))
+
+-- nothing was written
+flying_first : (x y : Beginning) → AreMade x y → Flying (begun_as x y) (begun_as y x)
+flying_first x y m =
+    let s : Settings = x.making.settings in
+    record {
+      fly = with_set_params (FliesIn (InPackets [])) (λ id w. Unit {0}) (λ id. nothing_done) (new_streams x.side s.max_uni s.max_bidi s.send_window s.receive_window s.stream_receive_window) (parameters_of y.making.settings) (small_limits y.making.settings m.y_is.range)
+          (with_new (FliesIn (InPackets [])) (λ id w. Unit {0}) x.side s.max_uni s.max_bidi s.send_window s.receive_window s.stream_receive_window);
+      resets = λ id some. cc;
+      limits = λ what value said. absurd said.among;
+      asked = λ s among. absurd among;
+    }
+
+-- it holds at the start, and stays with each call at either end
+pub flying_group : (B : Way) → IsReadied B → Group B Flying
+flying_group B b = record {
+  first = λ x y m there back. flying_first x y m;
+  writer = λ x y call a c i back. flying_call B b x y call a c i;
+  reader = λ x y call a c back i. record {
+    fly = i.fly;
+    asked = i.asked;
+    resets = λ id some. came_on (came_to x y).took (came_to (called x y.given call a) y).took id y.end (took_more x.policy y.final x.told (told_of call a x.end.closing.state) (nothing_came (x.id ∷ []))) (i.resets id some);
+    limits = λ what value said. (let was = i.limits what value said in record {
+      knows = was.knows;
+      stand = limit_came_on (came_to x y).took (came_to (called x y.given call a) y).took y.sents what value y.end (took_more x.policy y.final x.told (told_of call a x.end.closing.state) (nothing_came (x.id ∷ []))) was.stand;
+    });
+  };
+}

@@ -1,0 +1,10 @@
+pub mod Duties
+pub mod Halves
+pub mod Packets
+pub mod Places
+pub mod Timers
+pub mod Causes
+pub mod Settled
+pub mod Channel
+pub mod Amounts
+pub mod Grown

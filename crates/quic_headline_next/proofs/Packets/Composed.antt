@@ -1,0 +1,295 @@
+-- What an end composes spells the payload of its next datagram, whatever its frames mean (RFC 9000, sections 12.4 and 19).
+use Rattle.std.proofs.Common.{◌≡◌, ℕ, ◌+◌, ◌-◌, ◌<◌, ◌≤◌, ◌^◌, zero, suc, Bool, true, false, cond, ◌&&◌, ◌||◌, ◌==◌, min, List, [], ◌∷◌, ◌++◌, length, drop, replicate, Some, None, refl, sym, ap, ◌⊎◌, inl, inr, arith}
+use Rattle.std.specs.Prelude.{nat_le, nat_lt, ◌/◌}
+use Rattle.std.proofs.lemmas.Bool.{leb-true, ltb-false, and_parts}
+use Rattle.std.proofs.lemmas.List.{append-nil, append_assoc, length-append, length-take, length-drop}
+use Rattle.quic_wire_core.specs.Law.{length-shortest, varint_size_le}
+use Rattle.quic_packet.specs.Number.{truncated}
+use Rattle.quic_wire.specs.Value.{FrameValue, StreamValue, ack, padding, ping, stream}
+use Rattle.quic_wire.specs.Grammar.{Payload}
+use Rattle.quic_wire.specs.AckGrammar.{AckFits}
+use Rattle.quic_wire.specs.Writing.{spelling, stream_spelling, StreamFits, Fits, frame_size, width_of, offset_width}
+use Rattle.quic_wire.proofs.FrameWritten.{stream_form, spelling_form, stream_length}
+use Rattle.quic_wire.proofs.AckSet.{set_fits}
+use Rattle.quic_send_buffer.specs.Buffered as buffered
+use Rattle.quic_send_buffer.specs.Buffered.{Buffered, next_start, sent_end, writes_length}
+use Rattle.quic_recovery_core.specs.PendingAcks.{is_filled, delay_of, can_send}
+use Rattle.quic_recovery_core.specs.declared.spaces.pending_acks.TheConstants.{LAZY_ACK_THRESHOLD}
+use Rattle.quic_streams_parts.specs.Table.{at}
+use Rattle.quic_streams_parts.specs.SendHalf.{SendHalf, HasFrame, frame_of, frame_counts}
+use Rattle.quic_streams_state.specs.declared.control.ControlKind.{ControlKind}
+use Rattle.quic_streams_state.specs.State.{Streams, streams_of}
+use Rattle.quic_streams_state.specs.Control.{Entry, waiting, without_first}
+use Rattle.quic_streams_state.specs.Frames.{after_frame_sent}
+use Rattle.quic_spaces.specs.Acknowledging.{written_delay, delay_at}
+use Rattle.quic_spaces.specs.Numbers.{cut_against}
+use Rattle.quic_machine_next.specs.End.{End, number_of, streams_at, with_ping}
+use Rattle.quic_machine_next.specs.Poll.{Draft, no_frames, with_frame, frame_room, left, ping_if, with_ping_frame, with_control_frames, with_asking, ack_of, with_ack, ack_fits, ack_if, composed_if, composed, payload_of, lazied, asks_to_go, waits}
+use Rattle.quic_machine_next.specs.PollCases.{frames_padded}
+use Rattle.quic_machine_next.specs.DraftLaws.{SendsHalf, stream_room, with_entry, with_half_frame, by_entries, by_streams}
+use Rattle.quic_headline_next.proofs.Packets.Invariant.{Acks}
+
+-- ---- what is known of streams
+
+-- a fact of streams, and of what waits beside their bytes, that stays whichever frames go of them; by it each of these has a form
+pub record Spelling (K : Streams → Type 0) : Type 0 where
+  -- what waits is dropped, since it is no longer due
+  pub drops : (t : Streams) (kind : ControlKind) → K t → K (streams_of t.state (without_first kind t.pending))
+  -- its frame goes
+  pub control : (t : Streams) (kind : ControlKind) (e : Entry) (es : List Entry) (f : FrameValue) → waiting kind t.pending ≡ e ∷ es → e.frame t.state ≡ Some f → K t → Fits f × K (streams_of (e.told t.state) (without_first kind t.pending))
+  -- the frame of a half goes
+  pub stream : (fair : Bool) (t : Streams) (id : ℕ) (h : SendHalf) (room : ℕ) → at t.state.sending.halves.live id ≡ Some h → frame_counts h room ≡ true → K t → (id < 2 ^ 62) × HasFrame h room × K (streams_of (after_frame_sent fair t.state id h room) t.pending)
+
+-- what an end composes next has a form, and has a frame where something waits
+pub record IsSpellable (e : End) : Type 0 where
+  pub spells : Payload (frames_padded (composed e)) (payload_of (composed e))
+  pub some : waits e ≡ true → 0 < length (composed e).frames
+
+-- what waits waits still where an acknowledgement becomes due
+pub waits_lazied : (e : End) → waits e ≡ true → waits (lazied e) ≡ true
+waits_lazied e on = go e.acknowledging.due (nat_lt LAZY_ACK_THRESHOLD e.acknowledging.silent) (is_filled e.acknowledging.runs) on
+  where
+    go : (due lazy filled : Bool) → ((due && filled) || asks_to_go e) ≡ true → (((due || lazy) && filled) || asks_to_go e) ≡ true
+    go true lazy filled on = on
+    go false true true on = refl
+    go false true false on = on
+    go false false filled on = on
+
+-- ---- how a frame is spelled
+
+-- bytes 0 are PADDING
+pub zeros_padding : (count : ℕ) → Payload (replicate count padding) (replicate count 0)
+zeros_padding zero = refl
+zeros_padding (suc count) = (0 ∷ [], replicate count 0, spelling_form padding (replicate count 0) tt, zeros_padding count, refl)
+
+-- a frame and what is spelled behind it
+spelled_before : (f : FrameValue) (fs : List FrameValue) (rest : List ℕ) → Fits f → Payload fs rest → Payload (f ∷ fs) (spelling f ++ rest)
+spelled_before f fs rest fits spells = (spelling f, rest, spelling_form f rest fits, spells, refl)
+
+-- a STREAM frame without its length, behind which nothing is spelled
+unsized_spelled : (f : StreamValue) → StreamFits f → Payload (stream f ∷ []) (stream_spelling false f)
+unsized_spelled f fits = (stream_spelling false f, [], stream_form false f [] fits refl, refl, sym (append-nil (stream_spelling false f)))
+
+-- ---- how far a STREAM frame goes
+
+-- a number takes 8 bytes at most
+narrow : (n : ℕ) → width_of n ≤ 8
+narrow n = rw (length-shortest n) (varint_size_le n)
+
+-- an offset is as wide as it is written
+offset_widths : (n : ℕ) → offset_width n ≡ buffered.offset_width n
+offset_widths n = ap (λ (w : ℕ). cond (n == 0) 0 w) (length-shortest n)
+
+-- an offset takes 8 bytes at most
+offset_narrow : (n : ℕ) → offset_width n ≤ 8
+offset_narrow n = go (n == 0)
+  where
+    go : (b : Bool) → cond b 0 (width_of n) ≤ 8
+    go true = omega arith
+    go false = narrow n
+
+-- the bytes of a frame without its length fill what its offset leaves of the room
+unsized_count : (b : Buffered) (room : ℕ) → writes_length b room ≡ false → sent_end b room - next_start b ≡ room - offset_width (next_start b)
+unsized_count b room e = go (writes_length b room) refl e
+  where
+    go : (t : Bool) → writes_length b room ≡ t → t ≡ false → next_start b + min (buffered.next_count b) (cond t (buffered.room_behind room (next_start b) - 8) (buffered.room_behind room (next_start b))) - next_start b ≡ room - offset_width (next_start b)
+    go true is f = cc
+    go false is f =
+        let wide = offset_widths (next_start b) in
+        let left : ℕ = buffered.next_count b in
+        let behind : ℕ = buffered.room_behind room (next_start b) in
+        let enough : behind ≤ left = ltb-false left behind is in
+        omega arith
+
+-- how many bytes go
+bytes_count : (h : SendHalf) (id room : ℕ) → HasFrame h room → length (frame_of id h room).bytes ≡ sent_end h.buffer room - next_start h.buffer
+bytes_count h id room f =
+    let from : ℕ = next_start h.buffer - h.buffer.base in
+    let to : ℕ = sent_end h.buffer room - h.buffer.base in
+    let taken = length-take (to - from) (drop from h.buffer.kept) in
+    let behind = length-drop from h.buffer.kept in
+    let kept = f.kept in
+    let ordered = f.ordered in
+    let bounded = f.bounded in
+    omega (arith, taken, behind, kept, ordered, bounded)
+
+-- its numbers have a form
+stream_fits : (h : SendHalf) (id room : ℕ) → HasFrame h room → id < 2 ^ 62 → StreamFits (frame_of id h room)
+stream_fits h id room f small =
+    let count = bytes_count h id room f in
+    let ordered = f.ordered in
+    let bounded = f.bounded in
+    let most = f.small in
+    let offset : next_start h.buffer < 2 ^ 62 = omega (arith, ordered, bounded, most) in
+    let long : length (frame_of id h room).bytes < 2 ^ 62 = omega (arith, count, bounded, most) in
+    (small, offset, long)
+
+-- a frame without its length fills the room behind its type and id
+unsized_fills : (h : SendHalf) (id room : ℕ) → HasFrame h room → 8 ≤ room → writes_length h.buffer room ≡ false → length (stream_spelling false (frame_of id h room)) ≡ 1 + width_of id + room
+unsized_fills h id room f some off =
+    let long = stream_length false (frame_of id h room) in
+    let bytes = bytes_count h id room f in
+    let count = unsized_count h.buffer room off in
+    let few = offset_narrow (next_start h.buffer) in
+    omega arith
+
+-- ---- the ACK frame
+
+-- a delay that is written is small
+delay_small : (nanos : ℕ) → written_delay nanos < 2 ^ 62
+delay_small nanos =
+    let eighths : ℕ = nanos / 1000 / 8 in
+    omega arith
+
+-- what there is to acknowledge has an ACK frame
+ack_form : (e : End) → Acks e.acknowledging → is_filled e.acknowledging.runs ≡ true → AckFits (ack_of e)
+ack_form e acks filled = set_fits (delay_at e.acknowledging e.closing.clock) e.acknowledging.runs None acks.runs.runs some acks.small (delay_small (delay_of e.acknowledging.newest e.closing.clock)) tt
+  where
+    some : e.acknowledging.runs ≡ [] → ⊥
+    some none = let off = ap is_filled none in cc
+
+-- it has a byte at least
+ack_some : (e : End) → 1 ≤ frame_size (ack (ack_of e))
+ack_some e =
+    let type : width_of 2 ≡ 1 = refl in
+    omega arith
+
+-- ---- drafts
+
+-- what is spelled behind the frames of a draft may follow them
+abbrev Behind : Draft → Type 0
+Behind d = (fs : List FrameValue) (rest : List ℕ) → Payload fs rest → Payload (d.frames ++ fs) (d.bytes ++ rest)
+
+-- frames that take the whole room of a datagram
+record Full (d : Draft) : Type 0 where
+  spells : Payload d.frames d.bytes
+  full : frame_room d.end ≤ length d.bytes
+  long : 4 ≤ length d.bytes
+
+-- frames that stand in a payload, whether or not they leave room
+abbrev Stands : Draft → Type 0
+Stands d = Behind d ⊎ Full d
+
+-- bytes 0 may follow frames that don't take the whole room, and behind those that do there are none
+fills : (d : Draft) → Stands d → Payload (frames_padded d) (payload_of d)
+fills d (inl behind) =
+    let count : ℕ = 4 - ((truncated (number_of d.end) (cut_against d.end.numbers)).width + length d.bytes) in
+    behind (replicate count padding) (replicate count 0) (zeros_padding count)
+fills d (inr f) =
+    let long = f.long in
+    let none : 4 - ((truncated (number_of d.end) (cut_against d.end.numbers)).width + length d.bytes) ≡ 0 = omega arith in
+    rw (none, append-nil d.frames, append-nil d.bytes) f.spells
+
+-- one frame more, where what is spelled behind it may follow
+behind_more : (d : Draft) (f : FrameValue) (bytes : List ℕ) (e : End) → Behind d → ((fs : List FrameValue) (rest : List ℕ) → Payload fs rest → Payload (f ∷ fs) (bytes ++ rest)) → Behind (with_frame d f bytes e)
+behind_more d f bytes e before spells fs rest behind = rw (append_assoc d.frames (f ∷ []) fs, append_assoc d.bytes bytes rest) (before (f ∷ fs) (bytes ++ rest) (spells fs rest behind))
+
+-- one that has a form
+behind_fit : (d : Draft) (f : FrameValue) (e : End) → Behind d → Fits f → Behind (with_frame d f (spelling f) e)
+behind_fit d f e before fits = behind_more d f (spelling f) e before (λ fs rest spells. spelled_before f fs rest fits spells)
+
+-- the frame of a half goes behind others, and takes the whole room where its length isn't written
+half_stands : (d : Draft) (id : ℕ) (h : SendHalf) (room : ℕ) → 25 ≤ left d → room ≡ stream_room d id → id < 2 ^ 62 → HasFrame h room → Behind d → Stands (with_half_frame d id h room)
+half_stands d id h room some is small has before = go (writes_length h.buffer room) refl
+  where
+    frame : StreamValue
+    frame = frame_of id h room
+
+    form : StreamFits frame
+    form = stream_fits h id room has small
+
+    after : End
+    after = (with_half_frame d id h room).end
+
+    go : (sized : Bool) → writes_length h.buffer room ≡ sized → Stands (with_frame d (stream frame) (stream_spelling sized frame) after)
+    go true on = inl (behind_fit d (stream frame) after before form)
+    go false off =
+        let few = narrow id in
+        let long = unsized_fills h id room has (omega arith) off in
+        let all = length-append d.bytes (stream_spelling false frame) in
+        inr (record {
+          spells = before (stream frame ∷ []) (stream_spelling false frame) (unsized_spelled frame form);
+          full = omega arith;
+          long = omega arith;
+        })
+
+-- an ACK frame that fits has numbers, and the frames before it don't take the whole room
+ack_room : (d : Draft) → ack_fits d ≡ true → (is_filled d.end.acknowledging.runs ≡ true) × (length d.bytes < frame_room d.end)
+ack_room d fits =
+    let parts = and_parts (is_filled d.end.acknowledging.runs) (nat_le (length d.bytes + frame_size (ack (ack_of d.end))) (frame_room d.end)) fits in
+    let within = leb-true (length d.bytes + frame_size (ack (ack_of d.end))) (frame_room d.end) parts.1 in
+    let some = ack_some d.end in
+    (parts.0, omega arith)
+
+-- ---- all of them
+
+module _ (K : Streams → Type 0) (k : Spelling K) where
+  -- a draft of an end of which this is known, with frames that stand so
+  record Goes (S : Draft → Type 0) (d : Draft) : Type 0 where
+    streams : K (streams_at d.end)
+    acks : Acks d.end.acknowledging
+    stands : S d
+
+  -- PING goes
+  ping_goes : (d : Draft) → Goes Behind d → Goes Behind (with_ping_frame d)
+  ping_goes d g = go d.end.waiting.ping
+    where
+      go : (b : Bool) → Goes Behind (ping_if b d)
+      go true = record { streams = g.streams; acks = g.acks; stands = behind_fit d ping (with_ping d.end false) g.stands tt }
+      go false = g
+
+  -- ACK goes, where there are numbers
+  ack_goes : (d : Draft) → is_filled d.end.acknowledging.runs ≡ true → Goes Behind d → Goes Behind (with_ack d)
+  ack_goes d filled g = record {
+    streams = g.streams;
+    acks = record { runs = g.acks.runs; small = g.acks.small };
+    stands = behind_fit d (ack (ack_of d.end)) (with_ack d).end g.stands (ack_form d.end g.acks filled);
+  }
+
+  -- what waits beside the bytes of streams goes
+  entries_go : (d : Draft) → Goes Behind d → Goes Behind (with_control_frames d)
+  entries_go = by_entries (Goes Behind)
+      (λ d kind g. record { streams = k.drops (streams_at d.end) kind g.streams; acks = g.acks; stands = g.stands })
+      (λ d kind e es f is due g. (
+      let one = k.control (streams_at d.end) kind e es f is due g.streams in
+      record { streams = one.1; acks = g.acks; stands = behind_fit d f (with_entry d kind e f).end g.stands one.0 }))
+
+  -- frames of streams go
+  half_goes : SendsHalf (Goes Stands)
+  half_goes d id h room found first some is counts g =
+      let one = k.stream d.end.transport.send_fairness (streams_at d.end) id h room found counts g.streams in
+      record { streams = one.2; acks = g.acks; stands = go g.stands one.0 one.1 }
+    where
+      go : Stands d → id < 2 ^ 62 → HasFrame h room → Stands (with_half_frame d id h room)
+      go (inl before) small has = half_stands d id h room some is small has before
+      go (inr f) small has = let full = f.full in absurd (omega arith)
+
+  -- what asks goes
+  asking_goes : (d : Draft) → Goes Behind d → Goes Stands (with_asking d)
+  asking_goes d g =
+      let before = entries_go (with_ping_frame d) (ping_goes d g) in
+      by_streams (Goes Stands) half_goes (with_control_frames (with_ping_frame d)) (record { streams = before.streams; acks = before.acks; stands = inl before.stands })
+
+  -- an ACK frame goes behind it where it fits
+  late_stands : (d : Draft) → Goes Stands d → (b : Bool) → ack_fits d ≡ b → Stands (ack_if b d)
+  late_stands d g true is = go g.stands
+    where
+      go : Stands d → Stands (with_ack d)
+      go (inl before) = inl (ack_goes d (ack_room d is).0 (record { streams = g.streams; acks = g.acks; stands = before })).stands
+      go (inr f) = let room = (ack_room d is).1 in let full = f.full in absurd (omega arith)
+  late_stands d g false is = g.stands
+
+  -- whether or not an ACK is due, what is composed spells the payload
+  pub composed_spells : (e : End) → Acks e.acknowledging → K (streams_at e) → Payload (frames_padded (composed e)) (payload_of (composed e))
+  composed_spells e acks streams = fills (composed e) (go (can_send e.acknowledging) refl)
+    where
+      first : Goes Behind (no_frames e)
+      first = record { streams = streams; acks = acks; stands = λ fs rest spells. spells }
+
+      go : (b : Bool) → can_send e.acknowledging ≡ b → Stands (composed_if b e)
+      go true due =
+          let filled = (and_parts e.acknowledging.due (is_filled e.acknowledging.runs) due).1 in
+          (asking_goes (with_ack (no_frames e)) (ack_goes (no_frames e) filled first)).stands
+      go false due =
+          let asked = asking_goes (no_frames e) first in
+          late_stands (with_asking (no_frames e)) asked (ack_fits (with_asking (no_frames e))) refl

@@ -1,0 +1,446 @@
+-- Where something waits, a frame goes.
+use Rattle.std.proofs.Common.{◌≡◌, ℕ, zero, suc, ◌+◌, ◌<◌, ◌≤◌, Bool, true, false, ◌==◌, ◌&&◌, ◌||◌, not, List, [], ◌∷◌, ◌++◌, length, Option, Some, None, refl, sym, ap, ◌∙◌, subst, ◌⊎◌, inl, inr, arith}
+use Rattle.std.specs.Prelude.{if◌then◌else◌, map, nat_le, nat_lt}
+use Rattle.std.specs.List.{list_any, fold}
+use Rattle.std.specs.Option.{is_some, option_map}
+use Rattle.std.proofs.lemmas.Bool.{le-leb, or_cases, and_parts}
+use Rattle.std.proofs.lemmas.List.{length-append, length-map}
+use Rattle.quic_wire_core.specs.declared.stream_id.Dir.TheVariants.{Bi, Uni}
+use Rattle.quic_wire_core.specs.Law.{length-shortest, varint_size_le}
+use Rattle.quic_wire.specs.Value.{FrameValue, StopSendingValue, ack, ping, stream, stream_data_blocked}
+use Rattle.quic_wire.specs.Writing.{frame_size, width_of}
+use Rattle.quic_recovery_core.specs.PendingAcks.{can_send}
+use Rattle.quic_retransmits.specs.Retransmits.{Retransmits, nothing_waits}
+use Rattle.quic_streams_parts.specs.Table.{at}
+use Rattle.quic_streams_parts.specs.Queue.{first_queued}
+use Rattle.quic_streams_parts.specs.SendHalf.{SendHalf, frame_of, frame_counts}
+use Rattle.quic_streams_parts.specs.RecvHalf.{RecvHalf}
+use Rattle.quic_streams_state.specs.declared.state.StreamsState.{StreamsState}
+use Rattle.quic_streams_state.specs.declared.control.ControlKind.{ControlKind}
+use Rattle.quic_streams_state.specs.declared.control.ControlKind.TheVariants.{ResetStream, StopSending, MaxData, MaxStreamData, MaxStreams, DataBlocked, StreamDataBlocked}
+use Rattle.quic_streams_state.specs.declared.control.TheConstants.{CONTROL_KINDS}
+use Rattle.quic_streams_state.specs.State.{Streams, streams_of}
+use Rattle.quic_streams_state.specs.Limits.{takes_limits_of, can_send_data_blocked, can_send_flow_control}
+use Rattle.quic_streams_state.specs.Waiting.{is_any, is_empty, can_send_stream_data, stream_data_blocked_limit}
+use Rattle.quic_streams_state.specs.Control.{Entry, reset_frame, reset_entry, stop_entry, limit_frame, limit_entry, blocked_entry, stream_blocked_entry, waiting, without_first, first_dropped, first_sent, first_and_more, with_listed, with_kind}
+use Rattle.quic_streams_state.specs.Control as control
+use Rattle.quic_streams_state.specs.Frames as of_streams
+use Rattle.quic_streams_state.specs.Frames.{Sent, frame_sent, frame_if, frame_and_more, stream_frames}
+use Rattle.quic_streams_laws.specs.ControlWalk.{others_wait}
+use Rattle.quic_machine_next.specs.End.{End, streams_at}
+use Rattle.quic_machine_next.specs.Poll.{Draft, no_frames, frame_room, left, no_stream_frames, ping_if, with_control_frames, with_stream_frames, with_asking, ack_of, with_ack, ack_fits, ack_if, composed_if, composed, lazied, asks_to_go, waits}
+use Rattle.quic_machine_next.specs.PollCases.{at_moment, ready_at, ready_leaves}
+use Rattle.quic_machine_next.specs.DraftLaws.{Writing, room_most, without_entry, by_entries, by_streams, by_asking}
+use Rattle.quic_headline_next.specs.Runs.{In}
+use Rattle.quic_headline_next.proofs.Packets.Invariant.{Acks}
+use Rattle.quic_headline_next.proofs.Packets.Entries.{entry_control, control_short}
+use Rattle.quic_headline_next.proofs.Packets.Composed.{Spelling, IsSpellable, composed_spells}
+
+-- ---- what is known of streams
+
+-- the stream that stands first in the queue has a half whose frame brings something, where 17 bytes are left behind its type and id
+pub record BringsFirst (s : StreamsState) : Type 0 where
+  pub id : ℕ
+  pub half : SendHalf
+  pub first : first_queued s.sending.queue ≡ Some id
+  pub found : at s.sending.halves.live id ≡ Some half
+  pub counts : (room : ℕ) → 17 ≤ room → frame_counts half room ≡ true
+
+-- a fact of streams, and of what waits beside their bytes, by which something of what waits can go
+pub record Bringing (K : Streams → Type 0) : Type 0 where
+  -- RESET_STREAM waits of halves that were reset, and what has no frame yet doesn't wait
+  pub resets : (t : Streams) → K t → (r : ℕ × ℕ) → In r t.pending.reset_stream → is_some (reset_frame r (at t.state.sending.halves.live r.0)) ≡ true
+  pub others : (t : Streams) → K t → (t.pending.new_cids ≡ []) × (t.pending.retire_cids ≡ []) × (t.pending.ack_frequency ≡ false)
+  -- the queue has halves with something to send
+  pub queued : (t : Streams) → K t → can_send_stream_data t.state ≡ true → BringsFirst t.state
+
+-- ---- what is due
+
+-- whether an entry is due
+abbrev is_due : StreamsState → Entry → Bool
+is_due s e = is_some (e.frame s)
+
+-- whether one of a list is
+abbrev any_due : StreamsState → List Entry → Bool
+any_due s es = list_any (is_due s) es
+
+-- whether one of several kinds is
+abbrev any_of : StreamsState → Retransmits → List ControlKind → Bool
+any_of s p kinds = list_any (λ kind. any_due s (waiting kind p)) kinds
+
+-- one of a kind
+of_kind : (s : StreamsState) (p : Retransmits) (kinds : List ControlKind) (kind : ControlKind) → In kind kinds → any_due s (waiting kind p) ≡ true → any_of s p kinds ≡ true
+of_kind s p [] kind i is = absurd i
+of_kind s p (k ∷ kinds) kind (inl same) is = let here : any_due s (waiting k p) ≡ true = ap (λ (x : ControlKind). any_due s (waiting x p)) (sym same) ∙ is in rw here refl
+of_kind s p (k ∷ kinds) kind (inr i) is = go (any_due s (waiting k p)) (of_kind s p kinds kind i is)
+  where
+    go : (b : Bool) → any_of s p kinds ≡ true → (b || any_of s p kinds) ≡ true
+    go true rest = refl
+    go false rest = rest
+
+-- an entry of each that counts is due
+any_mapped : {A : Type 0} (s : StreamsState) (entry : A → Entry) (counts : A → Bool) → ((x : A) → counts x ≡ true → is_due s (entry x) ≡ true) → (xs : List A) → list_any counts xs ≡ true → any_due s (map entry xs) ≡ true
+any_mapped s entry counts each [] is = cc
+any_mapped s entry counts each (x ∷ xs) is = elim (or_cases (counts x) (list_any counts xs) is) [
+  | inl here ↦ (let due = each x here in rw due refl)
+  | inr more ↦ behind (is_due s (entry x)) (any_mapped s entry counts each xs more)
+]
+  where
+    behind : (b : Bool) → any_due s (map entry xs) ≡ true → (b || any_due s (map entry xs)) ≡ true
+    behind true rest = refl
+    behind false rest = rest
+
+-- MAX_STREAM_DATA of a half that takes limits is due
+limit_due : (s : StreamsState) (id : ℕ) → can_send_flow_control s id ≡ true → is_due s (limit_entry id) ≡ true
+limit_due s id is = go (at s.receiving.halves.live id) is
+  where
+    go : (o : Option RecvHalf) → takes_limits_of o ≡ true → is_some (limit_frame s.receiving.stream_window id o) ≡ true
+    go None takes = cc
+    go (Some h) takes = rw takes refl
+
+-- STREAM_DATA_BLOCKED that names a limit is due
+stream_blocked_due : (s : StreamsState) (id : ℕ) → is_some (stream_data_blocked_limit s id) ≡ true → is_due s (stream_blocked_entry id) ≡ true
+stream_blocked_due s id is = go (stream_data_blocked_limit s id) is
+  where
+    go : (o : Option ℕ) → is_some o ≡ true → is_some (option_map (λ limit. stream_data_blocked (record { id = id; limit = limit })) o) ≡ true
+    go None named = cc
+    go (Some limit) named = refl
+
+-- ---- kinds
+
+-- the place of a kind in the order in which they go
+place : ControlKind → ℕ
+place ResetStream = 0
+place StopSending = 1
+place MaxData = 2
+place MaxStreamData = 3
+place (MaxStreams Bi) = 4
+place (MaxStreams Uni) = 5
+place DataBlocked = 6
+place StreamDataBlocked = 7
+
+-- what waits of another kind stays where the first of one is gone
+others_same : (kind other : ControlKind) (p : Retransmits) → (place kind == place other) ≡ false → waiting other (without_first kind p) ≡ waiting other p
+unfolding place
+others_same ResetStream ResetStream p apart = cc
+others_same StopSending StopSending p apart = cc
+others_same MaxData MaxData p apart = cc
+others_same MaxStreamData MaxStreamData p apart = cc
+others_same (MaxStreams Bi) (MaxStreams Bi) p apart = cc
+others_same (MaxStreams Uni) (MaxStreams Uni) p apart = cc
+others_same DataBlocked DataBlocked p apart = cc
+others_same StreamDataBlocked StreamDataBlocked p apart = cc
+others_same kind other p apart = refl
+
+-- a kind is none of these
+abbrev IsApart : ControlKind → List ControlKind → Type 0
+IsApart kind [] = Unit {0}
+IsApart kind (other ∷ kinds) = ((place kind == place other) ≡ false) × IsApart kind kinds
+
+-- each kind once
+abbrev AreApart : List ControlKind → Type 0
+AreApart [] = Unit {0}
+AreApart (kind ∷ kinds) = IsApart kind kinds × AreApart kinds
+
+kinds_apart : AreApart CONTROL_KINDS
+unfolding place
+kinds_apart = ((refl, (refl, (refl, (refl, (refl, (refl, (refl, tt))))))), ((refl, (refl, (refl, (refl, (refl, (refl, tt)))))), ((refl, (refl, (refl, (refl, (refl, tt))))), ((refl, (refl, (refl, (refl, tt)))), ((refl, (refl, (refl, tt))), ((refl, (refl, tt)), ((refl, tt), (tt, tt))))))))
+
+-- ---- one frame is enough
+
+-- one more frame of control is one at least
+one_sent : (kind : ControlKind) (e : Entry) (f : FrameValue) (d : control.Draft) → 0 < length (first_sent kind e f d).frames
+one_sent kind e f d = let all = length-append d.frames (f ∷ []) in omega arith
+
+-- frames of control stay, whatever goes of a list behind them
+listed_more : (kind : ControlKind) (most : ℕ) (es : List Entry) (d : control.Draft) → 0 < length d.frames → 0 < length (with_listed kind most es d).frames
+listed_more kind most [] d some = some
+listed_more kind most (e ∷ es) d some = go (e.frame d.state) (λ x more. listed_more kind most es x more)
+  where
+    More : Type 0
+    More = (x : control.Draft) → 0 < length x.frames → 0 < length (with_listed kind most es x).frames
+
+    goes : (f : FrameValue) → (b : Bool) → More → 0 < length (if b then with_listed kind most es (first_sent kind e f d) else d).frames
+    goes f true more = more (first_sent kind e f d) (one_sent kind e f d)
+    goes f false more = some
+
+    go : (o : Option FrameValue) → More → 0 < length (first_and_more o (with_listed kind most es) kind most e d).frames
+    go None more = more (first_dropped kind d) some
+    go (Some f) more = goes f (nat_le (d.used + frame_size f) most) more
+
+-- and of several kinds
+kinds_more : (most : ℕ) (kinds : List ControlKind) (d : control.Draft) → 0 < length d.frames → 0 < length (fold (with_kind most) d kinds).frames
+kinds_more most [] d some = some
+kinds_more most (kind ∷ kinds) d some = kinds_more most kinds (with_kind most d kind) (listed_more kind most (waiting kind d.pending) d some)
+
+-- STREAM frames stay behind which more go
+halves_more : (n : ℕ) (fair : Bool) (most : ℕ) (t : Sent) → 0 < length t.frames → 0 < length (stream_frames n fair most t).frames
+halves_more zero fair most t some = some
+halves_more (suc n) fair most t some = next (of_streams.next_stream most t) (λ x more. halves_more n fair most x more)
+  where
+    More : Type 0
+    More = (x : Sent) → 0 < length x.frames → 0 < length (stream_frames n fair most x).frames
+
+    brings : (id : ℕ) (h : SendHalf) (b : Bool) → More → 0 < length (if b then stream_frames n fair most (frame_sent fair most t id h) else t).frames
+    brings id h true more = more (frame_sent fair most t id h) (let all = length-append t.frames (frame_of id h (of_streams.stream_room most t id) ∷ []) in omega arith)
+    brings id h false more = some
+
+    half : (id : ℕ) (o : Option SendHalf) → More → 0 < length (frame_if o (stream_frames n fair most) fair most t id).frames
+    half id None more = some
+    half id (Some h) more = brings id h (frame_counts h (of_streams.stream_room most t id)) more
+
+    next : (o : Option ℕ) → More → 0 < length (frame_and_more o (stream_frames n fair most) fair most t).frames
+    next None more = some
+    next (Some id) more = half id (at t.state.sending.halves.live id) more
+
+-- that of the stream that stands first goes, where there is room
+first_goes : (n : ℕ) (fair : Bool) (most : ℕ) (t : Sent) (id : ℕ) (h : SendHalf) → 1 ≤ n → length t.bytes + 25 ≤ most → first_queued t.state.sending.queue ≡ Some id → at t.state.sending.halves.live id ≡ Some h
+    → frame_counts h (of_streams.stream_room most t id) ≡ true → 0 < length (stream_frames n fair most t).frames
+first_goes zero fair most t id h some room first found counts = absurd (omega arith)
+first_goes (suc n) fair most t id h some room first found counts =
+    let fits : nat_le (length t.bytes + 25) most ≡ true = le-leb (length t.bytes + 25) most room in
+    let all = length-append t.frames (frame_of id h (of_streams.stream_room most t id) ∷ []) in
+    rw (fits, first, found, counts) (halves_more n fair most (frame_sent fair most t id h) (omega arith))
+
+-- a draft has a frame
+abbrev HasFrames : Draft → Type 0
+HasFrames d = 0 < length d.frames
+
+-- so it is where one more goes
+one_more : (d : Draft) (f : FrameValue) → 0 < length (d.frames ++ f ∷ [])
+one_more d f = let all = length-append d.frames (f ∷ []) in omega arith
+
+-- frames stay, whichever go behind them
+frames_stay : Writing HasFrames
+frames_stay = record {
+  ack = λ d filled may some. one_more d (ack (ack_of d.end));
+  ping = λ d some. one_more d ping;
+  drops = λ d kind some. some;
+  control = λ d kind e es f is due some. one_more d f;
+  stream = λ d id h room found first left is counts some. one_more d (stream (frame_of id h room));
+}
+
+-- no frame went: there is no byte, the streams are as they were, and there is as much room
+record Untouched (e : End) (d : Draft) : Type 0 where
+  bytes : length d.bytes ≡ 0
+  streams : d.end.streams ≡ e.streams
+  room : frame_room d.end ≡ frame_room e
+
+-- frames of control go or don't
+touched_or_not : (e : End) → HasFrames (with_control_frames (no_frames e)) ⊎ Untouched e (with_control_frames (no_frames e))
+touched_or_not e = by_entries (λ (d : Draft). HasFrames d ⊎ Untouched e d) drops (λ d kind entry es f is due before. inl (one_more d f)) (no_frames e) (inr (record { bytes = refl; streams = refl; room = refl }))
+  where
+    drops : (d : Draft) (kind : ControlKind) → HasFrames d ⊎ Untouched e d → HasFrames (without_entry d kind) ⊎ Untouched e (without_entry d kind)
+    drops d kind (inl some) = inl some
+    drops d kind (inr u) = inr (record { bytes = u.bytes; streams = u.streams; room = u.room })
+
+-- behind none, that of the stream that stands first goes
+first_brings : (e : End) (d : Draft) → 1159 ≤ frame_room e → Untouched e d → BringsFirst e.streams → HasFrames (with_stream_frames d)
+first_brings e d room u b =
+    let narrow : width_of b.id ≤ 8 = rw (length-shortest b.id) (varint_size_le b.id) in
+    let bytes = u.bytes in
+    let as_much = u.room in
+    let goes = first_goes (left d) d.end.transport.send_fairness (left d) (no_stream_frames d) b.id b.half (omega arith) (omega arith) (ap (λ (s : StreamsState). first_queued s.sending.queue) u.streams ∙ b.first)
+    (ap (λ (s : StreamsState). at s.sending.halves.live b.id) u.streams ∙ b.found) (b.counts (of_streams.stream_room (left d) (no_stream_frames d) b.id) (omega arith)) in
+    let sent : Sent = of_streams.with_stream_frames d.end.transport.send_fairness (left d) (no_stream_frames d) in
+    let all = length-append d.frames (map stream sent.frames) in
+    let as_many : length (map stream sent.frames) ≡ length sent.frames = length-map sent.frames stream in
+    omega arith
+
+-- what isn't so isn't true
+true_of : (b : Bool) → not b ≡ false → b ≡ true
+true_of true is = refl
+true_of false is = cc
+
+-- what is true isn't so
+false_of : (b : Bool) → not b ≡ true → b ≡ false
+false_of true is = cc
+false_of false is = refl
+
+module _ (K : Streams → Type 0) (k : Spelling K) (c : Bringing K) where
+  -- where something waits that counts, an entry is due
+  any_waits : (t : Streams) → K t → is_empty t.pending t.state ≡ false → any_of t.state t.pending CONTROL_KINDS ≡ true
+  any_waits t i waits = from_frequency (true_of _ waits)
+    where
+      p : Retransmits
+      p = t.pending
+
+      s : StreamsState
+      s = t.state
+
+      of_all : p.max_data ≡ true → any_of s p CONTROL_KINDS ≡ true
+      of_all on = of_kind s p CONTROL_KINDS MaxData (inr (inr (inl refl))) (rw on refl)
+
+      of_blocked : (p.data_blocked && can_send_data_blocked s) ≡ true → any_of s p CONTROL_KINDS ≡ true
+      of_blocked on = let both = and_parts p.data_blocked (can_send_data_blocked s) on in of_kind s p CONTROL_KINDS DataBlocked (inr (inr (inr (inr (inr (inr (inl refl))))))) (rw (both.0, both.1) refl)
+
+      of_counts : (p.max_stream_id.bi || p.max_stream_id.uni) ≡ true → any_of s p CONTROL_KINDS ≡ true
+      of_counts on = elim (or_cases p.max_stream_id.bi p.max_stream_id.uni on) [
+        | inl bi ↦ of_kind s p CONTROL_KINDS (MaxStreams Bi) (inr (inr (inr (inr (inl refl))))) (rw bi refl)
+        | inr uni ↦ of_kind s p CONTROL_KINDS (MaxStreams Uni) (inr (inr (inr (inr (inr (inl refl)))))) (rw uni refl)
+      ]
+
+      of_resets : (rs : List (ℕ × ℕ)) → ((r : ℕ × ℕ) → In r rs → is_some (reset_frame r (at s.sending.halves.live r.0)) ≡ true) → is_any rs ≡ true → any_due s (map reset_entry rs) ≡ true
+      of_resets [] due on = cc
+      of_resets (r ∷ rs) due on = let first = due r (inl refl) in rw first refl
+
+      of_stops : (rs : List StopSendingValue) → is_any rs ≡ true → any_due s (map stop_entry rs) ≡ true
+      of_stops [] on = cc
+      of_stops (r ∷ rs) on = refl
+
+      from_all : (p.max_data || (p.data_blocked && can_send_data_blocked s)) ≡ true → any_of s p CONTROL_KINDS ≡ true
+      from_all on = elim (or_cases p.max_data _ on) [ inl x ↦ of_all x | inr x ↦ of_blocked x ]
+
+      from_counts : (p.max_data || (p.data_blocked && can_send_data_blocked s) || (p.max_stream_id.bi || p.max_stream_id.uni)) ≡ true → any_of s p CONTROL_KINDS ≡ true
+      from_counts on = elim (or_cases _ (p.max_stream_id.bi || p.max_stream_id.uni) on) [ inl x ↦ from_all x | inr x ↦ of_counts x ]
+
+      from_resets : (p.max_data || (p.data_blocked && can_send_data_blocked s) || (p.max_stream_id.bi || p.max_stream_id.uni) || is_any p.reset_stream) ≡ true → any_of s p CONTROL_KINDS ≡ true
+      from_resets on = elim (or_cases _ (is_any p.reset_stream) on) [ inl x ↦ from_counts x | inr x ↦ of_kind s p CONTROL_KINDS ResetStream (inl refl) (of_resets p.reset_stream (c.resets t i) x) ]
+
+      from_stops : (p.max_data || (p.data_blocked && can_send_data_blocked s) || (p.max_stream_id.bi || p.max_stream_id.uni) || is_any p.reset_stream || is_any p.stop_sending) ≡ true → any_of s p CONTROL_KINDS ≡ true
+      from_stops on = elim (or_cases _ (is_any p.stop_sending) on) [ inl x ↦ from_resets x | inr x ↦ of_kind s p CONTROL_KINDS StopSending (inr (inl refl)) (of_stops p.stop_sending x) ]
+
+      from_limits : (p.max_data || (p.data_blocked && can_send_data_blocked s) || (p.max_stream_id.bi || p.max_stream_id.uni) || is_any p.reset_stream || is_any p.stop_sending || list_any (λ id. can_send_flow_control s id) p.max_stream_data) ≡ true
+          → any_of s p CONTROL_KINDS ≡ true
+      from_limits on = elim (or_cases _ (list_any (λ id. can_send_flow_control s id) p.max_stream_data) on) [
+        | inl x ↦ from_stops x
+        | inr x ↦ of_kind s p CONTROL_KINDS MaxStreamData (inr (inr (inr (inl refl)))) (any_mapped s limit_entry (λ id. can_send_flow_control s id) (limit_due s) p.max_stream_data x)
+      ]
+
+      from_streams : (p.max_data || (p.data_blocked && can_send_data_blocked s) || (p.max_stream_id.bi || p.max_stream_id.uni) || is_any p.reset_stream || is_any p.stop_sending || list_any (λ id. can_send_flow_control s id) p.max_stream_data || list_any (λ id. is_some (stream_data_blocked_limit s id)) p.stream_data_blocked) ≡ true
+          → any_of s p CONTROL_KINDS ≡ true
+      from_streams on = elim (or_cases _ (list_any (λ id. is_some (stream_data_blocked_limit s id)) p.stream_data_blocked) on) [
+        | inl x ↦ from_limits x
+        | inr x ↦ of_kind s p CONTROL_KINDS StreamDataBlocked (inr (inr (inr (inr (inr (inr (inr (inl refl)))))))) (any_mapped s stream_blocked_entry (λ id. is_some (stream_data_blocked_limit s id)) (stream_blocked_due s) p.stream_data_blocked x)
+      ]
+
+      -- what has no frame doesn't wait
+      from_frequency : (p.max_data || (p.data_blocked && can_send_data_blocked s) || (p.max_stream_id.bi || p.max_stream_id.uni) || is_any p.reset_stream || is_any p.stop_sending || list_any (λ id. can_send_flow_control s id) p.max_stream_data || list_any (λ id. is_some (stream_data_blocked_limit s id)) p.stream_data_blocked || is_any p.new_cids || is_any p.retire_cids || p.ack_frequency) ≡ true
+          → any_of s p CONTROL_KINDS ≡ true
+      from_frequency on =
+          let none = c.others t i in
+          elim (or_cases _ p.ack_frequency on) [
+            | inl x ↦ elim (or_cases _ (is_any p.retire_cids) x) [
+              | inl y ↦ elim (or_cases _ (is_any p.new_cids) y) [
+                | inl z ↦ from_streams z
+                | inr z ↦ (let off = ap is_any none.0 in cc)
+              ]
+              | inr y ↦ (let off = ap is_any none.1 in cc)
+            ]
+            | inr x ↦ (let off = none.2 in cc)
+          ]
+
+  -- how far frames of control have come, of which none went: it is known of the streams that are left, and there is room
+  record Waits (most : ℕ) (d : control.Draft) : Type 0 where
+    streams : K (streams_of d.state d.pending)
+    room : d.used + 25 ≤ most
+
+  -- the first that is dropped, since it is no longer due, leaves it so
+  waits_on : (most : ℕ) (kind : ControlKind) (d : control.Draft) → Waits most d → Waits most (first_dropped kind d)
+  waits_on most kind d w = record { streams = k.drops (streams_of d.state d.pending) kind w.streams; room = w.room }
+
+  -- of a list with one that is due, a frame goes
+  listed_goes : (most : ℕ) (kind : ControlKind) (es : List Entry) (d : control.Draft) → waiting kind d.pending ≡ es → Waits most d → any_due d.state es ≡ true → 0 < length (with_listed kind most es d).frames
+  listed_goes most kind [] d is w due = cc
+  listed_goes most kind (e ∷ es) d is w due = go (e.frame d.state) refl due (λ x rest v on. listed_goes most kind es x rest v on)
+    where
+      More : Type 0
+      More = (x : control.Draft) → waiting kind x.pending ≡ es → Waits most x → any_due x.state es ≡ true → 0 < length (with_listed kind most es x).frames
+
+      go : (o : Option FrameValue) → e.frame d.state ≡ o → (is_some o || any_due d.state es) ≡ true → More → 0 < length (first_and_more o (with_listed kind most es) kind most e d).frames
+      go None there due more = more (first_dropped kind d) (others_wait kind d.pending e es is) (waits_on most kind d w) due
+      go (Some f) there due more =
+          let fits = (k.control (streams_of d.state d.pending) kind e es f is there w.streams).0 in
+          let short = control_short f (entry_control kind d.pending e es d.state f is there) fits in
+          let room = w.room in
+          let goes : nat_le (d.used + frame_size f) most ≡ true = le-leb (d.used + frame_size f) most (omega arith) in
+          rw goes (listed_more kind most es (first_sent kind e f d) (one_sent kind e f d))
+
+  -- all of a kind was dropped, and nothing else changed
+  record Dropped (most : ℕ) (kind : ControlKind) (d x : control.Draft) : Type 0 where
+    state : x.state ≡ d.state
+    others : (other : ControlKind) → (place kind == place other) ≡ false → waiting other x.pending ≡ waiting other d.pending
+    waits : Waits most x
+
+  -- of a list with none that is due, all is dropped
+  listed_dropped : (most : ℕ) (kind : ControlKind) (es : List Entry) (d : control.Draft) → waiting kind d.pending ≡ es → Waits most d → any_due d.state es ≡ false → Dropped most kind d (with_listed kind most es d)
+  listed_dropped most kind [] d is w none = record { state = refl; others = λ other apart. refl; waits = w }
+  listed_dropped most kind (e ∷ es) d is w none = go (e.frame d.state) none (λ x rest v off. listed_dropped most kind es x rest v off)
+    where
+      More : Type 0
+      More = (x : control.Draft) → waiting kind x.pending ≡ es → Waits most x → any_due x.state es ≡ false → Dropped most kind x (with_listed kind most es x)
+
+      go : (o : Option FrameValue) → (is_some o || any_due d.state es) ≡ false → More → Dropped most kind d (first_and_more o (with_listed kind most es) kind most e d)
+      go None none more =
+          let behind = more (first_dropped kind d) (others_wait kind d.pending e es is) (waits_on most kind d w) none in
+          record { state = behind.state; others = λ other apart. behind.others other apart ∙ others_same kind other d.pending apart; waits = behind.waits }
+      go (Some f) none more = cc
+
+  -- what waits of kinds stays where another kind is dropped
+  any_same : (most : ℕ) (kind : ControlKind) (d x : control.Draft) → Dropped most kind d x → (kinds : List ControlKind) → IsApart kind kinds → any_of x.state x.pending kinds ≡ any_of d.state d.pending kinds
+  any_same most kind d x dropped [] apart = refl
+  any_same most kind d x dropped (other ∷ kinds) apart =
+      let rest = any_same most kind d x dropped kinds apart.1 in
+      let here : any_due x.state (waiting other x.pending) ≡ any_due d.state (waiting other d.pending) =
+      ap (λ (es : List Entry). any_due x.state es) (dropped.others other apart.0) ∙ ap (λ (s : StreamsState). any_due s (waiting other d.pending)) dropped.state in
+      rw (here, rest) refl
+
+  -- of kinds with one that is due, a frame goes
+  kinds_go : (most : ℕ) (kinds : List ControlKind) (d : control.Draft) → AreApart kinds → Waits most d → any_of d.state d.pending kinds ≡ true → 0 < length (fold (with_kind most) d kinds).frames
+  kinds_go most [] d apart w due = cc
+  kinds_go most (kind ∷ kinds) d apart w due = go (any_due d.state (waiting kind d.pending)) refl due (λ x v on. kinds_go most kinds x apart.1 v on)
+    where
+      go : (b : Bool) → any_due d.state (waiting kind d.pending) ≡ b → (b || any_of d.state d.pending kinds) ≡ true → ((x : control.Draft) → Waits most x → any_of x.state x.pending kinds ≡ true → 0 < length (fold (with_kind most) x kinds).frames)
+          → 0 < length (fold (with_kind most) (with_kind most d kind) kinds).frames
+      go true here due more = kinds_more most kinds (with_kind most d kind) (listed_goes most kind (waiting kind d.pending) d refl w here)
+      go false here due more =
+          let dropped = listed_dropped most kind (waiting kind d.pending) d refl w here in
+          more (with_kind most d kind) dropped.waits (any_same most kind d (with_kind most d kind) dropped kinds apart.0 ∙ due)
+
+  -- ---- what is composed
+
+  -- where something waits beside the bytes of streams, a frame of control goes first
+  control_goes : (e : End) → 25 ≤ frame_room e → K (streams_at e) → is_empty e.waiting.frames e.streams ≡ false → 0 < length (with_control_frames (no_frames e)).frames
+  control_goes e room i waits = kinds_go (frame_room e) CONTROL_KINDS (control.no_frames 0 e.streams e.waiting.frames nothing_waits) kinds_apart (record { streams = i; room = room }) (any_waits (streams_at e) i waits)
+
+  -- where something waits that asks, a frame goes
+  asking_goes : (e : End) → 1159 ≤ frame_room e → K (streams_at e) → asks_to_go e ≡ true → HasFrames (with_asking (no_frames e))
+  asking_goes e room i asks = pinged e.waiting.ping asks
+    where
+      -- frames of streams go behind others, or else the first of them
+      behind : HasFrames (with_control_frames (no_frames e)) ⊎ Untouched e (with_control_frames (no_frames e)) → BringsFirst e.streams → HasFrames (with_stream_frames (with_control_frames (no_frames e)))
+      behind (inl some) b = by_streams HasFrames frames_stay.stream (with_control_frames (no_frames e)) some
+      behind (inr u) b = first_brings e (with_control_frames (no_frames e)) room u b
+
+      quiet : (not (is_empty e.waiting.frames e.streams) || can_send_stream_data e.streams) ≡ true → HasFrames (with_stream_frames (with_control_frames (no_frames e)))
+      quiet on = elim (or_cases (not (is_empty e.waiting.frames e.streams)) (can_send_stream_data e.streams) on) [
+        | inl some ↦ by_streams HasFrames frames_stay.stream (with_control_frames (no_frames e)) (control_goes e (omega arith) i (false_of (is_empty e.waiting.frames e.streams) some))
+        | inr some ↦ behind (touched_or_not e) (c.queued (streams_at e) i some)
+      ]
+
+      pinged : (b : Bool) → (b || (not (is_empty e.waiting.frames e.streams) || can_send_stream_data e.streams)) ≡ true → HasFrames (with_stream_frames (with_control_frames (ping_if b (no_frames e))))
+      pinged true on = by_streams HasFrames frames_stay.stream (with_control_frames (ping_if true (no_frames e))) (by_entries HasFrames frames_stay.drops frames_stay.control (ping_if true (no_frames e)) (omega arith))
+      pinged false on = quiet on
+
+  -- where something waits, a frame goes
+  pub composed_some : (e : End) → length e.ids.active.id ≤ 20 → K (streams_at e) → waits e ≡ true → HasFrames (composed e)
+  composed_some e short i waiting = go (can_send e.acknowledging) waiting
+    where
+      late : (b : Bool) → HasFrames (with_asking (no_frames e)) → HasFrames (ack_if b (with_asking (no_frames e)))
+      late true some = one_more (with_asking (no_frames e)) (ack (ack_of (with_asking (no_frames e)).end))
+      late false some = some
+
+      go : (b : Bool) → (b || asks_to_go e) ≡ true → HasFrames (composed_if b e)
+      go true on = by_asking HasFrames frames_stay (with_ack (no_frames e)) (omega arith)
+      go false on = late (ack_fits (with_asking (no_frames e))) (asking_goes e (room_most e short) i on)
+
+  -- so what an end composes has a form, and a frame where something waits
+  spellable : (e : End) → Acks e.acknowledging → length e.ids.active.id ≤ 20 → K (streams_at e) → IsSpellable e
+  spellable e acks short i = record { spells = composed_spells K k e acks i; some = composed_some e short i }
+
+  -- at any moment
+  pub spellable_next : (e : End) → Acks e.acknowledging → length e.ids.active.id ≤ 20 → ((now : ℕ) → K (streams_at (ready_at e now))) → (now : ℕ) → IsSpellable (lazied (ready_at e now))
+  spellable_next e acks short i now =
+      let is = ready_leaves e now in
+      let there : End = at_moment e now (ready_at e now).tracking (ready_at e now).waiting in
+      subst (λ (x : End). IsSpellable (lazied x)) (sym is) (spellable (lazied there) (record { runs = acks.runs; small = acks.small }) short (subst (λ (x : End). K (streams_at x)) is (i now)))

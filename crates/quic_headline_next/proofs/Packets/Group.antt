@@ -1,0 +1,210 @@
+-- What holds of the packets between two ends, as one group: what the one gave, and what the other took of it.
+use Rattle.std.proofs.Common.{◌≡◌, ℕ, ◌<◌, ◌≤◌, ◌^◌, List, [], ◌∷◌, ◌++◌, length, Bool, false, refl, sym, ap, ◌∙◌, subst, arith}
+use Rattle.std.proofs.lemmas.List.{length-append}
+use Rattle.quic_machine_next.specs.declared.run.Call.{Call}
+use Rattle.quic_machine_next.specs.declared.run.Answer.{Answer}
+use Rattle.quic_machine_next.specs.Ids.{Ids, known}
+use Rattle.quic_spaces.specs.Numbers.{Numbers, number_given}
+use Rattle.quic_recovery_core.specs.PendingAcks.{Pending}
+use Rattle.quic_time.specs.Timers.{Timers}
+use Rattle.quic_machine_next.specs.declared.answers.State.{State}
+use Rattle.quic_machine_next.specs.Closing.{Closing, ticked}
+use Rattle.quic_machine_next.specs.Parts.{Waiting}
+use Rattle.quic_machine_next.specs.Tracking.{Tracking}
+use Rattle.quic_machine_next.specs.Policy.{Policy}
+use Rattle.quic_machine_next.specs.End.{End, with_closing, number_of}
+use Rattle.quic_machine_next.specs.Receive.{Outcome}
+use Rattle.quic_machine_next.specs.Poll.{Polled, composed, lazied, polled}
+use Rattle.quic_machine_next.specs.Machine.{after_call, gives}
+use Rattle.quic_machine_next.specs.CallCases.{is_delivery, by_plain_call}
+use Rattle.quic_machine_next.specs.LeaveCases.{at_losses, by_expired}
+use Rattle.quic_machine_next.specs.PollCases.{at_moment, ready_at, by_poll, composes}
+use Rattle.quic_headline_next.specs.Runs.{Intake, In, count_given, nothing_came}
+use Rattle.quic_headline_next.specs.Observer.{Sent}
+use Rattle.quic_headline_next.proofs.Packets.Invariant.{IsSent, Gives, KnowsIn, Acks, WereSent, NameTaken, AreTaken, AreTracked}
+use Rattle.quic_headline_next.proofs.Packets.Growth.{step_of}
+use Rattle.quic_headline_next.proofs.Packets.Intakes.{count_more, took_more}
+use Rattle.quic_headline_next.proofs.Packets.Delivered.{Arrivals}
+use Rattle.quic_headline_next.proofs.Packets.Stays.{settles_losses, placed_call}
+use Rattle.quic_headline_next.proofs.Packets.Knowing.{knows_first, knows_given, expects_in, knows_arrivals}
+use Rattle.quic_headline_next.proofs.Packets.Acking.{acks_first, acks_step, acks_arrivals, taken_step, taken_arrivals}
+use Rattle.quic_headline_next.proofs.Packets.Composed.{IsSpellable}
+use Rattle.quic_headline_next.proofs.Packets.Given.{gives_step}
+use Rattle.quic_headline_next.proofs.Packets.TrackedSteps.{tracked_step}
+use Rattle.quic_headline_next.proofs.Packets.Ascending.{Ascends, ascends_call}
+use Rattle.quic_headline_next.proofs.Packets.Naming.{were_sent_more, sent_arrivals, name_taken_on, name_taken_step}
+use Rattle.quic_headline_next.proofs.Places.Steps.{gives_count}
+use Rattle.quic_headline_next.proofs.Places.Parties.{sents_by, told_of, Party, called, came_to, AreJoined}
+use Rattle.quic_headline_next.proofs.Places.Groups.{Way, Before, Early}
+use Rattle.quic_headline_next.proofs.Places.Coming.{Meets, by_coming, came_ids}
+
+-- x gives, and y takes.
+pub record PacketsHold (x y : Party) : Type 0 where
+  -- the datagrams that were given, as they were sent
+  pub gives : Gives x.policy y.id x.end.numbers x.end.filter.last x.sents x.given
+  pub active : x.end.ids.active.id ≡ y.id
+  pub size : 1200 ≤ x.end.path.size
+  pub count : length x.given ≡ count_given x.told
+  -- what x waits for was sent
+  pub tracked : AreTracked x.sents x.end.tracking.packets
+  pub ascends : Ascends x.end
+  -- what the ACK frames of x name, x took
+  pub named : NameTaken x.sents (came_to x y).took
+  pub known : known y.end.ids ≡ (came_to y x).ids
+  pub knows : KnowsIn y.end.closing.state y.end.numbers (came_to y x)
+  pub acks : Acks y.end.acknowledging
+  -- each packet that y took was sent so
+  pub taken : WereSent x.sents (came_to y x).took
+  -- what y has to acknowledge, it took
+  pub acking : AreTaken y.end.acknowledging.runs (came_to y x).took
+
+-- what a delivery rests on
+pub meets : (x y : Party) → PacketsHold x y → Meets x y
+meets x y p = record { each = p.gives.each; known = p.known; knows = p.knows }
+
+-- ---- the end that takes
+
+-- what an end knows of what came, and has to acknowledge, where these were sent
+record Takes (sents : List Sent) (e : End) (i : Intake) : Type 0 where
+  knows : KnowsIn e.closing.state e.numbers i
+  acks : Acks e.acknowledging
+  taken : WereSent sents i.took
+  acking : AreTaken e.acknowledging.runs i.took
+
+-- a poll changes neither the state nor what is known, but where the end closes
+knows_poll : (p : Policy) (e : End) (now : ℕ) (i : Intake) → KnowsIn e.closing.state e.numbers i → KnowsIn (polled p e now).end.closing.state (polled p e now).end.numbers i
+knows_poll p e now i k =
+    by_poll p e now (λ (q : Polled). KnowsIn q.end.closing.state q.end.numbers i) (record { silent = k; failed = k; idle = λ t w ready. k; used_up = λ t w ready. expects_in e.closing.state e.numbers i k; gives = λ t w tracking timers is may some ready. gives t w })
+  where
+    gives : (t : Tracking) (w : Waiting) → KnowsIn (composed (lazied (at_moment e now t w))).end.closing.state (number_given (composed (lazied (at_moment e now t w))).end.numbers (number_of (composed (lazied (at_moment e now t w))).end)) i
+    gives t w =
+        let c = composes (lazied (at_moment e now t w)) in
+        let d : End = (composed (lazied (at_moment e now t w))).end in
+        subst (λ (s : State). KnowsIn s (number_given d.numbers (number_of d)) i) (sym (ap (λ (x : Closing). x.state) c.closing))
+        (subst (λ (x : Numbers). KnowsIn e.closing.state (number_given x (number_of d)) i) (sym c.numbers) (knows_given e.closing.state e.numbers (number_of d) i k))
+
+-- what came is known, after a call that is no delivery
+knows_step : (q : Policy) (e : End) (theirs : List (List ℕ)) (call : Call) (a : Answer) (i : Intake) → is_delivery call ≡ false → KnowsIn e.closing.state e.numbers i → KnowsIn (after_call q e theirs call a).closing.state (after_call q e theirs call a).numbers i
+knows_step q e theirs call a i other k = by_plain_call q e theirs (λ (f : End). KnowsIn f.closing.state f.numbers i) call a (record {
+  same = k;
+  on_streams = λ t. k;
+  pings = k;
+  heard = λ path same. k;
+  times = λ now acks loss set. by_expired e now (λ (f : End). KnowsIn f.closing.state f.numbers i) (λ pending tracking timers runs packets. k) (λ pending timers runs. losses now pending timers) acks loss;
+  polls = λ now set. knows_poll q e now i k;
+  hears = λ now d set. cc;
+  tells = λ told. k;
+})
+  where
+    losses : (now : ℕ) (pending : Pending) (timers : Timers) → KnowsIn (at_losses e now pending timers).closing.state (at_losses e now pending timers).numbers i
+    losses now pending timers =
+        let s = settles_losses (with_closing e (ticked e.closing now)) in
+        subst (λ (c : Closing). KnowsIn c.state (at_losses e now pending timers).numbers i) (sym s.closing) (subst (λ (x : Numbers). KnowsIn e.closing.state x i) (sym s.numbers) k)
+
+-- in each case of a delivery
+takes_arrivals : (e : End) (now : ℕ) (s : Sent) (i : Intake) (sents : List Sent) → In s sents → s.number < 2 ^ 62 → Takes sents e i → Arrivals e now s.number s.frames i (λ (o : Outcome) (j : Intake). Takes sents o.end j)
+takes_arrivals e now s i sents among small t =
+    let knows = knows_arrivals e now s.number s.frames i t.knows in
+    let acks = acks_arrivals e now s.number s.frames i small t.acks in
+    let taken = sent_arrivals e now s.number s.frames i sents s (among, refl) refl t.taken in
+    let acking = taken_arrivals e now s.number s.frames i t.acks t.acking in
+    record {
+      ignored = λ reason. t;
+      noted = λ state reason. record { knows = knows.noted state reason; acks = acks.noted state reason; taken = taken.noted state reason; acking = acking.noted state reason };
+      takes = λ state new none. record { knows = knows.takes state new none; acks = acks.takes state new none; taken = taken.takes state new none; acking = acking.takes state new none };
+      refuses = λ state new f is. record { knows = knows.refuses state new f is; acks = acks.refuses state new f is; taken = taken.refuses state new f is; acking = acking.refuses state new f is };
+    }
+
+-- x makes a call: what it took of y
+takes_step : (B : Way) (x y : Party) (call : Call) (a : Answer) → Before B x y call a → PacketsHold y x → Takes y.sents (called x y.given call a).end (came_to (called x y.given call a) y)
+takes_step B x y call a c p = by_coming x y a c.joined c.served (meets y x p) (Takes y.sents) call c.answer (record {
+  apart = λ apart. record {
+    knows = knows_step x.policy x.end y.given call a (came_to x y) apart p.knows;
+    acks = acks_step x.policy x.end y.given call a apart p.acks;
+    taken = p.taken;
+    acking = taken_step x.policy x.end y.given call a (came_to x y).took apart p.acking;
+  };
+  none = λ delivery is. before;
+  comes = λ delivery is s among. takes_arrivals x.end delivery.now s (came_to x y) y.sents among (step_of (IsSent y.policy x.id) y.sents y.given s p.gives.each among).1.small before;
+})
+  where
+    before : Takes y.sents x.end (came_to x y)
+    before = record { knows = p.knows; acks = p.acks; taken = p.taken; acking = p.acking }
+
+-- ---- the group
+
+-- what an end composes next has a form, whenever it is polled
+abbrev pub SpellsNext : End → Type 0
+SpellsNext e = (now : ℕ) → IsSpellable (lazied (ready_at e now))
+
+-- x makes a call: how many datagrams it gave
+counted : (B : Way) (x y : Party) (call : Call) (a : Answer) → Before B x y call a → length x.given ≡ count_given x.told → length (called x y.given call a).given ≡ count_given (called x y.given call a).told
+counted B x y call a c before =
+    let all = length-append x.given (gives x.policy x.end call a) in
+    let one = gives_count x.policy x.end y.given call a c.answer in
+    let told = count_more x.told (told_of call a x.end.closing.state) in
+    omega arith
+
+module _ (B : Way) (spells : (x y : Party) → AreJoined x y → B x y → B y x → PacketsHold x y → PacketsHold y x → SpellsNext x.end) where
+  -- x makes a call: what it gave
+  gives_on : (x y : Party) (call : Call) (a : Answer) → Before B x y call a → PacketsHold x y → PacketsHold y x → PacketsHold (called x y.given call a) y
+  gives_on x y call a c p back =
+      let placed = placed_call x.policy x.end y.given call a in
+      let t = told_of call a x.end.closing.state in
+      let more = sents_by x.end call a in
+      record {
+        gives = gives_step x.policy x.end y.given a y.id x.given x.sents call c.answer c.served p.active (spells x y c.joined c.gives c.takes p back) p.gives;
+        active = ap (λ (ids : Ids). ids.active.id) placed.ids ∙ p.active;
+        size = subst (λ (n : ℕ). 1200 ≤ n) (sym placed.size) p.size;
+        count = counted B x y call a c p.count;
+        tracked = tracked_step x.policy x.end y.given call a x.sents c.answer c.served p.tracked;
+        ascends = ascends_call x.policy x.end y.given call a p.ascends;
+        named = name_taken_on (x.sents ++ more) (came_to x y).took (came_to (called x y.given call a) y).took
+            (took_more x.policy y.final x.told t (nothing_came (x.id ∷ [])))
+            (name_taken_step x.end call a x.sents (came_to x y).took back.acks back.acking p.named);
+        known = p.known;
+        knows = p.knows;
+        acks = p.acks;
+        taken = were_sent_more x.sents more (came_to y x).took p.taken;
+        acking = p.acking;
+      }
+
+  -- x makes a call: what it took
+  takes_on : (x y : Party) (call : Call) (a : Answer) → Before B x y call a → PacketsHold x y → PacketsHold y x → PacketsHold y (called x y.given call a)
+  takes_on x y call a c p back =
+      let t = takes_step B x y call a c back in
+      record {
+        gives = back.gives;
+        active = back.active;
+        size = back.size;
+        count = back.count;
+        tracked = back.tracked;
+        ascends = back.ascends;
+        named = back.named;
+        known = ap (λ (ids : Ids). known ids) (placed_call x.policy x.end y.given call a).ids ∙ back.known ∙ sym (came_ids x y call a);
+        knows = t.knows;
+        acks = t.acks;
+        taken = t.taken;
+        acking = t.acking;
+      }
+
+  -- the packets between two ends, over what their streams spell
+  pub packets_group : Early B PacketsHold
+  packets_group = record {
+    first = λ x y m. record {
+      gives = record { rising = tt; below = λ s i. absurd i; next = refl; behind = omega arith; left_out = tt; each = tt };
+      active = refl;
+      size = omega arith;
+      count = refl;
+      tracked = λ n t is. absurd is;
+      ascends = tt;
+      named = λ s a k is i named. absurd is;
+      known = refl;
+      knows = knows_first (y.making.id ∷ []);
+      acks = acks_first;
+      taken = λ packet i. absurd i;
+      acking = λ k h. absurd h;
+    };
+    writer = gives_on;
+    reader = takes_on;
+  }

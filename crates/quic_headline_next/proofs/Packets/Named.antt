@@ -1,0 +1,280 @@
+-- What ACK frames name: an end that takes some waits for no packet more, and where the peer took what they name, each packet that is acknowledged was taken.
+use Rattle.std.proofs.Common.{◌≡◌, ℕ, Bool, true, false, not, List, [], ◌∷◌, filter, cond, Option, Some, None, refl, sym, ap, ◌∙◌, subst, inl, inr}
+use Rattle.std.specs.Prelude.{nat_le}
+use Rattle.quic_wire.specs.Value.{FrameValue, AckValue, ack, stream, reset_stream, stop_sending, max_data, max_stream_data, max_streams, stream_data_blocked, streams_blocked, new_token, handshake_done}
+use Rattle.quic_send_buffer.specs.declared.stream_meta.StreamMeta.{StreamMeta}
+use Rattle.quic_streams_parts.specs.Table.{Table}
+use Rattle.quic_machine_next.specs.Policy.{Policy}
+use Rattle.quic_spaces.specs.Numbers.{cut_against}
+use Rattle.quic_time.specs.Rtt.{Rtt}
+use Rattle.quic_time.specs.Timers.{Timers}
+use Rattle.quic_recovery_core.specs.PendingAcks.{Pending}
+use Rattle.quic_machine_next.specs.Closing.{Closing, ticked}
+use Rattle.quic_machine_next.specs.Tracking.{Tracking, TrackedPacket, Carried, acked_by, Verdict, is_lost, lost_by, after_detection}
+use Rattle.quic_machine_next.specs.LeaveCases.{at_losses}
+use Rattle.quic_machine_next.specs.End.{End, with_closing, with_tracking, with_rtt}
+use Rattle.quic_machine_next.specs.Acked.{without_known, reset_acked, resets_acked, stream_acked, streams_acked, packet_acked, packets_acked, stream_lost, streams_lost, again, carried_lost, packets_lost, verdict, losses_detected, measured, sampled, without_acked, after_named}
+use Rattle.quic_machine_next.specs.Receive.{Progress, is_above, names_ungiven, take_frame, received}
+use Rattle.quic_machine_next.specs.FrameCases.{OnStreams, named, ack_taken, passed, frame_keeps, frame_leaves, frames_leave, by_received}
+use Rattle.quic_headline_next.specs.Runs.{Packet, In, IsTaken, names}
+use Rattle.quic_headline_next.specs.Observer.{Sent}
+use Rattle.quic_headline_next.proofs.Packets.Invariant.{IsCarriedFrom, AreTracked, RisingFrom, WereSent}
+use Rattle.quic_headline_next.proofs.Packets.Rising.{one_number}
+
+-- ---- fewer packets
+
+-- what is among some is among all
+pub in_filter : {X : Type 0} (f : X → Bool) (x : X) (xs : List X) → In x (filter f xs) → In x xs
+in_filter f x [] i = i
+in_filter f x (y ∷ xs) i = go (f y) i (in_filter f x xs)
+  where
+    go : (b : Bool) → In x (cond b (y ∷ filter f xs) (filter f xs)) → (In x (filter f xs) → In x xs) → In x (y ∷ xs)
+    go true (inl is) later = inl is
+    go true (inr more) later = inr (later more)
+    go false more later = inr (later more)
+
+-- and chosen
+pub filter_chose : {X : Type 0} (f : X → Bool) (x : X) (xs : List X) → In x (filter f xs) → f x ≡ true
+filter_chose f x [] i = absurd i
+filter_chose f x (y ∷ xs) i = go (f y) refl i (filter_chose f x xs)
+  where
+    go : (b : Bool) → f y ≡ b → In x (cond b (y ∷ filter f xs) (filter f xs)) → (In x (filter f xs) → f x ≡ true) → f x ≡ true
+    go true on (inl is) later = ap f is ∙ on
+    go true on (inr more) later = later more
+    go false off more later = later more
+
+-- each packet that an end waits for, another waited for
+abbrev pub WaitsForFewer : End → End → Type 0
+WaitsForFewer e f = (n : ℕ) (t : TrackedPacket) → In (n, t) f.tracking.packets → In (n, t) e.tracking.packets
+
+-- measuring a round trip leaves what is tracked
+pub sampled_tracking : (o : Option TrackedPacket) (a : AckValue) (e : End) → (sampled o a e).tracking ≡ e.tracking
+sampled_tracking None a e = refl
+sampled_tracking (Some p) a e = refl
+
+-- so it is where losses are detected
+pub losses_fewer : (e : End) → WaitsForFewer e (losses_detected e)
+losses_fewer e n t i = in_filter (λ q. not (is_lost (verdict e) q)) (n, t) e.tracking.packets i
+
+-- and after an ACK frame that names these
+named_fewer : (ps : Table TrackedPacket) (rises : Bool) (a : AckValue) (e : End) → WaitsForFewer e (after_named ps rises a e)
+named_fewer [] rises a e n t i = i
+named_fewer (p ∷ ps) rises a e n t i =
+    let o = measured rises a (p ∷ ps) in
+    let left = without_acked (p ∷ ps) a e in
+    let timed : In (n, t) (sampled o a left).tracking.packets = losses_fewer (sampled o a left) n t i in
+    in_filter (λ q. not (names a q.0)) (n, t) e.tracking.packets (subst (λ (x : Tracking). In (n, t) x.packets) (sampled_tracking o a left) timed)
+
+-- after any frame, behind what was left
+pub frame_fewer : (e : End) (f : FrameValue) (x : End) → WaitsForFewer e x → WaitsForFewer e (take_frame f x).end
+frame_fewer e = frame_keeps (WaitsForFewer e) (record {
+  ack = λ rises a x w n t i. w n t (named_fewer (acked_by a x.tracking.packets) rises a (named a x) n t i);
+  on_streams = λ f x on w. frame_leaves (WaitsForFewer e) f x on (λ streams. w);
+})
+
+-- whatever comes adds none
+pub received_fewer : (p : Policy) (e : End) (now : ℕ) (d : List ℕ) → WaitsForFewer e (received p e now d).end
+received_fewer p e now d = by_received (WaitsForFewer e) (record {
+  notes = λ n x w. w;
+  begins = λ now n x w. w;
+  frame = frame_fewer e;
+  takes = λ n asks x w. w;
+  closes = λ reason x w. w;
+}) p e now d (λ n t i. i)
+
+-- so each tracked packet was given still
+pub tracked_received : (p : Policy) (e : End) (now : ℕ) (d : List ℕ) (sents : List Sent) → AreTracked sents e.tracking.packets → AreTracked sents (received p e now d).end.tracking.packets
+tracked_received p e now d sents before n t i = before n t (received_fewer p e now d n t i)
+
+-- ---- what an ACK frame acknowledges, and what counts as lost
+
+-- an ACK frame names only numbers of packets that were taken
+abbrev pub NamesTaken : List Packet → AckValue → Type 0
+NamesTaken took a = (k : ℕ) → names a k ≡ true → IsTaken took k
+
+-- the packets that were taken stand among what was sent, by rising numbers
+pub record Stands (took : List Packet) (sents : List Sent) : Type 0 where
+  pub taken : WereSent sents took
+  pub rising : RisingFrom 0 sents
+
+-- what a packet carried that was taken
+pub record WasCarried (took : List Packet) (c : Carried) : Type 0 where
+  pub packet : Packet
+  pub was_taken : In packet took
+  pub is : IsCarriedFrom c packet.frames
+
+-- what a datagram carried that was sent
+pub record IsCarriedBy (sents : List Sent) (c : Carried) : Type 0 where
+  pub sent : Sent
+  pub among : In sent sents
+  pub is : IsCarriedFrom c sent.frames
+
+module _ (took : List Packet) (sents : List Sent) (stands : Stands took sents) where
+  -- a tracked packet that an ACK frame names carried what a packet did that was taken
+  pub named_carried : (a : AckValue) (packets : Table TrackedPacket) → NamesTaken took a → AreTracked sents packets → (n : ℕ) (t : TrackedPacket) → In (n, t) (acked_by a packets) → WasCarried took t.carried
+  named_carried a packets takes tracked n t i =
+      let was = tracked n t (in_filter (λ p. names a p.0) (n, t) packets i) in
+      let arrived = takes n (filter_chose (λ p. names a p.0) (n, t) packets i) in
+      let found = stands.taken arrived.packet arrived.was_taken in
+      let same : found.sent ≡ was.0 = one_number 0 sents found.sent was.0 stands.rising found.is.0 was.1.0 (found.is.1 ∙ arrived.is ∙ sym was.1.1) in
+      record {
+        packet = arrived.packet;
+        was_taken = arrived.was_taken;
+        is = subst (λ (fs : List FrameValue). IsCarriedFrom t.carried fs) (ap (λ (s : Sent). s.frames) (sym same) ∙ found.frames) was.2;
+      }
+
+-- one that counts as lost carried what was sent
+pub lost_carried : (sents : List Sent) (v : Verdict) (packets : Table TrackedPacket) → AreTracked sents packets → (n : ℕ) (t : TrackedPacket) → In (n, t) (lost_by v packets) → IsCarriedBy sents t.carried
+lost_carried sents v packets tracked n t i =
+    let was = tracked n t (in_filter (is_lost v) (n, t) packets i) in
+    record { sent = was.0; among = was.1.0; is = was.2 }
+
+-- so did any that is tracked
+pub tracked_carried : (sents : List Sent) (packets : Table TrackedPacket) → AreTracked sents packets → (n : ℕ) (t : TrackedPacket) → In (n, t) packets → IsCarriedBy sents t.carried
+tracked_carried sents packets tracked n t i = let was = tracked n t i in record { sent = was.0; among = was.1.0; is = was.2 }
+
+-- ---- steps
+
+-- What holds where an ACK frame makes an end take these steps: frames that are acknowledged stood in a packet that was taken, those that are lost in one that was sent.
+pub record SettlesOn (took : List Packet) (sents : List Sent) (P : End → Type 0) : Type 0 where
+  -- numbers that the peer knows of need no more acknowledgement
+  pub known : (n : ℕ) (e : End) → P e → P (without_known (Some n) e)
+  -- RESET_STREAM is acknowledged, and a STREAM frame
+  pub reset : (c : Carried) (r : ℕ × ℕ) (e : End) → WasCarried took c → In r c.retransmits.reset_stream → P e → P (reset_acked r.0 e)
+  pub acked : (c : Carried) (m : StreamMeta) (e : End) → WasCarried took c → In m c.stream_frames → P e → P (stream_acked m e)
+  -- a STREAM frame is lost, and what else a packet carried
+  pub lost : (c : Carried) (m : StreamMeta) (e : End) → IsCarriedBy sents c → In m c.stream_frames → P e → P (stream_lost m e)
+  pub again : (c : Carried) (e : End) → IsCarriedBy sents c → P e → P (again c e)
+  -- fewer packets are tracked
+  pub tracked : (t : Tracking) (e : End) → P e → P (with_tracking e t)
+  -- the round trip is measured
+  pub measured : (r : Rtt) (e : End) → P e → P (with_rtt e r)
+
+module _ (took : List Packet) (sents : List Sent) (P : End → Type 0) (s : SettlesOn took sents P) where
+  -- what the peer knows of, if anything
+  known_on : (o : Option ℕ) (e : End) → P e → P (without_known o e)
+  known_on None e i = i
+  known_on (Some n) e i = s.known n e i
+
+  -- the RESET_STREAM frames of a packet
+  resets_on : (c : Carried) → WasCarried took c → (rs : List (ℕ × ℕ)) (e : End) → ((r : ℕ × ℕ) → In r rs → In r c.retransmits.reset_stream) → P e → P (resets_acked rs e)
+  resets_on c was [] e inside i = i
+  resets_on c was (r ∷ rs) e inside i = resets_on c was rs (reset_acked r.0 e) (λ q j. inside q (inr j)) (s.reset c r e was (inside r (inl refl)) i)
+
+  -- its STREAM frames, acknowledged
+  acked_on : (c : Carried) → WasCarried took c → (ms : List StreamMeta) (e : End) → ((m : StreamMeta) → In m ms → In m c.stream_frames) → P e → P (streams_acked ms e)
+  acked_on c was [] e inside i = i
+  acked_on c was (m ∷ ms) e inside i = acked_on c was ms (stream_acked m e) (λ q j. inside q (inr j)) (s.acked c m e was (inside m (inl refl)) i)
+
+  -- or lost
+  lost_on : (c : Carried) → IsCarriedBy sents c → (ms : List StreamMeta) (e : End) → ((m : StreamMeta) → In m ms → In m c.stream_frames) → P e → P (streams_lost ms e)
+  lost_on c was [] e inside i = i
+  lost_on c was (m ∷ ms) e inside i = lost_on c was ms (stream_lost m e) (λ q j. inside q (inr j)) (s.lost c m e was (inside m (inl refl)) i)
+
+  -- packets are acknowledged
+  packets_on : (ps : Table TrackedPacket) (e : End) → ((n : ℕ) (t : TrackedPacket) → In (n, t) ps → WasCarried took t.carried) → P e → P (packets_acked ps e)
+  packets_on [] e was i = i
+  packets_on (p ∷ ps) e was i =
+      let c : Carried = p.1.carried in
+      let here : WasCarried took c = was p.0 p.1 (inl refl) in
+      let knows : End = without_known c.largest_acked e in
+      let reset : End = resets_acked c.retransmits.reset_stream knows in
+      packets_on ps (packet_acked p.1 e) (λ n t j. was n t (inr j))
+      (acked_on c here c.stream_frames reset (λ m j. j) (resets_on c here c.retransmits.reset_stream knows (λ r j. j) (known_on c.largest_acked e i)))
+
+  -- and lost
+  losses_on : (ps : Table TrackedPacket) (e : End) → ((n : ℕ) (t : TrackedPacket) → In (n, t) ps → IsCarriedBy sents t.carried) → P e → P (packets_lost ps e)
+  losses_on [] e was i = i
+  losses_on (p ∷ ps) e was i =
+      let c : Carried = p.1.carried in
+      let here : IsCarriedBy sents c = was p.0 p.1 (inl refl) in
+      losses_on ps (carried_lost c e) (λ n t j. was n t (inr j)) (s.again c (streams_lost c.stream_frames e) here (lost_on c here c.stream_frames e (λ m j. j) i))
+
+  -- losses are detected
+  pub detected_on : (e : End) → AreTracked sents e.tracking.packets → P e → P (losses_detected e)
+  detected_on e tracked i =
+      let lost = lost_by (verdict e) e.tracking.packets in
+      s.tracked (after_detection (verdict e) e.tracking) (packets_lost lost e) (losses_on lost e (lost_carried sents (verdict e) e.tracking.packets tracked) i)
+
+  -- a round trip is measured, if one is
+  sampled_on : (o : Option TrackedPacket) (a : AckValue) (e : End) → P e → P (sampled o a e)
+  sampled_on None a e i = i
+  sampled_on (Some p) a e i = s.measured (sampled (Some p) a e).path.rtt e i
+
+  -- an ACK frame that names these packets
+  named_on : (ps : Table TrackedPacket) (rises : Bool) (a : AckValue) (e : End) → ((n : ℕ) (t : TrackedPacket) → In (n, t) ps → WasCarried took t.carried) → AreTracked sents e.tracking.packets → P e → P (after_named ps rises a e)
+  named_on [] rises a e was tracked i = i
+  named_on (p ∷ ps) rises a e was tracked i =
+      let o = measured rises a (p ∷ ps) in
+      let left : End = without_acked (p ∷ ps) a e in
+      let timed : End = sampled o a left in
+      let stay : AreTracked sents left.tracking.packets = (λ n t j. tracked n t (in_filter (λ q. not (names a q.0)) (n, t) e.tracking.packets j)) in
+      let rest : AreTracked sents timed.tracking.packets = subst (λ (x : Tracking). AreTracked sents x.packets) (sym (sampled_tracking o a left)) stay in
+      let acked : P left = s.tracked left.tracking (packets_acked (p ∷ ps) e) (packets_on (p ∷ ps) e was i) in
+      s.tracked (after_named (p ∷ ps) rises a e).tracking (losses_detected timed) (detected_on timed rest (sampled_on o a left acked))
+
+  -- losses that a timeout detects, where the clock may go on
+  pub expired_on : (e : End) (now : ℕ) → ((c : Closing) (x : End) → P x → P (with_closing x c)) → ((acks : Pending) (timers : Timers) (x : End) → P x → P (record x { acknowledging = acks; timers = timers })) → AreTracked sents e.tracking.packets → P e
+      → (acks : Pending) (timers : Timers) → P (at_losses e now acks timers)
+  expired_on e now passes times tracked i acks timers =
+      let begins : End = with_closing e (ticked e.closing now) in
+      times acks timers (losses_detected begins) (detected_on begins tracked (passes (ticked e.closing now) e i))
+
+-- ---- frames of a packet that an end takes
+
+-- what holds over the frames of a packet: its ACK frames settle what they do, and its frames on streams leave them so
+pub record TakesOn (took : List Packet) (sents : List Sent) (frames : List FrameValue) (P : End → Type 0) : Type 0 where
+  pub settles : SettlesOn took sents P
+  -- the greatest number of an ACK frame counts
+  pub names : (a : AckValue) (e : End) → In (ack a) frames → P e → P (named a e)
+  pub on_streams : (f : FrameValue) (e : End) → In f frames → OnStreams f → P e → P (take_frame f e).end
+
+-- a frame that is no ACK frame
+abbrev pub IsNoAck : FrameValue → Type 0
+IsNoAck (ack a) = ⊥
+IsNoAck f = Unit {0}
+
+-- a frame is an ACK frame, or one on streams, or changes nothing
+pub by_frame : (f : FrameValue) (e : End) (Q : FrameValue → Progress → Type 0) → ((a : AckValue) → ack a ≡ f → Q (ack a) (ack_taken (names_ungiven a e) a e)) → (IsNoAck f → OnStreams f → Q f (take_frame f e))
+    → (IsNoAck f → (take_frame f e).end ≡ e → Q f (take_frame f e)) → Q f (take_frame f e)
+by_frame (ack a) e Q acks on same = acks a refl
+by_frame (stream f) e Q acks on same = on tt tt
+by_frame (reset_stream f) e Q acks on same = on tt tt
+by_frame (stop_sending f) e Q acks on same = on tt tt
+by_frame (max_data limit) e Q acks on same = on tt tt
+by_frame (max_stream_data f) e Q acks on same = on tt tt
+by_frame (max_streams f) e Q acks on same = on tt tt
+by_frame (stream_data_blocked f) e Q acks on same = on tt tt
+by_frame (streams_blocked f) e Q acks on same = on tt tt
+by_frame (new_token t) e Q acks on same = same tt refl
+by_frame handshake_done e Q acks on same = same tt refl
+by_frame f e Q acks on same = same tt refl
+
+module _ (took : List Packet) (sents : List Sent) (stands : Stands took sents) (frames : List FrameValue) (P : End → Type 0) (c : TakesOn took sents frames P) where
+  -- an ACK frame, taken or refused
+  ack_on : (b : Bool) (a : AckValue) (e : End) → In (ack a) frames → NamesTaken took a → AreTracked sents e.tracking.packets → P e → P (ack_taken b a e).end
+  ack_on true a e among takes tracked i = i
+  ack_on false a e among takes tracked i =
+      named_on took sents P c.settles (acked_by a e.tracking.packets) (is_above e.numbers.largest_acked a.largest) a (named a e) (named_carried took sents stands a e.tracking.packets takes tracked) tracked (c.names a e among i)
+
+  -- one frame
+  frame_on : (f : FrameValue) (e : End) → In f frames → ((a : AckValue) → In (ack a) frames → NamesTaken took a) → AreTracked sents e.tracking.packets → P e → P (take_frame f e).end
+  frame_on f e among takes tracked i =
+      by_frame f e (λ g p. P p.end) (λ a is. (let there : In (ack a) frames = subst (λ (g : FrameValue). In g frames) (sym is) among in ack_on (names_ungiven a e) a e there (takes a there) tracked i))
+      (λ other on. c.on_streams f e among on i) (λ other same. subst P (sym same) i)
+
+  -- what holds over such frames, while what is waited for was given
+  record Going (left : List FrameValue) (e : End) : Type 0 where
+    inside : (f : FrameValue) → In f left → In f frames
+    tracked : AreTracked sents e.tracking.packets
+    holds : P e
+
+  -- what each step keeps holds behind all frames of the packet, taken or refused, where its ACK frames name packets that were taken
+  pub frames_settle : (e : End) → ((a : AckValue) → In (ack a) frames → NamesTaken took a) → AreTracked sents e.tracking.packets → P e → P (passed frames e).end
+  frames_settle e takes tracked i =
+      let all = frames_leave Going (λ f left x g. record {
+        inside = λ h j. g.inside h (inr j);
+        tracked = λ n t j. g.tracked n t (frame_fewer x f x (λ m u k. k) n t j);
+        holds = frame_on f x (g.inside f (inl refl)) takes g.tracked g.holds;
+      }) frames e (record { inside = λ f j. j; tracked = tracked; holds = i }) in
+      all.1.holds

@@ -1,0 +1,161 @@
+-- ACK frames name numbers of packets that their giver took, and those alone are to be acknowledged.
+use Rattle.std.proofs.Common.{◌≡◌, ℕ, zero, suc, ◌+◌, ◌-◌, inl, inr, Bool, true, false, nat_le, ◌&&◌, ◌||◌, List, [], ◌∷◌, ◌++◌, length, replicate, refl, sym, ap, ◌∙◌, subst, arith}
+use Rattle.std.specs.List.{list_any}
+use Rattle.std.proofs.lemmas.Bool.{leb-true, le-leb, and_parts}
+use Rattle.std.proofs.lemmas.List.{append-nil}
+use Rattle.quic_sets.specs.Runs.{Run, Has}
+use Rattle.quic_packet.specs.Number.{truncated}
+use Rattle.quic_wire.specs.Value.{FrameValue, AckValue, ack, stream, ping, padding}
+use Rattle.quic_wire.specs.Grammar.{Payload}
+use Rattle.quic_wire.specs.AckGrammar.{InRanges, GoDown}
+use Rattle.quic_wire.specs.AckSet.{ranges_of_set}
+use Rattle.quic_wire.proofs.AckSet.{set_numbers}
+use Rattle.quic_recovery_core.specs.PendingAcks.{Pending}
+use Rattle.quic_machine_next.specs.declared.run.Call.{Call}
+use Rattle.quic_machine_next.specs.declared.run.Call.TheVariants as calls
+use Rattle.quic_machine_next.specs.declared.run.Answer.{Answer}
+use Rattle.quic_spaces.specs.Numbers.{cut_against}
+use Rattle.quic_machine_next.specs.End.{End, number_of}
+use Rattle.quic_machine_next.specs.Poll.{Draft, ack_of, composed, lazied}
+use Rattle.quic_streams_parts.specs.SendHalf.{frame_of}
+use Rattle.quic_headline_next.proofs.Packets.Entries.{IsControl, entry_control}
+use Rattle.quic_headline_next.specs.Runs.{Packet, Intake, In, names}
+use Rattle.quic_headline_next.specs.Observer.{Sent}
+use Rattle.quic_machine_next.specs.Machine.{gave}
+use Rattle.quic_machine_next.specs.DraftLaws.{by_writing}
+use Rattle.quic_headline_next.proofs.Packets.Invariant.{SentAs, NameTaken, WereSent, AreTaken, Acks}
+use Rattle.quic_headline_next.proofs.Packets.Growth.{in_more}
+use Rattle.quic_machine_next.specs.PollCases.{ready_at, frames_at}
+use Rattle.quic_headline_next.proofs.Packets.Delivered.{Arrivals}
+use Rattle.quic_headline_next.proofs.Packets.Probes.{ready_acks}
+use Rattle.quic_headline_next.proofs.Places.Parties.{sent_by, sent_if, sents_by}
+use Rattle.quic_headline_next.proofs.Places.Told.{in_left}
+
+-- ---- what a frame names
+
+-- a number that a frame names is in one of its ranges
+in_ranges : (ranges : List (ℕ × ℕ)) (k : ℕ) → list_any (λ r. nat_le r.0 k && nat_le k r.1) ranges ≡ true → InRanges ranges k
+in_ranges [] k named = cc
+in_ranges (r ∷ ranges) k named = go (nat_le r.0 k && nat_le k r.1) refl named (in_ranges ranges k)
+  where
+    go : (b : Bool) → (nat_le r.0 k && nat_le k r.1) ≡ b → (b || list_any (λ x. nat_le x.0 k && nat_le k x.1) ranges) ≡ true
+        → (list_any (λ x. nat_le x.0 k && nat_le k x.1) ranges ≡ true → InRanges ranges k) → InRanges (r ∷ ranges) k
+    go true is named behind = let parts = and_parts (nat_le r.0 k) (nat_le k r.1) is in inl (leb-true r.0 k parts.0, leb-true k r.1 parts.1)
+    go false is named behind = inr (behind named)
+
+-- the ranges of each ACK frame of a payload go down from its greatest number
+acks_go_down : (fs : List FrameValue) (payload : List ℕ) (a : AckValue) → Payload fs payload → In (ack a) fs → GoDown a.largest a.ranges
+acks_go_down [] payload a spells i = absurd i
+acks_go_down (f ∷ fs) payload a spells (inl is) = here f is spells
+  where
+    here : (f : FrameValue) → ack a ≡ f → Payload (f ∷ fs) payload → GoDown a.largest a.ranges
+    here (ack b) is spells = let same : a ≡ b = cc in rw same spells.2.0
+    here f is spells = cc
+acks_go_down (f ∷ fs) payload a spells (inr i) = acks_go_down fs spells.1 a spells.3 i
+
+-- so the greatest is in one of them
+greatest_in : (a : AckValue) (ranges : List (ℕ × ℕ)) → GoDown a.largest ranges → list_any (λ r. nat_le r.0 a.largest && nat_le a.largest r.1) ranges ≡ true
+greatest_in a [] down = absurd down
+greatest_in a (r ∷ rs) down =
+    let top = down.1 in
+    let low : nat_le r.0 a.largest ≡ true = le-leb r.0 a.largest (let order = down.0 in omega arith) in
+    let high : nat_le a.largest r.1 ≡ true = le-leb a.largest r.1 (omega arith) in
+    rw (low, high) refl
+
+-- and so each ACK frame of a payload names its greatest number
+pub greatest_named : (fs : List FrameValue) (payload : List ℕ) (a : AckValue) → Payload fs payload → In (ack a) fs → names a a.largest ≡ true
+greatest_named fs payload a spells i = greatest_in a a.ranges (acks_go_down fs payload a spells i)
+
+-- ---- the ACK frames of a draft
+
+-- each ACK frame has the ranges of this set
+abbrev AckOf : List Run → List FrameValue → Type 0
+AckOf runs frames = (a : AckValue) → In (ack a) frames → a.ranges ≡ ranges_of_set runs
+
+-- a draft whose ACK frames have the ranges of the numbers that are to be acknowledged
+record Acknowledges (runs : List Run) (d : Draft) : Type 0 where
+  frames : AckOf runs d.frames
+  same : d.end.acknowledging.runs ≡ runs
+
+-- one frame more that has them, where it is an ACK frame
+ack_more : (runs : List Run) (frames : List FrameValue) (f : FrameValue) → AckOf runs frames → ((a : AckValue) → ack a ≡ f → a.ranges ≡ ranges_of_set runs) → AckOf runs (frames ++ f ∷ [])
+ack_more runs frames f before one a i = elim (in_more (ack a) f frames i) [ inl old ↦ before a old | inr is ↦ one a is ]
+
+-- a frame of control is no ACK frame
+no_ack : (f : FrameValue) (a : AckValue) → IsControl f → ack a ≡ f → ⊥
+no_ack f a is same = subst IsControl (sym same) is
+
+-- whichever frames go, ACK frames have them
+composed_acknowledges : (e : End) → Acknowledges e.acknowledging.runs (composed e)
+composed_acknowledges e = by_writing (Acknowledges e.acknowledging.runs) (record {
+  ack = λ d filled may k. record {
+    frames = ack_more e.acknowledging.runs d.frames (ack (ack_of d.end)) k.frames (λ a is. (let same : a ≡ ack_of d.end = cc in ap (λ (x : AckValue). x.ranges) same ∙ ap ranges_of_set k.same));
+    same = k.same;
+  };
+  ping = λ d k. record { frames = ack_more e.acknowledging.runs d.frames ping k.frames (λ a is. cc); same = k.same };
+  drops = λ d kind k. record { frames = k.frames; same = k.same };
+  control = λ d kind entry es f is goes k. record { frames = ack_more e.acknowledging.runs d.frames f k.frames (λ a ack_is. absurd (no_ack f a (entry_control kind d.end.waiting.frames entry es d.end.streams f is goes) ack_is)); same = k.same };
+  stream = λ d id h room found first some is counts k. record { frames = ack_more e.acknowledging.runs d.frames (stream (frame_of id h room)) k.frames (λ a is. cc); same = k.same };
+}) e (record { frames = λ a i. absurd i; same = refl })
+
+-- PADDING behind frames has none
+ack_zeros : (runs : List Run) (frames : List FrameValue) (count : ℕ) → AckOf runs frames → AckOf runs (frames ++ replicate count padding)
+ack_zeros runs [] zero all a i = absurd i
+ack_zeros runs [] (suc count) all a (inl is) = cc
+ack_zeros runs [] (suc count) all a (inr i) = ack_zeros runs [] count (λ b j. absurd j) a i
+ack_zeros runs (f ∷ frames) count all a (inl is) = all a (inl is)
+ack_zeros runs (f ∷ frames) count all a (inr i) = ack_zeros runs frames count (λ b j. all b (inr j)) a i
+
+-- a number that an ACK frame names is one that its giver has to acknowledge
+pub names_kept : (e : End) (now : ℕ) (a : AckValue) (k : ℕ) → Acks e.acknowledging → In (ack a) (frames_at e now) → names a k ≡ true → Has e.acknowledging.runs k
+names_kept e now a k acks i named =
+    let ready = lazied (ready_at e now) in
+    let d = composed ready in
+    let acknowledges = composed_acknowledges ready in
+    let count : ℕ = 4 - ((truncated (number_of d.end) (cut_against d.end.numbers)).width + length d.bytes) in
+    let ranges : a.ranges ≡ ranges_of_set ready.acknowledging.runs = ack_zeros ready.acknowledging.runs d.frames count acknowledges.frames a i in
+    let same : a.ranges ≡ ranges_of_set e.acknowledging.runs = ranges ∙ ap (λ (p : Pending). ranges_of_set p.runs) (ready_acks e now) in
+    (set_numbers e.acknowledging.runs k acks.runs.runs).1 (subst (λ (rs : List (ℕ × ℕ)). InRanges rs k) same (in_ranges a.ranges k named))
+
+-- ---- what was sent
+
+-- what was sent so stays so where more is sent
+pub were_sent_more : (sents more : List Sent) (packets : List Packet) → WereSent sents packets → WereSent (sents ++ more) packets
+were_sent_more sents more packets before packet i =
+    let w = before packet i in
+    record { sent = w.sent; is = (in_left w.sent sents more w.is.0, w.is.1); frames = w.frames }
+
+-- in each case of a delivery the packets that were taken were sent so
+pub sent_arrivals : (e : End) (now n : ℕ) (frames : List FrameValue) (i : Intake) (sents : List Sent) (s : Sent) → SentAs sents n s → s.frames ≡ frames → WereSent sents i.took
+    → Arrivals e now n frames i (λ o j. WereSent sents j.took)
+sent_arrivals e now n frames i sents s is same before = record {
+  ignored = λ reason. before;
+  noted = λ state reason. before;
+  takes = λ state new none. taken;
+  refuses = λ state new f at. before;
+}
+  where
+    taken : WereSent sents (record { number = n; frames = frames } ∷ i.took)
+    taken packet (inl this) = record { sent = s; is = (is.0, is.1 ∙ sym (ap (λ (x : Packet). x.number) this)); frames = same ∙ sym (ap (λ (x : Packet). x.frames) this) }
+    taken packet (inr old) = before packet old
+
+-- ---- what ACK frames name
+
+-- what was taken stays so where more is taken
+pub name_taken_on : (sents : List Sent) (packets more : List Packet) → ((packet : Packet) → In packet packets → In packet more) → NameTaken sents packets → NameTaken sents more
+name_taken_on sents packets more on before s a k is i named =
+    let t = before s a k is i named in
+    record { packet = t.packet; was_taken = on t.packet t.was_taken; is = t.is }
+
+-- what a call sends names numbers of packets that were taken
+pub name_taken_step : (e : End) (call : Call) (answer : Answer) (sents : List Sent) (packets : List Packet) → Acks e.acknowledging → AreTaken e.acknowledging.runs packets → NameTaken sents packets
+    → NameTaken (sents ++ sents_by e call answer) packets
+name_taken_step e (calls.Poll now) answer sents packets acks taken before = go (gave answer)
+  where
+    go : (b : Bool) → NameTaken (sents ++ sent_if b (sent_by e now)) packets
+    go true s a k is i named = elim (in_more s (sent_by e now) sents is) [
+      | inl old ↦ before s a k old i named
+      | inr new ↦ taken k (names_kept e now a k acks (subst (λ (x : Sent). In (ack a) x.frames) new i) named)
+    ]
+    go false s a k is i named = before s a k (subst (λ (x : List Sent). In s x) (append-nil sents) is) i named
+name_taken_step e call answer sents packets acks taken before = subst (λ (x : List Sent). NameTaken x packets) (sym (append-nil sents)) before

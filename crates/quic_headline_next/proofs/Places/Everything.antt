@@ -1,0 +1,194 @@
+-- All that holds between the ends of an honest run, in one group: packets, streams, what observers know and what is read; and the clauses of it.
+use Rattle.std.proofs.Common.{ℕ, sym, subst}
+use Rattle.quic_wire_core.specs.declared.stream_id.Side.{Side}
+use Rattle.quic_machine_next.specs.Machine.{World}
+use Rattle.quic_headline_next.specs.Runs.{Run, AreServed}
+use Rattle.quic_headline_next.specs.InFlight.{TracksInFlight}
+use Rattle.quic_headline_next.specs.Causes.{NumberLimit}
+use Rattle.quic_headline_next.specs.Duties.{DutiesStand}
+use Rattle.quic_headline_next.specs.Grown.{GrownLimitsWait}
+use Rattle.quic_headline_next.specs.Headline.{IsHonest, IsRun, OrderedPrefix, Slices, Once, EndAfterAll, BlockedOnlyWithoutBytes, AcceptsAll, FinishedMeansArrived, AcknowledgedWereTaken, NamesWereTaken, OpensExactly, NewestOpens, NumbersRise}
+use Rattle.quic_headline_next.specs.Moments.{LossMoments, LossTimerQuiet, AckMoments}
+use Rattle.quic_machine_next.specs.PollCases.{ready_at}
+use Rattle.quic_headline_next.proofs.Packets.Probes.{ready_state}
+use Rattle.quic_headline_next.proofs.Packets.MayGo.{AreReady}
+use Rattle.quic_headline_next.proofs.Packets.Group.{PacketsHold}
+use Rattle.quic_headline_next.proofs.Packets.Sight.{Sight}
+use Rattle.quic_headline_next.proofs.Places.Parties.{Party}
+use Rattle.quic_headline_next.proofs.Places.Groups.{Way, Nothing, And, Group, both, beside, over, early_group}
+use Rattle.quic_headline_next.proofs.Places.Placed.{Placed, placed}
+use Rattle.quic_headline_next.proofs.Places.Order as order
+use Rattle.quic_headline_next.proofs.Places.Together as together
+use Rattle.quic_headline_next.proofs.Halves.Ghosts.{IsWriting}
+use Rattle.quic_headline_next.proofs.Halves.DataLimit.{HasSmallLimit, KnowsLimit, limit_group}
+use Rattle.quic_headline_next.proofs.Halves.Writer.{WritesHold, grows_behind}
+use Rattle.quic_headline_next.proofs.Halves.Joined.{GoesWell, streams_spell, streams_group}
+use Rattle.quic_headline_next.proofs.Halves.ReadGroup.{ReadsHold, reads_group}
+use Rattle.quic_headline_next.proofs.Halves.ReadClauses as reads
+use Rattle.quic_headline_next.proofs.Halves.Finishing.{finished_arrived, arrived_beside}
+use Rattle.quic_headline_next.proofs.Halves.Arrived.{Arrives}
+use Rattle.quic_headline_next.proofs.Causes.UsedUp.{Shut, shut_group}
+use Rattle.quic_headline_next.proofs.Causes.UsedUp as used_up
+use Rattle.quic_headline_next.proofs.Channel.Names.{NamesHold, names_group}
+use Rattle.quic_headline_next.proofs.Channel.Within.{Within, within_group}
+use Rattle.quic_headline_next.proofs.Duties.Group.{Flying, flying_group}
+use Rattle.quic_headline_next.proofs.Duties.Ledger as ledger
+use Rattle.quic_headline_next.proofs.Grown.Clause.{GrownWait, grown_group}
+use Rattle.quic_headline_next.proofs.Grown.Clause as grown
+
+-- what waits to go of streams, as a group over the packets and what is written
+pub record IsReadying (Ready : Way) : Type 1 where
+  pub group : Group (And PacketsHold WritesHold) Ready
+  pub probes : (x y : Party) → PacketsHold x y → Ready x y → (now : ℕ) → AreReady (ready_at x.end now).streams.sending.halves.live (ready_at x.end now).waiting.frames
+
+module _ (Ready : Way) (ready : IsReadying Ready) where
+  -- ---- the groups
+
+  -- what is known of the streams of an end that writes, beside what was written
+  abbrev pub Rest : Way
+  Rest = And KnowsLimit Ready
+
+  rest : Group (And PacketsHold WritesHold) Rest
+  rest = beside (And PacketsHold WritesHold) KnowsLimit Ready (over PacketsHold (And PacketsHold WritesHold) KnowsLimit (λ x y h. h.0) (early_group PacketsHold KnowsLimit limit_group)) ready.group
+
+  goes : (x y : Party) → PacketsHold x y → Rest x y → (now : ℕ) → GoesWell (ready_at x.end now)
+  goes x y p h now = record { limit = subst HasSmallLimit (sym (ready_state x.end now)) h.0.small; waits = ready.probes x y p h.1 now }
+
+  -- the streams of an end that writes
+  abbrev pub Streams : Way
+  Streams = And WritesHold Rest
+
+  -- the packets, the streams, and what observers know
+  abbrev pub All : Way
+  All = And (And PacketsHold Streams) Sight
+
+  pub all : Group Nothing All
+  all = together.sighted Streams (streams_spell Rest goes) (streams_group Rest goes rest)
+
+  -- ---- what is read
+
+  is_writing : IsWriting (And Nothing All)
+  is_writing = record {
+    packets = λ x y h. h.1.0.0;
+    written = λ x y h. h.1.0.1.0.writes.keeps.holds;
+    says = λ x y h. h.1.0.1.0.says;
+    grows = λ x y call a c. grows_behind (And Nothing All) (λ x y h. h.1.0.0) x y call a c c.gives.1.0.1.0;
+  }
+
+  -- and what is read
+  pub all_read : Group Nothing (And All ReadsHold)
+  all_read = both Nothing All ReadsHold all (reads_group (And Nothing All) is_writing)
+
+  -- ---- limits that grew
+
+  -- and what waits of limits that grew
+  pub all_grown : Group Nothing (And (And All ReadsHold) GrownWait)
+  all_grown = both Nothing (And All ReadsHold) GrownWait all_read (over (And Nothing All) (And Nothing (And All ReadsHold)) GrownWait (λ x y h. (h.0, h.1.0)) (grown_group (And Nothing All) is_writing))
+
+  -- ---- why ends close
+
+  -- and why an end closed
+  pub all_shut : Group Nothing (And All Shut)
+  all_shut = both Nothing All Shut all (shut_group (And Nothing All) (λ x y h. h.1.0.0))
+
+  -- ---- where duties are
+
+  -- what of streams is known to have arrived
+  pub all_arrived : Group Nothing (And All Arrives)
+  all_arrived = arrived_beside All all (λ x y h. h.0.0) (λ x y h. h.0.1.0.says) (λ x y h. h.0.1.0.writes)
+
+  -- and what was said of counts and limits
+  abbrev pub Said : Way
+  Said = And NamesHold Within
+
+  arrived_writing : IsWriting (And Nothing (And All Arrives))
+  arrived_writing = record {
+    packets = λ x y h. h.1.0.0.0;
+    written = λ x y h. h.1.0.0.1.0.writes.keeps.holds;
+    says = λ x y h. h.1.0.0.1.0.says;
+    grows = λ x y call a c. grows_behind (And Nothing (And All Arrives)) (λ x y h. h.1.0.0.0) x y call a c c.gives.1.0.0.1.0;
+  }
+
+  pub all_said : Group Nothing (And (And All Arrives) Said)
+  all_said = both Nothing (And All Arrives) Said all_arrived
+      (beside (And Nothing (And All Arrives)) NamesHold Within (names_group (And Nothing (And All Arrives)) (record { packets = λ x y h. h.1.0.0.0; written = λ x y h. h.1.0.0.1.0.writes.keeps.holds })) (within_group (And Nothing (And All Arrives)) arrived_writing))
+
+  -- and where what has to arrive is
+  pub all_flying : Group Nothing (And (And (And All Arrives) Said) Flying)
+  all_flying = both Nothing (And (And All Arrives) Said) Flying all_said (flying_group (And Nothing (And (And All Arrives) Said)) (record {
+    packets = λ x y h. h.1.0.0.0.0;
+    writes = λ x y h. h.1.0.0.0.1.0;
+    ready = λ x y h. ready.probes x y h.1.0.0.0.0 h.1.0.0.0.1.1.1;
+    names = λ x y h. h.1.1.0;
+    within = λ x y h. h.1.1.1;
+  }))
+
+  -- ---- the clauses
+
+  module _ (r : Run) (end : World) (honest : IsHonest r) (run : IsRun r end) where
+    reads_place : (side : Side) (i : ℕ) → AreServed r i → Placed (And All ReadsHold) r end side i
+    reads_place = placed (And All ReadsHold) all_read r end honest run
+
+    says_read : reads.SaysWhatIsRead (And All ReadsHold)
+    says_read = record { reads = λ x y h. h.1 }
+
+    right : order.ReadsRight r
+    right = reads.reads_right (And All ReadsHold) says_read r end honest reads_place
+
+    pub ordered_prefix : OrderedPrefix r
+    ordered_prefix = order.ordered_prefix r right
+
+    pub slices : Slices r
+    slices = order.slices r right
+
+    pub once : Once r
+    once = order.once r right
+
+    pub end_after_all : EndAfterAll r
+    end_after_all = reads.end_after_all (And All ReadsHold) says_read r end honest reads_place
+
+    pub blocked_only_without_bytes : BlockedOnlyWithoutBytes r
+    blocked_only_without_bytes = reads.blocked_only_without_bytes (And All ReadsHold) says_read r end honest reads_place
+
+    pub accepts_all : AcceptsAll r
+    accepts_all = reads.accepts_all (And All ReadsHold) says_read r end honest reads_place
+
+    pub finished_means_arrived : FinishedMeansArrived r
+    finished_means_arrived = finished_arrived All all (λ x y h. h.0.0) (λ x y h. h.0.1.0.says) (λ x y h. h.0.1.0.writes) r end honest run
+
+    pub acknowledged_were_taken : AcknowledgedWereTaken r
+    acknowledged_were_taken = together.all_acknowledged Streams (streams_spell Rest goes) (streams_group Rest goes rest) r end honest run
+
+    pub names_were_taken : NamesWereTaken r
+    names_were_taken = together.all_named Streams (streams_spell Rest goes) (streams_group Rest goes rest) r end honest run
+
+    pub opens_exactly : OpensExactly r
+    opens_exactly = together.all_open Streams (streams_spell Rest goes) (streams_group Rest goes rest) r end honest run
+
+    pub newest_opens : NewestOpens r
+    newest_opens = together.all_newest Streams (streams_spell Rest goes) (streams_group Rest goes rest) r end honest run
+
+    pub numbers_rise : NumbersRise r
+    numbers_rise = together.all_rise Streams (streams_spell Rest goes) (streams_group Rest goes rest) r end honest run
+
+    pub tracks_in_flight : TracksInFlight r
+    tracks_in_flight = together.all_tracked Streams (streams_spell Rest goes) (streams_group Rest goes rest) r end honest run
+
+    pub loss_moments : LossMoments r
+    loss_moments = together.all_paced Streams (streams_spell Rest goes) (streams_group Rest goes rest) r end honest run
+
+    pub loss_timer_quiet : LossTimerQuiet r
+    loss_timer_quiet = together.all_quiet Streams (streams_spell Rest goes) (streams_group Rest goes rest) r end honest run
+
+    pub ack_moments : AckMoments r
+    ack_moments = together.all_due Streams (streams_spell Rest goes) (streams_group Rest goes rest) r end honest run
+
+    pub number_limit : NumberLimit r
+    number_limit = used_up.number_limit (And All Shut) (record { packets = λ x y h. h.0.0.0; sight = λ x y h. h.0.1; shut = λ x y h. h.1 }) r end honest (placed (And All Shut) all_shut r end honest run)
+
+    pub duties_stand : DutiesStand r
+    duties_stand = ledger.duties_stand (And (And (And All Arrives) Said) Flying)
+        (record { packets = λ x y h. h.0.0.0.0.0; writes = λ x y h. h.0.0.0.0.1.0; arrives = λ x y h. h.0.0.1; flying = λ x y h. h.1; sight = λ x y h. h.0.0.0.1 }) r end honest (placed (And (And (And All Arrives) Said) Flying) all_flying r end honest run)
+
+    pub grown_limits_wait : GrownLimitsWait r
+    grown_limits_wait = grown.grown_limits_wait (And (And All ReadsHold) GrownWait) (record { grown = λ x y h. h.1; reads = λ x y h. h.0.1 }) r end honest (placed (And (And All ReadsHold) GrownWait) all_grown r end honest run)

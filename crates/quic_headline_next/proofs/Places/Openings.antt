@@ -1,0 +1,150 @@
+-- What opens, what is named, and the numbers that rise, at each place of a run: the clauses that the packets alone give.
+use Rattle.std.proofs.Common.{◌≡◌, ℕ, Bool, true, false, List, [], ◌∷◌, ◌++◌, take, length, map, Option, refl, sym, ap, ◌∙◌, subst}
+use Rattle.std.specs.Prelude.{◌↔◌, ◌&&◌}
+use Rattle.std.specs.Option.{is_some}
+use Rattle.quic_wire_core.specs.declared.stream_id.Side.{Side}
+use Rattle.quic_wire_core.specs.declared.stream_id.Side.TheVariants.{Client, Server}
+use Rattle.quic_wire_core.specs.StreamId.{other_side}
+use Rattle.quic_wire.specs.Value.{FrameValue, ack}
+use Rattle.quic_packet.specs.Datagram.{Opening}
+use Rattle.quic_packet.specs.Destination.{is_known}
+use Rattle.quic_machine_next.specs.declared.run.Injection.{Injection}
+use Rattle.quic_machine_next.specs.declared.run.Call.TheVariants as calls
+use Rattle.quic_machine_next.specs.declared.run.Answer.{Answer}
+use Rattle.quic_machine_next.specs.declared.run.Answer.TheVariants as answers
+use Rattle.quic_machine_next.specs.Policy.{Policy, CanOpen}
+use Rattle.quic_machine_next.specs.Ids.{known}
+use Rattle.quic_spaces.specs.Numbers.{expected}
+use Rattle.quic_machine_next.specs.Start.{IsLawful}
+use Rattle.quic_machine_next.specs.End.{End}
+use Rattle.quic_machine_next.specs.Opens.{own_id_length, opens, would_open}
+use Rattle.quic_machine_next.specs.Machine.{World, policy_at, end_at, injected_if}
+use Rattle.quic_headline_next.specs.Runs.{Run, Packet, Intake, In, IsTaken, IsNamed, until, given_until, count_given, AreServed, first_id_of_peer, expected_behind}
+use Rattle.quic_headline_next.specs.Observer.{Sent, Watch, first_watch, frames_opened, watch, took, sents_until, references_until}
+use Rattle.quic_headline_next.specs.Headline.{IsHonest, IsAt, IsNamedIn, frames_given, would_open_at, Rise, AcknowledgedWereTaken, NamesWereTaken, OpensExactly}
+use Rattle.quic_headline_next.proofs.Packets.Invariant.{InStep, IsSent, NameTaken, WereSent}
+use Rattle.quic_headline_next.proofs.Packets.Growth.{step_in}
+use Rattle.quic_headline_next.proofs.Packets.Delivered.{shown_if, expands, opens_given, frames_of_payload}
+use Rattle.quic_headline_next.proofs.Packets.Knowing.{expects_in}
+use Rattle.quic_headline_next.proofs.Packets.Rising.{rise}
+use Rattle.quic_headline_next.proofs.Packets.Watching.{watched_intake}
+use Rattle.quic_headline_next.proofs.Packets.Group.{PacketsHold}
+use Rattle.quic_headline_next.proofs.Places.Parties.{Party, came_to, lens}
+use Rattle.quic_headline_next.proofs.Places.Placed.{party_at, Placed, watch_is, answered}
+
+-- ---- injections
+
+-- whether bytes open is told by the answer
+told_by_answer : (p : Policy) (e : End) (now : ℕ) (d : List ℕ) (a : Answer) (b c : Bool) → b ≡ c → a ≡ injected_if b p e now d → (a ≡ answers.Opens) ↔ (c ≡ true)
+told_by_answer p e now d a true c same is = (λ told. sym same, λ opened. is)
+told_by_answer p e now d a false c same is = (λ told. cc, λ opened. cc)
+
+-- an end that has these ids and expects this number answers by them
+opens_by : (p : Policy) (e : End) (now : ℕ) (d : List ℕ) (a : Answer) (ids : List (List ℕ)) (x : ℕ) → known e.ids ≡ ids → expected e.numbers ≡ x → a ≡ injected_if (would_open p e d) p e now d
+    → (a ≡ answers.Opens) ↔ (is_some (opens p ids x d) ≡ true)
+opens_by p e now d a ids x has expects is =
+    told_by_answer p e now d a (would_open p e d) (is_some (opens p ids x d)) (ap (λ (xs : List (List ℕ)). is_some (opens p xs (expected e.numbers) d)) has ∙ ap (λ (n : ℕ). is_some (opens p ids n d)) expects) is
+
+-- ---- what ACK frames name
+
+-- what the ACK frames of a datagram name that was given was taken, where its taker has the mates of its giver's keys, whatever ids
+-- and number the taker reads it with
+names_taken : (p q : Policy) (id : List ℕ) (sents : List Sent) (given : List (List ℕ)) (packets : List Packet) → CanOpen p q → IsLawful p → length id ≡ own_id_length → InStep (IsSent p id) sents given → NameTaken sents packets
+    → (ids : List (List ℕ)) (x number : ℕ) (d : List ℕ) → In d given → IsNamedIn (frames_opened (opens q ids x d)) number → IsTaken packets number
+names_taken p q id sents given packets mates lawful long all taken ids x number d i named =
+    by_opening (is_known id ids && expands s.number s.reference x) (subst (λ (o : Option Opening). IsNamedIn (frames_opened o) number) (opens_given p q id s.number s.reference s.frames d g mates lawful long ids x) named)
+  where
+    w : (s : Sent) × In s sents × IsSent p id s d
+    w = step_in (IsSent p id) sents given d all i
+
+    s : Sent
+    s = w.0
+
+    g : IsSent p id s d
+    g = w.2
+
+    by_opening : (b : Bool) → IsNamedIn (frames_opened (shown_if b s.number s.reference g.payload)) number → IsTaken packets number
+    by_opening true n = taken s n.frame number w.1 (subst (λ (fs : List FrameValue). In (ack n.frame) fs) (frames_of_payload s.frames g.payload g.spells) n.carried) n.named
+    by_opening false n = absurd n.carried
+
+-- what the packets name that were sent so was taken
+pub named_taken : (sents : List Sent) (packets theirs : List Packet) → WereSent sents packets → NameTaken sents theirs → (number : ℕ) → IsNamed packets number → IsTaken theirs number
+named_taken sents packets theirs sent taken number n =
+    let w = sent n.packet n.was_taken in
+    taken w.sent n.frame number w.is.0 (subst (λ (frames : List FrameValue). In (ack n.frame) frames) (sym w.frames) n.carried) n.named
+
+-- ---- at a place
+
+take_given : (given rest : List (List ℕ)) (n : ℕ) → length given ≡ n → take n (given ++ rest) ≡ given
+take_given [] rest n q = rw (← q) refl
+take_given (d ∷ given) rest n q = rw (← q) (ap (λ (ds : List (List ℕ)). d ∷ ds) (take_given given rest (length given) refl))
+
+-- what an end took
+pub took_is : (r : Run) → IsHonest r → (w : World) (i : ℕ) (side : Side) (sents theirs : List Sent) → (watch r side i).intake ≡ came_to (party_at r i w side sents) (party_at r i w (other_side side) theirs)
+took_is r honest w i side sents theirs =
+    let x : Party = party_at r i w side sents in
+    let y : Party = party_at r i w (other_side side) theirs in
+    ap (λ (v : Watch). v.intake) (watch_is r honest w i side sents theirs) ∙ watched_intake (lens x y) x.told (first_watch (x.id ∷ []) x.final x.began x.initial_rtt)
+
+-- what the other took
+pub took_there : (r : Run) → IsHonest r → (w : World) (i : ℕ) (side : Side) (sents theirs : List Sent) → (watch r (other_side side) i).intake ≡ came_to (party_at r i w (other_side side) theirs) (party_at r i w side sents)
+took_there r honest w i Client sents theirs = took_is r honest w i Server theirs sents
+took_there r honest w i Server sents theirs = took_is r honest w i Client theirs sents
+
+module _ (r : Run) (end : World) (honest : IsHonest r) (side : Side) (i : ℕ) (at : Placed PacketsHold r end side i) where
+  abbrev here : Party
+  here = party_at r i at.world side at.sents
+
+  abbrev there : Party
+  there = party_at r i at.world (other_side side) at.theirs
+
+  took_here : took r side i ≡ (came_to here there).took
+  took_here = ap (λ (j : Intake). j.took) (took_is r honest at.world i side at.sents at.theirs)
+
+  pub took_other : took r (other_side side) i ≡ (came_to there here).took
+  took_other = ap (λ (j : Intake). j.took) (took_there r honest at.world i side at.sents at.theirs)
+
+  -- what it gave so far
+  pub given_here : given_until r side i ≡ here.given
+  given_here =
+      let more = at.joined.x_more in
+      ap (λ (ds : List (List ℕ)). take (count_given (until r side i)) ds) (sym more.1) ∙ take_given here.given more.0 (count_given (until r side i)) at.gives.count
+
+  -- what an ACK frame that came names, the other took
+  pub acknowledged_at : (number : ℕ) → IsNamed (took r side i) number → IsTaken (took r (other_side side) i) number
+  acknowledged_at number named =
+      subst (λ (packets : List Packet). IsTaken packets number) (sym took_other)
+      (named_taken at.theirs (came_to here there).took (came_to there here).took at.takes.taken at.takes.named number (subst (λ (packets : List Packet). IsNamed packets number) took_here named))
+
+  -- what an ACK frame names in a datagram that was given, this end took
+  pub named_at : (x number : ℕ) (datagram : List ℕ) → In datagram (given_until r side i) → IsNamedIn (frames_given r side x datagram) number → IsTaken (took r side i) number
+  named_at x number datagram was named =
+      subst (λ (packets : List Packet). IsTaken packets number) (sym took_here)
+      (names_taken here.policy there.policy there.id at.sents here.given (came_to here there).took at.joined.to_y at.joined.x_lawful at.joined.y_long at.gives.gives.each at.gives.named (known (end_at (other_side side) r.start).ids) x number datagram
+      (subst (λ (ds : List (List ℕ)). In datagram ds) given_here was) named)
+
+  -- an injection is answered by what the lists say of ids and numbers
+  pub opens_at : (injection : Injection) (a : Answer) → IsAt r i side (calls.Inject injection) a → (a ≡ answers.Opens) ↔ (would_open_at r side i injection.bytes ≡ true)
+  opens_at injection a is =
+      let came = took_is r honest at.world i side at.sents at.theirs in
+      opens_by here.policy here.end injection.now injection.bytes a (watch r side i).intake.ids (expected_behind (took r side i)) (at.takes.known ∙ sym (ap (λ (j : Intake). j.ids) came))
+      (expects_in here.end.closing.state here.end.numbers (came_to here there) at.takes.knows ∙ ap expected_behind (sym took_here))
+      (answered r at.world end i side (calls.Inject injection) a at.goes_on is)
+
+  -- the numbers of what was given rise, where the observer has what was given as it was sent
+  pub rises_at : sents_until r side i ≡ at.sents → Rise (policy_at side r.keys) (first_id_of_peer r side) 0 (references_until r side i) (given_until r side i)
+  rises_at own =
+      subst (λ (ds : List (List ℕ)). Rise here.policy there.id 0 (references_until r side i) ds) (sym given_here)
+      (subst (λ (sents : List Sent). Rise here.policy there.id 0 (map (λ s. s.reference) sents) here.given) (sym own) (rise here.policy there.id 0 at.sents here.given at.gives.gives.rising at.gives.gives.each))
+
+-- ---- the clauses
+
+module _ (r : Run) (end : World) (honest : IsHonest r) (all : (side : Side) (i : ℕ) → AreServed r i → Placed PacketsHold r end side i) where
+  pub acknowledged_were_taken : AcknowledgedWereTaken r
+  acknowledged_were_taken side i number served = acknowledged_at r end honest side i (all side i served) number
+
+  pub names_were_taken : NamesWereTaken r
+  names_were_taken side i x number datagram served = named_at r end honest side i (all side i served) x number datagram
+
+  pub opens_exactly : OpensExactly r
+  opens_exactly side i injection a served = opens_at r end honest side i (all side i served) injection a

@@ -1,0 +1,145 @@
+-- The two ends of a run at a place, each with what it gave and what was told at it; and what a call adds.
+use Rattle.std.specs.Prelude.{ℕ, ◌≡◌, max, Bool, if◌then◌else◌, List, [], ◌∷◌, ◌++◌, length}
+use Rattle.quic_wire_core.specs.declared.stream_id.Side.{Side}
+use Rattle.quic_wire_core.specs.StreamId.{other_side}
+use Rattle.quic_config.specs.Transport.{parameters_of}
+use Rattle.quic_machine_next.specs.declared.answers.State.{State}
+use Rattle.quic_machine_next.specs.declared.run.Call.{Call}
+use Rattle.quic_machine_next.specs.declared.run.Call.TheVariants as calls
+use Rattle.quic_machine_next.specs.declared.run.Answer.{Answer}
+use Rattle.quic_machine_next.specs.Policy.{Policy, CanOpen}
+use Rattle.quic_spaces.specs.Numbers.{cut_against}
+use Rattle.quic_machine_next.specs.Start.{IsLawful, Making, IsMaking}
+use Rattle.quic_machine_next.specs.End.{End, number_of, new_end}
+use Rattle.quic_machine_next.specs.Opens.{own_id_length}
+use Rattle.quic_machine_next.specs.Poll.{datagram_size}
+use Rattle.quic_machine_next.specs.PollCases.{draft_at, frames_at}
+use Rattle.quic_machine_next.specs.Machine.{after_call, gives, gave}
+use Rattle.quic_headline_next.specs.Runs.{Told, Intake, nothing_came, and_told, folded}
+use Rattle.quic_headline_next.specs.Observer.{Sent, Terms, terms_of, Watch, first_watch, Lens, watch_told}
+
+-- ---- what a call adds
+
+-- what the datagram is sent as that an end gives at a moment, if it gives one
+abbrev pub sent_by : End → ℕ → Sent
+sent_by e now = record { number = number_of e; reference = cut_against e.numbers; frames = frames_at e now; moment = max e.closing.clock now; size = datagram_size (draft_at e now) }
+
+-- one more datagram as it was sent, where one was given
+abbrev pub sent_if : Bool → Sent → List Sent
+sent_if given s = if given then s ∷ [] else []
+
+-- what a call sends
+abbrev pub sents_by : End → Call → Answer → List Sent
+sents_by e (calls.Poll now) a = sent_if (gave a) (sent_by e now)
+sents_by e call a = []
+
+-- what is told of a call
+abbrev pub told_of : Call → Answer → State → Told
+told_of call a state = record { call = call; answer = a; state = state }
+
+-- ---- one end
+
+-- one end of a run: its side, its keys, the id that it is known by, the moment at which it was made, how long a round trip was taken to last then, by what
+-- losses are judged at it, the datagrams that it gives in all, and the end as it was made; and, at a place: the end, the datagrams that it gave, how they
+-- were sent, and what was told at it
+pub record Party : Type 0 where
+  pub side : Side
+  pub policy : Policy
+  pub id : List ℕ
+  pub began : ℕ
+  pub initial_rtt : ℕ
+  pub terms : Terms
+  pub final : List (List ℕ)
+  pub made : End
+  pub end : End
+  pub given : List (List ℕ)
+  pub sents : List Sent
+  pub told : List Told
+
+-- it makes a call, where the other gave these datagrams
+abbrev pub called : Party → List (List ℕ) → Call → Answer → Party
+called x theirs call a = record x {
+  end = after_call x.policy x.end theirs call a;
+  given = x.given ++ gives x.policy x.end call a;
+  sents = x.sents ++ sents_by x.end call a;
+  told = x.told ++ told_of call a x.end.closing.state ∷ [];
+}
+
+-- what came to an end from the other
+abbrev pub came_to : Party → Party → Intake
+came_to y x = folded (and_told y.policy x.final) y.told (nothing_came (y.id ∷ []))
+
+-- how the lists of a run are read for an end: what it gives, the other opens
+abbrev pub lens : Party → Party → Lens
+lens x y = record { taker = y.policy; own = x.policy; peer_gave = y.final; terms = x.terms }
+
+-- what the observer of an end knows
+abbrev pub watch_of : Party → Party → Watch
+watch_of x y = folded (watch_told (lens x y)) x.told (first_watch (x.id ∷ []) x.final x.began x.initial_rtt)
+
+-- ---- two ends
+
+-- The ends of a run: one is the client and one the server, their keys open what the other's protect, their ids have the length of own
+-- ids, and what each gave is the first of what it gives.
+pub record AreJoined (x y : Party) : Type 0 where
+  pub y_side : y.side ≡ other_side x.side
+  pub x_side : x.side ≡ other_side y.side
+  pub to_y : CanOpen x.policy y.policy
+  pub to_x : CanOpen y.policy x.policy
+  pub x_lawful : IsLawful x.policy
+  pub y_lawful : IsLawful y.policy
+  pub x_long : length x.id ≡ own_id_length
+  pub y_long : length y.id ≡ own_id_length
+  pub x_more : (rest : List (List ℕ)) × (x.given ++ rest ≡ x.final)
+  pub y_more : (rest : List (List ℕ)) × (y.given ++ rest ≡ y.final)
+
+-- the same, told of the other first
+abbrev pub turned : (x y : Party) → AreJoined x y → AreJoined y x
+turned x y j = record {
+  y_side = j.x_side;
+  x_side = j.y_side;
+  to_y = j.to_x;
+  to_x = j.to_y;
+  x_lawful = j.y_lawful;
+  y_lawful = j.x_lawful;
+  x_long = j.y_long;
+  y_long = j.x_long;
+  x_more = j.y_more;
+  y_more = j.x_more;
+}
+
+-- ---- before the first event
+
+-- how an end begins: its side, its keys, how it was made, and the datagrams that it gives in all
+pub record Beginning : Type 0 where
+  pub side : Side
+  pub policy : Policy
+  pub making : Making
+  pub final : List (List ℕ)
+
+-- the end as it is made, whose peer begins so
+abbrev pub new_as : Beginning → Beginning → End
+new_as x y = new_end x.side x.making.settings (parameters_of y.making.settings) x.making.id y.making.id x.making.moment x.making.validated x.making.word
+
+-- the end that begins so, whose peer begins so
+abbrev pub begun_as : Beginning → Beginning → Party
+begun_as x y = record {
+  side = x.side;
+  policy = x.policy;
+  id = x.making.id;
+  began = x.making.moment;
+  initial_rtt = (new_as x y).transport.initial_rtt;
+  terms = terms_of (new_as x y);
+  final = x.final;
+  made = new_as x y;
+  end = new_as x y;
+  given = [];
+  sents = [];
+  told = [];
+}
+
+-- Both were made for one another.
+pub record AreMade (x y : Beginning) : Type 0 where
+  pub x_is : IsMaking x.making
+  pub y_is : IsMaking y.making
+  pub joined : AreJoined (begun_as x y) (begun_as y x)

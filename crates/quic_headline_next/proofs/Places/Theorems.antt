@@ -1,0 +1,80 @@
+-- The headline of every honest run: one theorem for each clause.
+use Rattle.quic_machine_next.specs.Machine.{World}
+use Rattle.quic_headline_next.specs.Runs.{Run}
+use Rattle.quic_headline_next.specs.Duties.{DutiesStand}
+use Rattle.quic_headline_next.specs.Grown.{GrownLimitsWait}
+use Rattle.quic_headline_next.specs.InFlight.{TracksInFlight}
+use Rattle.quic_headline_next.specs.Causes.{NumberLimit}
+use Rattle.quic_headline_next.specs.Moments.{LossMoments, LossTimerQuiet, AckMoments}
+use Rattle.quic_headline_next.specs.Headline.{IsHonest, IsRun, OrderedPrefix, Slices, Once, EndAfterAll, BlockedOnlyWithoutBytes, AcceptsAll, FinishedMeansArrived, AcknowledgedWereTaken, NamesWereTaken, OpensExactly, NewestOpens, NumbersRise}
+use Rattle.quic_headline_next.proofs.Halves.Ready.{Ready, ready_probes, ready_group}
+use Rattle.quic_headline_next.proofs.Places.Everything as everything
+
+-- what waits to go of streams may go
+pub ready : everything.IsReadying Ready
+ready = record { group = ready_group; probes = ready_probes }
+
+-- ---- what is read and finished
+
+pub ordered_prefix : (r : Run) (end : World) → IsHonest r → IsRun r end → OrderedPrefix r
+ordered_prefix = everything.ordered_prefix Ready ready
+
+pub slices : (r : Run) (end : World) → IsHonest r → IsRun r end → Slices r
+slices = everything.slices Ready ready
+
+pub once : (r : Run) (end : World) → IsHonest r → IsRun r end → Once r
+once = everything.once Ready ready
+
+pub end_after_all : (r : Run) (end : World) → IsHonest r → IsRun r end → EndAfterAll r
+end_after_all = everything.end_after_all Ready ready
+
+pub blocked_only_without_bytes : (r : Run) (end : World) → IsHonest r → IsRun r end → BlockedOnlyWithoutBytes r
+blocked_only_without_bytes = everything.blocked_only_without_bytes Ready ready
+
+pub accepts_all : (r : Run) (end : World) → IsHonest r → IsRun r end → AcceptsAll r
+accepts_all = everything.accepts_all Ready ready
+
+pub finished_means_arrived : (r : Run) (end : World) → IsHonest r → IsRun r end → FinishedMeansArrived r
+finished_means_arrived = everything.finished_means_arrived Ready ready
+
+-- ---- packets
+
+pub acknowledged_were_taken : (r : Run) (end : World) → IsHonest r → IsRun r end → AcknowledgedWereTaken r
+acknowledged_were_taken = everything.acknowledged_were_taken Ready ready
+
+pub names_were_taken : (r : Run) (end : World) → IsHonest r → IsRun r end → NamesWereTaken r
+names_were_taken = everything.names_were_taken Ready ready
+
+pub opens_exactly : (r : Run) (end : World) → IsHonest r → IsRun r end → OpensExactly r
+opens_exactly = everything.opens_exactly Ready ready
+
+pub newest_opens : (r : Run) (end : World) → IsHonest r → IsRun r end → NewestOpens r
+newest_opens = everything.newest_opens Ready ready
+
+pub numbers_rise : (r : Run) (end : World) → IsHonest r → IsRun r end → NumbersRise r
+numbers_rise = everything.numbers_rise Ready ready
+
+pub tracks_in_flight : (r : Run) (end : World) → IsHonest r → IsRun r end → TracksInFlight r
+tracks_in_flight = everything.tracks_in_flight Ready ready
+
+pub duties_stand : (r : Run) (end : World) → IsHonest r → IsRun r end → DutiesStand r
+duties_stand = everything.duties_stand Ready ready
+
+pub grown_limits_wait : (r : Run) (end : World) → IsHonest r → IsRun r end → GrownLimitsWait r
+grown_limits_wait = everything.grown_limits_wait Ready ready
+
+-- ---- timers
+
+pub loss_moments : (r : Run) (end : World) → IsHonest r → IsRun r end → LossMoments r
+loss_moments = everything.loss_moments Ready ready
+
+pub loss_timer_quiet : (r : Run) (end : World) → IsHonest r → IsRun r end → LossTimerQuiet r
+loss_timer_quiet = everything.loss_timer_quiet Ready ready
+
+pub ack_moments : (r : Run) (end : World) → IsHonest r → IsRun r end → AckMoments r
+ack_moments = everything.ack_moments Ready ready
+
+-- ---- why ends close
+
+pub number_limit : (r : Run) (end : World) → IsHonest r → IsRun r end → NumberLimit r
+number_limit = everything.number_limit Ready ready

@@ -1,0 +1,342 @@
+-- The timer of acknowledgements of an open end, where it is set, is due for a packet that asks, which an observer of the run's lists knows:
+-- each call keeps that.
+use Rattle.std.proofs.Common.{◌≡◌, ℕ, zero, suc, ◌⊎◌, Bool, true, false, ◌||◌, List, [], ◌∷◌, ◌++◌, length, drop, map, replicate, Option, Some, None, Ok, refl, sym, ap, ◌∙◌, subst, inl, inr}
+use Rattle.std.specs.Prelude.{if◌then◌else◌, slice_get}
+use Rattle.std.specs.List.{list_any}
+use Rattle.quic_wire_core.specs.declared.stream_id.Side.{Side}
+use Rattle.quic_wire.specs.Value.{FrameValue, ack, asks, padding}
+use Rattle.quic_recovery_core.specs.PendingAcks.{after_insert, starts_wait, asking_counted}
+use Rattle.quic_machine_next.specs.declared.answers.State.TheVariants as states
+use Rattle.quic_machine_next.specs.declared.run.Call.{Call}
+use Rattle.quic_machine_next.specs.declared.run.Call.TheVariants as calls
+use Rattle.quic_machine_next.specs.declared.run.Answer.{Answer}
+use Rattle.quic_machine_next.specs.declared.run.Answer.TheVariants as answers
+use Rattle.quic_spaces.specs.Acknowledging.{ack_due}
+use Rattle.quic_machine_next.specs.Policy.{Policy}
+use Rattle.quic_machine_next.specs.Closing.{ticked}
+use Rattle.quic_machine_next.specs.End.{End, with_closing, with_ack_timer}
+use Rattle.quic_machine_next.specs.Receive.{asks_in, after_taken, Outcome}
+use Rattle.quic_machine_next.specs.Poll.{Polled, Draft, composed, lazied, polled}
+use Rattle.quic_machine_next.specs.Timeouts.{loss_judged}
+use Rattle.quic_machine_next.specs.Machine.{World, IsAnswer, after_call, fails, gave, end_at}
+use Rattle.quic_machine_next.specs.CallCases.{is_delivery, by_plain_call}
+use Rattle.quic_machine_next.specs.LeaveCases.{at_expiry}
+use Rattle.quic_machine_next.specs.FrameCases.{Settling, named, begun, passed, acked_keeps, losses_keep, frame_keeps, frame_leaves, frames_keep}
+use Rattle.quic_machine_next.specs.PollCases.{ready_at, ready_leaves, draft_at, frames_at, by_poll_to}
+use Rattle.quic_machine_next.specs.DraftLaws.{by_writing}
+use Rattle.quic_headline_next.specs.Runs.{Run, Told, Packet, Intake, In, given_of, until, folded, AreServed}
+use Rattle.quic_headline_next.specs.Observer.{Sent, Watch, first_watch, news, Lens, watch_told, lens_of}
+use Rattle.quic_headline_next.specs.Headline.{IsHonest}
+use Rattle.quic_headline_next.specs.Moments.{is_ack, acknowledges, went, arrivals_of, Debt, arrivals_behind, debt_told, first_debt, IsDueFor, AckMoments}
+use Rattle.quic_headline_next.proofs.Packets.Entries.{IsControl, entry_control}
+use Rattle.quic_headline_next.proofs.Packets.Intakes.{folded_more}
+use Rattle.quic_headline_next.proofs.Packets.Delivered.{Arrivals, arrived, with_taken}
+use Rattle.quic_headline_next.proofs.Packets.Watching.{one_new, watched_intake}
+use Rattle.quic_headline_next.proofs.Packets.Group.{meets}
+use Rattle.quic_headline_next.proofs.Places.Told.{in_left, in_right}
+use Rattle.quic_headline_next.proofs.Places.Steps.{poll_answer}
+use Rattle.quic_headline_next.proofs.Places.Parties.{sent_by, sent_if, sents_by, told_of, Party, called, came_to, lens, watch_of}
+use Rattle.quic_headline_next.proofs.Places.Groups.{And, Calls, Group}
+use Rattle.quic_headline_next.proofs.Places.Coming.{by_coming}
+use Rattle.quic_headline_next.proofs.Places.Placed.{Placed, party_at, known_first}
+use Rattle.quic_headline_next.proofs.Timers.Still.{was_open}
+use Rattle.quic_headline_next.proofs.Timers.Watched.{Observed, behind_is, own_behind, watched_behind, timers_behind, open_behind}
+
+-- ---- what goes
+
+-- some of both
+any_both : (fs gs : List FrameValue) → list_any is_ack (fs ++ gs) ≡ (list_any is_ack fs || list_any is_ack gs)
+any_both [] gs = refl
+any_both (f ∷ fs) gs = go (is_ack f) (any_both fs gs)
+  where
+    go : (b : Bool) → list_any is_ack (fs ++ gs) ≡ (list_any is_ack fs || list_any is_ack gs) → (b || list_any is_ack (fs ++ gs)) ≡ ((b || list_any is_ack fs) || list_any is_ack gs)
+    go true rest = refl
+    go false rest = rest
+
+-- one more frame that is none leaves it
+any_more : (fs : List FrameValue) (f : FrameValue) → is_ack f ≡ false → list_any is_ack (fs ++ f ∷ []) ≡ true → list_any is_ack fs ≡ true
+any_more fs f none some = go (list_any is_ack fs) (sym (any_both fs (f ∷ []) ∙ ap (λ (b : Bool). list_any is_ack fs || (b || false)) none) ∙ some)
+  where
+    go : (b : Bool) → (b || false) ≡ true → b ≡ true
+    go true is = refl
+    go false is = is
+
+-- nor does PADDING
+any_padded : (fs : List FrameValue) (count : ℕ) → list_any is_ack (fs ++ replicate count padding) ≡ list_any is_ack fs
+any_padded [] zero = refl
+any_padded [] (suc count) = any_padded [] count
+any_padded (f ∷ fs) count = ap (λ (b : Bool). is_ack f || b) (any_padded fs count)
+
+control_not : (f : FrameValue) → IsControl f → is_ack f ≡ false
+control_not (ack a) is = absurd is
+control_not f is = refl
+
+-- an ACK that goes stops the timer
+abbrev Stopped : Draft → Type 0
+Stopped d = list_any is_ack d.frames ≡ true → d.end.timers.max_ack_delay ≡ None
+
+composed_stopped : (e : End) → Stopped (composed e)
+composed_stopped e = by_writing Stopped (record {
+  ack = λ d filled may i is. refl;
+  ping = λ d i some. i (any_more d.frames _ refl some);
+  drops = λ d kind i. i;
+  control = λ d kind entry es f is goes i some. i (any_more d.frames f (control_not f (entry_control kind d.end.waiting.frames entry es d.end.streams f is goes)) some);
+  stream = λ d id h room found first some is counts i acks. i (any_more d.frames _ refl acks);
+}) e (λ is. cc)
+
+-- so it is behind a poll that gives one
+polled_stopped : (p : Policy) (e : End) (now : ℕ) → acknowledges (sent_if (gave (answers.Poll (polled p e now).answer)) (sent_by e now)) ≡ true → (polled p e now).end.timers.max_ack_delay ≡ None
+polled_stopped p e now = by_poll_to p e now (λ (q : Polled). acknowledges (sent_if (gave (answers.Poll q.answer)) (sent_by e now)) ≡ true → q.end.timers.max_ack_delay ≡ None) (record {
+  silent = λ some. cc;
+  failed = λ some. cc;
+  idle = λ some. cc;
+  used_up = λ some. refl;
+  gives = λ is may some acks. composed_stopped (lazied (ready_at e now)) (sym (any_padded (draft_at e now).frames _) ∙ first_only (list_any is_ack (frames_at e now)) acks);
+})
+  where
+    first_only : (b : Bool) → (b || false) ≡ true → b ≡ true
+    first_only true is = refl
+    first_only false is = is
+
+-- ---- a call that isn't a delivery sets no timer of acknowledgements
+
+-- the timer of an end is this
+abbrev HasTimer : Option ℕ → End → Type 0
+HasTimer o e = e.timers.max_ack_delay ≡ o
+
+-- packets that are acknowledged or lost leave it
+timer_settles : (o : Option ℕ) → Settling (HasTimer o)
+timer_settles o = record { known = λ n y j. j; reset = λ id y j. j; acked = λ m y j. j; lost = λ m y j. j; again = λ carried y j. j; tracked = λ t y j. j; measured = λ r y j. j }
+
+abbrev SetsNone : End → End → Type 0
+SetsNone e f = (moment : ℕ) → f.timers.max_ack_delay ≡ Some moment → e.timers.max_ack_delay ≡ Some moment
+
+-- losses leave it
+judged_none : (o : Option ℕ) (e : End) → (loss_judged o e).timers.max_ack_delay ≡ e.timers.max_ack_delay
+judged_none None e = refl
+judged_none (Some moment) e = losses_keep (HasTimer e.timers.max_ack_delay) (timer_settles e.timers.max_ack_delay) e refl
+
+expired_none : (e : End) (now : ℕ) (acks loss : Bool) → SetsNone e (at_expiry e now acks loss)
+expired_none e now true loss moment set = cc
+expired_none e now false true moment set = sym (judged_none e.tracking.loss_time (with_closing e (ticked e.closing now))) ∙ set
+expired_none e now false false moment set = set
+
+composed_none : (e : End) → SetsNone e (composed e).end
+composed_none e = by_writing (λ (d : Draft). SetsNone e d.end) (record { ack = λ d filled may i moment set. cc; ping = λ d i. i; drops = λ d kind i. i; control = λ d kind entry es f is goes i. i; stream = λ d id h room found first some is counts i. i }) e (λ moment set. set)
+
+-- nor does a probe
+ready_none : (e : End) (now : ℕ) → SetsNone e (ready_at e now)
+ready_none e now moment set = ap (λ (x : End). x.timers.max_ack_delay) (sym (ready_leaves e now)) ∙ set
+
+polled_none : (p : Policy) (e : End) (now : ℕ) → SetsNone e (polled p e now).end
+polled_none p e now = by_poll_to p e now (λ (q : Polled). SetsNone e q.end) (record {
+  silent = λ moment set. set;
+  failed = λ moment set. set;
+  idle = ready_none e now;
+  used_up = λ moment set. none_set moment set;
+  gives = λ is may some moment set. ready_none e now moment (composed_none (lazied (ready_at e now)) moment set);
+})
+  where
+    none_set : {A : Type 0} (moment : ℕ) → None ≡ Some moment → A
+    none_set moment clash = cc
+
+call_none : (p : Policy) (e : End) (theirs : List (List ℕ)) (call : Call) (a : Answer) → is_delivery call ≡ false → SetsNone e (after_call p e theirs call a)
+call_none p e theirs call a apart = by_plain_call p e theirs (SetsNone e) call a (record {
+  same = λ moment set. set;
+  on_streams = λ t moment set. set;
+  pings = λ moment set. set;
+  heard = λ path same moment set. set;
+  times = λ now acks loss is. expired_none e now acks loss;
+  polls = λ now is. polled_none p e now;
+  hears = λ now d is. (let clash : true ≡ false = sym is ∙ apart in cc);
+  tells = λ told moment set. set;
+})
+
+-- ---- a delivery
+
+-- whether one of some packets asks for an acknowledgement
+abbrev one_asks : List Packet → Bool
+one_asks ps = list_any (λ (p : Packet). list_any asks p.frames) ps
+
+-- the timer was set, or it is set to 25 ms behind the clock for a packet that came and asks
+abbrev SetBy : End → Intake → End → Intake → Type 0
+SetBy e i f j = (moment : ℕ) → f.timers.max_ack_delay ≡ Some moment → (e.timers.max_ack_delay ≡ Some moment) ⊎ ((moment ≡ ack_due f.closing.clock) × (one_asks (news i j) ≡ true))
+
+-- frames leave the timer
+frames_timer : (fs : List FrameValue) (e : End) → HasTimer e.timers.max_ack_delay (passed fs e).end
+frames_timer fs e = frames_keep (HasTimer e.timers.max_ack_delay) (frame_keeps (HasTimer e.timers.max_ack_delay) (record {
+  ack = λ rises a x i. acked_keeps (HasTimer e.timers.max_ack_delay) (timer_settles e.timers.max_ack_delay) rises a (named a x) i;
+  on_streams = λ f x on i. frame_leaves (HasTimer e.timers.max_ack_delay) f x on (λ t. i);
+})) fs e refl
+
+asks_same : (fs : List FrameValue) → asks_in (map Ok fs) ≡ list_any asks fs
+asks_same [] = refl
+asks_same (f ∷ fs) = ap (λ (b : Bool). asks f || b) (asks_same fs)
+
+-- a packet sets it only where it asks
+taken_set : (e f : End) (n : ℕ) (asking : Bool) → f.timers.max_ack_delay ≡ e.timers.max_ack_delay → (moment : ℕ) → (after_taken n asking f).timers.max_ack_delay ≡ Some moment
+    → (e.timers.max_ack_delay ≡ Some moment) ⊎ ((moment ≡ ack_due f.closing.clock) × (asking ≡ true))
+taken_set e f n false same moment set = inl (sym same ∙ set)
+taken_set e f n true same moment set = go (starts_wait (asking_counted (after_insert f.acknowledging n f.closing.clock) n f.numbers.opened)) set
+  where
+    go : (b : Bool) → (if b then with_ack_timer f.timers (Some (ack_due f.closing.clock)) else f.timers).max_ack_delay ≡ Some moment → (e.timers.max_ack_delay ≡ Some moment) ⊎ ((moment ≡ ack_due f.closing.clock) × (true ≡ true))
+    go true is = (let due : ack_due f.closing.clock ≡ moment = cc in inr (sym due, refl))
+    go false is = inl (sym same ∙ is)
+
+or_false : (b : Bool) → (b || false) ≡ b
+or_false true = refl
+or_false false = refl
+
+-- each case of a delivery
+arrivals_set : (e : End) (now n : ℕ) (frames : List FrameValue) (i : Intake) → Arrivals e now n frames i (λ (o : Outcome) (j : Intake). SetBy e i o.end j)
+arrivals_set e now n frames i = record {
+  ignored = λ reason moment set. inl set;
+  noted = λ state reason moment set. inl set;
+  takes = λ state new none moment set. taken moment (taken_set e (arrived e now n frames).end n (asks_in (map Ok frames)) (frames_timer frames (begun e now n)) moment set);
+  refuses = λ state new f is moment set. cc;
+}
+  where
+    taken : (moment : ℕ) → (e.timers.max_ack_delay ≡ Some moment) ⊎ ((moment ≡ ack_due (arrived e now n frames).end.closing.clock) × (asks_in (map Ok frames) ≡ true))
+        → (e.timers.max_ack_delay ≡ Some moment) ⊎ ((moment ≡ ack_due (arrived e now n frames).end.closing.clock) × (one_asks (news i (with_taken i n frames)) ≡ true))
+    taken moment (inl was) = inl was
+    taken moment (inr due) = inr (due.0, ap (λ (ps : List Packet). one_asks ps) (one_new i n frames) ∙ or_false (list_any asks frames) ∙ sym (asks_same frames) ∙ due.1)
+
+-- so it is behind any call
+call_set : (x y : Party) (call : Call) (a : Answer) → Calls Observed x y call a → SetBy x.end (came_to x y) (called x y.given call a).end (came_to (called x y.given call a) y)
+call_set x y call a c = by_coming x y a c.joined c.served (meets y x c.takes.0) (SetBy x.end (came_to x y)) call c.answer (record {
+  apart = λ apart moment set. inl (call_none x.policy x.end y.given call a apart moment set);
+  none = λ delivery is moment set. inl set;
+  comes = λ delivery is s among. arrivals_set x.end delivery.now s.number s.frames (came_to x y);
+})
+
+-- ---- the observer's arrivals
+
+-- one of the packets asks: it came at the moment
+came_then : (ps : List Packet) (moment : ℕ) → one_asks ps ≡ true → In moment (arrivals_of ps moment)
+came_then [] moment is = cc
+came_then (p ∷ ps) moment is = go (list_any asks p.frames) is (came_then ps moment)
+  where
+    go : (b : Bool) → (b || one_asks ps) ≡ true → (one_asks ps ≡ true → In moment (arrivals_of ps moment)) → In moment (if b then moment ∷ arrivals_of ps moment else arrivals_of ps moment)
+    go true some rest = inl refl
+    go false some rest = rest some
+
+-- what an end owes by its timer, it owes for a packet that the observer knows
+abbrev Owes : Debt → End → Type 0
+Owes d e = (moment : ℕ) → e.timers.max_ack_delay ≡ Some moment → IsDueFor d.arrivals moment
+
+-- where no ACK went, what was due stays so
+stays_due : (d : Debt) (after : Watch) (moment : ℕ) → acknowledges (went d.watch after) ≡ false → IsDueFor d.arrivals moment → IsDueFor (arrivals_behind d after) moment
+stays_due d after moment none i =
+    subst (λ (b : Bool). IsDueFor (if b then [] else arrivals_of (news d.watch.intake after.intake) after.clock ++ d.arrivals) moment) (sym none)
+    (record { arrival = i.arrival; among = in_right i.arrival (arrivals_of (news d.watch.intake after.intake) after.clock) d.arrivals i.among; due = i.due })
+
+-- and what came anew is due
+comes_due : (d : Debt) (after : Watch) (moment : ℕ) → acknowledges (went d.watch after) ≡ false → moment ≡ ack_due after.clock → one_asks (news d.watch.intake after.intake) ≡ true → IsDueFor (arrivals_behind d after) moment
+comes_due d after moment none due some =
+    subst (λ (b : Bool). IsDueFor (if b then [] else arrivals_of (news d.watch.intake after.intake) after.clock ++ d.arrivals) moment) (sym none)
+    (record { arrival = after.clock; among = in_left after.clock (arrivals_of (news d.watch.intake after.intake) after.clock) d.arrivals (came_then (news d.watch.intake after.intake) after.clock some); due = due })
+
+-- ---- what a call gives
+
+drop_all : (xs ys : List Sent) → drop (length xs) (xs ++ ys) ≡ ys
+drop_all [] ys = refl
+drop_all (x ∷ xs) ys = drop_all xs ys
+
+-- what goes at a call is what the end gives
+pub went_is : (before after : Watch) (ss : List Sent) → after.own ≡ before.own ++ ss → went before after ≡ ss
+went_is before after ss is = ap (λ (xs : List Sent). drop (length before.own) xs) is ∙ drop_all before.own ss
+
+-- a call that gives an ACK stops the timer
+acks_stop : (p : Policy) (e : End) (theirs : List (List ℕ)) (call : Call) (a : Answer) → IsAnswer p e theirs call a → fails a ≡ false → acknowledges (sents_by e call a) ≡ true → (after_call p e theirs call a).timers.max_ack_delay ≡ None
+acks_stop p e theirs (calls.Poll now) a is served some = polled_stopped p e now (ap (λ (b : Answer). acknowledges (sent_if (gave b) (sent_by e now))) (sym (poll_answer p e now a is served)) ∙ some)
+acks_stop p e theirs call a is served some = cc
+
+-- ---- the group
+
+-- nothing came to an end that is known by an id, gives these datagrams in all, and was made at a moment
+abbrev debt_first : List ℕ → List (List ℕ) → ℕ → ℕ → Debt
+debt_first own final start initial_rtt = first_debt (first_watch (own ∷ []) final start initial_rtt)
+
+-- what the observer of x knows
+abbrev pub debt_of : Party → Party → Debt
+debt_of x y = folded (debt_told (lens x y)) x.told (debt_first x.id x.final x.began x.initial_rtt)
+
+-- the watch within the debt is the observer's
+owed_watch : (l : Lens) (told : List Told) (d : Debt) → (folded (debt_told l) told d).watch ≡ folded (watch_told l) told d.watch
+owed_watch l [] d = refl
+owed_watch l (t ∷ told) d = owed_watch l told (debt_told l t d)
+
+-- While x is open, it owes what its observer knows.
+pub record InDebt (x y : Party) : Type 0 where
+  pub owes : x.end.closing.state ≡ states.Open → Owes (debt_of x y) x.end
+
+-- so it does behind any call
+debt_step : (x y : Party) (call : Call) (a : Answer) → Calls Observed x y call a → InDebt x y → InDebt (called x y.given call a) y
+debt_step x y call a c i = record { owes = owes }
+  where
+    d : Debt
+    d = debt_of x y
+
+    t : Told
+    t = told_of call a x.end.closing.state
+
+    same : d.watch ≡ watch_of x y
+    same = owed_watch (lens x y) x.told (debt_first x.id x.final x.began x.initial_rtt)
+
+    after : Watch
+    after = watch_told (lens x y) t d.watch
+
+    -- what came before, and behind it
+    before_is : d.watch.intake ≡ came_to x y
+    before_is = ap (λ (w : Watch). w.intake) same ∙ watched_intake (lens x y) x.told (first_watch (x.id ∷ []) x.final x.began x.initial_rtt)
+
+    after_is : after.intake ≡ came_to (called x y.given call a) y
+    after_is = ap (λ (w : Watch). w.intake) (sym (behind_is x y call a c d.watch same)) ∙ watched_intake (lens x y) (x.told ++ t ∷ []) (first_watch (x.id ∷ []) x.final x.began x.initial_rtt)
+
+    went_here : went d.watch after ≡ sents_by x.end call a
+    went_here = went_is d.watch after (sents_by x.end call a) (own_behind x y call a c d.watch same)
+
+    by_acks : (b : Bool) → acknowledges (sents_by x.end call a) ≡ b → (called x y.given call a).end.closing.state ≡ states.Open → Owes (debt_told (lens x y) t d) (called x y.given call a).end
+    by_acks true some still moment set =
+        let stopped = acks_stop x.policy x.end y.given call a c.answer c.served some in
+        let clash : ◌≡◌ {A = Option ℕ} None (Some moment) = sym stopped ∙ set in
+        cc
+    by_acks false none still moment set = go (call_set x y call a c moment set)
+      where
+        silent : acknowledges (went d.watch after) ≡ false
+        silent = ap acknowledges went_here ∙ none
+
+        clock : after.clock ≡ (called x y.given call a).end.closing.clock
+        clock = ((watched_behind x y call a c d.watch same).flight still).tells.clock
+
+        go : (x.end.timers.max_ack_delay ≡ Some moment) ⊎ ((moment ≡ ack_due (called x y.given call a).end.closing.clock) × (one_asks (news (came_to x y) (came_to (called x y.given call a) y)) ≡ true)) → IsDueFor (arrivals_behind d after) moment
+        go (inl was) = stays_due d after moment silent (i.owes (was_open x.policy x.end y.given call a still) moment was)
+        go (inr due) =
+            comes_due d after moment silent (due.0 ∙ ap ack_due (sym clock))
+            (ap (λ (j : Intake). one_asks (news j after.intake)) before_is ∙ ap (λ (j : Intake). one_asks (news (came_to x y) j)) after_is ∙ due.1)
+
+    owes : (called x y.given call a).end.closing.state ≡ states.Open → Owes (debt_of (called x y.given call a) y) (called x y.given call a).end
+    owes still =
+        subst (λ (b : Debt). Owes b (called x y.given call a).end) (sym (folded_more (debt_told (lens x y)) x.told t (debt_first x.id x.final x.began x.initial_rtt)))
+        (by_acks (acknowledges (sents_by x.end call a)) refl still)
+
+-- over the packets and what observers know of them
+pub debt_group : Group Observed InDebt
+debt_group = record {
+  first = λ x y m there here. record { owes = λ opened moment set. cc };
+  writer = λ x y call a c i back. debt_step x y call a c i;
+  reader = λ x y call a c i back. record { owes = back.owes };
+}
+
+-- ---- a run
+
+-- the clause, where the group holds at each place
+pub ack_moments : (r : Run) (end : World) → IsHonest r → ((side : Side) (i : ℕ) → AreServed r i → Placed (And Observed InDebt) r end side i) → AckMoments r
+ack_moments r end honest all side i moment v served there opened timer =
+    let at = all side (suc i) served in
+    let x : Party = party_at r (suc i) at.world side at.sents in
+    let now_open : x.end.closing.state ≡ states.Open = open_behind r at.world i v side at.leads there opened in
+    let set : Some x.end.timers.max_ack_delay ≡ Some (Some moment) = sym (ap (λ (ts : List (Option ℕ)). slice_get ts 8) (timers_behind r at.world i v side at.leads there)) ∙ timer in
+    let is : x.end.timers.max_ack_delay ≡ Some moment = cc in
+    subst (λ (ids : List (List ℕ)). IsDueFor (folded (debt_told (lens_of r side)) (until r side (suc i)) (first_debt (first_watch ids (given_of r side) (end_at side r.start).closing.clock (end_at side r.start).transport.initial_rtt))).arrivals moment) (sym (known_first r honest side))
+    (at.gives.1.owes now_open moment is)

@@ -1,0 +1,120 @@
+-- At an open end the timer of acknowledgements is set only where a packet that asks came since the last acknowledgement went: each call keeps that.
+use Rattle.std.proofs.Common.{◌≡◌, ℕ, ◌+◌, ◌-◌, ◌^◌, ◌<◌, Bool, true, false, cond, min, List, Option, Some, None, refl, sym, ap, ◌∙◌, subst, arith}
+use Rattle.std.specs.Option.{is_some}
+use Rattle.quic_recovery_core.specs.Duplicates.{Seen}
+use Rattle.quic_recovery_core.specs.PendingAcks.{Pending, after_insert, asking_counted, starts_wait, after_packet}
+use Rattle.quic_time.specs.Timers.{Timers}
+use Rattle.quic_machine_next.specs.declared.answers.State.TheVariants as states
+use Rattle.quic_machine_next.specs.declared.answers.LostReason.{LostReason}
+use Rattle.quic_machine_next.specs.declared.answers.LostReason.TheVariants as reasons
+use Rattle.quic_machine_next.specs.declared.run.RunEvent.{RunEvent}
+use Rattle.quic_machine_next.specs.declared.run.Call.{Call}
+use Rattle.quic_machine_next.specs.declared.run.Answer.{Answer}
+use Rattle.quic_machine_next.specs.declared.run.View.{View}
+use Rattle.quic_machine_next.specs.Policy.{Policy}
+use Rattle.quic_machine_next.specs.Closing.{ticked}
+use Rattle.quic_machine_next.specs.End.{End, with_closing, closed_by}
+use Rattle.quic_machine_next.specs.Receive.{timers_after}
+use Rattle.quic_machine_next.specs.Poll.{Polled, Draft, with_ack, composed, lazied, polled}
+use Rattle.quic_machine_next.specs.Timeouts.{loss_judged}
+use Rattle.quic_machine_next.specs.Machine.{World, Policies, after_call, Follows}
+use Rattle.quic_headline_next.specs.Headline.{AckTimerFollows, AckTimersFollow}
+use Rattle.quic_machine_next.specs.DraftLaws.{by_writing}
+use Rattle.quic_machine_next.specs.LeaveCases.{at_expiry}
+use Rattle.quic_machine_next.specs.CallCases.{by_plain_call}
+use Rattle.quic_machine_next.specs.FrameCases.{Settling, Receives, named, acked_keeps, losses_keep, frame_keeps, frame_leaves, by_received}
+use Rattle.quic_machine_next.specs.PollCases.{ready_at, ready_leaves, by_poll_to}
+use Rattle.quic_headline_next.proofs.Timers.BothEnds.{run_keeps}
+
+-- no timer is set
+unset_follows : (e : End) → e.timers.max_ack_delay ≡ None → AckTimerFollows e
+unset_follows e none opened set = let clash : ◌≡◌ {A = Bool} false true = sym (ap (λ (o : Option ℕ). is_some o) none) ∙ set in cc
+
+-- an end that closes has no timer
+closed_follows : (reason : LostReason) (e : End) → AckTimerFollows (closed_by reason e)
+closed_follows reason e = unset_follows (closed_by reason e) refl
+
+-- ---- a datagram
+
+-- acknowledged and lost packets leave the timer, and the packets that ask count on
+settling : Settling AckTimerFollows
+settling = record { known = λ n e i. i; reset = λ id e i. i; acked = λ m e i. i; lost = λ m e i. i; again = λ carried e i. i; tracked = λ t e i. i; measured = λ r e i. i }
+
+-- the timer waits or is left: the count stays
+wait_counts : (b : Bool) (p : Pending) (now : ℕ) → (cond b (record p { since = Some now }) p).asking ≡ p.asking
+wait_counts true p now = refl
+wait_counts false p now = refl
+
+-- a packet that asks counts, and where none asks the timer stays
+packet_counts : (asks : Bool) (t : Timers) (p : Pending) (now n : ℕ) (s : Seen) → (is_some t.max_ack_delay ≡ true → 0 < p.asking) → is_some (timers_after t p now n asks s).max_ack_delay ≡ true → 0 < (after_packet p now n asks s).asking
+packet_counts true t p now n s i set =
+    let counted = asking_counted p n s in
+    let is : (after_packet p now n true s).asking ≡ min (p.asking + 1) (2 ^ 64 - 1) = wait_counts (starts_wait counted) counted now in
+    omega (arith, is)
+packet_counts false t p now n s i set = i set
+
+receives : Receives AckTimerFollows
+receives = record {
+  notes = λ n e i. i;
+  begins = λ now n e i. i;
+  frame = frame_keeps AckTimerFollows (record { ack = λ rises a e i. acked_keeps AckTimerFollows settling rises a (named a e) i; on_streams = λ f e on i. frame_leaves AckTimerFollows f e on (λ t. i) });
+  takes = λ n asks e i opened. packet_counts asks e.timers (after_insert e.acknowledging n e.closing.clock) e.closing.clock n e.numbers.opened (i opened);
+  closes = λ reason e i. closed_follows reason e;
+}
+
+-- ---- a poll
+
+-- an ACK that goes stops the timer, and no other frame changes it
+composed_follows : (e : End) → AckTimerFollows e → AckTimerFollows (composed e).end
+composed_follows = by_writing (λ (d : Draft). AckTimerFollows d.end) (record {
+  ack = λ d filled may i. unset_follows (with_ack d).end refl;
+  ping = λ d i. i;
+  drops = λ d kind i. i;
+  control = λ d kind entry es f is goes i. i;
+  stream = λ d id h room found first some is counts i. i;
+})
+
+-- what a probe changes leaves the timer
+ready_follows : (e : End) (now : ℕ) → AckTimerFollows e → AckTimerFollows (ready_at e now)
+ready_follows e now i = subst (λ (x : End). AckTimerFollows x) (sym (ready_leaves e now)) i
+
+polled_follows : (p : Policy) (e : End) (now : ℕ) → AckTimerFollows e → AckTimerFollows (polled p e now).end
+polled_follows p e now i = by_poll_to p e now (λ (q : Polled). AckTimerFollows q.end) (record {
+  silent = i;
+  failed = i;
+  idle = ready_follows e now i;
+  used_up = closed_follows reasons.NumberLimit (ready_at e now);
+  gives = λ is may some. composed_follows (lazied (ready_at e now)) (ready_follows e now i);
+})
+
+-- ---- any call
+
+-- expired timers: that of acknowledgements stops, and losses leave it
+judged_follows : (o : Option ℕ) (e : End) → AckTimerFollows e → AckTimerFollows (loss_judged o e)
+judged_follows None e i = i
+judged_follows (Some moment) e i = losses_keep AckTimerFollows settling e i
+
+expired_follows : (e : End) (now : ℕ) (acks loss : Bool) → AckTimerFollows e → AckTimerFollows (at_expiry e now acks loss)
+expired_follows e now true loss i = unset_follows (at_expiry e now true loss) refl
+expired_follows e now false true i = judged_follows e.tracking.loss_time (with_closing e (ticked e.closing now)) i
+expired_follows e now false false i = i
+
+-- what any call leaves
+call_follows : (p : Policy) (e : End) (theirs : List (List ℕ)) (call : Call) (a : Answer) → AckTimerFollows e → AckTimerFollows (after_call p e theirs call a)
+call_follows p e theirs call a i = by_plain_call p e theirs AckTimerFollows call a (record {
+  same = i;
+  on_streams = λ t. i;
+  pings = i;
+  heard = λ path same. i;
+  times = λ now acks loss is. expired_follows e now acks loss i;
+  polls = λ now is. polled_follows p e now i;
+  hears = λ now d is. by_received AckTimerFollows receives p e now d i;
+  tells = λ told. i;
+})
+
+-- a run
+pub ack_timers_follow : (k : Policies) (w end : World) (events : List RunEvent) (told : List Answer) (views : List View) → Follows k w events told views end → AckTimersFollow w → AckTimersFollow end
+ack_timers_follow k w end events told views f i = run_keeps AckTimerFollows (record {
+  call = call_follows;
+  stops = λ e next is opened. let clash : states.Failed ≡ states.Open = sym is.0 ∙ opened in cc;
+}) k w end events told views f i

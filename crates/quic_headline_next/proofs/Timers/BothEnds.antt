@@ -1,0 +1,44 @@
+-- What each call keeps at the end that it is made at, and an end that stops has, both ends keep over a run.
+use Rattle.std.proofs.Common.{ℕ, Bool, true, false, List, [], ◌∷◌, sym, ap, subst}
+use Rattle.quic_wire_core.specs.declared.stream_id.Side.{Side}
+use Rattle.quic_wire_core.specs.declared.stream_id.Side.TheVariants.{Client, Server}
+use Rattle.quic_machine_next.specs.declared.run.RunEvent.{RunEvent}
+use Rattle.quic_machine_next.specs.declared.run.Call.{Call}
+use Rattle.quic_machine_next.specs.declared.run.Answer.{Answer}
+use Rattle.quic_machine_next.specs.declared.run.View.{View}
+use Rattle.quic_machine_next.specs.Policy.{Policy}
+use Rattle.quic_machine_next.specs.End.{End}
+use Rattle.quic_machine_next.specs.Machine.{World, Policies, HasStopped, IsLeft, IsStep, after_call, fails, Follows}
+
+-- both ends have it
+abbrev pub AtBoth : (End → Type 0) → World → Type 0
+AtBoth P w = P w.client × P w.server
+
+-- what keeps it
+pub record IsKept (P : End → Type 0) : Type 0 where
+  pub call : (p : Policy) (e : End) (theirs : List (List ℕ)) (call : Call) (a : Answer) → P e → P (after_call p e theirs call a)
+  pub stops : (e next : End) → HasStopped e next → P next
+
+module _ (P : End → Type 0) (c : IsKept P) where
+  -- the end that a call leaves
+  left_keeps : (failed : Bool) (p : Policy) (e next : End) (theirs : List (List ℕ)) (call : Call) (a : Answer) → IsLeft failed p e theirs call a next → P e → P next
+  left_keeps true p e next theirs call a is i = c.stops e next is
+  left_keeps false p e next theirs call a is i = subst P (sym is) (c.call p e theirs call a i)
+
+  -- a step
+  step_keeps : (k : Policies) (w next : World) (event : RunEvent) (a : Answer) → IsStep k w event a next → AtBoth P w → AtBoth P next
+  step_keeps k w next event a step i = go event.side event.call step
+    where
+      go : (side : Side) (call : Call) → IsStep k w (record { side = side; call = call }) a next → AtBoth P next
+      go Client call step = (left_keeps (fails a) k.client w.client next.client w.from_server call a step.end i.0, subst P (sym (ap (λ (v : World). v.server) step.others)) i.1)
+      go Server call step = (subst P (sym (ap (λ (v : World). v.client) step.others)) i.0, left_keeps (fails a) k.server w.server next.server w.from_client call a step.end i.1)
+
+  -- a run
+  pub run_keeps : (k : Policies) (w end : World) (events : List RunEvent) (told : List Answer) (views : List View) → Follows k w events told views end → AtBoth P w → AtBoth P end
+  run_keeps k w end [] [] [] f i = subst (AtBoth P) (sym f) i
+  run_keeps k w end (e ∷ events) [] [] f i = subst (AtBoth P) (sym f) i
+  run_keeps k w end [] [] (v ∷ views) f i = absurd f
+  run_keeps k w end (e ∷ events) [] (v ∷ views) f i = absurd f
+  run_keeps k w end [] (a ∷ told) views f i = absurd f
+  run_keeps k w end (e ∷ events) (a ∷ told) [] f i = absurd f
+  run_keeps k w end (e ∷ events) (a ∷ told) (v ∷ views) f i = run_keeps k f.0 end events told views f.3 (step_keeps k w f.0 e a f.1 i)

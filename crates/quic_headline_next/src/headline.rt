@@ -1,0 +1,196 @@
+//! What every run of two honest ends keeps. Each function does nothing: its contract is the law, of
+//! every run of the reference machine whose ends, keys and applications meet the premises.
+ghost use Rattle.std.specs.Prelude.{List};
+ghost use Rattle.quic_machine_next.specs.declared.run.RunEvent.{RunEvent};
+ghost use Rattle.quic_machine_next.specs.declared.run.Answer.{Answer};
+ghost use Rattle.quic_machine_next.specs.declared.run.View.{View};
+ghost use Rattle.quic_machine_next.specs.Machine.{World, Policies, Follows};
+ghost use Rattle.quic_headline_next.specs.Runs.{Run};
+ghost use Rattle.quic_headline_next.specs.Amounts.{WritesTakeWhatLimitsAllow};
+ghost use Rattle.quic_headline_next.specs.Duties.{DutiesStand};
+ghost use Rattle.quic_headline_next.specs.Grown.{GrownLimitsWait};
+ghost use Rattle.quic_headline_next.specs.InFlight.{TracksInFlight};
+ghost use Rattle.quic_headline_next.specs.Causes.{NoBlame, NumberLimit, TooManyPieces, TakenOrTooMany};
+ghost use Rattle.quic_headline_next.specs.Moments.{LossMoments, LossTimerQuiet, AckMoments};
+ghost use Rattle.quic_machine_next.specs.Start.{AreStarted};
+ghost use Rattle.quic_headline_next.specs.Headline.{IsHonest, IsRun, OrderedPrefix, Slices, Once, EndAfterAll, BlockedOnlyWithoutBytes, AcceptsAll, FinishedMeansArrived, FinishedIsTold, AcknowledgedWereTaken, NamesWereTaken, OpensExactly, NewestOpens, LossTimersFollow, AckTimersFollow, NumbersRise};
+
+/// Where a stream was read in order alone, the bytes read of it at one end are a prefix of those
+/// written on it at the other (RFC 9000, section 2.2).
+pub fn ordered_prefix()
+    ensures { (r : Run) (end : World) → IsHonest r → IsRun r end → OrderedPrefix r }
+{}
+
+/// Each chunk that is read is a slice of what was written, at its offset.
+pub fn slices()
+    ensures { (r : Run) (end : World) → IsHonest r → IsRun r end → Slices r }
+{}
+
+/// No offset of a stream is read twice, whatever the order of reads.
+pub fn once()
+    ensures { (r : Run) (end : World) → IsHonest r → IsRun r end → Once r }
+{}
+
+/// The end of a stream is told only where the other end finished it, and every byte was read
+/// before.
+pub fn end_after_all()
+    ensures { (r : Run) (end : World) → IsHonest r → IsRun r end → EndAfterAll r }
+{}
+
+/// A read is blocked only where no byte has arrived that it may give, nor, with all read, the end.
+pub fn blocked_only_without_bytes()
+    ensures { (r : Run) (end : World) → IsHonest r → IsRun r end → BlockedOnlyWithoutBytes r }
+{}
+
+/// Nothing is accepted only where every stream of that kind that a frame opened, and each below it,
+/// was accepted.
+pub fn accepts_all()
+    ensures { (r : Run) (end : World) → IsHonest r → IsRun r end → AcceptsAll r }
+{}
+
+/// A stream is told to be finished only where it was ended, and all its bytes and its end are in
+/// what the other end took.
+pub fn finished_means_arrived()
+    ensures { (r : Run) (end : World) → IsHonest r → IsRun r end → FinishedMeansArrived r }
+{}
+
+/// No stream is told to be finished twice. Where an open end is asked and has nothing left to tell,
+/// each stream was told to be finished that was finished and not reset, if all that was written on
+/// it and its end stand in datagrams that were acknowledged in flight; and no other was.
+pub fn finished_is_told()
+    ensures { (r : Run) (end : World) → IsHonest r → IsRun r end → FinishedIsTold r }
+{}
+
+/// Where a view shows that an end closed for too many pieces, more than 2048 maximal runs of
+/// offsets of one stream had arrived and not been read, in the packets that it took and in the
+/// frames of one more up to a STREAM frame (RFC 9000, section 21.7).
+pub fn too_many_pieces()
+    ensures { (r : Run) (end : World) → IsHonest r → IsRun r end → TooManyPieces r }
+{}
+
+/// No view shows an end that closed for a rule that the other one broke: an end closes only for too
+/// many pieces of a stream that wait to be read, or for used-up numbers. So each frame of the other
+/// end keeps the rules of receiving: the limits of the connection and of each stream, final sizes,
+/// which streams there are, and which numbers were given (RFC 9000, sections 4.1, 4.5, 4.6 and
+/// 13.1).
+pub fn no_blame()
+    ensures { (r : Run) (end : World) → IsHonest r → IsRun r end → NoBlame r }
+{}
+
+/// A packet of the other end that comes to an open end under a number that is no duplicate is taken
+/// whole, and answered so; or it comes to too many pieces of a stream, as above, and is answered
+/// INTERNAL_ERROR. So it is the rules of receiving that say which packets an end takes.
+pub fn taken_or_too_many()
+    ensures { (r : Run) (end : World) → IsHonest r → IsRun r end → TakenOrTooMany r }
+{}
+
+/// At an open end the loss timer is set exactly while a datagram that asks is waited for (RFC 9002,
+/// section 6.2.1), in each run of two ends that were made for one another, whatever their keys. It
+/// holds where memory lacks too.
+pub fn loss_timers_follow()
+    ensures { (k : Policies) (w end : World) (events : List RunEvent) (answers : List Answer) (views : List View) → AreStarted w → Follows k w events answers views end → LossTimersFollow end }
+{}
+
+/// At an open end the timer of acknowledgements is set only where a packet that asks came since the
+/// last acknowledgement went (RFC 9000, section 13.2.1), in each run that began so, and new ends
+/// begin so. It wants no premise, and holds where memory lacks too.
+pub fn ack_timers_follow()
+    ensures runs { (k : Policies) (w end : World) (events : List RunEvent) (answers : List Answer) (views : List View) → Follows k w events answers views end → AckTimersFollow w → AckTimersFollow end }
+    ensures starts { (w : World) → AreStarted w → AckTimersFollow w }
+{}
+
+/// An injection is answered `Opens` exactly where its bytes open by the run's lists: with the keys
+/// of its end, under an id that the end began with, and where one above the greatest number that it
+/// took is expected (RFC 9000, section 12.2). So it is at an end in any state.
+pub fn opens_exactly()
+    ensures { (r : Run) (end : World) → IsHonest r → IsRun r end → OpensExactly r }
+{}
+
+/// Each datagram that was given opens at the other end as it was sent, under its number and to its
+/// frames, where that end took none with a number above it: by the run's lists, with its keys,
+/// under an id that it began with, and where one above the greatest number that it took is
+/// expected. So the bytes that go of a number tell it (RFC 9000, sections 12.3 and 17.1, and A.3).
+pub fn newest_opens()
+    ensures { (r : Run) (end : World) → IsHonest r → IsRun r end → NewestOpens r }
+{}
+
+/// An ACK frame that came names only packets that its end had taken whole (RFC 9000, section 13.1).
+pub fn acknowledged_were_taken()
+    ensures { (r : Run) (end : World) → IsHonest r → IsRun r end → AcknowledgedWereTaken r }
+{}
+
+/// An ACK frame in a datagram that was given names only packets that its giver had taken whole
+/// before (RFC 9000, section 13.1).
+pub fn names_were_taken()
+    ensures { (r : Run) (end : World) → IsHonest r → IsRun r end → NamesWereTaken r }
+{}
+
+/// Each datagram given is the datagram of a number, the peer's id and stated frames, and its number
+/// is one or two above the one before (RFC 9000, section 12.3).
+pub fn numbers_rise()
+    ensures { (r : Run) (end : World) → IsHonest r → IsRun r end → NumbersRise r }
+{}
+
+/// At each place each offset that was written on a stream that wasn't reset waits to go, and then
+/// its end has something to send; or it stands in a datagram that is neither acknowledged nor lost
+/// yet; or it arrived. So does the end of each such stream that was finished, and the reset of each
+/// that was reset; and so does the greatest limit of each kind that the end said and that matters
+/// still: it waits to be said anew, stands with its value in such a datagram, or one as great
+/// arrived (RFC 9000, section 13.3).
+pub fn duties_stand()
+    ensures { (r : Run) (end : World) → IsHonest r → IsRun r end → DutiesStand r }
+{}
+
+/// At each place and at both ends, a limit that grew waits to be told: where the peer may come a
+/// window past what was consumed of all streams, and this lies an eighth of the window above what
+/// the peer was told, or one, MAX_DATA waits; so it is with MAX_STREAM_DATA of each stream whose
+/// limits matter, and with MAX_STREAMS of each direction (RFC 9000, sections 4.1, 4.2 and 4.6).
+pub fn grown_limits_wait()
+    ensures { (r : Run) (end : World) → IsHonest r → IsRun r end → GrownLimitsWait r }
+{}
+
+/// At each place an open end waits for exactly the datagrams that are in flight: those that an
+/// observer of the run's lists counts as given, asking for an acknowledgement, and neither
+/// acknowledged nor lost (RFC 9002, sections 2 and 6.1.1).
+pub fn tracks_in_flight()
+    ensures { (r : Run) (end : World) → IsHonest r → IsRun r end → TracksInFlight r }
+{}
+
+/// Behind each event an open end shows its loss timer set to the moment that an observer of the
+/// run's lists reckons: the last ack-eliciting datagram that it gave went a probe timeout before,
+/// of 1024 ms, doubled at each expiry of the timer since an acknowledgement of a datagram in flight
+/// came, up to 16 times. Where none is in flight, it isn't set (RFC 9002, section 6.2.1).
+pub fn loss_moments()
+    ensures { (r : Run) (end : World) → IsHonest r → IsRun r end → LossMoments r }
+{}
+
+/// Where each datagram that an open end gave, and that asks for an acknowledgement, is named in an
+/// ACK frame that the end took, the view shows that its loss timer isn't set (RFC 9002, section
+/// 6.2.1).
+pub fn loss_timer_quiet()
+    ensures { (r : Run) (end : World) → IsHonest r → IsRun r end → LossTimerQuiet r }
+{}
+
+/// Where an open end shows its timer of acknowledgements set behind an event, it is set to 25 ms
+/// behind the moment at which an ack-eliciting packet came that the end took, and gave no ACK frame
+/// since (RFC 9000, section 13.2.1).
+pub fn ack_moments()
+    ensures { (r : Run) (end : World) → IsHonest r → IsRun r end → AckMoments r }
+{}
+
+/// Where a view shows that an end closed for used-up numbers, they are: above the greatest number
+/// that it gave, at most 16 are left, which are kept for closes, below 2^62, or of those that lie
+/// less than 2^31 above the greatest that the other end acknowledged (RFC 9000, sections 12.3 and
+/// A.2).
+pub fn number_limit()
+    ensures { (r : Run) (end : World) → IsHonest r → IsRun r end → NumberLimit r }
+{}
+
+/// A write of an open end, on a stream that was neither finished nor reset and that the peer didn't
+/// stop, takes the least of its length, what is left of the greatest limit on all data and on that
+/// of the stream that the peer told, and what is left of the send window, which pieces use up until
+/// they are acknowledged. It is blocked where one of the last three leaves nothing (RFC 9000,
+/// section 4.1).
+pub fn writes_take_what_limits_allow()
+    ensures { (r : Run) (end : World) → IsHonest r → IsRun r end → WritesTakeWhatLimitsAllow r }
+{}

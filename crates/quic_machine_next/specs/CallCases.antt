@@ -1,0 +1,101 @@
+-- What a call leaves, as cases over the parts of an end that it may change.
+use Rattle.std.proofs.Common.{◌≡◌, ℕ, Bool, true, false, List, Option, Some, None, refl}
+use Rattle.std.specs.Prelude.{slice_get}
+use Rattle.quic_streams_state.specs.State.{Streams}
+use Rattle.quic_machine_next.specs.declared.run.Call.{Call}
+use Rattle.quic_machine_next.specs.declared.run.Call.TheVariants as calls
+use Rattle.quic_machine_next.specs.declared.run.Answer.{Answer}
+use Rattle.quic_machine_next.specs.Parts.{Path, IsSamePath}
+use Rattle.quic_machine_next.specs.Policy.{Policy}
+use Rattle.quic_machine_next.specs.End.{End, with_ping, with_streams}
+use Rattle.quic_machine_next.specs.Receive.{received}
+use Rattle.quic_machine_next.specs.Poll.{polled}
+use Rattle.quic_machine_next.specs.Calls.{end_after_event}
+use Rattle.quic_machine_next.specs.StreamCalls.{is_on_streams}
+use Rattle.quic_machine_next.specs.Machine.{IsAnswer, AnswersOnStreams, end_on_streams, after_delivered, after_call}
+use Rattle.quic_machine_next.specs.InjectionCases.{by_injection}
+use Rattle.quic_machine_next.specs.LeaveCases.{at_expiry, by_expiry, at_event, by_event}
+
+-- ---- which call
+
+-- whether a call is a delivery
+abbrev pub is_delivery : Call → Bool
+is_delivery (calls.Deliver delivery) = true
+is_delivery call = false
+
+-- whether a call is a poll
+abbrev pub is_poll : Call → Bool
+is_poll (calls.Poll now) = true
+is_poll call = false
+
+-- whether a call says that a moment has come
+abbrev pub is_timeout : Call → Bool
+is_timeout (calls.Timeout now) = true
+is_timeout call = false
+
+-- whether a call asks what is to be told
+abbrev pub asks_event : Call → Bool
+asks_event calls.Event = true
+asks_event call = false
+
+-- ---- cases
+
+-- what may come of a call
+pub record CallsTo (p : Policy) (e : End) (theirs : List (List ℕ)) (call : Call) (a : Answer) (P : End → Type 0) : Type 0 where
+  -- the call asks what is there, or there is no such datagram
+  pub same : P e
+  -- calls on streams
+  pub on_streams : is_on_streams call ≡ true → (IsAnswer p e theirs call a → AnswersOnStreams e call a) → P (end_on_streams e call a)
+  -- PING is asked for
+  pub pings : P (with_ping e true)
+  -- bytes that don't open are handed in: no more than what the path counts changes
+  pub heard : (path : Path) → IsSamePath e.path path → P (record e { path = path })
+  -- a moment at which timers expire, a poll, a delivery, and what is told
+  pub times : (now : ℕ) (acks loss : Bool) → is_timeout call ≡ true → P (at_expiry e now acks loss)
+  pub polls : (now : ℕ) → is_poll call ≡ true → P (polled p e now).end
+  pub hears : (now : ℕ) (d : List ℕ) → is_delivery call ≡ true → P (received p e now d).end
+  pub tells : asks_event call ≡ true → P (end_after_event e)
+
+-- the same, whatever streams are left
+pub record Plain (p : Policy) (e : End) (call : Call) (P : End → Type 0) : Type 0 where
+  pub same : P e
+  pub on_streams : (t : Streams) → P (with_streams e t)
+  pub pings : P (with_ping e true)
+  pub heard : (path : Path) → IsSamePath e.path path → P (record e { path = path })
+  pub times : (now : ℕ) (acks loss : Bool) → is_timeout call ≡ true → P (at_expiry e now acks loss)
+  pub polls : (now : ℕ) → is_poll call ≡ true → P (polled p e now).end
+  pub hears : (now : ℕ) (d : List ℕ) → is_delivery call ≡ true → P (received p e now d).end
+  pub tells : (told : Bool) → P (at_event e told)
+
+-- ---- any call
+
+module _ (p : Policy) (e : End) (theirs : List (List ℕ)) (P : End → Type 0) where
+  -- there is such a datagram or not
+  delivered_case : (o : Option (List ℕ)) (now : ℕ) → P e → ((d : List ℕ) → P (received p e now d).end) → P (after_delivered p e now o)
+  delivered_case None now same hears = same
+  delivered_case (Some d) now same hears = hears d
+
+  -- what holds in each case holds after a call
+  pub by_call : (call : Call) (a : Answer) → CallsTo p e theirs call a P → P (after_call p e theirs call a)
+  by_call calls.Ping a c = c.pings
+  by_call (calls.Poll now) a c = c.polls now refl
+  by_call (calls.Timeout now) a c = by_expiry e now P c.same (λ acks loss. c.times now acks loss refl)
+  by_call (calls.Deliver delivery) a c = delivered_case (slice_get theirs delivery.index) delivery.now c.same (λ d. c.hears delivery.now d refl)
+  by_call (calls.Inject injection) a c = by_injection p e injection.now injection.bytes P c.same c.heard
+  by_call calls.Event a c = c.tells refl
+  by_call (calls.Timer timer) a c = c.same
+  by_call calls.NextTimeout a c = c.same
+  by_call call a c = c.on_streams refl (λ is. is)
+
+  -- the same, by the plain cases
+  pub by_plain_call : (call : Call) (a : Answer) → Plain p e call P → P (after_call p e theirs call a)
+  by_plain_call call a c = by_call call a (record {
+    same = c.same;
+    on_streams = λ is answer. c.on_streams _;
+    pings = c.pings;
+    heard = c.heard;
+    times = c.times;
+    polls = c.polls;
+    hears = c.hears;
+    tells = λ asks. by_event e P c.tells;
+  })

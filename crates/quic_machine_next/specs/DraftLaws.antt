@@ -1,0 +1,177 @@
+-- What holds of a draft, whichever frames go; and that a datagram has a frame.
+use Rattle.std.proofs.Common.{◌≡◌, ℕ, ◌+◌, ◌-◌, ◌<◌, ◌≤◌, List, [], ◌∷◌, ◌++◌, Bool, true, false, length, Option, Some, None, refl, sym, ap, ◌∙◌, subst, arith, nat_lt, ◌||◌, ◌&&◌, ◌⊎◌, inl, inr}
+use Rattle.std.specs.Prelude.{if◌then◌else◌, nat_le, not, map, ◌*◌}
+use Rattle.std.specs.List.{fold}
+use Rattle.std.proofs.lemmas.Bool.{and_parts}
+use Rattle.std.proofs.lemmas.List.{length-append, append_assoc, append-nil}
+use Rattle.quic_wire.specs.Value.{FrameValue, StreamValue, stream, ack, ping}
+use Rattle.quic_wire.specs.Writing.{spelling, spelled_all, stream_spelling, frame_size}
+use Rattle.quic_packet.specs.Number.{width_for}
+use Rattle.quic_send_buffer.specs.Buffered.{writes_length}
+use Rattle.quic_streams_parts.specs.Table.{at}
+use Rattle.quic_streams_parts.specs.SendHalf.{SendHalf, frame_of, frame_counts}
+use Rattle.quic_streams_parts.specs.Queue.{first_queued}
+use Rattle.quic_retransmits.specs.Retransmits.{nothing_waits}
+use Rattle.quic_streams_state.specs.declared.control.ControlKind.{ControlKind}
+use Rattle.quic_streams_state.specs.declared.state.StreamsState.{StreamsState}
+use Rattle.quic_streams_state.specs.State.{streams_of}
+use Rattle.quic_streams_state.specs.Control.{Entry, waiting, without_first, first_sent, first_dropped}
+use Rattle.quic_streams_state.specs.Control as control
+use Rattle.quic_streams_state.specs.Frames as of_streams
+use Rattle.quic_streams_laws.specs.ControlWalk.{GoesOn, by_control, by_stream_frames}
+use Rattle.quic_recovery_core.specs.PendingAcks.{can_send, is_filled}
+use Rattle.quic_spaces.specs.Numbers.{cut_against}
+use Rattle.quic_machine_next.specs.End.{End, number_of, with_streams, with_ping}
+use Rattle.quic_machine_next.specs.Poll.{Draft, frame_room, fits, with_frame, left, ping_if, with_ping_frame, behind_control, with_control_frames, behind_stream, no_stream_frames, with_stream_frames, Kind, order, put, with_asking, no_frames, ack_of, with_ack, ack_fits, ack_if, composed_if, composed}
+use Rattle.quic_machine_next.specs.Poll as poll
+
+-- a number takes four bytes at most
+width_few : (n : ℕ) → width_for n ≤ 4
+width_few n = go (nat_lt (2 * n) 256) (nat_lt (2 * n) 65536) (nat_lt (2 * n) 16777216)
+  where
+    go : (a b c : Bool) → (if a then 1 else (if b then 2 else (if c then 3 else 4))) ≤ 4
+    go true b c = omega arith
+    go false true c = omega arith
+    go false false true = omega arith
+    go false false false = omega arith
+
+-- how many bytes a datagram has for frames at least
+pub room_most : (e : End) → length e.ids.active.id ≤ 20 → 1159 ≤ frame_room e
+room_most e short =
+    let width = width_few (number_of e - cut_against e.numbers) in
+    omega arith
+
+-- ---- one frame of each kind
+
+-- how many bytes are left behind the type and the id of a STREAM frame, behind the frames of a draft
+abbrev pub stream_room : Draft → ℕ → ℕ
+stream_room d id = of_streams.stream_room (left d) (no_stream_frames d) id
+
+-- the first that waits of a kind is dropped
+abbrev pub without_entry : Draft → ControlKind → Draft
+without_entry d kind = record d { end = with_streams d.end (streams_of d.end.streams (without_first kind d.end.waiting.frames)) }
+
+-- its frame goes
+abbrev pub with_entry : Draft → ControlKind → Entry → FrameValue → Draft
+with_entry d kind e f = with_frame d f (spelling f) (with_streams d.end (streams_of (e.told d.end.streams) (without_first kind d.end.waiting.frames)))
+
+-- the frame of a half goes, where so many bytes are left behind its type and id
+abbrev pub with_half_frame : Draft → ℕ → SendHalf → ℕ → Draft
+with_half_frame d id h room = with_frame d (stream (frame_of id h room)) (stream_spelling (writes_length h.buffer room) (frame_of id h room)) (record d.end { streams = of_streams.after_frame_sent d.end.transport.send_fairness d.end.streams id h room })
+
+-- an ACK may go: no frame went before it, or it fits
+abbrev pub MayAck : Draft → Type 0
+MayAck d = (d.bytes ≡ []) ⊎ (fits d (ack (ack_of d.end)) ≡ true)
+
+-- what waits beside the bytes of streams is dropped, since it is no longer due
+abbrev pub Drops : (Draft → Type 0) → Type 0
+Drops P = (d : Draft) (kind : ControlKind) → P d → P (without_entry d kind)
+
+-- its frame goes
+abbrev pub SendsEntry : (Draft → Type 0) → Type 0
+SendsEntry P = (d : Draft) (kind : ControlKind) (e : Entry) (es : List Entry) (f : FrameValue) → waiting kind d.end.waiting.frames ≡ e ∷ es → e.frame d.end.streams ≡ Some f → P d → P (with_entry d kind e f)
+
+-- the frame of the stream goes that stands first in the queue, which brings something, where enough bytes are left
+abbrev pub SendsHalf : (Draft → Type 0) → Type 0
+SendsHalf P = (d : Draft) (id : ℕ) (h : SendHalf) (room : ℕ) → at d.end.streams.sending.halves.live id ≡ Some h → first_queued d.end.streams.sending.queue ≡ Some id → 25 ≤ left d → room ≡ stream_room d id → frame_counts h room ≡ true → P d
+    → P (with_half_frame d id h room)
+
+-- what holds of a draft stays where a frame goes, of each kind: ACK, PING, one that waits beside the bytes of streams, or one of a stream; and where what
+-- waits is dropped
+pub record Writing (P : Draft → Type 0) : Type 0 where
+  pub ack : (d : Draft) → is_filled d.end.acknowledging.runs ≡ true → MayAck d → P d → P (with_ack d)
+  pub ping : (d : Draft) → P d → P (with_frame d ping (spelling ping) (with_ping d.end false))
+  pub drops : Drops P
+  pub control : SendsEntry P
+  pub stream : SendsHalf P
+
+-- ---- all of them
+
+-- one more frame is spelled behind the others
+spelled_more : (fs : List FrameValue) (f : FrameValue) → spelled_all (fs ++ f ∷ []) ≡ spelled_all fs ++ spelling f
+spelled_more [] f = append-nil (spelling f)
+spelled_more (g ∷ fs) f = ap (λ (bs : List ℕ). spelling g ++ bs) (spelled_more fs f) ∙ sym (append_assoc (spelling g) (spelled_all fs) (spelling f))
+
+-- one more stream's frame among frames
+mapped_more : (fs : List StreamValue) (f : StreamValue) → map stream (fs ++ f ∷ []) ≡ map stream fs ++ stream f ∷ []
+mapped_more [] f = refl
+mapped_more (g ∷ fs) f = ap (λ (gs : List FrameValue). stream g ∷ gs) (mapped_more fs f)
+
+module _ (P : Draft → Type 0) (drops : Drops P) (sends : SendsEntry P) where
+  -- frames of control behind a draft: one more is one more frame
+  entry_behind : (d : Draft) (c : control.Draft) (kind : ControlKind) (e : Entry) (f : FrameValue) → behind_control d (first_sent kind e f c) ≡ with_entry (behind_control d c) kind e f
+  entry_behind d c kind e f =
+      let fs : d.frames ++ (c.frames ++ f ∷ []) ≡ (d.frames ++ c.frames) ++ f ∷ [] = sym (append_assoc d.frames c.frames (f ∷ [])) in
+      let bs : d.bytes ++ spelled_all (c.frames ++ f ∷ []) ≡ (d.bytes ++ spelled_all c.frames) ++ spelling f = ap (λ (x : List ℕ). d.bytes ++ x) (spelled_more c.frames f) ∙ sym (append_assoc d.bytes (spelled_all c.frames) (spelling f)) in
+      rw (fs, bs) refl
+
+  -- what waits beside the bytes of streams goes
+  pub by_entries : (d : Draft) → P d → P (with_control_frames d)
+  by_entries d p = by_control (frame_room d.end) (λ (c : control.Draft). P (behind_control d c)) steps (control.no_frames (length d.bytes) d.end.streams d.end.waiting.frames nothing_waits) first
+    where
+      steps : GoesOn (frame_room d.end) (λ (c : control.Draft). P (behind_control d c))
+      steps = record {
+        drops = λ c kind e es is due q. drops (behind_control d c) kind q;
+        sends = λ c kind e es f is due room q. subst P (sym (entry_behind d c kind e f)) (sends (behind_control d c) kind e es f is due q);
+      }
+
+      first : P (behind_control d (control.no_frames (length d.bytes) d.end.streams d.end.waiting.frames nothing_waits))
+      first = rw (append-nil d.frames, append-nil d.bytes) p
+
+module _ (P : Draft → Type 0) (stream_goes : SendsHalf P) where
+  -- STREAM frames behind a draft: one more is one more frame
+  half_behind : (d : Draft) (t : of_streams.Sent) (id : ℕ) (h : SendHalf) → behind_stream d (of_streams.frame_sent d.end.transport.send_fairness (left d) t id h) ≡ with_half_frame (behind_stream d t) id h (of_streams.stream_room (left d) t id)
+  half_behind d t id h =
+      let room : ℕ = of_streams.stream_room (left d) t id in
+      let f = frame_of id h room in
+      let fs : d.frames ++ map stream (t.frames ++ f ∷ []) ≡ (d.frames ++ map stream t.frames) ++ stream f ∷ [] = ap (λ (x : List FrameValue). d.frames ++ x) (mapped_more t.frames f) ∙ sym (append_assoc d.frames (map stream t.frames) (stream f ∷ [])) in
+      let bs : d.bytes ++ (t.bytes ++ stream_spelling (writes_length h.buffer room) f) ≡ (d.bytes ++ t.bytes) ++ stream_spelling (writes_length h.buffer room) f = sym (append_assoc d.bytes t.bytes (stream_spelling (writes_length h.buffer room) f)) in
+      rw (fs, bs) refl
+
+  -- frames of streams go
+  pub by_streams : (d : Draft) → P d → P (with_stream_frames d)
+  by_streams d p = by_stream_frames d.end.transport.send_fairness (left d) (λ (t : of_streams.Sent). P (behind_stream d t)) one (no_stream_frames d) first
+    where
+      one : (t : of_streams.Sent) (id : ℕ) (h : SendHalf) → at t.state.sending.halves.live id ≡ Some h → first_queued t.state.sending.queue ≡ Some id → length t.bytes + 25 ≤ left d → frame_counts h (of_streams.stream_room (left d) t id) ≡ true
+          → P (behind_stream d t) → P (behind_stream d (of_streams.frame_sent d.end.transport.send_fairness (left d) t id h))
+      one t id h found first room counts q =
+          let both = length-append d.bytes t.bytes in
+          subst P (sym (half_behind d t id h)) (stream_goes (behind_stream d t) id h (of_streams.stream_room (left d) t id) found first (omega arith) (omega arith) counts q)
+
+      first : P (behind_stream d (no_stream_frames d))
+      first = rw (append-nil d.frames, append-nil d.bytes) p
+
+module _ (P : Draft → Type 0) (w : Writing P) where
+  -- one kind
+  kind_keeps : (kind : Kind) (d : Draft) → P d → P (put d kind)
+  kind_keeps poll.pings d p = go d.end.waiting.ping
+    where
+      go : (b : Bool) → P (ping_if b d)
+      go true = w.ping d p
+      go false = p
+  kind_keeps poll.controls d p = by_entries P w.drops w.control d p
+  kind_keeps poll.streams d p = by_streams P w.stream d p
+
+  -- several, one behind another
+  kinds_keep : (kinds : List Kind) (d : Draft) → P d → P (fold put d kinds)
+  kinds_keep [] d p = p
+  kinds_keep (kind ∷ kinds) d p = kinds_keep kinds (put d kind) (kind_keeps kind d p)
+
+  -- what asks
+  pub by_asking : (d : Draft) → P d → P (with_asking d)
+  by_asking d p = kinds_keep order d p
+
+  -- an ACK that isn't due
+  late_keeps : (b : Bool) (d : Draft) → ack_fits d ≡ b → P d → P (ack_if b d)
+  late_keeps true d goes p =
+      let parts = and_parts (is_filled d.end.acknowledging.runs) (fits d (ack (ack_of d.end))) goes in
+      w.ack d parts.0 (inr parts.1) p
+  late_keeps false d goes p = p
+
+-- what holds where no frame went, and stays where one goes, holds of what is composed
+pub by_writing : (P : Draft → Type 0) → Writing P → (e : End) → P (no_frames e) → P (composed e)
+by_writing P w e p = go (can_send e.acknowledging) refl
+  where
+    go : (b : Bool) → can_send e.acknowledging ≡ b → P (composed_if b e)
+    go true due = by_asking P w (with_ack (no_frames e)) (w.ack (no_frames e) (and_parts e.acknowledging.due (is_filled e.acknowledging.runs) due).1 (inl refl) p)
+    go false due = late_keeps P w (ack_fits (with_asking (no_frames e))) (with_asking (no_frames e)) refl (by_asking P w (no_frames e) p)

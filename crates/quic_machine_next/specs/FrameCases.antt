@@ -1,0 +1,278 @@
+-- What a datagram that comes leaves, as cases: of the packets that an ACK frame names or that are lost, of frames, and of the packet that has them.
+use Rattle.std.proofs.Common.{◌≡◌, ℕ, Bool, true, false, not, ◌||◌, ◌==◌, nat_le, List, [], ◌∷◌, map, Option, Some, None, Result, Ok, Err, refl, sym, ◌∙◌}
+use Rattle.std.specs.Prelude.{if◌then◌else◌}
+use Rattle.quic_wire.specs.Value.{FrameValue, AckValue, ack, stream, reset_stream, stop_sending, max_data, max_stream_data, max_streams, stream_data_blocked, streams_blocked, new_token, handshake_done}
+use Rattle.quic_wire.specs.Items.{items}
+use Rattle.quic_wire.specs.declared.frame.InvalidFrame.{InvalidFrame}
+use Rattle.quic_packet.specs.Header.{key_phase, reserved_bits}
+use Rattle.quic_packet.specs.Destination.{decoded, fixed_length_id}
+use Rattle.quic_packet.specs.Datagram.{Opening}
+use Rattle.quic_packet.specs.declared.packet.HeaderError.{HeaderError}
+use Rattle.quic_send_buffer.specs.declared.stream_meta.StreamMeta.{StreamMeta}
+use Rattle.quic_recovery_core.specs.Duplicates.{is_duplicate}
+use Rattle.quic_streams_state.specs.State.{Streams}
+use Rattle.quic_streams_parts.specs.Table.{Table}
+use Rattle.quic_machine_next.specs.declared.answers.State.{State}
+use Rattle.quic_machine_next.specs.declared.answers.State.TheVariants as states
+use Rattle.quic_machine_next.specs.declared.answers.DropReason.TheVariants as drops
+use Rattle.quic_machine_next.specs.declared.answers.LostReason.{LostReason}
+use Rattle.quic_machine_next.specs.Policy.{Policy}
+use Rattle.quic_machine_next.specs.Closing.{ticked}
+use Rattle.quic_machine_next.specs.Ids.{known}
+use Rattle.quic_spaces.specs.Numbers.{number_opened, number_named}
+use Rattle.quic_time.specs.Rtt.{Rtt}
+use Rattle.quic_machine_next.specs.Tracking.{Tracking, TrackedPacket, Carried, acked_by, Verdict, lost_by, after_detection}
+use Rattle.quic_machine_next.specs.End.{End, with_closing, closed_by, with_numbers, with_streams, with_tracking, with_rtt}
+use Rattle.quic_machine_next.specs.Opens.{own_id_length}
+use Rattle.quic_machine_next.specs.Acked.{without_known, reset_acked, resets_acked, stream_acked, streams_acked, packet_acked, packets_acked, stream_lost, streams_lost, again, carried_lost, packets_lost, lost_as, verdict, losses_detected, measured, sampled, without_acked, after_named, after_acked}
+use Rattle.quic_machine_next.specs.Receive.{Fault, violation, reason_of, Progress, goes_on, is_above, names_ungiven, take_frame, take_item, unless_fault, take_items, is_empty, take_payload, asks_in, after_taken, dropped, ends_as, by_state, opened_to, opened_as, opening, headed, received_in, received}
+
+-- ---- packets that are acknowledged, and those that are lost
+
+module _ (P : End → Type 0) (acked : (m : StreamMeta) (e : End) → P e → P (stream_acked m e)) where
+  -- the STREAM frames of a packet are acknowledged
+  pub streams_acked_keep : (ms : List StreamMeta) (e : End) → P e → P (streams_acked ms e)
+  streams_acked_keep [] e i = i
+  streams_acked_keep (m ∷ ms) e i = streams_acked_keep ms (stream_acked m e) (acked m e i)
+
+module _ (P : End → Type 0) (acked : (id : ℕ) (e : End) → P e → P (reset_acked id e)) where
+  -- its RESET_STREAM frames are
+  pub resets_acked_keep : (rs : List (ℕ × ℕ)) (e : End) → P e → P (resets_acked rs e)
+  resets_acked_keep [] e i = i
+  resets_acked_keep (r ∷ rs) e i = resets_acked_keep rs (reset_acked r.0 e) (acked r.0 e i)
+
+module _ (P : End → Type 0) (lost : (m : StreamMeta) (e : End) → P e → P (stream_lost m e)) where
+  -- the STREAM frames of a packet are lost
+  pub streams_lost_keep : (ms : List StreamMeta) (e : End) → P e → P (streams_lost ms e)
+  streams_lost_keep [] e i = i
+  streams_lost_keep (m ∷ ms) e i = streams_lost_keep ms (stream_lost m e) (lost m e i)
+
+  -- packets are lost, of which what has to be sent again waits again
+  pub packets_lost_keep : ((c : Carried) (e : End) → P e → P (again c e)) → (ps : Table TrackedPacket) (e : End) → P e → P (packets_lost ps e)
+  packets_lost_keep waits [] e i = i
+  packets_lost_keep waits (p ∷ ps) e i =
+      packets_lost_keep waits ps (carried_lost p.1.carried e) (waits p.1.carried (streams_lost p.1.carried.stream_frames e) (streams_lost_keep p.1.carried.stream_frames e i))
+
+-- what an ACK frame makes of an end, step by step
+pub record Settling (P : End → Type 0) : Type 0 where
+  -- numbers that the peer knows of need no more acknowledgement
+  pub known : (n : ℕ) (e : End) → P e → P (without_known (Some n) e)
+  -- RESET_STREAM of a stream is acknowledged; a STREAM frame is acknowledged, or lost; and what else a packet carried is
+  pub reset : (id : ℕ) (e : End) → P e → P (reset_acked id e)
+  pub acked : (m : StreamMeta) (e : End) → P e → P (stream_acked m e)
+  pub lost : (m : StreamMeta) (e : End) → P e → P (stream_lost m e)
+  pub again : (carried : Carried) (e : End) → P e → P (again carried e)
+  -- fewer packets are tracked
+  pub tracked : (t : Tracking) (e : End) → P e → P (with_tracking e t)
+  -- the round trip is measured
+  pub measured : (r : Rtt) (e : End) → P e → P (with_rtt e r)
+
+module _ (P : End → Type 0) (c : Settling P) where
+  -- what the peer knows of, if anything
+  known_keeps : (o : Option ℕ) (e : End) → P e → P (without_known o e)
+  known_keeps None e i = i
+  known_keeps (Some n) e i = c.known n e i
+
+  -- packets are acknowledged
+  packets_acked_keep : (ps : Table TrackedPacket) (e : End) → P e → P (packets_acked ps e)
+  packets_acked_keep [] e i = i
+  packets_acked_keep (p ∷ ps) e i =
+      let known : End = without_known p.1.carried.largest_acked e in
+      let resets = resets_acked_keep P c.reset p.1.carried.retransmits.reset_stream known (known_keeps p.1.carried.largest_acked e i) in
+      packets_acked_keep ps (packet_acked p.1 e) (streams_acked_keep P c.acked p.1.carried.stream_frames (resets_acked p.1.carried.retransmits.reset_stream known) resets)
+
+  -- packets are lost
+  lost_keeps : (v : Verdict) (e : End) → P e → P (lost_as v e)
+  lost_keeps v e i = c.tracked (after_detection v e.tracking) (packets_lost (lost_by v e.tracking.packets) e) (packets_lost_keep P c.lost c.again (lost_by v e.tracking.packets) e i)
+
+  -- losses are detected
+  pub losses_keep : (e : End) → P e → P (losses_detected e)
+  losses_keep e i = lost_keeps (verdict e) e i
+
+  -- a round trip is measured, if one is
+  sampled_keeps : (o : Option TrackedPacket) (a : AckValue) (e : End) → P e → P (sampled o a e)
+  sampled_keeps None a e i = i
+  sampled_keeps (Some p) a e i = c.measured (sampled (Some p) a e).path.rtt e i
+
+  -- an ACK frame that names these packets
+  named_keeps : (ps : Table TrackedPacket) (rises : Bool) (a : AckValue) (e : End) → P e → P (after_named ps rises a e)
+  named_keeps [] rises a e i = i
+  named_keeps (p ∷ ps) rises a e i =
+      let left = without_acked (p ∷ ps) a e in
+      let timed = sampled (measured rises a (p ∷ ps)) a left in
+      let found = losses_detected timed in
+      let stays : P left = c.tracked left.tracking (packets_acked (p ∷ ps) e) (packets_acked_keep (p ∷ ps) e i) in
+      c.tracked (after_named (p ∷ ps) rises a e).tracking found (losses_keep timed (sampled_keeps (measured rises a (p ∷ ps)) a left stays))
+
+  -- an ACK frame, whose greatest number is counted already
+  pub acked_keeps : (rises : Bool) (a : AckValue) (e : End) → P e → P (after_acked rises a e)
+  acked_keeps rises a e i = named_keeps (acked_by a e.tracking.packets) rises a e i
+
+-- ---- frames
+
+-- the end once the greatest number of an ACK frame counts
+abbrev pub named : AckValue → End → End
+named a e = with_numbers e (number_named e.numbers a.largest)
+
+-- what an ACK frame makes of the end, by whether it names a number that was never given
+abbrev pub ack_taken : Bool → AckValue → End → Progress
+ack_taken b a e = if b then record { end = e; fault = Some violation } else goes_on (after_acked (is_above e.numbers.largest_acked a.largest) a (named a e))
+
+-- what frames leave, one behind another, and what was wrong with the one that was taken last
+abbrev pub passed : List FrameValue → End → Progress
+passed fs e = take_items (map Ok fs) e
+
+-- a frame on streams, which changes nothing else
+abbrev pub OnStreams : FrameValue → Type 0
+OnStreams (stream f) = Unit {0}
+OnStreams (reset_stream f) = Unit {0}
+OnStreams (stop_sending f) = Unit {0}
+OnStreams (max_data limit) = Unit {0}
+OnStreams (max_stream_data f) = Unit {0}
+OnStreams (max_streams f) = Unit {0}
+OnStreams (stream_data_blocked f) = Unit {0}
+OnStreams (streams_blocked f) = Unit {0}
+OnStreams f = ⊥
+
+-- the frames that change an end, by kind
+pub record TakesFrame (P : End → Type 0) : Type 0 where
+  pub ack : (rises : Bool) (a : AckValue) (e : End) → P e → P (after_acked rises a (named a e))
+  -- a frame on streams: they are left as its words say
+  pub on_streams : (f : FrameValue) (e : End) → OnStreams f → P e → P (take_frame f e).end
+
+-- one frame
+pub frame_keeps : (P : End → Type 0) → TakesFrame P → (f : FrameValue) (e : End) → P e → P (take_frame f e).end
+frame_keeps P c (ack a) e i = go (names_ungiven a e)
+  where
+    go : (b : Bool) → P (ack_taken b a e).end
+    go true = i
+    go false = c.ack (is_above e.numbers.largest_acked a.largest) a e i
+frame_keeps P c (stream f) e i = c.on_streams (stream f) e tt i
+frame_keeps P c (reset_stream f) e i = c.on_streams (reset_stream f) e tt i
+frame_keeps P c (stop_sending f) e i = c.on_streams (stop_sending f) e tt i
+frame_keeps P c (max_data limit) e i = c.on_streams (max_data limit) e tt i
+frame_keeps P c (max_stream_data f) e i = c.on_streams (max_stream_data f) e tt i
+frame_keeps P c (max_streams f) e i = c.on_streams (max_streams f) e tt i
+frame_keeps P c (stream_data_blocked f) e i = c.on_streams (stream_data_blocked f) e tt i
+frame_keeps P c (streams_blocked f) e i = c.on_streams (streams_blocked f) e tt i
+frame_keeps P c (new_token t) e i = i
+frame_keeps P c handshake_done e i = i
+frame_keeps P c f e i = i
+
+-- a frame on streams leaves other streams, and another end in nothing else
+pub frame_leaves : (P : End → Type 0) (f : FrameValue) (e : End) → OnStreams f → ((t : Streams) → P (with_streams e t)) → P (take_frame f e).end
+frame_leaves P (stream f) e on all = all _
+frame_leaves P (reset_stream f) e on all = all _
+frame_leaves P (stop_sending f) e on all = all _
+frame_leaves P (max_data limit) e on all = all _
+frame_leaves P (max_stream_data f) e on all = all _
+frame_leaves P (max_streams f) e on all = all _
+frame_leaves P (stream_data_blocked f) e on all = all _
+frame_leaves P (streams_blocked f) e on all = all _
+frame_leaves P f e on all = absurd on
+
+module _ (P : End → Type 0) (step : (f : FrameValue) (e : End) → P e → P (take_frame f e).end) where
+  -- an item of a payload
+  item_keeps : (item : Result FrameValue InvalidFrame) (e : End) → P e → P (take_item item e).end
+  item_keeps (Ok f) e i = step f e i
+  item_keeps (Err x) e i = i
+
+  -- the next step, unless something was wrong
+  unless_keeps : (fault : Option Fault) (p : Progress) (next : End → Progress) → P p.end → ((e : End) → P e → P (next e).end) → P (unless_fault fault p next).end
+  unless_keeps None p next i more = more p.end i
+  unless_keeps (Some fault) p next i more = i
+
+  -- all items of a payload, up to the first fault
+  pub items_keep : (is : List (Result FrameValue InvalidFrame)) (e : End) → P e → P (take_items is e).end
+  items_keep [] e i = i
+  items_keep (item ∷ is) e i = unless_keeps (take_item item e).fault (take_item item e) (take_items is) (item_keeps item e i) (items_keep is)
+
+  -- all frames of a packet
+  pub frames_keep : (fs : List FrameValue) (e : End) → P e → P (passed fs e).end
+  frames_keep fs e i = items_keep (map Ok fs) e i
+
+module _ (P : List FrameValue → End → Type 0) where
+  -- what each frame keeps, of the end and of the frames behind it, holds with those that are left where one is at fault
+  pub frames_leave : ((f : FrameValue) (left : List FrameValue) (e : End) → P (f ∷ left) e → P left (take_frame f e).end) → (fs : List FrameValue) (e : End) → P fs e → (left : List FrameValue) × P left (passed fs e).end
+  frames_leave step [] e i = ([], i)
+  frames_leave step (f ∷ fs) e i = go (take_frame f e).fault (step f fs e i) (frames_leave step fs (take_frame f e).end (step f fs e i))
+    where
+      go : (o : Option Fault) → P fs (take_frame f e).end → (left : List FrameValue) × P left (passed fs (take_frame f e).end).end → (left : List FrameValue) × P left (unless_fault o (take_frame f e) (take_items (map Ok fs))).end
+      go None one rest = rest
+      go (Some x) one rest = (fs, one)
+
+  -- where all were taken, none is left
+  pub frames_taken : ((f : FrameValue) (left : List FrameValue) (e : End) → (take_frame f e).fault ≡ None → P (f ∷ left) e → P left (take_frame f e).end) → (fs : List FrameValue) (e : End) → (passed fs e).fault ≡ None → P fs e → P [] (passed fs e).end
+  frames_taken step [] e none i = i
+  frames_taken step (f ∷ fs) e none i = go (take_frame f e).fault refl none (λ rest j. frames_taken step fs (take_frame f e).end rest j)
+    where
+      go : (o : Option Fault) → (take_frame f e).fault ≡ o → (unless_fault o (take_frame f e) (take_items (map Ok fs))).fault ≡ None
+          → ((passed fs (take_frame f e).end).fault ≡ None → P fs (take_frame f e).end → P [] (passed fs (take_frame f e).end).end) → P [] (unless_fault o (take_frame f e) (take_items (map Ok fs))).end
+      go None is rest later = later rest (step f fs e is i)
+      go (Some x) is rest later = let clash : Some x ≡ None = sym is ∙ rest in cc
+
+-- ---- a datagram
+
+-- an open end that takes the packet of a number, before its frames
+abbrev pub begun : End → ℕ → ℕ → End
+begun e now n = with_closing (with_numbers e (number_opened e.numbers n)) (ticked e.closing now)
+
+-- what a datagram may make of an end, step by step
+pub record Receives (P : End → Type 0) : Type 0 where
+  -- an end that doesn't read on notes the number
+  pub notes : (n : ℕ) (e : End) → P e → P (with_numbers e (number_opened e.numbers n))
+  pub begins : (now n : ℕ) (e : End) → P e → P (begun e now n)
+  pub frame : (f : FrameValue) (e : End) → P e → P (take_frame f e).end
+  -- all was taken, or a frame was at fault
+  pub takes : (n : ℕ) (asks : Bool) (e : End) → P e → P (after_taken n asks e)
+  pub closes : (reason : LostReason) (e : End) → P e → P (closed_by reason e)
+
+module _ (P : End → Type 0) (c : Receives P) where
+  -- a payload
+  payload_keeps : (first : ℕ) (is : List (Result FrameValue InvalidFrame)) (e : End) → P e → P (take_payload first is e).end
+  payload_keeps first is e i = go (not (reserved_bits first == 0) || is_empty is)
+    where
+      go : (b : Bool) → P (if b then record { end = e; fault = Some violation } else take_items is e).end
+      go true = i
+      go false = items_keep P c.frame is e i
+
+  -- all frames were taken, or one was at fault
+  ends_keep : (fault : Option Fault) (asks : Bool) (n : ℕ) (e : End) → P e → P (ends_as fault asks n e).end
+  ends_keep None asks n e i = c.takes n asks e i
+  ends_keep (Some fault) asks n e i = c.closes (reason_of fault) e i
+
+  -- a packet whose number is new
+  state_keeps : (state : State) (o : Opening) (now : ℕ) (e : End) → P e → P (by_state state o now (with_numbers e (number_opened e.numbers o.number))).end
+  state_keeps states.Open o now e i =
+      let taken = take_payload o.first (items o.payload) (begun e now o.number) in
+      ends_keep taken.fault (asks_in (items o.payload)) o.number taken.end (payload_keeps o.first (items o.payload) (begun e now o.number) (c.begins now o.number e i))
+  state_keeps states.Closing o now e i = c.notes o.number e i
+  state_keeps states.Drained o now e i = c.notes o.number e i
+  state_keeps states.Failed o now e i = c.notes o.number e i
+
+  -- a packet that opened
+  opened_keeps : (o : Opening) (now : ℕ) (e : End) → P e → P (opened_to o now e).end
+  opened_keeps o now e i = go (key_phase o.first) (is_duplicate e.numbers.opened o.number)
+    where
+      go : (a b : Bool) → P (if a then dropped drops.KeyPhase e else (if b then dropped drops.Duplicate e else by_state e.closing.state o now (with_numbers e (number_opened e.numbers o.number)))).end
+      go true b = i
+      go false true = i
+      go false false = state_keeps e.closing.state o now e i
+
+  packet_keeps : (o : Option Opening) (now : ℕ) (e : End) → P e → P (opened_as o now e).end
+  packet_keeps None now e i = i
+  packet_keeps (Some o) now e i = opened_keeps o now e i
+
+  headed_keeps : (r : Result (List ℕ) HeaderError) (p : Policy) (e : End) (now : ℕ) (d : List ℕ) → P e → P (headed r p e now d).end
+  headed_keeps (Err error) p e now d i = i
+  headed_keeps (Ok id) p e now d i = packet_keeps (opening p e d) now e i
+
+  received_keeps : (state : State) (p : Policy) (e : End) (now : ℕ) (d : List ℕ) → P e → P (received_in state p e now d).end
+  received_keeps states.Failed p e now d i = i
+  received_keeps states.Drained p e now d i = i
+  received_keeps states.Open p e now d i = headed_keeps (decoded (fixed_length_id own_id_length) (known e.ids) d) p e now d i
+  received_keeps states.Closing p e now d i = headed_keeps (decoded (fixed_length_id own_id_length) (known e.ids) d) p e now d i
+
+  -- what each step keeps holds after a datagram
+  pub by_received : (p : Policy) (e : End) (now : ℕ) (d : List ℕ) → P e → P (received p e now d).end
+  by_received p e now d i = received_keeps e.closing.state p e now d i

@@ -1,0 +1,57 @@
+-- An injection leaves its end as it is: either it would open and no call is made, or it is dropped.
+use Rattle.std.proofs.Common.{◌≡◌, ℕ, Bool, true, false, List, Option, Some, None, Result, Ok, Err, refl, sym, subst}
+use Rattle.std.specs.Prelude.{if◌then◌else◌}
+use Rattle.std.specs.Option.{is_some}
+use Rattle.quic_packet.specs.Header.{key_phase}
+use Rattle.quic_packet.specs.Datagram.{Opening}
+use Rattle.quic_packet.specs.Destination.{decoded, fixed_length_id}
+use Rattle.quic_packet.specs.declared.packet.HeaderError.{HeaderError}
+use Rattle.quic_machine_next.specs.declared.answers.State.{State}
+use Rattle.quic_machine_next.specs.declared.answers.State.TheVariants as states
+use Rattle.quic_machine_next.specs.declared.answers.DropReason.TheVariants as drops
+use Rattle.quic_machine_next.specs.Ids.{known}
+use Rattle.quic_spaces.specs.Numbers.{expected, number_opened}
+use Rattle.quic_recovery_core.specs.Duplicates.{is_duplicate}
+use Rattle.quic_machine_next.specs.Policy.{Policy}
+use Rattle.quic_machine_next.specs.Parts.{Path, IsSamePath}
+use Rattle.quic_machine_next.specs.End.{End, with_numbers}
+use Rattle.quic_machine_next.specs.Opens.{own_id_length, in_phase, opens_behind, would_open}
+use Rattle.quic_machine_next.specs.Receive.{dropped, by_state, opened_as, opening, headed, received_in}
+use Rattle.quic_machine_next.specs.Machine.{injected_if, after_injected_if, gave}
+
+-- a packet that doesn't open in key phase 0 is dropped
+packet_leaves : (o : Option Opening) (now : ℕ) (e : End) → is_some (in_phase o) ≡ false → (opened_as o now e).end ≡ e
+packet_leaves None now e none = refl
+packet_leaves (Some o) now e none = go (key_phase o.first) none
+  where
+    go : (b : Bool) → is_some (if b then None else Some o) ≡ false
+        → (if b then dropped drops.KeyPhase e else (if is_duplicate e.numbers.opened o.number then dropped drops.Duplicate e else by_state e.closing.state o now (with_numbers e (number_opened e.numbers o.number)))).end ≡ e
+    go true none = refl
+    go false none = cc
+
+headed_leaves : (r : Result (List ℕ) HeaderError) (p : Policy) (e : End) (now : ℕ) (d : List ℕ) → is_some (opens_behind r p (expected e.numbers) d) ≡ false → (headed r p e now d).end ≡ e
+headed_leaves (Err error) p e now d none = refl
+headed_leaves (Ok id) p e now d none = packet_leaves (opening p e d) now e none
+
+received_leaves : (state : State) (p : Policy) (e : End) (now : ℕ) (d : List ℕ) → would_open p e d ≡ false → (received_in state p e now d).end ≡ e
+received_leaves states.Failed p e now d none = refl
+received_leaves states.Drained p e now d none = refl
+received_leaves states.Open p e now d none = headed_leaves (decoded (fixed_length_id own_id_length) (known e.ids) d) p e now d none
+received_leaves states.Closing p e now d none = headed_leaves (decoded (fixed_length_id own_id_length) (known e.ids) d) p e now d none
+
+-- an injection leaves its end as it is
+pub injected_leaves : (p : Policy) (e : End) (now : ℕ) (d : List ℕ) → after_injected_if (would_open p e d) p e now d ≡ e
+injected_leaves p e now d = go (would_open p e d) refl
+  where
+    go : (b : Bool) → would_open p e d ≡ b → after_injected_if b p e now d ≡ e
+    go true is = refl
+    go false is = received_leaves e.closing.state p e now d is
+
+-- what holds of the end as it was, and of it whatever its path counts, holds after an injection
+pub by_injection : (p : Policy) (e : End) (now : ℕ) (d : List ℕ) (P : End → Type 0) → P e → ((path : Path) → IsSamePath e.path path → P (record e { path = path })) → P (after_injected_if (would_open p e d) p e now d)
+by_injection p e now d P same heard = subst P (sym (injected_leaves p e now d)) same
+
+-- it gives no datagram
+pub injected_gives : (b : Bool) (p : Policy) (e : End) (now : ℕ) (d : List ℕ) → gave (injected_if b p e now d) ≡ false
+injected_gives true p e now d = refl
+injected_gives false p e now d = refl

@@ -1,0 +1,168 @@
+-- The machine of two ends over a network: what each event is answered, and what it leaves.
+use Rattle.std.specs.Prelude.{ℕ, ◌≡◌, ◌≢◌, ◌⊎◌, Bool, true, false, List, [], ◌∷◌, ◌++◌, length, slice_get, Option, Some, None, Ok, Err}
+use Rattle.std.specs.Option.{option_to_list}
+use Rattle.quic_wire_core.specs.declared.stream_id.Side.{Side}
+use Rattle.quic_wire_core.specs.declared.stream_id.Side.TheVariants.{Client, Server}
+use Rattle.quic_wire_core.specs.StreamId.{other_side}
+use Rattle.quic_machine_next.specs.declared.answers.State.TheVariants as states
+use Rattle.quic_machine_next.specs.declared.answers.Received.TheVariants as receives
+use Rattle.quic_machine_next.specs.declared.run.RunEvent.{RunEvent}
+use Rattle.quic_machine_next.specs.declared.run.Call.{Call}
+use Rattle.quic_machine_next.specs.declared.run.Call.TheVariants as calls
+use Rattle.quic_machine_next.specs.declared.run.Answer.{Answer}
+use Rattle.quic_machine_next.specs.declared.run.Answer.TheVariants as answers
+use Rattle.quic_machine_next.specs.declared.run.EndView.{EndView}
+use Rattle.quic_machine_next.specs.declared.run.View.{View}
+use Rattle.quic_machine_next.specs.Policy.{Policy}
+use Rattle.quic_machine_next.specs.End.{End, streams_at, with_streams}
+use Rattle.quic_time.specs.Timers.{no_timers, timer_at, each_timer, next_timer}
+use Rattle.quic_machine_next.specs.Opens.{would_open}
+use Rattle.quic_machine_next.specs.Timeouts.{timed_out}
+use Rattle.quic_machine_next.specs.Calls.{is_open, end_tells, end_after_event, end_after_ping}
+use Rattle.quic_machine_next.specs.StreamCalls.{IsStreamAnswer, after_on_streams}
+use Rattle.quic_machine_next.specs.Receive.{received}
+use Rattle.quic_machine_next.specs.Poll.{polled}
+use Rattle.quic_machine_next.specs.Lacking.{LacksWhere}
+
+-- ---- one call at one end; `theirs` are the datagrams that the other end gave
+
+-- what a delivery is answered: no call is made where there is no such datagram
+abbrev pub IsDelivered : Policy → End → ℕ → Option (List ℕ) → Answer → Type 0
+IsDelivered p e now None a = a ≡ answers.NoDatagram
+IsDelivered p e now (Some d) a = (a ≡ answers.Deliver (received p e now d).answer) ⊎ (a ≡ answers.Deliver receives.Failed)
+
+-- what an injection is answered: no call is made where it opens
+abbrev pub injected_if : Bool → Policy → End → ℕ → List ℕ → Answer
+injected_if true p e now d = answers.Opens
+injected_if false p e now d = answers.Inject (received p e now d).answer
+
+-- what a call on streams may be answered, and what it leaves
+abbrev pub AnswersOnStreams : End → Call → Answer → Type 0
+AnswersOnStreams e call a = IsStreamAnswer (is_open e.closing.state) e.streams call a
+
+abbrev pub end_on_streams : End → Call → Answer → End
+end_on_streams e call a = with_streams e (after_on_streams (is_open e.closing.state) (streams_at e) call a)
+
+-- what a call may be answered: what the machine says, or that memory lacks (where it may: `LacksWhere`)
+abbrev pub IsAnswer : Policy → End → List (List ℕ) → Call → Answer → Type 0
+IsAnswer p e theirs calls.Ping a = a ≡ answers.Ping
+IsAnswer p e theirs (calls.Poll now) a = (a ≡ answers.Poll (polled p e now).answer) ⊎ (a ≡ answers.Poll (Err (record {})))
+IsAnswer p e theirs (calls.Timeout now) a = (a ≡ answers.Timeout (timed_out e now).answer) ⊎ (a ≡ answers.Timeout (Err (record {})))
+IsAnswer p e theirs (calls.Deliver delivery) a = IsDelivered p e delivery.now (slice_get theirs delivery.index) a
+IsAnswer p e theirs (calls.Inject injection) a = a ≡ injected_if (would_open p e injection.bytes) p e injection.now injection.bytes
+IsAnswer p e theirs calls.Event a = a ≡ answers.Event (end_tells e)
+IsAnswer p e theirs (calls.Timer timer) a = a ≡ answers.Timer (timer_at timer e.timers)
+IsAnswer p e theirs calls.NextTimeout a = a ≡ answers.NextTimeout (next_timer e.timers)
+IsAnswer p e theirs call a = AnswersOnStreams e call a
+
+-- the end after a delivery
+abbrev pub after_delivered : Policy → End → ℕ → Option (List ℕ) → End
+after_delivered p e now None = e
+after_delivered p e now (Some d) = (received p e now d).end
+
+-- the end after an injection
+abbrev pub after_injected_if : Bool → Policy → End → ℕ → List ℕ → End
+after_injected_if true p e now d = e
+after_injected_if false p e now d = (received p e now d).end
+
+-- what a call leaves, by its answer, where memory served
+abbrev pub after_call : Policy → End → List (List ℕ) → Call → Answer → End
+after_call p e theirs calls.Ping a = end_after_ping e
+after_call p e theirs (calls.Poll now) a = (polled p e now).end
+after_call p e theirs (calls.Timeout now) a = (timed_out e now).end
+after_call p e theirs (calls.Deliver delivery) a = after_delivered p e delivery.now (slice_get theirs delivery.index)
+after_call p e theirs (calls.Inject injection) a = after_injected_if (would_open p e injection.bytes) p e injection.now injection.bytes
+after_call p e theirs calls.Event a = end_after_event e
+after_call p e theirs (calls.Timer timer) a = e
+after_call p e theirs calls.NextTimeout a = e
+after_call p e theirs call a = end_on_streams e call a
+
+-- the datagrams that a call gives
+abbrev pub gives : Policy → End → Call → Answer → List (List ℕ)
+gives p e (calls.Poll now) (answers.Poll (Ok (Some transmit))) = option_to_list (polled p e now).datagram
+gives p e call a = []
+
+-- a poll, a timeout or a delivery lacked memory, and the end fails; or a poll or a timeout came to an end that had failed
+abbrev pub fails : Answer → Bool
+fails (answers.Poll (Err failed)) = true
+fails (answers.Timeout (Err failed)) = true
+fails (answers.Deliver receives.Failed) = true
+fails a = false
+
+-- an end fails at a call, and has no timer then; or it had failed before, and nothing has changed
+abbrev pub HasStopped : End → End → Type 0
+HasStopped e next = (next.closing.state ≡ states.Failed) × (next.closing.reason ≡ None) × (e.closing.state ≡ states.Failed → next ≡ e) × (e.closing.state ≢ states.Failed → next.timers ≡ no_timers)
+
+-- the end that a call leaves
+abbrev pub IsLeft : Bool → Policy → End → List (List ℕ) → Call → Answer → End → Type 0
+IsLeft true p e theirs call a next = HasStopped e next
+IsLeft false p e theirs call a next = next ≡ after_call p e theirs call a
+
+-- ---- two ends
+
+-- both ends, and the datagrams that each has given, in their order
+pub record World : Type 0 where
+  pub client : End
+  pub server : End
+  pub from_client : List (List ℕ)
+  pub from_server : List (List ℕ)
+
+-- what the keys of both ends do
+pub record Policies : Type 0 where
+  pub client : Policy
+  pub server : Policy
+
+-- what the keys of one of the ends do
+abbrev pub policy_at : Side → Policies → Policy
+policy_at Client k = k.client
+policy_at Server k = k.server
+
+-- one of the ends
+abbrev pub end_at : Side → World → End
+end_at Client w = w.client
+end_at Server w = w.server
+
+-- the datagrams that one of the ends gave
+abbrev pub given_by : Side → World → List (List ℕ)
+given_by Client w = w.from_client
+given_by Server w = w.from_server
+
+-- that end changes, and gives these datagrams
+abbrev pub changed : Side → World → End → List (List ℕ) → World
+changed Client w e ds = record w { client = e; from_client = w.from_client ++ ds }
+changed Server w e ds = record w { server = e; from_server = w.from_server ++ ds }
+
+-- an event may be answered so, lacking memory only where its call takes some, and leave the world so
+pub record IsStep (k : Policies) (w : World) (event : RunEvent) (a : Answer) (next : World) : Type 0 where
+  pub answer : IsAnswer (policy_at event.side k) (end_at event.side w) (given_by (other_side event.side) w) event.call a
+  pub end : IsLeft (fails a) (policy_at event.side k) (end_at event.side w) (given_by (other_side event.side) w) event.call a (end_at event.side next)
+  pub others : next ≡ changed event.side w (end_at event.side next) (gives (policy_at event.side k) (end_at event.side w) event.call a)
+  pub lacking : LacksWhere (policy_at event.side k) (end_at event.side w) (given_by (other_side event.side) w) event.call a
+
+-- what is seen of an end; what this stage has no call for is not there
+abbrev pub end_view : End → EndView
+end_view e = record {
+  state = e.closing.state;
+  reason = e.closing.reason;
+  validated = e.path.validated;
+  timers = each_timer e.timers;
+  window = None;
+  current_mtu = None;
+}
+
+-- what is seen of both ends
+abbrev pub view_of : World → View
+view_of w = record { client = end_view w.client; server = end_view w.server }
+
+-- These answers and views may come of the first of these events, one of each for each event in turn, and leave the world so.
+abbrev pub Follows : Policies → World → List RunEvent → List Answer → List View → World → Type 0
+Follows k w events [] [] end = end ≡ w
+Follows k w (event ∷ events) (a ∷ told) (v ∷ vs) end = (next : World) × IsStep k w event a next × (v ≡ view_of next) × Follows k next events told vs end
+Follows k w [] (a ∷ told) vs end = ⊥
+Follows k w events [] (v ∷ vs) end = ⊥
+Follows k w (event ∷ events) (a ∷ told) [] end = ⊥
+
+-- whether an answer gives a datagram
+abbrev pub gave : Answer → Bool
+gave (answers.Poll (Ok (Some transmit))) = true
+gave a = false

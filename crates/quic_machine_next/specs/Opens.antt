@@ -1,0 +1,34 @@
+-- Which datagrams open at an end (RFC 9000, section 12.2).
+use Rattle.std.specs.Prelude.{ℕ, ◌+◌, Bool, if◌then◌else◌, List, Option, Some, None, Result, Ok, Err}
+use Rattle.std.specs.Option.{is_some}
+use Rattle.quic_packet.specs.Header.{key_phase}
+use Rattle.quic_packet.specs.Datagram.{Opening, opened_packet}
+use Rattle.quic_packet.specs.Destination.{decoded, fixed_length_id}
+use Rattle.quic_packet.specs.declared.packet.HeaderError.{HeaderError}
+use Rattle.quic_machine_next.specs.Ids.{known}
+use Rattle.quic_spaces.specs.Numbers.{expected}
+use Rattle.quic_machine_next.specs.Policy.{Policy}
+use Rattle.quic_machine_next.specs.End.{End}
+
+-- how many bytes an own id has
+abbrev pub own_id_length : ℕ
+own_id_length = 8
+
+-- a packet whose key phase is 0
+abbrev pub in_phase : Option Opening → Option Opening
+in_phase None = None
+in_phase (Some o) = if key_phase o.first then None else Some o
+
+-- what a datagram opens to, by what its header says
+abbrev pub opens_behind : Result (List ℕ) HeaderError → Policy → ℕ → List ℕ → Option Opening
+opens_behind (Err e) p expected d = None
+opens_behind (Ok id) p expected d = in_phase (opened_packet p.header p.packet (own_id_length + 1) expected d)
+
+-- What a datagram opens to at an end with these ids, where this number is expected: it has a short header with one of the ids, and its
+-- packet opens under the number to which its number's bytes expand (RFC 9000, section 12.2).
+abbrev pub opens : Policy → List (List ℕ) → ℕ → List ℕ → Option Opening
+opens p ids expected d = opens_behind (decoded (fixed_length_id own_id_length) ids d) p expected d
+
+-- whether a datagram opens at an end, in whatever state the end is, and also where it came before
+abbrev pub would_open : Policy → End → List ℕ → Bool
+would_open p e d = is_some (opens p (known e.ids) (expected e.numbers) d)

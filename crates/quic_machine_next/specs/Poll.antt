@@ -1,0 +1,270 @@
+-- What an end gives when it is polled (RFC 9000, sections 12.2, 13.3 and 14.1).
+use Rattle.std.specs.Prelude.{ℕ, ◌+◌, ◌-◌, ◌≡◌, Bool, true, false, ◌&&◌, ◌||◌, not, nat_le, nat_lt, if◌then◌else◌, List, [], ◌∷◌, ◌++◌, map, length, replicate, Option, Some, None, Result, Ok, Err}
+use Rattle.std.specs.List.{list_any, fold}
+use Rattle.quic_wire_core.specs.declared.shared.EcnCodepoint.TheVariants.{Ect0}
+use Rattle.quic_packet.specs.Number.{truncated}
+use Rattle.quic_wire.specs.Value.{FrameValue, AckValue, ack, ping, stream, asks}
+use Rattle.quic_wire.specs.AckSet.{ack_of_set}
+use Rattle.quic_wire.specs.Writing.{spelling, spelled_all, frame_size}
+use Rattle.quic_wire.specs.Grammar.{Payload}
+use Rattle.quic_packet.specs.Datagram.{sent}
+use Rattle.quic_retransmits.specs.Retransmits.{nothing_waits, merged}
+use Rattle.quic_streams_parts.specs.Table as table
+use Rattle.quic_streams_state.specs.State.{Streams, streams_of}
+use Rattle.quic_streams_state.specs.Waiting.{is_empty, can_send_stream_data}
+use Rattle.quic_streams_state.specs.Control as control
+use Rattle.quic_streams_state.specs.Frames as of_streams
+use Rattle.quic_machine_next.specs.declared.answers.State.{State}
+use Rattle.quic_machine_next.specs.declared.answers.Failed.{Failed}
+use Rattle.quic_machine_next.specs.declared.answers.Transmit.{Transmit}
+use Rattle.quic_machine_next.specs.declared.answers.State.TheVariants as states
+use Rattle.quic_machine_next.specs.declared.answers.LostReason.TheVariants as reasons
+use Rattle.quic_recovery_core.specs.PendingAcks.{can_send, is_filled, after_acks_sent, after_lazy}
+use Rattle.quic_spaces.specs.Acknowledging.{delay_at}
+use Rattle.quic_machine_next.specs.Tracking.{TrackedPacket, carried_in, after_sent, without_record}
+use Rattle.quic_machine_next.specs.Closing.{ticked}
+use Rattle.quic_spaces.specs.Numbers.{can_number, cut_against}
+use Rattle.quic_spaces.specs.Records.{first_record}
+use Rattle.quic_machine_next.specs.Policy.{Policy}
+use Rattle.quic_machine_next.specs.End.{End, with_closing, closed_by, number_of, with_number_given, with_acknowledging, with_ack_timer_at, with_tracking, with_loss_timer, streams_at, with_streams, with_waiting, with_ping}
+
+-- the most bytes of a datagram (RFC 9000, section 14.1)
+abbrev pub current_mtu : ℕ
+current_mtu = 1200
+
+-- ---- what is given
+
+-- The datagram of a packet number, a destination id and frames: its payload is a spelling of them (RFC 9000, sections 12.4 and 17.3.1).
+pub record IsDatagram (p : Policy) (acknowledged number : ℕ) (id : List ℕ) (frames : List FrameValue) (datagram : List ℕ) : Type 0 where
+  pub payload : List ℕ
+  pub spells : Payload frames payload
+  pub is : datagram ≡ sent p.header p.packet number acknowledged id payload
+
+-- number and payload have four bytes at least, so that the sample stands in the datagram (RFC 9001, section 5.4.2)
+abbrev pub padded : ℕ → List ℕ → List ℕ
+padded width payload = payload ++ replicate (4 - (width + length payload)) 0
+
+-- ---- the answer, the datagram and the end that are left
+
+pub record Polled : Type 0 where
+  pub answer : Result (Option Transmit) Failed
+  pub datagram : Option (List ℕ)
+  pub end : End
+
+-- nothing is given
+abbrev pub gives_nothing : End → Polled
+gives_nothing e = record { answer = Ok None; datagram = None; end = e }
+
+-- a datagram, marked ECT(0) (RFC 9000, section 13.4)
+abbrev pub gives_datagram : List ℕ → End → Polled
+gives_datagram d e = record { answer = Ok (Some (record { size = length d; ecn = Some Ect0 })); datagram = Some d; end = e }
+
+-- how many bytes are left for frames: the datagram's less header, number and tag
+abbrev pub frame_room : End → ℕ
+frame_room e = current_mtu - (1 + length e.ids.active.id + (truncated (number_of e) (cut_against e.numbers)).width + 16)
+
+-- ---- what goes into a datagram, one frame behind another
+
+-- the frames so far, how they are written, and the end once they went
+pub record Draft : Type 0 where
+  pub frames : List FrameValue
+  pub bytes : List ℕ
+  pub end : End
+
+-- no frame yet
+abbrev pub no_frames : End → Draft
+no_frames e = record { frames = []; bytes = []; end = e }
+
+-- a frame that is written so goes behind the others, and leaves this end
+abbrev pub with_frame : Draft → FrameValue → List ℕ → End → Draft
+with_frame d f bytes e = record { frames = d.frames ++ f ∷ []; bytes = d.bytes ++ bytes; end = e }
+
+-- whether a frame fits behind those of a draft
+abbrev pub fits : Draft → FrameValue → Bool
+fits d f = nat_le (length d.bytes + frame_size f) (frame_room d.end)
+
+-- PING goes if it waits
+abbrev pub ping_if : Bool → Draft → Draft
+ping_if true d = with_frame d ping (spelling ping) (with_ping d.end false)
+ping_if false d = d
+
+-- PING goes where it waits
+abbrev pub with_ping_frame : Draft → Draft
+with_ping_frame d = ping_if d.end.waiting.ping d
+
+-- frames of control behind those of a draft, which leave these streams, and this to be sent besides
+abbrev pub behind_control : Draft → control.Draft → Draft
+behind_control d c = record { frames = d.frames ++ c.frames; bytes = d.bytes ++ spelled_all c.frames; end = with_streams d.end (streams_of c.state c.pending) }
+
+-- what waits beside the bytes of streams goes, kind by kind, where it fits (RFC 9000, section 13.3)
+abbrev pub with_control_frames : Draft → Draft
+with_control_frames d = behind_control d (control.control_frames (frame_room d.end) (length d.bytes) d.end.streams d.end.waiting.frames nothing_waits)
+
+-- STREAM frames behind the frames of a draft, which leave these streams
+abbrev pub behind_stream : Draft → of_streams.Sent → Draft
+behind_stream d t = record { frames = d.frames ++ map stream t.frames; bytes = d.bytes ++ t.bytes; end = record d.end { streams = t.state } }
+
+-- how many bytes are left behind the frames of a draft
+abbrev pub left : Draft → ℕ
+left d = frame_room d.end - length d.bytes
+
+-- no STREAM frame yet
+abbrev pub no_stream_frames : Draft → of_streams.Sent
+no_stream_frames d = record { frames = []; bytes = []; state = d.end.streams }
+
+-- frames of streams go while one has something to send and there is room
+abbrev pub with_stream_frames : Draft → Draft
+with_stream_frames d = behind_stream d (of_streams.with_stream_frames d.end.transport.send_fairness (left d) (no_stream_frames d))
+
+-- what an ACK frame says at the moment of the end (RFC 9000, section 19.3)
+abbrev pub ack_of : End → AckValue
+ack_of e = ack_of_set (delay_at e.acknowledging e.closing.clock) e.acknowledging.runs None
+
+-- the end after an acknowledgement went
+abbrev pub after_ack : End → End
+after_ack e = with_acknowledging (with_ack_timer_at e None) (after_acks_sent e.acknowledging)
+
+-- ACK goes
+abbrev pub with_ack : Draft → Draft
+with_ack d = with_frame d (ack (ack_of d.end)) (spelling (ack (ack_of d.end))) (after_ack d.end)
+
+-- whether there is a number to acknowledge, and its frame fits behind a draft's
+abbrev pub ack_fits : Draft → Bool
+ack_fits d = is_filled d.end.acknowledging.runs && fits d (ack (ack_of d.end))
+
+-- ACK goes along
+abbrev pub ack_if : Bool → Draft → Draft
+ack_if true d = with_ack d
+ack_if false d = d
+
+-- what asks for an acknowledgement: PING, what has to be told of streams, and their bytes
+pub data Kind : Type 0 where
+  pings : Kind
+  controls : Kind
+  streams : Kind
+
+-- the kinds, in the order in which they go
+abbrev pub order : List Kind
+order = pings ∷ controls ∷ streams ∷ []
+
+-- what waits of a kind goes behind the frames of a draft, where it fits
+abbrev pub put : Draft → Kind → Draft
+put d pings = with_ping_frame d
+put d controls = with_control_frames d
+put d streams = with_stream_frames d
+
+-- what asks goes, kind by kind
+abbrev pub with_asking : Draft → Draft
+with_asking d = fold put d order
+
+-- an ACK that isn't due goes behind what asks, where it fits
+abbrev pub with_late_ack : Draft → Draft
+with_late_ack d = ack_if (ack_fits d) d
+
+-- a due ACK goes before what asks
+abbrev pub composed_if : Bool → End → Draft
+composed_if true e = with_asking (with_ack (no_frames e))
+composed_if false e = with_late_ack (with_asking (no_frames e))
+
+-- what goes into the next datagram, in this order
+abbrev pub composed : End → Draft
+composed e = composed_if (can_send e.acknowledging) e
+
+-- its payload
+abbrev pub payload_of : Draft → List ℕ
+payload_of d = padded (truncated (number_of d.end) (cut_against d.end.numbers)).width d.bytes
+
+-- the datagram with these frames
+abbrev pub datagram_of : Policy → Draft → List ℕ
+datagram_of p d = sent p.header p.packet (number_of d.end) (cut_against d.end.numbers) d.end.ids.active.id (payload_of d)
+
+-- whether a datagram with these frames asks for an acknowledgement (RFC 9000, section 13.2)
+abbrev pub asking : List FrameValue → Bool
+asking frames = list_any asks frames
+
+-- how many bytes the datagram has: header, number, payload and tag
+abbrev pub datagram_size : Draft → ℕ
+datagram_size d = 1 + length d.end.ids.active.id + (truncated (number_of d.end) (cut_against d.end.numbers)).width + length (payload_of d) + 16
+
+-- the packet as it is tracked: it counts against the congestion window where it asks for an acknowledgement (RFC 9002, section 2)
+abbrev pub packet_of : Draft → TrackedPacket
+packet_of d = record {
+  generation = d.end.path.generation;
+  time_sent = d.end.closing.clock;
+  size = if asking d.frames then datagram_size d else 0;
+  asks = asking d.frames;
+  carried = carried_in d.frames;
+}
+
+-- the end after its frames went: the packet is tracked
+abbrev pub tracked : Draft → End
+tracked d = with_tracking d.end (after_sent d.end.tracking (number_of d.end) (packet_of d))
+
+-- the end after it went
+abbrev pub after_given : Policy → Draft → End
+after_given p d = with_loss_timer (with_number_given (p.words d.end.filter.drawn) (tracked d))
+
+-- ---- what waits
+
+-- a probe goes (RFC 9002, section 6.2.4): what has to be sent again of a packet, if there is such a packet, waits once more, and the packet stays tracked; else
+-- PING waits
+abbrev pub record_moved : Option (ℕ × TrackedPacket) → End → End
+record_moved None e = with_ping e true
+record_moved (Some p) e = with_waiting (with_tracking e (record e.tracking { packets = table.put e.tracking.packets p.0 (without_record p.1) }))
+    (record e.waiting { frames = merged e.waiting.frames p.1.carried.retransmits })
+
+-- where nothing waits to be told
+abbrev pub probe_filled : Bool → End → End
+probe_filled true e = record_moved (first_record e.streams e.tracking.packets) e
+probe_filled false e = e
+
+-- where probes wait
+abbrev pub probe_if : Bool → End → End
+probe_if true e = probe_filled (is_empty e.waiting.frames e.streams) e
+probe_if false e = e
+
+-- the end where something waits for each probe to carry
+abbrev pub probed : End → End
+probed e = probe_if (nat_lt 0 e.tracking.probes) e
+
+-- before a datagram is composed, an acknowledgement is due where many packets came that don't ask for one (RFC 9000, section 13.2.1)
+abbrev pub lazied : End → End
+lazied e = with_acknowledging e (after_lazy e.acknowledging)
+
+-- whether something waits beside acknowledgements: PING, what has to be told of streams, or their bytes
+abbrev pub asks_to_go : End → Bool
+asks_to_go e = e.waiting.ping || (not (is_empty e.waiting.frames e.streams) || can_send_stream_data e.streams)
+
+-- whether anything waits to be sent
+abbrev pub waits : End → Bool
+waits e = can_send e.acknowledging || asks_to_go e
+
+-- An end has nothing to send, and no probe waits.
+pub record IsSilent (e : End) : Type 0 where
+  pub nothing_waits : waits e ≡ false
+  pub no_probe : e.tracking.probes ≡ 0
+
+-- something waits: where the numbers are used up, the end closes and gives nothing
+abbrev pub sends : Bool → Policy → End → Polled
+sends true p e = gives_datagram (datagram_of p (composed (lazied e))) (after_given p (composed (lazied e)))
+sends false p e = gives_nothing (closed_by reasons.NumberLimit e)
+
+-- what waits goes, if anything does
+abbrev pub polled_if : Bool → Policy → End → Polled
+polled_if true p e = sends (can_number e.numbers) p e
+polled_if false p e = gives_nothing e
+
+-- what an open end gives, a probe where one waits
+abbrev pub polled_open : Policy → End → Polled
+polled_open p e = polled_if (waits (probed e)) p (probed e)
+
+-- what an end gives by its state
+abbrev pub polled_in : State → Policy → End → ℕ → Polled
+polled_in states.Open p e now = polled_open p (with_closing e (ticked e.closing now))
+polled_in states.Closing p e now = gives_nothing e
+polled_in states.Drained p e now = gives_nothing e
+polled_in states.Failed p e now = record { answer = Err (record {}); datagram = None; end = e }
+
+-- what an end gives at a moment
+abbrev pub polled : Policy → End → ℕ → Polled
+polled p e now = polled_in e.closing.state p e now

@@ -1,0 +1,263 @@
+-- What an end makes of a datagram that comes (RFC 9000, sections 5.2, 12 and 13.1).
+use Rattle.std.specs.Prelude.{ℕ, ◌+◌, Bool, true, false, ◌==◌, ◌||◌, not, nat_le, nat_lt, if◌then◌else◌, List, [], ◌∷◌, Option, Some, None, Result, Ok, Err}
+use Rattle.std.specs.List.{list_any}
+use Rattle.quic_wire_core.specs.TransportError.{ErrorValue}
+use Rattle.quic_wire_core.specs.declared.stream_id.Side.{Side}
+use Rattle.quic_wire_core.specs.declared.stream_id.Side.TheVariants.{Client, Server}
+use Rattle.quic_wire.specs.Value.{FrameValue, AckValue, ack, stream, reset_stream, stop_sending, max_data, max_stream_data, max_streams, stream_data_blocked, streams_blocked, new_token, handshake_done, asks}
+use Rattle.quic_wire.specs.Items.{items}
+use Rattle.quic_packet.specs.Header.{key_phase, reserved_bits}
+use Rattle.quic_packet.specs.Destination.{decoded, fixed_length_id}
+use Rattle.quic_packet.specs.Datagram.{Opening, opened_packet}
+use Rattle.quic_wire.specs.declared.frame.InvalidFrame.{InvalidFrame}
+use Rattle.quic_packet.specs.declared.packet.HeaderError.{HeaderError}
+use Rattle.quic_packet.specs.declared.packet.HeaderError.TheVariants as headers
+use Rattle.quic_machine_next.specs.declared.answers.State.{State}
+use Rattle.quic_machine_next.specs.declared.answers.State.TheVariants as states
+use Rattle.quic_streams_parts.specs.declared.answers.Breach.{Breach}
+use Rattle.quic_streams_parts.specs.declared.answers.Breach.TheVariants.{FlowControl, StreamLimit, StreamState, FinalSize, FrameEncoding, Pieces}
+use Rattle.quic_machine_next.specs.declared.answers.LostReason.{LostReason}
+use Rattle.quic_machine_next.specs.declared.answers.LostReason.TheVariants as reasons
+use Rattle.quic_machine_next.specs.declared.answers.DropReason.{DropReason}
+use Rattle.quic_machine_next.specs.declared.answers.DropReason.TheVariants as drops
+use Rattle.quic_machine_next.specs.declared.answers.Received.{Received}
+use Rattle.quic_machine_next.specs.declared.answers.Received.TheVariants.{Taken, Dropped, Closed}
+use Rattle.quic_machine_next.specs.Closing.{ticked}
+use Rattle.quic_machine_next.specs.Ids.{known}
+use Rattle.quic_spaces.specs.Numbers.{expected, number_opened, number_taken, number_named}
+use Rattle.quic_spaces.specs.Filter.{names_skipped}
+use Rattle.quic_recovery_core.specs.Duplicates.{Seen, is_duplicate}
+use Rattle.quic_recovery_core.specs.PendingAcks.{Pending, after_insert, after_packet, packet_starts_wait}
+use Rattle.quic_time.specs.Timers.{Timers}
+use Rattle.quic_spaces.specs.Acknowledging.{ack_due}
+use Rattle.quic_streams_state.specs.declared.state.StreamsState.{StreamsState}
+use Rattle.quic_streams_state.specs.State.{Streams, streams_of}
+use Rattle.quic_streams_state.specs.Opening.{sending_refusal, max_streams_breach, after_max_streams}
+use Rattle.quic_streams_state.specs.Taking.{stream_breach, after_stream, reset_breach, after_reset_frame, after_stop_sending, after_max_data, after_max_stream_data, stream_data_blocked_breach, streams_blocked_breach}
+use Rattle.quic_machine_next.specs.Policy.{Policy}
+use Rattle.quic_machine_next.specs.End.{End, side_of, with_closing, closed_by, with_numbers, with_streams, with_ack_timer, with_loss_timer}
+use Rattle.quic_machine_next.specs.Opens.{own_id_length}
+use Rattle.quic_machine_next.specs.Tracking.{dir_named}
+use Rattle.quic_machine_next.specs.Acked.{after_acked}
+
+-- ---- what is wrong with a packet that opened
+
+-- a broken rule with its error, or too many runs of a stream that wait
+pub data Fault : Type 0 where
+  broke : ErrorValue → Fault
+  too_many_pieces : Fault
+
+-- an error that names no frame (RFC 9000, section 20.1)
+abbrev pub plain_error : ℕ → ErrorValue
+plain_error code = record { code = code; frame = None }
+
+-- FLOW_CONTROL_ERROR, STREAM_LIMIT_ERROR, STREAM_STATE_ERROR, FINAL_SIZE_ERROR, FRAME_ENCODING_ERROR (RFC 9000, section 20.1)
+abbrev pub fault_of_breach : Breach → Fault
+fault_of_breach FlowControl = broke (plain_error 3)
+fault_of_breach StreamLimit = broke (plain_error 4)
+fault_of_breach StreamState = broke (plain_error 5)
+fault_of_breach FinalSize = broke (plain_error 6)
+fault_of_breach FrameEncoding = broke (plain_error 7)
+fault_of_breach Pieces = too_many_pieces
+
+-- the fault of a broken rule of streams, where one was broken
+abbrev pub fault_of : Option Breach → Option Fault
+fault_of None = None
+fault_of (Some b) = Some (fault_of_breach b)
+
+-- FRAME_ENCODING_ERROR in the frame that can't be read
+abbrev pub fault_of_frame : InvalidFrame → Fault
+fault_of_frame x = broke (record { code = 7; frame = x.ty })
+
+-- PROTOCOL_VIOLATION
+abbrev pub violation : Fault
+violation = broke (plain_error 10)
+
+-- INTERNAL_ERROR where too many runs of a stream wait
+abbrev pub error_of : Fault → ErrorValue
+error_of (broke error) = error
+error_of too_many_pieces = plain_error 1
+
+-- why an end closes for a fault
+abbrev pub reason_of : Fault → LostReason
+reason_of (broke error) = reasons.Transport error
+reason_of too_many_pieces = reasons.Pieces
+
+-- ---- frames, one after another
+
+-- the end so far, and what was wrong with the frame that was taken last
+pub record Progress : Type 0 where
+  pub end : End
+  pub fault : Option Fault
+
+-- the next frame is taken
+abbrev pub goes_on : End → Progress
+goes_on e = record { end = e; fault = None }
+
+-- a frame that only servers send: a server that gets one has a peer that breaks the rules (RFC 9000, sections 19.7 and 19.20)
+abbrev pub fault_at : Side → Option Fault
+fault_at Client = None
+fault_at Server = Some violation
+
+-- whether a number lies above all own ones that were named before
+abbrev pub is_above : Option ℕ → ℕ → Bool
+is_above None n = true
+is_above (Some m) n = nat_lt m n
+
+-- An ACK frame: the greatest number that it names counts, whatever else it names; then the tracked packets that it names are acknowledged, and others
+-- lost. Its counts of marks are ignored. A number that was never given is a broken rule (RFC 9000, section 13.1), and so is the one that was left out last.
+abbrev pub names_ungiven : AckValue → End → Bool
+names_ungiven a e = nat_le e.numbers.next a.largest || list_any (λ r. names_skipped e.filter.last r.0 r.1) a.ranges
+
+abbrev pub take_ack : AckValue → End → Progress
+take_ack a e = if names_ungiven a e then record { end = e; fault = Some violation }
+    else goes_on (after_acked (is_above e.numbers.largest_acked a.largest) a (with_numbers e (number_named e.numbers a.largest)))
+
+-- what a frame on streams makes of them: a rule that it broke, if it broke one, and the streams that it leaves
+abbrev pub on_streams : Option Breach → Streams → End → Progress
+on_streams breach t e = record { end = with_streams e t; fault = fault_of breach }
+
+-- a frame on streams that queues nothing beside their bytes
+abbrev pub on_state : Option Breach → StreamsState → End → Progress
+on_state breach s e = on_streams breach (streams_of s e.waiting.frames) e
+
+-- what a frame makes of the end; those of other kinds are read, and do nothing yet
+abbrev pub take_frame : FrameValue → End → Progress
+take_frame (ack a) e = take_ack a e
+take_frame (stream f) e = on_streams (stream_breach e.streams f) (after_stream e.streams e.waiting.frames f) e
+take_frame (reset_stream f) e = on_streams (reset_breach e.streams f) (after_reset_frame e.streams e.waiting.frames f) e
+take_frame (stop_sending f) e = on_state (sending_refusal e.streams f.id) (after_stop_sending e.streams f) e
+take_frame (max_data limit) e = on_state None (after_max_data e.streams limit) e
+take_frame (max_stream_data f) e = on_state (sending_refusal e.streams f.id) (after_max_stream_data e.streams f.id f.limit) e
+take_frame (max_streams f) e = on_state (max_streams_breach f.count) (after_max_streams (dir_named f.one_way) f.count e.streams) e
+take_frame (stream_data_blocked f) e = on_state (stream_data_blocked_breach e.streams f.id) e.streams e
+take_frame (streams_blocked f) e = on_state (streams_blocked_breach f.count) e.streams e
+take_frame (new_token t) e = record { end = e; fault = fault_at (side_of e) }
+take_frame handshake_done e = record { end = e; fault = fault_at (side_of e) }
+take_frame f e = goes_on e
+
+-- what the next item of a payload comes to
+abbrev pub take_item : Result FrameValue InvalidFrame → End → Progress
+take_item (Ok f) e = take_frame f e
+take_item (Err x) e = record { end = e; fault = Some (fault_of_frame x) }
+
+-- the next step, unless something was wrong
+abbrev pub unless_fault : Option Fault → Progress → (End → Progress) → Progress
+unless_fault None p next = next p.end
+unless_fault (Some fault) p next = p
+
+-- one frame behind another: the second is taken where the first was
+abbrev pub behind : Progress → (End → Progress) → Progress
+behind p next = unless_fault p.fault p next
+
+-- all items of a payload, up to the first fault
+abbrev pub take_items : List (Result FrameValue InvalidFrame) → End → Progress
+take_items [] e = goes_on e
+take_items (i ∷ is) e = behind (take_item i e) (take_items is)
+
+-- whether a payload has no frame at all (RFC 9000, section 12.4)
+abbrev pub is_empty : List (Result FrameValue InvalidFrame) → Bool
+is_empty [] = true
+is_empty (i ∷ is) = false
+
+-- the reserved bits have to be 0, and a packet has to have a frame (RFC 9000, sections 17.3.1 and 12.4)
+abbrev pub take_payload : ℕ → List (Result FrameValue InvalidFrame) → End → Progress
+take_payload first is e =
+    if not (reserved_bits first == 0) || is_empty is then record { end = e; fault = Some violation } else take_items is e
+
+-- ---- the answer, and the end that is left
+
+pub record Outcome : Type 0 where
+  pub answer : Received
+  pub end : End
+
+-- a datagram is dropped and changes nothing
+abbrev pub dropped : DropReason → End → Outcome
+dropped reason e = record { answer = Dropped reason; end = e }
+
+-- the timers after a packet of a number was taken, which asks for an acknowledgement or doesn't
+abbrev pub timers_after : Timers → Pending → ℕ → ℕ → Bool → Seen → Timers
+timers_after t p now n asking seen = if packet_starts_wait p n asking seen then with_ack_timer t (Some (ack_due now)) else t
+
+-- the whole payload of a packet of this number was taken, which asks for an acknowledgement or doesn't: the number is to be acknowledged
+abbrev pub number_noted : ℕ → Bool → End → End
+number_noted n asking e =
+    let now = e.closing.clock in
+    let p = after_insert e.acknowledging n now in
+    record e {
+      numbers = number_taken e.numbers n;
+      acknowledging = after_packet p now n asking e.numbers.opened;
+      timers = timers_after e.timers p now n asking e.numbers.opened;
+    }
+
+-- and the loss timer is set to what the frames left
+abbrev pub after_taken : ℕ → Bool → End → End
+after_taken n asking e = with_loss_timer (number_noted n asking e)
+
+-- all frames were taken, or one was at fault: those before it keep their effect
+abbrev pub ends_as : Option Fault → Bool → ℕ → End → Outcome
+ends_as None asking n e = record { answer = Taken; end = after_taken n asking e }
+ends_as (Some fault) asking n e = record { answer = Closed (error_of fault); end = closed_by (reason_of fault) e }
+
+-- what a payload comes to that asks for an acknowledgement or doesn't, where it was taken so far
+abbrev pub judged : Progress → Bool → ℕ → Outcome
+judged p asking n = ends_as p.fault asking n p.end
+
+-- whether an item of a payload asks for an acknowledgement
+abbrev pub item_asks : Result FrameValue InvalidFrame → Bool
+item_asks (Ok f) = asks f
+item_asks (Err x) = false
+
+-- whether a payload asks for an acknowledgement: one of its frames does (RFC 9000, section 13.2)
+abbrev pub asks_in : List (Result FrameValue InvalidFrame) → Bool
+asks_in is = list_any item_asks is
+
+-- a packet that opened at an open end, under a number that didn't come before
+abbrev pub processed : Opening → ℕ → End → Outcome
+processed o now e = judged (take_payload o.first (items o.payload) (with_closing e (ticked e.closing now))) (asks_in (items o.payload)) o.number
+
+-- a closing end reads nothing of the packet
+abbrev pub by_state : State → Opening → ℕ → End → Outcome
+by_state states.Open o now e = processed o now e
+by_state states.Closing o now e = dropped drops.Closing e
+by_state states.Drained o now e = dropped drops.Drained e
+by_state states.Failed o now e = dropped drops.Failed e
+
+-- a packet that opened: its key phase is 0, and its number is new
+abbrev pub opened_to : Opening → ℕ → End → Outcome
+opened_to o now e =
+    if key_phase o.first then dropped drops.KeyPhase e
+    else (if is_duplicate e.numbers.opened o.number then dropped drops.Duplicate e
+    else by_state e.closing.state o now (with_numbers e (number_opened e.numbers o.number)))
+
+-- what a packet comes to, where it opened
+abbrev pub opened_as : Option Opening → ℕ → End → Outcome
+opened_as None now e = dropped drops.NotOpened e
+opened_as (Some o) now e = opened_to o now e
+
+-- what a datagram opens to at an end, behind an own id
+abbrev pub opening : Policy → End → List ℕ → Option Opening
+opening p e d = opened_packet p.header p.packet (own_id_length + 1) (expected e.numbers) d
+
+-- why a datagram with such a header is dropped
+abbrev pub drop_of : HeaderError → DropReason
+drop_of headers.TooShort = drops.TooShort
+drop_of headers.NotShort = drops.NotShort
+drop_of headers.FixedBit = drops.FixedBit
+drop_of headers.UnknownId = drops.UnknownId
+
+-- what a datagram comes to, by what its header says
+abbrev pub headed : Result (List ℕ) HeaderError → Policy → End → ℕ → List ℕ → Outcome
+headed (Err error) p e now d = dropped (drop_of error) e
+headed (Ok id) p e now d = opened_as (opening p e d) now e
+
+-- an end that is drained or has failed drops all
+abbrev pub received_in : State → Policy → End → ℕ → List ℕ → Outcome
+received_in states.Failed p e now d = dropped drops.Failed e
+received_in states.Drained p e now d = dropped drops.Drained e
+received_in states.Open p e now d = headed (decoded (fixed_length_id own_id_length) (known e.ids) d) p e now d
+received_in states.Closing p e now d = headed (decoded (fixed_length_id own_id_length) (known e.ids) d) p e now d
+
+-- what an end makes of a datagram at a moment
+abbrev pub received : Policy → End → ℕ → List ℕ → Outcome
+received p e now d = received_in e.closing.state p e now d

@@ -1,0 +1,50 @@
+-- Two ends that were made for one another, and keys that are lawful.
+use Rattle.std.specs.Prelude.{ℕ, ◌≡◌, Bool, List, [], length, Ok}
+use Rattle.quic_packet.specs.Keys.{KeepsForm, KeepsLength, AddsTag}
+use Rattle.quic_wire_core.specs.declared.stream_id.Side.TheVariants.{Client, Server}
+use Rattle.quic_parameters.specs.ParametersRead.{parameters_at}
+use Rattle.quic_config.specs.Transport.{Settings, IsInRange, parameters_of}
+use Rattle.quic_machine_next.specs.Policy.{Policy, CanOpen}
+use Rattle.quic_machine_next.specs.End.{MadeFrom}
+use Rattle.quic_machine_next.specs.Opens.{own_id_length}
+use Rattle.quic_machine_next.specs.Machine.{World, Policies}
+
+-- how one end was made: its settings, the parameter bytes that they come to, its first id, the moment, whether the path was validated, and the first word
+-- that its random source answered
+pub record Making : Type 0 where
+  pub settings : Settings
+  pub parameters : List ℕ
+  pub id : List ℕ
+  pub moment : ℕ
+  pub validated : Bool
+  pub word : ℕ
+
+-- the parameter bytes say the settings, which are in range, and the id has the length of an own id
+pub record IsMaking (m : Making) : Type 0 where
+  pub range : IsInRange m.settings
+  pub says : parameters_at m.parameters ≡ Ok (parameters_of m.settings)
+  pub id : length m.id ≡ own_id_length
+
+-- One client and one server, each made from the other's parameter bytes and first id; neither has given anything.
+pub record AreStarted (w : World) : Type 0 where
+  pub client_making : Making
+  pub server_making : Making
+  pub client_is : IsMaking client_making
+  pub server_is : IsMaking server_making
+  pub client : MadeFrom Client client_making.settings server_making.parameters client_making.id server_making.id client_making.moment client_making.validated client_making.word w.client
+  pub server : MadeFrom Server server_making.settings client_making.parameters server_making.id client_making.id server_making.moment server_making.validated server_making.word w.server
+  pub client_gave : w.from_client ≡ []
+  pub server_gave : w.from_server ≡ []
+
+-- protecting keeps the top three bits of the first byte and how many bytes the number has; sealing adds 16 bytes (RFC 9001, sections 5.3 and 5.4)
+pub record IsLawful (p : Policy) : Type 0 where
+  pub form : KeepsForm p.header.mask
+  pub width : KeepsLength p.header.hide
+  pub tag : AddsTag p.packet.seal
+
+-- the keys are lawful, and mates in both directions
+pub record AreKeys (k : Policies) : Type 0 where
+  pub client : IsLawful k.client
+  pub server : IsLawful k.server
+  pub to_server : CanOpen k.client k.server
+  pub to_client : CanOpen k.server k.client

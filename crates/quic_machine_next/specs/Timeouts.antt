@@ -1,0 +1,46 @@
+-- What an end makes of a moment at which timers expire (RFC 9000, section 13.2.1; RFC 9002, section 6.2).
+use Rattle.std.specs.Prelude.{ℕ, Bool, true, false, Option, Some, None, Result, Ok, Err}
+use Rattle.quic_recovery_core.specs.PendingAcks.{after_timeout}
+use Rattle.quic_time.specs.Timers.{has_come}
+use Rattle.quic_machine_next.specs.declared.answers.State.{State}
+use Rattle.quic_machine_next.specs.declared.answers.State.TheVariants as states
+use Rattle.quic_machine_next.specs.declared.answers.Failed.{Failed}
+use Rattle.quic_machine_next.specs.Closing.{ticked}
+use Rattle.quic_machine_next.specs.Tracking.{after_loss_timeout}
+use Rattle.quic_machine_next.specs.End.{End, with_closing, with_acknowledging, with_ack_timer_at, with_tracking, with_loss_timer}
+use Rattle.quic_machine_next.specs.Acked.{losses_detected}
+
+-- the answer, and the end that is left
+pub record TimedOut : Type 0 where
+  pub answer : Result (Unit {0}) Failed
+  pub end : End
+
+-- the timer of acknowledgements expired or not: it is stopped then, and an acknowledgement is due where packets ask for one
+abbrev pub acks_expired : Bool → End → End
+acks_expired true e = with_acknowledging (with_ack_timer_at e None) (after_timeout e.acknowledging)
+acks_expired false e = e
+
+-- the loss timer expired: where it was set for a packet that may be lost by time, loss is detected; else probes wait (RFC 9002, section 6.2.1)
+abbrev pub loss_judged : Option ℕ → End → End
+loss_judged None e = with_tracking e (after_loss_timeout e.tracking)
+loss_judged (Some moment) e = losses_detected e
+
+-- the loss timer expired or not
+abbrev pub loss_expired : Bool → End → End
+loss_expired true e = loss_judged e.tracking.loss_time e
+loss_expired false e = e
+
+-- the timers of an open end that expired up to its moment; the loss timer is set anew
+abbrev pub expired : End → End
+expired e = with_loss_timer (acks_expired (has_come e.timers.max_ack_delay e.closing.clock) (loss_expired (has_come e.timers.loss_detection e.closing.clock) e))
+
+-- an end that isn't open has no timer
+abbrev pub timed_out_in : State → End → ℕ → TimedOut
+timed_out_in states.Open e now = record { answer = Ok tt; end = expired (with_closing e (ticked e.closing now)) }
+timed_out_in states.Closing e now = record { answer = Ok tt; end = e }
+timed_out_in states.Drained e now = record { answer = Ok tt; end = e }
+timed_out_in states.Failed e now = record { answer = Err (record {}); end = e }
+
+-- what an end makes of a moment
+abbrev pub timed_out : End → ℕ → TimedOut
+timed_out e now = timed_out_in e.closing.state e now

@@ -1,0 +1,131 @@
+//! What the calls of an end answer.
+ghost use Rattle.std.specs.Prelude.{◌≡◌};
+
+use quic_streams_parts::StreamEvent;
+use quic_wire_core::{EcnCodepoint, TransportError};
+use thiserror::Error;
+
+/// Whether an end is open (RFC 9000, section 10).
+#[derive(Clone, Copy, Debug, PartialEq, Eq)]
+pub enum State {
+    /// It sends and receives.
+    Open,
+    /// It only repeats its close. No call gives it yet: an end that closes is drained at once.
+    Closing,
+    /// It sends nothing more, and drops what comes.
+    Drained,
+    /// It met want of memory where a datagram was taken or given, and is of no more use.
+    Failed,
+}
+
+/// Why an end is no longer open (quinn-proto's `ConnectionError`).
+#[derive(Debug, Drop)]
+pub enum LostReason {
+    /// The application closed it. No call gives it yet.
+    Application,
+    /// More than 2048 runs of a stream waited to be read.
+    Pieces,
+    /// Nothing was heard for the idle timeout. No call gives it yet.
+    Idle,
+    /// A limit of the key was reached. No call gives it yet.
+    KeyLimit,
+    /// The packet numbers were used up.
+    NumberLimit,
+    /// The peer broke a rule.
+    Transport(TransportError),
+}
+
+impl LostReason {
+    /// The same reason again, which takes no memory.
+    pub fn copied(&self) -> LostReason
+        ensures { result ≡ self.now }
+    {
+        match self {
+            LostReason::Application => LostReason::Application,
+            LostReason::Pieces => LostReason::Pieces,
+            LostReason::Idle => LostReason::Idle,
+            LostReason::KeyLimit => LostReason::KeyLimit,
+            LostReason::NumberLimit => LostReason::NumberLimit,
+            LostReason::Transport(error) => LostReason::Transport(error.copied()),
+        }
+    }
+}
+
+/// What the application is told (quinn-proto's `Event`).
+#[derive(Debug, Drop)]
+pub enum Event {
+    /// Something happened to a stream.
+    Stream(StreamEvent),
+    /// The end is lost. It is told once, and never of an end that has failed.
+    Lost(LostReason),
+}
+
+/// Why a datagram was dropped. Nothing in the end has changed, but that the new number of one that a closing end opened counts
+/// as seen.
+#[derive(Clone, Copy, Debug, PartialEq, Eq)]
+pub enum DropReason {
+    /// The bytes end within the id, or there are fewer than 20 behind it (RFC 9001, section 5.4.2).
+    TooShort,
+    /// A long header (RFC 9000, section 17.2).
+    NotShort,
+    /// The fixed bit is 0 (RFC 9000, section 17.3.1).
+    FixedBit,
+    /// The destination id is none that is in use.
+    UnknownId,
+    /// The key refused it.
+    NotOpened,
+    /// Another key phase, and keys are never updated here (RFC 9001, section 6).
+    KeyPhase,
+    /// Its number came before, or is too old to tell (RFC 9000, section 12.3).
+    Duplicate,
+    /// The end is closing. No call gives it yet.
+    Closing,
+    /// The end is drained.
+    Drained,
+    /// The end has failed.
+    Failed,
+}
+
+/// What a received datagram comes to.
+#[derive(Debug, Drop)]
+pub enum Received {
+    /// All its frames were taken.
+    Taken,
+    /// It was dropped.
+    Dropped(DropReason),
+    /// It broke a rule, which closed the end.
+    Closed(TransportError),
+    /// Memory lacked: the end has failed for good.
+    Failed,
+}
+
+/// The end has failed: memory lacked now or before.
+#[derive(Clone, Copy, Debug, PartialEq, Eq, Error)]
+#[error("the end has failed")]
+pub struct Failed;
+
+/// A datagram that was given out (quinn-proto's `Transmit`).
+#[derive(Clone, Copy, Debug, PartialEq, Eq)]
+pub struct Transmit {
+    /// How many bytes it has.
+    pub size: usize,
+    /// How it is to be marked.
+    pub ecn: Option<EcnCodepoint>,
+}
+
+/// Why no end was made; tested in this order.
+#[derive(Clone, Copy, Debug, PartialEq, Eq, Error)]
+pub enum ConfigError {
+    /// The peer's transport parameters are malformed, or have a value out of range.
+    #[error("the peer's transport parameters can't be read")]
+    Parameters,
+    /// The own id hasn't eight bytes, or the peer's has none.
+    #[error("an id of the wrong length")]
+    IdLength,
+    /// A size of datagrams is above 65527 bytes, or the least is above what the peer takes.
+    #[error("a size of datagrams out of range")]
+    Size,
+    /// Memory lacked.
+    #[error("out of memory")]
+    Memory,
+}

@@ -1,0 +1,14 @@
+//! The reference machine of a QUIC connection: the values that its calls take and answer, what
+//! each call of one endpoint (an *end*) answers and leaves, and runs of two over a network.
+#![tactic(auto)]
+
+mod answers;
+pub mod laws;
+mod run;
+
+pub use answers::{ConfigError, DropReason, Event, Failed, LostReason, Received, State, Transmit};
+pub use quic_config::{IdleTimeout, TransportConfig};
+pub use quic_time::{Instant, Timer};
+pub use run::{
+    Answer, Call, Datagram, Delivery, EndView, Injection, Nexts, ReadCall, RunEvent, View,
+};

@@ -1,0 +1,97 @@
+-- Injections that are answered as the machine does, and as it doesn't.
+use Rattle.std.proofs.Common.{◌≡◌, ℕ, zero, suc, List, [], Some, None, Bool, true, false, refl, sym, ap, ◌∙◌, subst}
+use Rattle.std.specs.Prelude.{slice_get, ◌↔◌, if◌then◌else◌}
+use Rattle.quic_wire_core.specs.declared.stream_id.Side.{Side}
+use Rattle.quic_wire_core.specs.declared.stream_id.Side.TheVariants.{Client, Server}
+use Rattle.quic_machine_next.specs.declared.answers.Received.TheVariants as receives
+use Rattle.quic_machine_next.specs.declared.answers.DropReason.TheVariants as drops
+use Rattle.quic_machine_next.specs.declared.run.Answer.TheVariants as answers
+use Rattle.quic_machine_next.specs.declared.run.Call.{Call}
+use Rattle.quic_machine_next.specs.declared.run.Call.TheVariants as calls
+use Rattle.quic_machine_next.specs.declared.run.Answer.{Answer}
+use Rattle.quic_machine_next.specs.declared.run.Injection.{Injection}
+use Rattle.quic_machine_next.specs.declared.run.RunEvent.{RunEvent}
+use Rattle.quic_machine_next.specs.Machine.{IsStep}
+use Rattle.quic_headline_next.specs.Runs.{In, until, ids_of}
+use Rattle.quic_headline_next.specs.Headline.{used, IsAt, IsHonest, IsRun, OpensExactly, would_open_at}
+use Rattle.quic_worked_next.specs.Worked.{worked_policies, started, hello_datagram}
+use Rattle.quic_worked_next.specs.Broken.{IsNoRun, injects, injected_run, always_opens, never_opens}
+use Rattle.quic_worked_next.proofs.WorkedHonest.{are_started, side_of, call_of, uses}
+use Rattle.quic_worked_next.proofs.WorkedKeys.{are_keys}
+use Rattle.quic_worked_next.proofs.BrokenRuns.{stops}
+use Rattle.quic_worked_next.proofs.Codes.{no_codes}
+
+-- ---- the machine answers so
+
+opens_there : IsStep worked_policies started (injects Server hello_datagram) answers.Opens started
+opens_there = record { answer = refl; end = refl; others = refl; lacking = tt }
+
+drops_here : IsStep worked_policies started (injects Client hello_datagram) (answers.Inject (receives.Dropped drops.UnknownId)) started
+drops_here = record { answer = refl; end = refl; others = refl; lacking = tt }
+
+pub injected_is_run : IsRun injected_run started
+injected_is_run = record {
+  codes = no_codes injected_run.events refl;
+  follows = (started, opens_there, refl, (started, drops_here, refl, refl));
+  from_client = refl;
+  from_server = refl;
+}
+
+-- no application makes a call
+own_at : (side : Side) (i id : ℕ) (call : Call) → slice_get injected_run.events i ≡ Some (record { side = side; call = call }) → used call ≡ Some id → In id (ids_of (until injected_run side i))
+own_at side zero id call q u = let never = uses (injects Server hello_datagram) (record { side = side; call = call }) id q u in cc
+own_at side (suc zero) id call q u = let never = uses (injects Client hello_datagram) (record { side = side; call = call }) id q u in cc
+own_at side (suc (suc i)) id call q u = cc
+
+pub injected_is_honest : IsHonest injected_run
+injected_is_honest = record { start = are_started; keys = are_keys; ids = λ side i id call a at u. own_at side i id call at.event u }
+
+-- the bytes of an injection
+abbrev bytes_in : Call → List ℕ
+bytes_in (calls.Inject injection) = injection.bytes
+bytes_in call = []
+
+-- an answer that stands at a place is the one there
+answer_of : (a b : Answer) → Some a ≡ Some b → b ≡ a
+answer_of a b q = let same : a ≡ b = cc in sym same
+
+-- where an injection that stands at a place opens, and is answered so, or neither
+exact_at : (b : Bool) (a : Answer) → a ≡ (if b then answers.Opens else answers.Inject (receives.Dropped drops.UnknownId)) → (a ≡ answers.Opens) ↔ (b ≡ true)
+exact_at true a is = (λ opens. refl, λ opens. is)
+exact_at false a is = (λ opens. let clash = sym is ∙ opens in cc, λ never. absurd cc)
+
+judged : (i : ℕ) (side : Side) (injection : Injection) (a : Answer) → IsAt injected_run i side (calls.Inject injection) a → (a ≡ answers.Opens) ↔ (would_open_at injected_run side i injection.bytes ≡ true)
+judged zero side injection a at =
+    let e : RunEvent = injects Server hello_datagram in
+    let f : RunEvent = record { side = side; call = calls.Inject injection } in
+    let sides : Server ≡ side = side_of e f at.event in
+    let bytes : hello_datagram ≡ injection.bytes = ap bytes_in (call_of e f at.event) in
+    let there : would_open_at injected_run side 0 injection.bytes ≡ true = subst (λ (s : Side). would_open_at injected_run s 0 injection.bytes ≡ true) sides (subst (λ (d : List ℕ). would_open_at injected_run Server 0 d ≡ true) bytes refl) in
+    subst (λ (b : Bool). (a ≡ answers.Opens) ↔ (b ≡ true)) (sym there) (exact_at true a (answer_of answers.Opens a at.answer))
+judged (suc zero) side injection a at =
+    let e : RunEvent = injects Client hello_datagram in
+    let f : RunEvent = record { side = side; call = calls.Inject injection } in
+    let sides : Client ≡ side = side_of e f at.event in
+    let bytes : hello_datagram ≡ injection.bytes = ap bytes_in (call_of e f at.event) in
+    let there : would_open_at injected_run side 1 injection.bytes ≡ false = subst (λ (s : Side). would_open_at injected_run s 1 injection.bytes ≡ false) sides (subst (λ (d : List ℕ). would_open_at injected_run Client 1 d ≡ false) bytes refl) in
+    subst (λ (b : Bool). (a ≡ answers.Opens) ↔ (b ≡ true)) (sym there) (exact_at false a (answer_of (answers.Inject (receives.Dropped drops.UnknownId)) a at.answer))
+judged (suc (suc i)) side injection a at = let none = at.event in cc
+
+pub opens_so : OpensExactly injected_run
+opens_so side i injection a served at = judged i side injection a at
+
+-- ---- answers that the machine doesn't give
+
+pub opens_wrongly : OpensExactly always_opens → ⊥
+opens_wrongly h =
+    let never : false ≡ true = (h Server 0 (record { now = 0; ecn = None; bytes = [] }) answers.Opens refl (record { event = refl; answer = refl })).0 refl in
+    cc
+
+pub takes_wrongly : OpensExactly never_opens → ⊥
+takes_wrongly h = let opens = (h Server 0 (record { now = 0; ecn = None; bytes = hello_datagram }) (answers.Inject receives.Taken) refl (record { event = refl; answer = refl })).1 refl in cc
+
+pub never_always : IsNoRun always_opens
+never_always = stops _ _ _ _ _ (λ opened. cc)
+
+pub never_takes : IsNoRun never_opens
+never_takes = stops _ _ _ _ _ (λ taken. cc)

@@ -1,0 +1,32 @@
+pub mod Codes
+mod Waited
+pub mod Unread
+pub mod WorkedRun
+pub mod WorkedLacks
+pub mod ReorderedRun
+pub mod BrokenRuns
+pub mod BrokenClauses
+pub mod Forgotten
+pub mod WorkedKeys
+pub mod WorkedHonest
+pub mod WorkedNumber
+pub mod Named
+mod Injected
+mod ClosedRuns
+pub mod WrongRuns
+pub mod LostRuns
+pub mod WrongAcks
+pub mod OwnIds
+pub mod Honest
+pub mod PairedRun
+mod PairedMachines
+mod PickedRun
+pub mod CreditRuns
+mod RaisedRun
+mod ChunkedRun
+pub mod TimedRun
+mod MeasuredRun
+mod SkippedRun
+mod ProbedRun
+mod LimitedRun
+mod UsedUpRun

@@ -1,0 +1,206 @@
+-- The worked run, event by event: what each is answered, and what it leaves.
+use Rattle.std.proofs.Common.{◌≡◌, ◌<◌, ℕ, List, [], ◌∷◌, Some, Ok, Bool, true, false, refl, inl, subst, sym, lit<, arith}
+use Rattle.quic_wire_core.specs.declared.stream_id.Side.TheVariants.{Client, Server}
+use Rattle.quic_wire.specs.Value.{stream}
+use Rattle.quic_wire.specs.Grammar.{Numbers, Payload}
+use Rattle.quic_parameters.specs.ParametersRead.{entry_at, whole_at, met_after, met_within, met_in, values_met, judged, parameters_at}
+use Rattle.quic_machine_next.specs.declared.answers.Received.TheVariants as receives
+use Rattle.quic_machine_next.specs.declared.answers.DropReason.TheVariants as drops
+use Rattle.quic_machine_next.specs.declared.run.ReadCall.{ReadCall}
+use Rattle.quic_machine_next.specs.declared.run.Answer.TheVariants as answers
+use Rattle.quic_config.specs.Transport.{default_settings, parameters_of}
+use Rattle.quic_streams_state.specs.Reading.{told_bytes, after_read_begun}
+use Rattle.quic_machine_next.specs.End.{End, MadeFrom, IsMade, streams_at, with_streams}
+use Rattle.quic_machine_next.specs.Machine.{World, IsStep, Follows, changed, view_of}
+use Rattle.quic_machine_next.specs.StreamCalls.{IsRead}
+use Rattle.quic_machine_next.specs.Calls.{after_reads}
+use Rattle.quic_machine_next.specs.Lacking.{NextsLack}
+use Rattle.quic_machine_next.specs.Poll.{IsDatagram}
+use Rattle.quic_headline_next.specs.Runs.{Packet, WasTaken, HasArrived, EndHasArrived}
+use Rattle.quic_headline_next.specs.Observer.{took}
+use Rattle.quic_worked_next.specs.Worked.{NextAnswers, ReadsAs, ReadsBy, two_chunks, worked_parameters, client_id, server_id, client_made, server_made, started, once_opened, once_written, once_ended, once_sent, once_taken, once_accepted, once_read, hello_frame, hello_payload, hello_datagram, opens_stream, writes_hello, finishes_stream, asks_datagram, delivers, accepts_stream, reads_stream, all_nexts, gives_bytes, worked_policies, worked_events, worked_answers, open_view, sent_view, waiting_view, worked_views, worked_run}
+
+pub parameters_say : parameters_at worked_parameters ≡ Ok (parameters_of default_settings)
+unfolding parameters_at judged values_met met_in met_within met_after whole_at entry_at
+parameters_say = refl
+
+pub client_is_made : MadeFrom Client default_settings worked_parameters client_id server_id 0 true 63
+    client_made
+client_is_made =
+    subst (λ read. IsMade Client default_settings read client_id server_id 0 true 63 client_made)
+    (sym parameters_say) refl
+
+pub server_is_made : MadeFrom Server default_settings worked_parameters server_id client_id 0 true 63
+    server_made
+server_is_made =
+    subst (λ read. IsMade Server default_settings read server_id client_id 0 true 63 server_made)
+    (sym parameters_say) refl
+
+pub opens : IsStep worked_policies started opens_stream (answers.Open (Some 0)) once_opened
+opens = record { answer = refl; end = refl; others = refl; lacking = tt }
+
+pub writes : IsStep worked_policies once_opened writes_hello (answers.Write (Ok 5)) once_written
+writes = record { answer = inl refl; end = refl; others = refl; lacking = λ lacks. cc }
+
+pub finishes : IsStep worked_policies once_written finishes_stream (answers.Finish (Ok tt)) once_ended
+finishes = record { answer = inl refl; end = refl; others = refl; lacking = λ lacks. cc }
+
+pub gives : IsStep worked_policies once_ended asks_datagram (gives_bytes 34) once_sent
+unfolding once_sent
+gives = record { answer = inl refl; end = refl; others = refl; lacking = tt }
+
+pub takes : IsStep worked_policies once_sent delivers (answers.Deliver receives.Taken) once_taken
+unfolding once_taken
+takes = record { answer = inl refl; end = refl; others = refl; lacking = tt }
+
+pub drops_duplicate : IsStep worked_policies once_taken delivers
+    (answers.Deliver (receives.Dropped drops.Duplicate)) once_taken
+unfolding once_taken
+drops_duplicate = record { answer = inl refl; end = refl; others = refl; lacking = tt }
+
+pub accepts : IsStep worked_policies once_taken accepts_stream (answers.Accept (Some 0)) once_accepted
+unfolding once_taken
+accepts = record { answer = refl; end = refl; others = refl; lacking = tt }
+
+-- a read at one end of this stream, in order or not, by these bounds, is answered so, and leaves this end
+pub record ReadsSo (e : End) (id : ℕ) (ordered : Bool) (mosts : List ℕ) (nexts : NextAnswers) (next : End) : Type 0 where
+  pub answer : IsRead e.streams id ordered mosts (answers.Read (Ok nexts))
+  pub lacking : NextsLack told_bytes (after_read_begun e.streams id ordered) id mosts nexts
+  pub end : next ≡ with_streams e (after_reads (streams_at e) id ordered mosts nexts)
+
+-- so it is of any read of that stream, in that order, by these bounds
+pub reads_by : (e : End) (id : ℕ) (ordered : Bool) (mosts : List ℕ) (nexts : NextAnswers) (next : End) → ReadsSo e id ordered mosts nexts next
+    → (read : ReadCall) → ReadsAs id ordered mosts read → ReadsSo e read.id read.ordered read.nexts.items nexts next
+reads_by e id ordered mosts nexts next so read by =
+    let by_mosts : ReadsSo e id ordered read.nexts.items nexts next = subst (λ (ms : List ℕ). ReadsSo e id ordered ms nexts next) (sym by.bounds) so in
+    let by_order : ReadsSo e id read.ordered read.nexts.items nexts next = subst (λ (b : Bool). ReadsSo e id b read.nexts.items nexts next) (sym by.ordered) by_mosts in
+    subst (λ (n : ℕ). ReadsSo e n read.ordered read.nexts.items nexts next) (sym by.id) by_order
+
+-- it is a step of the server, which gives no datagram
+pub reads_at : (w next : World) (id : ℕ) (ordered : Bool) (mosts : List ℕ) (nexts : NextAnswers) → ReadsSo w.server id ordered mosts nexts next.server → next ≡ changed Server w next.server []
+    → (read : ReadCall) → ReadsAs id ordered mosts read → IsStep worked_policies w (reads_stream read) (answers.Read (Ok nexts)) next
+reads_at w next id ordered mosts nexts so others read by =
+    let all = reads_by w.server id ordered mosts nexts next.server so read by in
+    record { answer = all.answer; end = all.end; others = others; lacking = all.lacking }
+
+reads_two : ReadsSo once_accepted.server 0 true two_chunks all_nexts once_read.server
+unfolding once_taken
+reads_two = record { answer = (refl, (inl refl, (inl refl, tt))); lacking = (λ lacks. cc, (λ lacks. cc, tt)); end = refl }
+
+-- a read gives no datagram
+reads_only : once_read ≡ changed Server once_accepted once_read.server []
+unfolding once_taken
+reads_only = refl
+
+reads : (read : ReadCall) → ReadsBy two_chunks read
+    → IsStep worked_policies once_accepted (reads_stream read) (answers.Read (Ok all_nexts)) once_read
+reads = reads_at once_accepted once_read 0 true two_chunks all_nexts reads_two reads_only
+
+-- what is seen once the datagram was given, and once it was taken
+pub sent_seen : record { client = sent_view; server = open_view } ≡ view_of once_sent
+unfolding once_sent
+sent_seen = refl
+
+taken_seen : record { client = sent_view; server = waiting_view } ≡ view_of once_taken
+unfolding once_taken
+taken_seen = refl
+
+accepted_seen : record { client = sent_view; server = waiting_view } ≡ view_of once_accepted
+unfolding once_taken
+accepted_seen = refl
+
+read_seen : record { client = sent_view; server = waiting_view } ≡ view_of once_read
+unfolding once_taken
+read_seen = refl
+
+pub follows : (read : ReadCall) → ReadsBy two_chunks read
+    → Follows worked_policies started (worked_events read) worked_answers worked_views once_read
+follows read by = (
+  once_opened,
+  opens,
+  refl,
+  (
+    once_written,
+    writes,
+    refl,
+    (
+      once_ended,
+      finishes,
+      refl,
+      (
+        once_sent,
+        gives,
+        sent_seen,
+        (
+          once_taken,
+          takes,
+          taken_seen,
+          (once_taken, drops_duplicate, taken_seen, (once_accepted, accepts, accepted_seen, (once_read, reads read by, read_seen, refl))),
+        ),
+      ),
+    ),
+  ),
+)
+
+-- the client gave the datagram, and the server none
+pub gave_hello : hello_datagram ∷ [] ≡ once_read.from_client
+unfolding once_taken
+gave_hello = refl
+
+pub gave_none : [] ≡ once_read.from_server
+unfolding once_taken
+gave_none = refl
+
+-- ---- the datagram
+
+-- type, id and length, each in one byte
+header_spelled : Numbers (0x0b ∷ 0x00 ∷ 0x05 ∷ []) (0x0b ∷ 0x00 ∷ 0x05 ∷ [])
+header_spelled = (
+  0x0b ∷ [],
+  0x00 ∷ 0x05 ∷ [],
+  inl (lit< tt, refl),
+  (
+    0x00 ∷ [],
+    0x05 ∷ [],
+    inl (lit< tt, refl),
+    (0x05 ∷ [], [], inl (lit< tt, refl), refl, refl),
+    refl,
+  ),
+  refl,
+)
+
+-- the payload is the frame and nothing else
+pub hello_spelled : Payload (stream hello_frame ∷ []) hello_payload
+hello_spelled = (hello_payload, [], record { written = false; sized = true; offset = refl; ends = tt; text = (0x0b ∷ 0x00 ∷ 0x05 ∷ [], header_spelled, refl) }, refl, refl)
+
+pub hello_is : IsDatagram worked_policies.client 0 0 server_id (stream hello_frame ∷ []) hello_datagram
+hello_is = record { payload = hello_payload; spells = hello_spelled; is = refl }
+
+-- ---- what came
+
+-- the packet that the server took
+abbrev pub hello_packet : Packet
+hello_packet = record { number = 0; frames = stream hello_frame ∷ [] }
+
+pub nothing_before : (read : ReadCall) → took (worked_run read) Server 4 ≡ []
+nothing_before read = refl
+
+pub took_hello : (read : ReadCall) → took (worked_run read) Server 8 ≡ hello_packet ∷ []
+unfolding once_taken
+took_hello read = refl
+
+-- its frame was taken
+pub frame_taken : WasTaken (hello_packet ∷ []) hello_frame
+frame_taken = record { packet = hello_packet; was_taken = inl refl; carried = inl refl }
+
+byte_arrives : (offset : ℕ) → offset < 5 → HasArrived (hello_packet ∷ []) 0 offset
+byte_arrives offset below = record { frame = hello_frame; taken = frame_taken; of_stream = refl; from = omega arith; below = below }
+
+pub arrives : (read : ReadCall) (offset : ℕ) → offset < 5 → HasArrived (took (worked_run read) Server 8) 0 offset
+arrives read offset below = subst (λ (ps : List Packet). HasArrived ps 0 offset) (sym (took_hello read)) (byte_arrives offset below)
+
+end_of_hello : EndHasArrived (hello_packet ∷ []) 0 5
+end_of_hello = record { frame = hello_frame; taken = frame_taken; of_stream = refl; fin = refl; behind = refl }
+
+pub end_arrives : (read : ReadCall) → EndHasArrived (took (worked_run read) Server 8) 0 5
+end_arrives read = subst (λ (ps : List Packet). EndHasArrived ps 0 5) (sym (took_hello read)) end_of_hello

@@ -1,0 +1,123 @@
+-- Runs in which an end closes that has no reason to: the worked run up to the first delivery, with another answer and another view.
+use Rattle.std.specs.Prelude.{◌-◌, ◌^◌, true, List, [], ◌∷◌, ◌++◌, take, replicate, Some, None, Ok}
+use Rattle.quic_wire_core.specs.TransportError.{ErrorValue}
+use Rattle.quic_machine_next.specs.declared.answers.State.TheVariants as states
+use Rattle.quic_machine_next.specs.declared.answers.LostReason.{LostReason}
+use Rattle.quic_machine_next.specs.declared.answers.LostReason.TheVariants as reasons
+use Rattle.quic_machine_next.specs.declared.answers.Received.TheVariants as receives
+use Rattle.quic_machine_next.specs.declared.run.RunEvent.{RunEvent}
+use Rattle.quic_machine_next.specs.declared.run.Answer.{Answer}
+use Rattle.quic_machine_next.specs.declared.run.Answer.TheVariants as answers
+use Rattle.quic_machine_next.specs.declared.run.EndView.{EndView}
+use Rattle.quic_machine_next.specs.Receive.{plain_error}
+use Rattle.quic_machine_next.specs.Machine.{World}
+use Rattle.quic_headline_next.specs.Runs.{Run}
+use Rattle.quic_worked_next.specs.Worked.{worked_policies, started, hello_datagram, sending_events, delivers, gives_bytes, open_view, sent_view, with_client, numbered_from, once_sent, hello_payload, from_client, asks_datagram, after_event, ran}
+use Rattle.quic_worked_next.specs.Losses.{asks_ping}
+
+-- what is seen of an end that closed for a reason: no timer is set any more
+abbrev pub closed_view : LostReason → EndView
+closed_view reason = record {
+  state = states.Drained;
+  reason = Some reason;
+  validated = true;
+  timers = replicate 9 None;
+  window = None;
+  current_mtu = None;
+}
+
+-- the server is handed the client's datagram, answers with an error, and closes for a reason
+abbrev pub refusing : ErrorValue → LostReason → Run
+refusing error reason = record {
+  keys = worked_policies;
+  start = started;
+  events = sending_events ++ delivers ∷ [];
+  answers =
+      answers.Open (Some 0)
+      ∷ answers.Write (Ok 5)
+      ∷ answers.Finish (Ok tt)
+      ∷ gives_bytes 34
+      ∷ answers.Deliver (receives.Closed error)
+      ∷ [];
+  views =
+      replicate 3 (record { client = open_view; server = open_view })
+      ++ record { client = sent_view; server = open_view }
+      ∷ record { client = sent_view; server = closed_view reason }
+      ∷ [];
+  from_client = hello_datagram ∷ [];
+  from_server = [];
+}
+
+-- a server that refuses bytes below the limits that it told, as if they went past them:
+-- FLOW_CONTROL_ERROR (RFC 9000, section 4.1)
+abbrev pub below_limits : Run
+below_limits = refusing (plain_error 3) (reasons.Transport (plain_error 3))
+
+-- a server that refuses the first bytes of a stream as too many pieces, by INTERNAL_ERROR
+abbrev pub early_pieces : Run
+early_pieces = refusing (plain_error 1) reasons.Pieces
+
+-- a client that closes at its first poll for used-up numbers
+abbrev pub early_limit : Run
+early_limit = record {
+  keys = worked_policies;
+  start = started;
+  events = sending_events;
+  answers =
+      answers.Open (Some 0)
+      ∷ answers.Write (Ok 5)
+      ∷ answers.Finish (Ok tt)
+      ∷ answers.Poll (Ok None)
+      ∷ [];
+  views =
+      replicate 3 (record { client = open_view; server = open_view })
+      ++ record { client = closed_view reasons.NumberLimit; server = open_view }
+      ∷ [];
+  from_client = [];
+  from_server = [];
+}
+
+-- ---- numbers that are used up
+
+-- both ends, of which the client gives two numbers more at most: no new end is so, which has given none
+abbrev pub two_left : World
+two_left = with_client started (numbered_from (2 ^ 31 - 17) started.client)
+
+-- the client writes the word, ends its stream, and is asked for a datagram; then a PING is asked for, and another datagram
+abbrev pub last_events : List RunEvent
+last_events = sending_events ++ asks_ping ∷ asks_datagram ∷ []
+
+-- for which no number is left: it gives nothing, and closes
+abbrev pub last_answers : List Answer
+last_answers = answers.Open (Some 0) ∷ answers.Write (Ok 5) ∷ answers.Finish (Ok tt) ∷ gives_bytes 37 ∷ answers.Ping ∷ answers.Poll (Ok None) ∷ []
+
+-- what the events leave
+abbrev pub last_ended : World
+last_ended = ran worked_policies two_left (take 3 last_events) (take 3 last_answers)
+
+unfoldable pub last_given : World
+unfolding once_sent
+last_given = after_event worked_policies last_ended asks_datagram (gives_bytes 37)
+
+abbrev pub last_pinged : World
+last_pinged = after_event worked_policies last_given asks_ping answers.Ping
+
+unfoldable pub last_closed : World
+unfolding last_given
+last_closed = after_event worked_policies last_pinged asks_datagram (answers.Poll (Ok None))
+
+-- the run
+abbrev pub last_run : Run
+last_run = record {
+  keys = worked_policies;
+  start = two_left;
+  events = last_events;
+  answers = last_answers;
+  views =
+      replicate 3 (record { client = open_view; server = open_view })
+      ++ replicate 2 (record { client = sent_view; server = open_view })
+      ++ record { client = closed_view reasons.NumberLimit; server = open_view }
+      ∷ [];
+  from_client = from_client (2 ^ 31 - 17) hello_payload ∷ [];
+  from_server = [];
+}

@@ -1,0 +1,120 @@
+-- A run in which timers expire: the client's datagram isn't acknowledged for 1024 ms, and a probe
+-- goes; then the server takes the datagram, and acknowledges it 25 ms later. And the same run as
+-- machines with a bug show it.
+use Rattle.std.specs.Prelude.{ℕ, List, [], ◌∷◌, ◌++◌, replicate, take, Option, Some, None, Ok}
+use Rattle.quic_wire_core.specs.declared.stream_id.Side.{Side}
+use Rattle.quic_wire_core.specs.declared.stream_id.Side.TheVariants.{Client, Server}
+use Rattle.quic_machine_next.specs.declared.answers.Received.TheVariants as receives
+use Rattle.quic_machine_next.specs.declared.run.RunEvent.{RunEvent}
+use Rattle.quic_machine_next.specs.declared.run.Call.TheVariants as calls
+use Rattle.quic_machine_next.specs.declared.run.Answer.{Answer}
+use Rattle.quic_machine_next.specs.declared.run.Answer.TheVariants as answers
+use Rattle.quic_machine_next.specs.declared.run.View.{View}
+use Rattle.quic_machine_next.specs.Machine.{World, end_at, Follows}
+use Rattle.quic_headline_next.specs.Runs.{Run}
+use Rattle.quic_headline_next.specs.Observer.{terms_of, loss_due, watch}
+use Rattle.quic_worked_next.specs.Worked.{ran, worked_policies, started, delivery, once_sent, sending_events, sending_answers, gives_bytes, hello_datagram, open_view, view_with}
+use Rattle.quic_worked_next.specs.Acknowledged.{ack_payload, client_datagram, client_acked, from_server}
+
+-- an end's timers are served at a moment
+abbrev pub serves : Side → ℕ → RunEvent
+serves side now = record { side = side; call = calls.Timeout now }
+
+-- an end is asked for a datagram at a moment
+abbrev pub asks_at : Side → ℕ → RunEvent
+asks_at side now = record { side = side; call = calls.Poll now }
+
+-- the first datagram of its peer comes to an end at a moment
+abbrev pub comes_at : Side → ℕ → RunEvent
+comes_at side now = record { side = side; call = calls.Deliver (record delivery { now = now }) }
+
+-- the probe: PING, and two bytes of PADDING
+abbrev pub probe : List ℕ
+probe = client_datagram 1 0 (0x01 ∷ 0x00 ∷ 0x00 ∷ [])
+
+-- what comes behind the datagram that is given at moment 0
+abbrev pub later_events : List RunEvent
+later_events =
+    serves Client 1024000000
+    ∷ asks_at Client 1024000000
+    ∷ comes_at Server 1030000000
+    ∷ serves Server 1055000000
+    ∷ asks_at Server 1055000000
+    ∷ comes_at Client 1060000000
+    ∷ []
+
+-- what it is answered
+abbrev pub later_answers : List Answer
+later_answers =
+    answers.Timeout (Ok tt)
+    ∷ gives_bytes 29
+    ∷ answers.Deliver receives.Taken
+    ∷ answers.Timeout (Ok tt)
+    ∷ gives_bytes 32
+    ∷ answers.Deliver receives.Taken
+    ∷ []
+
+-- what the first so many of these leave
+unfoldable pub once_later : ℕ → World
+unfolding client_acked
+once_later n = ran worked_policies once_sent (take n later_events) (take n later_answers)
+
+-- what is seen where the client's loss timer and the server's timer of acknowledgements are set so
+abbrev pub seen_with : Option ℕ → Option ℕ → View
+seen_with loss moment = record { client = view_with loss None; server = view_with None moment }
+
+-- the views, where the client shows its loss timer set to these moments once it expired, once the
+-- probe went, and once one datagram was acknowledged; and the server shows its timer so
+abbrev pub views_with : ℕ → ℕ → ℕ → ℕ → List View
+views_with expired probed answered due =
+    replicate 3 (record { client = open_view; server = open_view })
+    ++ seen_with (Some 1024000000) None
+    ∷ seen_with (Some expired) None
+    ∷ seen_with (Some probed) None
+    ∷ seen_with (Some probed) (Some due)
+    ∷ seen_with (Some probed) None
+    ∷ seen_with (Some probed) None
+    ∷ seen_with (Some answered) None
+    ∷ []
+
+-- the run with these views
+abbrev pub run_seen : List View → Run
+run_seen views = record {
+  keys = worked_policies;
+  start = started;
+  events = sending_events ++ later_events;
+  answers = sending_answers ++ later_answers;
+  views = views;
+  from_client = hello_datagram ∷ probe ∷ [];
+  from_server = from_server 0 ack_payload ∷ [];
+}
+
+-- the run: the wait doubles once the timer expired, and no longer once a datagram was acknowledged.
+-- That took 1060 ms, the first round trip that is measured: half of it is its variation, so the probe,
+-- which went at 1024 ms, is waited for during 1060 ms, four times 530 ms, and 25 ms
+abbrev pub timed_run : Run
+timed_run = run_seen (views_with 2048000000 3072000000 4229000000 1055000000)
+
+-- a client that never waits longer
+abbrev pub never_backs_off : Run
+never_backs_off = run_seen (views_with 1024000000 2048000000 4229000000 1055000000)
+
+-- a client that waits twice as long also behind the acknowledgement
+abbrev pub never_resets : Run
+never_resets = run_seen (views_with 2048000000 3072000000 7434000000 1055000000)
+
+-- a client that never measures a round trip, and waits for 1024 ms again
+abbrev pub never_measures : Run
+never_measures = run_seen (views_with 2048000000 3072000000 2048000000 1055000000)
+
+-- a server that waits 25 ms twice
+abbrev pub waits_twice : Run
+waits_twice = run_seen (views_with 2048000000 3072000000 4229000000 1080000000)
+
+-- when the loss timer of an end is to expire behind so many answers, as an observer reckons it
+abbrev pub due_at : Run → Side → ℕ → Option ℕ
+due_at r side i = loss_due (terms_of (end_at side r.start)) (watch r side i).flight
+
+-- the machine never shows these views
+abbrev pub NeverShows : Run → Type 0
+NeverShows r = (end : World) → Follows r.keys r.start r.events r.answers r.views end → ⊥

@@ -1,0 +1,56 @@
+//! Runs in which an end closes, or refuses a packet, that has no reason to, computed: each breaks a
+//! clause of the headline, and is none that the reference machine makes; and one in which an end
+//! has a reason. Each function does nothing: its contract is the law.
+ghost use Rattle.std.specs.Prelude.{◌≡◌, ◌-◌, ◌^◌, [], ◌∷◌, Some};
+ghost use Rattle.quic_wire_core.specs.declared.stream_id.Side.TheVariants.{Client, Server};
+ghost use Rattle.quic_machine_next.specs.declared.run.ReadCall.{ReadCall};
+ghost use Rattle.quic_machine_next.specs.declared.run.Answer.TheVariants as answers;
+ghost use Rattle.quic_machine_next.specs.declared.answers.Received.TheVariants as receives;
+ghost use Rattle.quic_machine_next.specs.Ids.{known};
+ghost use Rattle.quic_headline_next.specs.Runs.{until};
+ghost use Rattle.quic_machine_next.specs.declared.answers.LostReason.TheVariants as reasons;
+ghost use Rattle.quic_headline_next.specs.Observer.{sents_until, next_number};
+ghost use Rattle.quic_headline_next.specs.Headline.{IsRun};
+ghost use Rattle.quic_headline_next.specs.Causes.{Shows, NoBlame, NumberLimit, PacketCame, TooManyPieces, TakenOrTooMany};
+ghost use Rattle.quic_worked_next.specs.Worked.{worked_policies, started, worked_run, hello_datagram};
+ghost use Rattle.quic_worked_next.specs.Broken.{IsNoRun};
+ghost use Rattle.quic_worked_next.specs.Closed.{below_limits, early_pieces, early_limit, last_run, last_closed};
+
+/// In the worked run the packet of the client comes to the server, which takes it.
+pub fn hello_is_taken()
+    ensures { (read : ReadCall)
+        → (c : PacketCame worked_policies.server (known started.server.ids) (hello_datagram ∷ [])
+        (until (worked_run read) Server 8))
+        × (c.call.answer ≡ answers.Deliver receives.Taken) }
+{}
+
+/// A machine that refuses bytes below the limits that it told blames the other end, and doesn't
+/// take what keeps the rules.
+pub fn below_limits_shows()
+    ensures blame { NoBlame below_limits → ⊥ }
+    ensures taken { TakenOrTooMany below_limits → ⊥ }
+    ensures machine { IsNoRun below_limits }
+{}
+
+/// A machine that closes for too many pieces where one came.
+pub fn early_pieces_show()
+    ensures pieces { TooManyPieces early_pieces → ⊥ }
+    ensures machine { IsNoRun early_pieces }
+{}
+
+/// A machine that closes for used-up numbers before it gave any has all of them left.
+pub fn early_limit_shows()
+    ensures numbers { NumberLimit early_limit → ⊥ }
+    ensures machine { IsNoRun early_limit }
+{}
+
+/// A client that may give one number more gives it, and closes at the next poll for used-up
+/// numbers: one above the number that it gave is 2^31 - 16, and none is acknowledged. It is a run
+/// of the machine, but from no new ends: those give number 0 first, and so 2^31 - 17 datagrams
+/// before this one.
+pub fn used_up_numbers_close()
+    ensures run { IsRun last_run last_closed }
+    ensures shows { Shows last_run Client 5 (Some reasons.NumberLimit) }
+    ensures next { next_number (sents_until last_run Client 6) ≡ 2 ^ 31 - 16 }
+    ensures numbers { NumberLimit last_run }
+{}

@@ -1,0 +1,20 @@
+//! Runs on which the definitions are computed: worked runs that meet the clauses of the headline,
+//! and broken ones that don't.
+#![tactic(auto)]
+
+pub mod acknowledged;
+pub mod broken;
+pub mod chunked;
+pub mod closed;
+pub mod credit;
+pub mod exchange;
+pub mod limited;
+pub mod machines;
+pub mod measured;
+pub mod paired;
+pub mod picked;
+pub mod probed;
+pub mod raised;
+pub mod reordered;
+pub mod timed;
+pub mod worked;

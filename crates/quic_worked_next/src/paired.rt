@@ -1,0 +1,92 @@
+//! A run of two streams at once, of which one is reset and the other stopped, and machines that go
+//! wrong there. Each function does nothing: its contract is the law.
+ghost use Rattle.std.specs.Prelude.{◌≡◌, [], ◌∷◌, Some, None};
+ghost use Rattle.quic_wire_core.specs.declared.stream_id.Side.TheVariants.{Client, Server};
+ghost use Rattle.quic_machine_next.specs.declared.run.ReadCall.{ReadCall};
+ghost use Rattle.quic_headline_next.specs.Runs.{until, written, reset, reads, ids_of, accepts, given_until};
+ghost use Rattle.quic_headline_next.specs.Observer.{took};
+ghost use Rattle.quic_headline_next.specs.Duties.{DutiesAt};
+ghost use Rattle.quic_headline_next.specs.InFlight.{TracksAt};
+ghost use Rattle.quic_headline_next.specs.Headline.{Slices, AcceptsAll, FinishedMeansArrived, IsHonest, IsRun};
+ghost use Rattle.quic_worked_next.specs.Acknowledged.{client_datagram, from_server};
+ghost use Rattle.quic_worked_next.specs.Reordered.{abc, def};
+ghost use Rattle.quic_worked_next.specs.Broken.{IsNoRun, NeverLeads};
+ghost use Rattle.quic_worked_next.specs.Paired.{ReadsSecond, second_bounds, paired_payload, stop_payload, paired_frames, giving_events, giving_answers, reset_refused, paired_run, told_of_reset, pair_giving, reset_forgotten, reset_changed, reset_unaccepted, second_unaccepted, other_bytes};
+
+/// The reference machine runs it, and gives these datagrams: the reset of the first stream goes
+/// with the bytes of the second, and is told to the server's application; the stop of the second
+/// goes with an acknowledgement, and is told to the client's, which writes no more and resets no
+/// stream twice.
+pub fn paired_run_follows()
+    ensures run { (read : ReadCall) → ReadsSecond second_bounds read
+        → IsRun (paired_run read) reset_refused }
+    ensures honest { (read : ReadCall) → read.id ≡ 4 → IsHonest (paired_run read) }
+{}
+
+/// What its lists say.
+pub fn paired_run_tells()
+    ensures opened { (read : ReadCall)
+        → ids_of (until (paired_run read) Client 18) ≡ 0 ∷ 4 ∷ [] }
+    ensures accepted { (read : ReadCall)
+        → accepts (until (paired_run read) Server 18) ≡ 0 ∷ 4 ∷ [] }
+    ensures first { (read : ReadCall) → written 0 (until (paired_run read) Client 18) ≡ abc }
+    ensures second { (read : ReadCall) → written 4 (until (paired_run read) Client 18) ≡ def }
+    ensures code { (read : ReadCall) → reset 0 (until (paired_run read) Client 18) ≡ Some 7 }
+    ensures not_reset { (read : ReadCall) → reset 4 (until (paired_run read) Client 18) ≡ None }
+    ensures given { (read : ReadCall)
+        → given_until (paired_run read) Client 18 ≡ client_datagram 0 0 paired_payload ∷ [] }
+    ensures answered { (read : ReadCall)
+        → given_until (paired_run read) Server 18 ≡ from_server 0 stop_payload ∷ [] }
+    ensures took { (read : ReadCall) → took (paired_run read) Server 18
+        ≡ record { number = 0; frames = paired_frames } ∷ [] }
+    ensures bytes { (read : ReadCall) → read.id ≡ 4
+        → reads 4 (until (paired_run read) Server 18) ≡ record { offset = 0; bytes = def } ∷ [] }
+{}
+
+/// Application calls: a stream that was reset is told to be finished.
+pub fn reset_stream_is_told()
+    ensures arrived { (read : ReadCall) → FinishedMeansArrived (told_of_reset read) → ⊥ }
+    ensures machine { (read : ReadCall) → ReadsSecond second_bounds read
+        → IsNoRun (told_of_reset read) }
+{}
+
+/// Sending: a reset is forgotten once it went, though its datagram came to nobody.
+pub fn reset_is_forgotten()
+    ensures duties { (read : ReadCall) → DutiesAt (pair_giving read) 6 reset_forgotten → ⊥ }
+    ensures machine { NeverLeads giving_events giving_answers reset_forgotten }
+{}
+
+/// Sending: of a datagram with a reset it is kept that it resets another stream.
+pub fn reset_is_changed()
+    ensures tracks { (read : ReadCall) → TracksAt (pair_giving read) 6 reset_changed → ⊥ }
+    ensures machine { NeverLeads giving_events giving_answers reset_changed }
+{}
+
+/// Receiving: a stream isn't accepted of which the reset alone came.
+pub fn reset_stream_is_not_accepted()
+    ensures accepts { (read : ReadCall) → AcceptsAll (reset_unaccepted read) → ⊥ }
+    ensures machine { (read : ReadCall) → IsNoRun (reset_unaccepted read) }
+{}
+
+/// Receiving: of two streams that came the second is never accepted.
+pub fn second_stream_is_not_accepted()
+    ensures accepts { (read : ReadCall) → AcceptsAll (second_unaccepted read) → ⊥ }
+    ensures machine { (read : ReadCall) → IsNoRun (second_unaccepted read) }
+{}
+
+/// Receiving: what was written on one stream is read on another.
+pub fn bytes_change_streams()
+    ensures slices { (read : ReadCall) → read.id ≡ 4 → Slices (other_bytes read) → ⊥ }
+    ensures machine { (read : ReadCall) → ReadsSecond second_bounds read
+        → IsNoRun (other_bytes read) }
+{}
+
+/// These runs meet the premises of the headline, so it isn't for want of those that it is false of
+/// them.
+pub fn paired_premises_hold()
+    ensures told { (read : ReadCall) → read.id ≡ 4 → IsHonest (told_of_reset read) }
+    ensures giving { (read : ReadCall) → IsHonest (pair_giving read) }
+    ensures first { (read : ReadCall) → IsHonest (reset_unaccepted read) }
+    ensures second { (read : ReadCall) → IsHonest (second_unaccepted read) }
+    ensures other { (read : ReadCall) → read.id ≡ 4 → IsHonest (other_bytes read) }
+{}

@@ -1,0 +1,51 @@
+//! A run in which timers expire, computed, and the same run as machines with a bug show it. Each
+//! function does nothing: its contract is the law.
+ghost use Rattle.std.specs.Prelude.{◌≡◌, ◌∷◌, [], Some, None};
+ghost use Rattle.quic_wire_core.specs.declared.stream_id.Side.TheVariants.{Client, Server};
+ghost use Rattle.quic_headline_next.specs.Headline.{IsRun};
+ghost use Rattle.quic_headline_next.specs.Moments.{debt, LossMoments, AckMoments};
+ghost use Rattle.quic_worked_next.specs.Timed.{once_later, timed_run, never_backs_off, never_resets, never_measures, waits_twice, due_at, NeverShows};
+
+/// An acknowledgement is waited for 1024 ms after the datagram that asks, twice as long once the
+/// timer expired, and from the probe on; once a datagram in flight is acknowledged after 1060 ms,
+/// 3205 ms after the probe, which is still in flight: the 1060 ms that were measured, four times
+/// half of that, and 25 ms. The machine's timer is set so.
+pub fn wait_doubles()
+    ensures before { due_at timed_run Client 3 ≡ None }
+    ensures sent { due_at timed_run Client 4 ≡ Some 1024000000 }
+    ensures expired { due_at timed_run Client 5 ≡ Some 2048000000 }
+    ensures probed { due_at timed_run Client 6 ≡ Some 3072000000 }
+    ensures answered { due_at timed_run Client 10 ≡ Some 4229000000 }
+    ensures server { due_at timed_run Server 10 ≡ None }
+    ensures run { IsRun timed_run (once_later 6) }
+    ensures moments { LossMoments timed_run }
+{}
+
+/// A client that never waits longer shows another moment; so does one that waits twice as long also
+/// behind an acknowledgement, and one that never measures a round trip. The machine shows none of
+/// these.
+pub fn wrong_waits_show()
+    ensures backs_off { LossMoments never_backs_off → ⊥ }
+    ensures resets { LossMoments never_resets → ⊥ }
+    ensures measures { LossMoments never_measures → ⊥ }
+    ensures machine_backs_off { NeverShows never_backs_off }
+    ensures machine_resets { NeverShows never_resets }
+    ensures machine_measures { NeverShows never_measures }
+{}
+
+/// An acknowledgement waits from when the packet that asks came until an ACK frame goes, for 25 ms.
+/// The machine's timer is set so.
+pub fn acknowledgement_waits()
+    ensures before { (debt timed_run Server 6).arrivals ≡ [] }
+    ensures came { (debt timed_run Server 7).arrivals ≡ 1030000000 ∷ [] }
+    ensures due { (debt timed_run Server 8).arrivals ≡ 1030000000 ∷ [] }
+    ensures went { (debt timed_run Server 9).arrivals ≡ [] }
+    ensures client { (debt timed_run Client 10).arrivals ≡ [] }
+    ensures moments { AckMoments timed_run }
+{}
+
+/// A server that waits 25 ms twice shows another moment, which the machine doesn't.
+pub fn second_delay_shows()
+    ensures moments { AckMoments waits_twice → ⊥ }
+    ensures machine { NeverShows waits_twice }
+{}
