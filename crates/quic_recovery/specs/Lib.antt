@@ -32,6 +32,7 @@ pub use Rattle.quic_spaces.specs.Filter
 pub use Rattle.quic_spaces.specs.Tracking
 pub use Rattle.quic_spaces.specs.Loss
 pub use Rattle.quic_spaces.specs.Persistent
+pub use Rattle.quic_spaces.specs.PersistentSteps
 pub use Rattle.quic_spaces.specs.Acknowledging
 pub use Rattle.quic_spaces.specs.Records
 pub use Rattle.quic_spaces.specs.Space

@@ -1,5 +1,5 @@
 //! The packets of a packet number space that were sent, by number.
-ghost use Rattle.std.specs.Prelude.{◌≡◌, [], IfSome, IfNone, OnOk, OnErr, None};
+ghost use Rattle.std.specs.Prelude.{◌≡◌, [], IfOk, IfSome, IfNone, OnOk, OnErr, None};
 ghost use Rattle.std.specs.Option.{option_copied, option_map};
 ghost use Rattle.quic_retransmits.specs.Kept.{made};
 ghost use Rattle.quic_streams_parts.specs.Table.{at, added, put, without};
@@ -43,12 +43,17 @@ impl SentPackets {
         }
     }
 
-    /// A packet of this number was sent. One that had the number is replaced.
+    /// A packet of this number was sent: the one that had the number, if any, is given back.
     ///
     /// # Errors
     ///
     /// [`AllocError`] where memory lacks; nothing changes.
-    pub fn insert(&mut self, number: u64, packet: SentPacket) -> Result<(), AllocError>
+    pub fn insert(
+        &mut self,
+        number: u64,
+        packet: SentPacket,
+    ) -> Result<Option<SentPacket>, AllocError>
+        ensures replaced { IfOk result (λ replaced. replaced ≡ at self.old number) }
         ensures ok { OnOk result (self.new ≡ added self.old number packet) }
         ensures err { OnErr result (self.new ≡ self.old) }
         ensures ascends { Ascends self.old }
@@ -60,7 +65,7 @@ impl SentPackets {
         let replaced = self.packets.insert(number, packet)?;
         self.counts.take(replaced.as_ref());
         self.counts.add(counts);
-        Ok(())
+        Ok(replaced)
     }
 
     /// The packet of this number, if it is there.

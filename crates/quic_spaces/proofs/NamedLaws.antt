@@ -1,5 +1,5 @@
 -- What an ACK frame takes out of tracked packets.
-use Rattle.std.proofs.Common.{◌≡◌, ℕ, ◌≤◌, ◌<◌, Bool, true, false, not, ◌||◌, nat_le, cond, List, [], ◌∷◌, ◌++◌, filter, reverse, Option, Some, None, is_some, refl, sym, ap, ◌∙◌, subst, arith}
+use Rattle.std.proofs.Common.{◌≡◌, ℕ, ◌-◌, ◌≤◌, ◌<◌, Bool, true, false, not, ◌||◌, nat_le, cond, List, [], ◌∷◌, ◌++◌, filter, reverse, Option, Some, None, is_some, refl, sym, ap, ◌∙◌, subst, arith}
 use Rattle.std.specs.Option.{option_map}
 use Rattle.std.specs.List.{AllByRecursion}
 use Rattle.std.specs.Map.{keys_of}
@@ -7,64 +7,105 @@ use Rattle.std.specs.BTreeMap.{is_at}
 use Rattle.std.specs.Ordering.{nat_cmp}
 use Rattle.std.specs.declared.cmp.Ordering.TheVariants.{Less}
 use Rattle.std.specs.Cmp.{unsigned_tied, ranked}
-use Rattle.std.proofs.lemmas.Bool.{leb-true, lt-leb, eq-eqb, and_parts, and_right}
+use Rattle.std.proofs.lemmas.Bool.{leb-true, le-leb, lt-leb, eq-eqb, ne_eqb, and_parts, and_right}
 use Rattle.std.proofs.lemmas.List.{append_assoc, reverse-append}
 use Rattle.std.proofs.lemmas.Map.Keys.{sorted_head, sorted_tail}
 use Rattle.quic_wire.specs.AckGrammar.{Below}
 use Rattle.quic_streams_parts.specs.Table.{Table, at, without}
 use Rattle.quic_sent_packets.specs.Packets.{TrackedPacket, Ascends, newest, newest_behind, is_within, within}
+use Rattle.quic_spaces.proofs.Tails.{found_above}
 use Rattle.quic_spaces.specs.Named.{outside, is_among, among, apart_from, Descends}
-use Rattle.quic_spaces.proofs.Tails.{other_behind}
 
 less : (a b : ℕ) → nat_cmp a b ≡ Less → a < b
 less a b e = ranked a b Less (sym e)
 
--- ---- the greatest number of a range is taken out
-
--- what stays and what is found, where the last packet that passes a test is taken out
-record TakesLast (test : ℕ → Bool) (es rest : Table TrackedPacket) (n : ℕ) (v : TrackedPacket) : Type 0 where
-  pub found : at es n ≡ Some v
-  pub passes : filter (λ e. test e.0) (without es n) ≡ rest
-  pub others : filter (λ e. not (test e.0)) (without es n) ≡ filter (λ e. not (test e.0)) es
-
-takes_last : (test : ℕ → Bool) (es rest : Table TrackedPacket) (n : ℕ) (v : TrackedPacket) → Ascends es → filter (λ e. test e.0) es ≡ rest ++ (n, v) ∷ [] → TakesLast test es rest n v
-takes_last test [] [] n v up e = absurd cc
-takes_last test [] (y ∷ rest) n v up e = absurd cc
-takes_last test (x ∷ es) rest n v up e = go (test x.0) refl rest e (λ left. takes_last test es left n v (sorted_tail nat_cmp x.0 (keys_of es) up))
+-- where no packet passes a test, all fail it
+all_fail : (test : ℕ → Bool) (es : Table TrackedPacket) → filter (λ e. test e.0) es ≡ [] → filter (λ e. not (test e.0)) es ≡ es
+all_fail test [] none = refl
+all_fail test (x ∷ es) none = go (test x.0) none (all_fail test es)
   where
-    -- the packet stands behind the first
-    behind : (left : Table TrackedPacket) → TakesLast test es left n v → is_at (nat_cmp n) x.0 ≡ false
-    behind left t = other_behind es x.0 n v (sorted_head nat_cmp x.0 (keys_of es) up) t.found
-
-    go : (b : Bool) → test x.0 ≡ b → (left : Table TrackedPacket) → cond b (x ∷ filter (λ e. test e.0) es) (filter (λ e. test e.0) es) ≡ left ++ (n, v) ∷ [] → ((l : Table TrackedPacket) → filter (λ e. test e.0) es ≡ l ++ (n, v) ∷ [] → TakesLast test es l n v) → TakesLast test (x ∷ es) left n v
-    go true is [] f ih =
-        let first : x ≡ (n, v) = cc in
-        let none : filter (λ e. test e.0) es ≡ [] = cc in
-        let here : is_at (nat_cmp n) x.0 ≡ true = unsigned_tied n x.0 ∙ eq-eqb n x.0 (sym (ap (λ y. y.0) first)) in
-        record { found = rw here (ap (λ y. Some y.1) first); passes = rw here none; others = rw (here, is) refl }
-    go true is (y ∷ left) f ih =
-        let first : x ≡ y = cc in
-        let more : filter (λ e. test e.0) es ≡ left ++ (n, v) ∷ [] = cc in
-        let t = ih left more in
-        let apart = behind left t in
-        record { found = rw apart t.found; passes = rw (apart, is, t.passes) (ap (λ z. z ∷ left) first); others = rw (apart, is) t.others }
-    go false is left f ih =
-        let t = ih left f in
-        let apart = behind left t in
-        record { found = rw apart t.found; passes = rw (apart, is) t.passes; others = rw (apart, is) (ap (λ l. x ∷ l) t.others) }
-
--- the packet with the greatest number of a range is there, and its map without it
-pub taken_last : (low high : ℕ) (es rest : Table TrackedPacket) (n : ℕ) (v : TrackedPacket) → Ascends es → within low high es ≡ rest ++ (n, v) ∷ [] → (at es n ≡ Some v) × (within low high (without es n) ≡ rest) × (outside low high (without es n) ≡ outside low high es)
-taken_last low high es rest n v up e = let t = takes_last (is_within low high) es rest n v up e in (t.found, t.passes, t.others)
+    go : (b : Bool) → cond b (x ∷ filter (λ e. test e.0) es) (filter (λ e. test e.0) es) ≡ [] → (filter (λ e. test e.0) es ≡ [] → filter (λ e. not (test e.0)) es ≡ es)
+        → cond (not b) (x ∷ filter (λ e. not (test e.0)) es) (filter (λ e. not (test e.0)) es) ≡ x ∷ es
+    go true f ih = absurd cc
+    go false f ih = ap (λ l. x ∷ l) (ih f)
 
 -- where no number lies within, all lie outside
 pub all_outside : (low high : ℕ) (es : Table TrackedPacket) → within low high es ≡ [] → outside low high es ≡ es
-all_outside low high [] none = refl
-all_outside low high (x ∷ es) none = go (is_within low high x.0) refl none (all_outside low high es)
-  where
-    go : (b : Bool) → is_within low high x.0 ≡ b → cond b (x ∷ within low high es) (within low high es) ≡ [] → (within low high es ≡ [] → outside low high es ≡ es) → cond (not b) (x ∷ outside low high es) (outside low high es) ≡ x ∷ es
-    go true is f ih = absurd cc
-    go false is f ih = ap (λ l. x ∷ l) (ih f)
+all_outside low high es none = all_fail (is_within low high) es none
+
+-- behind a number no packet passes a test that none above it does
+none_pass : (test : ℕ → Bool) (m : ℕ) (es : Table TrackedPacket) → ((k : ℕ) → m < k → test k ≡ false) → AllByRecursion (λ y. nat_cmp m y ≡ Less) (keys_of es) → filter (λ e. test e.0) es ≡ []
+none_pass test m [] fails above = refl
+none_pass test m (x ∷ es) fails above = rw (fails x.0 (less m x.0 above.0)) (none_pass test m es fails above.1)
+
+-- ---- the greatest number of a range is taken out
+
+-- what stays and what is found, where the last packet that passes a test is taken out: a test that says the same of what lies below it, and holds of nothing
+-- above it, does as well then
+record TakesLast (test less : ℕ → Bool) (es rest : Table TrackedPacket) (n : ℕ) (v : TrackedPacket) : Type 0 where
+  pub found : at es n ≡ Some v
+  pub holds : test n ≡ true
+  pub passes : filter (λ e. less e.0) (without es n) ≡ rest
+  pub others : filter (λ e. not (less e.0)) (without es n) ≡ filter (λ e. not (test e.0)) es
+
+module _ (test less : ℕ → Bool) (n : ℕ) (v : TrackedPacket) (same : test n ≡ true → (k : ℕ) → k < n → less k ≡ test k) (fails : (k : ℕ) → n < k → less k ≡ false) where
+  takes_last : (es rest : Table TrackedPacket) → Ascends es → filter (λ e. test e.0) es ≡ rest ++ (n, v) ∷ [] → TakesLast test less es rest n v
+  takes_last [] [] up e = absurd cc
+  takes_last [] (y ∷ rest) up e = absurd cc
+  takes_last (x ∷ es) rest up e = go (test x.0) refl rest e (λ left. takes_last es left (sorted_tail nat_cmp x.0 (keys_of es) up))
+    where
+      -- the packet stands behind the first
+      behind : (left : Table TrackedPacket) → TakesLast test less es left n v → x.0 < n
+      behind left t = found_above es x.0 n v (sorted_head nat_cmp x.0 (keys_of es) up) t.found
+
+      apart : x.0 < n → is_at (nat_cmp n) x.0 ≡ false
+      apart l = unsigned_tied n x.0 ∙ ne_eqb n x.0 (λ (e : n ≡ x.0). omega (arith, l))
+
+      go : (b : Bool) → test x.0 ≡ b → (left : Table TrackedPacket) → cond b (x ∷ filter (λ e. test e.0) es) (filter (λ e. test e.0) es) ≡ left ++ (n, v) ∷ [] → ((l : Table TrackedPacket) → filter (λ e. test e.0) es ≡ l ++ (n, v) ∷ [] → TakesLast test less es l n v) → TakesLast test less (x ∷ es) left n v
+      go true is [] f ih =
+          let first : x ≡ (n, v) = cc in
+          let number : n ≡ x.0 = sym (ap (λ (y : ℕ × TrackedPacket). y.0) first) in
+          let none : filter (λ e. test e.0) es ≡ [] = cc in
+          let here : is_at (nat_cmp n) x.0 ≡ true = unsigned_tied n x.0 ∙ eq-eqb n x.0 number in
+          let above = sorted_head nat_cmp x.0 (keys_of es) up in
+          let left : filter (λ e. less e.0) es ≡ [] = none_pass less x.0 es (λ k l. fails k (omega (arith, number, l))) above in
+          record {
+            found = rw here (ap (λ (y : ℕ × TrackedPacket). Some y.1) first);
+            holds = ap test number ∙ is;
+            passes = rw here left;
+            others = rw (here, is) (all_fail less es left ∙ sym (all_fail test es none));
+          }
+      go true is (y ∷ left) f ih =
+          let first : x ≡ y = cc in
+          let more : filter (λ e. test e.0) es ≡ left ++ (n, v) ∷ [] = cc in
+          let t = ih left more in
+          let l = behind left t in
+          let also : less x.0 ≡ true = same t.holds x.0 l ∙ is in
+          record { found = rw (apart l) t.found; holds = t.holds; passes = rw (apart l, also, t.passes) (ap (λ z. z ∷ left) first); others = rw (apart l, is, also) t.others }
+      go false is left f ih =
+          let t = ih left f in
+          let l = behind left t in
+          let also : less x.0 ≡ false = same t.holds x.0 l ∙ is in
+          record { found = rw (apart l) t.found; holds = t.holds; passes = rw (apart l, also) t.passes; others = rw (apart l, is, also) (ap (λ z. x ∷ z) t.others) }
+
+-- whether a number below another lies within, where the other does, and no greater one up to the number below it
+below_within : (low high n : ℕ) → is_within low high n ≡ true → (k : ℕ) → k < n → is_within low (n - 1) k ≡ is_within low high k
+below_within low high n holds k l =
+    let top : n ≤ high = leb-true n high (and_parts (nat_le low n) (nat_le n high) holds).1 in
+    let under : nat_le k (n - 1) ≡ true = le-leb k (n - 1) (omega (arith, l)) in
+    let also : nat_le k high ≡ true = le-leb k high (omega (arith, l, top)) in
+    rw (under, also) refl
+
+above_without : (low n k : ℕ) → n < k → is_within low (n - 1) k ≡ false
+above_without low n k l =
+    let past : nat_le k (n - 1) ≡ false = lt-leb k (n - 1) (omega (arith, l)) in
+    and_right (nat_le low k) (nat_le k (n - 1)) past
+
+-- the packet with the greatest number of a range is there, and the others of the range lie below it
+pub taken_last : (low high : ℕ) (es rest : Table TrackedPacket) (n : ℕ) (v : TrackedPacket) → Ascends es → within low high es ≡ rest ++ (n, v) ∷ [] → (at es n ≡ Some v) × (within low (n - 1) (without es n) ≡ rest) × (outside low (n - 1) (without es n) ≡ outside low high es)
+taken_last low high es rest n v up e =
+    let t = takes_last (is_within low high) (is_within low (n - 1)) n v (below_within low high n) (above_without low n) es rest up e in
+    (t.found, t.passes, t.others)
 
 -- ---- the ranges of an ACK frame, one below the other
 
@@ -201,8 +242,8 @@ ranges_left low high all rs es new end ranges left so_far = ap (apart_from rs) l
 pub record IsLast (low high : ℕ) (es : Table TrackedPacket) (n : ℕ) : Type 0 where
   pub packet : TrackedPacket
   pub there : at es n ≡ Some packet
-  pub within : within low high es ≡ within low high (without es n) ++ (n, packet) ∷ []
-  pub outside : outside low high (without es n) ≡ outside low high es
+  pub within : within low high es ≡ within low (n - 1) (without es n) ++ (n, packet) ∷ []
+  pub outside : outside low (n - 1) (without es n) ≡ outside low high es
 
 pub is_last : (low high n : ℕ) (es : Table TrackedPacket) → Ascends es → Some n ≡ option_map (λ p. p.0) (newest (within low high es)) → IsLast low high es n
 is_last low high n es up last =
@@ -211,16 +252,16 @@ is_last low high n es up last =
     record { packet = found.1; there = t.0; within = found.2 ∙ ap (λ (l : Table TrackedPacket). l ++ (n, found.1) ∷ []) (sym t.1); outside = t.2 }
 
 -- the packet that was taken out is the last
-pub last_within : (low high n : ℕ) (es new : Table TrackedPacket) (v : TrackedPacket) → IsLast low high es n → Some v ≡ at es n → new ≡ without es n → within low high es ≡ within low high new ++ (n, v) ∷ []
+pub last_within : (low high n : ℕ) (es new : Table TrackedPacket) (v : TrackedPacket) → IsLast low high es n → Some v ≡ at es n → new ≡ without es n → within low high es ≡ within low (n - 1) new ++ (n, v) ∷ []
 last_within low high n es new v l there left =
     let same : v ≡ l.packet = cc (there ∙ l.there) in
-    l.within ∙ ap (λ (p : TrackedPacket). within low high (without es n) ++ (n, p) ∷ []) (sym same) ∙ ap (λ (es : Table TrackedPacket). within low high es ++ (n, v) ∷ []) (sym left)
+    l.within ∙ ap (λ (p : TrackedPacket). within low (n - 1) (without es n) ++ (n, p) ∷ []) (sym same) ∙ ap (λ (es : Table TrackedPacket). within low (n - 1) es ++ (n, v) ∷ []) (sym left)
 
 pub none_last : (low high n : ℕ) (es : Table TrackedPacket) → IsLast low high es n → None ≡ at es n → ⊥
 none_last low high n es l none = let e = none ∙ l.there in cc
 
-pub last_outside : (low high n : ℕ) (es new : Table TrackedPacket) → IsLast low high es n → new ≡ without es n → outside low high new ≡ outside low high es
-last_outside low high n es new l left = ap (outside low high) left ∙ l.outside
+pub last_outside : (low high n : ℕ) (es new : Table TrackedPacket) → IsLast low high es n → new ≡ without es n → outside low (n - 1) new ≡ outside low high es
+last_outside low high n es new l left = ap (outside low (n - 1)) left ∙ l.outside
 
 -- ---- the early end
 

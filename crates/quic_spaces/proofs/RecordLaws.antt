@@ -1,8 +1,6 @@
 -- Going over packets to the first whose record has something that would be written.
-use Rattle.std.proofs.Common.{◌≡◌, ℕ, ◌+◌, ◌<◌, ◌≤◌, ◌^◌, Bool, true, false, not, cond, nat_le, [], ◌∷◌, Option, Some, None, is_some, IfSome, Result, Ok, Err, OnOk, refl, sym, ap, ◌∙◌, arith}
+use Rattle.std.proofs.Common.{◌≡◌, ℕ, ◌+◌, ◌<◌, ◌≤◌, ◌^◌, Bool, true, false, not, cond, [], ◌∷◌, Option, Some, None, is_some, IfSome, Result, Ok, Err, OnOk, refl, sym, ap, ◌∙◌, arith}
 use Rattle.std.specs.Option.{option_map}
-use Rattle.std.proofs.lemmas.Bool.{lt-leb}
-use Rattle.std.proofs.lemmas.List.Elements.{All-head, All-tail}
 use Rattle.quic_streams_parts.specs.Table.{Table, at, put}
 use Rattle.quic_sent_packets.specs.Packets.{TrackedPacket, Ascends, oldest, from, without_record}
 use Rattle.quic_retransmits.specs.Retransmits.{Retransmits, merged}
@@ -14,7 +12,7 @@ use Rattle.quic_streams_state.specs.declared.state.StreamsState.{StreamsState}
 use Rattle.quic_streams_state.specs.Waiting.{is_empty}
 use Rattle.quic_spaces.specs.Records.{first_record, has_record}
 use Rattle.quic_spaces.specs.Walks.{StepsTo}
-use Rattle.quic_spaces.proofs.Tails.{LieBelow}
+use Rattle.quic_spaces.proofs.Tails.{LieBelow, none_from}
 use Rattle.quic_spaces.proofs.WalkLaws.{steps_to, from_zero}
 
 abbrev Packets : Type 0
@@ -72,14 +70,6 @@ finds_record streams low n es up first has same =
 pub ends_none : (streams : StreamsState) (es : Packets) → option_map (λ p. p.0) (oldest es) ≡ None → first_record streams es ≡ None
 ends_none streams [] e = refl
 ends_none streams (x ∷ es) e = absurd cc
-
--- behind the greatest number there is none
-none_from : (m : ℕ) (es : Packets) → LieBelow m es → from m es ≡ []
-none_from m [] below = refl
-none_from m (x ∷ es) below =
-    let l : x.0 < m = All-head (λ (p : ℕ × TrackedPacket). p.0 < m) x es below in
-    let past : nat_le m x.0 ≡ false = lt-leb m x.0 l in
-    rw past (none_from m es (All-tail (λ (p : ℕ × TrackedPacket). p.0 < m) x es below))
 
 pub ends_last : (streams : StreamsState) (n : ℕ) (es : Packets) → 2 ^ 64 ≤ n + 1 → n < 2 ^ 64 → LieBelow (2 ^ 64) es → first_record streams (from (n + 1) es) ≡ None
 ends_last streams n es most fits below =

@@ -1,20 +1,20 @@
 -- The tail of what is tracked as packets go and are taken out.
-use Rattle.std.proofs.Common.{◌≡◌, ℕ, ◌+◌, ◌-◌, ◌<◌, ◌≤◌, Bool, true, false, cond, not, nat_lt, nat_le, ◌&&◌, [], ◌∷◌, ◌++◌, length, filter, ◌^◌, Option, Some, None, is_some, IfSome, All, refl, sym, ap, ◌∙◌, subst, arith}
+use Rattle.std.proofs.Common.{◌≡◌, ℕ, ◌+◌, ◌-◌, ◌<◌, ◌≤◌, Bool, true, false, cond, not, nat_lt, nat_le, ◌==◌, ◌&&◌, [], ◌∷◌, length, filter, ◌^◌, Option, Some, None, is_some, IfSome, All, refl, sym, ap, ◌∙◌, subst, arith, ⊎_elim}
 use Rattle.std.specs.Option.{option_map}
 use Rattle.std.specs.List.{AllByRecursion}
 use Rattle.std.specs.Map.{keys_of}
 use Rattle.std.specs.BTreeMap.{is_at}
-use Rattle.std.specs.Ordering.{nat_cmp, match_ordering}
+use Rattle.std.specs.Ordering.{nat_cmp, match_ordering, is_eq}
 use Rattle.std.specs.declared.cmp.Ordering.{Ordering}
 use Rattle.std.specs.declared.cmp.Ordering.TheVariants.{Less, Equal, Greater}
-use Rattle.std.specs.Cmp.{unsigned_tied, ranked}
-use Rattle.std.proofs.lemmas.Bool.{le-leb, eq-eqb, eqb-true, ne_eqb}
-use Rattle.std.proofs.lemmas.List.{length-append}
-use Rattle.std.proofs.lemmas.List.Elements.{filter-append, All-head, All-tail, All-cons, All-same, All-push}
+use Rattle.std.specs.Cmp.{nat_cmp_is, unsigned_tied, ranked}
+use Rattle.std.proofs.lemmas.Bool.{le-leb, lt-leb, eq-eqb, eqb-true, ne_eqb, cases_lt}
+use Rattle.std.proofs.lemmas.List.Elements.{All-head, All-tail, All-cons, All-same}
 use Rattle.std.proofs.lemmas.Map.Keys.{sorted_head, sorted_tail}
 use Rattle.quic_streams_parts.specs.Table.{Table, at, put, without, added}
+use Rattle.quic_streams_parts.specs.TableLaws.{without-unknown, at-apart, at-without, at-without-apart, sorted-without}
 use Rattle.quic_sent_packets.specs.Packets.{TrackedPacket, Ascends, oldest, from, without_record}
-use Rattle.quic_spaces.specs.Tracking.{Tracking, is_behind, tail_of, forgotten, without_packet, asking_sent, after_sent}
+use Rattle.quic_spaces.specs.Tracking.{Tracking, is_behind, tail_of, forgets, forgotten, without_packet, asking_sent, after_sent}
 use Rattle.quic_spaces.specs.Tail.{tail_start, at_if, without_if, one_if}
 
 abbrev Packets : Type 0
@@ -31,38 +31,76 @@ LieBelow n es = All (λ (p : ℕ × TrackedPacket). p.0 < n) es
 abbrev pub tail : Option ℕ → Table TrackedPacket → Table TrackedPacket
 tail greatest es = filter (λ p. is_behind greatest p.0) es
 
--- what is above all numbers comes last
-added_last : (es : Packets) (n : ℕ) (v : TrackedPacket) → LieBelow n es → added es n v ≡ es ++ (n, v) ∷ []
-added_last [] n v below = refl
-added_last (x ∷ es) n v below = go (nat_cmp n x.0) refl (added_last es n v (All-tail (λ (p : Numbered). p.0 < n) x es below))
-  where
-    under : x.0 < n
-    under = All-head (λ (p : Numbered). p.0 < n) x es below
-
-    go : (r : Ordering) → r ≡ nat_cmp n x.0 → added es n v ≡ es ++ (n, v) ∷ [] → match_ordering r ((n, v) ∷ x ∷ es) ((x.0, v) ∷ es) (x ∷ added es n v) ≡ x ∷ (es ++ (n, v) ∷ [])
-    go Less e ih = let l : n < x.0 = ranked n x.0 Less e in let u = under in absurd (omega arith)
-    go Equal e ih = let l : n ≡ x.0 = ranked n x.0 Equal e in let u = under in absurd (omega arith)
-    go Greater e ih = ap (λ (l : Packets). x ∷ l) ih
-
 some_none : (v : TrackedPacket) → None ≡ Some v → ⊥
 some_none v e = cc
 
--- what is there is taken out in front of others
-without_front : (es ys : Packets) (k : ℕ) (v : TrackedPacket) → at es k ≡ Some v → without (es ++ ys) k ≡ without es k ++ ys
-without_front [] ys k v e = absurd (some_none v e)
-without_front (x ∷ es) ys k v e = go (is_at (nat_cmp k) x.0) e (without_front es ys k v)
-  where
-    go : (b : Bool) → cond b (Some x.1) (at es k) ≡ Some v → (at es k ≡ Some v → without (es ++ ys) k ≡ without es k ++ ys) → cond b (es ++ ys) (x ∷ without (es ++ ys) k) ≡ cond b es (x ∷ without es k) ++ ys
-    go true f ih = refl
-    go false f ih = ap (λ (l : Packets). x ∷ l) (ih f)
+-- what lies below all comes first
+added_first : (es : Packets) (m n : ℕ) (v : TrackedPacket) → AllByRecursion (λ y. nat_cmp m y ≡ Less) (keys_of es) → n ≤ m → added es n v ≡ (n, v) ∷ es
+added_first [] m n v above le = refl
+added_first (x ∷ es) m n v above le =
+    let l : m < x.0 = ranked m x.0 Less (sym above.0) in
+    let less : nat_cmp n x.0 ≡ Less = sym (nat_cmp_is n x.0 Less (omega (arith, l, le))) in
+    rw less refl
 
-at_front : (es ys : Packets) (k : ℕ) (v : TrackedPacket) → at es k ≡ Some v → at (es ++ ys) k ≡ Some v
-at_front [] ys k v e = absurd (some_none v e)
-at_front (x ∷ es) ys k v e = go (is_at (nat_cmp k) x.0) e (at_front es ys k v)
+-- what is found behind a number has a greater one
+pub found_above : (es : Packets) (m k : ℕ) (v : TrackedPacket) → AllByRecursion (λ y. nat_cmp m y ≡ Less) (keys_of es) → at es k ≡ Some v → m < k
+found_above [] m k v above found = absurd (some_none v found)
+found_above (e ∷ es) m k v above found = go (is_at (nat_cmp k) e.0) refl found (found_above es m k v above.1)
   where
-    go : (b : Bool) → cond b (Some x.1) (at es k) ≡ Some v → (at es k ≡ Some v → at (es ++ ys) k ≡ Some v) → cond b (Some x.1) (at (es ++ ys) k) ≡ Some v
-    go true f ih = f
-    go false f ih = ih f
+    go : (b : Bool) → is_at (nat_cmp k) e.0 ≡ b → cond b (Some e.1) (at es k) ≡ Some v → (at es k ≡ Some v → m < k) → m < k
+    go true is f ih =
+        let same : k ≡ e.0 = eqb-true k e.0 (sym (unsigned_tied k e.0) ∙ is) in
+        let l : m < e.0 = ranked m e.0 Less (sym above.0) in
+        omega (arith, same, l)
+    go false is f ih = ih f
+
+-- what takes the place of what was there comes again
+added_known : (es : Packets) (n : ℕ) (u v : TrackedPacket) → Ascends es → at es n ≡ Some u → added (without es n) n v ≡ added es n v
+added_known [] n u v up e = absurd (some_none u e)
+added_known (x ∷ es) n u v up e = go (nat_cmp n x.0) refl e (added_known es n u v (sorted_tail nat_cmp x.0 (keys_of es) up))
+  where
+    above : AllByRecursion (λ y. nat_cmp x.0 y ≡ Less) (keys_of es)
+    above = sorted_head nat_cmp x.0 (keys_of es) up
+
+    go : (r : Ordering) → nat_cmp n x.0 ≡ r → cond (is_eq r) (Some x.1) (at es n) ≡ Some u → (at es n ≡ Some u → added (without es n) n v ≡ added es n v)
+        → added (cond (is_eq r) es (x ∷ without es n)) n v ≡ match_ordering r ((n, v) ∷ x ∷ es) ((x.0, v) ∷ es) (x ∷ added es n v)
+    go Less is f ih =
+        let l : n < x.0 = ranked n x.0 Less (sym is) in
+        let g : x.0 < n = found_above es x.0 n u above f in
+        absurd (omega (arith, l, g))
+    go Equal is f ih =
+        let same : n ≡ x.0 = ranked n x.0 Equal (sym is) in
+        added_first es x.0 n v above (omega (arith, same)) ∙ ap (λ (m : ℕ). (m, v) ∷ es) same
+    go Greater is f ih = rw is (ap (λ (l : Packets). x ∷ l) (ih f))
+
+added_again : (es : Packets) (n : ℕ) (v : TrackedPacket) → Ascends es → added (without es n) n v ≡ added es n v
+added_again es n v up = go (at es n) refl
+  where
+    go : (o : Option TrackedPacket) → at es n ≡ o → added (without es n) n v ≡ added es n v
+    go None e = ap (λ (l : Packets). added l n v) (without-unknown es n e)
+    go (Some u) e = added_known es n u v up e
+
+-- one is added and another taken out, in any order
+added_apart : (es : Packets) (n k : ℕ) (v : TrackedPacket) → Ascends es → (k ≡ n → ⊥) → without (added es n v) k ≡ added (without es k) n v
+added_apart [] n k v up ne = rw (unsigned_tied k n ∙ ne_eqb k n ne) refl
+added_apart (x ∷ es) n k v up ne = go (nat_cmp n x.0) (is_at (nat_cmp k) x.0) refl refl (added_apart es n k v (sorted_tail nat_cmp x.0 (keys_of es) up) ne)
+  where
+    other : is_at (nat_cmp k) n ≡ false
+    other = unsigned_tied k n ∙ ne_eqb k n ne
+
+    go : (r : Ordering) (b : Bool) → nat_cmp n x.0 ≡ r → is_at (nat_cmp k) x.0 ≡ b → without (added es n v) k ≡ added (without es k) n v
+        → without (match_ordering r ((n, v) ∷ x ∷ es) ((x.0, v) ∷ es) (x ∷ added es n v)) k ≡ added (cond b es (x ∷ without es k)) n v
+    go Less true is at ih =
+        let l : n < x.0 = ranked n x.0 Less (sym is) in
+        rw (other, at) (sym (added_first es x.0 n v (sorted_head nat_cmp x.0 (keys_of es) up) (omega (arith, l))))
+    go Less false is at ih = rw (other, at, is) refl
+    go Equal true is at ih =
+        let same : n ≡ x.0 = ranked n x.0 Equal (sym is) in
+        let here : k ≡ x.0 = eqb-true k x.0 (sym (unsigned_tied k x.0) ∙ at) in
+        absurd (ne (here ∙ sym same))
+    go Equal false is at ih = rw (at, is) refl
+    go Greater true is at ih = rw at refl
+    go Greater false is at ih = rw (at, is) (ap (λ (l : Packets). x ∷ l) ih)
 
 -- what is left lies below too
 below_left : (es : Packets) (n k : ℕ) → LieBelow n es → LieBelow n (without es k)
@@ -98,27 +136,83 @@ tail_without greatest (x ∷ es) k v e = go (is_at (nat_cmp k) x.0) refl e (tail
         there true h = omega (arith, h)
         there false h = h
 
--- one more that comes last
-tail_last : (greatest : Option ℕ) (es : Packets) (n : ℕ) (v : TrackedPacket) → length (tail greatest (es ++ (n, v) ∷ [])) ≡ length (tail greatest es) + one_if (is_behind greatest n)
-tail_last greatest es n v =
-    ap (λ (l : Packets). length l) (filter-append (λ (p : Numbered). is_behind greatest p.0) es ((n, v) ∷ []))
-    ∙ length-append (tail greatest es) (tail greatest ((n, v) ∷ []))
-    ∙ ap (λ m. length (tail greatest es) + m) (one (is_behind greatest n))
-  where
-    one : (b : Bool) → length {A = Numbered} (cond b ((n, v) ∷ []) []) ≡ one_if b
-    one true = refl
-    one false = refl
+-- what is added where another is taken out
+pub exchanged : (es new left : Packets) (n k : ℕ) (v : TrackedPacket) → Ascends es → (k ≡ n → ⊥) → new ≡ added es n v → left ≡ without new k → left ≡ added (without es k) n v
+exchanged es new left n k v up ne is out = out ∙ ap (λ (l : Packets). without l k) is ∙ added_apart es n k v up ne
 
--- nothing lies behind what comes last
-none_behind : (es : Packets) (n : ℕ) (v : TrackedPacket) → LieBelow n es → tail (Some n) (es ++ (n, v) ∷ []) ≡ []
-none_behind [] n v below = rw (lt-not n) refl
+pub found_apart : (es new : Packets) (n k : ℕ) (v : TrackedPacket) (r : Option TrackedPacket) → (k ≡ n → ⊥) → new ≡ added es n v → r ≡ at new k → r ≡ at es k
+found_apart es new n k v r ne is found = found ∙ ap (λ (l : Packets). at l k) is ∙ at-apart es n v k ne
+
+pub replaced : (es new : Packets) (n k : ℕ) (v : TrackedPacket) → Ascends es → k ≡ n → new ≡ added es n v → new ≡ added (without es k) n v
+replaced es new n k v up same is = is ∙ sym (added_again es n v up) ∙ ap (λ (m : ℕ). added (without es m) n v) (sym same)
+
+-- whether a number is there once another is taken out
+pub left_other : (es : Packets) (n k : ℕ) (there same : Bool) → Ascends es → there ≡ is_some (at es n) → same ≡ (k == n) → (there && not same) ≡ is_some (at (without es k) n)
+left_other es n k there same up is equal = go same refl
   where
-    lt-not : (n : ℕ) → nat_lt n n ≡ false
-    lt-not n = grind arith
-none_behind (x ∷ es) n v below =
-    let under : x.0 < n = All-head (λ (p : Numbered). p.0 < n) x es below in
-    let not_behind : nat_lt n x.0 ≡ false = grind arith in
-    rw not_behind (none_behind es n v (All-tail (λ (p : Numbered). p.0 < n) x es below))
+    go : (b : Bool) → same ≡ b → (there && not b) ≡ is_some (at (without es k) n)
+    go true e =
+        let here : k ≡ n = eqb-true k n (sym equal ∙ e) in
+        none there ∙ sym (ap (λ (o : Option TrackedPacket). is_some o) (ap (λ (m : ℕ). at (without es m) n) here ∙ at-without es n up))
+      where
+        none : (b : Bool) → (b && false) ≡ false
+        none true = refl
+        none false = refl
+    go false e =
+        let apart : n ≡ k → ⊥ = λ (h : n ≡ k). differ (sym e ∙ equal ∙ eq-eqb k n (sym h)) in
+        all there ∙ is ∙ ap (λ (o : Option TrackedPacket). is_some o) (sym (at-without-apart es k n apart))
+      where
+        all : (b : Bool) → (b && true) ≡ b
+        all true = refl
+        all false = refl
+
+        differ : false ≡ true → ⊥
+        differ h = cc
+
+-- a packet that comes where none has its number
+tail_new : (greatest : Option ℕ) (es : Packets) (n : ℕ) (v : TrackedPacket) → at es n ≡ None → length (tail greatest (added es n v)) ≡ length (tail greatest es) + one_if (is_behind greatest n)
+tail_new greatest [] n v none = one (is_behind greatest n)
+  where
+    one : (b : Bool) → length {A = Numbered} (cond b ((n, v) ∷ []) []) ≡ 0 + one_if b
+    one true = omega arith
+    one false = refl
+tail_new greatest (x ∷ es) n v none = go (nat_cmp n x.0) none (tail_new greatest es n v)
+  where
+    go : (r : Ordering) → cond (is_eq r) (Some x.1) (at es n) ≡ None → (at es n ≡ None → length (tail greatest (added es n v)) ≡ length (tail greatest es) + one_if (is_behind greatest n))
+        → length (tail greatest (match_ordering r ((n, v) ∷ x ∷ es) ((x.0, v) ∷ es) (x ∷ added es n v))) ≡ length (tail greatest (x ∷ es)) + one_if (is_behind greatest n)
+    go Less f ih = here (is_behind greatest n)
+      where
+        here : (b : Bool) → length (cond b ((n, v) ∷ tail greatest (x ∷ es)) (tail greatest (x ∷ es))) ≡ length (tail greatest (x ∷ es)) + one_if b
+        here true = omega arith
+        here false = omega arith
+    go Equal f ih = absurd (some_none x.1 (sym f))
+    go Greater f ih = there (is_behind greatest x.0) (ih f)
+      where
+        there : (b : Bool) → length (tail greatest (added es n v)) ≡ length (tail greatest es) + one_if (is_behind greatest n)
+            → length (cond b (x ∷ tail greatest (added es n v)) (tail greatest (added es n v))) ≡ length (cond b (x ∷ tail greatest es) (tail greatest es)) + one_if (is_behind greatest n)
+        there true h = omega (arith, h)
+        there false h = h
+
+-- and one that comes in any case
+tail_added : (greatest : Option ℕ) (es : Packets) (n : ℕ) (v : TrackedPacket) → Ascends es → length (tail greatest (added es n v)) ≡ length (tail greatest es) + one_if (is_behind greatest n && not (is_some (at es n)))
+tail_added greatest es n v up = go (at es n) refl
+  where
+    all : (b : Bool) → one_if b ≡ one_if (b && true)
+    all true = refl
+    all false = refl
+
+    none : (b : Bool) → one_if (b && false) ≡ 0
+    none true = refl
+    none false = refl
+
+    go : (o : Option TrackedPacket) → at es n ≡ o → length (tail greatest (added es n v)) ≡ length (tail greatest es) + one_if (is_behind greatest n && not (is_some o))
+    go None e = tail_new greatest es n v e ∙ ap (λ (m : ℕ). length (tail greatest es) + m) (all (is_behind greatest n))
+    go (Some u) e =
+        let again = ap (λ (l : Packets). length (tail greatest l)) (sym (added_again es n v up)) in
+        let more = tail_new greatest (without es n) n v (at-without es n up) in
+        let fewer = tail_without greatest es n u e in
+        let zero = none (is_behind greatest n) in
+        omega (arith, again, more, fewer, zero)
 
 -- ---- the oldest
 
@@ -153,64 +247,76 @@ oldest_stands test (x ∷ es) k v up e = go (test x.0) refl e (oldest_stands tes
         let apart = other_behind es x.0 k v (sorted_head nat_cmp x.0 (keys_of es) up) s.there in
         record { there = rw apart s.there; passes = s.passes }
 
--- ---- a packet goes that doesn't ask
+-- ---- what is forgotten
 
--- what is taken out once it went
-pub record Goes (t : Tracking) (n : ℕ) (p : TrackedPacket) (o : Option ℕ) : Type 0 where
-  pub given : at_if o (added t.packets n p) ≡ option_map (λ p. p.1) (forgotten t p)
-  pub left : without_if o (added t.packets n p) ≡ added (without_packet (forgotten t p) t.packets) n p
-  pub counted : length (tail_of t) - one_if (is_some (forgotten t p)) + one_if (is_behind t.greatest_asking n) ≡ length (tail t.greatest_asking (without_if o (added t.packets n p)))
-  pub some : is_some (forgotten t p) ≡ true → 0 < length (tail_of t)
+-- what is forgotten is there, and is one of the tail
+pub record Goes (t : Tracking) (p : TrackedPacket) (o : Option ℕ) : Type 0 where
+  pub found : at_if o t.packets ≡ option_map (λ p. p.1) (forgotten t p)
+  pub left : without_if o t.packets ≡ without_packet (forgotten t p) t.packets
+  pub fewer : length (tail_of t) ≡ length (tail t.greatest_asking (without_if o t.packets)) + one_if (is_some (forgotten t p))
 
--- where none is forgotten
-goes_alone : (t : Tracking) (n : ℕ) (p : TrackedPacket) (f : Option (ℕ × TrackedPacket)) → forgotten t p ≡ f → f ≡ None → LieBelow n t.packets → Goes t n p None
-goes_alone t n p f is none below =
-    let e : forgotten t p ≡ None = is ∙ none in
-    let last = added_last t.packets n p below in
-    record {
-      given = rw e refl;
-      left = rw e refl;
-      counted = rw (e, last) (let l = tail_last t.greatest_asking t.packets n p in omega (arith, l));
-      some = rw e (λ (h : false ≡ true). cc);
-    }
+goes_none : (t : Tracking) (p : TrackedPacket) → forgotten t p ≡ None → Goes t p None
+goes_none t p e = record { found = rw e refl; left = rw e refl; fewer = rw e (omega arith) }
 
-goes_with : (t : Tracking) (n : ℕ) (p : TrackedPacket) (k : ℕ) (v : TrackedPacket) → forgotten t p ≡ Some (k, v) → Stands (is_behind t.greatest_asking) t.packets k v → LieBelow n t.packets → Goes t n p (Some k)
-goes_with t n p k v e s below =
-    let es : Packets = t.packets in
-    let last = added_last es n p below in
-    let again = added_last (without es k) n p (below_left es n k below) in
-    let out = without_front es ((n, p) ∷ []) k v s.there in
-    let fewer = tail_without t.greatest_asking es k v s.there in
-    let more = tail_last t.greatest_asking (without es k) n p in
-    let behind = s.passes in
-    let one_fewer : length (tail t.greatest_asking es) ≡ length (tail t.greatest_asking (without es k)) + 1 = rw behind at fewer in
-    record {
-      given = rw (e, last) (at_front es ((n, p) ∷ []) k v s.there);
-      left = rw (e, last, out, again) refl;
-      counted = rw (e, last, out, more) (omega (arith, one_fewer));
-      some = λ (h : is_some (forgotten t p) ≡ true). (omega (arith, one_fewer));
-    }
+goes_with : (t : Tracking) (p : TrackedPacket) (k : ℕ) (v : TrackedPacket) → forgotten t p ≡ Some (k, v) → Stands (is_behind t.greatest_asking) t.packets k v → Goes t p (Some k)
+goes_with t p k v e s =
+    let fewer = tail_without t.greatest_asking t.packets k v s.there in
+    record { found = rw e s.there; left = rw e refl; fewer = rw e (rw s.passes at fewer) }
+
+pub goes : (t : Tracking) (p : TrackedPacket) (o : Option ℕ) → Ascends t.packets → o ≡ option_map (λ p. p.0) (forgotten t p) → Goes t p o
+goes t p o up is = go (forgets t p) refl
+  where
+    go : (b : Bool) → forgets t p ≡ b → Goes t p o
+    go false few =
+        let none : forgotten t p ≡ None = ap (λ (b : Bool). cond b (oldest (tail_of t)) None) few in
+        subst (Goes t p) (sym (rw none at is)) (goes_none t p none)
+    go true many = with (oldest (tail_of t)) refl
+      where
+        first : forgotten t p ≡ oldest (tail_of t)
+        first = ap (λ (b : Bool). cond b (oldest (tail_of t)) None) many
+
+        with : (f : Option Numbered) → oldest (tail_of t) ≡ f → Goes t p o
+        with None e =
+            let none : forgotten t p ≡ None = first ∙ e in
+            subst (Goes t p) (sym (rw none at is)) (goes_none t p none)
+        with (Some q) e =
+            let found : forgotten t p ≡ Some (q.0, q.1) = first ∙ e in
+            subst (Goes t p) (sym (rw found at is)) (goes_with t p q.0 q.1 found (oldest_stands (is_behind t.greatest_asking) t.packets q.0 q.1 up e))
 
 -- ---- what is asked of the tail
 
--- the packets from its start on are the tail, where all lie below a number of 64 bits
-tail_from : (greatest : Option ℕ) (n : ℕ) (es : Packets) → n < 2 ^ 64 → LieBelow n es → from (tail_start greatest) es ≡ tail greatest es
-tail_from greatest n [] small below = refl
-tail_from greatest n (x ∷ es) small below =
-    let under : x.0 < n = All-head (λ (p : Numbered). p.0 < n) x es below in
-    let rest = tail_from greatest n es small (All-tail (λ (p : Numbered). p.0 < n) x es below) in
-    rw (same greatest under, rest) refl
+-- the packets from its start on are the tail, where that start has 64 bits
+tail_from : (greatest : Option ℕ) (es : Packets) → ((g : ℕ) → greatest ≡ Some g → g + 1 < 2 ^ 64) → from (tail_start greatest) es ≡ tail greatest es
+tail_from greatest [] small = refl
+tail_from greatest (x ∷ es) small = rw (same greatest small, tail_from greatest es small) refl
   where
-    same : (o : Option ℕ) → x.0 < n → nat_le (tail_start o) x.0 ≡ is_behind o x.0
-    same None u = le-leb 0 x.0 (omega arith)
-    same (Some g) u = grind arith
+    same : (o : Option ℕ) → ((g : ℕ) → o ≡ Some g → g + 1 < 2 ^ 64) → nat_le (tail_start o) x.0 ≡ is_behind o x.0
+    same None s = le-leb 0 x.0 (omega arith)
+    same (Some g) s = let l : g + 1 < 2 ^ 64 = s g refl in grind (arith, l)
+
+-- no tail lies above the greatest number of 64 bits
+tail_past : (g : ℕ) (es : Packets) → 2 ^ 64 ≤ g + 1 → LieBelow (2 ^ 64) es → tail (Some g) es ≡ []
+tail_past g [] most below = refl
+tail_past g (x ∷ es) most below =
+    let under : x.0 < 2 ^ 64 = All-head (λ (p : Numbered). p.0 < 2 ^ 64) x es below in
+    let apart : nat_lt g x.0 ≡ false = grind (arith, most, under) in
+    rw apart (tail_past g es most (All-tail (λ (p : Numbered). p.0 < 2 ^ 64) x es below))
+
+-- so it has a start where there is one
+tail_fits : (greatest : Option ℕ) (es : Packets) → 0 < length (tail greatest es) → LieBelow (2 ^ 64) es → (g : ℕ) → greatest ≡ Some g → g + 1 < 2 ^ 64
+tail_fits greatest es some below g is = ⊎_elim (λ (l : g + 1 < 2 ^ 64). l) past (cases_lt (g + 1) (2 ^ 64))
+  where
+    past : 2 ^ 64 ≤ g + 1 → g + 1 < 2 ^ 64
+    past le =
+        let none : length (tail greatest es) ≡ 0 = ap (λ (o : Option ℕ). length (tail o es)) is ∙ ap (λ (l : Packets). length l) (tail_past g es le below) in
+        absurd (omega (arith, some, none))
 
 -- the oldest of a long tail is forgotten
-pub forgets_oldest : (t : Tracking) (p : TrackedPacket) (n : ℕ) → p.asks ≡ false → 1000 < length (tail_of t) → n < 2 ^ 64 → LieBelow n t.packets
+pub forgets_oldest : (t : Tracking) (p : TrackedPacket) → p.asks ≡ false → 1000 < length (tail_of t) → LieBelow (2 ^ 64) t.packets
     → option_map (λ p. p.0) (oldest (from (tail_start t.greatest_asking) t.packets)) ≡ option_map (λ p. p.0) (forgotten t p)
-forgets_oldest t p n silent long small below =
+forgets_oldest t p silent long below =
     let many : nat_lt 1000 (length (tail_of t)) ≡ true = grind arith in
-    rw (tail_from t.greatest_asking n t.packets small below, silent, many) refl
+    rw (tail_from t.greatest_asking t.packets (tail_fits t.greatest_asking t.packets (omega (arith, long)) below), silent, many) refl
 
 -- none is forgotten otherwise
 pub asking_keeps : (t : Tracking) (p : TrackedPacket) → p.asks ≡ true → forgotten t p ≡ None
@@ -221,24 +327,6 @@ short_keeps t p short =
     let few : nat_lt 1000 (length (tail_of t)) ≡ false = grind arith in
     rw few (elim p.asks as (λ b. cond (not b && false) (oldest (tail_of t)) None ≡ None) [ true ↦ refl | false ↦ refl ])
 
--- what goes, where this is the number of what is forgotten
-pub goes : (t : Tracking) (n : ℕ) (p : TrackedPacket) (o : Option ℕ) → Ascends t.packets → LieBelow n t.packets → p.asks ≡ false → o ≡ option_map (λ p. p.0) (forgotten t p) → Goes t n p o
-goes t n p o up below silent is = go (nat_lt 1000 (length (tail_of t))) refl
-  where
-    go : (b : Bool) → nat_lt 1000 (length (tail_of t)) ≡ b → Goes t n p o
-    go false few =
-        let none : forgotten t p ≡ None = rw (silent, few) refl in
-        subst (Goes t n p) (sym (rw none at is)) (goes_alone t n p None none refl below)
-    go true many = with (oldest (tail_of t)) refl
-      where
-        with : (f : Option Numbered) → oldest (tail_of t) ≡ f → Goes t n p o
-        with None e =
-            let none : forgotten t p ≡ None = rw (silent, many) e in
-            subst (Goes t n p) (sym (rw none at is)) (goes_alone t n p None none refl below)
-        with (Some q) e =
-            let found : forgotten t p ≡ Some (q.0, q.1) = rw (silent, many) e in
-            subst (Goes t n p) (sym (rw found at is)) (goes_with t n p q.0 q.1 found (oldest_stands (is_behind t.greatest_asking) t.packets q.0 q.1 up e) below)
-
 -- where the tail is long, one is forgotten
 pub long_forgets : (t : Tracking) (p : TrackedPacket) → p.asks ≡ false → 1000 < length (tail_of t) → is_some (forgotten t p) ≡ true
 long_forgets t p silent long =
@@ -248,11 +336,6 @@ long_forgets t p silent long =
     filled : (es : Packets) → 0 < length es → is_some (oldest es) ≡ true
     filled [] h = absurd (omega arith)
     filled (x ∷ es) h = refl
-
--- ---- a packet goes that asks
-
-pub asking_tail : (es new : Packets) (n : ℕ) (p : TrackedPacket) → new ≡ added es n p → LieBelow n es → 0 ≡ length (tail (Some n) new)
-asking_tail es new n p is below = rw (is, added_last es n p below, none_behind es n p below) refl
 
 -- ---- a packet is taken out
 
@@ -265,57 +348,50 @@ some_mapped : (f : Option Numbered) → is_some (option_map (λ p. p.1) f) ≡ i
 some_mapped None = refl
 some_mapped (Some q) = refl
 
--- what was taken out is what is forgotten
-pub forgot : (t : Tracking) (n : ℕ) (p : TrackedPacket) (o : Option ℕ) (new : Packets) (r : Option TrackedPacket) → Goes t n p o → new ≡ added t.packets n p → r ≡ at_if o new → r ≡ option_map (λ p. p.1) (forgotten t p)
-forgot t n p o new r g is taken = taken ∙ ap (at_if o) is ∙ g.given
+forgot_some : (t : Tracking) (p : TrackedPacket) (o : Option ℕ) (r : Option TrackedPacket) → Goes t p o → r ≡ at_if o t.packets → is_some r ≡ is_some (forgotten t p)
+forgot_some t p o r g taken = ap (λ (r : Option TrackedPacket). is_some r) (taken ∙ g.found) ∙ some_mapped (forgotten t p)
 
-forgot_some : (t : Tracking) (n : ℕ) (p : TrackedPacket) (o : Option ℕ) (new : Packets) (r : Option TrackedPacket) → Goes t n p o → new ≡ added t.packets n p → r ≡ at_if o new → is_some r ≡ is_some (forgotten t p)
-forgot_some t n p o new r g is taken = ap (λ (r : Option TrackedPacket). is_some r) (forgot t n p o new r g is taken) ∙ some_mapped (forgotten t p)
-
-pub left_after : (t : Tracking) (n : ℕ) (p : TrackedPacket) (o : Option ℕ) (new after : Packets) → Goes t n p o → new ≡ added t.packets n p → after ≡ without_if o new → after ≡ added (without_packet (forgotten t p) t.packets) n p
-left_after t n p o new after g is left = left ∙ ap (without_if o) is ∙ g.left
-
-pub some_left : (t : Tracking) (n : ℕ) (p : TrackedPacket) (o : Option ℕ) (new : Packets) (r : Option TrackedPacket) (some : Bool) (count : ℕ) → Goes t n p o → new ≡ added t.packets n p → r ≡ at_if o new → some ≡ is_some r → count ≡ length (tail_of t)
-    → some ≡ true → 0 < count
-some_left t n p o new r some count g is taken so counts h =
-    let l : 0 < length (tail_of t) = g.some (sym (so ∙ forgot_some t n p o new r g is taken) ∙ h) in
-    omega (arith, l, counts)
-
-pub tail_counts : (t : Tracking) (n : ℕ) (p : TrackedPacket) (o : Option ℕ) (new after : Packets) (r : Option TrackedPacket) (some behind : Bool) (count result : ℕ)
-    → Goes t n p o → new ≡ added t.packets n p → r ≡ at_if o new → after ≡ without_if o new → some ≡ is_some r → behind ≡ is_behind t.greatest_asking n → count ≡ length (tail_of t)
-    → result ≡ count - one_if some + one_if behind → result ≡ length (tail t.greatest_asking after)
-tail_counts t n p o new after r some behind count result g is taken left so so_behind counts results =
-    let some_is = so ∙ forgot_some t n p o new r g is taken in
-    results
-    ∙ ap (λ m. m - one_if some + one_if behind) counts
-    ∙ ap (λ (b : Bool). length (tail_of t) - one_if b + one_if behind) some_is
-    ∙ ap (λ (b : Bool). length (tail_of t) - one_if (is_some (forgotten t p)) + one_if b) so_behind
-    ∙ g.counted
-    ∙ ap (λ (es : Packets). length (tail t.greatest_asking es)) (sym (left ∙ ap (without_if o) is))
-
-pub tail_few : (t : Tracking) (n : ℕ) (p : TrackedPacket) (o : Option ℕ) (new : Packets) (r : Option TrackedPacket) (some behind : Bool) (count result : ℕ)
-    → p.asks ≡ false → Goes t n p o → new ≡ added t.packets n p → r ≡ at_if o new → some ≡ is_some r → count ≡ length (tail_of t) → count ≤ 1001
-    → result ≡ count - one_if some + one_if behind → result ≤ 1001
-tail_few t n p o new r some behind count result silent g is taken so counts few results = go some refl results
+-- where nothing was, the tail is short
+pub none_short : (t : Tracking) (p : TrackedPacket) (o : Option ℕ) (r : Option TrackedPacket) (some : Bool) (count : ℕ) → p.asks ≡ false → Goes t p o → r ≡ at_if o t.packets → some ≡ is_some r → count ≡ length (tail_of t) → some ≡ false → count ≤ 1000
+none_short t p o r some count silent g taken so counts h = within (nat_lt 1000 count) refl
   where
-    most : (b : Bool) → one_if b ≤ 1
-    most true = omega arith
-    most false = omega arith
+    within : (b : Bool) → nat_lt 1000 count ≡ b → count ≤ 1000
+    within false e = grind arith
+    within true e =
+        let long : 1000 < length (tail_of t) = (let l : 1000 < count = grind arith in omega (arith, l, counts)) in
+        let no : false ≡ true = sym h ∙ so ∙ forgot_some t p o r g taken ∙ long_forgets t p silent long in
+        absurd cc
 
-    go : (b : Bool) → some ≡ b → result ≡ count - one_if b + one_if behind → result ≤ 1001
-    go true e is_result = let one = most behind in omega (arith, one)
-    go false e is_result =
-        let short : count ≤ 1000 = within (nat_lt 1000 count) refl in
-        let one = most behind in
-        omega (arith, one, short)
-      where
-        within : (b : Bool) → nat_lt 1000 count ≡ b → count ≤ 1000
-        within false h = grind arith
-        within true h =
-            let long : 1000 < length (tail_of t) = (let l : 1000 < count = grind arith in omega (arith, l, counts)) in
-            let forgets : some ≡ true = so ∙ forgot_some t n p o new r g is taken ∙ long_forgets t p silent long in
-            let no : false ≡ true = sym e ∙ forgets in
-            absurd cc
+ascends_if : (o : Option ℕ) (es : Packets) → Ascends es → Ascends (without_if o es)
+ascends_if None es up = up
+ascends_if (Some k) es up = sorted-without es k up
+
+pub tail_counts : (t : Tracking) (n : ℕ) (p : TrackedPacket) (o : Option ℕ) (new : Packets) (r : Option TrackedPacket) (some comes : Bool) (count result : ℕ)
+    → Ascends t.packets → Goes t p o → r ≡ at_if o t.packets → new ≡ added (without_if o t.packets) n p → some ≡ is_some r
+    → comes ≡ (is_behind t.greatest_asking n && not (is_some (at (without_if o t.packets) n))) → count ≡ length (tail_of t)
+    → result ≡ count - one_if some + one_if comes → result ≡ length (tail t.greatest_asking new)
+tail_counts t n p o new r some comes count result up g taken is so so_comes counts results =
+    let some_is : one_if some ≡ one_if (is_some (forgotten t p)) = ap one_if (so ∙ forgot_some t p o r g taken) in
+    let fewer = g.fewer in
+    let come = ap one_if so_comes in
+    let more = tail_added t.greatest_asking (without_if o t.packets) n p (ascends_if o t.packets up) in
+    let after = ap (λ (l : Packets). length (tail t.greatest_asking l)) is in
+    omega (arith, some_is, fewer, come, more, after, counts, results)
+
+-- ---- the count once one went that asks
+
+-- the packets above a number are the tail
+pub above_tail : (g : ℕ) (es : Packets) → from (g + 1) es ≡ tail (Some g) es
+above_tail g [] = refl
+above_tail g (x ∷ es) = let same : nat_le (g + 1) x.0 ≡ nat_lt g x.0 = grind arith in rw (same, above_tail g es) refl
+
+-- behind the greatest number there is none
+pub none_from : (m : ℕ) (es : Packets) → LieBelow m es → from m es ≡ []
+none_from m [] below = refl
+none_from m (x ∷ es) below =
+    let l : x.0 < m = All-head (λ (p : Numbered). p.0 < m) x es below in
+    let past : nat_le m x.0 ≡ false = lt-leb m x.0 l in
+    rw past (none_from m es (All-tail (λ (p : Numbered). p.0 < m) x es below))
 
 -- what is tracked once it went
 pub silent_sent : (t : Tracking) (n : ℕ) (p : TrackedPacket) (after : Packets) → p.asks ≡ false → after ≡ added (without_packet (forgotten t p) t.packets) n p → record t { packets = after } ≡ after_sent t n p
@@ -325,9 +401,20 @@ silent_sent t n p after silent left =
 
 -- ---- numbers stay below a limit
 
-pub below_added : (m : ℕ) (es new : Packets) (n : ℕ) (v : TrackedPacket) → new ≡ added es n v → LieBelow n es → n < m → LieBelow m es → LieBelow m new
-below_added m es new n v is under small below =
-    All-same (λ (p : Numbered). p.0 < m) new (es ++ (n, v) ∷ []) (is ∙ added_last es n v under) (All-push (λ (p : Numbered). p.0 < m) es (n, v) below small)
+pub below_added : (m : ℕ) (es : Packets) (n : ℕ) (v : TrackedPacket) → n < m → LieBelow m es → LieBelow m (added es n v)
+below_added m [] n v small below = All-cons (λ (p : Numbered). p.0 < m) (n, v) [] small below
+below_added m (x ∷ es) n v small below = go (nat_cmp n x.0) (below_added m es n v small rest)
+  where
+    rest : LieBelow m es
+    rest = All-tail (λ (p : Numbered). p.0 < m) x es below
+
+    here : x.0 < m
+    here = All-head (λ (p : Numbered). p.0 < m) x es below
+
+    go : (r : Ordering) → LieBelow m (added es n v) → LieBelow m (match_ordering r ((n, v) ∷ x ∷ es) ((x.0, v) ∷ es) (x ∷ added es n v))
+    go Less ih = All-cons (λ (p : Numbered). p.0 < m) (n, v) (x ∷ es) small below
+    go Equal ih = All-cons (λ (p : Numbered). p.0 < m) (x.0, v) es here rest
+    go Greater ih = All-cons (λ (p : Numbered). p.0 < m) x (added es n v) here ih
 
 pub below_without : (m : ℕ) (es new : Packets) (k : ℕ) → new ≡ without es k → LieBelow m es → LieBelow m new
 below_without m es new k left below = All-same (λ (p : Numbered). p.0 < m) new (without es k) left (below_left es m k below)
@@ -335,6 +422,11 @@ below_without m es new k left below = All-same (λ (p : Numbered). p.0 < m) new 
 pub below_without_if : (m : ℕ) (es new : Packets) (o : Option ℕ) → new ≡ without_if o es → LieBelow m es → LieBelow m new
 below_without_if m es new None left below = All-same (λ (p : Numbered). p.0 < m) new es left below
 below_without_if m es new (Some k) left below = below_without m es new k left below
+
+-- once a packet went
+pub below_sent : (m : ℕ) (es new : Packets) (o : Option ℕ) (n : ℕ) (v : TrackedPacket) → new ≡ added (without_if o es) n v → n < m → LieBelow m es → LieBelow m new
+below_sent m es new o n v is small below =
+    All-same (λ (p : Numbered). p.0 < m) new (added (without_if o es) n v) is (below_added m (without_if o es) n v small (below_without_if m es (without_if o es) o refl below))
 
 -- ---- a record is taken from a packet
 

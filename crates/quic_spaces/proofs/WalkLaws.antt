@@ -1,5 +1,5 @@
 -- Going over tracked packets by number.
-use Rattle.std.proofs.Common.{◌≡◌, ℕ, ◌+◌, ◌<◌, ◌≤◌, Bool, true, false, cond, ◌&&◌, ◌||◌, nat_lt, nat_le, [], ◌∷◌, map, min, Option, Some, None, refl, sym, ap, ◌∙◌, arith}
+use Rattle.std.proofs.Common.{◌≡◌, ℕ, ◌+◌, ◌<◌, ◌≤◌, Bool, true, false, cond, ◌&&◌, ◌||◌, nat_lt, nat_le, [], ◌∷◌, map, min, All, Option, Some, None, IfSome, refl, sym, ap, ◌∙◌, arith}
 use Rattle.std.specs.Option.{option_map}
 use Rattle.std.specs.List.{AllByRecursion}
 use Rattle.std.specs.Map.{keys_of}
@@ -7,10 +7,11 @@ use Rattle.std.specs.BTreeMap.{is_at}
 use Rattle.std.specs.Ordering.{nat_cmp}
 use Rattle.std.specs.declared.cmp.Ordering.TheVariants.{Less}
 use Rattle.std.specs.Cmp.{unsigned_tied, ranked}
-use Rattle.std.proofs.lemmas.Bool.{leb-true, leb-false, le-leb, lt-leb, eq-eqb, ne_eqb}
+use Rattle.std.proofs.lemmas.Bool.{leb-true, leb-false, le-leb, lt-leb, eq-eqb, eqb-true, ne_eqb}
+use Rattle.std.proofs.lemmas.List.Elements.{All-head, All-tail}
 use Rattle.std.proofs.lemmas.Map.Keys.{sorted_head, sorted_tail}
 use Rattle.quic_time.specs.Clocks.{saturated}
-use Rattle.quic_streams_parts.specs.Table.{Table}
+use Rattle.quic_streams_parts.specs.Table.{Table, at}
 use Rattle.quic_sent_packets.specs.Packets.{TrackedPacket, Ascends, oldest, from}
 use Rattle.quic_spaces.specs.Loss.{Verdict, is_by, is_lost, lost_by, lesser, least_of, overdue}
 use Rattle.quic_spaces.specs.Walks.{StepsTo, up_to, lesser_of, loss_time_from}
@@ -53,6 +54,25 @@ steps_to low high n (x ∷ es) up e below = go (nat_le low x.0) refl e (λ f. st
         let past : nat_le (n + 1) x.0 ≡ false = lt-leb (n + 1) x.0 (omega arith) in
         let apart : is_at (nat_cmp n) x.0 ≡ false = unsigned_tied n x.0 ∙ ne_eqb n x.0 (λ (k : n ≡ x.0). omega arith) in
         record { packet = s.packet; first = rw (is, past) s.first; there = rw apart s.there; above = above; below = below }
+
+-- what is there lies below what all do
+found_below : (m n : ℕ) (es : Packets) (v : TrackedPacket) → All (λ (p : ℕ × TrackedPacket). p.0 < m) es → at es n ≡ Some v → n < m
+found_below m n [] v below found = absurd cc
+found_below m n (x ∷ es) v below found = go (is_at (nat_cmp n) x.0) refl found (found_below m n es v (All-tail (λ (p : ℕ × TrackedPacket). p.0 < m) x es below))
+  where
+    go : (b : Bool) → is_at (nat_cmp n) x.0 ≡ b → cond b (Some x.1) (at es n) ≡ Some v → (at es n ≡ Some v → n < m) → n < m
+    go true is f ih =
+        let same : n ≡ x.0 = eqb-true n x.0 (sym (unsigned_tied n x.0) ∙ is) in
+        let l : x.0 < m = All-head (λ (p : ℕ × TrackedPacket). p.0 < m) x es below in
+        omega (arith, same, l)
+    go false is f ih = ih f
+
+-- the first packet at or above a number, if there is one
+pub steps_if : (low m : ℕ) (es : Packets) (r : Option ℕ) → Ascends es → All (λ (p : ℕ × TrackedPacket). p.0 < m) es → r ≡ option_map (λ p. p.0) (oldest (from low es)) → IfSome r (λ n. StepsTo low m es n)
+steps_if low m es None up below e = tt
+steps_if low m es (Some n) up below e =
+    let s = steps_to low (n + 1) n es up e (omega arith) in
+    steps_to low m n es up e (found_below m n es s.packet below s.there)
 
 -- from a number on none lies below one up to it
 none_up_to : (low high : ℕ) (es : Packets) → high ≤ low → up_to high (from low es) ≡ []

@@ -124,8 +124,8 @@ impl Tracking {
     }
 
     /// Once the lost packets were taken out: sets when the first of those that stay counts as lost
-    /// by time, of those that ask and lie below the greatest acknowledged number. They are all that
-    /// it looks at.
+    /// by time, of those that ask and lie below the greatest acknowledged number. It looks at all
+    /// that lie below it, whether they ask or don't.
     pub fn detected(&mut self, verdict: &Verdict)
         ensures { self.new ≡ record self.old { loss_time = loss_time_of verdict.now self.old.packets } }
     {

@@ -68,10 +68,10 @@ impl PacketNumberFilter {
         }
     }
 
-    /// Gives a number: the next one, or the one above it where that is to be left out. Then a word
-    /// of the source says which is left out next.
+    /// Gives a number below 2^62: the next one, or the one above it where that is to be left out.
+    /// Then a word of the source says which is left out next.
     pub fn allocate<R: Rng>(&mut self, rng: &mut R, numbers: &mut Numbers) -> u64
-        requires { numbers.old.next + 1 < 2 ^ 62 }
+        requires { allocated self.old numbers.old.next < 2 ^ 62 }
         ensures value { result ≡ allocated self.old numbers.old.next }
         ensures numbers { numbers.new ≡ number_given numbers.old (allocated self.old numbers.old.next) }
         ensures filter { self.new ≡ after_allocated self.old numbers.old.next (next_u64 (R.stream rng.old)).0 }

@@ -1,5 +1,5 @@
 //! A packet number space (RFC 9000, section 12.3; quinn-proto's `connection::spaces::PacketSpace`).
-ghost use Rattle.std.specs.Prelude.{◌≡◌, ◌<◌, ◌^◌, ◌&&◌, not, false, All, IfOk, IfSome, OnOk, OnErr};
+ghost use Rattle.std.specs.Prelude.{◌≡◌, ◌<◌, ◌^◌, ◌&&◌, not, nat_lt, true, false, IfOk, IfSome, IsSome, OnOk, OnErr};
 ghost use Rattle.std.specs.Option.{option_map};
 ghost use Rattle.quic_retransmits.specs.Kept.{made};
 ghost use Rattle.quic_retransmits.specs.Retransmits.{merged};
@@ -130,7 +130,6 @@ impl PacketSpace {
         number: u64,
         packet: SentPacket,
     ) -> Result<Option<SentPacket>, AllocError>
-        requires { All (λ p. p.0 < number) self.old.tracking.packets }
         ensures forgotten { IfOk result (λ r. r ≡ option_map (λ p. p.1) (forgotten self.old.tracking packet)) }
         ensures ok { OnOk result (self.new ≡ record self.old { tracking = after_sent self.old.tracking number packet }) }
         ensures err { OnErr result (self.new ≡ self.old) }
@@ -179,6 +178,9 @@ impl PacketSpace {
         ensures ok { OnOk result (record { space = self.new; pending = pending.new } ≡ after_probe_queued request_immediate_ack self.old pending.old streams.now) }
         ensures err { OnErr result (self.new ≡ self.old) }
         ensures pending { OnErr result (pending.new ≡ pending.old) }
+        ensures probes { OnErr result (nat_lt 0 self.old.tracking.probes ≡ true) }
+        ensures nothing { OnErr result (is_empty pending.old streams.now ≡ true) }
+        ensures moves { OnErr result (IsSome (first_record streams.now self.old.tracking.packets)) }
     {
         if !self.tracking.has_probes() {
             return Ok(());
@@ -200,6 +202,7 @@ impl PacketSpace {
         ensures ok { OnOk result (record { space = self.new; pending = pending.new } ≡ probe_filled_for request_immediate_ack self.old pending.old streams.now) }
         ensures err { OnErr result (self.new ≡ self.old) }
         ensures pending { OnErr result (pending.new ≡ pending.old) }
+        ensures moves { OnErr result (IsSome (first_record streams.now self.old.tracking.packets)) }
     {
         match self.tracking.first_record(streams) {
             Some(number) => self.tracking.move_record(number, pending),

@@ -1,10 +1,11 @@
 //! What a space tracks of what it sent (RFC 9002, sections 2, 6.2 and A.1).
-ghost use Rattle.std.specs.Prelude.{◌≡◌, ◌+◌, ◌-◌, ◌≤◌, ◌<◌, ◌++◌, ◌∷◌, [], nat_lt, true, reverse, All, IfSome, IfNone, IfOk, OnOk, OnErr, IsNone};
+ghost use Rattle.std.specs.Prelude.{◌≡◌, ◌+◌, ◌-◌, ◌≤◌, ◌<◌, ◌^◌, ◌++◌, ◌∷◌, [], ◌&&◌, not, nat_lt, true, false, is_some, length, reverse, All, IfSome, IfNone, IfOk, OnOk, OnErr, IsNone};
 ghost use Rattle.std.specs.Option.{option_map};
-ghost use Rattle.quic_streams_parts.specs.Table.{at, without};
-ghost use Rattle.quic_sent_packets.specs.Packets.{Ascends, asks_any, has_in_flight, oldest, within};
+ghost use Rattle.quic_streams_parts.specs.Table.{at, added, without};
+ghost use Rattle.quic_sent_packets.specs.Packets.{Ascends, asks_any, has_in_flight, from, oldest, within};
 ghost use Rattle.quic_spaces.specs.Tracking.{nothing_tracked, is_behind, forgotten, after_sent, after_loss_timeout, after_answered, acked_by, not_acked_by};
 ghost use Rattle.quic_spaces.specs.Tail.{tail_start, at_if, without_if, one_if};
+ghost use Rattle.quic_spaces.specs.Walks.{StepsTo};
 ghost use Rattle.quic_spaces.specs.Named.{outside, among, apart_from, Descends};
 
 use quic_sent_packets::{SentPacket, SentPackets};
@@ -43,8 +44,8 @@ impl Model for Tracking {
 
     ghost view = { tracking_of };
 
-    // The tail is counted, and at most one longer than lets its oldest stay. Numbers have 64 bits.
-    ghost invariant = { λ t. (t.unacked_non_ack_eliciting_tail ≡ length (words.tail_of (tracking_of t))) × (t.unacked_non_ack_eliciting_tail ≤ 1001) × All (λ p. p.0 < 2 ^ 64) t.packets };
+    // The tail is counted. Numbers have 64 bits.
+    ghost invariant = { λ t. (t.unacked_non_ack_eliciting_tail ≡ length (words.tail_of (tracking_of t))) × All (λ p. p.0 < 2 ^ 64) t.packets };
 }
 
 /// Whether a number lies above the greatest that asks, if one does.
@@ -67,17 +68,80 @@ fn tail_start(greatest: Option<u64>) -> u64
     }
 }
 
-/// Takes out the packet of this number, if there is a number.
-fn remove_if(packets: &mut SentPackets, number: Option<u64>) -> Option<SentPacket>
-    ensures taken { result ≡ at_if number packets.old }
-    ensures left { packets.new ≡ without_if number packets.old }
+/// Keeps a packet, in the place of the one that had its number, and takes out that of another
+/// number, if there is one. On an error nothing changes.
+fn exchange(
+    packets: &mut SentPackets,
+    number: u64,
+    packet: SentPacket,
+    other: Option<u64>,
+) -> Result<Option<SentPacket>, AllocError>
+    ensures taken { IfOk result (λ r. r ≡ at_if other packets.old) }
+    ensures left { OnOk result (packets.new ≡ added (without_if other packets.old) number packet) }
+    ensures err { OnErr result (packets.new ≡ packets.old) }
+    ensures ascends { Ascends packets.old }
 {
-    packets.remove(number?)
+    let replaced = packets.insert(number, packet)?;
+    let Some(other) = other else {
+        return Ok(None);
+    };
+    if other == number {
+        return Ok(replaced);
+    }
+    Ok(packets.remove(other))
+}
+
+/// Whether a packet has this number.
+fn is_there(packets: &SentPackets, number: u64) -> bool
+    ensures there { result ≡ is_some (at packets.now number) }
+    ensures ascends { Ascends packets.now }
+{
+    match packets.get(number) {
+        Some(_) => true,
+        None => false,
+    }
+}
+
+/// Whether a packet has this number, once that of another number is gone, if there is one.
+fn is_left(packets: &SentPackets, number: u64, other: Option<u64>) -> bool
+    ensures { result ≡ is_some (at (without_if other packets.now) number) }
+{
+    let there = is_there(packets, number);
+    match other {
+        Some(other) => there && other != number,
+        None => there,
+    }
+}
+
+/// The least number of a packet above another number.
+fn next_above(packets: &SentPackets, number: u64) -> Option<u64>
+    requires { All (λ p. p.0 < 2 ^ 64) packets.now }
+    ensures some { IfSome result (λ n. StepsTo (number + 1) (2 ^ 64) packets.now n) }
+    ensures none { IfNone result (from (number + 1) packets.now ≡ []) }
+{
+    if number == u64::MAX {
+        return None;
+    }
+    packets.first_from(number + 1)
+}
+
+/// How many packets lie above a number: no step where none does.
+fn count_above(packets: &SentPackets, number: u64) -> u64
+    requires { All (λ p. p.0 < 2 ^ 64) packets.now }
+    ensures { result ≡ length (from (number + 1) packets.now) }
+{
+    let mut count = 0;
+    let mut last = number;
+    while let Some(next) = next_above(packets, last) {
+        count += 1;
+        last = next;
+    }
+    count
 }
 
 /// How long the tail is once a packet of it went, or didn't, and one came into it, or didn't.
 fn tail_after(tail: u64, goes: bool, comes: bool) -> u64
-    requires most { tail ≤ 1001 }
+    requires most { goes ≡ false → tail ≤ 1000 }
     requires some { goes ≡ true → 0 < tail }
     ensures { result ≡ tail - one_if goes + one_if comes }
 {
@@ -136,10 +200,8 @@ impl Tracking {
         self.probes > 0
     }
 
-    /// The number of the packet that is forgotten where one with this number goes, which asks for
-    /// an acknowledgement or doesn't.
-    fn to_forget(&self, number: u64, packet: &SentPacket) -> Option<u64>
-        requires { All (λ p. p.0 < number) self.now.packets }
+    /// The number of the packet that is forgotten where this one goes.
+    fn to_forget(&self, packet: &SentPacket) -> Option<u64>
         ensures { result ≡ option_map (λ p. p.0) (forgotten self.now packet.now) }
     {
         if packet.ack_eliciting || self.unacked_non_ack_eliciting_tail <= MOST_TAIL {
@@ -149,10 +211,18 @@ impl Tracking {
             .first_from(tail_start(self.largest_ack_eliciting_sent))
     }
 
-    /// A packet goes, with a number above those that are tracked. One that asks for an
-    /// acknowledgement takes away a probe that waits; one that doesn't lets the oldest of a long
-    /// tail of such packets be forgotten, which is given back: no acknowledgement may ever come for
-    /// them (quinn-proto's `PacketSpace::sent`).
+    /// Whether a packet of this number makes the tail longer, once that of another number is gone,
+    /// if there is one.
+    fn lengthens(&self, number: u64, other: Option<u64>) -> bool
+        ensures { result ≡ (is_behind self.now.greatest_asking number && not (is_some (at (without_if other self.now.packets) number))) }
+    {
+        is_behind(self.largest_ack_eliciting_sent, number) && !is_left(&self.packets, number, other)
+    }
+
+    /// A packet goes. One that asks for an acknowledgement takes away a probe that waits; one that
+    /// doesn't lets the oldest of a long tail of such packets be forgotten, which is given back: no
+    /// acknowledgement may ever come for them (quinn-proto's `PacketSpace::sent`). Only where its
+    /// number lies below one that is tracked are packets walked.
     ///
     /// # Errors
     ///
@@ -162,28 +232,26 @@ impl Tracking {
         number: u64,
         packet: SentPacket,
     ) -> Result<Option<SentPacket>, AllocError>
-        requires { All (λ p. p.0 < number) self.old.packets }
         ensures forgotten { IfOk result (λ r. r ≡ option_map (λ p. p.1) (forgotten self.old packet)) }
         ensures ok { OnOk result (self.new ≡ after_sent self.old number packet) }
         ensures err { OnErr result (self.new ≡ self.old) }
     {
-        let oldest = self.to_forget(number, &packet);
+        let oldest = self.to_forget(&packet);
         let asks = packet.ack_eliciting;
         let time_sent = packet.time_sent;
-        self.packets.insert(number, packet)?;
+        let comes = self.lengthens(number, oldest);
+        let forgotten = exchange(&mut self.packets, number, packet, oldest)?;
         if asks {
             self.largest_ack_eliciting_sent = Some(number);
             self.last_asking = time_sent;
             self.probes = self.probes.saturating_sub(1);
-            self.unacked_non_ack_eliciting_tail = 0;
+            self.unacked_non_ack_eliciting_tail = count_above(&self.packets, number);
             return Ok(None);
         }
-        let forgotten = remove_if(&mut self.packets, oldest);
-        let behind = is_behind(self.largest_ack_eliciting_sent, number);
         self.unacked_non_ack_eliciting_tail = tail_after(
             self.unacked_non_ack_eliciting_tail,
             forgotten.is_some(),
-            behind,
+            comes,
         );
         Ok(forgotten)
     }
@@ -217,20 +285,21 @@ impl Tracking {
         self.probes = 0;
     }
 
-    /// Takes out the packets that an ACK frame names, with their numbers, the greatest first.
-    /// Ranges below all that is tracked aren't looked at.
+    /// Takes out the packets that an ACK frame names, and appends them to `acked` with their
+    /// numbers, the greatest first. Ranges below all that is tracked aren't looked at.
     ///
     /// # Errors
     ///
-    /// [`AllocError`] where memory lacks; some of the packets are gone then.
+    /// [`AllocError`] where memory lacks; some of the packets are gone then, and nothing else has
+    /// changed.
     pub fn take_named(
         &mut self,
         frame: &Ack<'_>,
         acked: &mut Vec<(u64, SentPacket)>,
     ) -> Result<(), AllocError>
-        requires { acked.old.items ≡ [] }
         ensures left { OnOk result (self.new ≡ record self.old { packets = not_acked_by frame.now self.old.packets }) }
-        ensures acked { OnOk result (acked_by frame.now self.old.packets ≡ reverse acked.new.items) }
+        ensures acked { OnOk result (reverse acked.new.items ≡ acked_by frame.now self.old.packets ++ reverse acked.old.items) }
+        ensures others { self.new ≡ record self.old { packets = self.new.packets } }
     {
         // The proof reads that the frame's ranges descend.
         let _largest = frame.largest();
@@ -247,6 +316,7 @@ impl Tracking {
         requires { Descends ranges }
         ensures left { OnOk result (self.new ≡ record self.old { packets = apart_from ranges.entry self.old.packets }) }
         ensures taken { OnOk result (reverse taken.new.items ≡ among ranges.entry self.old.packets ++ reverse taken.old.items) }
+        ensures others { self.new ≡ record self.old { packets = self.new.packets } }
     {
         for range in ranges {
             if self.packets.last_within(0, *range.end()).is_none() {
@@ -267,17 +337,20 @@ impl Tracking {
     ) -> Result<(), AllocError>
         ensures left { OnOk result (self.new ≡ record self.old { packets = outside low high self.old.packets }) }
         ensures taken { OnOk result (reverse taken.new.items ≡ within low high self.old.packets ++ reverse taken.old.items) }
+        ensures others { self.new ≡ record self.old { packets = self.new.packets } }
     {
-        while let Some(packet) = self.take_last(low, high) {
-            taken.push(packet)?;
+        let mut high = high;
+        while let Some((number, packet)) = self.take_last(low, high) {
+            taken.push((number, packet))?;
+            high = number.saturating_sub(1);
         }
         Ok(())
     }
 
     /// Takes out the packet with the greatest number of a range, if there is one.
     fn take_last(&mut self, low: u64, high: u64) -> Option<(u64, SentPacket)>
-        ensures taken { IfSome result (λ p. within low high self.old.packets ≡ within low high self.new.packets ++ p ∷ []) }
-        ensures outside { outside low high self.new.packets ≡ outside low high self.old.packets }
+        ensures taken { IfSome result (λ p. within low high self.old.packets ≡ within low (p.0 - 1) self.new.packets ++ p ∷ []) }
+        ensures outside { IfSome result (λ p. outside low (p.0 - 1) self.new.packets ≡ outside low high self.old.packets) }
         ensures others { self.new ≡ record self.old { packets = self.new.packets } }
         ensures none { IfNone result ((within low high self.old.packets ≡ []) × (self.new ≡ self.old)) }
     {

@@ -8,6 +8,5 @@ invariant_of-self c =
     let p = c.in-Some.packet.now in
     let left = put_at c.self.inside.packets c.take_retransmits.new.self c.args.number p c.in-Some.ensures.value c.take_retransmits.ensures.left in (
       put_counted c.self.inside.largest_ack_eliciting_sent c.self.inside.packets c.take_retransmits.new.self c.args.number (without_record p) c.self.inside.unacked_non_ack_eliciting_tail left c.self.invariant.0,
-      c.self.invariant.1,
-      below_same (2 ^ 64) c.self.inside.packets c.take_retransmits.new.self c.args.number (without_record p) left c.self.invariant.2,
+      below_same (2 ^ 64) c.self.inside.packets c.take_retransmits.new.self c.args.number (without_record p) left c.self.invariant.1,
     )

@@ -6,6 +6,6 @@ use Rattle.quic_spaces.proofs.tracking.Tracking.take_range.Goals as goal
 
 pub returns-clause-left : goal.returns-clause-left
 returns-clause-left c =
-    let i = c.loop-packet.invariant in
+    let i = c.loop-number.invariant in
     let n = c.in_default.ensures.none in
-    n.1 ∙ i.others ∙ ap (λ (es : Table TrackedPacket). record c.args.self.now { packets = es }) (sym (all_outside c.args.low c.args.high c.loop-packet.self.packets n.0) ∙ i.left)
+    n.1 ∙ i.others ∙ ap (λ (es : Table TrackedPacket). record c.args.self.now { packets = es }) (sym (all_outside c.args.low c.loop-number.high c.loop-number.self.packets n.0) ∙ i.left)
