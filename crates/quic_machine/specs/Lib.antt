@@ -1,8 +1,6 @@
 pub mod Policy
 pub mod Closing
 pub mod Ids
-pub mod Numbers
-pub mod Acknowledging
 pub mod Parts
 pub mod Tracking
 pub mod End
