@@ -206,11 +206,6 @@ pub on_ok : {A E P : Type 0} (r : Result A E) → P → OnOk r P
 on_ok (Ok x) p = p
 on_ok (Err e) p = tt
 
--- and what follows from it
-pub on_ok_so : {A E P Q : Type 0} (r : Result A E) → OnOk r P → (P → Q) → OnOk r Q
-on_ok_so (Ok x) p f = f p
-on_ok_so (Err e) p f = tt
-
 -- nothing is kept where no frame is written
 pub none_carried : (most used : ℕ) (s : StreamsState) (p : Retransmits) (kept : Option Retransmits) → kept ≡ None → length (spelled_all (control_part most used s p).frames) ≡ 0 → made kept ≡ retransmits_in (control_part most used s p).frames
 none_carried most used s p kept is none = ap made is ∙ ap retransmits_in (sym (marked_none (control_part most used s p).frames (spelled_all (control_part most used s p).frames) (control_marked most used s p) none))

@@ -30,10 +30,10 @@ joined_is d c t =
     let bs : (d.bytes ++ spelled_all c.frames) ++ t.bytes ≡ d.bytes ++ (spelled_all c.frames ++ t.bytes) = append_assoc d.bytes (spelled_all c.frames) t.bytes in
     rw (fs, bs) refl
 
-streams_goes : (d : Draft) (c : control.Draft) → with_stream_frames (behind_control d c) ≡ joined d c (of_streams.stream_frames_in d.end.transport.send_fairness (frame_room d.end - (length d.bytes + length (spelled_all c.frames))) c.state)
+streams_goes : (d : Draft) (c : control.Draft) → with_stream_frames (behind_control d c) ≡ joined d c (of_streams.stream_frames_in d.end.fair (frame_room d.end - (length d.bytes + length (spelled_all c.frames))) c.state)
 streams_goes d c =
-    ap (λ (k : ℕ). behind_stream (behind_control d c) (of_streams.stream_frames_in d.end.transport.send_fairness (frame_room d.end - k) c.state)) (length-append d.bytes (spelled_all c.frames))
-    ∙ joined_is d c (of_streams.stream_frames_in d.end.transport.send_fairness (frame_room d.end - (length d.bytes + length (spelled_all c.frames))) c.state)
+    ap (λ (k : ℕ). behind_stream (behind_control d c) (of_streams.stream_frames_in d.end.fair (frame_room d.end - k) c.state)) (length-append d.bytes (spelled_all c.frames))
+    ∙ joined_is d c (of_streams.stream_frames_in d.end.fair (frame_room d.end - (length d.bytes + length (spelled_all c.frames))) c.state)
 
 -- behind the frames of a draft
 unfoldable about_behind : Draft → AboutStreams → Draft
@@ -86,18 +86,6 @@ pub asked_room : (e : End) (used : ℕ) → frame_room (asked e used).end ≡ fr
 unfolding asked
 asked_room e used = pinged_room e
 
--- and as many numbers are given
-pub pinged_numbers : (e : End) → (pinged e).numbers ≡ e.numbers
-pinged_numbers e = go e.waiting.ping
-  where
-    go : (b : Bool) → (end_after_ping_if b e).numbers ≡ e.numbers
-    go true = refl
-    go false = refl
-
-pub asked_numbers : (e : End) (used : ℕ) → (asked e used).end.numbers ≡ e.numbers
-unfolding asked
-asked_numbers e used = pinged_numbers e
-
 ping_marked : (b : Bool) → Marked (ping_list b) (ping_bytes b)
 ping_marked true = inl (refl, omega arith)
 ping_marked false = inr (refl, refl)
@@ -107,7 +95,7 @@ unfolding asked
 asked_marked e used =
     let a : AboutStreams = about_streams_at (pinged e) (used + length (ping_bytes e.waiting.ping)) in
     marked_both (ping_list e.waiting.ping) a.frames (ping_bytes e.waiting.ping) a.bytes (ping_marked e.waiting.ping)
-    (about_marked (pinged e).transport.send_fairness (frame_room (pinged e)) (used + length (ping_bytes e.waiting.ping)) (pinged e).streams (pinged e).waiting.frames)
+    (about_marked (pinged e).fair (frame_room (pinged e)) (used + length (ping_bytes e.waiting.ping)) (pinged e).streams (pinged e).waiting.frames)
 
 -- PING carries nothing
 ping_carried : (b : Bool) (fs : List FrameValue) → carried_in (ping_list b ++ fs) ≡ carried_in fs
@@ -121,7 +109,7 @@ asked_carried e used = ping_carried e.waiting.ping (about_streams_at (pinged e) 
 -- what asks names no number
 pub asked_names_none : (e : End) (used : ℕ) → acked_in (asked e used).frames ≡ None
 asked_names_none e used =
-    ap (λ (c : Carried). c.largest_acked) (asked_carried e used ∙ about_carried (pinged e).transport.send_fairness (frame_room (pinged e)) (used + length (ping_bytes e.waiting.ping)) (pinged e).streams (pinged e).waiting.frames)
+    ap (λ (c : Carried). c.largest_acked) (asked_carried e used ∙ about_carried (pinged e).fair (frame_room (pinged e)) (used + length (ping_bytes e.waiting.ping)) (pinged e).streams (pinged e).waiting.frames)
 
 -- ---- PING went, and frames about streams go behind it
 

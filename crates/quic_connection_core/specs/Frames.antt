@@ -1,16 +1,18 @@
 -- What the frames that are sent say, and which bytes stand behind so many others.
-use Rattle.std.specs.Prelude.{ℕ, ◌+◌, ◌-◌, Bool, true, false, ◌&&◌, nat_le, if◌then◌else◌, List, [], ◌∷◌, ◌++◌, map, length, Option, Some, None}
-use Rattle.quic_wire.specs.Value.{FrameValue, ack, ping, stream}
+use Rattle.std.specs.Prelude.{ℕ, ◌+◌, ◌-◌, Bool, true, false, ◌&&◌, nat_le, List, [], ◌∷◌, ◌++◌, map, length, Option, Some, None}
+use Rattle.quic_wire.specs.Value.{FrameValue, AckValue, ack, ping, stream}
+use Rattle.quic_wire.specs.AckSet.{ack_of_set}
 use Rattle.quic_wire.specs.Writing.{spelling, spelled_all, frame_size}
-use Rattle.quic_recovery_core.specs.PendingAcks.{is_filled}
+use Rattle.quic_recovery_core.specs.PendingAcks.{Pending, is_filled}
 use Rattle.quic_retransmits.specs.Retransmits.{Retransmits, nothing_waits}
 use Rattle.quic_streams_state.specs.declared.state.StreamsState.{StreamsState}
 use Rattle.quic_streams_state.specs.State.{Streams, streams_of}
 use Rattle.quic_streams_state.specs.Control as control
 use Rattle.quic_streams_state.specs.Frames as of_streams
-use Rattle.quic_machine.specs.Tracking.{Carried, TrackedPacket, after_sent}
+use Rattle.quic_machine.specs.Acknowledging.{delay_at}
+use Rattle.quic_machine.specs.Tracking.{Carried, after_sent}
 use Rattle.quic_machine.specs.Poll.{Draft, frame_room, ack_of, after_ack}
-use Rattle.quic_machine.specs.End.{End, number_of, with_tracking, with_streams, with_ping}
+use Rattle.quic_machine.specs.End.{End, with_tracking, with_streams, with_ping}
 
 -- ---- frames about streams, behind so many bytes of a payload that may have so many in all
 
@@ -37,7 +39,7 @@ about_streams fair most used s p = record {
 
 -- those of an end
 abbrev pub about_streams_at : End → ℕ → AboutStreams
-about_streams_at e used = about_streams e.transport.send_fairness (frame_room e) used e.streams e.waiting.frames
+about_streams_at e used = about_streams e.fair (frame_room e) used e.streams e.waiting.frames
 
 -- ---- PING
 
@@ -72,6 +74,14 @@ asked e used = record {
 
 -- ---- ACK
 
+-- what an ACK frame says at a moment
+abbrev pub ack_at : Pending → ℕ → AckValue
+ack_at p now = ack_of_set (delay_at p now) p.runs None
+
+-- the most bytes of an ACK frame with 64 ranges and no counts: its type, four numbers, and two for each further range
+abbrev pub most_ack_bytes : ℕ
+most_ack_bytes = 1041
+
 -- whether there is a number to acknowledge, and its frame fits where so many bytes are used
 abbrev pub fits_behind : End → ℕ → Bool
 fits_behind e used = is_filled e.acknowledging.runs && nat_le (used + frame_size (ack (ack_of e))) (frame_room e)
@@ -93,10 +103,7 @@ abbrev pub acked_if : Bool → End → Option ℕ
 acked_if true e = Some (ack_of e).largest
 acked_if false e = None
 
--- a packet of so many bytes as it is tracked, which asks for an acknowledgement or doesn't, and carries this
-abbrev pub packet_as : Bool → ℕ → Carried → End → TrackedPacket
-packet_as asks size carried e = record { generation = e.path.generation; time_sent = e.closing.clock; size = if asks then size else 0; asks = asks; carried = carried }
-
--- the end after it went
-abbrev pub tracked_as : Bool → ℕ → Carried → End → End
-tracked_as asks size carried e = with_tracking e (after_sent e.tracking (number_of e) (packet_as asks size carried e))
+-- the end after a datagram that carries this, where it asks for an acknowledgement or doesn't
+abbrev pub tracked_as : Bool → Carried → End → End
+tracked_as true carried e = with_tracking e (after_sent e.tracking e.numbers.next e.path.generation e.closing.clock carried)
+tracked_as false carried e = e

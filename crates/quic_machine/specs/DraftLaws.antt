@@ -20,8 +20,8 @@ use Rattle.quic_streams_state.specs.Control as control
 use Rattle.quic_streams_state.specs.Frames as of_streams
 use Rattle.quic_streams_laws.specs.ControlWalk.{GoesOn, by_control, by_stream_frames}
 use Rattle.quic_recovery_core.specs.PendingAcks.{can_send, is_filled}
-use Rattle.quic_spaces.specs.Numbers.{cut_against}
-use Rattle.quic_machine.specs.End.{End, number_of, with_streams, with_ping}
+use Rattle.quic_machine.specs.Numbers.{cut_against}
+use Rattle.quic_machine.specs.End.{End, with_streams, with_ping}
 use Rattle.quic_machine.specs.Poll.{Draft, frame_room, fits, with_frame, left, ping_if, with_ping_frame, behind_control, with_control_frames, behind_stream, no_stream_frames, with_stream_frames, Kind, order, put, with_asking, no_frames, ack_of, with_ack, ack_fits, ack_if, composed_if, composed}
 use Rattle.quic_machine.specs.Poll as poll
 
@@ -38,7 +38,7 @@ width_few n = go (nat_lt (2 * n) 256) (nat_lt (2 * n) 65536) (nat_lt (2 * n) 167
 -- how many bytes a datagram has for frames at least
 pub room_most : (e : End) → length e.ids.active.id ≤ 20 → 1159 ≤ frame_room e
 room_most e short =
-    let width = width_few (number_of e - cut_against e.numbers) in
+    let width = width_few (e.numbers.next - cut_against e.numbers) in
     omega arith
 
 -- ---- one frame of each kind
@@ -57,7 +57,7 @@ with_entry d kind e f = with_frame d f (spelling f) (with_streams d.end (streams
 
 -- the frame of a half goes, where so many bytes are left behind its type and id
 abbrev pub with_half_frame : Draft → ℕ → SendHalf → ℕ → Draft
-with_half_frame d id h room = with_frame d (stream (frame_of id h room)) (stream_spelling (writes_length h.buffer room) (frame_of id h room)) (record d.end { streams = of_streams.after_frame_sent d.end.transport.send_fairness d.end.streams id h room })
+with_half_frame d id h room = with_frame d (stream (frame_of id h room)) (stream_spelling (writes_length h.buffer room) (frame_of id h room)) (record d.end { streams = of_streams.after_frame_sent d.end.fair d.end.streams id h room })
 
 -- an ACK may go: no frame went before it, or it fits
 abbrev pub MayAck : Draft → Type 0
@@ -120,7 +120,7 @@ module _ (P : Draft → Type 0) (drops : Drops P) (sends : SendsEntry P) where
 
 module _ (P : Draft → Type 0) (stream_goes : SendsHalf P) where
   -- STREAM frames behind a draft: one more is one more frame
-  half_behind : (d : Draft) (t : of_streams.Sent) (id : ℕ) (h : SendHalf) → behind_stream d (of_streams.frame_sent d.end.transport.send_fairness (left d) t id h) ≡ with_half_frame (behind_stream d t) id h (of_streams.stream_room (left d) t id)
+  half_behind : (d : Draft) (t : of_streams.Sent) (id : ℕ) (h : SendHalf) → behind_stream d (of_streams.frame_sent d.end.fair (left d) t id h) ≡ with_half_frame (behind_stream d t) id h (of_streams.stream_room (left d) t id)
   half_behind d t id h =
       let room : ℕ = of_streams.stream_room (left d) t id in
       let f = frame_of id h room in
@@ -130,10 +130,10 @@ module _ (P : Draft → Type 0) (stream_goes : SendsHalf P) where
 
   -- frames of streams go
   pub by_streams : (d : Draft) → P d → P (with_stream_frames d)
-  by_streams d p = by_stream_frames d.end.transport.send_fairness (left d) (λ (t : of_streams.Sent). P (behind_stream d t)) one (no_stream_frames d) first
+  by_streams d p = by_stream_frames d.end.fair (left d) (λ (t : of_streams.Sent). P (behind_stream d t)) one (no_stream_frames d) first
     where
       one : (t : of_streams.Sent) (id : ℕ) (h : SendHalf) → at t.state.sending.halves.live id ≡ Some h → first_queued t.state.sending.queue ≡ Some id → length t.bytes + 25 ≤ left d → frame_counts h (of_streams.stream_room (left d) t id) ≡ true
-          → P (behind_stream d t) → P (behind_stream d (of_streams.frame_sent d.end.transport.send_fairness (left d) t id h))
+          → P (behind_stream d t) → P (behind_stream d (of_streams.frame_sent d.end.fair (left d) t id h))
       one t id h found first room counts q =
           let both = length-append d.bytes t.bytes in
           subst P (sym (half_behind d t id h)) (stream_goes (behind_stream d t) id h (of_streams.stream_room (left d) t id) found first (omega arith) (omega arith) counts q)

@@ -1,6 +1,8 @@
 pub mod Policy
 pub mod Closing
 pub mod Ids
+pub mod Numbers
+pub mod Acknowledging
 pub mod Parts
 pub mod Tracking
 pub mod End

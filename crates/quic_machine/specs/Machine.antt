@@ -47,7 +47,7 @@ end_on_streams e call a = with_streams e (after_on_streams (is_open e.closing.st
 abbrev pub IsAnswer : Policy → End → List (List ℕ) → Call → Answer → Type 0
 IsAnswer p e theirs calls.Ping a = a ≡ answers.Ping
 IsAnswer p e theirs (calls.Poll now) a = (a ≡ answers.Poll (polled p e now).answer) ⊎ (a ≡ answers.Poll (Err (record {})))
-IsAnswer p e theirs (calls.Timeout now) a = (a ≡ answers.Timeout (timed_out e now).answer) ⊎ (a ≡ answers.Timeout (Err (record {})))
+IsAnswer p e theirs (calls.Timeout now) a = a ≡ answers.Timeout (timed_out e now).answer
 IsAnswer p e theirs (calls.Deliver delivery) a = IsDelivered p e delivery.now (slice_get theirs delivery.index) a
 IsAnswer p e theirs (calls.Inject injection) a = a ≡ injected_if (would_open p e injection.bytes) p e injection.now injection.bytes
 IsAnswer p e theirs calls.Event a = a ≡ answers.Event (end_tells e)
@@ -82,7 +82,7 @@ abbrev pub gives : Policy → End → Call → Answer → List (List ℕ)
 gives p e (calls.Poll now) (answers.Poll (Ok (Some transmit))) = option_to_list (polled p e now).datagram
 gives p e call a = []
 
--- a poll, a timeout or a delivery lacked memory, and the end fails; or a poll or a timeout came to an end that had failed
+-- a poll or a delivery lacked memory, and the end fails; or a poll or a timeout came to an end that had failed
 abbrev pub fails : Answer → Bool
 fails (answers.Poll (Err failed)) = true
 fails (answers.Timeout (Err failed)) = true

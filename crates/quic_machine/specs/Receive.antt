@@ -1,5 +1,5 @@
 -- What an end makes of a datagram that comes (RFC 9000, sections 5.2, 12 and 13.1).
-use Rattle.std.specs.Prelude.{ℕ, ◌+◌, Bool, true, false, ◌==◌, ◌||◌, not, nat_le, nat_lt, if◌then◌else◌, List, [], ◌∷◌, Option, Some, None, Result, Ok, Err}
+use Rattle.std.specs.Prelude.{ℕ, ◌+◌, Bool, true, false, ◌==◌, ◌||◌, not, nat_le, if◌then◌else◌, List, [], ◌∷◌, Option, Some, None, Result, Ok, Err}
 use Rattle.std.specs.List.{list_any}
 use Rattle.quic_wire_core.specs.TransportError.{ErrorValue}
 use Rattle.quic_wire_core.specs.declared.stream_id.Side.{Side}
@@ -24,18 +24,17 @@ use Rattle.quic_machine.specs.declared.answers.Received.{Received}
 use Rattle.quic_machine.specs.declared.answers.Received.TheVariants.{Taken, Dropped, Closed}
 use Rattle.quic_machine.specs.Closing.{ticked}
 use Rattle.quic_machine.specs.Ids.{known}
-use Rattle.quic_spaces.specs.Numbers.{expected, number_opened, number_taken, number_named}
-use Rattle.quic_spaces.specs.Filter.{names_skipped}
+use Rattle.quic_machine.specs.Numbers.{expected, number_opened, number_taken, number_named}
 use Rattle.quic_recovery_core.specs.Duplicates.{Seen, is_duplicate}
 use Rattle.quic_recovery_core.specs.PendingAcks.{Pending, after_insert, after_packet, packet_starts_wait}
 use Rattle.quic_time.specs.Timers.{Timers}
-use Rattle.quic_spaces.specs.Acknowledging.{ack_due}
+use Rattle.quic_machine.specs.Acknowledging.{ack_due, with_ack_timer}
 use Rattle.quic_streams_state.specs.declared.state.StreamsState.{StreamsState}
 use Rattle.quic_streams_state.specs.State.{Streams, streams_of}
 use Rattle.quic_streams_state.specs.Opening.{sending_refusal, max_streams_breach, after_max_streams}
 use Rattle.quic_streams_state.specs.Taking.{stream_breach, after_stream, reset_breach, after_reset_frame, after_stop_sending, after_max_data, after_max_stream_data, stream_data_blocked_breach, streams_blocked_breach}
 use Rattle.quic_machine.specs.Policy.{Policy}
-use Rattle.quic_machine.specs.End.{End, side_of, with_closing, closed_by, with_numbers, with_streams, with_ack_timer, with_loss_timer}
+use Rattle.quic_machine.specs.End.{End, side_of, with_closing, closed_by, with_numbers, with_streams}
 use Rattle.quic_machine.specs.Opens.{own_id_length}
 use Rattle.quic_machine.specs.Tracking.{dir_named}
 use Rattle.quic_machine.specs.Acked.{after_acked}
@@ -99,19 +98,10 @@ abbrev pub fault_at : Side → Option Fault
 fault_at Client = None
 fault_at Server = Some violation
 
--- whether a number lies above all own ones that were named before
-abbrev pub is_above : Option ℕ → ℕ → Bool
-is_above None n = true
-is_above (Some m) n = nat_lt m n
-
 -- An ACK frame: the greatest number that it names counts, whatever else it names; then the tracked packets that it names are acknowledged, and others
--- lost. Its counts of marks are ignored. A number that was never given is a broken rule (RFC 9000, section 13.1), and so is the one that was left out last.
-abbrev pub names_ungiven : AckValue → End → Bool
-names_ungiven a e = nat_le e.numbers.next a.largest || list_any (λ r. names_skipped e.filter.last r.0 r.1) a.ranges
-
+-- lost. Its counts of marks are ignored. A number that was never given is a broken rule (RFC 9000, section 13.1).
 abbrev pub take_ack : AckValue → End → Progress
-take_ack a e = if names_ungiven a e then record { end = e; fault = Some violation }
-    else goes_on (after_acked (is_above e.numbers.largest_acked a.largest) a (with_numbers e (number_named e.numbers a.largest)))
+take_ack a e = if nat_le e.numbers.next a.largest then record { end = e; fault = Some violation } else goes_on (after_acked a (with_numbers e (number_named e.numbers a.largest)))
 
 -- what a frame on streams makes of them: a rule that it broke, if it broke one, and the streams that it leaves
 abbrev pub on_streams : Option Breach → Streams → End → Progress
@@ -180,8 +170,8 @@ abbrev pub timers_after : Timers → Pending → ℕ → ℕ → Bool → Seen �
 timers_after t p now n asking seen = if packet_starts_wait p n asking seen then with_ack_timer t (Some (ack_due now)) else t
 
 -- the whole payload of a packet of this number was taken, which asks for an acknowledgement or doesn't: the number is to be acknowledged
-abbrev pub number_noted : ℕ → Bool → End → End
-number_noted n asking e =
+abbrev pub after_taken : ℕ → Bool → End → End
+after_taken n asking e =
     let now = e.closing.clock in
     let p = after_insert e.acknowledging n now in
     record e {
@@ -189,10 +179,6 @@ number_noted n asking e =
       acknowledging = after_packet p now n asking e.numbers.opened;
       timers = timers_after e.timers p now n asking e.numbers.opened;
     }
-
--- and the loss timer is set to what the frames left
-abbrev pub after_taken : ℕ → Bool → End → End
-after_taken n asking e = with_loss_timer (number_noted n asking e)
 
 -- all frames were taken, or one was at fault: those before it keep their effect
 abbrev pub ends_as : Option Fault → Bool → ℕ → End → Outcome

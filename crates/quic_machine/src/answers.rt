@@ -122,9 +122,6 @@ pub enum ConfigError {
     /// The own id hasn't eight bytes, or the peer's has none.
     #[error("an id of the wrong length")]
     IdLength,
-    /// A size of datagrams is above 65527 bytes, or the least is above what the peer takes.
-    #[error("a size of datagrams out of range")]
-    Size,
     /// Memory lacked.
     #[error("out of memory")]
     Memory,

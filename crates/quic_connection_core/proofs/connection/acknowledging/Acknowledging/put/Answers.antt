@@ -1,0 +1,11 @@
+use Rattle.std.proofs.Common.{◌≤◌, length, subst}
+use Rattle.quic_recovery_core.specs.declared.spaces.pending_acks.TheConstants.{MAX_ACK_RUNS}
+use Rattle.quic_recovery_core.specs.PendingAcks.{Pending}
+use Rattle.quic_machine.specs.Acknowledging.{delay_at}
+use Rattle.quic_connection_core.proofs.AckSize.{few_runs}
+use Rattle.quic_connection_core.proofs.connection.acknowledging.Acknowledging.put.Goals as goal
+
+pub returns-clause-most : goal.returns-clause-most
+returns-clause-most c =
+    let few = subst (λ (p : Pending). length p.runs ≤ MAX_ACK_RUNS) c.self.view_is c.ranges-2.ensures.few in
+    few_runs (delay_at c.args.self.now c.args.now) c.args.self.now.runs few

@@ -1,0 +1,164 @@
+//! What is to be acknowledged, and when (RFC 9000, section 13.2).
+ghost use Rattle.std.specs.Prelude.{◌≡◌, ◌+◌, ◌≤◌, ◌<◌, ◌^◌, ◌++◌, [], None, true, length, vec_len, vec_capacity, IfOk, OnOk, OnErr};
+ghost use Rattle.quic_wire.specs.AckSet.{ack_of_set, ranges_of_set, greatest, IsSmall};
+ghost use Rattle.quic_wire.specs.AckWriting.{ack_spelling, ack_size};
+ghost use Rattle.quic_recovery_core.specs.declared.spaces.pending_acks.TheConstants.{MAX_ACK_RUNS};
+ghost use Rattle.quic_recovery_core.specs.PendingAcks.{after_insert, after_packet, packet_starts_wait, after_subtract, after_timeout, can_send, is_filled, after_acks_sent};
+ghost use Rattle.quic_machine.specs.Acknowledging.{nothing_to_acknowledge, ack_due, delay_at};
+ghost use Rattle.quic_connection_core.specs.Frames.{ack_at, most_ack_bytes};
+
+use quic_recovery_core::{Dedup, PendingAcks};
+use quic_sets::ArrayRangeSet;
+use quic_time::Instant;
+use quic_wire::frame::{Ack, AckFrequency};
+use quic_wire_core::VarInt;
+use std::alloc::{AllocError, Global};
+use std::marker::Model;
+
+/// How long an acknowledgement may wait, in nanoseconds (RFC 9000, section 18.2).
+const MAX_ACK_DELAY: u64 = 25_000_000;
+
+/// Microseconds of one unit in which ACK frames tell their delay: the default exponent is 3 (RFC 9000, section 18.2).
+const ACK_DELAY_UNIT: u64 = 8;
+
+/// The greatest number that a frame can tell (RFC 9000, section 16).
+const MAX_DELAY: u64 = (1 << 62) - 1;
+
+/// The moment at which an acknowledgement is due that waits from this one on.
+pub(crate) fn ack_due(now: Instant) -> Instant
+    ensures { result ≡ ack_due now }
+{
+    Instant::from_nanos(now.as_nanos().saturating_add(MAX_ACK_DELAY))
+}
+
+/// The numbers of packets that were taken and are to be acknowledged.
+#[derive(Drop)]
+pub(crate) struct Acknowledging {
+    pending: PendingAcks,
+}
+
+impl Model for Acknowledging {
+    ghost use Rattle.quic_wire.specs.AckSet.{IsSmall};
+    ghost use Rattle.quic_recovery_core.specs.PendingAcks.{Pending};
+
+    ghost Value = { Pending };
+
+    ghost view = { λ a. a.pending };
+
+    ghost invariant = { λ a. IsSmall a.pending.runs };
+}
+
+impl Acknowledging {
+    /// No packet was taken.
+    pub(crate) fn new(alloc: Global) -> Self
+        ensures { result ≡ nothing_to_acknowledge }
+    {
+        let mut pending = PendingAcks::new(alloc);
+        pending.set_ack_frequency_params(&AckFrequency {
+            sequence: VarInt::from_u32(0),
+            ack_eliciting_threshold: VarInt::from_u32(1),
+            request_max_ack_delay: VarInt::from_u32(0),
+            reordering_threshold: VarInt::from_u32(0),
+        });
+        Acknowledging { pending }
+    }
+
+    /// A packet of this number was taken at this moment, which asks for an acknowledgement or doesn't: whether the timer of
+    /// acknowledgements is to be set. An error is want of memory, and nothing has changed.
+    pub(crate) fn take(
+        &mut self,
+        number: u64,
+        now: Instant,
+        asks: bool,
+        dedup: &Dedup,
+    ) -> Result<bool, AllocError>
+        requires { number < 2 ^ 62 }
+        ensures waits { IfOk result (λ waits. waits ≡ packet_starts_wait (after_insert self.old number now) number asks dedup.now) }
+        ensures ok { OnOk result (self.new ≡ after_packet (after_insert self.old number now) now number asks dedup.now) }
+        ensures err { OnErr result (self.new ≡ self.old) }
+    {
+        self.pending.insert_one(number, now)?;
+        Ok(self.pending.packet_received(now, number, asks, dedup))
+    }
+
+    /// The timer of acknowledgements expired.
+    pub(crate) fn expire(&mut self)
+        ensures { self.new ≡ after_timeout self.old }
+    {
+        self.pending.on_max_ack_delay_timeout();
+    }
+
+    /// The peer knows that the numbers up to one came: they need no more acknowledgement.
+    pub(crate) fn forget(&mut self, largest: u64)
+        ensures { self.new ≡ after_subtract self.old largest }
+    {
+        self.pending.subtract_below(largest);
+    }
+
+    /// Whether an acknowledgement is due.
+    pub(crate) fn is_due(&self) -> bool
+        ensures { result ≡ can_send self.now }
+    {
+        self.pending.can_send()
+    }
+
+    /// Whether there is a number to acknowledge.
+    pub(crate) fn is_filled(&self) -> bool
+        ensures { result ≡ is_filled self.now.runs }
+    {
+        self.pending.can_send_with_other_frames()
+    }
+
+    /// The greatest number to acknowledge, 0 where there is none.
+    pub(crate) fn largest(&self) -> u64
+        ensures { result ≡ greatest (ranges_of_set self.now.runs) }
+    {
+        self.pending.ranges().max().unwrap_or(0)
+    }
+
+    /// The delay that an ACK frame tells at this moment.
+    fn delay(&self, now: Instant) -> u64
+        ensures value { result ≡ delay_at self.now now }
+        ensures small { result < 2 ^ 62 }
+    {
+        (self.pending.ack_delay(now).as_micros() / ACK_DELAY_UNIT).min(MAX_DELAY)
+    }
+
+    /// How many bytes the ACK frame of this moment takes, where there is a number to acknowledge.
+    pub(crate) fn size(&self, now: Instant) -> usize
+        requires { is_filled self.now.runs ≡ true }
+        ensures size { result ≡ ack_size (ack_at self.now now) }
+        ensures most { result ≤ most_ack_bytes }
+    {
+        Ack::size_of(self.delay(now), self.pending.ranges(), None)
+    }
+
+    /// Appends the ACK frame of this moment, for which there is room: 1041 bytes are enough. There is a number to
+    /// acknowledge. No acknowledgement is due then until more packets come.
+    pub(crate) fn put(&mut self, now: Instant, out: &mut Vec<u8>)
+        requires some { is_filled self.old.runs ≡ true }
+        requires room { length self.old.runs ≤ MAX_ACK_RUNS → vec_len out.old + ack_size (ack_at self.old now) ≤ vec_capacity out.old }
+        ensures items { out.new.items ≡ out.old.items ++ ack_spelling (ack_at self.old now) }
+        ensures len { vec_len out.new ≡ vec_len out.old + ack_size (ack_at self.old now) }
+        ensures most { ack_size (ack_at self.old now) ≤ most_ack_bytes }
+        ensures capacity { vec_capacity out.old ≤ vec_capacity out.new }
+        ensures next { self.new ≡ after_acks_sent self.old }
+    {
+        let delay = self.delay(now);
+        put_ack(out, delay, self.pending.ranges());
+        self.pending.acks_sent();
+    }
+}
+
+/// Appends the ACK frame of numbers, for which there is room.
+fn put_ack(out: &mut Vec<u8>, delay: u64, ranges: &ArrayRangeSet)
+    requires some { ranges.now ≡ [] → ⊥ }
+    requires small { IsSmall ranges.now }
+    requires delay { delay < 2 ^ 62 }
+    requires room { vec_len out.old + ack_size (ack_of_set delay ranges.now None) ≤ vec_capacity out.old }
+    ensures items { out.new.items ≡ out.old.items ++ ack_spelling (ack_of_set delay ranges.now None) }
+    ensures len { vec_len out.new ≡ vec_len out.old + ack_size (ack_of_set delay ranges.now None) }
+    ensures capacity { vec_capacity out.old ≤ vec_capacity out.new }
+{
+    Ack::encode(delay, ranges, None, out).unwrap()
+}

@@ -1,0 +1,61 @@
+-- Packet numbers of an end: those it gives and those it opened (RFC 9000, section 12.3).
+use Rattle.std.specs.Prelude.{ℕ, ◌+◌, ◌-◌, ◌^◌, max, Bool, nat_lt, ◌&&◌, [], Option, Some, None, unwrap_or}
+use Rattle.quic_recovery_core.specs.declared.spaces.dedup.TheConstants.{DUPLICATE_SPAN}
+use Rattle.quic_recovery_core.specs.Duplicates.{Seen, after_insert}
+
+-- how far below the greatest opened number one counts as having come before
+abbrev pub duplicate_span : ℕ
+duplicate_span = DUPLICATE_SPAN
+
+-- the next number to give, the greatest own number that the peer named, the numbers opened, and the greatest whose whole payload was taken
+pub record Numbers : Type 0 where
+  pub next : ℕ
+  pub largest_acked : Option ℕ
+  pub opened : Seen
+  pub taken : Option ℕ
+
+-- no number was given, opened or taken
+abbrev pub no_numbers : Numbers
+no_numbers = record { next = 0; largest_acked = None; opened = []; taken = None }
+
+-- one above the greatest of some numbers, if there is one
+abbrev pub after_greatest : Option ℕ → ℕ
+after_greatest None = 0
+after_greatest (Some n) = n + 1
+
+-- the number that a packet is expected to have (RFC 9000, A.3)
+abbrev pub expected : Numbers → ℕ
+expected numbers = after_greatest numbers.taken
+
+-- what a number is cut against (RFC 9000, A.2): the greatest acknowledged, 0 if there is none
+abbrev pub cut_against : Numbers → ℕ
+cut_against numbers = unwrap_or numbers.largest_acked 0
+
+-- how many numbers are kept for closes
+abbrev pub kept_numbers : ℕ
+kept_numbers = 16
+
+-- whether an ordinary datagram may still be numbered: a number stays below 2 ^ 62, and its distance from the greatest acknowledged below 2 ^ 31
+abbrev pub can_number : Numbers → Bool
+can_number numbers = nat_lt (numbers.next + kept_numbers) (2 ^ 62) && nat_lt (numbers.next - cut_against numbers + kept_numbers) (2 ^ 31)
+
+-- the next number is given
+abbrev pub number_given : Numbers → Numbers
+number_given numbers = record numbers { next = numbers.next + 1 }
+
+-- a packet of this number was opened
+abbrev pub number_opened : Numbers → ℕ → Numbers
+number_opened numbers n = record numbers { opened = after_insert numbers.opened n }
+
+-- the greater of a number and one that may be there
+abbrev pub greatest_of : Option ℕ → ℕ → ℕ
+greatest_of None n = n
+greatest_of (Some m) n = max m n
+
+-- the whole payload of a packet of this number was taken
+abbrev pub number_taken : Numbers → ℕ → Numbers
+number_taken numbers n = record numbers { taken = Some (greatest_of numbers.taken n) }
+
+-- a frame named own numbers up to this one
+abbrev pub number_named : Numbers → ℕ → Numbers
+number_named numbers n = record numbers { largest_acked = Some (greatest_of numbers.largest_acked n) }
