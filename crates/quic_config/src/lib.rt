@@ -8,5 +8,5 @@ mod mtu_discovery;
 mod transport;
 
 pub use ack_frequency::AckFrequencyConfig;
-pub use mtu_discovery::MtuDiscoveryConfig;
+pub use mtu_discovery::{MAX_UDP_PAYLOAD, MtuDiscoveryConfig};
 pub use transport::{IDS_KEPT, IdleTimeout, TransportConfig};

@@ -7,7 +7,7 @@ use quic_time::Duration;
 use std::marker::Model;
 
 /// The greatest size that a UDP payload may have here, in bytes.
-pub(crate) const MAX_UDP_PAYLOAD: u16 = 65527;
+pub const MAX_UDP_PAYLOAD: u16 = 65527;
 
 /// How an end looks for the greatest size of a datagram that its path carries (RFC 8899; quinn-proto's `MtuDiscoveryConfig`).
 #[derive(Clone, Copy, Debug)]

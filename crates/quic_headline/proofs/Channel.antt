@@ -5,6 +5,7 @@ pub mod Given
 pub mod Stops
 pub mod Names
 pub mod Counts
+pub mod Messages
 pub mod Plain
 pub mod Passes
 pub mod Below

@@ -2,6 +2,7 @@
 pub mod Flies
 pub mod InStreams
 pub mod Carrier
+pub mod Tail
 pub mod UnderWay
 pub mod Resets
 pub mod Lasting

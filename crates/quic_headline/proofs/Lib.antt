@@ -8,3 +8,4 @@ pub mod Settled
 pub mod Channel
 pub mod Amounts
 pub mod Grown
+pub mod Messages

@@ -9,6 +9,7 @@ pub mod Placed
 pub mod Coming
 pub mod Openings
 pub mod Flights
+pub mod Newest
 pub mod Together
 pub mod Everything
 pub mod Theorems

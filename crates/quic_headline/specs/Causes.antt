@@ -28,7 +28,7 @@ abbrev pub reason_in : View → Side → Option LostReason
 reason_in v Client = v.client.reason
 reason_in v Server = v.server.reason
 
--- behind the answer at a place, up to which no delivery and no poll met want of memory, the view shows this of an end
+-- behind the answer at a place, up to which no delivery, no poll and no timeout met want of memory, the view shows this of an end
 pub record Shows (r : Run) (side : Side) (place : ℕ) (reason : Option LostReason) : Type 0 where
   pub served : AreServed r (place + 1)
   pub view : View

@@ -157,6 +157,6 @@ IsSomewhere e own packets told duty = Waits e duty ⊎ IsUnderWay own e.tracking
 abbrev pub DutiesAt : Run → ℕ → World → Type 0
 DutiesAt r i w = (side : Side) (duty : Duty) → IsOwed (end_at side w) (sents_until r side i) (until r side i) duty → IsSomewhere (end_at side w) (sents_until r side i) (took r (other_side side) i) (until r side i) duty
 
--- at each place before which no delivery and no poll met want of memory
+-- at each place before which no delivery, no poll and no timeout met want of memory
 abbrev pub DutiesStand : Run → Type 0
 DutiesStand r = (i : ℕ) (w : World) → AreServed r i → LeadsTo r i w → DutiesAt r i w

@@ -40,6 +40,6 @@ pub record GrownLimitsWaitAt (told : List Told) (e : End) : Type 0 where
   pub stream : (id : ℕ) → StreamHasGrown told e.streams.receiving id → has_id id e.waiting.frames.max_stream_data ≡ true
   pub count : (dir : Dir) → CountHasGrown e.streams.opening dir → of dir e.waiting.frames.max_stream_id ≡ true
 
--- so it is at each place, at both ends, before which no delivery and no poll met want of memory
+-- so it is at each place, at both ends, before which no delivery, no poll and no timeout met want of memory
 abbrev pub GrownLimitsWait : Run → Type 0
 GrownLimitsWait r = (i : ℕ) (w : World) → AreServed r i → LeadsTo r i w → (side : Side) → GrownLimitsWaitAt (until r side i) (end_at side w)

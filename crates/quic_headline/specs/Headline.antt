@@ -1,5 +1,5 @@
 -- What every run of two honest ends keeps (RFC 9000, sections 2.2, 2.3 and 12.3): the headline, over the run's lists alone, and in some clauses over the ends that are left.
-use Rattle.std.specs.Prelude.{ℕ, ◌+◌, ◌^◌, ◌<◌, ◌≤◌, ◌≡◌, ◌↔◌, Bool, true, false, not, eqb, List, [], ◌∷◌, ◌++◌, length, take, drop, slice_get, Option, Some, None, Ok, Err}
+use Rattle.std.specs.Prelude.{ℕ, ◌+◌, ◌^◌, ◌<◌, ◌≤◌, ◌≡◌, ◌↔◌, Bool, true, false, eqb, List, [], ◌∷◌, ◌++◌, length, take, drop, slice_get, Option, Some, None, Ok, Err}
 use Rattle.std.specs.List.{IsDistinct}
 use Rattle.std.specs.Option.{is_some}
 use Rattle.quic_wire_core.specs.declared.stream_id.Side.{Side}
@@ -18,16 +18,17 @@ use Rattle.quic_machine.specs.declared.run.Call.{Call}
 use Rattle.quic_machine.specs.declared.run.Call.TheVariants as calls
 use Rattle.quic_machine.specs.declared.run.Answer.{Answer}
 use Rattle.quic_machine.specs.declared.run.Answer.TheVariants as answers
+use Rattle.quic_packet.specs.Datagram.{Opening}
 use Rattle.quic_machine.specs.Policy.{Policy}
 use Rattle.quic_machine.specs.Start.{AreStarted, AreKeys}
 use Rattle.quic_machine.specs.Ids.{known}
 use Rattle.quic_machine.specs.Opens.{opens}
-use Rattle.quic_machine.specs.Tracking.{is_idle}
+use Rattle.quic_machine.specs.Tracking.{asks_any}
 use Rattle.quic_machine.specs.End.{End}
 use Rattle.quic_machine.specs.Poll.{IsDatagram}
 use Rattle.quic_machine.specs.Machine.{World, policy_at, end_at, Follows}
 use Rattle.quic_headline.specs.Runs.{Run, Told, Next, Packet, In, until, state_at, AreServed, written, ended, nexts, chunks_of, reads, bytes_of, offsets_of, ids_of, accepts, only_in_order, reset, WasNamed, HasArrived, EndHasArrived, IsTaken, IsNamed, names, finishes_told, given_until, first_id_of_peer, expected_behind}
-use Rattle.quic_headline.specs.Observer.{Sent, HoldsOffset, HoldsEnd, frames_opened, watch, took, references_until, acked_until}
+use Rattle.quic_headline.specs.Observer.{Sent, HoldsOffset, HoldsEnd, frames_opened, watch, took, sents_until, references_until, acked_until}
 
 -- ---- the premises
 
@@ -74,7 +75,7 @@ pub record IsHonest (r : Run) : Type 0 where
 abbrev pub IsPrefixOf : List ℕ → List ℕ → Type 0
 IsPrefixOf xs ys = (rest : List ℕ) × (xs ++ rest ≡ ys)
 
--- Each clause speaks of the end at `side`, and of a place before which no delivery and no poll met want of memory.
+-- Each clause speaks of the end at `side`, and of a place before which no delivery, no poll and no timeout met want of memory.
 
 -- where a stream was read in order alone, the bytes read are a prefix of the bytes that the other end wrote
 abbrev pub OrderedPrefix : Run → Type 0
@@ -187,11 +188,36 @@ would_open_at r side i d = is_some (opens (policy_at side r.keys) (watch r side 
 abbrev pub OpensExactly : Run → Type 0
 OpensExactly r = (side : Side) (i : ℕ) (injection : Injection) (a : Answer) → AreServed r i → IsAt r i side (calls.Inject injection) a → (a ≡ answers.Opens) ↔ (would_open_at r side i injection.bytes ≡ true)
 
+-- ---- what opens
+
+-- what a datagram that an end gave opens to at the other end by the run's lists: with its keys, under an id that it began with, where
+-- one above the greatest number that it took is expected (RFC 9000, section 17.1 and A.3)
+abbrev pub opened_there : Run → Side → ℕ → List ℕ → Option Opening
+opened_there r side i d = opens (policy_at (other_side side) r.keys) (known (end_at (other_side side) r.start).ids) (expected_behind (took r (other_side side) i)) d
+
+-- none of these packets has a number above this one
+abbrev pub NoneAbove : List Packet → ℕ → Type 0
+NoneAbove packets number = (packet : Packet) → In packet packets → packet.number ≤ number
+
+-- A datagram opens as it was sent: under its number, to its frames.
+pub record OpensAs (s : Sent) (o : Option Opening) : Type 0 where
+  pub opening : Opening
+  pub is : o ≡ Some opening
+  pub number : opening.number ≡ s.number
+  pub frames : frames_opened o ≡ s.frames
+
+-- each datagram that an end gave before a place, by where it stands among them, opens as it was sent where the other end took none with
+-- a number above its own: the bytes that go of a number tell it to a peer that took what was acknowledged, and nothing later (RFC 9000,
+-- sections 12.3 and 17.1, and A.2 and A.3)
+abbrev pub NewestOpens : Run → Type 0
+NewestOpens r = (side : Side) (i place : ℕ) (datagram : List ℕ) (s : Sent) → AreServed r i → slice_get (given_until r side i) place ≡ Some datagram → slice_get (sents_until r side i) place ≡ Some s
+    → NoneAbove (took r (other_side side) i) s.number → OpensAs s (opened_there r side i datagram)
+
 -- ---- timers
 
 -- at an open end the loss timer is set exactly while a datagram that asks is waited for (RFC 9002, section 6.2.1)
 abbrev pub LossTimerFollows : End → Type 0
-LossTimerFollows e = e.closing.state ≡ states.Open → is_some e.timers.loss_detection ≡ not (is_idle e.tracking.packets)
+LossTimerFollows e = e.closing.state ≡ states.Open → is_some e.timers.loss_detection ≡ asks_any e.tracking.packets
 
 -- so it is at both ends
 abbrev pub LossTimersFollow : World → Type 0
@@ -212,13 +238,14 @@ pub record IsNumbered (p : Policy) (reference number : ℕ) (id datagram : List 
   pub frames : List FrameValue
   pub is : IsDatagram p reference number id frames datagram
 
--- each datagram has a number, cut against its reference, at or above `low` and above those before it
+-- each datagram has a number, cut against its reference, at or above `low` and above those before it, and no two numbers that follow one another are left out
 abbrev pub Rise : Policy → List ℕ → ℕ → List ℕ → List (List ℕ) → Type 0
 Rise p id low references [] = Unit {0}
 Rise p id low [] (d ∷ ds) = ⊥
-Rise p id low (reference ∷ references) (d ∷ ds) = (number : ℕ) × (low ≤ number) × IsNumbered p reference number id d × Rise p id (number + 1) references ds
+Rise p id low (reference ∷ references) (d ∷ ds) = (number : ℕ) × (low ≤ number) × (number ≤ low + 1) × IsNumbered p reference number id d × Rise p id (number + 1) references ds
 
--- at each end and each place, each datagram given is that of a number, the peer's id and stated frames, and the numbers rise
+-- at each end and each place, each datagram given is that of a number, the peer's id and stated frames, and the numbers rise, by
+-- one or by two: at most one is left out between two that are given
 abbrev pub NumbersRise : Run → Type 0
 NumbersRise r = (side : Side) (i : ℕ) → AreServed r i → Rise (policy_at side r.keys) (first_id_of_peer r side) 0 (references_until r side i) (given_until r side i)
 

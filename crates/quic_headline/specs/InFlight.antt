@@ -1,16 +1,16 @@
 -- What an end waits for, against what an observer of the run's lists knows to be in flight (RFC 9002, sections 2, 6.1.1 and A.1).
-use Rattle.std.specs.Prelude.{ℕ, ◌+◌, ◌≡◌, Bool, true, false, not, List, [], ◌∷◌, length, map, Option, Some, None}
+use Rattle.std.specs.Prelude.{ℕ, ◌+◌, ◌≡◌, ◌⊎◌, Bool, true, false, not, if◌then◌else◌, List, [], ◌∷◌, length, map, Option, Some, None}
 use Rattle.std.specs.List.{list_any}
 use Rattle.quic_wire_core.specs.declared.stream_id.Side.{Side}
 use Rattle.quic_wire.specs.Value.{FrameValue, StreamValue, StopSendingValue, ack, stream, reset_stream, stop_sending, max_data, max_stream_data, max_streams, data_blocked, stream_data_blocked}
 use Rattle.quic_send_buffer.specs.declared.stream_meta.StreamMeta.{StreamMeta}
 use Rattle.quic_machine.specs.declared.answers.State.TheVariants as states
 use Rattle.quic_streams_parts.specs.Table.{Table}
-use Rattle.quic_retransmits.specs.Retransmits.{Retransmits, with_ids}
-use Rattle.quic_machine.specs.Tracking.{Carried, TrackedPacket}
+use Rattle.quic_retransmits.specs.Retransmits.{Retransmits, nothing_waits, with_ids}
+use Rattle.quic_machine.specs.Tracking.{Carried, TrackedPacket, without_record}
 use Rattle.quic_machine.specs.Machine.{World, end_at}
-use Rattle.quic_headline.specs.Runs.{Run, AreServed, LeadsTo}
-use Rattle.quic_headline.specs.Observer.{Sent, watch}
+use Rattle.quic_headline.specs.Runs.{Run, In, AreServed, LeadsTo}
+use Rattle.quic_headline.specs.Observer.{Sent, asks_of, watch}
 
 -- the offsets of a STREAM frame, and whether the stream ends behind them (RFC 9000, section 19.8)
 abbrev pub offsets_in : StreamValue → StreamMeta
@@ -87,18 +87,28 @@ again_in frames = record {
 abbrev pub carried_by : List FrameValue → Carried
 carried_by frames = record { largest_acked = first_acknowledged frames; stream_frames = all_offsets frames; retransmits = again_in frames }
 
--- what an end knows of a datagram that it waits for, by its number; there is one path, the first
+-- what an end knows of a datagram that it waits for, by its number; there is one path, the first. Where it asks, it counts against the congestion window
 abbrev pub waited_for : Sent → ℕ × TrackedPacket
-waited_for s = (s.number, record { generation = 0; time_sent = s.moment; carried = carried_by s.frames })
+waited_for s = (s.number, record { generation = 0; time_sent = s.moment; size = if asks_of s then s.size else 0; asks = asks_of s; carried = carried_by s.frames })
+
+-- the same, but for what has to be sent again of it: a probe may have taken that (RFC 9002, section 6.2.4)
+abbrev pub but_for_record : ℕ × TrackedPacket → ℕ × TrackedPacket
+but_for_record p = (p.0, without_record p.1)
 
 -- the datagrams of an end that are in flight behind the first so many answers, as the end is to know them
 abbrev pub in_flight : Run → Side → ℕ → Table TrackedPacket
 in_flight r side i = map waited_for (watch r side i).flight.flying
 
--- an end that is open there waits for exactly the datagrams that are in flight
-abbrev pub TracksAt : Run → ℕ → World → Type 0
-TracksAt r i w = (side : Side) → (end_at side w).closing.state ≡ states.Open → (end_at side w).tracking.packets ≡ in_flight r side i
+-- An end waits for exactly these: of each it knows when it went, what acknowledgement and which bytes of streams it carried, and what has to be sent again of it,
+-- unless a probe took that.
+pub record WaitsFor (packets flying : Table TrackedPacket) : Type 0 where
+  pub same : map but_for_record packets ≡ map but_for_record flying
+  pub records : (n : ℕ) (p q : TrackedPacket) → In (n, p) packets → In (n, q) flying → (p.carried.retransmits ≡ q.carried.retransmits) ⊎ (p.carried.retransmits ≡ nothing_waits)
 
--- so it is at each place before which no delivery and no poll met want of memory
+-- so does an end that is open there of the datagrams that are in flight
+abbrev pub TracksAt : Run → ℕ → World → Type 0
+TracksAt r i w = (side : Side) → (end_at side w).closing.state ≡ states.Open → WaitsFor (end_at side w).tracking.packets (in_flight r side i)
+
+-- so it is at each place before which no delivery, no poll and no timeout met want of memory
 abbrev pub TracksInFlight : Run → Type 0
 TracksInFlight r = (i : ℕ) (w : World) → AreServed r i → LeadsTo r i w → TracksAt r i w

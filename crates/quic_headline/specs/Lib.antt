@@ -7,3 +7,4 @@ pub mod InFlight
 pub mod Causes
 pub mod Moments
 pub mod Grown
+pub mod Messages

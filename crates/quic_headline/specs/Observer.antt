@@ -1,12 +1,14 @@
 -- What an observer of a run's lists knows of an end: what came to it, what it gave, and what of that is in flight or acknowledged
--- (RFC 9002, sections 2, 6.1.1 and A.1). It reads what an end gave with the keys of its peer.
-use Rattle.std.specs.Prelude.{ℕ, ◌+◌, ◌-◌, ◌<◌, ◌≤◌, ◌≡◌, max, not, Bool, true, false, nat_le, nat_lt, if◌then◌else◌, List, [], ◌∷◌, ◌++◌, filter, length, map, take, Option, Some, None}
+-- (RFC 9002, sections 2, 5, 6.1, 6.2 and A.1). It reads what an end gave with the keys of its peer.
+use Rattle.std.specs.Prelude.{ℕ, ◌+◌, ◌-◌, ◌*◌, ◌/◌, ◌^◌, ◌<◌, ◌≤◌, ◌≡◌, min, max, not, ◌==◌, ◌&&◌, ◌||◌, Bool, true, false, nat_le, nat_lt, if◌then◌else◌, List, [], ◌∷◌, ◌++◌, filter, length, map, take, Option, Some, None, unwrap_or}
 use Rattle.std.specs.List.{list_any}
 use Rattle.quic_wire_core.specs.declared.stream_id.Side.{Side}
 use Rattle.quic_wire_core.specs.StreamId.{other_side}
 use Rattle.quic_wire.specs.Value.{FrameValue, StreamValue, AckValue, ack, stream, asks}
 use Rattle.quic_wire.specs.Items.{items}
 use Rattle.quic_packet.specs.Datagram.{Opening, opened_packet}
+use Rattle.quic_time.specs.Rtt.{Rtt, assumed_rtt, best_rtt, conservative_rtt, with_sample}
+use Rattle.quic_spaces.specs.Numbers.{greatest_of}
 use Rattle.quic_machine.specs.declared.answers.State.{State}
 use Rattle.quic_machine.specs.declared.answers.State.TheVariants as states
 use Rattle.quic_machine.specs.declared.run.Call.{Call}
@@ -14,18 +16,24 @@ use Rattle.quic_machine.specs.declared.run.Call.TheVariants as calls
 use Rattle.quic_machine.specs.Policy.{Policy}
 use Rattle.quic_machine.specs.Ids.{known}
 use Rattle.quic_machine.specs.Opens.{own_id_length}
+use Rattle.quic_machine.specs.End.{End}
 use Rattle.quic_machine.specs.Machine.{policy_at, end_at, gave}
 use Rattle.quic_headline.specs.Runs.{Run, Told, Packet, Intake, In, nothing_came, frames_of, names, acknowledged, and_told, folded, until, given_of}
 
 -- ---- what was sent
 
--- A datagram as it was sent: its number, what that was cut against (RFC 9000, A.2), its frames, and when it went, in nanoseconds.
--- There is one destination id and one size so far: once they change, they have their place here.
+-- A datagram as it was sent: its number, what that was cut against (RFC 9000, A.2), its frames, when it went, in nanoseconds, and how many bytes it has.
+-- There is one destination id so far: once it changes, it has its place here.
 pub record Sent : Type 0 where
   pub number : ℕ
   pub reference : ℕ
   pub frames : List FrameValue
   pub moment : ℕ
+  pub size : ℕ
+
+-- whether it asks for an acknowledgement (RFC 9002, section 2: is ack-eliciting)
+abbrev pub asks_of : Sent → Bool
+asks_of s = list_any asks s.frames
 
 -- An offset of a stream stands in one of these (RFC 9000, section 19.8).
 pub record HoldsOffset (sents : List Sent) (id offset : ℕ) : Type 0 where
@@ -46,50 +54,191 @@ pub record HoldsEnd (sents : List Sent) (id : ℕ) : Type 0 where
   pub of_stream : frame.id ≡ id
   pub fin : frame.fin ≡ true
 
--- ---- what acknowledgements make of what is in flight
+-- ---- what is in flight
 
--- the greatest number that was acknowledged so far, or 0; the datagrams in flight; and those that were acknowledged in flight
+-- By what losses are judged at an end: how far below the greatest number that was acknowledged a datagram counts as lost (RFC 9002, section 6.1.1), after what
+-- part of a round trip (section 6.1.2); and what the peer told: by how many bits the delays in its ACK frames are shifted, and how long it may hold one back, in
+-- nanoseconds (RFC 9000, section 18.2).
+pub record Terms : Type 0 where
+  pub threshold : ℕ
+  pub part : ℕ × ℕ
+  pub exponent : ℕ
+  pub delay : ℕ
+
+-- those of an end, by its settings and by what its peer told as the connection began
+abbrev pub terms_of : End → Terms
+terms_of e = record {
+  threshold = e.transport.packet_threshold;
+  part = e.transport.time_threshold;
+  exponent = e.peer_params.ack_delay_exponent;
+  delay = e.peer_params.max_ack_delay * 1000000;
+}
+
+-- the greatest number that was acknowledged so far, if one was; the datagrams that are neither acknowledged nor lost, nor forgotten; those that were acknowledged
+-- in flight; the last that went and asks; how long a round trip takes; when one below the greatest acknowledged is lost by time, if one may be; and how often
+-- the timer of losses expired for no such one since an acknowledgement came
 pub record Flight : Type 0 where
-  pub named : ℕ
+  pub named : Option ℕ
   pub flying : List Sent
   pub acked : List Sent
+  pub asked : Option Sent
+  pub rtt : Rtt
+  pub loss_time : Option ℕ
+  pub expiries : ℕ
 
--- nothing was sent
-abbrev pub no_flight : Flight
-no_flight = record { named = 0; flying = []; acked = [] }
+-- nothing was sent, and a round trip is taken to last so long
+abbrev pub no_flight : ℕ → Flight
+no_flight initial_rtt = record { named = None; flying = []; acked = []; asked = None; rtt = assumed_rtt initial_rtt; loss_time = None; expiries = 0 }
 
--- how far below the greatest number that was acknowledged a datagram counts as lost (RFC 9002, section 6.1.1: kPacketThreshold)
-abbrev pub loss_threshold : ℕ
-loss_threshold = 3
+-- no moment and no time lies above this
+abbrev pub latest : ℕ
+latest = 2 ^ 64 - 1
 
--- whether a datagram counts as lost, which wasn't acknowledged
-abbrev pub is_lost : ℕ → Sent → Bool
-is_lost greatest s = nat_le (s.number + loss_threshold) greatest
+-- ---- losses (RFC 9002, section 6.1)
 
--- An ACK frame that names datagrams in flight, which are these: they are acknowledged, and of the others those are lost that lie far
--- below the greatest number. One that names none leaves all in flight.
-abbrev pub settled_by : List Sent → ℕ → List Sent → Flight → Flight
-settled_by [] greatest others f = record { named = greatest; flying = f.flying; acked = f.acked }
-settled_by (s ∷ ss) greatest others f = record { named = greatest; flying = filter (λ t. not (is_lost greatest t)) others; acked = f.acked ++ s ∷ ss }
+-- how long after it went a datagram is lost, once a later one is acknowledged: that part of the round trip, no less than a millisecond
+abbrev pub late_by : Terms → Rtt → ℕ
+late_by t rtt = min (max (t.part.0 * conservative_rtt rtt / t.part.1) 1000000) latest
 
--- what an ACK frame leaves in flight
-abbrev pub after_ack : AckValue → Flight → Flight
-after_ack a f = settled_by (filter (λ s. names a s.number) f.flying) (max f.named a.largest) (filter (λ s. not (names a s.number)) f.flying) f
+-- whether one that went at this moment went so long ago
+abbrev pub is_late : ℕ → ℕ → ℕ → Bool
+is_late delay clock moment = nat_le (moment + delay) clock
+
+-- whether a datagram that wasn't acknowledged is lost, by the greatest number that was
+abbrev pub is_lost : Terms → ℕ → ℕ → ℕ → Sent → Bool
+is_lost t delay clock greatest s = nat_lt s.number greatest && (nat_le (s.number + t.threshold) greatest || is_late delay clock s.moment)
+
+-- when the first of these is lost by time that ask and lie below the greatest acknowledged
+abbrev pub lesser : ℕ → Option ℕ → ℕ
+lesser n None = n
+lesser n (Some k) = min n k
+
+abbrev pub first_late : ℕ → ℕ → List Sent → Option ℕ
+first_late delay greatest [] = None
+first_late delay greatest (s ∷ ss) =
+    if nat_lt s.number greatest && asks_of s then Some (lesser (min (s.moment + delay) latest) (first_late delay greatest ss)) else first_late delay greatest ss
+
+-- what stays of these
+abbrev pub staying : Terms → ℕ → ℕ → ℕ → List Sent → List Sent
+staying t delay clock greatest ss = filter (λ s. not (is_lost t delay clock greatest s)) ss
+
+-- what is lost at a moment is no longer in flight
+abbrev pub after_losses : Terms → ℕ → Flight → Flight
+after_losses t clock f =
+    let delay = late_by t f.rtt in
+    let greatest = unwrap_or f.named 0 in
+    record f { flying = staying t delay clock greatest f.flying; loss_time = first_late delay greatest (staying t delay clock greatest f.flying) }
+
+-- ---- acknowledgements (RFC 9002, section 5)
+
+-- whether a number lies above all that were acknowledged
+abbrev pub is_greatest : Option ℕ → ℕ → Bool
+is_greatest None n = true
+is_greatest (Some m) n = nat_lt m n
+
+-- the one with this number
+abbrev pub of_number : ℕ → List Sent → Option Sent
+of_number n [] = None
+of_number n (s ∷ ss) = if n == s.number then Some s else of_number n ss
+
+-- the datagram whose round trip an ACK frame measures, where it measures one: that of the greatest number that it names, where no greater one was acknowledged
+-- before, it is among those that are acknowledged now, and one of these asks
+abbrev pub measures : Option ℕ → AckValue → List Sent → Option Sent
+measures named a acked = if is_greatest named a.largest && list_any asks_of acked then of_number a.largest acked else None
+
+-- the round trip with one more measured at a moment, less the delay that the peer tells, which is no longer than it may be (section 5.3)
+abbrev pub rtt_behind : Terms → ℕ → AckValue → Option Sent → Rtt → Rtt
+rtt_behind t clock a None rtt = rtt
+rtt_behind t clock a (Some s) rtt = with_sample rtt (min (min (a.delay * 2 ^ t.exponent * 1000) latest) t.delay) (clock - s.moment)
+
+-- An ACK frame that names datagrams in flight, which are these: they are acknowledged, the others stay but for those that are lost. One that names none leaves all
+-- in flight.
+abbrev pub settled_by : Terms → ℕ → AckValue → List Sent → List Sent → Flight → Flight
+settled_by t clock a [] others f = record f { named = Some (greatest_of f.named a.largest) }
+settled_by t clock a (s ∷ ss) others f = after_losses t clock (record f {
+  named = Some (greatest_of f.named a.largest);
+  flying = others;
+  acked = f.acked ++ s ∷ ss;
+  rtt = rtt_behind t clock a (measures f.named a (s ∷ ss)) f.rtt;
+  expiries = 0;
+})
+
+-- what an ACK frame that comes at a moment leaves in flight
+abbrev pub after_ack : Terms → ℕ → AckValue → Flight → Flight
+after_ack t clock a f = settled_by t clock a (filter (λ s. names a s.number) f.flying) (filter (λ s. not (names a s.number)) f.flying) f
 
 -- what frames leave in flight, one behind another
-abbrev pub after_frames : List FrameValue → Flight → Flight
-after_frames [] f = f
-after_frames (ack a ∷ fs) f = after_frames fs (after_ack a f)
-after_frames (other ∷ fs) f = after_frames fs f
+abbrev pub after_frames : Terms → ℕ → List FrameValue → Flight → Flight
+after_frames t clock [] f = f
+after_frames t clock (ack a ∷ fs) f = after_frames t clock fs (after_ack t clock a f)
+after_frames t clock (other ∷ fs) f = after_frames t clock fs f
 
 -- what packets that came leave in flight; the latest stands first
-abbrev pub after_packets : List Packet → Flight → Flight
-after_packets [] f = f
-after_packets (p ∷ ps) f = after_frames p.frames (after_packets ps f)
+abbrev pub after_packets : Terms → ℕ → List Packet → Flight → Flight
+after_packets t clock [] f = f
+after_packets t clock (p ∷ ps) f = after_frames t clock p.frames (after_packets t clock ps f)
 
--- a datagram that asks for an acknowledgement is in flight from when it is sent
+-- ---- a datagram goes
+
+-- whether a number lies above that of the last that asks
+abbrev pub is_behind_asked : Option Sent → ℕ → Bool
+is_behind_asked None n = true
+is_behind_asked (Some s) n = nat_lt s.number n
+
+-- those that went since one asked: nothing promises that they are ever acknowledged, and of more than 1000 the oldest is forgotten where one more goes that
+-- doesn't ask
+abbrev pub unasked : Flight → List Sent
+unasked f = filter (λ s. is_behind_asked f.asked s.number) f.flying
+
+abbrev pub without_number : ℕ → List Sent → List Sent
+without_number n [] = []
+without_number n (s ∷ ss) = if n == s.number then ss else s ∷ without_number n ss
+
+abbrev pub without_oldest : List Sent → List Sent → List Sent
+without_oldest [] ss = ss
+without_oldest (oldest ∷ others) ss = without_number oldest.number ss
+
+abbrev pub kept_flying : Bool → Flight → List Sent
+kept_flying asks f = if not asks && nat_lt 1000 (length (unasked f)) then without_oldest (unasked f) f.flying else f.flying
+
+-- a datagram is in flight from when it goes
 abbrev pub and_sent : Sent → Flight → Flight
-and_sent s f = if list_any asks s.frames then record f { flying = f.flying ++ s ∷ [] } else f
+and_sent s f = record f { flying = kept_flying (asks_of s) f ++ s ∷ []; asked = if asks_of s then Some s else f.asked }
+
+-- ---- the timer of losses (RFC 9002, section 6.2.1)
+
+-- how long an acknowledgement is waited for, once the timer expired so often: the estimate, four times its variation or a millisecond, and the peer's delay;
+-- doubled at each expiry, up to 16 times
+abbrev pub waited : Terms → Rtt → ℕ → ℕ
+waited t rtt expiries = min (min (min (best_rtt rtt + max (4 * rtt.var) 1000000) latest + t.delay) latest * 2 ^ min expiries 16) latest
+
+-- when the last that asks is to be acknowledged, at the latest
+abbrev pub probe_due : Terms → Flight → Option Sent → Option ℕ
+probe_due t f None = None
+probe_due t f (Some s) = if list_any asks_of f.flying then Some (min (s.moment + waited t f.rtt f.expiries) latest) else None
+
+-- the first of two moments, if it is there, or else the second
+abbrev pub due_or : Option ℕ → Option ℕ → Option ℕ
+due_or None other = other
+due_or (Some moment) other = Some moment
+
+-- when the timer is to expire: when the first is lost by time, or else that; it waits for nothing where none in flight asks
+abbrev pub loss_due : Terms → Flight → Option ℕ
+loss_due t f = due_or f.loss_time (probe_due t f f.asked)
+
+-- whether there is a moment that the clock has come to
+abbrev pub is_past : Option ℕ → ℕ → Bool
+is_past None clock = false
+is_past (Some moment) clock = nat_le moment clock
+
+-- the timer expires: for one that may be lost by time, or once more for none
+abbrev pub expired_for : Option ℕ → Terms → ℕ → Flight → Flight
+expired_for None t clock f = record f { expiries = f.expiries + 1 }
+expired_for (Some moment) t clock f = after_losses t clock f
+
+-- the clock of an end comes to a moment
+abbrev pub after_moment : Terms → ℕ → Flight → Flight
+after_moment t clock f = if is_past (loss_due t f) clock then expired_for f.loss_time t clock f else f
 
 -- ---- the observer
 
@@ -102,9 +251,9 @@ pub record Watch : Type 0 where
   pub own : List Sent
   pub flight : Flight
 
--- nothing happened to an end that is known by these ids, gives these datagrams in all, and was made at this moment
-abbrev pub first_watch : List (List ℕ) → List (List ℕ) → ℕ → Watch
-first_watch ids gives moment = record { intake = nothing_came ids; clock = moment; left = gives; own = []; flight = no_flight }
+-- nothing happened to an end that is known by these ids, gives these datagrams in all, was made at this moment, and takes a round trip to last so long
+abbrev pub first_watch : List (List ℕ) → List (List ℕ) → ℕ → ℕ → Watch
+first_watch ids gives moment initial_rtt = record { intake = nothing_came ids; clock = moment; left = gives; own = []; flight = no_flight initial_rtt }
 
 -- the packets that came between two intakes
 abbrev pub news : Intake → Intake → List Packet
@@ -131,10 +280,10 @@ abbrev pub frames_opened : Option Opening → List FrameValue
 frames_opened None = []
 frames_opened (Some o) = frames_of (items o.payload)
 
--- what a datagram that opens so was sent as, cut against this reference, at a moment; one that doesn't open is none
-abbrev pub sent_as : Option Opening → ℕ → ℕ → List Sent
-sent_as None reference moment = []
-sent_as (Some o) reference moment = record { number = o.number; reference = reference; frames = frames_of (items o.payload); moment = moment } ∷ []
+-- what a datagram of so many bytes that opens so was sent as, cut against this reference, at a moment; one that doesn't open is none
+abbrev pub sent_as : Option Opening → ℕ → ℕ → ℕ → List Sent
+sent_as None reference moment size = []
+sent_as (Some o) reference moment size = record { number = o.number; reference = reference; frames = frames_of (items o.payload); moment = moment; size = size } ∷ []
 
 -- what is in flight once these are sent
 abbrev pub and_all_sent : List Sent → Flight → Flight
@@ -145,39 +294,54 @@ and_all_sent (s ∷ ss) f = and_all_sent ss (and_sent s f)
 abbrev pub watch_sent : Policy → List (List ℕ) → Watch → Watch
 watch_sent taker [] w = w
 watch_sent taker (d ∷ ds) w =
-    let sent = sent_as (opened_packet taker.header taker.packet (own_id_length + 1) (acknowledged w.intake.took) d) (acknowledged w.intake.took) w.clock in
+    let sent = sent_as (opened_packet taker.header taker.packet (own_id_length + 1) (acknowledged w.intake.took) d) (acknowledged w.intake.took) w.clock (length d) in
     record w { left = ds; own = w.own ++ sent; flight = and_all_sent sent w.flight }
 
--- how the lists of a run are read for one end: the keys of its peer, its own, and all datagrams of its peer
+-- how the lists of a run are read for one end: the keys of its peer, its own, all datagrams of its peer, and by what losses are judged
 pub record Lens : Type 0 where
   pub taker : Policy
   pub own : Policy
   pub peer_gave : List (List ℕ)
+  pub terms : Terms
 
 -- a call at the end gave the next datagram, or gave none
 abbrev pub watch_given : Bool → Lens → Watch → Watch
 watch_given true l w = watch_sent l.taker w.left w
 watch_given false l w = w
 
+-- whether a call says to an open end that a moment has come
+abbrev pub is_timely : State → Call → Bool
+is_timely states.Open (calls.Timeout now) = true
+is_timely state call = false
+
+-- where it does, the timer of losses may expire
+abbrev pub watch_moment : Bool → Terms → Watch → Watch
+watch_moment true t w = record w { flight = after_moment t w.clock w.flight }
+watch_moment false t w = w
+
 -- what came between is taken
-abbrev pub watch_came : Intake → ℕ → Watch → Watch
-watch_came after clock w = record w { intake = after; clock = clock; flight = after_packets (news w.intake after) w.flight }
+abbrev pub watch_came : Terms → Intake → ℕ → Watch → Watch
+watch_came t after clock w = record w { intake = after; clock = clock; flight = after_packets t clock (news w.intake after) w.flight }
 
 -- one call more at the end
 abbrev pub watch_told : Lens → Told → Watch → Watch
 watch_told l t w =
     let after = and_told l.own l.peer_gave t w.intake in
-    watch_given (gave t.answer) l (watch_came after (clock_behind w.clock (moment_of t.state (has_opened w.intake after) t.call)) w)
+    watch_given (gave t.answer) l (watch_moment (is_timely t.state t.call) l.terms (watch_came l.terms after (clock_behind w.clock (moment_of t.state (has_opened w.intake after) t.call)) w))
 
 -- ---- over a run
 
 -- how the lists of a run are read for one of its ends
 abbrev pub lens_of : Run → Side → Lens
-lens_of r side = record { taker = policy_at (other_side side) r.keys; own = policy_at side r.keys; peer_gave = given_of r (other_side side) }
+lens_of r side = record { taker = policy_at (other_side side) r.keys; own = policy_at side r.keys; peer_gave = given_of r (other_side side); terms = terms_of (end_at side r.start) }
+
+-- nothing happened yet to an end that gives these datagrams in all
+abbrev pub watch_from : End → List (List ℕ) → Watch
+watch_from e gives = first_watch (known e.ids) gives e.closing.clock e.transport.initial_rtt
 
 -- what the observer of an end knows by the first so many answers
 abbrev pub watch : Run → Side → ℕ → Watch
-watch r side i = folded (watch_told (lens_of r side)) (until r side i) (first_watch (known (end_at side r.start).ids) (given_of r side) (end_at side r.start).closing.clock)
+watch r side i = folded (watch_told (lens_of r side)) (until r side i) (watch_from (end_at side r.start) (given_of r side))
 
 -- the packets that an end took, the latest first
 abbrev pub took : Run → Side → ℕ → List Packet

@@ -22,7 +22,7 @@ use Rattle.quic_machine.specs.declared.run.Answer.{Answer}
 use Rattle.quic_machine.specs.declared.run.Answer.TheVariants as answers
 use Rattle.quic_machine.specs.declared.run.View.{View}
 use Rattle.quic_machine.specs.Ids.{own_id}
-use Rattle.quic_machine.specs.Numbers.{duplicate_span}
+use Rattle.quic_spaces.specs.Numbers.{duplicate_span}
 use Rattle.quic_machine.specs.Policy.{Policy}
 use Rattle.quic_machine.specs.Opens.{opens}
 use Rattle.quic_machine.specs.Machine.{World, Policies, end_at, fails, gave, Follows}
@@ -92,7 +92,7 @@ state_at r side i = state_behind side (end_at side r.start).closing.state i r.vi
 abbrev pub LeadsTo : Run → ℕ → World → Type 0
 LeadsTo r i w = Follows r.keys r.start (take i r.events) (take i r.answers) (take i r.views) w
 
--- among the first so many answers no delivery and no poll met want of memory; then no end has failed, and each timeout was served
+-- among the first so many answers no delivery, no poll and no timeout met want of memory; then no end has failed, and each timeout was served
 abbrev pub AreServed : Run → ℕ → Type 0
 AreServed r i = list_any fails (take i r.answers) ≡ false
 

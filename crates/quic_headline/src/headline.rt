@@ -9,11 +9,12 @@ ghost use Rattle.quic_headline.specs.Runs.{Run};
 ghost use Rattle.quic_headline.specs.Amounts.{WritesTakeWhatLimitsAllow};
 ghost use Rattle.quic_headline.specs.Duties.{DutiesStand};
 ghost use Rattle.quic_headline.specs.Grown.{GrownLimitsWait};
+ghost use Rattle.quic_headline.specs.Messages.{MessagesAtMostOnce};
 ghost use Rattle.quic_headline.specs.InFlight.{TracksInFlight};
 ghost use Rattle.quic_headline.specs.Causes.{NoBlame, NumberLimit, TooManyPieces, TakenOrTooMany};
-ghost use Rattle.quic_headline.specs.Moments.{LossMoments, AckMoments};
+ghost use Rattle.quic_headline.specs.Moments.{LossMoments, LossTimerQuiet, AckMoments};
 ghost use Rattle.quic_machine.specs.Start.{AreStarted};
-ghost use Rattle.quic_headline.specs.Headline.{IsHonest, IsRun, OrderedPrefix, Slices, Once, EndAfterAll, BlockedOnlyWithoutBytes, AcceptsAll, FinishedMeansArrived, FinishedIsTold, AcknowledgedWereTaken, NamesWereTaken, OpensExactly, LossTimersFollow, AckTimersFollow, NumbersRise};
+ghost use Rattle.quic_headline.specs.Headline.{IsHonest, IsRun, OrderedPrefix, Slices, Once, EndAfterAll, BlockedOnlyWithoutBytes, AcceptsAll, FinishedMeansArrived, FinishedIsTold, AcknowledgedWereTaken, NamesWereTaken, OpensExactly, NewestOpens, LossTimersFollow, AckTimersFollow, NumbersRise};
 
 /// Where a stream was read in order alone, the bytes read of it at one end are a prefix of those
 /// written on it at the other (RFC 9000, section 2.2).
@@ -46,6 +47,12 @@ pub fn blocked_only_without_bytes()
 /// was accepted.
 pub fn accepts_all()
     ensures { (r : Run) (end : World) → IsHonest r → IsRun r end → AcceptsAll r }
+{}
+
+/// Each message is received at one end at most as often as the other sent it, and whole (RFC 9221,
+/// section 5).
+pub fn messages_at_most_once()
+    ensures { (r : Run) (end : World) → IsHonest r → IsRun r end → MessagesAtMostOnce r }
 {}
 
 /// A stream is told to be finished only where it was ended, and all its bytes and its end are in
@@ -85,11 +92,10 @@ pub fn taken_or_too_many()
 {}
 
 /// At an open end the loss timer is set exactly while a datagram that asks is waited for (RFC 9002,
-/// section 6.2.1), in each run that began so, and new ends begin so. It wants no premise, and holds
-/// where memory lacks too.
+/// section 6.2.1), in each run of two ends that were made for one another, whatever their keys. It
+/// holds where memory lacks too.
 pub fn loss_timers_follow()
-    ensures runs { (k : Policies) (w end : World) (events : List RunEvent) (answers : List Answer) (views : List View) → Follows k w events answers views end → LossTimersFollow w → LossTimersFollow end }
-    ensures starts { (w : World) → AreStarted w → LossTimersFollow w }
+    ensures { (k : Policies) (w end : World) (events : List RunEvent) (answers : List Answer) (views : List View) → AreStarted w → Follows k w events answers views end → LossTimersFollow end }
 {}
 
 /// At an open end the timer of acknowledgements is set only where a packet that asks came since the
@@ -107,6 +113,14 @@ pub fn opens_exactly()
     ensures { (r : Run) (end : World) → IsHonest r → IsRun r end → OpensExactly r }
 {}
 
+/// Each datagram that was given opens at the other end as it was sent, under its number and to its
+/// frames, where that end took none with a number above it: by the run's lists, with its keys,
+/// under an id that it began with, and where one above the greatest number that it took is
+/// expected. So the bytes that go of a number tell it (RFC 9000, sections 12.3 and 17.1, and A.3).
+pub fn newest_opens()
+    ensures { (r : Run) (end : World) → IsHonest r → IsRun r end → NewestOpens r }
+{}
+
 /// An ACK frame that came names only packets that its end had taken whole (RFC 9000, section 13.1).
 pub fn acknowledged_were_taken()
     ensures { (r : Run) (end : World) → IsHonest r → IsRun r end → AcknowledgedWereTaken r }
@@ -119,7 +133,7 @@ pub fn names_were_taken()
 {}
 
 /// Each datagram given is the datagram of a number, the peer's id and stated frames, and its number
-/// is above all before (RFC 9000, section 12.3).
+/// is one or two above the one before (RFC 9000, section 12.3).
 pub fn numbers_rise()
     ensures { (r : Run) (end : World) → IsHonest r → IsRun r end → NumbersRise r }
 {}
@@ -142,19 +156,27 @@ pub fn grown_limits_wait()
     ensures { (r : Run) (end : World) → IsHonest r → IsRun r end → GrownLimitsWait r }
 {}
 
-/// At each place an open end waits for exactly the datagrams that are in flight: those that an
-/// observer of the run's lists counts as given, asking for an acknowledgement, and neither
-/// acknowledged nor lost (RFC 9002, sections 2 and 6.1.1).
+/// At each place an open end tracks exactly the datagrams that an observer of the run's lists counts
+/// as given, and neither acknowledged, nor lost by number or by time, nor forgotten: a long tail of
+/// datagrams that ask for no acknowledgement loses its oldest (RFC 9002, sections 2 and 6.1).
 pub fn tracks_in_flight()
     ensures { (r : Run) (end : World) → IsHonest r → IsRun r end → TracksInFlight r }
 {}
 
 /// Behind each event an open end shows its loss timer set to the moment that an observer of the
-/// run's lists reckons: the last ack-eliciting datagram that it gave went a probe timeout before,
-/// of 1024 ms, doubled at each expiry of the timer since an acknowledgement of a datagram in flight
-/// came, up to 16 times. Where none is in flight, it isn't set (RFC 9002, section 6.2.1).
+/// run's lists reckons: that at which the first datagram is lost by time; else that at which the
+/// last ack-eliciting datagram went and the probe timeout, by the round trips that the observer
+/// measured, doubled at each expiry of the timer since a tracked datagram was acknowledged, up to
+/// 16 times. Where no tracked datagram asks, it isn't set (RFC 9002, section 6.2.1).
 pub fn loss_moments()
     ensures { (r : Run) (end : World) → IsHonest r → IsRun r end → LossMoments r }
+{}
+
+/// Where each datagram that an open end gave, and that asks for an acknowledgement, is named in an
+/// ACK frame that the end took, the view shows that its loss timer isn't set (RFC 9002, section
+/// 6.2.1).
+pub fn loss_timer_quiet()
+    ensures { (r : Run) (end : World) → IsHonest r → IsRun r end → LossTimerQuiet r }
 {}
 
 /// Where an open end shows its timer of acknowledgements set behind an event, it is set to 25 ms

@@ -1,15 +1,17 @@
--- What an ACK frame makes of an end (RFC 9000, section 13.1; RFC 9002, section 6.1).
-use Rattle.std.specs.Prelude.{ℕ, List, [], ◌∷◌, Option, Some, None}
+-- What an ACK frame makes of an end, and loss detection (RFC 9000, section 13.1; RFC 9002, sections 5 and 6.1).
+use Rattle.std.specs.Prelude.{ℕ, ◌-◌, ◌*◌, ◌^◌, min, Bool, ◌&&◌, if◌then◌else◌, List, [], ◌∷◌, Option, Some, None}
 use Rattle.quic_send_buffer.specs.declared.stream_meta.StreamMeta.{StreamMeta}
 use Rattle.quic_wire.specs.Value.{AckValue}
 use Rattle.quic_recovery_core.specs.PendingAcks.{after_subtract}
-use Rattle.quic_streams_parts.specs.Table.{Table}
+use Rattle.quic_time.specs.Clocks.{saturated}
+use Rattle.quic_time.specs.Rtt.{with_sample}
+use Rattle.quic_streams_parts.specs.Table.{Table, at}
 use Rattle.quic_retransmits.specs.Retransmits.{merged}
 use Rattle.quic_streams_state.specs.State.{streams_of}
 use Rattle.quic_streams_state.specs.Acked.{after_stream_acked, after_stream_lost, after_reset_acked}
-use Rattle.quic_machine.specs.Numbers.{cut_against}
-use Rattle.quic_machine.specs.Tracking.{TrackedPacket, Carried, acked_by, not_acked_by, lost_below, kept_above, after_answered}
-use Rattle.quic_machine.specs.End.{End, with_acknowledging, with_tracking, with_streams}
+use Rattle.quic_spaces.specs.Numbers.{cut_against}
+use Rattle.quic_machine.specs.Tracking.{TrackedPacket, Carried, asks_any, acked_by, not_acked_by, loss_delay, Verdict, verdict_at, lost_by, after_detection, after_answered}
+use Rattle.quic_machine.specs.End.{End, with_acknowledging, with_tracking, with_rtt, with_streams, peer_delay}
 
 -- ---- a packet that is acknowledged
 
@@ -73,17 +75,51 @@ abbrev pub packets_lost : Table TrackedPacket → End → End
 packets_lost [] e = e
 packets_lost (p ∷ ps) e = packets_lost ps (carried_lost p.1.carried e)
 
+-- the packets that a verdict finds lost are: what they carried waits again, and when the next may be lost by time is known anew
+abbrev pub lost_as : Verdict → End → End
+lost_as v e = with_tracking (packets_lost (lost_by v e.tracking.packets) e) (after_detection v e.tracking)
+
+-- how late a packet may be at an end at its moment (RFC 9002, section 6.1)
+abbrev pub verdict : End → Verdict
+verdict e = verdict_at (cut_against e.numbers) e.transport.packet_threshold (loss_delay e.transport.time_threshold e.path.rtt) e.closing.clock
+
+-- loss detection: what is lost by number or by time
+abbrev pub losses_detected : End → End
+losses_detected e = lost_as (verdict e) e
+
+-- ---- a round trip is measured (RFC 9002, section 5)
+
+-- how long the peer says that it held an acknowledgement back, in nanoseconds: so many microseconds, shifted by the exponent that it told, but no longer than
+-- it may (section 5.3; RFC 9000, section 19.3)
+abbrev pub told_delay : End → AckValue → ℕ
+told_delay e a = min (saturated (a.delay * 2 ^ e.peer_params.ack_delay_exponent * 1000)) (peer_delay e)
+
+-- the packet that an ACK frame measures, if it measures one: that of the greatest number that it names, where no greater one was acknowledged before, it is
+-- among these, which are newly acknowledged, and one of these asks
+abbrev pub measured : Bool → AckValue → Table TrackedPacket → Option TrackedPacket
+measured rises a acked = if rises && asks_any acked then at acked a.largest else None
+
+-- the end with the round trip of a packet as one more sample, if there is one
+abbrev pub sampled : Option TrackedPacket → AckValue → End → End
+sampled None a e = e
+sampled (Some p) a e = with_rtt e (with_sample e.path.rtt (told_delay e a) (e.closing.clock - p.time_sent))
+
 -- ---- an ACK frame
 
--- an ACK frame that names tracked packets, which are these, or names none: these are acknowledged, those far below the greatest that was ever named are
--- lost, and the others stay
-abbrev pub after_named : Table TrackedPacket → AckValue → End → End
-after_named [] a e = e
-after_named (p ∷ ps) a e =
-    let left = not_acked_by a e.tracking.packets in
-    let greatest = cut_against e.numbers in
-    with_tracking (packets_lost (lost_below greatest left) (packets_acked (p ∷ ps) e)) (after_answered e.tracking (kept_above greatest left))
+-- the peer answers: no probe has to go
+abbrev pub answered : End → End
+answered e = with_tracking e (after_answered e.tracking)
+
+-- the end once packets that an ACK frame names are acknowledged: the others stay tracked
+abbrev pub without_acked : Table TrackedPacket → AckValue → End → End
+without_acked acked a e = with_tracking (packets_acked acked e) (record e.tracking { packets = not_acked_by a e.tracking.packets })
+
+-- an ACK frame that names tracked packets, which are these, or names none: these are acknowledged, the round trip is measured where it can be, and others are
+-- lost. `rises` says whether a number is named above all that were before
+abbrev pub after_named : Table TrackedPacket → Bool → AckValue → End → End
+after_named [] rises a e = e
+after_named (p ∷ ps) rises a e = answered (losses_detected (sampled (measured rises a (p ∷ ps)) a (without_acked (p ∷ ps) a e)))
 
 -- the end after an ACK frame, whose greatest number is counted already
-abbrev pub after_acked : AckValue → End → End
-after_acked a e = after_named (acked_by a e.tracking.packets) a e
+abbrev pub after_acked : Bool → AckValue → End → End
+after_acked rises a e = after_named (acked_by a e.tracking.packets) rises a e

@@ -5,13 +5,14 @@ use Rattle.quic_streams_state.specs.State.{Streams}
 use Rattle.quic_machine.specs.declared.run.Call.{Call}
 use Rattle.quic_machine.specs.declared.run.Call.TheVariants as calls
 use Rattle.quic_machine.specs.declared.run.Answer.{Answer}
-use Rattle.quic_machine.specs.Parts.{Path, IsSamePath}
+use Rattle.quic_machine.specs.Parts.{Path, IsSamePath, Messaging}
 use Rattle.quic_machine.specs.Policy.{Policy}
-use Rattle.quic_machine.specs.End.{End, with_ping, with_streams}
+use Rattle.quic_machine.specs.End.{End, with_ping, with_streams, with_messages}
 use Rattle.quic_machine.specs.Receive.{received}
 use Rattle.quic_machine.specs.Poll.{polled}
-use Rattle.quic_machine.specs.Calls.{end_after_event}
+use Rattle.quic_machine.specs.Calls.{message_told, end_after_event}
 use Rattle.quic_machine.specs.StreamCalls.{is_on_streams}
+use Rattle.quic_machine.specs.MessageCalls.{is_on_messages, IsMessageAnswer, end_on_messages}
 use Rattle.quic_machine.specs.Machine.{IsAnswer, AnswersOnStreams, end_on_streams, after_delivered, after_call}
 use Rattle.quic_machine.specs.InjectionCases.{by_injection}
 use Rattle.quic_machine.specs.LeaveCases.{at_expiry, by_expiry, at_event, by_event}
@@ -46,6 +47,8 @@ pub record CallsTo (p : Policy) (e : End) (theirs : List (List ℕ)) (call : Cal
   pub same : P e
   -- calls on streams
   pub on_streams : is_on_streams call ≡ true → (IsAnswer p e theirs call a → AnswersOnStreams e call a) → P (end_on_streams e call a)
+  -- calls on messages
+  pub on_messages : is_on_messages call ≡ true → (IsAnswer p e theirs call a → IsMessageAnswer e call a) → P (end_on_messages e call a)
   -- PING is asked for
   pub pings : P (with_ping e true)
   -- bytes that don't open are handed in: no more than what the path counts changes
@@ -56,10 +59,11 @@ pub record CallsTo (p : Policy) (e : End) (theirs : List (List ℕ)) (call : Cal
   pub hears : (now : ℕ) (d : List ℕ) → is_delivery call ≡ true → P (received p e now d).end
   pub tells : asks_event call ≡ true → P (end_after_event e)
 
--- the same, whatever streams are left
+-- the same, whatever streams and messages are left
 pub record Plain (p : Policy) (e : End) (call : Call) (P : End → Type 0) : Type 0 where
   pub same : P e
   pub on_streams : (t : Streams) → P (with_streams e t)
+  pub on_messages : (m : Messaging) → P (with_messages e m)
   pub pings : P (with_ping e true)
   pub heard : (path : Path) → IsSamePath e.path path → P (record e { path = path })
   pub times : (now : ℕ) (acks loss : Bool) → is_timeout call ≡ true → P (at_expiry e now acks loss)
@@ -77,6 +81,8 @@ module _ (p : Policy) (e : End) (theirs : List (List ℕ)) (P : End → Type 0) 
 
   -- what holds in each case holds after a call
   pub by_call : (call : Call) (a : Answer) → CallsTo p e theirs call a P → P (after_call p e theirs call a)
+  by_call (calls.Send message makes_room) a c = c.on_messages refl (λ is. is)
+  by_call calls.Recv a c = c.on_messages refl (λ is. is)
   by_call calls.Ping a c = c.pings
   by_call (calls.Poll now) a c = c.polls now refl
   by_call (calls.Timeout now) a c = by_expiry e now P c.same (λ acks loss. c.times now acks loss refl)
@@ -92,10 +98,11 @@ module _ (p : Policy) (e : End) (theirs : List (List ℕ)) (P : End → Type 0) 
   by_plain_call call a c = by_call call a (record {
     same = c.same;
     on_streams = λ is answer. c.on_streams _;
+    on_messages = λ is answer. c.on_messages _;
     pings = c.pings;
     heard = c.heard;
     times = c.times;
     polls = c.polls;
     hears = c.hears;
-    tells = λ asks. by_event e P c.tells;
+    tells = λ asks. by_event e P (c.on_messages (message_told e).messages) c.tells;
   })

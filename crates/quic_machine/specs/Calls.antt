@@ -1,6 +1,5 @@
 -- The calls of the application at one end (RFC 9000, section 2.4): what each answers, and what it leaves.
-use Rattle.std.specs.Prelude.{ℕ, ℤ, ◌≡◌, ◌⊎◌, Bool, true, false, List, [], ◌∷◌, map, Option, Some, None, Result, Ok, Err, option_map}
-use Rattle.quic_wire_core.specs.declared.stream_id.Dir.{Dir}
+use Rattle.std.specs.Prelude.{ℕ, ◌-◌, ◌≡◌, ◌⊎◌, Bool, true, false, nat_lt, if◌then◌else◌, List, [], ◌∷◌, Option, Some, None, Result, Err, option_map}
 use Rattle.quic_assembler.specs.declared.assembler.Chunk.{Chunk}
 use Rattle.quic_machine.specs.declared.answers.Event.{Event}
 use Rattle.quic_machine.specs.declared.answers.Event.TheVariants as events
@@ -9,14 +8,13 @@ use Rattle.quic_machine.specs.declared.answers.State.TheVariants as states
 use Rattle.quic_streams_parts.specs.declared.answers.StreamEvent.{StreamEvent}
 use Rattle.quic_streams_parts.specs.declared.answers.ReadError.{ReadError}
 use Rattle.quic_streams_parts.specs.declared.answers.ReadError.TheVariants as read_errors
-use Rattle.quic_streams_parts.specs.declared.answers.ReadableError.{ReadableError}
 use Rattle.quic_streams_state.specs.declared.state.StreamsState.{StreamsState}
-use Rattle.quic_streams_state.specs.State.{Streams, streams_of}
+use Rattle.quic_streams_state.specs.State.{Streams}
 use Rattle.quic_streams_state.specs.Telling.{Telling}
 use Rattle.quic_streams_state.specs.Telling as telling
 use Rattle.quic_streams_state.specs.Reading.{Told, told_bytes, next_answer, told_by, after_next, after_read_begun, after_finalize}
 use Rattle.quic_machine.specs.Closing.{Closing, loss_to_tell, after_told}
-use Rattle.quic_machine.specs.End.{End, with_closing, with_streams, with_ping}
+use Rattle.quic_machine.specs.End.{End, with_messages, with_ping}
 
 -- whether an end sends and receives
 abbrev pub is_open : State → Bool
@@ -33,7 +31,7 @@ end_after_ping e = with_ping e true
 
 -- ---- events (sections 2.4 and 10)
 
--- what the application is told: what happened to streams, and then that the end is lost, once, and why
+-- what the application is told of streams and of the end: what happened to streams, and then that the end is lost, once, and why
 abbrev pub tells_of : Option StreamEvent → Closing → Option Event
 tells_of None c = option_map events.Lost (loss_to_tell c)
 tells_of (Some event) c = Some (events.Stream event)
@@ -42,18 +40,30 @@ tells_of (Some event) c = Some (events.Stream event)
 abbrev pub streams_told : End → Telling
 streams_told e = telling.polled e.streams
 
--- what the application is told next
+-- whether it is told next that a message came
+abbrev pub tells_message : End → Bool
+tells_message e = nat_lt 0 e.messages.to_tell
+
+-- what the application is told next: that messages came, before all else
 abbrev pub end_tells : End → Option Event
-end_tells e = tells_of (streams_told e).answer e.closing
+end_tells e = if tells_message e then Some events.Message else tells_of (streams_told e).answer e.closing
 
 -- what is left to tell of the end's loss once this was told of streams
 abbrev pub closing_told : Option StreamEvent → Closing → Closing
 closing_told None c = after_told (loss_to_tell c) c
 closing_told (Some event) c = c
 
+-- the end after the application was told that a message came
+abbrev pub message_told : End → End
+message_told e = with_messages e (record e.messages { to_tell = e.messages.to_tell - 1 })
+
+-- the end after it was told of streams, or of the end
+abbrev pub others_told : End → End
+others_told e = record e { streams = (streams_told e).state; closing = closing_told (streams_told e).answer e.closing }
+
 -- the end after the application was told
 abbrev pub end_after_event : End → End
-end_after_event e = record e { streams = (streams_told e).state; closing = closing_told (streams_told e).answer e.closing }
+end_after_event e = if tells_message e then message_told e else others_told e
 
 -- ---- read (section 2.2)
 

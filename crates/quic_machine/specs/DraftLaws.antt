@@ -1,11 +1,11 @@
 -- What holds of a draft, whichever frames go; and that a datagram has a frame.
-use Rattle.std.proofs.Common.{◌≡◌, ℕ, ◌+◌, ◌-◌, ◌<◌, ◌≤◌, List, [], ◌∷◌, ◌++◌, Bool, true, false, length, Option, Some, None, refl, sym, ap, ◌∙◌, subst, arith, nat_lt, ◌||◌, ◌&&◌, ◌⊎◌, inl, inr}
-use Rattle.std.specs.Prelude.{if◌then◌else◌, nat_le, not, map, ◌*◌}
+use Rattle.std.proofs.Common.{◌≡◌, ℕ, ◌+◌, ◌-◌, ◌≤◌, List, [], ◌∷◌, ◌++◌, Bool, true, false, length, Some, refl, sym, ap, ◌∙◌, subst, arith, nat_lt, ◌⊎◌, inl, inr}
+use Rattle.std.specs.Prelude.{if◌then◌else◌, map, ◌*◌}
 use Rattle.std.specs.List.{fold}
 use Rattle.std.proofs.lemmas.Bool.{and_parts}
 use Rattle.std.proofs.lemmas.List.{length-append, append_assoc, append-nil}
-use Rattle.quic_wire.specs.Value.{FrameValue, StreamValue, stream, ack, ping}
-use Rattle.quic_wire.specs.Writing.{spelling, spelled_all, stream_spelling, frame_size}
+use Rattle.quic_wire.specs.Value.{FrameValue, StreamValue, stream, datagram, ack, ping}
+use Rattle.quic_wire.specs.Writing.{spelling, spelled_all, stream_spelling}
 use Rattle.quic_packet.specs.Number.{width_for}
 use Rattle.quic_send_buffer.specs.Buffered.{writes_length}
 use Rattle.quic_streams_parts.specs.Table.{at}
@@ -13,16 +13,15 @@ use Rattle.quic_streams_parts.specs.SendHalf.{SendHalf, frame_of, frame_counts}
 use Rattle.quic_streams_parts.specs.Queue.{first_queued}
 use Rattle.quic_retransmits.specs.Retransmits.{nothing_waits}
 use Rattle.quic_streams_state.specs.declared.control.ControlKind.{ControlKind}
-use Rattle.quic_streams_state.specs.declared.state.StreamsState.{StreamsState}
 use Rattle.quic_streams_state.specs.State.{streams_of}
 use Rattle.quic_streams_state.specs.Control.{Entry, waiting, without_first, first_sent, first_dropped}
 use Rattle.quic_streams_state.specs.Control as control
 use Rattle.quic_streams_state.specs.Frames as of_streams
 use Rattle.quic_streams_laws.specs.ControlWalk.{GoesOn, by_control, by_stream_frames}
 use Rattle.quic_recovery_core.specs.PendingAcks.{can_send, is_filled}
-use Rattle.quic_machine.specs.Numbers.{cut_against}
-use Rattle.quic_machine.specs.End.{End, with_streams, with_ping}
-use Rattle.quic_machine.specs.Poll.{Draft, frame_room, fits, with_frame, left, ping_if, with_ping_frame, behind_control, with_control_frames, behind_stream, no_stream_frames, with_stream_frames, Kind, order, put, with_asking, no_frames, ack_of, with_ack, ack_fits, ack_if, composed_if, composed}
+use Rattle.quic_spaces.specs.Numbers.{cut_against}
+use Rattle.quic_machine.specs.End.{End, number_of, with_streams, with_ping}
+use Rattle.quic_machine.specs.Poll.{Draft, frame_room, fits, with_frame, left, ping_if, with_ping_frame, behind_control, with_control_frames, with_message, with_messages_of, with_message_frames, behind_stream, no_stream_frames, with_stream_frames, Kind, order, put, with_asking, no_frames, ack_of, with_ack, ack_fits, ack_if, composed_if, composed}
 use Rattle.quic_machine.specs.Poll as poll
 
 -- a number takes four bytes at most
@@ -38,7 +37,7 @@ width_few n = go (nat_lt (2 * n) 256) (nat_lt (2 * n) 65536) (nat_lt (2 * n) 167
 -- how many bytes a datagram has for frames at least
 pub room_most : (e : End) → length e.ids.active.id ≤ 20 → 1159 ≤ frame_room e
 room_most e short =
-    let width = width_few (e.numbers.next - cut_against e.numbers) in
+    let width = width_few (number_of e - cut_against e.numbers) in
     omega arith
 
 -- ---- one frame of each kind
@@ -57,7 +56,7 @@ with_entry d kind e f = with_frame d f (spelling f) (with_streams d.end (streams
 
 -- the frame of a half goes, where so many bytes are left behind its type and id
 abbrev pub with_half_frame : Draft → ℕ → SendHalf → ℕ → Draft
-with_half_frame d id h room = with_frame d (stream (frame_of id h room)) (stream_spelling (writes_length h.buffer room) (frame_of id h room)) (record d.end { streams = of_streams.after_frame_sent d.end.fair d.end.streams id h room })
+with_half_frame d id h room = with_frame d (stream (frame_of id h room)) (stream_spelling (writes_length h.buffer room) (frame_of id h room)) (record d.end { streams = of_streams.after_frame_sent d.end.transport.send_fairness d.end.streams id h room })
 
 -- an ACK may go: no frame went before it, or it fits
 abbrev pub MayAck : Draft → Type 0
@@ -76,13 +75,18 @@ abbrev pub SendsHalf : (Draft → Type 0) → Type 0
 SendsHalf P = (d : Draft) (id : ℕ) (h : SendHalf) (room : ℕ) → at d.end.streams.sending.halves.live id ≡ Some h → first_queued d.end.streams.sending.queue ≡ Some id → 25 ≤ left d → room ≡ stream_room d id → frame_counts h room ≡ true → P d
     → P (with_half_frame d id h room)
 
--- what holds of a draft stays where a frame goes, of each kind: ACK, PING, one that waits beside the bytes of streams, or one of a stream; and where what
--- waits is dropped
+-- the frame of the oldest message that waits goes, where it fits
+abbrev pub SendsMessage : (Draft → Type 0) → Type 0
+SendsMessage P = (d : Draft) (m : List ℕ) (ms : List (List ℕ)) → d.end.messages.queues.outgoing ≡ m ∷ ms → fits d (datagram m) ≡ true → P d → P (with_message d m ms)
+
+-- what holds of a draft stays where a frame goes, of each kind: ACK, PING, one that waits beside the bytes of streams, a message, or one of a stream; and where
+-- what waits is dropped
 pub record Writing (P : Draft → Type 0) : Type 0 where
   pub ack : (d : Draft) → is_filled d.end.acknowledging.runs ≡ true → MayAck d → P d → P (with_ack d)
   pub ping : (d : Draft) → P d → P (with_frame d ping (spelling ping) (with_ping d.end false))
   pub drops : Drops P
   pub control : SendsEntry P
+  pub message : SendsMessage P
   pub stream : SendsHalf P
 
 -- ---- all of them
@@ -120,7 +124,7 @@ module _ (P : Draft → Type 0) (drops : Drops P) (sends : SendsEntry P) where
 
 module _ (P : Draft → Type 0) (stream_goes : SendsHalf P) where
   -- STREAM frames behind a draft: one more is one more frame
-  half_behind : (d : Draft) (t : of_streams.Sent) (id : ℕ) (h : SendHalf) → behind_stream d (of_streams.frame_sent d.end.fair (left d) t id h) ≡ with_half_frame (behind_stream d t) id h (of_streams.stream_room (left d) t id)
+  half_behind : (d : Draft) (t : of_streams.Sent) (id : ℕ) (h : SendHalf) → behind_stream d (of_streams.frame_sent d.end.transport.send_fairness (left d) t id h) ≡ with_half_frame (behind_stream d t) id h (of_streams.stream_room (left d) t id)
   half_behind d t id h =
       let room : ℕ = of_streams.stream_room (left d) t id in
       let f = frame_of id h room in
@@ -130,16 +134,29 @@ module _ (P : Draft → Type 0) (stream_goes : SendsHalf P) where
 
   -- frames of streams go
   pub by_streams : (d : Draft) → P d → P (with_stream_frames d)
-  by_streams d p = by_stream_frames d.end.fair (left d) (λ (t : of_streams.Sent). P (behind_stream d t)) one (no_stream_frames d) first
+  by_streams d p = by_stream_frames d.end.transport.send_fairness (left d) (λ (t : of_streams.Sent). P (behind_stream d t)) one (no_stream_frames d) first
     where
       one : (t : of_streams.Sent) (id : ℕ) (h : SendHalf) → at t.state.sending.halves.live id ≡ Some h → first_queued t.state.sending.queue ≡ Some id → length t.bytes + 25 ≤ left d → frame_counts h (of_streams.stream_room (left d) t id) ≡ true
-          → P (behind_stream d t) → P (behind_stream d (of_streams.frame_sent d.end.fair (left d) t id h))
+          → P (behind_stream d t) → P (behind_stream d (of_streams.frame_sent d.end.transport.send_fairness (left d) t id h))
       one t id h found first room counts q =
           let both = length-append d.bytes t.bytes in
           subst P (sym (half_behind d t id h)) (stream_goes (behind_stream d t) id h (of_streams.stream_room (left d) t id) found first (omega arith) (omega arith) counts q)
 
       first : P (behind_stream d (no_stream_frames d))
       first = rw (append-nil d.frames, append-nil d.bytes) p
+
+module _ (P : Draft → Type 0) (goes : SendsMessage P) where
+  -- messages go while they fit
+  messages_keep : (ms : List (List ℕ)) (d : Draft) → d.end.messages.queues.outgoing ≡ ms → P d → P (with_messages_of ms d)
+  messages_keep [] d is p = p
+  messages_keep (m ∷ ms) d is p = go (fits d (datagram m)) refl (λ q. messages_keep ms (with_message d m ms) refl q)
+    where
+      go : (b : Bool) → fits d (datagram m) ≡ b → (P (with_message d m ms) → P (with_messages_of ms (with_message d m ms))) → P (if b then with_messages_of ms (with_message d m ms) else d)
+      go true fit others = others (goes d m ms is fit p)
+      go false fit others = p
+
+  pub by_messages : (d : Draft) → P d → P (with_message_frames d)
+  by_messages d p = messages_keep d.end.messages.queues.outgoing d refl p
 
 module _ (P : Draft → Type 0) (w : Writing P) where
   -- one kind
@@ -150,6 +167,7 @@ module _ (P : Draft → Type 0) (w : Writing P) where
       go true = w.ping d p
       go false = p
   kind_keeps poll.controls d p = by_entries P w.drops w.control d p
+  kind_keeps poll.messages d p = by_messages P w.message d p
   kind_keeps poll.streams d p = by_streams P w.stream d p
 
   -- several, one behind another

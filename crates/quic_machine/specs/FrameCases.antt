@@ -1,7 +1,7 @@
 -- What a datagram that comes leaves, as cases: of the packets that an ACK frame names or that are lost, of frames, and of the packet that has them.
-use Rattle.std.proofs.Common.{◌≡◌, ℕ, Bool, true, false, not, ◌||◌, ◌==◌, nat_le, List, [], ◌∷◌, map, Option, Some, None, Result, Ok, Err, refl, sym, ◌∙◌}
+use Rattle.std.proofs.Common.{◌≡◌, ℕ, Bool, true, false, not, ◌||◌, ◌==◌, List, [], ◌∷◌, map, Option, Some, None, Result, Ok, Err, refl, sym, ◌∙◌}
 use Rattle.std.specs.Prelude.{if◌then◌else◌}
-use Rattle.quic_wire.specs.Value.{FrameValue, AckValue, ack, stream, reset_stream, stop_sending, max_data, max_stream_data, max_streams, stream_data_blocked, streams_blocked, new_token, handshake_done}
+use Rattle.quic_wire.specs.Value.{FrameValue, AckValue, ack, stream, reset_stream, stop_sending, max_data, max_stream_data, max_streams, stream_data_blocked, streams_blocked, new_token, handshake_done, datagram}
 use Rattle.quic_wire.specs.Items.{items}
 use Rattle.quic_wire.specs.declared.frame.InvalidFrame.{InvalidFrame}
 use Rattle.quic_packet.specs.Header.{key_phase, reserved_bits}
@@ -19,12 +19,16 @@ use Rattle.quic_machine.specs.declared.answers.LostReason.{LostReason}
 use Rattle.quic_machine.specs.Policy.{Policy}
 use Rattle.quic_machine.specs.Closing.{ticked}
 use Rattle.quic_machine.specs.Ids.{known}
-use Rattle.quic_machine.specs.Numbers.{cut_against, number_opened, number_named}
-use Rattle.quic_machine.specs.Tracking.{Tracking, TrackedPacket, Carried, acked_by, not_acked_by, lost_below, kept_above, after_answered}
-use Rattle.quic_machine.specs.End.{End, with_closing, closed_by, with_numbers, with_streams, with_tracking}
+use Rattle.quic_spaces.specs.Numbers.{number_opened, number_named}
+use Rattle.quic_time.specs.Rtt.{Rtt}
+use Rattle.quic_messages.specs.declared.errors.ReceivedError.{ReceivedError}
+use Rattle.quic_messages.specs.Messages.{received_answer}
+use Rattle.quic_machine.specs.Parts.{Messaging}
+use Rattle.quic_machine.specs.Tracking.{Tracking, TrackedPacket, Carried, acked_by, Verdict, lost_by, after_detection}
+use Rattle.quic_machine.specs.End.{End, with_closing, closed_by, with_numbers, with_streams, with_messages, with_tracking, with_rtt}
 use Rattle.quic_machine.specs.Opens.{own_id_length}
-use Rattle.quic_machine.specs.Acked.{without_known, reset_acked, resets_acked, stream_acked, streams_acked, packet_acked, packets_acked, stream_lost, streams_lost, again, carried_lost, packets_lost, after_named, after_acked}
-use Rattle.quic_machine.specs.Receive.{Fault, violation, reason_of, Progress, goes_on, take_frame, take_item, unless_fault, take_items, is_empty, take_payload, asks_in, after_taken, dropped, ends_as, by_state, opened_to, opened_as, opening, headed, received_in, received}
+use Rattle.quic_machine.specs.Acked.{without_known, reset_acked, resets_acked, stream_acked, streams_acked, packet_acked, packets_acked, stream_lost, streams_lost, again, carried_lost, packets_lost, lost_as, verdict, losses_detected, measured, sampled, without_acked, after_named, after_acked}
+use Rattle.quic_machine.specs.Receive.{Fault, violation, reason_of, Progress, goes_on, is_above, names_ungiven, message_taken, message_judged, take_message, take_frame, take_item, unless_fault, take_items, is_empty, take_payload, asks_in, after_taken, dropped, ends_as, by_state, opened_to, opened_as, opening, headed, received_in, received}
 
 -- ---- packets that are acknowledged, and those that are lost
 
@@ -63,6 +67,8 @@ pub record Settling (P : End → Type 0) : Type 0 where
   pub again : (carried : Carried) (e : End) → P e → P (again carried e)
   -- fewer packets are tracked
   pub tracked : (t : Tracking) (e : End) → P e → P (with_tracking e t)
+  -- the round trip is measured
+  pub measured : (r : Rtt) (e : End) → P e → P (with_rtt e r)
 
 module _ (P : End → Type 0) (c : Settling P) where
   -- what the peer knows of, if anything
@@ -78,18 +84,32 @@ module _ (P : End → Type 0) (c : Settling P) where
       let resets = resets_acked_keep P c.reset p.1.carried.retransmits.reset_stream known (known_keeps p.1.carried.largest_acked e i) in
       packets_acked_keep ps (packet_acked p.1 e) (streams_acked_keep P c.acked p.1.carried.stream_frames (resets_acked p.1.carried.retransmits.reset_stream known) resets)
 
+  -- packets are lost
+  lost_keeps : (v : Verdict) (e : End) → P e → P (lost_as v e)
+  lost_keeps v e i = c.tracked (after_detection v e.tracking) (packets_lost (lost_by v e.tracking.packets) e) (packets_lost_keep P c.lost c.again (lost_by v e.tracking.packets) e i)
+
+  -- losses are detected
+  pub losses_keep : (e : End) → P e → P (losses_detected e)
+  losses_keep e i = lost_keeps (verdict e) e i
+
+  -- a round trip is measured, if one is
+  sampled_keeps : (o : Option TrackedPacket) (a : AckValue) (e : End) → P e → P (sampled o a e)
+  sampled_keeps None a e i = i
+  sampled_keeps (Some p) a e i = c.measured (sampled (Some p) a e).path.rtt e i
+
   -- an ACK frame that names these packets
-  named_keeps : (ps : Table TrackedPacket) (a : AckValue) (e : End) → P e → P (after_named ps a e)
-  named_keeps [] a e i = i
-  named_keeps (p ∷ ps) a e i =
-      let left = not_acked_by a e.tracking.packets in
-      let lost = lost_below (cut_against e.numbers) left in
-      let settled = packets_lost lost (packets_acked (p ∷ ps) e) in
-      c.tracked (after_answered e.tracking (kept_above (cut_against e.numbers) left)) settled (packets_lost_keep P c.lost c.again lost (packets_acked (p ∷ ps) e) (packets_acked_keep (p ∷ ps) e i))
+  named_keeps : (ps : Table TrackedPacket) (rises : Bool) (a : AckValue) (e : End) → P e → P (after_named ps rises a e)
+  named_keeps [] rises a e i = i
+  named_keeps (p ∷ ps) rises a e i =
+      let left = without_acked (p ∷ ps) a e in
+      let timed = sampled (measured rises a (p ∷ ps)) a left in
+      let found = losses_detected timed in
+      let stays : P left = c.tracked left.tracking (packets_acked (p ∷ ps) e) (packets_acked_keep (p ∷ ps) e i) in
+      c.tracked (after_named (p ∷ ps) rises a e).tracking found (losses_keep timed (sampled_keeps (measured rises a (p ∷ ps)) a left stays))
 
   -- an ACK frame, whose greatest number is counted already
-  pub acked_keeps : (a : AckValue) (e : End) → P e → P (after_acked a e)
-  acked_keeps a e i = named_keeps (acked_by a e.tracking.packets) a e i
+  pub acked_keeps : (rises : Bool) (a : AckValue) (e : End) → P e → P (after_acked rises a e)
+  acked_keeps rises a e i = named_keeps (acked_by a e.tracking.packets) rises a e i
 
 -- ---- frames
 
@@ -99,7 +119,7 @@ named a e = with_numbers e (number_named e.numbers a.largest)
 
 -- what an ACK frame makes of the end, by whether it names a number that was never given
 abbrev pub ack_taken : Bool → AckValue → End → Progress
-ack_taken b a e = if b then record { end = e; fault = Some violation } else goes_on (after_acked a (named a e))
+ack_taken b a e = if b then record { end = e; fault = Some violation } else goes_on (after_acked (is_above e.numbers.largest_acked a.largest) a (named a e))
 
 -- what frames leave, one behind another, and what was wrong with the one that was taken last
 abbrev pub passed : List FrameValue → End → Progress
@@ -119,17 +139,27 @@ OnStreams f = ⊥
 
 -- the frames that change an end, by kind
 pub record TakesFrame (P : End → Type 0) : Type 0 where
-  pub ack : (a : AckValue) (e : End) → P e → P (after_acked a (named a e))
+  pub ack : (rises : Bool) (a : AckValue) (e : End) → P e → P (after_acked rises a (named a e))
   -- a frame on streams: they are left as its words say
   pub on_streams : (f : FrameValue) (e : End) → OnStreams f → P e → P (take_frame f e).end
+  -- a message: others wait, and it is told of or isn't
+  pub message : (m : Messaging) (e : End) → P e → P (with_messages e m)
+
+-- a message leaves the end as it was, or with other messages
+pub message_leaves : (P : End → Type 0) (m : List ℕ) (e : End) → P e → ((left : Messaging) → P (with_messages e left)) → P (take_message m e).end
+message_leaves P m e same other = go (received_answer e.transport.datagram_receive_buffer_size m e.messages.queues)
+  where
+    go : (r : Result Bool ReceivedError) → P (message_judged r m e).end
+    go (Ok first) = other (message_taken first m e)
+    go (Err error) = same
 
 -- one frame
 pub frame_keeps : (P : End → Type 0) → TakesFrame P → (f : FrameValue) (e : End) → P e → P (take_frame f e).end
-frame_keeps P c (ack a) e i = go (nat_le e.numbers.next a.largest)
+frame_keeps P c (ack a) e i = go (names_ungiven a e)
   where
     go : (b : Bool) → P (ack_taken b a e).end
     go true = i
-    go false = c.ack a e i
+    go false = c.ack (is_above e.numbers.largest_acked a.largest) a e i
 frame_keeps P c (stream f) e i = c.on_streams (stream f) e tt i
 frame_keeps P c (reset_stream f) e i = c.on_streams (reset_stream f) e tt i
 frame_keeps P c (stop_sending f) e i = c.on_streams (stop_sending f) e tt i
@@ -138,6 +168,7 @@ frame_keeps P c (max_stream_data f) e i = c.on_streams (max_stream_data f) e tt 
 frame_keeps P c (max_streams f) e i = c.on_streams (max_streams f) e tt i
 frame_keeps P c (stream_data_blocked f) e i = c.on_streams (stream_data_blocked f) e tt i
 frame_keeps P c (streams_blocked f) e i = c.on_streams (streams_blocked f) e tt i
+frame_keeps P c (datagram m) e i = message_leaves P m e i (λ left. c.message left e i)
 frame_keeps P c (new_token t) e i = i
 frame_keeps P c handshake_done e i = i
 frame_keeps P c f e i = i

@@ -1,9 +1,10 @@
 -- Where a call may lack memory.
-use Rattle.std.specs.Prelude.{ℕ, ◌<◌, ◌≡◌, ◌≢◌, ◌⊎◌, Bool, true, false, List, ◌∷◌, length, slice_get, Option, Some, None, IsSome, IfSome, Result, Ok, Err}
+use Rattle.std.specs.Prelude.{ℕ, ◌≡◌, ◌≢◌, ◌⊎◌, Bool, true, false, nat_lt, List, [], ◌∷◌, length, slice_get, Option, Some, None, IsSome, IfSome, Result, Ok, Err}
 use Rattle.quic_assembler.specs.declared.assembler.Chunk.{Chunk}
 use Rattle.quic_machine.specs.declared.answers.Failed.{Failed}
 use Rattle.quic_machine.specs.declared.answers.Received.{Received}
 use Rattle.quic_machine.specs.declared.answers.Received.TheVariants as receives
+use Rattle.quic_machine.specs.declared.answers.State.TheVariants as states
 use Rattle.quic_machine.specs.declared.answers.Transmit.{Transmit}
 use Rattle.quic_streams_parts.specs.declared.answers.WriteError.TheVariants as write_errors
 use Rattle.quic_streams_parts.specs.declared.answers.FinishError.TheVariants as finish_errors
@@ -25,8 +26,15 @@ use Rattle.quic_streams_state.specs.SendLacking.{WriteMayLack}
 use Rattle.quic_streams_state.specs.Writing.{write_answer, finish_answer, reset_answer, set_priority_answer}
 use Rattle.quic_send_buffer.specs.Source.{bytes_of}
 use Rattle.quic_streams_state.specs.Reading.{Told, told_bytes, told_by, read_answer, after_read_begun, after_next, is_closed}
-use Rattle.quic_machine.specs.End.{End}
+use Rattle.quic_time.specs.Timers.{has_come}
+use Rattle.quic_machine.specs.Closing.{ticked}
+use Rattle.quic_streams_state.specs.Waiting.{is_empty}
+use Rattle.quic_spaces.specs.Records.{first_record}
+use Rattle.quic_machine.specs.Tracking.{lost_by}
+use Rattle.quic_machine.specs.End.{End, with_closing}
+use Rattle.quic_machine.specs.Acked.{verdict}
 use Rattle.quic_machine.specs.Calls.{is_open}
+use Rattle.quic_machine.specs.MessageCalls.{MessageCallLacks}
 use Rattle.quic_machine.specs.Receive.{received}
 use Rattle.quic_machine.specs.Poll.{polled}
 
@@ -77,16 +85,33 @@ abbrev pub DeliveryTakes : Policy → End → ℕ → Option (List ℕ) → Type
 DeliveryTakes p e now None = ⊥
 DeliveryTakes p e now (Some d) = TakesFrames (received p e now d).answer
 
--- a call that says that memory lacks is one that takes some: a call on streams such as above, a datagram would be given, or frames are taken
+-- a probe takes what has to be sent again of a packet
+abbrev pub MovesRecord : End → Type 0
+MovesRecord e = (nat_lt 0 e.tracking.probes ≡ true) × (is_empty e.waiting.frames e.streams ≡ true) × IsSome (first_record e.streams e.tracking.packets)
+
+-- a datagram is composed, or a probe of an open end takes what it carries; or the end had failed before
+abbrev pub PollTakes : Policy → End → ℕ → Type 0
+PollTakes p e now = GivesOrHasFailed (polled p e now).answer ⊎ ((e.closing.state ≡ states.Open) × MovesRecord e)
+
+-- the loss timer of an open end expires at a moment, and a packet is lost by time; or the end had failed before
+abbrev pub LosesOrHasFailed : End → ℕ → Type 0
+LosesOrHasFailed e now =
+    ((e.closing.state ≡ states.Open) × (has_come e.timers.loss_detection (ticked e.closing now).clock ≡ true) × IsSome e.tracking.loss_time × (lost_by (verdict (with_closing e (ticked e.closing now))) e.tracking.packets ≢ []))
+    ⊎ (e.closing.state ≡ states.Failed)
+
+-- a call that says that memory lacks is one that takes some: a call on streams such as above, or one that queues a message; a datagram is composed, packets are lost, or frames are taken
 abbrev pub LacksWhere : Policy → End → List (List ℕ) → Call → Answer → Type 0
-LacksWhere p e theirs (calls.Poll now) (answers.Poll (Err x)) = GivesOrHasFailed (polled p e now).answer
+LacksWhere p e theirs (calls.Send message makes_room) a = MessageCallLacks e (calls.Send message makes_room) a
+LacksWhere p e theirs (calls.Poll now) (answers.Poll (Err x)) = PollTakes p e now
+LacksWhere p e theirs (calls.Timeout now) (answers.Timeout (Err x)) = LosesOrHasFailed e now
 LacksWhere p e theirs (calls.Deliver delivery) (answers.Deliver receives.Failed) = DeliveryTakes p e delivery.now (slice_get theirs delivery.index)
 LacksWhere p e theirs call a = StreamCallLacks (is_open e.closing.state) e.streams e.waiting.frames call a
 
--- a call for which a run takes memory of its own, before it makes it: a datagram that is given is kept, what comes is copied, and so are the answers of a
--- read
+-- a call for which a run takes memory of its own, before it makes it: a datagram that is given is kept, a message that is sent and what comes are copied, and
+-- so are the answers of a read
 abbrev pub TakesOfItsOwn : List (List ℕ) → Call → Type 0
 TakesOfItsOwn theirs (calls.Read read) = Unit {0}
+TakesOfItsOwn theirs (calls.Send message makes_room) = Unit {0}
 TakesOfItsOwn theirs (calls.Poll now) = Unit {0}
 TakesOfItsOwn theirs (calls.Deliver delivery) = IsSome (slice_get theirs delivery.index)
 TakesOfItsOwn theirs (calls.Inject injection) = Unit {0}

@@ -1,17 +1,19 @@
 -- What a timeout and an event leave, each in one form.
-use Rattle.std.proofs.Common.{◌≡◌, ℕ, Bool, true, false, List, [], ◌∷◌, Option, Some, None, refl}
+use Rattle.std.proofs.Common.{◌≡◌, ℕ, Bool, true, false, Option, Some, None, refl, ap}
+use Rattle.std.specs.Prelude.{if◌then◌else◌}
 use Rattle.quic_recovery_core.specs.PendingAcks.{Pending}
 use Rattle.quic_time.specs.Timers.{Timers, has_come}
 use Rattle.quic_machine.specs.declared.answers.State.{State}
 use Rattle.quic_machine.specs.declared.answers.State.TheVariants as states
 use Rattle.quic_machine.specs.declared.answers.LostReason.{LostReason}
 use Rattle.quic_streams_parts.specs.declared.answers.StreamEvent.{StreamEvent}
-use Rattle.quic_streams_state.specs.declared.state.StreamsState.{StreamsState}
 use Rattle.quic_machine.specs.Closing.{ticked, loss_to_tell, after_told}
-use Rattle.quic_machine.specs.Tracking.{Tracking}
-use Rattle.quic_machine.specs.End.{End, with_closing}
-use Rattle.quic_machine.specs.Timeouts.{acks_expired, loss_expired, timed_out_in, timed_out}
-use Rattle.quic_machine.specs.Calls.{streams_told, closing_told, end_after_event}
+use Rattle.quic_machine.specs.Tracking.{Tracking, lost_by}
+use Rattle.quic_machine.specs.End.{End, with_closing, with_loss_timer}
+use Rattle.quic_machine.specs.Acked.{losses_detected, verdict}
+use Rattle.quic_machine.specs.FrameCases.{packets_lost_keep}
+use Rattle.quic_machine.specs.Timeouts.{acks_expired, loss_judged, loss_expired, timed_out_in, timed_out}
+use Rattle.quic_machine.specs.Calls.{streams_told, closing_told, tells_message, message_told, others_told, end_after_event}
 
 -- ---- a timeout
 
@@ -19,18 +21,44 @@ use Rattle.quic_machine.specs.Calls.{streams_told, closing_told, end_after_event
 abbrev pub at_timeout : End → ℕ → Pending → Tracking → Timers → End
 at_timeout e now acks tracking timers = record e { closing = ticked e.closing now; acknowledging = acks; tracking = tracking; timers = timers }
 
+-- an end that took a moment over and detected losses, with other packets to acknowledge and other timers
+abbrev pub at_losses : End → ℕ → Pending → Timers → End
+at_losses e now acks timers = record (losses_detected (with_closing e (ticked e.closing now))) { acknowledging = acks; timers = timers }
+
 -- an end that took a moment over, at which each of two timers expired or didn't
 abbrev pub at_expiry : End → ℕ → Bool → Bool → End
-at_expiry e now acks loss = acks_expired acks (loss_expired loss (with_closing e (ticked e.closing now)))
+at_expiry e now acks loss = with_loss_timer (acks_expired acks (loss_expired loss (with_closing e (ticked e.closing now))))
 
--- whatever timers expire, the numbers to acknowledge and the tracked packets are as they were
+-- losses change none of the packets to acknowledge
+losses_leave : (e : End) → (losses_detected e).acknowledging ≡ e.acknowledging
+losses_leave e = packets_lost_keep (λ (x : End). x.acknowledging ≡ e.acknowledging) (λ m x i. i) (λ c x i. i) (lost_by (verdict e) e.tracking.packets) e refl
+
+-- whatever timers expire, the numbers to acknowledge are as they were; and so are the tracked packets, unless some were lost
 pub by_expired : (e : End) (now : ℕ) (P : End → Type 0)
     → ((acks : Pending) (tracking : Tracking) (timers : Timers) → acks.runs ≡ e.acknowledging.runs → tracking.packets ≡ e.tracking.packets → P (at_timeout e now acks tracking timers))
+    → ((acks : Pending) (timers : Timers) → acks.runs ≡ e.acknowledging.runs → P (at_losses e now acks timers))
     → (acks loss : Bool) → P (at_expiry e now acks loss)
-by_expired e now P changes true true = let f = at_expiry e now true true in changes f.acknowledging f.tracking f.timers refl refl
-by_expired e now P changes true false = let f = at_expiry e now true false in changes f.acknowledging e.tracking f.timers refl refl
-by_expired e now P changes false true = let f = at_expiry e now false true in changes e.acknowledging f.tracking f.timers refl refl
-by_expired e now P changes false false = changes e.acknowledging e.tracking e.timers refl refl
+by_expired e now P changes loses acks loss = go acks loss e.tracking.loss_time refl
+  where
+    begun : End
+    begun = with_closing e (ticked e.closing now)
+
+    lost : End
+    lost = losses_detected begun
+
+    runs : lost.acknowledging.runs ≡ e.acknowledging.runs
+    runs = ap (λ (a : Pending). a.runs) (losses_leave begun)
+
+    judged : (acks : Bool) (o : Option ℕ) → P (with_loss_timer (acks_expired acks (loss_judged o begun)))
+    judged true None = let f = with_loss_timer (acks_expired true (loss_judged None begun)) in changes f.acknowledging f.tracking f.timers refl refl
+    judged false None = let f = with_loss_timer (loss_judged None begun) in changes e.acknowledging f.tracking f.timers refl refl
+    judged true (Some moment) = let f = with_loss_timer (acks_expired true lost) in loses f.acknowledging f.timers runs
+    judged false (Some moment) = let f = with_loss_timer lost in loses f.acknowledging f.timers runs
+
+    go : (acks loss : Bool) (o : Option ℕ) → e.tracking.loss_time ≡ o → P (with_loss_timer (acks_expired acks (loss_expired loss begun)))
+    go acks true o is = judged acks e.tracking.loss_time
+    go true false o is = let f = with_loss_timer (acks_expired true begun) in changes f.acknowledging e.tracking f.timers refl refl
+    go false false o is = let f = with_loss_timer begun in changes e.acknowledging e.tracking f.timers refl refl
 
 -- an end that isn't open has no timer
 pub by_expiry : (e : End) (now : ℕ) (P : End → Type 0) → P e → ((acks loss : Bool) → P (at_expiry e now acks loss)) → P (timed_out e now).end
@@ -42,9 +70,9 @@ by_expiry e now P same expires = go e.closing.state
     go states.Drained = same
     go states.Failed = same
 
--- what holds of the end as it was, and of it after whatever timers change, holds after a timeout
-pub by_timeout : (e : End) (now : ℕ) (P : End → Type 0) → P e → ((acks : Pending) (tracking : Tracking) (timers : Timers) → P (at_timeout e now acks tracking timers)) → P (timed_out e now).end
-by_timeout e now P same changes = by_expiry e now P same (by_expired e now P (λ acks tracking timers runs packets. changes acks tracking timers))
+-- what holds of the end as it was, and of it after whatever timers change or packets are lost, holds after a timeout
+pub by_timeout : (e : End) (now : ℕ) (P : End → Type 0) → P e → ((acks : Pending) (tracking : Tracking) (timers : Timers) → P (at_timeout e now acks tracking timers)) → ((acks : Pending) (timers : Timers) → P (at_losses e now acks timers)) → P (timed_out e now).end
+by_timeout e now P same changes loses = by_expiry e now P same (by_expired e now P (λ acks tracking timers runs packets. changes acks tracking timers) (λ acks timers runs. loses acks timers))
 
 -- ---- an event
 
@@ -52,9 +80,9 @@ by_timeout e now P same changes = by_expiry e now P same (by_expired e now P (λ
 abbrev pub at_event : End → Bool → End
 at_event e told = record e { closing = record e.closing { told = told }; streams = (streams_told e).state }
 
--- what holds whether or not the loss was told holds after an event
-pub by_event : (e : End) (P : End → Type 0) → ((told : Bool) → P (at_event e told)) → P (end_after_event e)
-by_event e P changes = go (streams_told e).answer
+-- what holds whether or not the loss was told holds after an event that tells of no message
+pub by_others : (e : End) (P : End → Type 0) → ((told : Bool) → P (at_event e told)) → P (others_told e)
+by_others e P changes = go (streams_told e).answer
   where
     loss_case : (o : Option LostReason) → P (record e { streams = (streams_told e).state; closing = after_told o e.closing })
     loss_case None = changes e.closing.told
@@ -63,3 +91,11 @@ by_event e P changes = go (streams_told e).answer
     go : (o : Option StreamEvent) → P (record e { streams = (streams_told e).state; closing = closing_told o e.closing })
     go None = loss_case (loss_to_tell e.closing)
     go (Some event) = changes e.closing.told
+
+-- what holds once a message was told of, and in these cases, holds after an event
+pub by_event : (e : End) (P : End → Type 0) → P (message_told e) → ((told : Bool) → P (at_event e told)) → P (end_after_event e)
+by_event e P message changes = go (tells_message e)
+  where
+    go : (b : Bool) → P (if b then message_told e else others_told e)
+    go true = message
+    go false = by_others e P changes

@@ -1,8 +1,6 @@
 pub mod Policy
 pub mod Closing
 pub mod Ids
-pub mod Numbers
-pub mod Acknowledging
 pub mod Parts
 pub mod Tracking
 pub mod End
@@ -13,6 +11,7 @@ pub mod Poll
 pub mod Timeouts
 pub mod Calls
 pub mod StreamCalls
+pub mod MessageCalls
 pub mod Lacking
 pub mod Machine
 pub mod Start

@@ -1,5 +1,5 @@
 -- The machine of two ends over a network: what each event is answered, and what it leaves.
-use Rattle.std.specs.Prelude.{ℕ, ◌≡◌, ◌≢◌, ◌⊎◌, Bool, true, false, List, [], ◌∷◌, ◌++◌, length, slice_get, Option, Some, None, Ok, Err}
+use Rattle.std.specs.Prelude.{ℕ, ◌≡◌, ◌≢◌, ◌⊎◌, Bool, true, false, List, [], ◌∷◌, ◌++◌, slice_get, Option, Some, None, Ok, Err}
 use Rattle.std.specs.Option.{option_to_list}
 use Rattle.quic_wire_core.specs.declared.stream_id.Side.{Side}
 use Rattle.quic_wire_core.specs.declared.stream_id.Side.TheVariants.{Client, Server}
@@ -20,6 +20,7 @@ use Rattle.quic_machine.specs.Opens.{would_open}
 use Rattle.quic_machine.specs.Timeouts.{timed_out}
 use Rattle.quic_machine.specs.Calls.{is_open, end_tells, end_after_event, end_after_ping}
 use Rattle.quic_machine.specs.StreamCalls.{IsStreamAnswer, after_on_streams}
+use Rattle.quic_machine.specs.MessageCalls.{IsMessageAnswer, end_on_messages}
 use Rattle.quic_machine.specs.Receive.{received}
 use Rattle.quic_machine.specs.Poll.{polled}
 use Rattle.quic_machine.specs.Lacking.{LacksWhere}
@@ -45,9 +46,11 @@ end_on_streams e call a = with_streams e (after_on_streams (is_open e.closing.st
 
 -- what a call may be answered: what the machine says, or that memory lacks (where it may: `LacksWhere`)
 abbrev pub IsAnswer : Policy → End → List (List ℕ) → Call → Answer → Type 0
+IsAnswer p e theirs (calls.Send message makes_room) a = IsMessageAnswer e (calls.Send message makes_room) a
+IsAnswer p e theirs calls.Recv a = IsMessageAnswer e calls.Recv a
 IsAnswer p e theirs calls.Ping a = a ≡ answers.Ping
 IsAnswer p e theirs (calls.Poll now) a = (a ≡ answers.Poll (polled p e now).answer) ⊎ (a ≡ answers.Poll (Err (record {})))
-IsAnswer p e theirs (calls.Timeout now) a = a ≡ answers.Timeout (timed_out e now).answer
+IsAnswer p e theirs (calls.Timeout now) a = (a ≡ answers.Timeout (timed_out e now).answer) ⊎ (a ≡ answers.Timeout (Err (record {})))
 IsAnswer p e theirs (calls.Deliver delivery) a = IsDelivered p e delivery.now (slice_get theirs delivery.index) a
 IsAnswer p e theirs (calls.Inject injection) a = a ≡ injected_if (would_open p e injection.bytes) p e injection.now injection.bytes
 IsAnswer p e theirs calls.Event a = a ≡ answers.Event (end_tells e)
@@ -67,6 +70,8 @@ after_injected_if false p e now d = (received p e now d).end
 
 -- what a call leaves, by its answer, where memory served
 abbrev pub after_call : Policy → End → List (List ℕ) → Call → Answer → End
+after_call p e theirs (calls.Send message makes_room) a = end_on_messages e (calls.Send message makes_room) a
+after_call p e theirs calls.Recv a = end_on_messages e calls.Recv a
 after_call p e theirs calls.Ping a = end_after_ping e
 after_call p e theirs (calls.Poll now) a = (polled p e now).end
 after_call p e theirs (calls.Timeout now) a = (timed_out e now).end
@@ -82,7 +87,7 @@ abbrev pub gives : Policy → End → Call → Answer → List (List ℕ)
 gives p e (calls.Poll now) (answers.Poll (Ok (Some transmit))) = option_to_list (polled p e now).datagram
 gives p e call a = []
 
--- a poll or a delivery lacked memory, and the end fails; or a poll or a timeout came to an end that had failed
+-- a poll, a timeout or a delivery lacked memory, and the end fails; or a poll or a timeout came to an end that had failed
 abbrev pub fails : Answer → Bool
 fails (answers.Poll (Err failed)) = true
 fails (answers.Timeout (Err failed)) = true

@@ -1,15 +1,18 @@
--- What the keys of an end do, as plain functions.
+-- What the keys of an end do, and what its random source answers, as plain functions.
+use Rattle.std.specs.Prelude.{ℕ}
 use Rattle.quic_packet.specs.Keys.{Protection, Aead, AreMates}
 use Rattle.quic_packet.specs.declared.crypto.Keys.{Keys}
 
--- how an end protects what it gives, and how it opens what it takes
+-- how an end protects what it gives, how it opens what it takes, and which words its random source answers, each by how many were drawn before it
 pub record Policy : Type 0 where
   pub header : Protection
   pub packet : Aead
+  pub words : ℕ → ℕ
 
 -- what keys do: an end protects with the local ones, and opens with the remote ones
-abbrev pub keys_policy : {H K : Type 0} → (H → Protection) → (K → Aead) → Keys H K → Policy
-keys_policy protection aead keys = record {
+abbrev pub keys_policy : {H K : Type 0} → (H → Protection) → (K → Aead) → Keys H K → (ℕ → ℕ) → Policy
+keys_policy protection aead keys words = record {
+  words = words;
   header = record {
     mask = (protection keys.header.local).mask;
     hide = (protection keys.header.local).hide;
@@ -28,4 +31,4 @@ CanOpen giver taker = AreMates giver.header giver.packet taker.header taker.pack
 
 -- what an end with the giver's keys gives, an end with the taker's can open
 abbrev pub KeysCanOpen : {H K : Type 0} → (H → Protection) → (K → Aead) → Keys H K → Keys H K → Type 0
-KeysCanOpen protection aead giver taker = CanOpen (keys_policy protection aead giver) (keys_policy protection aead taker)
+KeysCanOpen protection aead giver taker = CanOpen (keys_policy protection aead giver (λ n. n)) (keys_policy protection aead taker (λ n. n))

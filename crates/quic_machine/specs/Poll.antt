@@ -1,30 +1,34 @@
 -- What an end gives when it is polled (RFC 9000, sections 12.2, 13.3 and 14.1).
 use Rattle.std.specs.Prelude.{ℕ, ◌+◌, ◌-◌, ◌≡◌, Bool, true, false, ◌&&◌, ◌||◌, not, nat_le, nat_lt, if◌then◌else◌, List, [], ◌∷◌, ◌++◌, map, length, replicate, Option, Some, None, Result, Ok, Err}
 use Rattle.std.specs.List.{list_any, fold}
+use Rattle.std.specs.Option.{is_some}
 use Rattle.quic_wire_core.specs.declared.shared.EcnCodepoint.TheVariants.{Ect0}
 use Rattle.quic_packet.specs.Number.{truncated}
-use Rattle.quic_wire.specs.Value.{FrameValue, AckValue, ack, ping, stream, asks}
+use Rattle.quic_wire.specs.Value.{FrameValue, AckValue, ack, ping, stream, datagram, asks}
 use Rattle.quic_wire.specs.AckSet.{ack_of_set}
 use Rattle.quic_wire.specs.Writing.{spelling, spelled_all, frame_size}
 use Rattle.quic_wire.specs.Grammar.{Payload}
 use Rattle.quic_packet.specs.Datagram.{sent}
-use Rattle.quic_retransmits.specs.Retransmits.{nothing_waits}
-use Rattle.quic_streams_state.specs.State.{Streams, streams_of}
+use Rattle.quic_retransmits.specs.Retransmits.{nothing_waits, merged}
+use Rattle.quic_streams_parts.specs.Table as table
+use Rattle.quic_streams_state.specs.State.{streams_of}
 use Rattle.quic_streams_state.specs.Waiting.{is_empty, can_send_stream_data}
 use Rattle.quic_streams_state.specs.Control as control
 use Rattle.quic_streams_state.specs.Frames as of_streams
+use Rattle.quic_messages.specs.Messages.{fitting}
 use Rattle.quic_machine.specs.declared.answers.State.{State}
 use Rattle.quic_machine.specs.declared.answers.Failed.{Failed}
 use Rattle.quic_machine.specs.declared.answers.Transmit.{Transmit}
 use Rattle.quic_machine.specs.declared.answers.State.TheVariants as states
 use Rattle.quic_machine.specs.declared.answers.LostReason.TheVariants as reasons
-use Rattle.quic_recovery_core.specs.PendingAcks.{can_send, is_filled, after_acks_sent}
-use Rattle.quic_machine.specs.Acknowledging.{delay_at}
-use Rattle.quic_machine.specs.Tracking.{carried_in, after_sent}
+use Rattle.quic_recovery_core.specs.PendingAcks.{can_send, is_filled, after_acks_sent, after_lazy}
+use Rattle.quic_spaces.specs.Acknowledging.{delay_at}
+use Rattle.quic_machine.specs.Tracking.{TrackedPacket, carried_in, after_sent, without_record}
 use Rattle.quic_machine.specs.Closing.{ticked}
-use Rattle.quic_machine.specs.Numbers.{can_number, cut_against, number_given}
+use Rattle.quic_spaces.specs.Numbers.{can_number, cut_against}
+use Rattle.quic_spaces.specs.Records.{first_record}
 use Rattle.quic_machine.specs.Policy.{Policy}
-use Rattle.quic_machine.specs.End.{End, with_closing, closed_by, with_numbers, with_acknowledging, with_ack_timer_at, with_tracking, streams_at, with_streams, with_ping}
+use Rattle.quic_machine.specs.End.{End, with_closing, closed_by, number_of, with_number_given, with_acknowledging, with_ack_timer_at, with_tracking, with_loss_timer, with_streams, with_queued, with_waiting, with_ping}
 
 -- the most bytes of a datagram (RFC 9000, section 14.1)
 abbrev pub current_mtu : ℕ
@@ -59,7 +63,7 @@ gives_datagram d e = record { answer = Ok (Some (record { size = length d; ecn =
 
 -- how many bytes are left for frames: the datagram's less header, number and tag
 abbrev pub frame_room : End → ℕ
-frame_room e = current_mtu - (1 + length e.ids.active.id + (truncated e.numbers.next (cut_against e.numbers)).width + 16)
+frame_room e = current_mtu - (1 + length e.ids.active.id + (truncated (number_of e) (cut_against e.numbers)).width + 16)
 
 -- ---- what goes into a datagram, one frame behind another
 
@@ -98,6 +102,19 @@ behind_control d c = record { frames = d.frames ++ c.frames; bytes = d.bytes ++ 
 abbrev pub with_control_frames : Draft → Draft
 with_control_frames d = behind_control d (control.control_frames (frame_room d.end) (length d.bytes) d.end.streams d.end.waiting.frames nothing_waits)
 
+-- a message goes, which leaves these to be sent
+abbrev pub with_message : Draft → List ℕ → List (List ℕ) → Draft
+with_message d m ms = with_frame d (datagram m) (spelling (datagram m)) (with_queued d.end (record d.end.messages.queues { outgoing = ms }))
+
+-- of the messages that wait, the oldest go, one behind another, up to the first that doesn't fit (RFC 9221, section 5)
+abbrev pub with_messages_of : List (List ℕ) → Draft → Draft
+with_messages_of [] d = d
+with_messages_of (m ∷ ms) d = if fits d (datagram m) then with_messages_of ms (with_message d m ms) else d
+
+-- messages go while they fit
+abbrev pub with_message_frames : Draft → Draft
+with_message_frames d = with_messages_of d.end.messages.queues.outgoing d
+
 -- STREAM frames behind the frames of a draft, which leave these streams
 abbrev pub behind_stream : Draft → of_streams.Sent → Draft
 behind_stream d t = record { frames = d.frames ++ map stream t.frames; bytes = d.bytes ++ t.bytes; end = record d.end { streams = t.state } }
@@ -112,7 +129,7 @@ no_stream_frames d = record { frames = []; bytes = []; state = d.end.streams }
 
 -- frames of streams go while one has something to send and there is room
 abbrev pub with_stream_frames : Draft → Draft
-with_stream_frames d = behind_stream d (of_streams.with_stream_frames d.end.fair (left d) (no_stream_frames d))
+with_stream_frames d = behind_stream d (of_streams.with_stream_frames d.end.transport.send_fairness (left d) (no_stream_frames d))
 
 -- what an ACK frame says at the moment of the end (RFC 9000, section 19.3)
 abbrev pub ack_of : End → AckValue
@@ -135,20 +152,22 @@ abbrev pub ack_if : Bool → Draft → Draft
 ack_if true d = with_ack d
 ack_if false d = d
 
--- what asks for an acknowledgement: PING, what has to be told of streams, and their bytes
+-- what asks for an acknowledgement: PING, what has to be told of streams, messages, and the bytes of streams
 pub data Kind : Type 0 where
   pings : Kind
   controls : Kind
+  messages : Kind
   streams : Kind
 
 -- the kinds, in the order in which they go
 abbrev pub order : List Kind
-order = pings ∷ controls ∷ streams ∷ []
+order = pings ∷ controls ∷ messages ∷ streams ∷ []
 
 -- what waits of a kind goes behind the frames of a draft, where it fits
 abbrev pub put : Draft → Kind → Draft
 put d pings = with_ping_frame d
 put d controls = with_control_frames d
+put d messages = with_message_frames d
 put d streams = with_stream_frames d
 
 -- what asks goes, kind by kind
@@ -170,32 +189,76 @@ composed e = composed_if (can_send e.acknowledging) e
 
 -- its payload
 abbrev pub payload_of : Draft → List ℕ
-payload_of d = padded (truncated d.end.numbers.next (cut_against d.end.numbers)).width d.bytes
+payload_of d = padded (truncated (number_of d.end) (cut_against d.end.numbers)).width d.bytes
 
 -- the datagram with these frames
 abbrev pub datagram_of : Policy → Draft → List ℕ
-datagram_of p d = sent p.header p.packet d.end.numbers.next (cut_against d.end.numbers) d.end.ids.active.id (payload_of d)
+datagram_of p d = sent p.header p.packet (number_of d.end) (cut_against d.end.numbers) d.end.ids.active.id (payload_of d)
 
 -- whether a datagram with these frames asks for an acknowledgement (RFC 9000, section 13.2)
 abbrev pub asking : List FrameValue → Bool
 asking frames = list_any asks frames
 
--- the end after its frames went: where they ask for an acknowledgement, it is waited for
-abbrev pub tracked_if : Bool → Draft → End
-tracked_if true d = with_tracking d.end (after_sent d.end.tracking d.end.numbers.next d.end.path.generation d.end.closing.clock (carried_in d.frames))
-tracked_if false d = d.end
+-- how many bytes the datagram has: header, number, payload and tag
+abbrev pub datagram_size : Draft → ℕ
+datagram_size d = 1 + length d.end.ids.active.id + (truncated (number_of d.end) (cut_against d.end.numbers)).width + length (payload_of d) + 16
+
+-- the packet as it is tracked: it counts against the congestion window where it asks for an acknowledgement (RFC 9002, section 2)
+abbrev pub packet_of : Draft → TrackedPacket
+packet_of d = record {
+  generation = d.end.path.generation;
+  time_sent = d.end.closing.clock;
+  size = if asking d.frames then datagram_size d else 0;
+  asks = asking d.frames;
+  carried = carried_in d.frames;
+}
+
+-- the end after its frames went: the packet is tracked
+abbrev pub tracked : Draft → End
+tracked d = with_tracking d.end (after_sent d.end.tracking (number_of d.end) (packet_of d))
 
 -- the end after it went
-abbrev pub after_given : Draft → End
-after_given d = with_numbers (tracked_if (asking d.frames) d) (number_given d.end.numbers)
+abbrev pub after_given : Policy → Draft → End
+after_given p d = with_loss_timer (with_number_given (p.words d.end.filter.drawn) (tracked d))
 
--- where a probe waits, a PING does
+-- ---- what waits
+
+-- a probe goes (RFC 9002, section 6.2.4): what has to be sent again of a packet, if there is such a packet, waits once more, and the packet stays tracked; else
+-- PING waits
+abbrev pub record_moved : Option (ℕ × TrackedPacket) → End → End
+record_moved None e = with_ping e true
+record_moved (Some p) e = with_waiting (with_tracking e (record e.tracking { packets = table.put e.tracking.packets p.0 (without_record p.1) }))
+    (record e.waiting { frames = merged e.waiting.frames p.1.carried.retransmits })
+
+-- where nothing waits to be told
+abbrev pub probe_filled : Bool → End → End
+probe_filled true e = record_moved (first_record e.streams e.tracking.packets) e
+probe_filled false e = e
+
+-- where probes wait
+abbrev pub probe_if : Bool → End → End
+probe_if true e = probe_filled (is_empty e.waiting.frames e.streams) e
+probe_if false e = e
+
+-- the end where something waits for each probe to carry
 abbrev pub probed : End → End
-probed e = if nat_lt 0 e.tracking.probes then with_ping e true else e
+probed e = probe_if (nat_lt 0 e.tracking.probes) e
 
--- whether something waits beside acknowledgements: PING, what has to be told of streams, or their bytes
+-- before a datagram is composed, an acknowledgement is due where many packets came that don't ask for one (RFC 9000, section 13.2.1)
+abbrev pub lazied : End → End
+lazied e = with_acknowledging e (after_lazy e.acknowledging)
+
+-- how many bytes are left for frames at least, whichever number a datagram has: one takes four bytes at most
+abbrev pub least_room : End → ℕ
+least_room e = current_mtu - (length e.ids.active.id + 21)
+
+-- whether a message waits that a datagram takes
+abbrev pub message_waits : End → Bool
+message_waits e = is_some (fitting (least_room e) e.messages.queues.outgoing)
+
+-- whether something waits beside acknowledgements: PING, what has to be told of streams, a message, or the bytes of streams
 abbrev pub asks_to_go : End → Bool
-asks_to_go e = e.waiting.ping || (not (is_empty e.waiting.frames e.streams) || can_send_stream_data e.streams)
+asks_to_go e = e.waiting.ping || (not (is_empty e.waiting.frames e.streams) || (message_waits e || can_send_stream_data e.streams))
 
 -- whether anything waits to be sent
 abbrev pub waits : End → Bool
@@ -208,7 +271,7 @@ pub record IsSilent (e : End) : Type 0 where
 
 -- something waits: where the numbers are used up, the end closes and gives nothing
 abbrev pub sends : Bool → Policy → End → Polled
-sends true p e = gives_datagram (datagram_of p (composed e)) (after_given (composed e))
+sends true p e = gives_datagram (datagram_of p (composed (lazied e))) (after_given p (composed (lazied e)))
 sends false p e = gives_nothing (closed_by reasons.NumberLimit e)
 
 -- what waits goes, if anything does
@@ -216,7 +279,7 @@ abbrev pub polled_if : Bool → Policy → End → Polled
 polled_if true p e = sends (can_number e.numbers) p e
 polled_if false p e = gives_nothing e
 
--- what an open end gives: a probe that waits is a PING beside whatever waits (RFC 9002, section 6.2.4)
+-- what an open end gives, a probe where one waits
 abbrev pub polled_open : Policy → End → Polled
 polled_open p e = polled_if (waits (probed e)) p (probed e)
 

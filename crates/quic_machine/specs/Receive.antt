@@ -1,10 +1,10 @@
 -- What an end makes of a datagram that comes (RFC 9000, sections 5.2, 12 and 13.1).
-use Rattle.std.specs.Prelude.{ℕ, ◌+◌, Bool, true, false, ◌==◌, ◌||◌, not, nat_le, if◌then◌else◌, List, [], ◌∷◌, Option, Some, None, Result, Ok, Err}
+use Rattle.std.specs.Prelude.{ℕ, ◌+◌, Bool, true, false, ◌==◌, ◌||◌, not, nat_le, nat_lt, if◌then◌else◌, List, [], ◌∷◌, Option, Some, None, Result, Ok, Err}
 use Rattle.std.specs.List.{list_any}
 use Rattle.quic_wire_core.specs.TransportError.{ErrorValue}
 use Rattle.quic_wire_core.specs.declared.stream_id.Side.{Side}
 use Rattle.quic_wire_core.specs.declared.stream_id.Side.TheVariants.{Client, Server}
-use Rattle.quic_wire.specs.Value.{FrameValue, AckValue, ack, stream, reset_stream, stop_sending, max_data, max_stream_data, max_streams, stream_data_blocked, streams_blocked, new_token, handshake_done, asks}
+use Rattle.quic_wire.specs.Value.{FrameValue, AckValue, ack, stream, reset_stream, stop_sending, max_data, max_stream_data, max_streams, stream_data_blocked, streams_blocked, new_token, handshake_done, datagram, asks}
 use Rattle.quic_wire.specs.Items.{items}
 use Rattle.quic_packet.specs.Header.{key_phase, reserved_bits}
 use Rattle.quic_packet.specs.Destination.{decoded, fixed_length_id}
@@ -24,17 +24,22 @@ use Rattle.quic_machine.specs.declared.answers.Received.{Received}
 use Rattle.quic_machine.specs.declared.answers.Received.TheVariants.{Taken, Dropped, Closed}
 use Rattle.quic_machine.specs.Closing.{ticked}
 use Rattle.quic_machine.specs.Ids.{known}
-use Rattle.quic_machine.specs.Numbers.{expected, number_opened, number_taken, number_named}
+use Rattle.quic_spaces.specs.Numbers.{expected, number_opened, number_taken, number_named}
+use Rattle.quic_spaces.specs.Filter.{names_skipped}
 use Rattle.quic_recovery_core.specs.Duplicates.{Seen, is_duplicate}
 use Rattle.quic_recovery_core.specs.PendingAcks.{Pending, after_insert, after_packet, packet_starts_wait}
 use Rattle.quic_time.specs.Timers.{Timers}
-use Rattle.quic_machine.specs.Acknowledging.{ack_due, with_ack_timer}
+use Rattle.quic_machine.specs.Parts.{Messaging}
+use Rattle.quic_spaces.specs.Acknowledging.{ack_due}
 use Rattle.quic_streams_state.specs.declared.state.StreamsState.{StreamsState}
 use Rattle.quic_streams_state.specs.State.{Streams, streams_of}
 use Rattle.quic_streams_state.specs.Opening.{sending_refusal, max_streams_breach, after_max_streams}
 use Rattle.quic_streams_state.specs.Taking.{stream_breach, after_stream, reset_breach, after_reset_frame, after_stop_sending, after_max_data, after_max_stream_data, stream_data_blocked_breach, streams_blocked_breach}
+use Rattle.quic_messages.specs.declared.errors.ReceivedError.{ReceivedError}
+use Rattle.quic_messages.specs.Messages.{received_answer, after_received}
+use Rattle.quic_time.specs.Clocks.{saturated}
 use Rattle.quic_machine.specs.Policy.{Policy}
-use Rattle.quic_machine.specs.End.{End, side_of, with_closing, closed_by, with_numbers, with_streams}
+use Rattle.quic_machine.specs.End.{End, side_of, with_closing, closed_by, with_numbers, with_streams, with_messages, with_ack_timer, with_loss_timer}
 use Rattle.quic_machine.specs.Opens.{own_id_length}
 use Rattle.quic_machine.specs.Tracking.{dir_named}
 use Rattle.quic_machine.specs.Acked.{after_acked}
@@ -98,10 +103,19 @@ abbrev pub fault_at : Side → Option Fault
 fault_at Client = None
 fault_at Server = Some violation
 
+-- whether a number lies above all own ones that were named before
+abbrev pub is_above : Option ℕ → ℕ → Bool
+is_above None n = true
+is_above (Some m) n = nat_lt m n
+
 -- An ACK frame: the greatest number that it names counts, whatever else it names; then the tracked packets that it names are acknowledged, and others
--- lost. Its counts of marks are ignored. A number that was never given is a broken rule (RFC 9000, section 13.1).
+-- lost. Its counts of marks are ignored. A number that was never given is a broken rule (RFC 9000, section 13.1), and so is the one that was left out last.
+abbrev pub names_ungiven : AckValue → End → Bool
+names_ungiven a e = nat_le e.numbers.next a.largest || list_any (λ r. names_skipped e.filter.last r.0 r.1) a.ranges
+
 abbrev pub take_ack : AckValue → End → Progress
-take_ack a e = if nat_le e.numbers.next a.largest then record { end = e; fault = Some violation } else goes_on (after_acked a (with_numbers e (number_named e.numbers a.largest)))
+take_ack a e = if names_ungiven a e then record { end = e; fault = Some violation }
+    else goes_on (after_acked (is_above e.numbers.largest_acked a.largest) a (with_numbers e (number_named e.numbers a.largest)))
 
 -- what a frame on streams makes of them: a rule that it broke, if it broke one, and the streams that it leaves
 abbrev pub on_streams : Option Breach → Streams → End → Progress
@@ -110,6 +124,23 @@ on_streams breach t e = record { end = with_streams e t; fault = fault_of breach
 -- a frame on streams that queues nothing beside their bytes
 abbrev pub on_state : Option Breach → StreamsState → End → Progress
 on_state breach s e = on_streams breach (streams_of s e.waiting.frames) e
+
+-- the application is to be told once more that a message came, where none was unread; it is told so 2^64 - 1 times at most before it asks
+abbrev pub told_of_message : Bool → ℕ → ℕ
+told_of_message true n = saturated (n + 1)
+told_of_message false n = n
+
+-- what a message leaves that is taken: it waits to be read, where the oldest may have gone for it (RFC 9221, section 5)
+abbrev pub message_taken : Bool → List ℕ → End → Messaging
+message_taken first m e = record { queues = after_received e.transport.datagram_receive_buffer_size m e.messages.queues; to_tell = told_of_message first e.messages.to_tell }
+
+-- a message that comes is taken, or it is one that the end told that it takes none such (RFC 9221, section 3)
+abbrev pub message_judged : Result Bool ReceivedError → List ℕ → End → Progress
+message_judged (Ok first) m e = goes_on (with_messages e (message_taken first m e))
+message_judged (Err error) m e = record { end = e; fault = Some violation }
+
+abbrev pub take_message : List ℕ → End → Progress
+take_message m e = message_judged (received_answer e.transport.datagram_receive_buffer_size m e.messages.queues) m e
 
 -- what a frame makes of the end; those of other kinds are read, and do nothing yet
 abbrev pub take_frame : FrameValue → End → Progress
@@ -122,6 +153,7 @@ take_frame (max_stream_data f) e = on_state (sending_refusal e.streams f.id) (af
 take_frame (max_streams f) e = on_state (max_streams_breach f.count) (after_max_streams (dir_named f.one_way) f.count e.streams) e
 take_frame (stream_data_blocked f) e = on_state (stream_data_blocked_breach e.streams f.id) e.streams e
 take_frame (streams_blocked f) e = on_state (streams_blocked_breach f.count) e.streams e
+take_frame (datagram m) e = take_message m e
 take_frame (new_token t) e = record { end = e; fault = fault_at (side_of e) }
 take_frame handshake_done e = record { end = e; fault = fault_at (side_of e) }
 take_frame f e = goes_on e
@@ -170,8 +202,8 @@ abbrev pub timers_after : Timers → Pending → ℕ → ℕ → Bool → Seen �
 timers_after t p now n asking seen = if packet_starts_wait p n asking seen then with_ack_timer t (Some (ack_due now)) else t
 
 -- the whole payload of a packet of this number was taken, which asks for an acknowledgement or doesn't: the number is to be acknowledged
-abbrev pub after_taken : ℕ → Bool → End → End
-after_taken n asking e =
+abbrev pub number_noted : ℕ → Bool → End → End
+number_noted n asking e =
     let now = e.closing.clock in
     let p = after_insert e.acknowledging n now in
     record e {
@@ -179,6 +211,10 @@ after_taken n asking e =
       acknowledging = after_packet p now n asking e.numbers.opened;
       timers = timers_after e.timers p now n asking e.numbers.opened;
     }
+
+-- and the loss timer is set to what the frames left
+abbrev pub after_taken : ℕ → Bool → End → End
+after_taken n asking e = with_loss_timer (number_noted n asking e)
 
 -- all frames were taken, or one was at fault: those before it keep their effect
 abbrev pub ends_as : Option Fault → Bool → ℕ → End → Outcome

@@ -9,13 +9,15 @@ use Rattle.quic_machine.specs.End.{MadeFrom}
 use Rattle.quic_machine.specs.Opens.{own_id_length}
 use Rattle.quic_machine.specs.Machine.{World, Policies}
 
--- how one end was made: its settings, the parameter bytes that they come to, its first id, the moment, and whether the path was validated
+-- how one end was made: its settings, the parameter bytes that they come to, its first id, the moment, whether the path was validated, and the first word
+-- that its random source answered
 pub record Making : Type 0 where
   pub settings : Settings
   pub parameters : List ℕ
   pub id : List ℕ
   pub moment : ℕ
   pub validated : Bool
+  pub word : ℕ
 
 -- the parameter bytes say the settings, which are in range, and the id has the length of an own id
 pub record IsMaking (m : Making) : Type 0 where
@@ -29,8 +31,8 @@ pub record AreStarted (w : World) : Type 0 where
   pub server_making : Making
   pub client_is : IsMaking client_making
   pub server_is : IsMaking server_making
-  pub client : MadeFrom Client client_making.settings server_making.parameters client_making.id server_making.id client_making.moment client_making.validated w.client
-  pub server : MadeFrom Server server_making.settings client_making.parameters server_making.id client_making.id server_making.moment server_making.validated w.server
+  pub client : MadeFrom Client client_making.settings server_making.parameters client_making.id server_making.id client_making.moment client_making.validated client_making.word w.client
+  pub server : MadeFrom Server server_making.settings client_making.parameters server_making.id client_making.id server_making.moment server_making.validated server_making.word w.server
   pub client_gave : w.from_client ≡ []
   pub server_gave : w.from_server ≡ []
 

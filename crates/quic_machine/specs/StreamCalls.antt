@@ -1,12 +1,12 @@
 -- The calls of the application on streams (RFC 9000, sections 2 and 3): what each may be answered, and what it leaves. Each is a call of the streams, with the
 -- end open or not.
-use Rattle.std.specs.Prelude.{ℕ, ◌≡◌, ◌⊎◌, Bool, true, false, List, length, Option, Some, None, Result, Ok, Err}
+use Rattle.std.specs.Prelude.{ℕ, ◌≡◌, ◌⊎◌, Bool, true, false, List, length, Result, Ok, Err}
 use Rattle.quic_streams_parts.specs.declared.answers.WriteError.TheVariants as write_errors
 use Rattle.quic_streams_parts.specs.declared.answers.FinishError.TheVariants as finish_errors
 use Rattle.quic_streams_parts.specs.declared.answers.UpdateError.TheVariants as update_errors
 use Rattle.quic_streams_parts.specs.declared.answers.ReadableError.TheVariants as readable_errors
 use Rattle.quic_streams_state.specs.declared.state.StreamsState.{StreamsState}
-use Rattle.quic_streams_state.specs.State.{Streams, streams_of}
+use Rattle.quic_streams_state.specs.State.{Streams}
 use Rattle.quic_streams_state.specs.Opening.{open_answer, after_open, accept_answer, after_accept}
 use Rattle.quic_streams_state.specs.Writing.{write_answer, after_write, write_chunks_answer, after_write_chunks, finish_answer, finished_by, reset_answer, after_reset, set_priority_answer, after_set_priority}
 use Rattle.quic_streams_state.specs.Reading.{read_answer, told_bytes, after_read_begun, stop_answer, after_stop, received_reset_answer, after_received_reset}

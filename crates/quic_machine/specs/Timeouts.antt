@@ -1,5 +1,5 @@
 -- What an end makes of a moment at which timers expire (RFC 9000, section 13.2.1; RFC 9002, section 6.2).
-use Rattle.std.specs.Prelude.{ℕ, Bool, true, false, None, Result, Ok, Err}
+use Rattle.std.specs.Prelude.{ℕ, Bool, true, false, Option, Some, None, Result, Ok, Err}
 use Rattle.quic_recovery_core.specs.PendingAcks.{after_timeout}
 use Rattle.quic_time.specs.Timers.{has_come}
 use Rattle.quic_machine.specs.declared.answers.State.{State}
@@ -7,7 +7,8 @@ use Rattle.quic_machine.specs.declared.answers.State.TheVariants as states
 use Rattle.quic_machine.specs.declared.answers.Failed.{Failed}
 use Rattle.quic_machine.specs.Closing.{ticked}
 use Rattle.quic_machine.specs.Tracking.{after_loss_timeout}
-use Rattle.quic_machine.specs.End.{End, with_closing, with_acknowledging, with_ack_timer_at, with_tracking}
+use Rattle.quic_machine.specs.End.{End, with_closing, with_acknowledging, with_ack_timer_at, with_tracking, with_loss_timer}
+use Rattle.quic_machine.specs.Acked.{losses_detected}
 
 -- the answer, and the end that is left
 pub record TimedOut : Type 0 where
@@ -19,14 +20,19 @@ abbrev pub acks_expired : Bool → End → End
 acks_expired true e = with_acknowledging (with_ack_timer_at e None) (after_timeout e.acknowledging)
 acks_expired false e = e
 
--- the loss timer expired or not: probes wait then, and it is set anew
+-- the loss timer expired: where it was set for a packet that may be lost by time, loss is detected; else probes wait (RFC 9002, section 6.2.1)
+abbrev pub loss_judged : Option ℕ → End → End
+loss_judged None e = with_tracking e (after_loss_timeout e.tracking)
+loss_judged (Some moment) e = losses_detected e
+
+-- the loss timer expired or not
 abbrev pub loss_expired : Bool → End → End
-loss_expired true e = with_tracking e (after_loss_timeout e.tracking)
+loss_expired true e = loss_judged e.tracking.loss_time e
 loss_expired false e = e
 
--- the timers of an open end that expired up to its moment
+-- the timers of an open end that expired up to its moment; the loss timer is set anew
 abbrev pub expired : End → End
-expired e = acks_expired (has_come e.timers.max_ack_delay e.closing.clock) (loss_expired (has_come e.timers.loss_detection e.closing.clock) e)
+expired e = with_loss_timer (acks_expired (has_come e.timers.max_ack_delay e.closing.clock) (loss_expired (has_come e.timers.loss_detection e.closing.clock) e))
 
 -- an end that isn't open has no timer
 abbrev pub timed_out_in : State → End → ℕ → TimedOut

@@ -14,7 +14,8 @@ pub enum State {
     Closing,
     /// It sends nothing more, and drops what comes.
     Drained,
-    /// It met want of memory where a datagram was taken or given, and is of no more use.
+    /// It met want of memory where a datagram was taken or given, or packets were lost at a
+    /// timeout, and is of no more use.
     Failed,
 }
 
@@ -56,6 +57,8 @@ impl LostReason {
 pub enum Event {
     /// Something happened to a stream.
     Stream(StreamEvent),
+    /// A message came while none was unread (RFC 9221; quinn-proto's `Event::DatagramReceived`).
+    Message,
     /// The end is lost. It is told once, and never of an end that has failed.
     Lost(LostReason),
 }
@@ -122,6 +125,9 @@ pub enum ConfigError {
     /// The own id hasn't eight bytes, or the peer's has none.
     #[error("an id of the wrong length")]
     IdLength,
+    /// A size of datagrams is above 65527 bytes, or the least is above what the peer takes.
+    #[error("a size of datagrams out of range")]
+    Size,
     /// Memory lacked.
     #[error("out of memory")]
     Memory,

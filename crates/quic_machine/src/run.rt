@@ -4,6 +4,7 @@ ghost use Rattle.std.specs.Prelude.{◌≡◌};
 use crate::answers::{Event, Failed, LostReason, Received, State, Transmit};
 use bytes::Bytes;
 use quic_assembler::Chunk;
+use quic_messages::SendDatagramError;
 use quic_streams_parts::{
     ClosedStream, FinishError, ReadError, ReadableError, UpdateError, WriteError, Written,
 };
@@ -43,6 +44,10 @@ pub enum Call {
     Stop(StreamId, VarInt),
     /// Asks whether the peer reset a stream (`RecvStream::received_reset`).
     ReceivedReset(StreamId),
+    /// Sends a message, for which older ones that wait may go or not (`Datagrams::send`).
+    Send(Bytes, bool),
+    /// Reads a message (`Datagrams::recv`).
+    Recv,
     /// Asks for a PING (`Connection::ping`).
     Ping,
     /// Asks for a datagram at this moment (`Connection::poll_transmit`).
@@ -151,6 +156,10 @@ pub enum Answer {
     Stop(Result<(), UpdateError>),
     /// The code with which the peer reset the stream, if it did; or that there is nothing to read on it.
     ReceivedReset(Result<Option<VarInt>, ClosedStream>),
+    /// The message waits to go, or why it doesn't.
+    Send(Result<(), SendDatagramError>),
+    /// The message that was read, or `None` where none waits.
+    Recv(Option<Bytes>),
     /// PING waits to go.
     Ping,
     /// The datagram that was given, or `None` where nothing waits to go; or that the end failed.

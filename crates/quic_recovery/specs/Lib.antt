@@ -17,6 +17,8 @@ pub use Rattle.quic_congestion.specs.RenoHistory
 pub use Rattle.quic_congestion.specs.Search
 pub use Rattle.quic_congestion.specs.SearchBounds
 pub use Rattle.quic_congestion.specs.SearchLaw
+pub use Rattle.quic_paths.specs.InFlight
+pub use Rattle.quic_paths.specs.Paths
 pub use Rattle.quic_recovery_core.specs.Duplicates
 pub use Rattle.quic_recovery_core.specs.DuplicateBits
 pub use Rattle.quic_recovery_core.specs.DuplicateRuns

@@ -1,7 +1,8 @@
 //! Recovery of a QUIC connection (RFC 9002) under one name: moments, timers and the round-trip
 //! time; what an endpoint is configured with; the congestion window, pacing and the size search;
-//! duplicates, what is to be acknowledged and when, and connection ids; packet number spaces, with
-//! the numbers that are left out, the packets that are tracked, and which of them are lost.
+//! what is in flight and known of a path; duplicates, what is to be acknowledged and when, and
+//! connection ids; packet number spaces, with the numbers that are left out, the packets that are
+//! tracked, and which of them are lost.
 #![tactic(auto)]
 
 pub use quic_config::{
@@ -10,6 +11,7 @@ pub use quic_config::{
 pub use quic_congestion::{
     Controller, ControllerFactory, ControllerMetrics, MtuDiscovery, NewReno, NewRenoConfig, Pacer,
 };
+pub use quic_paths::{InFlight, PathData};
 pub use quic_recovery_core::{
     AckFrequencyState, CidQueue, CidState, DUPLICATE_SPAN, Dedup, InsertError, LAZY_ACK_THRESHOLD,
     MAX_ACK_RUNS, PendingAcks,

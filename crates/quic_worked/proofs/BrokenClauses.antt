@@ -133,7 +133,7 @@ tells_twice h = let most : 2 ≤ 1 = (h Client 0 2 refl).0 in omega (arith, most
 
 -- the client's datagram, as it was sent
 abbrev hello_sent : Sent
-hello_sent = record { number = 0; reference = 0; frames = stream hello_frame ∷ []; moment = 0 }
+hello_sent = record { number = 0; reference = 0; frames = stream hello_frame ∷ []; moment = 0; size = 34 }
 
 -- it is acknowledged once the server's datagram came, and not before
 pub acknowledged_last : (read : ReadCall) → acked_until (answered_run read) Client 8 ≡ hello_sent ∷ []
@@ -225,4 +225,4 @@ repeats first second above e = omega (arith, above, e)
 pub repeated_numbers : NumbersRise repeated_number → ⊥
 repeated_numbers h =
     let p = h Client 2 refl in
-    repeats p.0 p.3.0 p.3.1 (only_number p.3.0 p.3.2)
+    repeats p.0 p.4.0 p.4.1 (only_number p.4.0 p.4.3)

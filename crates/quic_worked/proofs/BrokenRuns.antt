@@ -18,15 +18,16 @@ use Rattle.quic_machine.specs.Calls.{end_tells}
 use Rattle.quic_machine.specs.StreamCalls.{IsRead}
 use Rattle.quic_machine.specs.Machine.{IsAnswer, IsStep, Follows, World, policy_at, end_at, given_by, fails}
 use Rattle.quic_headline.specs.Runs.{Next}
-use Rattle.quic_headline.specs.Headline.{LossTimersFollow, AckTimersFollow}
+use Rattle.quic_headline.specs.Headline.{AckTimersFollow}
 use Rattle.quic_worked.specs.Acknowledged.{client_acked}
 use Rattle.quic_worked.specs.Worked.{once_opened, once_written, writes_hello, finishes_stream, ReadsAs, ReadsBy, two_chunks, reads_stream, run_with, NextAnswers, gives_chunk, delivers, accepts_stream, sending_events, sending_answers, started, once_sent, once_taken, once_accepted, hello, worked_policies, worked_events}
 use Rattle.quic_worked.specs.Broken.{sent_alone, NeverAnswers, IsNoRun, NeverLeads, answers_with, duplicate, hellp, changed_nexts, repeated_nexts, early_nexts, changed_byte, repeated_bytes, unwritten_byte, early_end, unwritten_end, taken_twice, never_taken, blocked_read, never_accepted, early_finish, all_acked, all_told, asks_event, tells_finished, told_twice, never_told, early_acknowledgement, never_timed, still_timed}
 use Rattle.quic_worked.specs.Reordered.{blocked_nexts}
 use Rattle.quic_machine.specs.RunLaws.{one_world}
-use Rattle.quic_headline.proofs.Timers.LossTimers.{loss_timers_follow}
+use Rattle.quic_headline.proofs.Timers.Starts.{loss_timers_run}
 use Rattle.quic_headline.proofs.Timers.AckTimers.{ack_timers_follow}
 use Rattle.quic_worked.proofs.BrokenClauses.{never_sets, never_stops}
+use Rattle.quic_worked.proofs.WorkedHonest.{are_started}
 use Rattle.quic_worked.proofs.WorkedRun.{opens, writes, finishes, gives, takes, drops_duplicate, accepts}
 
 -- ---- where a run goes, and where it stops
@@ -209,11 +210,9 @@ never_silent = stops _ _ _ _ _ (λ silent. let is = told_once ∙ sym silent in 
 pub never_acknowledges : IsNoRun early_acknowledgement
 never_acknowledges = stops _ _ _ _ _ (λ came. cc)
 
--- the timer follows at the first ends, so it does wherever a run leads
+-- the ends were made for one another, so the timer follows wherever a run leads
 pub never_untimed : (events : List RunEvent) (told : List Answer) → NeverLeads events told never_timed
-never_untimed events told views f =
-    let none : LossTimersFollow started = (λ opened. refl, λ opened. refl) in
-    never_sets (loss_timers_follow worked_policies started never_timed events told views f none)
+never_untimed events told views f = never_sets (loss_timers_run worked_policies started never_timed events told views are_started f)
 
 -- no timer is set at the first ends, so the timer of acknowledgements follows wherever a run leads
 pub never_needless : (events : List RunEvent) (told : List Answer) → NeverLeads events told still_timed

@@ -1,4 +1,5 @@
 pub mod Codes
+mod Waited
 pub mod Unread
 pub mod WorkedRun
 pub mod WorkedLacks
@@ -23,6 +24,10 @@ mod PickedRun
 pub mod CreditRuns
 mod RaisedRun
 mod ChunkedRun
-mod TimedRun
+pub mod TimedRun
+mod MeasuredRun
+mod SkippedRun
+mod ProbedRun
 mod LimitedRun
 mod UsedUpRun
+mod MessageRuns

@@ -2,13 +2,11 @@
 use Rattle.std.proofs.Common.{◌≡◌, ℕ, List, [], ◌∷◌, ◌++◌, Ok, true, false, refl, inl, inr, ap, sym, ◌∙◌, subst, arith, length, drop, ◌⊎◌}
 use Rattle.quic_wire_core.specs.declared.stream_id.Side.TheVariants.{Client, Server}
 use Rattle.quic_wire.specs.Value.{StreamValue, stream, ping, padding}
-use Rattle.quic_streams_parts.specs.Table.{Table}
 use Rattle.quic_machine.specs.declared.answers.Received.TheVariants as receives
 use Rattle.quic_machine.specs.declared.answers.State.TheVariants as states
 use Rattle.quic_machine.specs.declared.run.RunEvent.{RunEvent}
 use Rattle.quic_machine.specs.declared.run.Answer.{Answer}
 use Rattle.quic_machine.specs.declared.run.Answer.TheVariants as answers
-use Rattle.quic_machine.specs.Tracking.{TrackedPacket}
 use Rattle.quic_machine.specs.Machine.{World, IsStep}
 use Rattle.quic_headline.specs.Runs.{Packet, In, WasTaken, HasArrived, EndHasArrived}
 use Rattle.quic_headline.specs.Observer.{took}
@@ -20,6 +18,7 @@ use Rattle.quic_worked.specs.Worked.{once_sent, worked_policies, asks_datagram, 
 use Rattle.quic_worked.specs.Reordered.{delivers_at}
 use Rattle.quic_worked.specs.Broken.{NeverAnswers, IsNoRun, NeverLeads, asks_event, tells_finished}
 use Rattle.quic_worked.specs.Losses.{asks_ping, server_waits, server_polled, client_delivered, losing_events, losing_answers, after_ping, pinged_once, pinged_twice, pinged_thrice, all_given, last_taken, last_due, last_named, once_lost, losing_run, never_lost, seldom_lost, early_lost, still_waiting, lost_for_good, all_named}
+use Rattle.quic_worked.proofs.Waited.{as_many}
 use Rattle.quic_worked.proofs.WorkedRun.{opens, writes, finishes, gives}
 use Rattle.quic_worked.proofs.BrokenRuns.{IsRefused, stops, behind}
 use Rattle.quic_worked.proofs.WrongRuns.{NeverEnds, ends_here, step_on, NotTo}
@@ -51,7 +50,7 @@ takes_last = record { answer = inl refl; end = refl; others = refl; lacking = tt
 
 waits_last : IsStep worked_policies last_taken server_waits (answers.Timeout (Ok tt)) last_due
 unfolding last_taken
-waits_last = record { answer = refl; end = refl; others = refl; lacking = tt }
+waits_last = record { answer = inl refl; end = refl; others = refl; lacking = tt }
 
 names_last : IsStep worked_policies last_due server_polled (gives_bytes 32) last_named
 unfolding last_named
@@ -110,7 +109,7 @@ is_open = refl
 -- a client that waits for another count of datagrams doesn't wait for those in flight
 other_count : (w : World) (n : ℕ) → w.client.closing.state ≡ states.Open → length w.client.tracking.packets ≡ n → (n ≡ 2 → ⊥) → TracksAt (losing_run [] []) 16 w → ⊥
 other_count w n opened counted other h =
-    other (sym counted ∙ ap (λ (ps : Table TrackedPacket). length ps) (h Client opened) ∙ two_fly)
+    other (sym counted ∙ as_many (h Client opened) ∙ two_fly)
 
 -- nor is it the machine's
 other_end : (w : World) (n : ℕ) → length w.client.tracking.packets ≡ n → (n ≡ 2 → ⊥) → w ≡ once_lost → ⊥

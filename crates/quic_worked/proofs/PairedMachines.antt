@@ -1,5 +1,5 @@
 -- Machines that go wrong where one of two streams is reset: each breaks a clause, and the reference machine makes none of their runs.
-use Rattle.std.proofs.Common.{◌≡◌, ◌⊎◌, ℕ, List, [], ◌∷◌, ◌++◌, Some, None, Ok, Err, Bool, true, false, refl, inl, inr, sym, ap, ◌∙◌, subst, arith}
+use Rattle.std.proofs.Common.{◌≡◌, ◌⊎◌, ℕ, List, [], ◌∷◌, ◌++◌, Some, None, Ok, Err, Bool, true, false, refl, inl, inr, sym, ap, ◌∙◌, subst, arith, length, map}
 use Rattle.std.specs.Prelude.{slice_index, ◌==◌, if◌then◌else◌}
 use Rattle.quic_wire_core.specs.declared.stream_id.Side.TheVariants.{Client, Server}
 use Rattle.quic_wire_core.specs.declared.stream_id.Dir.TheVariants.{Bi}
@@ -13,18 +13,19 @@ use Rattle.quic_machine.specs.declared.run.RunEvent.{RunEvent}
 use Rattle.quic_machine.specs.declared.run.Answer.{Answer}
 use Rattle.quic_machine.specs.declared.run.Answer.TheVariants as answers
 use Rattle.quic_machine.specs.declared.answers.State.TheVariants as states
+use Rattle.quic_retransmits.specs.Retransmits.{Retransmits}
 use Rattle.quic_machine.specs.Tracking.{TrackedPacket}
 use Rattle.quic_machine.specs.StreamCalls.{IsRead}
 use Rattle.quic_machine.specs.Machine.{World}
 use Rattle.quic_headline.specs.Runs.{Packet, Next, In, until, nexts, chunks_of, WasNamed, ResetHasArrived}
 use Rattle.quic_headline.specs.Observer.{took}
-use Rattle.quic_headline.specs.InFlight.{in_flight, TracksAt}
+use Rattle.quic_headline.specs.InFlight.{in_flight, but_for_record, WaitsFor, TracksAt}
 use Rattle.quic_headline.specs.Duties.{Reset, Waits, IsCarried, DutiesAt, has_reset}
 use Rattle.quic_headline.specs.Headline.{Slices, AcceptsAll, FinishedMeansArrived, IsHonest}
 use Rattle.quic_worked.specs.Worked.{NextAnswers, started, accepts_stream, reads_stream}
 use Rattle.quic_worked.specs.Reordered.{abc, def}
 use Rattle.quic_worked.specs.Broken.{NeverAnswers, IsNoRun, NeverLeads, tells_finished}
-use Rattle.quic_worked.specs.Paired.{client_asks, ReadsSecond, second_bounds, giving_events, giving_answers, tells_stopped, paired_frames, pair_sent, pair_taken, first_accepted, reset_told, stop_taken, paired_run, told_of_reset, pair_giving, reset_forgotten, reset_unaccepted, second_unaccepted, other_bytes}
+use Rattle.quic_worked.specs.Paired.{client_asks, ReadsSecond, second_bounds, giving_events, giving_answers, tells_stopped, paired_frames, pair_sent, pair_taken, first_accepted, reset_told, stop_taken, paired_run, told_of_reset, pair_giving, reset_forgotten, reset_changed, reset_unaccepted, second_unaccepted, other_bytes}
 use Rattle.quic_worked.proofs.OwnIds.{honest}
 use Rattle.quic_worked.proofs.BrokenRuns.{IsRefused, stops, behind, read_of, not_next}
 use Rattle.quic_worked.proofs.WrongRuns.{ends_here, step_on, NotTo}
@@ -104,18 +105,6 @@ keeps_it : has_it pair_sent.client.tracking.packets ≡ true
 unfolding pair_sent
 keeps_it = refl
 
--- as it is in flight
-flies_with : (read : ReadCall) → has_it (in_flight (pair_giving read) Client 6) ≡ true
-unfolding pair_taken
-flies_with read = refl
-
-is_open : reset_forgotten.client.closing.state ≡ states.Open
-unfolding pair_sent
-is_open = refl
-
-pub reset_tracks : (read : ReadCall) → TracksAt (pair_giving read) 6 reset_forgotten → ⊥
-reset_tracks read h = let clash : false ≡ true = sym lacks_it ∙ ap (λ (ps : Table TrackedPacket). has_it ps) (h Client is_open) ∙ flies_with read in cc
-
 other_end : reset_forgotten ≡ pair_sent → ⊥
 other_end e = let clash : false ≡ true = sym lacks_it ∙ ap (λ (w : World). has_it w.client.tracking.packets) e ∙ keeps_it in cc
 
@@ -124,6 +113,68 @@ not_forgotten = step_on refl paired.opens_first (step_on refl paired.opens_both 
 
 pub never_forgotten : NeverLeads giving_events giving_answers reset_forgotten
 never_forgotten views f = not_forgotten.never views reset_forgotten f refl
+
+-- ---- another reset is kept
+
+-- the first number of a table
+abbrev first_number : Table TrackedPacket → ℕ
+first_number [] = 0
+first_number (p ∷ ps) = p.0
+
+-- the stream that its first datagram resets, or 9
+abbrev stream_in : List (ℕ × ℕ) → ℕ
+stream_in [] = 9
+stream_in (r ∷ rs) = r.0
+
+abbrev first_reset : Table TrackedPacket → ℕ
+first_reset [] = 9
+first_reset (p ∷ ps) = stream_in p.1.carried.retransmits.reset_stream
+
+-- an end that waits for what is in flight keeps that, unless a probe took it
+kept_or_taken : (packets flying : Table TrackedPacket) → WaitsFor packets flying → (first_reset packets ≡ first_reset flying) ⊎ (first_reset packets ≡ 9)
+kept_or_taken [] flying w = inr refl
+kept_or_taken (p ∷ ps) [] w = absurd (none_some (ap (λ (ts : Table TrackedPacket). length ts) w.same))
+  where
+    none_some : length (map but_for_record (p ∷ ps)) ≡ 0 → ⊥
+    none_some e = cc
+kept_or_taken (p ∷ ps) (q ∷ qs) w =
+    let numbers : p.0 ≡ q.0 = ap first_number w.same in
+    let among : In (p.0, q.1) (q ∷ qs) = subst (λ (n : ℕ). In (n, q.1) (q ∷ qs)) (sym numbers) (inl refl) in
+    elim (w.records p.0 p.1 q.1 (inl refl) among) [ inl same ↦ inl (ap (λ (r : Retransmits). stream_in r.reset_stream) same) | inr none ↦ inr (ap (λ (r : Retransmits). stream_in r.reset_stream) none) ]
+
+changed_reset : first_reset reset_changed.client.tracking.packets ≡ 4
+unfolding pair_sent
+changed_reset = refl
+
+right_reset : first_reset pair_sent.client.tracking.packets ≡ 0
+unfolding pair_sent
+right_reset = refl
+
+flies_with : (read : ReadCall) → first_reset (in_flight (pair_giving read) Client 6) ≡ 0
+unfolding pair_taken
+flies_with read = refl
+
+is_open : reset_changed.client.closing.state ≡ states.Open
+unfolding pair_sent
+is_open = refl
+
+-- 4 is neither 0 nor 9
+not_four : {n : ℕ} → n ≡ 4 → (n ≡ 0) ⊎ (n ≡ 9) → ⊥
+not_four four (inl e) = omega (arith, four, e)
+not_four four (inr e) = omega (arith, four, e)
+
+pub changed_tracks : (read : ReadCall) → TracksAt (pair_giving read) 6 reset_changed → ⊥
+changed_tracks read h =
+    not_four changed_reset (elim (kept_or_taken reset_changed.client.tracking.packets (in_flight (pair_giving read) Client 6) (h Client is_open)) [ inl e ↦ inl (e ∙ flies_with read) | inr e ↦ inr e ])
+
+changed_end : reset_changed ≡ pair_sent → ⊥
+changed_end e = not_four changed_reset (inl (ap (λ (w : World). first_reset w.client.tracking.packets) e ∙ right_reset))
+
+not_changed : NotTo reset_changed giving_events giving_answers
+not_changed = step_on refl paired.opens_first (step_on refl paired.opens_both (step_on refl paired.writes_first (step_on refl paired.writes_both (step_on refl paired.resets (step_on refl paired.gives (ends_here changed_end))))))
+
+pub never_changed : NeverLeads giving_events giving_answers reset_changed
+never_changed views f = not_changed.never views reset_changed f refl
 
 -- ---- streams that aren't accepted
 

@@ -103,10 +103,10 @@ resets_no_more = record { answer = inl refl; end = refl; others = refl; lacking 
 
 -- ---- what is seen
 
-abbrev both_open_view : View
+abbrev pub both_open_view : View
 both_open_view = record { client = open_view; server = open_view }
 
-abbrev given_view : View
+abbrev pub given_view : View
 given_view = record { client = sent_view; server = open_view }
 
 abbrev taken_view : View
@@ -118,11 +118,11 @@ stopped_view = record { client = sent_view; server = sent_view }
 abbrev heard_view : View
 heard_view = record { client = waiting_view; server = sent_view }
 
-reset_seen : both_open_view ≡ view_of first_reset
+pub reset_seen : both_open_view ≡ view_of first_reset
 unfolding first_reset
 reset_seen = refl
 
-given_seen : given_view ≡ view_of pair_sent
+pub given_seen : given_view ≡ view_of pair_sent
 unfolding pair_sent
 given_seen = refl
 

@@ -1,27 +1,23 @@
 -- The run in which a limit is lost and goes again, event by event; where the limit is at each place; and what machines leave that forget it.
-use Rattle.std.proofs.Common.{◌≡◌, ℕ, ◌+◌, ◌≤◌, ◌/◌, map, List, [], ◌∷◌, ◌++◌, take, Some, None, Ok, Bool, true, false, refl, inl, inr, sym, ap, ◌∙◌, subst, arith, ◌⊎◌}
-use Rattle.std.specs.Prelude.{max, min}
+use Rattle.std.proofs.Common.{◌≡◌, ℕ, map, List, [], ◌∷◌, ◌++◌, take, Ok, true, false, refl, inl, inr, sym, ap, ◌∙◌, subst, arith, ◌⊎◌}
 use Rattle.quic_wire_core.specs.declared.stream_id.Side.TheVariants.{Client, Server}
 use Rattle.quic_wire_core.specs.declared.stream_id.Dir.TheVariants.{Uni}
 use Rattle.quic_wire.specs.Value.{FrameValue, max_data}
 use Rattle.quic_streams_parts.specs.Table.{Table}
 use Rattle.quic_machine.specs.declared.answers.Received.TheVariants as receives
 use Rattle.quic_machine.specs.declared.run.ReadCall.{ReadCall}
-use Rattle.quic_machine.specs.declared.run.RunEvent.{RunEvent}
-use Rattle.quic_machine.specs.declared.run.Answer.{Answer}
 use Rattle.quic_machine.specs.declared.run.Answer.TheVariants as answers
 use Rattle.quic_machine.specs.Tracking.{TrackedPacket}
-use Rattle.quic_machine.specs.Machine.{World, IsStep, Follows, view_of}
+use Rattle.quic_machine.specs.Machine.{World, IsStep, Follows}
 use Rattle.quic_streams_state.specs.State.{consumed}
 use Rattle.quic_headline.specs.Runs.{Packet, In, until}
 use Rattle.quic_headline.specs.Observer.{Sent, took, sents_until}
 use Rattle.quic_headline.specs.Headline.{IsRun}
 use Rattle.quic_headline.proofs.Places.Told.{in_left, in_right, in_append}
 use Rattle.quic_headline.specs.Grown.{DataHasGrown, CountHasGrown, GrownLimitsWaitAt}
-use Rattle.quic_headline.specs.Duties.{AllData, Limit, limit_frame, WasGiven, IsSaid, IsOwed, Waits, IsInFlight, IsUnderWay, LimitHasArrived, HasCome, DutiesAt, is_due}
-use Rattle.quic_worked.specs.Worked.{worked_policies, opens_stream, asks_datagram, delivers, accepts_stream, reads_stream, gives_bytes}
+use Rattle.quic_headline.specs.Duties.{AllData, Limit, WasGiven, IsOwed, Waits, IsInFlight, IsUnderWay, LimitHasArrived, HasCome, DutiesAt}
+use Rattle.quic_worked.specs.Worked.{worked_policies, gives_bytes}
 use Rattle.quic_worked.specs.Paired.{writes_on, asks_server}
-use Rattle.quic_worked.specs.Acknowledged.{client_acked}
 use Rattle.quic_worked.specs.Losses.{client_polled, server_polled}
 use Rattle.quic_worked.specs.Credit.{narrow_bytes, eight, credit_opened, credit_written, credit_sent, credit_taken, credit_accepted, credit_read, credit_given, credit_events, credit_until, count_taken, count_read, ReadsEight}
 use Rattle.quic_worked.specs.Raised.{server_pings, comes_to_client, client_waits, ack_comes, losing_limit, raised_events, losing_told, raised_told, after_server_ping, first_ping, second_ping, third_ping, third_came, third_due, third_named, limit_lost, limit_again, limit_came, limit_used, raised_views, raised_run, NeverComes, never_noted, limit_forgotten}
@@ -52,7 +48,7 @@ comes_third = record { answer = inl refl; end = refl; others = refl; lacking = t
 
 waits_third : IsStep worked_policies third_came client_waits (answers.Timeout (Ok tt)) third_due
 unfolding third_came
-waits_third = record { answer = refl; end = refl; others = refl; lacking = tt }
+waits_third = record { answer = inl refl; end = refl; others = refl; lacking = tt }
 
 names_third : IsStep worked_policies third_due client_polled (gives_bytes 32) third_named
 unfolding third_named

@@ -10,10 +10,10 @@ use Rattle.quic_machine.specs.Machine.{IsStep, Follows, view_of}
 use Rattle.quic_machine.specs.RunLaws.{one_run}
 use Rattle.quic_headline.specs.Runs.{In}
 use Rattle.quic_headline.specs.Headline.{IsRun}
-use Rattle.quic_headline.specs.Moments.{loss_timer, loss_due, pace, LossMoments, ack_timer, debt, IsDueFor, AckMoments}
+use Rattle.quic_headline.specs.Moments.{loss_timer, LossMoments, ack_timer, debt, IsDueFor, AckMoments}
 use Rattle.quic_worked.specs.Worked.{worked_policies, once_opened, once_written, once_ended, once_sent, gives_bytes}
 use Rattle.quic_worked.specs.Acknowledged.{client_acked}
-use Rattle.quic_worked.specs.Timed.{serves, asks_at, comes_at, once_later, seen_with, timed_run, never_backs_off, never_resets, waits_twice, NeverShows}
+use Rattle.quic_worked.specs.Timed.{serves, asks_at, comes_at, once_later, seen_with, timed_run, never_backs_off, never_resets, never_measures, waits_twice, due_at, NeverShows}
 use Rattle.quic_worked.proofs.WorkedRun.{opens, writes, finishes, gives, sent_seen}
 use Rattle.quic_worked.proofs.Codes.{no_codes}
 
@@ -21,7 +21,7 @@ use Rattle.quic_worked.proofs.Codes.{no_codes}
 
 expires : IsStep worked_policies once_sent (serves Client 1024000000) (answers.Timeout (Ok tt)) (once_later 1)
 unfolding once_later
-expires = record { answer = refl; end = refl; others = refl; lacking = tt }
+expires = record { answer = inl refl; end = refl; others = refl; lacking = tt }
 
 probes : IsStep worked_policies (once_later 1) (asks_at Client 1024000000) (gives_bytes 29) (once_later 2)
 unfolding once_later
@@ -33,7 +33,7 @@ takes = record { answer = inl refl; end = refl; others = refl; lacking = tt }
 
 is_due : IsStep worked_policies (once_later 3) (serves Server 1055000000) (answers.Timeout (Ok tt)) (once_later 4)
 unfolding once_later
-is_due = record { answer = refl; end = refl; others = refl; lacking = tt }
+is_due = record { answer = inl refl; end = refl; others = refl; lacking = tt }
 
 answers_it : IsStep worked_policies (once_later 4) (asks_at Server 1055000000) (gives_bytes 32) (once_later 5)
 unfolding once_later
@@ -63,7 +63,7 @@ given_seen : seen_with (Some 3072000000) None ≡ view_of (once_later 5)
 unfolding once_later
 given_seen = refl
 
-answered_seen : seen_with (Some 2048000000) None ≡ view_of (once_later 6)
+answered_seen : seen_with (Some 4229000000) None ≡ view_of (once_later 6)
 unfolding once_later
 answered_seen = refl
 
@@ -118,55 +118,55 @@ timed_is_run = record { codes = no_codes timed_run.events refl; follows = follow
 
 -- ---- what is reckoned
 
-pub due_before : loss_due (pace timed_run Client 3) ≡ None
+pub due_before : due_at timed_run Client 3 ≡ None
 due_before = refl
 
-pub due_sent : loss_due (pace timed_run Client 4) ≡ Some 1024000000
+pub due_sent : due_at timed_run Client 4 ≡ Some 1024000000
 unfolding client_acked
 due_sent = refl
 
-pub due_expired : loss_due (pace timed_run Client 5) ≡ Some 2048000000
+pub due_expired : due_at timed_run Client 5 ≡ Some 2048000000
 unfolding client_acked
 due_expired = refl
 
-pub due_probed : loss_due (pace timed_run Client 6) ≡ Some 3072000000
+pub due_probed : due_at timed_run Client 6 ≡ Some 3072000000
 unfolding client_acked
 due_probed = refl
 
-due_taken : loss_due (pace timed_run Client 7) ≡ Some 3072000000
+due_taken : due_at timed_run Client 7 ≡ Some 3072000000
 unfolding client_acked
 due_taken = refl
 
-due_served : loss_due (pace timed_run Client 8) ≡ Some 3072000000
+due_served : due_at timed_run Client 8 ≡ Some 3072000000
 unfolding client_acked
 due_served = refl
 
-due_given : loss_due (pace timed_run Client 9) ≡ Some 3072000000
+due_given : due_at timed_run Client 9 ≡ Some 3072000000
 unfolding client_acked
 due_given = refl
 
-pub due_answered : loss_due (pace timed_run Client 10) ≡ Some 2048000000
+pub due_answered : due_at timed_run Client 10 ≡ Some 4229000000
 unfolding client_acked
 due_answered = refl
 
-pub server_due : loss_due (pace timed_run Server 10) ≡ None
+pub server_due : due_at timed_run Server 10 ≡ None
 unfolding client_acked
 server_due = refl
 
-server_due_taken : loss_due (pace timed_run Server 7) ≡ None
+server_due_taken : due_at timed_run Server 7 ≡ None
 unfolding client_acked
 server_due_taken = refl
 
-server_due_served : loss_due (pace timed_run Server 8) ≡ None
+server_due_served : due_at timed_run Server 8 ≡ None
 unfolding client_acked
 server_due_served = refl
 
-server_due_given : loss_due (pace timed_run Server 9) ≡ None
+server_due_given : due_at timed_run Server 9 ≡ None
 unfolding client_acked
 server_due_given = refl
 
 -- a view that is at a place shows what is reckoned there
-shows : (side : Side) (u v : View) (moment due : Option ℕ) → Some u ≡ Some v → loss_timer u side ≡ Some moment → due ≡ moment → loss_timer v side ≡ Some due
+pub shows : (side : Side) (u v : View) (moment due : Option ℕ) → Some u ≡ Some v → loss_timer u side ≡ Some moment → due ≡ moment → loss_timer v side ≡ Some due
 shows side u v moment due is shown reckoned = let same : u ≡ v = cc in ap (λ (x : View). loss_timer x side) (sym same) ∙ shown ∙ ap (λ (o : Option ℕ). Some o) (sym reckoned)
 
 pub timed_moments : LossMoments timed_run
@@ -196,28 +196,35 @@ timed_moments Server (suc (suc (suc (suc (suc (suc (suc (suc (suc (suc i))))))))
 -- ---- machines with a bug
 
 -- the moment that is shown
-abbrev moment_in : Option (Option ℕ) → ℕ
+abbrev pub moment_in : Option (Option ℕ) → ℕ
 moment_in (Some (Some moment)) = moment
 moment_in other = 0
 
 -- that of the client's loss timer, in a view that is there
-abbrev moment_of : Option View → ℕ
+abbrev pub moment_of : Option View → ℕ
 moment_of None = 0
 moment_of (Some v) = moment_in (loss_timer v Client)
 
-backed_off : loss_due (pace never_backs_off Client 5) ≡ Some 2048000000
+backed_off : due_at never_backs_off Client 5 ≡ Some 2048000000
 unfolding client_acked
 backed_off = refl
 
 pub backs_off_not : LossMoments never_backs_off → ⊥
 backs_off_not h = let same : ◌≡◌ {A = ℕ} 1024000000 2048000000 = ap moment_in (h Client 4 (seen_with (Some 1024000000) None) refl refl refl ∙ ap (λ (o : Option ℕ). Some o) backed_off) in absurd (omega arith)
 
-reset : loss_due (pace never_resets Client 10) ≡ Some 2048000000
+reset : due_at never_resets Client 10 ≡ Some 4229000000
 unfolding client_acked
 reset = refl
 
 pub resets_not : LossMoments never_resets → ⊥
-resets_not h = let same : ◌≡◌ {A = ℕ} 3072000000 2048000000 = ap moment_in (h Client 9 (seen_with (Some 3072000000) None) refl refl refl ∙ ap (λ (o : Option ℕ). Some o) reset) in absurd (omega arith)
+resets_not h = let same : ◌≡◌ {A = ℕ} 7434000000 4229000000 = ap moment_in (h Client 9 (seen_with (Some 7434000000) None) refl refl refl ∙ ap (λ (o : Option ℕ). Some o) reset) in absurd (omega arith)
+
+measures : due_at never_measures Client 10 ≡ Some 4229000000
+unfolding client_acked
+measures = refl
+
+pub measures_not : LossMoments never_measures → ⊥
+measures_not h = let same : ◌≡◌ {A = ℕ} 2048000000 4229000000 = ap moment_in (h Client 9 (seen_with (Some 2048000000) None) refl refl refl ∙ ap (λ (o : Option ℕ). Some o) measures) in absurd (omega arith)
 
 pub never_shows_same : NeverShows never_backs_off
 never_shows_same end f =
@@ -228,7 +235,13 @@ never_shows_same end f =
 pub never_shows_long : NeverShows never_resets
 never_shows_long end f =
     let same = one_run timed_run.keys timed_run.answers timed_run.start timed_run.events never_resets.views timed_run.views end (once_later 6) refl f follows in
-    let moments : ◌≡◌ {A = ℕ} 3072000000 2048000000 = ap (λ (vs : List View). moment_of (slice_get vs 9)) same.0 in
+    let moments : ◌≡◌ {A = ℕ} 7434000000 4229000000 = ap (λ (vs : List View). moment_of (slice_get vs 9)) same.0 in
+    absurd (omega arith)
+
+pub never_shows_early : NeverShows never_measures
+never_shows_early end f =
+    let same = one_run timed_run.keys timed_run.answers timed_run.start timed_run.events never_measures.views timed_run.views end (once_later 6) refl f follows in
+    let moments : ◌≡◌ {A = ℕ} 2048000000 4229000000 = ap (λ (vs : List View). moment_of (slice_get vs 9)) same.0 in
     absurd (omega arith)
 
 -- ---- what came and asks

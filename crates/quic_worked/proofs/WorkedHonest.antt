@@ -15,7 +15,7 @@ use Rattle.quic_worked.proofs.Codes.{no_codes}
 
 -- an end with default settings and this id, at moment 0 on a validated path
 abbrev pub making : List ℕ → Making
-making id = record { settings = default_settings; parameters = worked_parameters; id = id; moment = 0; validated = true }
+making id = record { settings = default_settings; parameters = worked_parameters; id = id; moment = 0; validated = true; word = 63 }
 
 pub in_range : IsInRange default_settings
 in_range = record { receive_window = lit< tt; stream_receive_window = lit< tt }

@@ -61,7 +61,7 @@ reads = reads_at once_taken once_taken 0 true (2 ∷ []) (Err read_errors.Memory
 
 pub gives : IsStep worked_policies once_ended asks_datagram poll_lacks once_failed
 unfolding once_sent
-gives = record { answer = inr refl; end = (refl, refl, λ failed. cc, λ served. refl); others = refl; lacking = tt }
+gives = record { answer = inr refl; end = (refl, refl, λ failed. cc, λ served. refl); others = refl; lacking = inl tt }
 
 pub takes : IsStep worked_policies once_sent delivers (answers.Deliver receives.Failed)
     (with_server once_sent (failed_end once_sent.server))
@@ -117,7 +117,7 @@ not_cut read by next step = whole_piece read by step.lacking
 
 pub not_idle : IsNever once_sent asks_datagram poll_lacks
 unfolding once_sent
-not_idle next step = step.lacking
+not_idle next step = elim (step.lacking) [ inl none ↦ none | inr moves ↦ (let clash : false ≡ true = moves.1.0 in cc) ]
 
 pub not_again : IsNever once_taken delivers (answers.Deliver receives.Failed)
 unfolding once_taken

@@ -24,16 +24,16 @@ pub parameters_say : parameters_at worked_parameters ≡ Ok (parameters_of defau
 unfolding parameters_at judged values_met met_in met_within met_after whole_at entry_at
 parameters_say = refl
 
-pub client_is_made : MadeFrom Client default_settings worked_parameters client_id server_id 0 true
+pub client_is_made : MadeFrom Client default_settings worked_parameters client_id server_id 0 true 63
     client_made
 client_is_made =
-    subst (λ read. IsMade Client default_settings read client_id server_id 0 true client_made)
+    subst (λ read. IsMade Client default_settings read client_id server_id 0 true 63 client_made)
     (sym parameters_say) refl
 
-pub server_is_made : MadeFrom Server default_settings worked_parameters server_id client_id 0 true
+pub server_is_made : MadeFrom Server default_settings worked_parameters server_id client_id 0 true 63
     server_made
 server_is_made =
-    subst (λ read. IsMade Server default_settings read server_id client_id 0 true server_made)
+    subst (λ read. IsMade Server default_settings read server_id client_id 0 true 63 server_made)
     (sym parameters_say) refl
 
 pub opens : IsStep worked_policies started opens_stream (answers.Open (Some 0)) once_opened

@@ -7,14 +7,12 @@ use Rattle.quic_wire.specs.AckReading.{ack_at, ranges_at, range_at, some_ecn_at}
 use Rattle.quic_wire.specs.Items.{frame_at, items_within, items}
 use Rattle.quic_wire.specs.Reading.{body_at}
 use Rattle.quic_wire.specs.Value.{FrameValue, AckValue, ack}
-use Rattle.quic_streams_parts.specs.Table.{Table}
 use Rattle.quic_machine.specs.declared.answers.Received.TheVariants as receives
 use Rattle.quic_machine.specs.declared.answers.State.TheVariants as states
 use Rattle.quic_machine.specs.declared.run.RunEvent.{RunEvent}
 use Rattle.quic_machine.specs.declared.run.ReadCall.{ReadCall}
 use Rattle.quic_machine.specs.declared.run.Answer.{Answer}
 use Rattle.quic_machine.specs.declared.run.Answer.TheVariants as answers
-use Rattle.quic_machine.specs.Tracking.{TrackedPacket}
 use Rattle.quic_machine.specs.StreamCalls.{IsRead}
 use Rattle.quic_machine.specs.Machine.{World, IsStep}
 use Rattle.quic_headline.specs.Runs.{Packet, Next, In, IsTaken, until, nexts, chunks_of, bytes_of}
@@ -27,6 +25,7 @@ use Rattle.quic_worked.specs.Reordered.{delivers_at}
 use Rattle.quic_worked.specs.Broken.{hellp, IsNoRun, NeverLeads, asked_run, asks_event, tells_finished}
 use Rattle.quic_worked.specs.Losses.{server_waits, server_polled, client_polled, client_delivered, after_ping, pinged_once, once_lost, changed_again, again_given, again_taken, again_accepted, once_due, once_named, once_acked, once_told, wide_payload, wide_name, first_events, first_answers, first_taken, first_due, first_named, first_acked, first_run, above_acked, falling_events, falling_answers, ping_given, ping_and, word_given, falling}
 use Rattle.quic_worked.specs.Machines.{NeverGives}
+use Rattle.quic_worked.proofs.Waited.{as_many}
 use Rattle.quic_worked.proofs.WorkedNumber.{only_number}
 use Rattle.quic_worked.proofs.WorkedRun.{takes, hello_packet}
 use Rattle.quic_worked.proofs.BrokenClauses.{reads_in_order, repeats}
@@ -72,7 +71,7 @@ no_changed_again read by = behind_sent (never_behind_lost (behind refl gives_aga
 
 waits_once : IsStep worked_policies once_taken server_waits (answers.Timeout (Ok tt)) once_due
 unfolding once_taken
-waits_once = record { answer = refl; end = refl; others = refl; lacking = tt }
+waits_once = record { answer = inl refl; end = refl; others = refl; lacking = tt }
 
 names_once : IsStep worked_policies once_due server_polled (gives_bytes 32) once_named
 unfolding once_named
@@ -165,7 +164,7 @@ takes_first = record { answer = inl refl; end = refl; others = refl; lacking = t
 
 waits_first : IsStep worked_policies first_taken server_waits (answers.Timeout (Ok tt)) first_due
 unfolding first_taken
-waits_first = record { answer = refl; end = refl; others = refl; lacking = tt }
+waits_first = record { answer = inl refl; end = refl; others = refl; lacking = tt }
 
 names_first : IsStep worked_policies first_due server_polled (gives_bytes 32) first_named
 unfolding first_named
@@ -191,7 +190,7 @@ none_one : ◌≡◌ {A = ℕ} 0 1 → ⊥
 none_one e = omega (arith, e)
 
 pub above_tracks : TracksAt first_run 10 above_acked → ⊥
-above_tracks h = none_one (ap (λ (ps : Table TrackedPacket). length ps) (h Client above_open) ∙ one_flies)
+above_tracks h = none_one (as_many (h Client above_open) ∙ one_flies)
 
 above_other : above_acked ≡ first_acked → ⊥
 above_other e = none_one (ap (λ (w : World). length w.client.tracking.packets) e ∙ one_waits)
@@ -207,7 +206,7 @@ never_above views f = not_above.never views above_acked f refl
 pub falls_numbers : NumbersRise falling → ⊥
 falls_numbers h =
     let p = h Client 6 refl in
-    repeats p.0 p.3.0 p.3.1 (only_number p.3.0 p.3.2)
+    repeats p.0 p.4.0 p.4.1 (only_number p.4.0 p.4.3)
 
 gives_ping : IsStep worked_policies (after_ping started) asks_datagram (gives_bytes 29) ping_given
 unfolding ping_given

@@ -1,5 +1,5 @@
 -- Each run of these machines breaks a clause, and the reference machine makes none of them.
-use Rattle.std.proofs.Common.{◌≡◌, ◌<◌, ℕ, zero, suc, List, [], ◌∷◌, ◌++◌, Some, None, Ok, Err, Bool, true, false, refl, inl, inr, ap, sym, ◌∙◌, subst, arith, length, take, drop, ◌⊎◌}
+use Rattle.std.proofs.Common.{◌≡◌, ◌<◌, ℕ, zero, suc, List, [], ◌∷◌, ◌++◌, Some, None, Ok, Err, Bool, true, false, refl, inl, inr, ap, sym, ◌∙◌, subst, arith, length, map, take, drop, ◌⊎◌}
 use Rattle.std.specs.Prelude.{slice_index, eqb, ◌==◌, if◌then◌else◌}
 use Rattle.std.specs.List.{IsDistinct}
 use Rattle.quic_sets.specs.Offsets.{with_offsets}
@@ -27,9 +27,9 @@ use Rattle.quic_machine.specs.RunLaws.{one_world}
 use Rattle.quic_headline.specs.Runs.{Packet, Next, In, IsTaken, IsNamed, until, written, nexts, chunks_of, bytes_of, offsets_of, WasNamed, HasArrived, EndHasArrived}
 use Rattle.quic_headline.specs.Observer.{took}
 use Rattle.quic_headline.specs.Duties.{Offset, Waits, IsCarried, DutiesAt}
-use Rattle.quic_headline.specs.InFlight.{in_flight, TracksAt}
+use Rattle.quic_headline.specs.InFlight.{in_flight, but_for_record, TracksAt}
 use Rattle.quic_headline.specs.Headline.{OrderedPrefix, Once, EndAfterAll, BlockedOnlyWithoutBytes, AcceptsAll, FinishedMeansArrived, AcknowledgedWereTaken, NamesWereTaken, OpensExactly, NumbersRise, LossTimerFollows, LossTimersFollow, IsNamedIn, frames_given}
-use Rattle.quic_headline.proofs.Timers.LossTimers.{loss_timers_follow}
+use Rattle.quic_headline.proofs.Timers.Starts.{loss_timers_run}
 use Rattle.quic_worked.specs.Acknowledged.{client_acked, ack_payload, from_server}
 use Rattle.quic_worked.specs.Worked.{gives_chunk, hello, hello_frame, started, once_opened, once_written, once_sent, once_taken, once_accepted, worked_policies, ReadsBy, two_chunks, delivers, sending_events, sending_answers, opens_stream, asks_datagram, accepts_stream, gives_bytes, carrying, run_with}
 use Rattle.quic_worked.specs.Reordered.{both_events, both_answers, both_sent}
@@ -37,6 +37,8 @@ use Rattle.quic_worked.proofs.ReorderedRun as reordered
 use Rattle.quic_worked.proofs.ReorderedRun.{writes_abc, gives_abc, writes_def, gives_def}
 use Rattle.quic_worked.specs.Broken.{NeverAnswers, IsNoRun, NeverLeads, repeated_nexts, sending_run, asks_event, tells_finished}
 use Rattle.quic_worked.specs.Machines.{unaccepted, taken_again, cut_nexts, cut_frame, endless_nexts, hidden_end, skipping_nexts, skipped_byte, all_dropped, refused_named, long_opens, used_twice, kept_four, writing_run, late_timed, misrecorded, both_run, mistimed, told_early, taken_early, nothing_given, NeverGives, writes_second, second_events, second_answers, two_opened, two_written, two_sent, two_taken, first_accepted, both_accepted, accepted_twice, accepted_last, other_stream}
+use Rattle.quic_worked.proofs.Waited.{alike}
+use Rattle.quic_worked.proofs.WorkedHonest.{are_started}
 use Rattle.quic_worked.proofs.WorkedNumber.{only_number}
 use Rattle.quic_worked.proofs.WorkedRun.{opens, writes, finishes, gives, takes, drops_duplicate, hello_packet, frame_taken}
 use Rattle.quic_worked.proofs.BrokenClauses.{nexts_are, nexts_of, reads_in_order, hello_named, repeats}
@@ -201,7 +203,7 @@ never_long = stops _ _ _ _ _ (λ opened. cc)
 pub twice_numbers : (read : ReadCall) → NumbersRise (used_twice read) → ⊥
 twice_numbers read h =
     let p = h Client 5 refl in
-    repeats p.0 p.3.0 p.3.1 (only_number p.3.0 p.3.2)
+    repeats p.0 p.4.0 p.4.1 (only_number p.4.0 p.4.3)
 
 gives_again_no : IsRefused once_sent asks_datagram (gives_bytes 34)
 unfolding once_sent
@@ -222,9 +224,7 @@ pub late_follows : LossTimersFollow late_timed → ⊥
 late_follows i = runs_on i.0
 
 pub never_late : (events : List RunEvent) (told : List Answer) → NeverLeads events told late_timed
-never_late events told views f =
-    let none : LossTimersFollow started = (λ opened. refl, λ opened. refl) in
-    late_follows (loss_timers_follow worked_policies started late_timed events told views f none)
+never_late events told views f = late_follows (loss_timers_run worked_policies started late_timed events told views are_started f)
 
 -- ---- where events lead
 
@@ -283,7 +283,7 @@ never_four views f = not_four.never views kept_four f refl
 
 -- ---- a wrong record
 
-both_fly : in_flight both_run Client 5 ≡ (0, carrying 0 3 false) ∷ (1, carrying 3 6 false) ∷ []
+both_fly : in_flight both_run Client 5 ≡ (0, carrying 32 0 3 false) ∷ (1, carrying 33 3 6 false) ∷ []
 unfolding once_taken
 both_fly = refl
 
@@ -296,6 +296,11 @@ ends_of (f ∷ fs) = f.offsets.end
 abbrev first_end : Table TrackedPacket → ℕ
 first_end [] = 0
 first_end (p ∷ ps) = ends_of p.1.carried.stream_frames
+
+-- a probe takes nothing of that
+end_kept : (ps : Table TrackedPacket) → first_end (map but_for_record ps) ≡ first_end ps
+end_kept [] = refl
+end_kept (p ∷ ps) = refl
 
 mis_open : misrecorded.client.closing.state ≡ states.Open
 unfolding both_sent
@@ -313,7 +318,7 @@ six_three : ◌≡◌ {A = ℕ} 6 3 → ⊥
 six_three e = omega (arith, e)
 
 pub mis_tracks : TracksAt both_run 5 misrecorded → ⊥
-mis_tracks h = six_three (sym mis_ends ∙ ap first_end (h Client mis_open ∙ both_fly))
+mis_tracks h = six_three (sym mis_ends ∙ alike first_end end_kept (h Client mis_open) ∙ ap first_end both_fly)
 
 mis_here : misrecorded ≡ both_sent → ⊥
 mis_here e = six_three (sym mis_ends ∙ ap (λ (w : World). first_end w.client.tracking.packets) e ∙ both_end)
@@ -326,7 +331,7 @@ never_mis views f = not_mis.never views misrecorded f refl
 
 -- ---- a wrong moment
 
-first_flies : (read : ReadCall) → in_flight (sending_run read) Client 4 ≡ (0, carrying 0 5 true) ∷ []
+first_flies : (read : ReadCall) → in_flight (sending_run read) Client 4 ≡ (0, carrying 34 0 5 true) ∷ []
 unfolding once_taken
 first_flies read = refl
 
@@ -334,6 +339,10 @@ first_flies read = refl
 abbrev first_moment : Table TrackedPacket → ℕ
 first_moment [] = 0
 first_moment (p ∷ ps) = p.1.time_sent
+
+moment_kept : (ps : Table TrackedPacket) → first_moment (map but_for_record ps) ≡ first_moment ps
+moment_kept [] = refl
+moment_kept (p ∷ ps) = refl
 
 time_open : mistimed.client.closing.state ≡ states.Open
 unfolding once_sent
@@ -351,7 +360,7 @@ five_none : ◌≡◌ {A = ℕ} 5 0 → ⊥
 five_none e = omega (arith, e)
 
 pub time_tracks : (read : ReadCall) → TracksAt (sending_run read) 4 mistimed → ⊥
-time_tracks read h = five_none (sym time_kept ∙ ap first_moment (h Client time_open ∙ first_flies read))
+time_tracks read h = five_none (sym time_kept ∙ alike first_moment moment_kept (h Client time_open) ∙ ap first_moment (first_flies read))
 
 time_here : mistimed ≡ once_sent → ⊥
 time_here e = five_none (sym time_kept ∙ ap (λ (w : World). first_moment w.client.tracking.packets) e ∙ time_sent)

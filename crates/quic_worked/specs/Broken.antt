@@ -242,7 +242,7 @@ answered_run read = record (worked_run read) {
 -- the client gave its datagram, which never came, and forgot it: it neither waits for an
 -- acknowledgement nor gives it again
 abbrev pub forgotten : World
-forgotten = with_client once_sent (with_tracking once_sent.client nothing_tracked)
+forgotten = with_client once_sent (with_tracking once_sent.client (nothing_tracked 0))
 
 -- the client took the acknowledgement of all of its stream, which is to be told
 abbrev pub all_acked : World

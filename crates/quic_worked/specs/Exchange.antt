@@ -21,12 +21,14 @@ use Rattle.quic_streams_state.specs.Reading.{told_bytes, read_answer, after_read
 use Rattle.quic_machine.specs.declared.answers.Event.{Event}
 use Rattle.quic_machine.specs.declared.answers.Received.{Received}
 use Rattle.quic_machine.specs.declared.answers.Received.TheVariants.{Closed}
-use Rattle.quic_machine.specs.End.{End, new_end, streams_at, with_streams}
+use Rattle.quic_machine.specs.Machine.{policy_at}
+use Rattle.quic_machine.specs.End.{End, new_end, side_of, number_of, streams_at, with_streams}
 use Rattle.quic_machine.specs.Calls.{after_reads, end_tells, end_after_event}
 use Rattle.quic_machine.specs.Receive.{Outcome, judged}
 use Rattle.quic_machine.specs.FrameCases.{passed, begun}
-use Rattle.quic_machine.specs.Poll.{waits, composed, after_given}
-use Rattle.quic_machine.specs.PollCases.{ready_at}
+use Rattle.quic_machine.specs.Poll.{waits, after_given}
+use Rattle.quic_machine.specs.PollCases.{ready_at, draft_at}
+use Rattle.quic_worked.specs.Worked.{worked_policies}
 
 -- what an application asks of an end, or what comes to it; the number is that of a stream
 pub data Act : Type 0 where
@@ -87,18 +89,18 @@ taken now n frames e = judged (passed frames (begun e now n)) (list_any asks fra
 
 -- what is given at an end
 abbrev pub frames_given : End → ℕ → List FrameValue
-frames_given e now = (composed (ready_at e now)).frames
+frames_given e now = (draft_at e now).frames
 
 -- the end that gave it
 abbrev pub end_given : End → ℕ → End
-end_given e now = after_given (composed (ready_at e now))
+end_given e now = after_given (policy_at (side_of e) worked_policies) (draft_at e now)
 
 -- the same, if something waits to go
 abbrev pub gives_if : Bool → Side → ℕ → Ends → Done
 gives_if false side now w = record { said = nothing; ends = w }
 gives_if true side now w =
     let e = end_of side w in
-    let out = taken now e.numbers.next (frames_given e now) (end_of (other_side side) w) in
+    let out = taken now (number_of e) (frames_given e now) (end_of (other_side side) w) in
     record { said = given (frames_given e now) out.answer; ends = with_end_of (other_side side) out.end (with_end_of side (end_given e now) w) }
 
 -- an end reads, unless it may not
@@ -133,11 +135,11 @@ abbrev pub played : Ends → List Act → List Said
 played w [] = []
 played w (act ∷ acts) = let done = acted w act in done.said ∷ played done.ends acts
 
--- two ends with these settings, made at moment 0 on a validated path
+-- two ends with these settings, made at moment 0 on a validated path; of the numbers of each 63 is the first that is left out
 abbrev pub ends_with : Settings → Settings → Ends
 ends_with client server = record {
-  client = new_end Client client (parameters_of server) [] [] 0 true;
-  server = new_end Server server (parameters_of client) [] [] 0 true;
+  client = new_end Client client (parameters_of server) [] [] 0 true 63;
+  server = new_end Server server (parameters_of client) [] [] 0 true 63;
 }
 
 -- what one says of itself that lets come so many bytes on all streams

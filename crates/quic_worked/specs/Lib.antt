@@ -13,3 +13,6 @@ pub mod Losses
 pub mod Raised
 pub mod Timed
 pub mod Limited
+pub mod Measured
+pub mod Probed
+pub mod Messages

@@ -108,7 +108,7 @@ unfoldable pub last_taken : World
 unfolding once_taken all_given
 last_taken = after_event worked_policies all_given (delivers_at 4) (answers.Deliver receives.Taken)
 
--- 25 ms later its acknowledgement is due
+-- its acknowledgement is due at once, since numbers before it are missing (RFC 9000, section 13.2.1); 25 ms pass all the same
 abbrev pub last_due : World
 last_due = after_event worked_policies last_taken server_waits (answers.Timeout (Ok tt))
 

@@ -265,6 +265,14 @@ without_again packets = map (λ p. (p.0, record p.1 { carried = record p.1.carri
 abbrev pub reset_forgotten : World
 reset_forgotten = with_client pair_sent (record pair_sent.client { tracking = record pair_sent.client.tracking { packets = without_again pair_sent.client.tracking.packets } })
 
+-- what is kept of datagrams, where the reset of another stream, with another code, has to be sent again
+abbrev pub with_other_reset : Table TrackedPacket → Table TrackedPacket
+with_other_reset packets = map (λ p. (p.0, record p.1 { carried = record p.1.carried { retransmits = record nothing_waits { reset_stream = (4, 9) ∷ [] } } })) packets
+
+-- the client gave its datagram, which came to nobody, and keeps that it tells of another reset
+abbrev pub reset_changed : World
+reset_changed = with_client pair_sent (record pair_sent.client { tracking = record pair_sent.client.tracking { packets = with_other_reset pair_sent.client.tracking.packets } })
+
 -- nothing is accepted, although the reset of a stream came
 abbrev pub reset_unaccepted : ReadCall → Run
 reset_unaccepted read = paired_with read (take 7 paired_answers ++ answers.Accept None ∷ [])

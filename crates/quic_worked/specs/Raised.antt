@@ -1,12 +1,11 @@
 -- A run in which the datagram is lost that lets the client go further (RFC 9000, sections 4.1 and 13.3): the server takes 8 bytes at a
 -- time, and once these are read it says that 16 may come, in MAX_DATA. That datagram never comes; once three later ones went, and the
 -- client acknowledged the last of them, the limit waits again, goes again, and comes. And what machines leave that forget it.
-use Rattle.std.specs.Prelude.{◌≡◌, ℕ, false, List, [], ◌∷◌, ◌++◌, take, None, Ok}
+use Rattle.std.specs.Prelude.{ℕ, false, List, [], ◌∷◌, ◌++◌, None, Ok}
 use Rattle.quic_wire_core.specs.declared.stream_id.Side.TheVariants.{Client, Server}
 use Rattle.quic_sets.specs.Offsets.{with_offsets}
 use Rattle.quic_sets.specs.Pieces.{with_range, joining}
 use Rattle.quic_packet.specs.Datagram.{sent}
-use Rattle.quic_wire.specs.Value.{FrameValue, max_data}
 use Rattle.quic_machine.specs.declared.answers.Received.TheVariants as receives
 use Rattle.quic_machine.specs.declared.run.RunEvent.{RunEvent}
 use Rattle.quic_machine.specs.declared.run.ReadCall.{ReadCall}
@@ -17,7 +16,7 @@ use Rattle.quic_machine.specs.declared.run.View.{View}
 use Rattle.quic_machine.specs.End.{End}
 use Rattle.quic_machine.specs.Machine.{World, Follows, view_of}
 use Rattle.quic_headline.specs.Runs.{Run}
-use Rattle.quic_worked.specs.Worked.{worked_policies, client_id, with_server, after_event, ran, reads_stream, gives_bytes}
+use Rattle.quic_worked.specs.Worked.{worked_policies, client_id, with_server, after_event, reads_stream, gives_bytes}
 use Rattle.quic_worked.specs.Acknowledged.{client_acked, client_datagram, from_server, ack_at_once}
 use Rattle.quic_worked.specs.Paired.{writes_on, asks_server}
 use Rattle.quic_worked.specs.Losses.{client_polled, server_polled}
@@ -100,7 +99,7 @@ unfoldable pub third_ping : World
 unfolding second_ping
 third_ping = after_event worked_policies (after_server_ping second_ping) asks_server (gives_bytes 32)
 
--- the last comes alone, and its acknowledgement is due
+-- the last comes alone, and its acknowledgement is due at once, since numbers before it are missing
 unfoldable pub third_came : World
 unfolding third_ping client_acked
 third_came = after_event worked_policies third_ping (comes_to_client 3) (answers.Deliver receives.Taken)

@@ -138,7 +138,9 @@ both_read = with_server both_taken (end_after_reads both_taken.server 0 (32 ∷ 
 
 -- ---- what is seen of it
 
--- what is seen of both ends after each event
+-- what is seen of both ends after each event: the server waits for 25 ms once number 1 came, since before
+-- any packet came none counts as missing below it. Number 0 comes below it, so that an acknowledgement is
+-- due at once; the timer stays as it was set
 abbrev pub reordered_views : List View
 reordered_views =
     replicate 2 (record { client = open_view; server = open_view })

@@ -10,8 +10,9 @@ use Rattle.quic_machine.specs.declared.run.Call.TheVariants as calls
 use Rattle.quic_machine.specs.declared.run.Answer.{Answer}
 use Rattle.quic_machine.specs.declared.run.Answer.TheVariants as answers
 use Rattle.quic_machine.specs.declared.run.View.{View}
-use Rattle.quic_machine.specs.Machine.{World, Follows}
+use Rattle.quic_machine.specs.Machine.{World, end_at, Follows}
 use Rattle.quic_headline.specs.Runs.{Run}
+use Rattle.quic_headline.specs.Observer.{terms_of, loss_due, watch}
 use Rattle.quic_worked.specs.Worked.{ran, worked_policies, started, delivery, once_sent, sending_events, sending_answers, gives_bytes, hello_datagram, open_view, view_with}
 use Rattle.quic_worked.specs.Acknowledged.{ack_payload, client_datagram, client_acked, from_server}
 
@@ -88,21 +89,31 @@ run_seen views = record {
   from_server = from_server 0 ack_payload ∷ [];
 }
 
--- the run: the wait doubles once the timer expired, and no longer once a datagram was acknowledged
+-- the run: the wait doubles once the timer expired, and no longer once a datagram was acknowledged.
+-- That took 1060 ms, the first round trip that is measured: half of it is its variation, so the probe,
+-- which went at 1024 ms, is waited for during 1060 ms, four times 530 ms, and 25 ms
 abbrev pub timed_run : Run
-timed_run = run_seen (views_with 2048000000 3072000000 2048000000 1055000000)
+timed_run = run_seen (views_with 2048000000 3072000000 4229000000 1055000000)
 
 -- a client that never waits longer
 abbrev pub never_backs_off : Run
-never_backs_off = run_seen (views_with 1024000000 2048000000 2048000000 1055000000)
+never_backs_off = run_seen (views_with 1024000000 2048000000 4229000000 1055000000)
 
--- a client that waits on as long as before the acknowledgement
+-- a client that waits twice as long also behind the acknowledgement
 abbrev pub never_resets : Run
-never_resets = run_seen (views_with 2048000000 3072000000 3072000000 1055000000)
+never_resets = run_seen (views_with 2048000000 3072000000 7434000000 1055000000)
+
+-- a client that never measures a round trip, and waits for 1024 ms again
+abbrev pub never_measures : Run
+never_measures = run_seen (views_with 2048000000 3072000000 2048000000 1055000000)
 
 -- a server that waits 25 ms twice
 abbrev pub waits_twice : Run
-waits_twice = run_seen (views_with 2048000000 3072000000 2048000000 1080000000)
+waits_twice = run_seen (views_with 2048000000 3072000000 4229000000 1080000000)
+
+-- when the loss timer of an end is to expire behind so many answers, as an observer reckons it
+abbrev pub due_at : Run → Side → ℕ → Option ℕ
+due_at r side i = loss_due (terms_of (end_at side r.start)) (watch r side i).flight
 
 -- the machine never shows these views
 abbrev pub NeverShows : Run → Type 0

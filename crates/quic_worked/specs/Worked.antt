@@ -1,7 +1,7 @@
 -- A worked run: the client opens stream 0, writes `hello`, ends it, and gives one datagram; it
 -- comes to the server twice, which takes it once and reads the stream. Events, answers, datagrams
 -- and views are written out; the ends are what the machine makes and leaves.
-use Rattle.std.specs.Prelude.{ℕ, ◌≡◌, ◌-◌, ◌%◌, Bool, true, nat_le, nat_eq, ◌&&◌, if◌then◌else◌, List, [], ◌∷◌, ◌++◌, length, take, drop, replicate, slice_index, bit_xor, Option, Some, None, Result, Ok, Err}
+use Rattle.std.specs.Prelude.{ℕ, ◌≡◌, ◌-◌, ◌%◌, Bool, true, false, nat_le, nat_eq, ◌&&◌, if◌then◌else◌, List, [], ◌∷◌, ◌++◌, length, take, drop, replicate, slice_index, bit_xor, Option, Some, None, Result, Ok, Err}
 use Rattle.std.specs.Int.{w64, to_be_bytes}
 use Rattle.std.specs.Cmp.Lexicographic.{pointwise}
 use Rattle.quic_wire_core.specs.StreamId.{other_side}
@@ -108,10 +108,15 @@ masking =
       reveal = masked_number;
     }
 
--- an end that marks what it gives by one byte, and opens what is marked by another
+-- an end that marks what it gives by one byte, and opens what is marked by another; its random source
+-- answers 63 for ever
 abbrev pub marking : ℕ → ℕ → Policy
 marking own theirs =
-    record { header = masking; packet = record { seal = marked own; unseal = unmarked theirs } }
+    record {
+      header = masking;
+      packet = record { seal = marked own; unseal = unmarked theirs };
+      words = λ n. 63;
+    }
 
 -- the marks are the letters `c` and `s`
 abbrev pub worked_policies : Policies
@@ -143,15 +148,16 @@ worked_parameters =
     ++ (0x20 ∷ 0x04 ∷ 0x80 ∷ 0x00 ∷ 0xff ∷ 0xff ∷ [])
     ++ (0xc0 ∷ 0x00 ∷ 0x00 ∷ 0x00 ∷ 0xff ∷ 0x04 ∷ 0xde ∷ 0x1b ∷ 0x02 ∷ 0x43 ∷ 0xe8 ∷ [])
 
--- the client before the first event: open at moment 0, on a validated path
+-- the client before the first event: open at moment 0, on a validated path; of its numbers 63 is the
+-- first that is left out
 abbrev pub client_made : End
 client_made =
-    new_end Client default_settings (parameters_of default_settings) client_id server_id 0 true
+    new_end Client default_settings (parameters_of default_settings) client_id server_id 0 true 63
 
 -- the server before the first event
 abbrev pub server_made : End
 server_made =
-    new_end Server default_settings (parameters_of default_settings) server_id client_id 0 true
+    new_end Server default_settings (parameters_of default_settings) server_id client_id 0 true 63
 
 -- both ends, before anything was given
 abbrev pub started : World
@@ -259,15 +265,32 @@ hello_opening = record { first = 0x40; number = 0; payload = hello_payload }
 abbrev pub at_server : End → List ℕ → Received
 at_server server datagram = (received worked_policies.server server 0 datagram).answer
 
--- a datagram that went at moment 0 with the bytes of stream 0 from one offset up to another, and
--- with its end or not
-abbrev pub carrying : ℕ → ℕ → Bool → TrackedPacket
-carrying start end fin = record {
+-- a datagram of so many bytes that went at moment 0 with the bytes of stream 0 from one offset up to
+-- another, and with its end or not
+abbrev pub carrying : ℕ → ℕ → ℕ → Bool → TrackedPacket
+carrying size start end fin = record {
   generation = 0;
   time_sent = 0;
+  size = size;
+  asks = true;
   carried = record {
     largest_acked = None;
     stream_frames = record { id = 0; offsets = record { start = start; end = end }; fin = fin } ∷ [];
+    retransmits = nothing_waits;
+  };
+}
+
+-- a datagram that went at a moment with an acknowledgement of numbers up to one, and nothing else: it
+-- doesn't ask for one, and counts against no window (RFC 9002, section 2)
+abbrev pub acknowledging : ℕ → ℕ → TrackedPacket
+acknowledging moment largest = record {
+  generation = 0;
+  time_sent = moment;
+  size = 0;
+  asks = false;
+  carried = record {
+    largest_acked = Some largest;
+    stream_frames = [];
     retransmits = nothing_waits;
   };
 }

@@ -1,6 +1,6 @@
 //! The definitions computed on an acknowledgement: the server takes `hello`, and acknowledges it.
 //! Each function does nothing: its contract is the law.
-ghost use Rattle.std.specs.Prelude.{◌≡◌, ◌-◌, ◌^◌, ◌∷◌, ◌++◌, [], true, false, Some, None, Ok, map};
+ghost use Rattle.std.specs.Prelude.{◌≡◌, ◌-◌, ◌^◌, ◌∷◌, ◌++◌, [], Bool, true, false, Some, None, Ok, map};
 ghost use Rattle.quic_wire_core.specs.TransportError.{plain_error};
 ghost use Rattle.quic_wire_core.specs.declared.shared.EcnCodepoint.TheVariants.{Ect0};
 ghost use Rattle.quic_time.specs.Timers.{timer_at, next_timer};
@@ -13,9 +13,9 @@ ghost use Rattle.quic_machine.specs.declared.run.Answer.TheVariants as answers;
 ghost use Rattle.quic_streams_parts.specs.declared.answers.StreamEvent.TheVariants.{Finished};
 ghost use Rattle.quic_machine.specs.Acked.{after_acked};
 ghost use Rattle.quic_machine.specs.Tracking.{nothing_tracked, loss_moment};
-ghost use Rattle.quic_machine.specs.Acknowledging.{written_delay};
-ghost use Rattle.quic_machine.specs.Numbers.{cut_against};
-ghost use Rattle.quic_machine.specs.End.{closed_by};
+ghost use Rattle.quic_spaces.specs.Acknowledging.{written_delay};
+ghost use Rattle.quic_spaces.specs.Numbers.{cut_against};
+ghost use Rattle.quic_machine.specs.End.{closed_by, probe_timeout};
 ghost use Rattle.quic_machine.specs.Calls.{end_tells, end_after_event, end_after_ping};
 ghost use Rattle.quic_machine.specs.Opens.{would_open};
 ghost use Rattle.quic_machine.specs.Poll.{composed};
@@ -23,8 +23,9 @@ ghost use Rattle.quic_machine.specs.Timeouts.{timed_out};
 ghost use Rattle.quic_worked.specs.Worked.{client_gives, server_gives, worked_policies, client_made, server_made, once_sent, once_taken, hello_payload, hello_datagram};
 ghost use Rattle.quic_worked.specs.Acknowledged.{client_takes, injected, third_ack, server_early, server_due, server_acked, ack_payload, ack_at_once, ack_of_unsent, from_server, client_datagram, client_acked, client_pinged, client_lost, client_mixed, two_ranges, client_timed_out};
 
-/// A packet that asks is acknowledged after 25 ms: nothing is given before the timer expires, and
-/// then an ACK frame alone. Where something else goes before, the acknowledgement goes along.
+/// A packet that asks and comes in order is acknowledged after 25 ms: nothing is given before the
+/// timer expires, and then an ACK frame alone. Where something else goes before, the
+/// acknowledgement goes along.
 #[tactic(auto, unfolding(crate::specs::Acknowledged::server_acked))]
 pub fn hello_is_acknowledged()
     ensures set { timer_at MaxAckDelay once_taken.server.timers ≡ Some 25000000 }
@@ -72,11 +73,13 @@ pub fn lost_bytes_go_again()
     ensures beside { (composed client_mixed).bytes ≡ two_ranges ++ ack_at_once }
     ensures again { (client_gives client_lost 0).datagram
         ≡ Some (client_datagram 4 3 (hello_payload ++ ack_at_once)) }
-    ensures same { after_acked third_ack client_lost ≡ client_lost }
+    ensures same { (rises : Bool) → after_acked rises third_ack client_lost ≡ client_lost }
 {}
 
-/// A datagram that asks is waited for: for 1024 ms, then twice as long, and at most 65536 times as
-/// long. After each time two probes go, each a PING.
+/// A datagram that asks is waited for: for 1024 ms, which are the 333 ms that a round trip is taken
+/// to last at first, four times half of that, and the 25 ms for which the peer may hold an
+/// acknowledgement back; then twice as long, and at most 65536 times as long. After each time two
+/// probes go, each a PING.
 #[tactic(auto, unfolding(crate::specs::Worked::once_sent))]
 pub fn timeouts_are_probed()
     ensures set { timer_at LossDetection once_sent.client.timers ≡ Some 1024000000 }
@@ -91,9 +94,9 @@ pub fn timeouts_are_probed()
     ensures one_left { (client_gives client_timed_out 1024000000).end.tracking.probes ≡ 1 }
     ensures moment { timer_at LossDetection (client_gives client_timed_out 1024000000).end.timers
         ≡ Some 3072000000 }
-    ensures most { loss_moment (record once_sent.client.tracking { timeouts = 20 })
-        ≡ Some 67108864000000 }
-    ensures none { loss_moment nothing_tracked ≡ None }
+    ensures most { loss_moment (probe_timeout once_sent.client)
+        (record once_sent.client.tracking { timeouts = 20 }) ≡ Some 67108864000000 }
+    ensures none { loss_moment (probe_timeout client_made) (nothing_tracked 0) ≡ None }
 {}
 
 /// Bytes that would open are not taken as an injection, also where they came before; others are

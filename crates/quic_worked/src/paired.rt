@@ -11,7 +11,7 @@ ghost use Rattle.quic_headline.specs.Headline.{Slices, AcceptsAll, FinishedMeans
 ghost use Rattle.quic_worked.specs.Acknowledged.{client_datagram, from_server};
 ghost use Rattle.quic_worked.specs.Reordered.{abc, def};
 ghost use Rattle.quic_worked.specs.Broken.{IsNoRun, NeverLeads};
-ghost use Rattle.quic_worked.specs.Paired.{ReadsSecond, second_bounds, paired_payload, stop_payload, paired_frames, giving_events, giving_answers, reset_refused, paired_run, told_of_reset, pair_giving, reset_forgotten, reset_unaccepted, second_unaccepted, other_bytes};
+ghost use Rattle.quic_worked.specs.Paired.{ReadsSecond, second_bounds, paired_payload, stop_payload, paired_frames, giving_events, giving_answers, reset_refused, paired_run, told_of_reset, pair_giving, reset_forgotten, reset_changed, reset_unaccepted, second_unaccepted, other_bytes};
 
 /// The reference machine runs it, and gives these datagrams: the reset of the first stream goes
 /// with the bytes of the second, and is told to the server's application; the stop of the second
@@ -53,8 +53,13 @@ pub fn reset_stream_is_told()
 /// Sending: a reset is forgotten once it went, though its datagram came to nobody.
 pub fn reset_is_forgotten()
     ensures duties { (read : ReadCall) → DutiesAt (pair_giving read) 6 reset_forgotten → ⊥ }
-    ensures tracks { (read : ReadCall) → TracksAt (pair_giving read) 6 reset_forgotten → ⊥ }
     ensures machine { NeverLeads giving_events giving_answers reset_forgotten }
+{}
+
+/// Sending: of a datagram with a reset it is kept that it resets another stream.
+pub fn reset_is_changed()
+    ensures tracks { (read : ReadCall) → TracksAt (pair_giving read) 6 reset_changed → ⊥ }
+    ensures machine { NeverLeads giving_events giving_answers reset_changed }
 {}
 
 /// Receiving: a stream isn't accepted of which the reset alone came.

@@ -3,30 +3,34 @@
 ghost use Rattle.std.specs.Prelude.{◌≡◌, ◌∷◌, [], Some, None};
 ghost use Rattle.quic_wire_core.specs.declared.stream_id.Side.TheVariants.{Client, Server};
 ghost use Rattle.quic_headline.specs.Headline.{IsRun};
-ghost use Rattle.quic_headline.specs.Moments.{loss_due, pace, debt, LossMoments, AckMoments};
-ghost use Rattle.quic_worked.specs.Timed.{once_later, timed_run, never_backs_off, never_resets, waits_twice, NeverShows};
+ghost use Rattle.quic_headline.specs.Moments.{debt, LossMoments, AckMoments};
+ghost use Rattle.quic_worked.specs.Timed.{once_later, timed_run, never_backs_off, never_resets, never_measures, waits_twice, due_at, NeverShows};
 
 /// An acknowledgement is waited for 1024 ms after the datagram that asks, twice as long once the
-/// timer expired, and from the probe on; once a datagram in flight is acknowledged, 1024 ms again
-/// after the probe, which is still in flight. The machine's timer is set so.
+/// timer expired, and from the probe on; once a datagram in flight is acknowledged after 1060 ms,
+/// 3205 ms after the probe, which is still in flight: the 1060 ms that were measured, four times
+/// half of that, and 25 ms. The machine's timer is set so.
 pub fn wait_doubles()
-    ensures before { loss_due (pace timed_run Client 3) ≡ None }
-    ensures sent { loss_due (pace timed_run Client 4) ≡ Some 1024000000 }
-    ensures expired { loss_due (pace timed_run Client 5) ≡ Some 2048000000 }
-    ensures probed { loss_due (pace timed_run Client 6) ≡ Some 3072000000 }
-    ensures answered { loss_due (pace timed_run Client 10) ≡ Some 2048000000 }
-    ensures server { loss_due (pace timed_run Server 10) ≡ None }
+    ensures before { due_at timed_run Client 3 ≡ None }
+    ensures sent { due_at timed_run Client 4 ≡ Some 1024000000 }
+    ensures expired { due_at timed_run Client 5 ≡ Some 2048000000 }
+    ensures probed { due_at timed_run Client 6 ≡ Some 3072000000 }
+    ensures answered { due_at timed_run Client 10 ≡ Some 4229000000 }
+    ensures server { due_at timed_run Server 10 ≡ None }
     ensures run { IsRun timed_run (once_later 6) }
     ensures moments { LossMoments timed_run }
 {}
 
-/// A client that never waits longer shows another moment, and so does one that goes on waiting as
-/// long as before an acknowledgement; the machine shows neither.
+/// A client that never waits longer shows another moment; so does one that waits twice as long also
+/// behind an acknowledgement, and one that never measures a round trip. The machine shows none of
+/// these.
 pub fn wrong_waits_show()
     ensures backs_off { LossMoments never_backs_off → ⊥ }
     ensures resets { LossMoments never_resets → ⊥ }
+    ensures measures { LossMoments never_measures → ⊥ }
     ensures machine_backs_off { NeverShows never_backs_off }
     ensures machine_resets { NeverShows never_resets }
+    ensures machine_measures { NeverShows never_measures }
 {}
 
 /// An acknowledgement waits from when the packet that asks came until an ACK frame goes, for 25 ms.

@@ -7,7 +7,7 @@ use Rattle.std.specs.List.{list_any}
 use Rattle.std.proofs.lemmas.Bool.{cond_both, cases_eq, cases_Bool, eq-eqb, ne_eqb, ltb-true, ltb-false, and_from}
 use Rattle.quic_wire_core.specs.declared.stream_id.Side.{Side}
 use Rattle.quic_wire_core.specs.StreamId.{dir_of, index_of}
-use Rattle.quic_wire.specs.Value.{FrameValue, StopSendingValue, StreamLimitValue, ack, stream, reset_stream, stop_sending, max_data, max_stream_data, max_streams}
+use Rattle.quic_wire.specs.Value.{FrameValue, StopSendingValue, StreamLimitValue, ack, stream, reset_stream, stop_sending, max_data, max_stream_data, max_streams, datagram}
 use Rattle.quic_streams_parts.specs.declared.answers.Breach.{Breach}
 use Rattle.quic_streams_parts.specs.declared.answers.Breach.TheVariants as breaches
 use Rattle.quic_streams_parts.specs.Dirs.{is_own, is_two_way}
@@ -23,8 +23,8 @@ use Rattle.quic_streams_laws.specs.Each.{HalfIs}
 use Rattle.quic_streams_laws.specs.KeepingLaws.{by_option, by_opened, sends_within, live_sends, at-half, by_stream, by_reset_frame, by_max_streams}
 use Rattle.quic_machine.specs.Tracking.{dir_named}
 use Rattle.quic_machine.specs.End.{End}
-use Rattle.quic_machine.specs.Receive.{fault_of, take_frame}
-use Rattle.quic_machine.specs.FrameCases.{acked_keeps, named, ack_taken, passed, frames_taken}
+use Rattle.quic_machine.specs.Receive.{fault_of, is_above, names_ungiven, take_frame}
+use Rattle.quic_machine.specs.FrameCases.{acked_keeps, named, ack_taken, passed, frames_taken, message_leaves}
 use Rattle.quic_headline.specs.Amounts.{data_limit_in, stream_limit_in, stops_stream, greatest_in}
 use Rattle.quic_headline.proofs.Halves.Opened.{opened_now, side_now}
 use Rattle.quic_headline.proofs.Amounts.Tally.{Tally, IsTallied, IsFresh, HasSums, AreTallied, Tallies, AlikeAt, alike_at, half_tallied, tallied_kept, tallies_kept, tallies_settle, put_tallied, halves_alike, tallies_alike}
@@ -189,11 +189,14 @@ module _ (t : Tally) where
   frame_tallies (max_data limit) e none i = data_tallies limit e.streams i
   frame_tallies (max_stream_data g) e none i = stream_data_tallies g e.streams (unbroken (sending_refusal e.streams g.id) none) i
   frame_tallies (max_streams g) e none i = plain t (max_streams g) _ (λ id. refl) (λ id. refl) refl (by_max_streams (Tallies t) (tallies_kept t) (dir_named g.one_way) g.count e.streams i)
-  frame_tallies (ack a) e none i = plain t (ack a) _ (λ id. refl) (λ id. refl) refl (acked (nat_le e.numbers.next a.largest))
+  frame_tallies (ack a) e none i = plain t (ack a) _ (λ id. refl) (λ id. refl) refl (acked (names_ungiven a e))
     where
       acked : (b : Bool) → Tallies t (ack_taken b a e).end.streams
       acked true = i
-      acked false = acked_keeps (λ (x : End). Tallies t x.streams) (tallies_settle t) a (named a e) i
+      acked false = acked_keeps (λ (x : End). Tallies t x.streams) (tallies_settle t) (is_above e.numbers.largest_acked a.largest) a (named a e) i
+  frame_tallies (datagram m) e none i =
+      let same = plain t (datagram m) e.streams (λ id. refl) (λ id. refl) refl i in
+      message_leaves (λ (x : End). Tallies (and_frame (datagram m) t) x.streams) m e same (λ left. same)
   frame_tallies other e none i = plain t other e.streams (λ id. refl) (λ id. refl) refl i
 
 -- ---- all frames of a packet

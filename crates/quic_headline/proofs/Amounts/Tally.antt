@@ -8,11 +8,11 @@ use Rattle.quic_wire_core.specs.StreamId.{dir_of}
 use Rattle.quic_send_buffer.specs.Buffered.{Buffered, bytes_in, passed, pieces_behind as left_behind, first_unacknowledged, acknowledged, after_ack}
 use Rattle.quic_send_buffer.specs.declared.stream_meta.StreamMeta.{StreamMeta}
 use Rattle.quic_streams_parts.specs.Dirs.{is_own, is_two_way}
-use Rattle.quic_streams_parts.specs.Table.{at}
+use Rattle.quic_streams_parts.specs.Table.{Table, at}
 use Rattle.quic_streams_parts.specs.SendHalf.{SendHalf, Queued, half_acked, reset_now}
 use Rattle.quic_streams_halves.specs.Halves.{is_done, has_place}
 use Rattle.quic_streams_state.specs.declared.state.StreamsState.{StreamsState}
-use Rattle.quic_streams_state.specs.State.{Sending, sending_half, sending_status, receiving_status, done_if}
+use Rattle.quic_streams_state.specs.State.{Streams, Sending, sending_half, sending_status, receiving_status, done_if}
 use Rattle.quic_streams_state.specs.Control.{Entry}
 use Rattle.quic_streams_state.specs.Writing.{put_queued}
 use Rattle.quic_streams_laws.specs.Each.{HalfIs, EachSends, AreOfHalves}
@@ -27,14 +27,17 @@ use Rattle.quic_machine.specs.Policy.{Policy}
 use Rattle.quic_machine.specs.Calls.{is_open}
 use Rattle.quic_machine.specs.StreamCalls.{is_on_streams}
 use Rattle.quic_machine.specs.End.{End, streams_at}
-use Rattle.quic_machine.specs.Poll.{Draft, Polled, composed, polled}
+use Rattle.quic_machine.specs.Tracking.{TrackedPacket}
+use Rattle.quic_machine.specs.Acked.{stream_lost}
+use Rattle.quic_machine.specs.Poll.{Draft, Polled, composed, lazied, polled}
 use Rattle.quic_machine.specs.DraftLaws.{by_writing}
 use Rattle.quic_machine.specs.PollCases.{at_moment, by_poll}
 use Rattle.quic_machine.specs.FrameCases.{Settling}
-use Rattle.quic_machine.specs.LeaveCases.{by_expired}
+use Rattle.quic_machine.specs.LeaveCases.{by_expired, by_event}
 use Rattle.quic_machine.specs.CallCases.{is_delivery, by_call}
 use Rattle.quic_machine.specs.Machine.{IsAnswer, after_call}
 use Rattle.quic_headline.proofs.Packets.Entries.{by_first}
+use Rattle.quic_headline.proofs.Packets.Losses.{Losing, expiry_stays}
 use Rattle.quic_headline.proofs.Halves.Words.{OtherWords, is_write, other_with}
 use Rattle.quic_headline.proofs.Halves.WordsCalls.{call_on_is}
 use Rattle.quic_headline.proofs.Amounts.Pieces.{filled, sum_both}
@@ -203,17 +206,25 @@ module _ (t : Tally) where
       all_blocked = j;
       blocked = λ id among. j;
     }) kind entry es is;
-    stream = λ d id h room found first some is counts j. by_frame (Tallies t) tallies_kept d.end.fair d.end.streams id room h found (goes_on id h _ refl refl refl refl refl) j;
+    message = λ d m ms is fit j. j;
+    stream = λ d id h room found first some is counts j. by_frame (Tallies t) tallies_kept d.end.transport.send_fairness d.end.streams id room h found (goes_on id h _ refl refl refl refl refl) j;
   }) e i
 
   poll_tallies : (p : Policy) (e : End) (now : ℕ) → Tallies t e.streams → Tallies t (polled p e now).end.streams
   poll_tallies p e now i = by_poll p e now (λ (q : Polled). Tallies t q.end.streams) (record {
     silent = i;
     failed = i;
-    idle = λ pings. i;
-    used_up = λ pings. i;
-    gives = λ pings tracking timers is may some ready. composed_tallies (at_moment e now pings) i;
+    idle = λ tracking waiting ready. i;
+    used_up = λ tracking waiting ready. i;
+    gives = λ before waiting tracking timers is may some ready. composed_tallies (lazied (at_moment e now before waiting)) i;
   })
+
+  -- a STREAM frame is lost
+  lost_tallies : (m : StreamMeta) (e : End) → Tallies t e.streams → Tallies t (stream_lost m e).streams
+  lost_tallies m e i = by_stream_lost (Tallies t) tallies_kept e.streams m (λ h is none. goes_on m.id h _ refl refl refl refl refl) i
+
+  losing : (packets : Table TrackedPacket) → Losing packets (λ (s : Streams). Tallies t s.state)
+  losing packets = record { lost = λ n p m e among inside i. lost_tallies m e i; again = λ n p e among i. i }
 
   -- any call that neither writes nor delivers
   pub call_tallies : (p : Policy) (e : End) (theirs : List (List ℕ)) (call : Call) (a : Answer) → is_delivery call ≡ false → is_write call ≡ false → IsAnswer p e theirs call a → Tallies t e.streams → Tallies t (after_call p e theirs call a).streams
@@ -226,12 +237,13 @@ module _ (t : Tally) where
       go false off = by_call p e theirs (λ (f : End). Tallies t f.streams) call a (record {
         same = i;
         on_streams = λ on answer. cc;
+        on_messages = λ on answer. i;
         pings = i;
         heard = λ path same. i;
-        times = λ now acks loss set. by_expired e now (λ (f : End). Tallies t f.streams) (λ pending tracking timers runs packets. i) acks loss;
+        times = λ now acks loss set. by_expired e now (λ (f : End). Tallies t f.streams) (λ pending tracking timers runs packets. i) (λ pending timers runs. expiry_stays (λ (s : Streams). Tallies t s.state) e now (losing e.tracking.packets) i pending timers) acks loss;
         polls = λ now set. poll_tallies p e now i;
         hears = λ now d set. cc;
-        tells = λ asks. by_polled (Tallies t) tallies_kept e.streams i;
+        tells = λ asks. by_event e (λ (f : End). Tallies t f.streams) i (λ told. by_polled (Tallies t) tallies_kept e.streams i);
       })
 
   -- ---- an ACK frame
@@ -241,9 +253,10 @@ module _ (t : Tally) where
     known = λ n e i. i;
     reset = λ id e i. by_reset_acked_where (Tallies t) tallies_kept e.streams e.waiting.frames id (λ h is reset. inl reset) i;
     acked = λ m e i. by_stream_acked_where (Tallies t) tallies_kept e.streams e.waiting.frames m (λ h is none. acked_goes m.id h m) (λ h is none all. tt) (λ h all. inr all) i;
-    lost = λ m e i. by_stream_lost (Tallies t) tallies_kept e.streams m (λ h is none. goes_on m.id h _ refl refl refl refl refl) i;
+    lost = lost_tallies;
     again = λ carried e i. i;
     tracked = λ u e i. i;
+    measured = λ r e i. i;
   }
 
 -- ---- where as much is told

@@ -1,6 +1,5 @@
 -- What closes an end: a poll whose numbers are used up, or a datagram.
 use Rattle.std.proofs.Common.{◌≡◌, ℕ, ◌+◌, ◌-◌, ◌^◌, inl, inr, Bool, true, false, nat_lt, ◌&&◌, List, Some, refl, sym, ap, ◌∙◌}
-use Rattle.std.specs.Prelude.{if◌then◌else◌}
 use Rattle.std.proofs.lemmas.Bool.{ltb-false}
 use Rattle.quic_machine.specs.declared.answers.State.{State}
 use Rattle.quic_machine.specs.declared.answers.State.TheVariants as states
@@ -9,13 +8,16 @@ use Rattle.quic_machine.specs.declared.run.Call.{Call}
 use Rattle.quic_machine.specs.declared.run.Answer.{Answer}
 use Rattle.quic_machine.specs.Policy.{Policy}
 use Rattle.quic_machine.specs.Closing.{Closing, ticked}
-use Rattle.quic_machine.specs.Numbers.{Numbers, cut_against, kept_numbers, can_number}
-use Rattle.quic_machine.specs.End.{End, with_closing, with_ping}
-use Rattle.quic_machine.specs.Poll.{Polled, Draft, composed, asking, tracked_if, after_given, probed, waits, sends, polled_if, polled_in, polled}
+use Rattle.quic_spaces.specs.Numbers.{Numbers, cut_against, kept_numbers, can_number}
+use Rattle.quic_machine.specs.End.{End, with_closing}
+use Rattle.quic_machine.specs.Poll.{Polled, composed, after_given, probed, lazied, waits, sends, polled_if, polled_in, polled}
 use Rattle.quic_machine.specs.Machine.{after_call}
 use Rattle.quic_machine.specs.CallCases.{is_delivery, is_poll, by_plain_call}
-use Rattle.quic_machine.specs.LeaveCases.{by_expired}
-use Rattle.quic_machine.specs.PollCases.{composes}
+use Rattle.quic_machine.specs.LeaveCases.{at_losses, by_expired}
+use Rattle.quic_machine.specs.PollCases.{composes, probe_leaves}
+use Rattle.quic_recovery_core.specs.PendingAcks.{Pending}
+use Rattle.quic_time.specs.Timers.{Timers}
+use Rattle.quic_headline.proofs.Packets.Stays.{settles_losses}
 use Rattle.quic_headline.specs.Causes.{AreUsedUp}
 
 -- an end is open, or isn't for a reason, as it was
@@ -31,14 +33,10 @@ pub data PollCloses (e : End) (q : Polled) : Type 0 where
   uses_up : e.closing.state ≡ states.Open → can_number e.numbers ≡ false → q.end.numbers.next ≡ e.numbers.next → q.end.closing.reason ≡ Some reasons.NumberLimit → q.end.closing.state ≡ states.Drained → PollCloses e q
 
 module _ (p : Policy) (e : End) (now : ℕ) where
-  tracked_closing : (b : Bool) (d : Draft) → (tracked_if b d).closing ≡ d.end.closing
-  tracked_closing true d = refl
-  tracked_closing false d = refl
-
   -- an end at this moment, from which something goes or doesn't
   sends_case : (x : End) → x.closing ≡ ticked e.closing now → x.numbers ≡ e.numbers → e.closing.state ≡ states.Open → (b : Bool) → can_number x.numbers ≡ b → PollCloses e (sends b p x)
   sends_case x closing numbers still_open true is =
-      let same : (after_given (composed x)).closing ≡ ticked e.closing now = tracked_closing (asking (composed x).frames) (composed x) ∙ (composes x).closing ∙ closing in
+      let same : (after_given p (composed (lazied x))).closing ≡ ticked e.closing now = (composes (lazied x)).closing ∙ closing in
       keeps (record { reason = ap (λ (c : Closing). c.reason) same; state = ap (λ (c : Closing). c.state) same })
   sends_case x closing numbers still_open false is = uses_up still_open (ap can_number (sym numbers) ∙ is) (ap (λ (n : Numbers). n.next) numbers) refl refl
 
@@ -46,18 +44,11 @@ module _ (p : Policy) (e : End) (now : ℕ) where
   waits_case x closing numbers still_open true = sends_case x closing numbers still_open (can_number x.numbers) refl
   waits_case x closing numbers still_open false = keeps (record { reason = ap (λ (c : Closing). c.reason) closing; state = ap (λ (c : Closing). c.state) closing })
 
-  probe_closing : (b : Bool) (x : End) → (if b then with_ping x true else x).closing ≡ x.closing
-  probe_closing true x = refl
-  probe_closing false x = refl
-
-  probe_numbers : (b : Bool) (x : End) → (if b then with_ping x true else x).numbers ≡ x.numbers
-  probe_numbers true x = refl
-  probe_numbers false x = refl
-
   state_case : (state : State) → e.closing.state ≡ state → PollCloses e (polled_in state p e now)
   state_case states.Open still_open =
       let x : End = with_closing e (ticked e.closing now) in
-      waits_case (probed x) (probe_closing (nat_lt 0 x.tracking.probes) x) (probe_numbers (nat_lt 0 x.tracking.probes) x) still_open (waits (probed x))
+      let is : probed x ≡ record x { tracking = (probed x).tracking; waiting = (probed x).waiting } = probe_leaves x in
+      waits_case (probed x) (ap (λ (y : End). y.closing) is) (ap (λ (y : End). y.numbers) is) still_open (waits (probed x))
   state_case states.Closing is = keeps (record { reason = refl; state = refl })
   state_case states.Drained is = keeps (record { reason = refl; state = refl })
   state_case states.Failed is = keeps (record { reason = refl; state = refl })
@@ -80,10 +71,16 @@ pub other_keeps : (p : Policy) (e : End) (theirs : List (List ℕ)) (call : Call
 other_keeps p e theirs call a silent apart = by_plain_call p e theirs (Keeps e) call a (record {
   same = record { reason = refl; state = refl };
   on_streams = λ t. record { reason = refl; state = refl };
+  on_messages = λ m. record { reason = refl; state = refl };
   pings = record { reason = refl; state = refl };
   heard = λ path same. record { reason = refl; state = refl };
-  times = λ now acks loss set. by_expired e now (Keeps e) (λ pending tracking timers runs packets. record { reason = refl; state = refl }) acks loss;
+  times = λ now acks loss set. by_expired e now (Keeps e) (λ pending tracking timers runs packets. record { reason = refl; state = refl }) (λ pending timers runs. losses now pending timers) acks loss;
   polls = λ now set. cc;
   hears = λ now d set. cc;
   tells = λ told. record { reason = refl; state = refl };
 })
+  where
+    losses : (now : ℕ) (pending : Pending) (timers : Timers) → Keeps e (at_losses e now pending timers)
+    losses now pending timers =
+        let s = settles_losses (with_closing e (ticked e.closing now)) in
+        record { reason = ap (λ (c : Closing). c.reason) s.closing; state = ap (λ (c : Closing). c.state) s.closing }

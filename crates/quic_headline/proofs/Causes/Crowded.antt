@@ -1,12 +1,12 @@
 -- Where a frame comes to too many pieces, more maximal runs of offsets of its stream arrived and weren't read than may wait.
 use Rattle.std.proofs.Common.{◌≡◌, ℕ, ◌<◌, ◌≤◌, ◌^◌, Bool, true, false, not, nat_lt, nat_le, List, [], ◌∷◌, ◌++◌, map, Option, Some, None, Ok, refl, sym, ap, ◌∙◌, subst, ◌⊎◌, inl, inr}
-use Rattle.std.specs.Prelude.{◌&&◌, ◌||◌, if◌then◌else◌}
+use Rattle.std.specs.Prelude.{◌&&◌, ◌||◌, if◌then◌else◌, Result, Err}
 use Rattle.std.specs.Option.{is_some}
 use Rattle.std.proofs.lemmas.Bool.{ltb-true, both_ways}
 use Rattle.quic_wire_core.specs.declared.stream_id.Side.{Side}
 use Rattle.quic_wire_core.specs.declared.stream_id.Side.TheVariants.{Client, Server}
 use Rattle.quic_wire_core.specs.StreamId.{dir_of, index_of}
-use Rattle.quic_wire.specs.Value.{FrameValue, AckValue, StreamValue, ack, stream, reset_stream, stop_sending, max_data, max_stream_data, max_streams, stream_data_blocked, streams_blocked, new_token, handshake_done}
+use Rattle.quic_wire.specs.Value.{FrameValue, AckValue, StreamValue, ack, stream, reset_stream, stop_sending, max_data, max_stream_data, max_streams, stream_data_blocked, streams_blocked, new_token, handshake_done, datagram}
 use Rattle.quic_assembler.specs.declared.assembler.TheConstants.{MOST_PIECES}
 use Rattle.quic_assembler.specs.Arrived.{is_given, waits, runs_of}
 use Rattle.quic_assembler.proofs.Arrived.Lawful.{given_waits_not}
@@ -30,8 +30,10 @@ use Rattle.quic_streams_laws.specs.ContentLaws.{read_at, read_stream}
 use Rattle.quic_streams_laws.specs.Kept.{IsKeptHalf, IsKeptStatus, HoldsTaken, TakesMore}
 use Rattle.quic_streams_laws.specs.TakenLaws.{goes_on_kept, taken_stream}
 use Rattle.quic_machine.specs.End.{End, side_of}
-use Rattle.quic_machine.specs.Receive.{Fault, too_many_pieces, fault_of, fault_at, Progress, take_frame, unless_fault, take_items}
+use Rattle.quic_machine.specs.Receive.{Fault, too_many_pieces, fault_of, fault_at, names_ungiven, Progress, message_judged, take_frame, unless_fault, take_items}
 use Rattle.quic_machine.specs.FrameCases.{passed, ack_taken, frames_leave}
+use Rattle.quic_messages.specs.Messages.{received_answer}
+use Rattle.quic_messages.specs.declared.errors.ReceivedError.{ReceivedError}
 use Rattle.quic_headline.specs.Runs.{Told, Packet, In, reads, offsets_of, WasTaken, HasArrived}
 use Rattle.quic_headline.specs.Causes.{HasMoreRuns, IsUnread}
 use Rattle.quic_headline.proofs.Places.Told.{in_left, in_append, in_last}
@@ -115,6 +117,10 @@ ack_apart : (b : Bool) (a : AckValue) (e : End) → (ack_taken b a e).fault ≡ 
 ack_apart true a e is = cc
 ack_apart false a e is = cc
 
+message_apart : (r : Result Bool ReceivedError) (m : List ℕ) (e : End) → (message_judged r m e).fault ≡ Some too_many_pieces → ⊥
+message_apart (Ok first) m e is = cc
+message_apart (Err error) m e is = cc
+
 crowds : (f : FrameValue) (e : End) → (take_frame f e).fault ≡ Some too_many_pieces → Crowds f e
 crowds (stream g) e is = record { frame = g; is = refl; breach = pieces_of (stream_breach e.streams g) is }
 crowds (reset_stream g) e is = absurd (refusal_apart e.streams g.id g.final_size true (pieces_of (reset_breach e.streams g) is))
@@ -126,7 +132,8 @@ crowds (stream_data_blocked g) e is = absurd (blocked_apart (is_own e.streams.si
 crowds (streams_blocked g) e is = absurd (counts_apart (nat_lt most_streams g.count) (pieces_of (streams_blocked_breach g.count) is))
 crowds (new_token t) e is = absurd (server_apart (side_of e) is)
 crowds handshake_done e is = absurd (server_apart (side_of e) is)
-crowds (ack a) e is = absurd (ack_apart (nat_le e.numbers.next a.largest) a e is)
+crowds (datagram m) e is = absurd (message_apart (received_answer e.transport.datagram_receive_buffer_size m e.messages.queues) m e is)
+crowds (ack a) e is = absurd (ack_apart (names_ungiven a e) a e is)
 crowds f e is = cc
 
 -- ---- the frames of a packet up to the one that comes to too many pieces

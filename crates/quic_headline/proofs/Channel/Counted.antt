@@ -1,12 +1,12 @@
 -- What the peer was told of counts, and how many streams it opened, changes only by frames that open a stream or tell a count: all else leaves both.
 use Rattle.std.proofs.Common.{◌≡◌, ℕ, zero, suc, Bool, true, false, not, ◌==◌, List, [], length, take, Option, Some, None, Result, Ok, Err, refl, sym, subst}
-use Rattle.std.specs.Prelude.{nat_le, nat_lt, if◌then◌else◌, ◌&&◌, ◌||◌}
+use Rattle.std.specs.Prelude.{nat_lt, if◌then◌else◌, ◌&&◌, ◌||◌}
 use Rattle.std.specs.Option.{is_some}
 use Rattle.std.proofs.lemmas.Bool.{cond_both}
 use Rattle.quic_wire_core.specs.declared.stream_id.Side.{Side}
 use Rattle.quic_wire_core.specs.declared.stream_id.Dir.{Dir}
 use Rattle.quic_wire_core.specs.StreamId.{dir_of}
-use Rattle.quic_wire.specs.Value.{FrameValue, StopSendingValue, StreamCountValue, ack, stream, reset_stream, stop_sending, max_data, max_stream_data, max_streams}
+use Rattle.quic_wire.specs.Value.{FrameValue, StopSendingValue, StreamCountValue, ack, stream, reset_stream, stop_sending, max_data, max_stream_data, max_streams, datagram}
 use Rattle.quic_assembler.specs.declared.assembler.Chunk.{Chunk}
 use Rattle.quic_send_buffer.specs.declared.stream_meta.StreamMeta.{StreamMeta}
 use Rattle.quic_streams_parts.specs.declared.answers.Breach.{Breach}
@@ -41,15 +41,16 @@ use Rattle.quic_machine.specs.Policy.{Policy}
 use Rattle.quic_machine.specs.Tracking.{dir_named}
 use Rattle.quic_machine.specs.Calls.{is_open}
 use Rattle.quic_machine.specs.StreamCalls.{is_on_streams}
-use Rattle.quic_machine.specs.End.{End, streams_at}
-use Rattle.quic_machine.specs.Receive.{take_frame}
-use Rattle.quic_machine.specs.Poll.{Draft, Polled, composed}
+use Rattle.quic_machine.specs.End.{End, with_closing, streams_at}
+use Rattle.quic_machine.specs.Closing.{ticked}
+use Rattle.quic_machine.specs.Receive.{is_above, names_ungiven, take_frame}
+use Rattle.quic_machine.specs.Poll.{Draft, Polled, composed, lazied}
 use Rattle.quic_machine.specs.Poll as poll
 use Rattle.quic_machine.specs.DraftLaws.{by_writing}
 use Rattle.quic_machine.specs.PollCases.{at_moment, by_poll}
-use Rattle.quic_machine.specs.LeaveCases.{by_expired}
+use Rattle.quic_machine.specs.LeaveCases.{by_expired, by_event}
 use Rattle.quic_machine.specs.CallCases.{is_delivery, by_call}
-use Rattle.quic_machine.specs.FrameCases.{Settling, named, ack_taken, acked_keeps}
+use Rattle.quic_machine.specs.FrameCases.{Settling, named, ack_taken, acked_keeps, losses_keep, message_leaves}
 use Rattle.quic_machine.specs.Machine.{IsAnswer, after_call}
 use Rattle.quic_headline.specs.Runs.{OpensStream}
 use Rattle.quic_headline.proofs.Packets.Entries.{by_first}
@@ -208,6 +209,7 @@ module _ (K : Side → Counts → Counts → Type 0) where
     ping = λ d j. j;
     drops = λ d kind j. j;
     control = λ d kind entry es frame is due j. by_first d.end.waiting.frames (λ (x : Entry). Counted (x.told d.end.streams)) (record { resets = λ r among. j; stops = λ r among. j; all_limits = j; limits = λ id among. j; counts = λ dir. j; all_blocked = j; blocked = λ id among. j }) kind entry es is;
+    message = λ d m ms is fit j. j;
     stream = λ d id h room found first some is counts j. j;
   }) e i
 
@@ -215,34 +217,12 @@ module _ (K : Side → Counts → Counts → Type 0) where
   poll_counts p e now i = by_poll p e now (λ (q : Polled). Counted q.end.streams) (record {
     silent = i;
     failed = i;
-    idle = λ pings. i;
-    used_up = λ pings. i;
-    gives = λ pings tracking timers is may some ready. composed_counts (at_moment e now pings) i;
+    idle = λ t w ready. i;
+    used_up = λ t w ready. i;
+    gives = λ t w tracking timers is may some ready. composed_counts (lazied (at_moment e now t w)) i;
   })
 
-  -- any call but a delivery
-  pub call_counts : (p : Policy) (e : End) (theirs : List (List ℕ)) (call : Call) (a : Answer) → is_delivery call ≡ false → IsAnswer p e theirs call a → Counted e.streams → Counted (after_call p e theirs call a).streams
-  call_counts p e theirs call a apart is i = go (is_on_streams call) refl
-    where
-      nothing : ℕ → Wrote
-      nothing id = record { bytes = []; ended = false; reset = None }
-
-      go : (b : Bool) → is_on_streams call ≡ b → Counted (after_call p e theirs call a).streams
-      go true on =
-          let c = call_on_is p e theirs call a on in
-          subst (λ (s : StreamsState). Counted s) (sym c.leaves) (call_with (λ (done : ℕ → Wrote) (s : StreamsState). Counted s) words (is_open e.closing.state) nothing (streams_at e) i call a (c.answer is))
-      go false off = by_call p e theirs (λ (f : End). Counted f.streams) call a (record {
-        same = i;
-        on_streams = λ on answer. cc;
-        pings = i;
-        heard = λ path same. i;
-        times = λ now acks loss set. by_expired e now (λ (f : End). Counted f.streams) (λ pending tracking timers runs packets. i) acks loss;
-        polls = λ now set. poll_counts p e now i;
-        hears = λ now d set. cc;
-        tells = λ asks. polled_counts e.streams i;
-      })
-
-  -- ---- what comes
+  -- ---- what is acknowledged or lost
 
   lost_counts : (o : Option SendHalf) (s : StreamsState) (m : StreamMeta) → Counted s → Counted (lost_at o s m)
   lost_counts None s m i = i
@@ -265,7 +245,33 @@ module _ (K : Side → Counts → Counts → Type 0) where
     lost = λ m e i. lost_counts (sent_half e.streams m.id) e.streams m i;
     again = λ carried e i. i;
     tracked = λ t e i. i;
+    measured = λ r e i. i;
   }
+
+  -- any call but a delivery
+  pub call_counts : (p : Policy) (e : End) (theirs : List (List ℕ)) (call : Call) (a : Answer) → is_delivery call ≡ false → IsAnswer p e theirs call a → Counted e.streams → Counted (after_call p e theirs call a).streams
+  call_counts p e theirs call a apart is i = go (is_on_streams call) refl
+    where
+      nothing : ℕ → Wrote
+      nothing id = record { bytes = []; ended = false; reset = None }
+
+      go : (b : Bool) → is_on_streams call ≡ b → Counted (after_call p e theirs call a).streams
+      go true on =
+          let c = call_on_is p e theirs call a on in
+          subst (λ (s : StreamsState). Counted s) (sym c.leaves) (call_with (λ (done : ℕ → Wrote) (s : StreamsState). Counted s) words (is_open e.closing.state) nothing (streams_at e) i call a (c.answer is))
+      go false off = by_call p e theirs (λ (f : End). Counted f.streams) call a (record {
+        same = i;
+        on_streams = λ on answer. cc;
+        on_messages = λ on answer. i;
+        pings = i;
+        heard = λ path same. i;
+        times = λ now acks loss set. by_expired e now (λ (f : End). Counted f.streams) (λ pending tracking timers runs packets. i) (λ pending timers runs. losses_keep (λ (x : End). Counted x.streams) settling (with_closing e (ticked e.closing now)) i) acks loss;
+        polls = λ now set. poll_counts p e now i;
+        hears = λ now d set. cc;
+        tells = λ asks. by_event e (λ (f : End). Counted f.streams) i (λ told. polled_counts e.streams i);
+      })
+
+  -- ---- what comes
 
   -- a part has another value
   renewed_counts : (s : StreamsState) (id : ℕ) (old new : RecvHalf) (tells : Bool) → Counted (opened_by s id) → Counted (renewed s id old new tells)
@@ -308,9 +314,10 @@ module _ (K : Side → Counts → Counts → Type 0) where
   frame_counts (max_data limit) e opens tells i = i
   frame_counts (max_stream_data g) e opens tells i = limit_unless_counts (sending_refusal e.streams g.id) e.streams g.id g.limit i (opens g.id refl)
   frame_counts (max_streams g) e opens tells i = tells g refl
-  frame_counts (ack a) e opens tells i = go (nat_le e.numbers.next a.largest)
+  frame_counts (ack a) e opens tells i = go (names_ungiven a e)
     where
       go : (b : Bool) → Counted (ack_taken b a e).end.streams
       go true = i
-      go false = acked_keeps (λ (x : End). Counted x.streams) settling a (named a e) i
+      go false = acked_keeps (λ (x : End). Counted x.streams) settling (is_above e.numbers.largest_acked a.largest) a (named a e) i
+  frame_counts (datagram m) e opens tells i = message_leaves (λ (x : End). Counted x.streams) m e i (λ left. i)
   frame_counts f e opens tells i = i

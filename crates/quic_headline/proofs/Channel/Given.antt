@@ -1,6 +1,6 @@
 -- Frames that an end may give: of streams that it knows, and counts that it keeps; and so they stay, since streams only open and counts only grow.
 use Rattle.std.proofs.Common.{◌≡◌, ℕ, zero, suc, ◌+◌, ◌-◌, ◌≤◌, Bool, true, false, not, List, [], ◌∷◌, ◌++◌, length, replicate, Option, Some, None, refl, sym, ap, ◌∙◌, subst, inl, inr, arith}
-use Rattle.std.specs.Prelude.{if◌then◌else◌, ◌&&◌, ◌||◌, nat_lt}
+use Rattle.std.specs.Prelude.{if◌then◌else◌, ◌&&◌, ◌||◌}
 use Rattle.std.specs.Option.{option_map}
 use Rattle.std.proofs.lemmas.Bool.{and_parts, cond_both}
 use Rattle.quic_wire_core.specs.declared.stream_id.Dir.{Dir}
@@ -8,18 +8,18 @@ use Rattle.quic_wire_core.specs.declared.stream_id.Dir.TheVariants.{Bi, Uni}
 use Rattle.quic_wire_core.specs.declared.stream_id.Side.{Side}
 use Rattle.quic_wire_core.specs.StreamId.{dir_of, index_of}
 use Rattle.quic_packet.specs.Number.{truncated}
-use Rattle.quic_wire.specs.Value.{FrameValue, StopSendingValue, padding, ping, stream, reset_stream, stop_sending, max_data, max_stream_data, max_streams, data_blocked, stream_data_blocked, streams_blocked, new_token, handshake_done}
+use Rattle.quic_wire.specs.Value.{FrameValue, StopSendingValue, padding, ping, stream, datagram, reset_stream, stop_sending, max_data, max_stream_data, max_streams, data_blocked, stream_data_blocked, streams_blocked, new_token, handshake_done}
 use Rattle.quic_wire.specs.FrameView.{is_one_way}
 use Rattle.quic_streams_parts.specs.Dirs.{of, is_own, is_two_way}
 use Rattle.quic_streams_parts.specs.Table.{at}
 use Rattle.quic_streams_parts.specs.SendHalf.{SendHalf, frame_of}
 use Rattle.quic_streams_parts.specs.RecvHalf.{RecvHalf, takes_limits, raised_on}
 use Rattle.quic_streams_halves.specs.Halves.{is_done}
-use Rattle.quic_retransmits.specs.Retransmits.{Retransmits, others_of}
+use Rattle.quic_retransmits.specs.Retransmits.{Retransmits, others_of, merged}
 use Rattle.quic_streams_state.specs.declared.state.StreamsState.{StreamsState}
 use Rattle.quic_streams_state.specs.declared.control.ControlKind.{ControlKind}
 use Rattle.quic_streams_state.specs.declared.control.ControlKind.TheVariants.{StopSending}
-use Rattle.quic_streams_state.specs.State.{Opening, is_opened, is_opened_in, sends_on, receives_on, sending_half, sending_status, receiving_status, one_done, done_if}
+use Rattle.quic_streams_state.specs.State.{Streams, Opening, is_opened, is_opened_in, sends_on, receives_on, sending_half, sending_status, receiving_status, one_done, done_if}
 use Rattle.quic_streams_state.specs.Limits.{raised_count, raised_data, can_send_data_blocked}
 use Rattle.quic_streams_state.specs.Opening.{with_remote}
 use Rattle.quic_streams_state.specs.Waiting.{stream_data_blocked_limit, blocked_limit}
@@ -33,14 +33,14 @@ use Rattle.quic_streams_laws.specs.ShapeLaws.{OpensMore, opened_more, more_own, 
 use Rattle.quic_machine.specs.declared.run.Call.{Call}
 use Rattle.quic_machine.specs.declared.run.Answer.{Answer}
 use Rattle.quic_machine.specs.Policy.{Policy}
-use Rattle.quic_machine.specs.Numbers.{cut_against}
-use Rattle.quic_machine.specs.Closing.{ticked}
-use Rattle.quic_machine.specs.Tracking.{dir_named}
-use Rattle.quic_machine.specs.End.{End, with_closing, with_ping}
+use Rattle.quic_spaces.specs.Numbers.{cut_against}
+use Rattle.quic_machine.specs.Tracking.{TrackedPacket, dir_named}
+use Rattle.quic_headline.proofs.Packets.Probes.{ready_streams, ready_state}
+use Rattle.quic_machine.specs.End.{End, number_of}
 use Rattle.quic_machine.specs.Receive.{take_frame}
-use Rattle.quic_machine.specs.Poll.{Draft, composed}
+use Rattle.quic_machine.specs.Poll.{Draft, composed, lazied}
 use Rattle.quic_machine.specs.DraftLaws.{by_writing}
-use Rattle.quic_machine.specs.PollCases.{ready_at, frames_at}
+use Rattle.quic_machine.specs.PollCases.{ready_at, draft_at, frames_at}
 use Rattle.quic_machine.specs.FrameCases.{passed, frames_keep}
 use Rattle.quic_machine.specs.CallCases.{is_delivery}
 use Rattle.quic_machine.specs.Machine.{IsAnswer, after_call}
@@ -287,8 +287,9 @@ module _ (s : StreamsState) where
           stops = fewer_stops (entry.told d.end.streams) kind d.end.waiting.frames t.2;
           frames = more_given d.frames f g.frames (given_grows d.end.streams s g.back f (entry_may d.end.streams g.shape kind d.end.waiting.frames entry es f is g.stops due));
         });
+    message = λ d m ms is fit g. record { shape = g.shape; back = g.back; stops = g.stops; frames = more_given d.frames (datagram m) g.frames tt };
     stream = λ d id h room found first some is counts g. record {
-      shape = by_frame IsShaped shape_any d.end.fair d.end.streams id room h found tt g.shape;
+      shape = by_frame IsShaped shape_any d.end.transport.send_fairness d.end.streams id room h found tt g.shape;
       back = g.back;
       stops = g.stops;
       frames = more_given d.frames (stream (frame_of id h room)) g.frames (given_grows d.end.streams s g.back (stream (frame_of id h room)) (live_sends d.end.streams g.shape id h found));
@@ -303,15 +304,25 @@ module _ (s : StreamsState) where
       zeros (suc n) (inl is) = subst (Given s) (sym is) tt
       zeros (suc n) (inr i) = zeros n i
 
--- the frames that an end gives at a moment
-pub polled_given : (e : End) (now : ℕ) → IsShaped e.streams → StopsHold e.streams e.waiting.frames → (f : FrameValue) → In f (frames_at e now) → Given e.streams f
-polled_given e now shape stops =
-    let d : Draft = composed (ready_at e now) in
-    padded_given e.streams d.frames (4 - ((truncated d.end.numbers.next (cut_against d.end.numbers)).width + length d.bytes)) (composed_goes e.streams (ready_at e now) (ready (nat_lt 0 e.tracking.probes))).frames
+-- the frames that an end gives at a moment, if what its tracked packets carried stops only such streams
+pub polled_given : (e : End) (now : ℕ) → IsShaped e.streams → StopsHold e.streams e.waiting.frames → ((n : ℕ) (t : TrackedPacket) → In (n, t) e.tracking.packets → StopsHold e.streams t.carried.retransmits) → (f : FrameValue) → In f (frames_at e now) → Given e.streams f
+polled_given e now shape stops carried =
+    let d : Draft = draft_at e now in
+    padded_given e.streams d.frames (4 - ((truncated (number_of d.end) (cut_against d.end.numbers)).width + length d.bytes)) (composed_goes e.streams (lazied (ready_at e now)) ready).frames
   where
-    after : End
-    after = with_closing e (ticked e.closing now)
+    -- what waits, with what a packet carried
+    more : (n : ℕ) (t : TrackedPacket) → In (n, t) e.tracking.packets → StopsHold e.streams (merged e.waiting.frames t.carried.retransmits)
+    more n t among r i = elim (in_append r e.waiting.frames.stop_sending t.carried.retransmits.stop_sending i) [ inl old ↦ stops r old | inr new ↦ carried n t among r new ]
 
-    ready : (b : Bool) → Goes e.streams (record { frames = []; bytes = []; end = (if b then with_ping after true else after) })
-    ready true = record { shape = shape; back = grown_same e.streams; stops = stops; frames = λ f i. absurd i }
-    ready false = record { shape = shape; back = grown_same e.streams; stops = stops; frames = λ f i. absurd i }
+    held : StopsHold e.streams (ready_at e now).waiting.frames
+    held = ready_streams (λ (t : Streams). StopsHold e.streams t.pending) e now stops more
+
+    ready : Goes e.streams (record { frames = []; bytes = []; end = lazied (ready_at e now) })
+    ready =
+        let same : (ready_at e now).streams ≡ e.streams = ready_state e now in
+        record {
+          shape = subst IsShaped (sym same) shape;
+          back = subst (λ (t : StreamsState). Grown t e.streams) (sym same) (grown_same e.streams);
+          stops = subst (λ (t : StreamsState). StopsHold t (ready_at e now).waiting.frames) (sym same) held;
+          frames = λ f i. absurd i;
+        }

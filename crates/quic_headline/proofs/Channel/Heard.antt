@@ -1,11 +1,11 @@
 -- What an end heard of how far it may come, on all streams and on each, its peer lets it come: it sends no further than that (RFC 9000, sections 4.1, 19.9 and 19.10).
-use Rattle.std.proofs.Common.{◌≡◌, ℕ, ◌≤◌, Bool, true, false, not, nat_le, List, [], ◌++◌, length, Some, None, refl, sym, ap, ◌∙◌, subst, ◌⊎◌, inl, inr, arith}
+use Rattle.std.proofs.Common.{◌≡◌, ℕ, ◌≤◌, Bool, true, false, not, List, [], ◌++◌, length, Some, None, refl, sym, ap, ◌∙◌, subst, ◌⊎◌, inl, inr, arith}
 use Rattle.std.specs.Prelude.{◌&&◌, ◌||◌}
 use Rattle.std.specs.Option.{IsSome}
 use Rattle.std.proofs.lemmas.Bool.{cond_both}
 use Rattle.std.proofs.lemmas.List.{append-nil}
 use Rattle.quic_wire_core.specs.StreamId.{dir_of}
-use Rattle.quic_wire.specs.Value.{FrameValue, ack, stream, reset_stream, stop_sending, max_data, max_stream_data, max_streams}
+use Rattle.quic_wire.specs.Value.{FrameValue, ack, stream, reset_stream, stop_sending, max_data, max_stream_data, max_streams, datagram}
 use Rattle.quic_send_buffer.specs.Buffered.{written}
 use Rattle.quic_streams_parts.specs.Dirs.{is_own, is_two_way}
 use Rattle.quic_streams_parts.specs.Table.{at}
@@ -27,13 +27,14 @@ use Rattle.quic_machine.specs.Policy.{Policy}
 use Rattle.quic_machine.specs.Tracking.{dir_named}
 use Rattle.quic_machine.specs.Calls.{is_open}
 use Rattle.quic_machine.specs.StreamCalls.{is_on_streams}
-use Rattle.quic_machine.specs.End.{End, streams_at}
-use Rattle.quic_machine.specs.Receive.{take_frame}
-use Rattle.quic_machine.specs.Poll.{Draft, Polled, composed, polled}
+use Rattle.quic_machine.specs.End.{End, with_closing, streams_at}
+use Rattle.quic_machine.specs.Closing.{ticked}
+use Rattle.quic_machine.specs.Receive.{is_above, names_ungiven, take_frame}
+use Rattle.quic_machine.specs.Poll.{Draft, Polled, composed, lazied, polled}
 use Rattle.quic_machine.specs.DraftLaws.{by_writing}
 use Rattle.quic_machine.specs.PollCases.{at_moment, by_poll}
-use Rattle.quic_machine.specs.FrameCases.{Settling, acked_keeps, named, ack_taken, passed, frames_leave}
-use Rattle.quic_machine.specs.LeaveCases.{by_expired}
+use Rattle.quic_machine.specs.FrameCases.{Settling, acked_keeps, losses_keep, named, ack_taken, message_leaves, passed, frames_leave}
+use Rattle.quic_machine.specs.LeaveCases.{by_expired, by_event}
 use Rattle.quic_machine.specs.CallCases.{is_delivery, by_call}
 use Rattle.quic_machine.specs.Machine.{IsAnswer, after_call}
 use Rattle.quic_headline.specs.Runs.{In, written_by, first_of}
@@ -138,17 +139,30 @@ module _ (t : StreamsState) where
       all_blocked = j;
       blocked = λ id among. j;
     }) kind entry es is;
-    stream = λ d id h room found first some is counts j. by_frame (Heard t) heard_kept d.end.fair d.end.streams id room h found (λ a. a) j;
+    message = λ d m ms is fit j. j;
+    stream = λ d id h room found first some is counts j. by_frame (Heard t) heard_kept d.end.transport.send_fairness d.end.streams id room h found (λ a. a) j;
   }) e i
 
   poll_heard : (p : Policy) (e : End) (now : ℕ) → Heard t e.streams → Heard t (polled p e now).end.streams
   poll_heard p e now i = by_poll p e now (λ (q : Polled). Heard t q.end.streams) (record {
     silent = i;
     failed = i;
-    idle = λ pings. i;
-    used_up = λ pings. i;
-    gives = λ pings tracking timers is may some ready. composed_heard (at_moment e now pings) i;
+    idle = λ t w ready. i;
+    used_up = λ t w ready. i;
+    gives = λ t w tracking timers is may some ready. composed_heard (lazied (at_moment e now t w)) i;
   })
+
+  -- packets that are acknowledged or lost
+  settles : Settling (λ (e : End). Heard t e.streams)
+  settles = record {
+    known = λ n e i. i;
+    reset = λ id e i. by_reset_acked_where (Heard t) heard_kept e.streams e.waiting.frames id (λ h is reset. inl reset) i;
+    acked = λ m e i. by_stream_acked_where (Heard t) heard_kept e.streams e.waiting.frames m (λ h is none a. a) (λ h is none all. tt) (λ h all. inr all) i;
+    lost = λ m e i. by_stream_lost (Heard t) heard_kept e.streams m (λ h is none a. a) i;
+    again = λ carried e i. i;
+    tracked = λ u e i. i;
+    measured = λ r e i. i;
+  }
 
   -- any call but a delivery
   pub call_heard : (p : Policy) (wrote : ℕ → Wrote) (e : End) (theirs : List (List ℕ)) (call : Call) (a : Answer) → is_delivery call ≡ false → IsAnswer p e theirs call a → HoldsWritten wrote e.streams → Heard t e.streams → Heard t (after_call p e theirs call a).streams
@@ -161,25 +175,16 @@ module _ (t : StreamsState) where
       go false off = by_call p e theirs (λ (f : End). Heard t f.streams) call a (record {
         same = i;
         on_streams = λ on answer. cc;
+        on_messages = λ on answer. i;
         pings = i;
         heard = λ path same. i;
-        times = λ now acks loss set. by_expired e now (λ (f : End). Heard t f.streams) (λ pending tracking timers runs packets. i) acks loss;
+        times = λ now acks loss set. by_expired e now (λ (f : End). Heard t f.streams) (λ pending tracking timers runs packets. i) (λ pending timers runs. losses_keep (λ (x : End). Heard t x.streams) settles (with_closing e (ticked e.closing now)) i) acks loss;
         polls = λ now set. poll_heard p e now i;
         hears = λ now d set. cc;
-        tells = λ asks. by_polled (Heard t) heard_kept e.streams i;
+        tells = λ asks. by_event e (λ (f : End). Heard t f.streams) i (λ told. by_polled (Heard t) heard_kept e.streams i);
       })
 
   -- ---- frames
-
-  settles : Settling (λ (e : End). Heard t e.streams)
-  settles = record {
-    known = λ n e i. i;
-    reset = λ id e i. by_reset_acked_where (Heard t) heard_kept e.streams e.waiting.frames id (λ h is reset. inl reset) i;
-    acked = λ m e i. by_stream_acked_where (Heard t) heard_kept e.streams e.waiting.frames m (λ h is none a. a) (λ h is none all. tt) (λ h all. inr all) i;
-    lost = λ m e i. by_stream_lost (Heard t) heard_kept e.streams m (λ h is none a. a) i;
-    again = λ carried e i. i;
-    tracked = λ u e i. i;
-  }
 
   -- a frame that tells no more than the other holds
   frame_heard : (f : FrameValue) (e : End) → IsTold t f → Heard t e.streams → Heard t (take_frame f e).end.streams
@@ -189,11 +194,12 @@ module _ (t : StreamsState) where
   frame_heard (max_data limit) e told i = let was = i.all in by_max_data_where (Heard t) heard_kept e.streams limit ((omega arith), (omega arith)) i
   frame_heard (max_stream_data g) e told i = by_max_stream_data (Heard t) heard_kept e.streams g.id g.limit (λ h a above is. told) i
   frame_heard (max_streams g) e told i = by_max_streams (Heard t) heard_kept (dir_named g.one_way) g.count e.streams i
-  frame_heard (ack a) e told i = acked (nat_le e.numbers.next a.largest)
+  frame_heard (ack a) e told i = acked (names_ungiven a e)
     where
       acked : (b : Bool) → Heard t (ack_taken b a e).end.streams
       acked true = i
-      acked false = acked_keeps (λ (x : End). Heard t x.streams) settles a (named a e) i
+      acked false = acked_keeps (λ (x : End). Heard t x.streams) settles (is_above e.numbers.largest_acked a.largest) a (named a e) i
+  frame_heard (datagram m) e told i = message_leaves (λ (x : End). Heard t x.streams) m e i (λ left. i)
   frame_heard other e told i = i
 
   -- and several

@@ -18,7 +18,7 @@ use Rattle.quic_headline.specs.Runs.{Packet, Intake, In}
 use Rattle.quic_headline.specs.Observer.{Sent}
 use Rattle.quic_headline.proofs.Packets.Growth.{in_more}
 use Rattle.quic_headline.proofs.Packets.Delivered.{Arrivals, arrived}
-use Rattle.quic_headline.proofs.Packets.Named.{TakesOn, frames_settle}
+use Rattle.quic_headline.proofs.Packets.Named.{TakesOn, frames_settle, tracked_carried}
 use Rattle.quic_headline.proofs.Packets.Group.{PacketsHold, meets}
 use Rattle.quic_headline.proofs.Places.Coming.{by_coming}
 use Rattle.quic_headline.proofs.Places.Groups.{Way, Calls, Group}
@@ -26,7 +26,7 @@ use Rattle.quic_headline.proofs.Places.Parties.{sent_by, sent_if, sents_by, Part
 use Rattle.quic_headline.proofs.Halves.Wrote.{wrote}
 use Rattle.quic_headline.proofs.Halves.QuietSteps.{sent_within}
 use Rattle.quic_headline.proofs.Channel.Given.{Grown, grown_same, call_grows, frames_grow, Receives, receives_grow, Given, given_grows, StopsHold, polled_given}
-use Rattle.quic_headline.proofs.Channel.Stops.{StopsOf, call_stops, frame_stops, settles_stops}
+use Rattle.quic_headline.proofs.Channel.Stops.{StopsOf, from_stops, TrackedStops, call_stops, frame_stops, settles_stops}
 
 -- x gives
 pub record NamesHold (x y : Party) : Type 0 where
@@ -74,6 +74,12 @@ module _ (B : Way) (rests : RestsOn B) (x y : Party) (call : Call) (a : Answer) 
     sent_known : (s : Sent) → In s x.sents → (g : StopSendingValue) → In (stop_sending g) s.frames → Known g.id
     sent_known s i g j = given_grows x.end.streams t grows_behind (stop_sending g) (n.given s i (stop_sending g) j)
 
+    -- and so was what is tracked
+    tracked_stops : (Q : ℕ → Type 0) → ((s : Sent) → In s x.sents → (g : StopSendingValue) → In (stop_sending g) s.frames → Q g.id) → TrackedStops Q x.end.tracking.packets
+    tracked_stops Q sent k t among =
+        let was = tracked_carried x.sents x.end.tracking.packets (rests.packets x y c.gives).tracked k t among in
+        from_stops Q t.carried was.sent.frames was.is (sent was.sent was.among)
+
     arrivals_stop : (now : ℕ) (s : Sent) → In s y.sents → Arrivals x.end now s.number s.frames (came_to x y) (λ (o : Outcome) (i : Intake). StopsOf Known o.end.waiting.frames)
     arrivals_stop now s among = record {
       ignored = λ reason. stops_before;
@@ -92,7 +98,7 @@ module _ (B : Way) (rests : RestsOn B) (x y : Party) (call : Call) (a : Answer) 
         back = rests.packets y x c.takes
 
         takes_on : TakesOn took x.sents s.frames (λ (e : End). StopsOf Known e.waiting.frames)
-        takes_on = record { settles = settles_stops Known took x.sents sent_known; names = λ a e i j. j; on_streams = λ f e i on j. frame_stops Known f e on j }
+        takes_on = record { settles = settles_stops Known took x.sents sent_known; names = λ a e i j. j; on_streams = λ f e i on j. frame_stops Known f e on j; message = λ m e j. j }
 
         passed_stops : StopsOf Known (arrived x.end now s.number s.frames).end.waiting.frames
         passed_stops = frames_settle took x.sents (record { taken = p.taken; rising = p.gives.rising }) s.frames (λ (e : End). StopsOf Known e.waiting.frames) takes_on (begun x.end now s.number)
@@ -100,7 +106,7 @@ module _ (B : Way) (rests : RestsOn B) (x y : Party) (call : Call) (a : Answer) 
 
     stops_behind : StopsOf Known (called x y.given call a).end.waiting.frames
     stops_behind = by_coming x y a c.joined c.served (meets y x (rests.packets y x c.takes)) (λ (e : End) (i : Intake). StopsOf Known e.waiting.frames) call c.answer (record {
-      apart = λ apart. call_stops Known x.policy x.end y.given call a apart stopped_known stops_before;
+      apart = λ apart. call_stops Known x.policy x.end y.given call a apart stopped_known (λ n t among. tracked_stops Known sent_known n t among) stops_before;
       none = λ delivery is. stops_before;
       comes = λ delivery is s among. arrivals_stop delivery.now s among;
     })
@@ -112,7 +118,7 @@ module _ (B : Way) (rests : RestsOn B) (x y : Party) (call : Call) (a : Answer) 
     more_given : (b : Bool) (now : ℕ) (s : Sent) → In s (x.sents ++ sent_if b (sent_by x.end now)) → (f : FrameValue) → In f s.frames → Given t f
     more_given true now s i f j = elim (in_more s (sent_by x.end now) x.sents i) [
       | inl old ↦ old_given s old f j
-      | inr new ↦ given_grows x.end.streams t grows_behind f (polled_given x.end now written.shape n.stops f (subst (λ (u : Sent). In f u.frames) new j))
+      | inr new ↦ given_grows x.end.streams t grows_behind f (polled_given x.end now written.shape n.stops (λ k t among. tracked_stops (λ id. Receives x.end.streams id) (λ u i g j. n.given u i (stop_sending g) j) k t among) f (subst (λ (u : Sent). In f u.frames) new j))
     ]
     more_given false now s i f j = old_given s (subst (In s) (append-nil x.sents) i) f j
 

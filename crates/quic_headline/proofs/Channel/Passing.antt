@@ -1,16 +1,18 @@
 -- A frame passes at an end that breaks no rule there but that of pieces: by rules of ids and counts, by those of limits and sizes, and by those apart from streams.
-use Rattle.std.proofs.Common.{◌≡◌, ℕ, Bool, true, false, List, [], ◌∷◌, map, Option, Some, None, Ok, refl, sym, ap, ◌∙◌, inl, inr}
-use Rattle.std.specs.Prelude.{nat_le, if◌then◌else◌}
-use Rattle.quic_wire.specs.Value.{FrameValue, StreamValue, ack, stream, reset_stream, stop_sending, max_data, max_stream_data, max_streams, stream_data_blocked, streams_blocked, new_token, handshake_done}
+use Rattle.std.proofs.Common.{◌≡◌, ℕ, Bool, true, false, List, [], ◌∷◌, length, ◌==◌, map, Option, Some, None, Ok, Err, refl, sym, ap, ◌∙◌, inl, inr}
+use Rattle.std.specs.Prelude.{if◌then◌else◌}
+use Rattle.quic_wire.specs.Value.{FrameValue, StreamValue, ack, stream, reset_stream, stop_sending, max_data, max_stream_data, max_streams, stream_data_blocked, streams_blocked, new_token, handshake_done, datagram}
 use Rattle.quic_streams_parts.specs.declared.answers.Breach.{Breach}
 use Rattle.quic_streams_parts.specs.declared.answers.Breach.TheVariants.{Pieces}
 use Rattle.quic_streams_parts.specs.RecvHalf.{RecvHalf, end_of, after_frame, has_too_many}
 use Rattle.quic_streams_state.specs.declared.state.StreamsState.{StreamsState}
 use Rattle.quic_streams_state.specs.Opening.{receiving_refusal, sending_refusal, max_streams_breach}
 use Rattle.quic_streams_state.specs.Taking.{part_for, breach_at, breach_behind, refusal, too_many_at, breach_kept, reset_breach, stream_data_blocked_breach, streams_blocked_breach}
+use Rattle.quic_messages.specs.declared.errors.ReceivedError.TheVariants as received_errors
+use Rattle.quic_messages.specs.Messages.{is_taken}
 use Rattle.quic_machine.specs.declared.answers.State.TheVariants as states
 use Rattle.quic_machine.specs.End.{End, side_of}
-use Rattle.quic_machine.specs.Receive.{Fault, too_many_pieces, fault_of, fault_at, take_frame, unless_fault, take_items}
+use Rattle.quic_machine.specs.Receive.{Fault, too_many_pieces, fault_of, fault_at, names_ungiven, message_judged, take_frame, unless_fault, take_items}
 use Rattle.quic_machine.specs.FrameCases.{passed, ack_taken}
 use Rattle.quic_headline.specs.Runs.{In}
 use Rattle.quic_headline.specs.Observer.{Sent}
@@ -37,9 +39,11 @@ SizesPass s (stream f) = breach_at (part_for s f.id) s.receiving (end_of f) f.fi
 SizesPass s (reset_stream f) = breach_at (part_for s f.id) s.receiving f.final_size true ≡ None
 SizesPass s f = Unit {0}
 
--- those apart from streams: ACK names no number that wasn't given, and no server gets what only servers send
+-- those apart from streams: ACK names no number that wasn't given, and not the one that was left out last, no server gets what only servers send, and a
+-- message is one that the end takes
 abbrev pub PlainPass : End → FrameValue → Type 0
-PlainPass e (ack a) = nat_le e.numbers.next a.largest ≡ false
+PlainPass e (ack a) = names_ungiven a e ≡ false
+PlainPass e (datagram m) = is_taken e.transport.datagram_receive_buffer_size m ≡ true
 PlainPass e (new_token t) = fault_at (side_of e) ≡ None
 PlainPass e handshake_done = fault_at (side_of e) ≡ None
 PlainPass e f = Unit {0}
@@ -76,6 +80,8 @@ frame_passes (max_stream_data f) e ids sizes plain fault is = nothing_broken (se
 frame_passes (max_streams f) e ids sizes plain fault is = nothing_broken (max_streams_breach f.count) ids fault is
 frame_passes (stream_data_blocked f) e ids sizes plain fault is = nothing_broken (stream_data_blocked_breach e.streams f.id) ids fault is
 frame_passes (streams_blocked f) e ids sizes plain fault is = nothing_broken (streams_blocked_breach f.count) ids fault is
+frame_passes (datagram m) e ids sizes plain fault is =
+    let clash : None ≡ Some fault = sym (ap (λ (b : Bool). (message_judged (if b then Ok (length e.messages.queues.incoming == 0) else Err received_errors.Breach) m e).fault) plain) ∙ is in cc
 frame_passes (new_token t) e ids sizes plain fault is = let clash : None ≡ Some fault = sym plain ∙ is in cc
 frame_passes handshake_done e ids sizes plain fault is = let clash : None ≡ Some fault = sym plain ∙ is in cc
 frame_passes (ack a) e ids sizes plain fault is = let clash : None ≡ Some fault = sym (ap (λ (b : Bool). (ack_taken b a e).fault) plain) ∙ is in cc

@@ -1,50 +1,34 @@
--- Frames apart from streams pass: an end acknowledges only numbers that were given, and gives none that only servers send.
-use Rattle.std.proofs.Common.{◌≡◌, ℕ, ◌<◌, Bool, true, false, List, [], ◌∷◌, Option, Some, None, refl, ap, inl, inr, arith}
-use Rattle.std.specs.Prelude.{◌&&◌, nat_le}
+-- Frames apart from streams pass: an end acknowledges only numbers that were given, gives none that only servers send, and sends messages that the other takes.
+use Rattle.std.proofs.Common.{◌≡◌, ℕ, ◌<◌, Bool, true, false, List, [], ◌∷◌, Option, Some, None, refl, sym, ap, ◌∙◌, subst, arith}
+use Rattle.std.specs.Prelude.{nat_le}
 use Rattle.std.specs.List.{list_any}
-use Rattle.std.proofs.lemmas.Bool.{leb-true, le-leb}
-use Rattle.quic_wire.specs.Value.{FrameValue, AckValue, ack, new_token, handshake_done}
-use Rattle.quic_wire.specs.Grammar.{Payload}
-use Rattle.quic_wire.specs.AckGrammar.{GoDown}
-use Rattle.quic_machine.specs.Numbers.{Numbers}
+use Rattle.std.proofs.lemmas.Bool.{leb-true, or_from}
+use Rattle.quic_wire.specs.Value.{FrameValue, AckValue, ack, new_token, handshake_done, datagram}
+use Rattle.quic_config.specs.Transport.{TransportSettings}
+use Rattle.quic_messages.specs.Messages.{is_taken}
+use Rattle.quic_spaces.specs.Numbers.{Numbers}
+use Rattle.quic_spaces.specs.Filter.{Filter, names_skipped}
 use Rattle.quic_machine.specs.End.{End}
 use Rattle.quic_machine.specs.Receive.{Fault, take_frame, unless_fault, take_items}
-use Rattle.quic_headline.specs.Runs.{In}
+use Rattle.quic_headline.specs.Runs.{In, names}
 use Rattle.quic_headline.specs.Observer.{Sent}
-use Rattle.quic_headline.proofs.Packets.Invariant.{IsSent}
+use Rattle.quic_headline.proofs.Packets.Invariant.{IsSent, IsLeftOut}
 use Rattle.quic_headline.proofs.Packets.Growth.{step_of}
 use Rattle.quic_headline.proofs.Packets.Stays.{keeps_frames}
+use Rattle.quic_headline.proofs.Packets.Naming.{greatest_named}
 use Rattle.quic_headline.proofs.Packets.Group.{PacketsHold}
 use Rattle.quic_headline.proofs.Places.Parties.{Party}
 use Rattle.quic_headline.proofs.Channel.Passing.{PlainPass}
 use Rattle.quic_headline.proofs.Channel.Given.{Given}
+use Rattle.quic_headline.proofs.Channel.Messages.{MessagesFit}
 
 -- ---- ACK
 
--- the ranges of each ACK frame of a payload go down from its greatest number
-acks_go_down : (fs : List FrameValue) (payload : List ℕ) (a : AckValue) → Payload fs payload → In (ack a) fs → GoDown a.largest a.ranges
-acks_go_down [] payload a spells i = absurd i
-acks_go_down (f ∷ fs) payload a spells (inl is) = here f is spells
-  where
-    here : (f : FrameValue) → ack a ≡ f → Payload (f ∷ fs) payload → GoDown a.largest a.ranges
-    here (ack b) is spells = let same : a ≡ b = cc in rw same spells.2.0
-    here f is spells = cc
-acks_go_down (f ∷ fs) payload a spells (inr i) = acks_go_down fs spells.1 a spells.3 i
-
--- so the greatest is named
-greatest_named : (a : AckValue) (ranges : List (ℕ × ℕ)) → GoDown a.largest ranges → list_any (λ r. nat_le r.0 a.largest && nat_le a.largest r.1) ranges ≡ true
-greatest_named a [] down = absurd down
-greatest_named a (r ∷ rs) down =
-    let top = down.1 in
-    let low : nat_le r.0 a.largest ≡ true = le-leb r.0 a.largest (let order = down.0 in omega arith) in
-    let high : nat_le a.largest r.1 ≡ true = le-leb a.largest r.1 (omega arith) in
-    rw (low, high) refl
-
--- and was given by the end to which the frame comes
+-- the greatest number of an ACK frame was given by the end to which the frame comes
 ack_given : (x y : Party) → PacketsHold x y → PacketsHold y x → (s : Sent) → In s x.sents → (a : AckValue) → In (ack a) s.frames → a.largest < y.end.numbers.next
 ack_given x y p back s among a i =
     let spelled = (step_of (IsSent x.policy y.id) x.sents x.given s p.gives.each among).1 in
-    let was = p.named s a a.largest among i (greatest_named a a.ranges (acks_go_down s.frames spelled.payload a spelled.spells i)) in
+    let was = p.named s a a.largest among i (greatest_named s.frames spelled.payload a spelled.spells i) in
     let found = back.taken was.packet was.was_taken in
     let below = back.gives.below found.sent found.is.0 in
     let number = found.is.1 in
@@ -58,19 +42,57 @@ not_below n k less = go (nat_le n k) refl
     go true is = let up = leb-true n k is in absurd (omega arith)
     go false is = refl
 
+-- none of these ranges has a number that isn't there
+none_skipped : (ranges : List (ℕ × ℕ)) → list_any (λ r. names_skipped None r.0 r.1) ranges ≡ false
+none_skipped [] = refl
+none_skipped (r ∷ ranges) = none_skipped ranges
+
+-- nor the one that was left out last: it was never given
+left_unnamed : (x y : Party) → PacketsHold x y → PacketsHold y x → (s : Sent) → In s x.sents → (a : AckValue) → In (ack a) s.frames → (o : Option ℕ) → IsLeftOut o y.end.numbers.next y.sents → list_any (λ r. names_skipped o r.0 r.1) a.ranges ≡ false
+left_unnamed x y p back s among a i None out = none_skipped a.ranges
+left_unnamed x y p back s among a i (Some n) out = go (names a n) refl
+  where
+    go : (b : Bool) → names a n ≡ b → b ≡ false
+    go false named = refl
+    go true named =
+        let was = p.named s a n among i named in
+        let found = back.taken was.packet was.was_taken in
+        absurd (out.1 found.sent found.is.0 (found.is.1 ∙ was.is))
+
 -- ---- all
 
--- at an end that gave as many packets as y
-pub plain_pass : (x y : Party) → PacketsHold x y → PacketsHold y x → (s : Sent) → In s x.sents → (f : FrameValue) → In f s.frames → Given x.end.streams f → (e : End) → e.numbers.next ≡ y.end.numbers.next → PlainPass e f
-plain_pass x y p back s among (ack a) i given e same = let below = ack_given x y p back s among a i in not_below e.numbers.next a.largest (omega arith)
-plain_pass x y p back s among (new_token t) i given e same = absurd given
-plain_pass x y p back s among handshake_done i given e same = absurd given
-plain_pass x y p back s among f i given e same = tt
+-- at an end that gave as many packets as y, left out the same last, and takes the same messages
+pub plain_pass : (x y : Party) → PacketsHold x y → PacketsHold y x → (s : Sent) → In s x.sents → (f : FrameValue) → In f s.frames → Given x.end.streams f → MessagesFit x y → (e : End) → e.numbers.next ≡ y.end.numbers.next → e.filter.last ≡ y.end.filter.last
+    → e.transport ≡ y.end.transport → PlainPass e f
+plain_pass x y p back s among (ack a) i given fits e same skipped takes =
+    let below = ack_given x y p back s among a i in
+    or_from (nat_le e.numbers.next a.largest) (list_any (λ r. names_skipped e.filter.last r.0 r.1) a.ranges) (not_below e.numbers.next a.largest (omega arith))
+    (ap (λ (o : Option ℕ). list_any (λ r. names_skipped o r.0 r.1) a.ranges) skipped ∙ left_unnamed x y p back s among a i y.end.filter.last back.gives.left_out)
+plain_pass x y p back s among (new_token t) i given fits e same skipped takes = absurd given
+plain_pass x y p back s among handshake_done i given fits e same skipped takes = absurd given
+plain_pass x y p back s among (datagram m) i given fits e same skipped takes = subst (λ (t : TransportSettings). is_taken t.datagram_receive_buffer_size m ≡ true) (sym takes) (fits.sent s among m i)
+plain_pass x y p back s among f i given fits e same skipped takes = tt
 
 -- a frame leaves how many packets its end gave
 pub frame_next : (f : FrameValue) (e : End) → (take_frame f e).end.numbers.next ≡ e.numbers.next
 frame_next f e = go (take_frame f e).fault (ap (λ (n : Numbers). n.next) (keeps_frames (f ∷ []) e).numbers)
   where
     go : (o : Option Fault) → (unless_fault o (take_frame f e) (take_items [])).end.numbers.next ≡ e.numbers.next → (take_frame f e).end.numbers.next ≡ e.numbers.next
+    go None is = is
+    go (Some fault) is = is
+
+-- and which was left out last
+pub frame_skipped : (f : FrameValue) (e : End) → (take_frame f e).end.filter.last ≡ e.filter.last
+frame_skipped f e = go (take_frame f e).fault (ap (λ (x : Filter). x.last) (keeps_frames (f ∷ []) e).filter)
+  where
+    go : (o : Option Fault) → (unless_fault o (take_frame f e) (take_items [])).end.filter.last ≡ e.filter.last → (take_frame f e).end.filter.last ≡ e.filter.last
+    go None is = is
+    go (Some fault) is = is
+
+-- and how it was set
+pub frame_transport : (f : FrameValue) (e : End) → (take_frame f e).end.transport ≡ e.transport
+frame_transport f e = go (take_frame f e).fault (keeps_frames (f ∷ []) e).transport
+  where
+    go : (o : Option Fault) → (unless_fault o (take_frame f e) (take_items [])).end.transport ≡ e.transport → (take_frame f e).end.transport ≡ e.transport
     go None is = is
     go (Some fault) is = is

@@ -12,7 +12,8 @@ use Rattle.quic_streams_parts.specs.declared.answers.ClosedStream.{ClosedStream}
 use Rattle.quic_streams_parts.specs.declared.answers.Written.{Written}
 use Rattle.quic_streams_parts.specs.SendHalf.{SendHalf, is_acked, half_acked}
 use Rattle.quic_streams_parts.specs.RecvHalf.{RecvHalf, end_of}
-use Rattle.quic_retransmits.specs.Retransmits.{Retransmits, nothing_waits}
+use Rattle.quic_retransmits.specs.Retransmits.{Retransmits, nothing_waits, merged}
+use Rattle.quic_streams_parts.specs.Table.{Table}
 use Rattle.quic_streams_state.specs.declared.state.StreamsState.{StreamsState}
 use Rattle.quic_streams_state.specs.State.{Streams, streams_of, room, sending_half, receiving_half, send_done}
 use Rattle.quic_streams_state.specs.Limits.{settled, with_stream_if, stream_grew}
@@ -28,14 +29,16 @@ use Rattle.quic_machine.specs.declared.run.Call.TheVariants as calls
 use Rattle.quic_machine.specs.declared.run.Answer.{Answer}
 use Rattle.quic_machine.specs.declared.run.Answer.TheVariants as answers
 use Rattle.quic_machine.specs.Policy.{Policy}
-use Rattle.quic_machine.specs.Tracking.{Carried, and_again, carried_in}
+use Rattle.quic_machine.specs.Tracking.{Carried, TrackedPacket, and_again, carried_in}
 use Rattle.quic_machine.specs.Calls.{is_open, after_nexts}
 use Rattle.quic_machine.specs.StreamCalls.{if_ok, after_on_streams}
 use Rattle.quic_machine.specs.End.{End, streams_at}
 use Rattle.quic_machine.specs.Receive.{take_frame}
-use Rattle.quic_machine.specs.Poll.{Draft, Polled, composed, polled}
+use Rattle.quic_machine.specs.Poll.{Draft, composed}
 use Rattle.quic_machine.specs.DraftLaws.{by_writing}
-use Rattle.quic_machine.specs.PollCases.{at_moment, by_poll}
+use Rattle.quic_headline.proofs.Packets.Invariant.{IsCarriedFrom}
+use Rattle.quic_headline.proofs.Packets.Losses.{Losing, expiry_stays, ready_stays}
+use Rattle.quic_headline.proofs.Packets.Probes.{poll_streams}
 use Rattle.quic_machine.specs.LeaveCases.{by_expired, by_event}
 use Rattle.quic_machine.specs.CallCases.{is_delivery, by_call}
 use Rattle.quic_machine.specs.Machine.{after_call}
@@ -64,6 +67,11 @@ fold_stops Q (f ∷ fs) r all before = fold_stops Q fs (and_again r f) (λ g i. 
 
 pub carried_stops : (Q : ℕ → Type 0) (fs : List FrameValue) → ((g : StopSendingValue) → In (stop_sending g) fs → Q g.id) → StopsOf Q (carried_in fs).retransmits
 carried_stops Q fs all = fold_stops Q fs nothing_waits all (λ r i. absurd i)
+
+-- or all but what has to be sent again
+pub from_stops : (Q : ℕ → Type 0) (c : Carried) (fs : List FrameValue) → IsCarriedFrom c fs → ((g : StopSendingValue) → In (stop_sending g) fs → Q g.id) → StopsOf Q c.retransmits
+from_stops Q c fs (inl is) all = subst (λ (x : Carried). StopsOf Q x.retransmits) (sym is) (carried_stops Q fs all)
+from_stops Q c fs (inr is) all = subst (λ (x : Carried). StopsOf Q x.retransmits) (sym is) (λ r i. absurd i)
 
 module _ (Q : ℕ → Type 0) where
   -- ---- small steps
@@ -153,30 +161,34 @@ module _ (Q : ℕ → Type 0) where
     ping = λ d j. j;
     drops = λ d kind j. fewer_stops kind d.end.waiting.frames j;
     control = λ d kind entry es f is due j. fewer_stops kind d.end.waiting.frames j;
+    message = λ d m ms is fit j. j;
     stream = λ d id h room found first some is counts j. j;
   }) e i
 
-  polled_stops : (p : Policy) (e : End) (now : ℕ) → StopsOf Q e.waiting.frames → StopsOf Q (polled p e now).end.waiting.frames
-  polled_stops p e now i = by_poll p e now (λ (q : Polled). StopsOf Q q.end.waiting.frames) (record {
-    silent = i;
-    failed = i;
-    idle = λ pings. i;
-    used_up = λ pings. i;
-    gives = λ pings tracking timers is may some ready. composed_stops (at_moment e now pings) i;
-  })
+  -- what tracked packets carried stops only such streams
+  abbrev pub TrackedStops : Table TrackedPacket → Type 0
+  TrackedStops packets = (n : ℕ) (t : TrackedPacket) → In (n, t) packets → StopsOf Q t.carried.retransmits
+
+  -- what such a packet carried waits again
+  again_holds : (p r : Retransmits) → StopsOf Q p → StopsOf Q r → StopsOf Q (merged p r)
+  again_holds p r i more s j = elim (in_append s p.stop_sending r.stop_sending j) [ inl old ↦ i s old | inr new ↦ more s new ]
+
+  losing : (packets : Table TrackedPacket) → TrackedStops packets → Losing packets (λ (t : Streams). StopsOf Q t.pending)
+  losing packets carried = record { lost = λ n t m e among inside i. i; again = λ n t e among i. again_holds e.waiting.frames t.carried.retransmits i (carried n t among) }
 
   -- any call but a delivery
-  pub call_stops : (p : Policy) (e : End) (theirs : List (List ℕ)) (call : Call) (a : Answer) → is_delivery call ≡ false → ((id : ℕ) (h : RecvHalf) → receiving_half e.streams id ≡ Some h → Q id) → StopsOf Q e.waiting.frames
+  pub call_stops : (p : Policy) (e : End) (theirs : List (List ℕ)) (call : Call) (a : Answer) → is_delivery call ≡ false → ((id : ℕ) (h : RecvHalf) → receiving_half e.streams id ≡ Some h → Q id) → TrackedStops e.tracking.packets → StopsOf Q e.waiting.frames
       → StopsOf Q (after_call p e theirs call a).waiting.frames
-  call_stops p e theirs call a apart known i = by_call p e theirs (λ (f : End). StopsOf Q f.waiting.frames) call a (record {
+  call_stops p e theirs call a apart known carried i = by_call p e theirs (λ (f : End). StopsOf Q f.waiting.frames) call a (record {
     same = i;
     on_streams = λ on answer. calls_stops (is_open e.closing.state) (streams_at e) call a known i;
+    on_messages = λ on answer. i;
     pings = i;
     heard = λ path same. i;
-    times = λ now acks loss set. by_expired e now (λ (f : End). StopsOf Q f.waiting.frames) (λ pending tracking timers runs packets. i) acks loss;
-    polls = λ now set. polled_stops p e now i;
+    times = λ now acks loss set. by_expired e now (λ (f : End). StopsOf Q f.waiting.frames) (λ pending tracking timers runs packets. i) (λ pending timers runs. expiry_stays (λ (t : Streams). StopsOf Q t.pending) e now (losing e.tracking.packets carried) i pending timers) acks loss;
+    polls = λ now set. poll_streams (λ (t : Streams). StopsOf Q t.pending) p e now composed_stops i (ready_stays (λ (t : Streams). StopsOf Q t.pending) e now (losing e.tracking.packets carried) i);
     hears = λ now d set. cc;
-    tells = λ asks. by_event e (λ (f : End). StopsOf Q f.waiting.frames) (λ told. i);
+    tells = λ asks. by_event e (λ (f : End). StopsOf Q f.waiting.frames) i (λ told. i);
   })
 
   -- ---- what comes
@@ -232,9 +244,7 @@ module _ (Q : ℕ → Type 0) where
     reset = λ c r e was among i. reset_acked_stops (sent_half e.streams r.0) e.streams e.waiting.frames r.0 i;
     acked = λ c m e was among i. acked_stops (sent_half e.streams m.id) e.streams e.waiting.frames m i;
     lost = λ c m e was among i. i;
-    again = λ c e was i r j. elim (in_append r e.waiting.frames.stop_sending c.retransmits.stop_sending j) [
-      | inl old ↦ i r old
-      | inr new ↦ subst (λ (x : Carried). StopsOf Q x.retransmits) (sym was.is) (carried_stops Q was.sent.frames (sent was.sent was.among)) r new
-    ];
+    again = λ c e was i. again_holds e.waiting.frames c.retransmits i (from_stops Q c was.sent.frames was.is (sent was.sent was.among));
     tracked = λ t e i. i;
+    measured = λ r e i. i;
   }

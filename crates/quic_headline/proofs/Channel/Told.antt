@@ -3,7 +3,7 @@ use Rattle.std.proofs.Common.{◌≡◌, ℕ, zero, suc, ◌+◌, ◌-◌, ◌�
 use Rattle.std.specs.Prelude.{if◌then◌else◌}
 use Rattle.std.specs.Option.{option_map}
 use Rattle.quic_packet.specs.Number.{truncated}
-use Rattle.quic_wire.specs.Value.{FrameValue, padding, ping, stream, reset_stream, stop_sending, max_data, max_stream_data, max_streams, data_blocked, stream_data_blocked}
+use Rattle.quic_wire.specs.Value.{FrameValue, padding, ping, stream, datagram, reset_stream, stop_sending, max_data, max_stream_data, max_streams, data_blocked, stream_data_blocked}
 use Rattle.quic_wire.specs.FrameView.{is_one_way}
 use Rattle.quic_streams_parts.specs.Table.{at}
 use Rattle.quic_streams_parts.specs.TableLaws.{at-put}
@@ -24,10 +24,10 @@ use Rattle.quic_machine.specs.declared.run.Call.TheVariants as calls
 use Rattle.quic_machine.specs.declared.run.Answer.{Answer}
 use Rattle.quic_machine.specs.declared.run.Answer.TheVariants as answers
 use Rattle.quic_machine.specs.Policy.{Policy}
-use Rattle.quic_machine.specs.Numbers.{cut_against}
-use Rattle.quic_machine.specs.End.{End}
+use Rattle.quic_spaces.specs.Numbers.{cut_against}
+use Rattle.quic_machine.specs.End.{End, number_of}
 use Rattle.quic_machine.specs.Receive.{Outcome, take_frame}
-use Rattle.quic_machine.specs.Poll.{Draft, Polled, composed, polled}
+use Rattle.quic_machine.specs.Poll.{Draft, Polled, composed, lazied, polled}
 use Rattle.quic_machine.specs.DraftLaws.{by_writing}
 use Rattle.quic_machine.specs.PollCases.{at_moment, frames_padded, frames_at, by_poll}
 use Rattle.quic_machine.specs.FrameCases.{begun, passed, frames_keep}
@@ -167,9 +167,10 @@ composed_tells before e i = by_writing (Tells before) (record {
       let s : StreamsState = d.end.streams in
       let on : Stays s (entry.told s) = by_told (Stays s) (stays_kept s) kind d.end.waiting.frames entry es s is (stays_self before s t.stays) in
       record { stays = stays_then before s (entry.told s) t.stays on; frames = more_told s (entry.told s) d.frames f on t.frames (entry_tells kind entry es d is s f due) });
+  message = λ d m ms is fit t. record { stays = t.stays; frames = more_told d.end.streams d.end.streams d.frames (datagram m) (stays_self before d.end.streams t.stays) t.frames tt };
   stream = λ d id h room found first some is counts t. (
       let s : StreamsState = d.end.streams in
-      let on = by_frame (Stays s) (stays_kept s) d.end.fair s id room h found tt (stays_self before s t.stays) in
+      let on = by_frame (Stays s) (stays_kept s) d.end.transport.send_fairness s id room h found tt (stays_self before s t.stays) in
       record { stays = stays_then before s _ t.stays on; frames = more_told s _ d.frames (stream (frame_of id h room)) on t.frames tt });
 }) e (record { stays = i; frames = λ f j. absurd j })
 
@@ -191,14 +192,14 @@ poll_told : (p : Policy) (e : End) (now : ℕ) → Stays e.streams e.streams →
 poll_told p e now i = by_poll p e now (λ (q : Polled). AllTold q.end.streams (sent_if (gave (answers.Poll q.answer)) (sent_by e now))) (record {
   silent = λ t j. absurd j;
   failed = λ t j. absurd j;
-  idle = λ pings t j. absurd j;
-  used_up = λ pings t j. absurd j;
-  gives = λ pings tracking timers is may some ready t j f k. (
-      let x : End = at_moment e now pings in
+  idle = λ tracked waits ready t j. absurd j;
+  used_up = λ tracked waits ready t j. absurd j;
+  gives = λ tracked waits tracking timers is may some ready t j f k. (
+      let x : End = lazied (at_moment e now tracked waits) in
       let d : Draft = composed x in
-      let frames_are : frames_at e now ≡ frames_padded d = ap (λ (y : End). frames_padded (composed y)) ready in
+      let frames_are : frames_at e now ≡ frames_padded d = ap (λ (y : End). frames_padded (composed (lazied y))) ready in
       let among : In f (frames_at e now) = one t j f k in
-      padded_told d.end.streams d.frames (4 - ((truncated d.end.numbers.next (cut_against d.end.numbers)).width + length d.bytes)) (composed_tells e.streams x i).frames f (subst (In f) frames_are among));
+      padded_told d.end.streams d.frames (4 - ((truncated (number_of d.end) (cut_against d.end.numbers)).width + length d.bytes)) (composed_tells e.streams x i).frames f (subst (In f) frames_are among));
 })
   where
     one : (t : Sent) → In t (sent_by e now ∷ []) → (f : FrameValue) → In f t.frames → In f (frames_at e now)

@@ -1,15 +1,23 @@
 -- What stands in one of a list: lists in two parts, tables of packets with one more, and lists from whose front one after another goes.
-use Rattle.std.proofs.Common.{◌≡◌, ℕ, ◌<◌, Bool, true, false, not, cond, List, [], ◌∷◌, ◌++◌, filter, refl, sym, subst, ◌⊎◌, inl, inr, arith}
+use Rattle.std.proofs.Common.{◌≡◌, ℕ, ◌<◌, Bool, true, false, not, cond, List, [], ◌∷◌, ◌++◌, filter, Option, Some, None, refl, sym, ap, ◌∙◌, subst, ◌⊎◌, inl, inr, arith}
+use Rattle.std.specs.BTreeMap.{is_at}
 use Rattle.std.specs.Ordering.{nat_cmp, match_ordering}
 use Rattle.std.specs.declared.cmp.Ordering.{Ordering}
 use Rattle.std.specs.declared.cmp.Ordering.TheVariants.{Less, Equal, Greater}
 use Rattle.std.proofs.lemmas.Cmp.{ranked}
-use Rattle.quic_streams_parts.specs.Table.{Table, added}
-use Rattle.quic_machine.specs.Tracking.{TrackedPacket}
+use Rattle.quic_streams_parts.specs.Table.{Table, put, added, without}
+use Rattle.quic_machine.specs.Tracking.{Tracking, TrackedPacket, without_record, is_behind, without_packet, forgotten, after_sent}
+use Rattle.quic_machine.specs.End.{End}
+use Rattle.quic_machine.specs.PollCases.{ready_at}
 use Rattle.quic_headline.specs.Runs.{In}
 use Rattle.quic_headline.specs.Duties.{AnyIn}
 use Rattle.quic_headline.specs.Observer.{Sent}
 use Rattle.quic_headline.proofs.Packets.Invariant.{AreTracked}
+use Rattle.quic_headline.proofs.Packets.Numbered.{is_at_same}
+use Rattle.quic_headline.proofs.Packets.Ascending.{Ascending, put_splits}
+use Rattle.quic_headline.proofs.Packets.Probes.{in_put, by_ready}
+use Rattle.quic_headline.proofs.Packets.TrackedSteps.{asking_packets, without_fewer}
+use Rattle.quic_headline.proofs.Timers.LossTimers.{forgotten_behind}
 
 -- ---- lists
 
@@ -41,7 +49,26 @@ pub any_behind : {X : Type 0} (P : X → Type 0) (xs ys : List X) → AnyIn P ys
 any_behind P [] ys i = i
 any_behind P (x ∷ xs) ys i = inr (any_behind P xs ys i)
 
+-- one that is among them
+pub any_there : {X : Type 0} (P : X → Type 0) (x : X) (xs : List X) → In x xs → P x → AnyIn P xs
+any_there P x [] i here = absurd i
+any_there P x (y ∷ xs) (inl same) here = inl (subst P same here)
+any_there P x (y ∷ xs) (inr more) here = inr (any_there P x xs more here)
+
+-- where another stands in the place of one, and has what that had, or Q does
+any_split : {X : Type 0} (P : X → Type 0) (Q : Type 0) (x y : X) (before behind : List X) → (P x → P y ⊎ Q) → AnyIn P (before ++ x ∷ behind) → AnyIn P (before ++ y ∷ behind) ⊎ Q
+any_split P Q x y [] behind moves (inl here) = elim (moves here) [ inl there ↦ inl (inl there) | inr other ↦ inr other ]
+any_split P Q x y [] behind moves (inr more) = inl (inr more)
+any_split P Q x y (z ∷ before) behind moves (inl here) = inl (inl here)
+any_split P Q x y (z ∷ before) behind moves (inr more) = elim (any_split P Q x y before behind moves more) [ inl there ↦ inl (inr there) | inr other ↦ inr other ]
+
 -- ---- tables of packets
+
+-- another value stands at the number of a packet, and has what the packet had, or Q does
+pub any_put : (P : ℕ × TrackedPacket → Type 0) (Q : Type 0) (packets : Table TrackedPacket) (p : ℕ × TrackedPacket) (v : TrackedPacket) → Ascending 0 packets → In p packets → (P p → P (p.0, v) ⊎ Q) → AnyIn P packets → AnyIn P (put packets p.0 v) ⊎ Q
+any_put P Q packets p v ascends among moves i =
+    let s = put_splits 0 packets p v ascends among in
+    subst (λ (ps : Table TrackedPacket). AnyIn P ps ⊎ Q) (sym s.put) (any_split P Q p (p.0, v) s.before s.behind moves (subst (λ (ps : Table TrackedPacket). AnyIn P ps) s.is i))
 
 -- what stands in a packet whose number is new, or in tracked ones, stands in them with that one
 pub any_added : (P : ℕ × TrackedPacket → Type 0) (es : Table TrackedPacket) (id : ℕ) (v : TrackedPacket) → ((n : ℕ) (t : TrackedPacket) → In (n, t) es → n ≡ id → ⊥) → P (id, v) ⊎ AnyIn P es → AnyIn P (added es id v)
@@ -55,6 +82,17 @@ any_added P (e ∷ es) id v fresh i = go (nat_cmp id e.0) refl i (any_added P es
     go Greater is (inr (inl here)) later = inl here
     go Greater is (inr (inr rest)) later = inr (later (inr rest))
 
+-- a packet is taken out that hasn't it
+any_without : (P : ℕ × TrackedPacket → Type 0) (es : Table TrackedPacket) (id : ℕ) → ((x : ℕ × TrackedPacket) → In x es → x.0 ≡ id → P x → ⊥) → AnyIn P es → AnyIn P (without es id)
+any_without P [] id none i = i
+any_without P (e ∷ es) id none i = go (is_at (nat_cmp id) e.0) refl i (any_without P es id (λ x j. none x (inr j)))
+  where
+    go : (b : Bool) → is_at (nat_cmp id) e.0 ≡ b → P e ⊎ AnyIn P es → (AnyIn P es → AnyIn P (without es id)) → AnyIn P (cond b es (e ∷ without es id))
+    go true is (inl here) later = absurd (none e (inl refl) (sym (is_at_same id e.0 is)) here)
+    go true is (inr more) later = more
+    go false is (inl here) later = inl here
+    go false is (inr more) later = inr (later more)
+
 -- no packet of these has a number
 abbrev pub IsNew : Table TrackedPacket → ℕ → Type 0
 IsNew packets number = (n : ℕ) (t : TrackedPacket) → In (n, t) packets → n ≡ number → ⊥
@@ -66,6 +104,24 @@ number_new sents packets next below tracked n t i same =
     let lower = below sent.0 sent.1.0 in
     let number = sent.1.1 in
     absurd (omega arith)
+
+-- what is new is so where something waits for each probe
+pub ready_new : (e : End) (now number : ℕ) → IsNew e.tracking.packets number → IsNew (ready_at e now).tracking.packets number
+ready_new e now number new = by_ready (λ (x : End). IsNew x.tracking.packets number) e now new new (λ p among n t i. elim (in_put e.tracking.packets p.0 (without_record p.1) (n, t) i) [
+  | inl old ↦ new n t old
+  | inr same ↦ (λ is. new p.0 p.1 among (sym (ap (λ (x : ℕ × TrackedPacket). x.0) same) ∙ is))
+])
+
+-- what stands in a packet that goes, or in tracked ones, stands in what is tracked then, where none of the tail has it: one of the tail may be forgotten
+pub any_sent : (P : ℕ × TrackedPacket → Type 0) (t : Tracking) (n : ℕ) (p : TrackedPacket) → IsNew t.packets n → ((q : ℕ × TrackedPacket) → In q t.packets → is_behind t.greatest_asking q.0 ≡ true → P q → ⊥) → P (n, p) ⊎ AnyIn P t.packets → AnyIn P (after_sent t n p).packets
+any_sent P t n p new none i =
+    let kept : Table TrackedPacket = without_packet (forgotten t p) t.packets in
+    subst (λ (ps : Table TrackedPacket). AnyIn P ps) (sym (asking_packets p.asks n p.time_sent (record t { packets = added kept n p })))
+    (any_added P kept n p (λ m q j. new m q (without_fewer (forgotten t p) t.packets (m, q) j)) (elim i [ inl here ↦ inl here | inr old ↦ inr (stays (forgotten t p) refl old) ]))
+  where
+    stays : (o : Option (ℕ × TrackedPacket)) → forgotten t p ≡ o → AnyIn P t.packets → AnyIn P (without_packet o t.packets)
+    stays None is old = old
+    stays (Some q) is old = any_without P t.packets q.0 (λ x j same here. none x j (ap (λ (m : ℕ). is_behind t.greatest_asking m) same ∙ forgotten_behind t p q is) here) old
 
 -- ---- one after another
 

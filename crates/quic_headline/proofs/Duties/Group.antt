@@ -8,17 +8,18 @@ use Rattle.quic_streams_laws.specs.WroteLaws.{with_same, with_new, with_set_para
 use Rattle.quic_machine.specs.declared.run.Call.{Call}
 use Rattle.quic_machine.specs.declared.run.Call.TheVariants as calls
 use Rattle.quic_machine.specs.declared.run.Answer.{Answer}
-use Rattle.quic_machine.specs.End.{End, streams_at}
+use Rattle.quic_machine.specs.End.{End, streams_at, number_of}
 use Rattle.quic_machine.specs.Calls.{is_open}
 use Rattle.quic_machine.specs.StreamCalls.{is_on_streams}
 use Rattle.quic_machine.specs.Poll.{polled}
+use Rattle.quic_machine.specs.PollCases.{ready_at}
 use Rattle.quic_machine.specs.CallCases.{is_delivery}
 use Rattle.quic_machine.specs.Machine.{IsAnswer, after_call, gave}
 use Rattle.quic_streams_laws.specs.Quiet.{IsSentWithin}
 use Rattle.quic_machine.specs.Receive.{Outcome}
 use Rattle.quic_headline.specs.Runs.{Packet, Intake, In, first_of, reset_by, reset, nothing_came}
 use Rattle.quic_headline.specs.Observer.{Sent}
-use Rattle.quic_headline.specs.Duties.{Duty, Limited, limit_frame, WasGiven, LimitHasArrived}
+use Rattle.quic_headline.specs.Duties.{Duty, Limited, limit_frame, WasGiven}
 use Rattle.quic_headline.proofs.Packets.Invariant.{IsSent}
 use Rattle.quic_headline.proofs.Packets.Growth.{step_of}
 use Rattle.quic_headline.proofs.Packets.Intakes.{took_more}
@@ -41,7 +42,8 @@ use Rattle.quic_headline.proofs.Channel.Names.{NamesHold}
 use Rattle.quic_headline.proofs.Channel.Received.{Stays}
 use Rattle.quic_headline.proofs.Channel.Within.{Within}
 use Rattle.quic_headline.proofs.Duties.Flies.{FliesIn, flies_along}
-use Rattle.quic_headline.proofs.Duties.Carrier.{IsNew, number_new}
+use Rattle.quic_headline.proofs.Duties.Carrier.{IsNew}
+use Rattle.quic_headline.proofs.Duties.Tail.{AskBefore, next_new, before_call}
 use Rattle.quic_headline.proofs.Duties.UnderWay.{InPackets, Fly, TrackedEnds, arrivals_fly, call_fly}
 use Rattle.quic_headline.proofs.Duties.Resets.{ResetStands, reset_on, arrivals_stand, call_resets, call_stands}
 use Rattle.quic_headline.proofs.Duties.Lasting.{Knows, knows_lasts, call_lasts}
@@ -53,12 +55,14 @@ pub record Flying (x y : Party) : Type 0 where
   pub fly : Fly (wrote x.told) x.end
   pub resets : (id : ℕ) → IsSome (reset id x.told) → ResetStands (came_to y x).took id x.end
   pub limits : (what : Limited) (value : ℕ) → WasGiven x.sents (limit_frame what value) → Stated (came_to y x).took x.sents what value x.end
+  -- what was sent since the last datagram that asks doesn't ask
+  pub asked : AskBefore x.sents x.end.tracking.greatest_asking
 
 -- What that rests on: the packets between both ends, what was written, that what waits may go, and that the limits which an end said don't fall.
 pub record IsReadied (B : Way) : Type 1 where
   pub packets : (x y : Party) → B x y → PacketsHold x y
   pub writes : (x y : Party) → B x y → WritesHold x y
-  pub ready : (x y : Party) → B x y → AreReady x.end.streams.sending.halves.live x.end.waiting.frames
+  pub ready : (x y : Party) → B x y → (now : ℕ) → AreReady (ready_at x.end now).streams.sending.halves.live (ready_at x.end now).waiting.frames
   pub names : (x y : Party) → B x y → NamesHold x y
   pub within : (x y : Party) → B x y → Within x y
 
@@ -81,8 +85,8 @@ module _ (B : Way) (b : IsReadied B) (x y : Party) (call : Call) (a : Answer) (c
   took = (came_to y x).took
 
   -- the number that goes next is none of a tracked packet
-  new : IsNew x.end.tracking.packets x.end.numbers.next
-  new = number_new x.sents x.end.tracking.packets x.end.numbers.next gives.gives.below gives.tracked
+  new : IsNew x.end.tracking.packets (number_of x.end)
+  new = next_new x.sents x.end gives.gives.below gives.tracked
 
   -- what is tracked says what was done
   ends : TrackedEnds done x.end.tracking.packets
@@ -94,7 +98,7 @@ module _ (B : Way) (b : IsReadied B) (x y : Party) (call : Call) (a : Answer) (c
   fly_call : Fly (wrote (called x y.given call a).told) (called x y.given call a).end
   fly_call = with_same (FliesIn F) (λ id w. Unit {0}) (flies_along F) (done_by call a done) (wrote (called x y.given call a).told) (called x y.given call a).end.streams (done_behind B b.packets x y call a c (b.writes x y c.gives))
       (by_coming x y a c.joined c.served (meets y x takes) (λ (e : End) (j : Intake). Fly (done_by call a done) e) call c.answer (record {
-        apart = λ apart. call_fly done x.policy x.end y.given call a apart c.answer new i.fly;
+        apart = λ apart. call_fly done x.sents x.policy x.end y.given call a apart c.answer gives.ascends gives.tracked i.asked new ends i.fly;
         none = λ delivery is. subst (λ (k : Call). Fly (done_by k a done) x.end) (sym is) i.fly;
         comes = λ delivery is s among. (
             let spelled = step_of (IsSent y.policy x.id) y.sents y.given s takes.gives.each among in
@@ -108,7 +112,7 @@ module _ (B : Way) (b : IsReadied B) (x y : Party) (call : Call) (a : Answer) (c
   -- a reset that was somewhere is so still
   old_reset : (id : ℕ) → IsSome (reset id x.told) → ResetStands took id (called x y.given call a).end
   old_reset id some = by_coming x y a c.joined c.served (meets y x takes) (λ (e : End) (j : Intake). ResetStands took id e) call c.answer (record {
-    apart = λ apart. call_stands took id x.policy x.end y.given call a apart new (b.ready x y c.gives) (i.resets id some);
+    apart = λ apart. call_stands took x.sents id x.policy x.end y.given call a apart gives.ascends gives.tracked i.asked new (b.ready x y c.gives) (i.resets id some);
     none = λ delivery is. i.resets id some;
     comes = λ delivery is s among. arrivals_stand took id x.sents (record { taken = gives.taken; rising = gives.gives.rising }) x.end delivery.now s.number s.frames (came_to x y)
         (λ ak carried k named. takes.named s ak k among carried named) gives.tracked (i.resets id some);
@@ -143,7 +147,7 @@ module _ (B : Way) (b : IsReadied B) (x y : Party) (call : Call) (a : Answer) (c
   apart_on what value said (calls.Poll now) apart is = record {
     knows = call_lasts (Knows what) (knows_lasts what) x.policy x.end y.given (calls.Poll now) a within apart is was.knows;
     stand = subst (λ (o : Answer). LimitStands took (x.sents ++ sent_if (gave o) (sent_by x.end now)) what value (polled x.policy x.end now).end) (sym (poll_answer x.policy x.end now a is c.served))
-        (polled_stands took x.sents what value x.policy x.end now new ((b.within y x c.takes).told said.sent said.among (limit_frame what value) said.carried) ((b.names x y c.gives).given said.sent said.among (limit_frame what value) said.carried) told_stays was.knows was.stand);
+        (polled_stands took x.sents what value x.policy x.end now gives.ascends i.asked new ((b.within y x c.takes).told said.sent said.among (limit_frame what value) said.carried) ((b.names x y c.gives).given said.sent said.among (limit_frame what value) said.carried) told_stays was.knows was.stand);
   }
     where
       was : Stated took x.sents what value x.end
@@ -168,7 +172,7 @@ module _ (B : Way) (b : IsReadied B) (x y : Party) (call : Call) (a : Answer) (c
     apart = λ apart. apart_on what value said call apart c.answer;
     none = λ delivery is. further what value x.end (i.limits what value said);
     comes = λ delivery is s among. (
-        let all = arrivals_stated took x.sents what value (record { taken = gives.taken; rising = gives.gives.rising }) x.end delivery.now s.number s.frames (came_to x y) (λ ak carried k named. takes.named s ak k among carried named) gives.tracked (i.limits what value said) in
+        let all = arrivals_stated took x.sents what value (record { taken = gives.taken; rising = gives.gives.rising }) x.end delivery.now s.number s.frames (came_to x y) (λ ak carried k named. takes.named s ak k among carried named) (i.limits what value said) in
         record {
           ignored = λ reason. further what value _ (all.ignored reason);
           noted = λ state reason. further what value _ (all.noted state reason);
@@ -181,7 +185,7 @@ module _ (B : Way) (b : IsReadied B) (x y : Party) (call : Call) (a : Answer) (c
   new_limit : (what : Limited) (value : ℕ) (k : Call) → IsAnswer x.policy x.end y.given k a → (t : Sent) → In t (sents_by x.end k a) → In (limit_frame what value) t.frames → Stated took (x.sents ++ sents_by x.end k a) what value (after_call x.policy x.end y.given k a)
   new_limit what value (calls.Poll now) is t among carried =
       let same = poll_answer x.policy x.end now a is c.served in
-      let says = polled_says took x.sents what value x.policy x.end now new told_stays.shape t (subst (λ (o : Answer). In t (sent_if (gave o) (sent_by x.end now))) same among) carried in
+      let says = polled_says took x.sents what value x.policy x.end now gives.ascends i.asked new told_stays.shape t (subst (λ (o : Answer). In t (sent_if (gave o) (sent_by x.end now))) same among) carried in
       record { knows = says.0; stand = subst (λ (o : Answer). LimitStands took (x.sents ++ sent_if (gave o) (sent_by x.end now)) what value (polled x.policy x.end now).end) (sym same) says.1 }
   new_limit what value k is t among carried = absurd among
 
@@ -195,6 +199,7 @@ module _ (B : Way) (b : IsReadied B) (x y : Party) (call : Call) (a : Answer) (c
   flying_call = record {
     fly = fly_call;
     limits = said_limit;
+    asked = before_call x.policy x.end y.given call a x.sents c.answer c.served gives.gives.below i.asked;
     resets = λ id some. go id (reset id x.told) refl (subst (λ (o : Option ℕ). IsSome o) (reset_more id x.told (told_of call a x.end.closing.state)) some);
   }
     where
@@ -203,16 +208,16 @@ module _ (B : Way) (b : IsReadied B) (x y : Party) (call : Call) (a : Answer) (c
       go id None is some = new_reset id some
 
 -- what came stays so
-came_on : (old more : List Packet) (id : ℕ) (e : End) → ((packet : Packet) → In packet old → In packet more) → ResetStands old id e → ResetStands more id e
-came_on old more id e stays (inl waits) = inl waits
-came_on old more id e stays (inr (inl flies)) = inr (inl flies)
-came_on old more id e stays (inr (inr came)) = inr (inr (record { packet = came.packet; was_taken = stays came.packet came.was_taken; frame = came.frame; carried = came.carried; of_stream = came.of_stream }))
+came_on : (old later : List Packet) (id : ℕ) (e : End) → ((packet : Packet) → In packet old → In packet later) → ResetStands old id e → ResetStands later id e
+came_on old later id e keeps (inl waits) = inl waits
+came_on old later id e keeps (inr (inl flies)) = inr (inl flies)
+came_on old later id e keeps (inr (inr came)) = inr (inr (record { packet = came.packet; was_taken = keeps came.packet came.was_taken; frame = came.frame; carried = came.carried; of_stream = came.of_stream }))
 
-limit_came_on : (old more : List Packet) (own : List Sent) (what : Limited) (value : ℕ) (e : End) → ((packet : Packet) → In packet old → In packet more) → LimitStands old own what value e → LimitStands more own what value e
-limit_came_on old more own what value e stays (inl ends) = inl ends
-limit_came_on old more own what value e stays (inr (inl waits)) = inr (inl waits)
-limit_came_on old more own what value e stays (inr (inr (inl flies))) = inr (inr (inl flies))
-limit_came_on old more own what value e stays (inr (inr (inr came))) = inr (inr (inr (record { packet = came.packet; was_taken = stays came.packet came.was_taken; limit = came.limit; carried = came.carried; enough = came.enough })))
+limit_came_on : (old later : List Packet) (own : List Sent) (what : Limited) (value : ℕ) (e : End) → ((packet : Packet) → In packet old → In packet later) → LimitStands old own what value e → LimitStands later own what value e
+limit_came_on old later own what value e keeps (inl ends) = inl ends
+limit_came_on old later own what value e keeps (inr (inl waits)) = inr (inl waits)
+limit_came_on old later own what value e keeps (inr (inr (inl flies))) = inr (inr (inl flies))
+limit_came_on old later own what value e keeps (inr (inr (inr came))) = inr (inr (inr (record { packet = came.packet; was_taken = keeps came.packet came.was_taken; limit = came.limit; carried = came.carried; enough = came.enough })))
 
 -- nothing was written
 flying_first : (x y : Beginning) → AreMade x y → Flying (begun_as x y) (begun_as y x)
@@ -223,6 +228,7 @@ flying_first x y m =
           (with_new (FliesIn (InPackets [])) (λ id w. Unit {0}) x.side s.max_uni s.max_bidi s.send_window s.receive_window s.stream_receive_window);
       resets = λ id some. cc;
       limits = λ what value said. absurd said.among;
+      asked = λ s among. absurd among;
     }
 
 -- it holds at the start, and stays with each call at either end
@@ -232,6 +238,7 @@ flying_group B b = record {
   writer = λ x y call a c i back. flying_call B b x y call a c i;
   reader = λ x y call a c back i. record {
     fly = i.fly;
+    asked = i.asked;
     resets = λ id some. came_on (came_to x y).took (came_to (called x y.given call a) y).took id y.end (took_more x.policy y.final x.told (told_of call a x.end.closing.state) (nothing_came (x.id ∷ []))) (i.resets id some);
     limits = λ what value said. (let was = i.limits what value said in record {
       knows = was.knows;

@@ -32,7 +32,7 @@ use Rattle.quic_streams_laws.specs.Queued.{place_of, IsOrderly}
 use Rattle.quic_streams_laws.specs.Written.{Wrote, IsSendHalf, nothing_done}
 use Rattle.quic_streams_laws.specs.Acknowledged.{HalfArrived, IsSettled, IsAckedStatus}
 use Rattle.quic_machine.specs.End.{End}
-use Rattle.quic_machine.specs.Poll.{waits, asks_to_go}
+use Rattle.quic_machine.specs.Poll.{waits, message_waits, asks_to_go}
 use Rattle.quic_machine.specs.Machine.{World, end_at}
 use Rattle.quic_machine.specs.RunLaws.{one_run}
 use Rattle.quic_headline.specs.Runs.{Run, Packet, Intake, AreServed, until, written, ended, EndHasArrived}
@@ -74,7 +74,8 @@ pending_queued s id h orderly found pending = go h.place refl (orderly.queue.pen
 half_queued : (e : End) → can_send_stream_data e.streams ≡ true → waits e ≡ true
 half_queued e queued =
     or_right (can_send e.acknowledging) (asks_to_go e)
-    (or_right e.waiting.ping (not (is_empty e.waiting.frames e.streams) || can_send_stream_data e.streams) (or_right (not (is_empty e.waiting.frames e.streams)) (can_send_stream_data e.streams) queued))
+    (or_right e.waiting.ping (not (is_empty e.waiting.frames e.streams) || (message_waits e || can_send_stream_data e.streams))
+    (or_right (not (is_empty e.waiting.frames e.streams)) (message_waits e || can_send_stream_data e.streams) (or_right (message_waits e) (can_send_stream_data e.streams) queued)))
 
 -- one of several is so
 one_of : (a b c d e f g : Bool) → not (not (a || true || b || c || d || e || f || g)) ≡ true
@@ -109,8 +110,8 @@ any_reset id (r ∷ rs) is = refl
 reset_queued : (e : End) (id : ℕ) → has_reset id e.waiting.frames.reset_stream ≡ true → waits e ≡ true
 reset_queued e id is =
     or_right (can_send e.acknowledging) (asks_to_go e)
-    (or_right e.waiting.ping (not (is_empty e.waiting.frames e.streams) || can_send_stream_data e.streams)
-    (or_left (not (is_empty e.waiting.frames e.streams)) (can_send_stream_data e.streams) (not_empty e.waiting.frames e.streams (any_reset id e.waiting.frames.reset_stream is))))
+    (or_right e.waiting.ping (not (is_empty e.waiting.frames e.streams) || (message_waits e || can_send_stream_data e.streams))
+    (or_left (not (is_empty e.waiting.frames e.streams)) (message_waits e || can_send_stream_data e.streams) (not_empty e.waiting.frames e.streams (any_reset id e.waiting.frames.reset_stream is))))
 
 -- a limit that matters, and waits, is something that waits
 limit_any : (what : Limited) (e : End) → Matters e what → limit_waits e.waiting.frames what ≡ true → not (is_empty e.waiting.frames e.streams) ≡ true
@@ -129,8 +130,8 @@ limit_any (StreamCount Uni) e matters waits = rw waits (some_other _ _ _ _ _ _ _
 limit_queued : (e : End) (what : Limited) → Matters e what → limit_waits e.waiting.frames what ≡ true → waits e ≡ true
 limit_queued e what matters waits =
     or_right (can_send e.acknowledging) (asks_to_go e)
-    (or_right e.waiting.ping (not (is_empty e.waiting.frames e.streams) || can_send_stream_data e.streams)
-    (or_left (not (is_empty e.waiting.frames e.streams)) (can_send_stream_data e.streams) (limit_any what e matters waits)))
+    (or_right e.waiting.ping (not (is_empty e.waiting.frames e.streams) || (message_waits e || can_send_stream_data e.streams))
+    (or_left (not (is_empty e.waiting.frames e.streams)) (message_waits e || can_send_stream_data e.streams) (limit_any what e matters waits)))
 
 -- a limit that matters isn't one that matters no more
 matters_still : (what : Limited) (e : End) → Matters e what → AllReceiving (Ends what) e.streams → ⊥

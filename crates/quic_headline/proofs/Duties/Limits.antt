@@ -1,49 +1,44 @@
 -- A limit that was said waits to be said anew, stands in a datagram that is tracked, or came, each no less than it was said; or it matters
 -- no more. Each frame that comes keeps that, and calls take nothing off what waits.
-use Rattle.std.proofs.Common.{◌≡◌, ℕ, ◌+◌, ◌≤◌, Bool, true, false, not, nat_le, ◌||◌, cond, List, [], ◌∷◌, ◌++◌, filter, Option, Some, None, Ok, Err, refl, sym, ap, ◌∙◌, subst, ◌⊎◌, inl, inr}
+use Rattle.std.proofs.Common.{◌≡◌, ℕ, ◌≤◌, Bool, true, false, not, cond, List, [], ◌∷◌, filter, Option, Some, None, Ok, refl, sym, ap, ◌∙◌, subst, ◌⊎◌, inl, inr}
 use Rattle.std.specs.List.{list_any}
 use Rattle.std.specs.Ordering.{nat_cmp}
 use Rattle.std.specs.BTreeMap.{is_at}
-use Rattle.std.proofs.lemmas.Bool.{or_left, or_right, cases_Bool}
-use Rattle.quic_wire_core.specs.declared.stream_id.Dir.{Dir}
+use Rattle.std.proofs.lemmas.Bool.{or_left, or_right}
 use Rattle.quic_wire_core.specs.declared.stream_id.Dir.TheVariants.{Bi, Uni}
 use Rattle.quic_wire.specs.Value.{FrameValue, AckValue, ack, stream, reset_stream, stop_sending, max_data, max_stream_data, max_streams, stream_data_blocked, streams_blocked}
 use Rattle.quic_send_buffer.specs.declared.stream_meta.StreamMeta.{StreamMeta}
 use Rattle.quic_streams_parts.specs.Table.{Table}
 use Rattle.quic_streams_parts.specs.TableLaws.{nat_cmp-same}
 use Rattle.quic_streams_parts.specs.Dirs.{Counts, Flags, of}
-use Rattle.quic_retransmits.specs.Retransmits.{Retransmits, merged, has_id, with_ids}
+use Rattle.quic_retransmits.specs.Retransmits.{Retransmits, merged, has_id}
 use Rattle.quic_streams_state.specs.declared.state.StreamsState.{StreamsState}
 use Rattle.quic_streams_state.specs.State.{Streams, Receiving, streams_of}
 use Rattle.quic_streams_state.specs.Limits.{data_grew, count_grew, stream_grew, with_stream_if, decided}
 use Rattle.quic_streams_state.specs.Reading.{told_bytes, after_read_begun}
-use Rattle.quic_streams_laws.specs.Quiet.{IsSentWithin}
 use Rattle.quic_streams_laws.specs.Content.{AllReceiving}
 use Rattle.quic_streams_laws.specs.ToldLaws.{has_all, has_given}
 use Rattle.quic_machine.specs.declared.run.Call.{Call}
 use Rattle.quic_machine.specs.declared.run.Call.TheVariants as calls
 use Rattle.quic_machine.specs.declared.run.Answer.{Answer}
 use Rattle.quic_machine.specs.declared.run.Answer.TheVariants as answers
-use Rattle.quic_machine.specs.Policy.{Policy}
-use Rattle.quic_machine.specs.Numbers.{cut_against}
-use Rattle.quic_machine.specs.Tracking.{Tracking, TrackedPacket, Carried, carried_in, names, acked_by, not_acked_by, is_below, lost_below, kept_above}
+use Rattle.quic_machine.specs.Tracking.{Tracking, TrackedPacket, Carried, carried_in, names, acked_by, not_acked_by, is_lost, lost_by, kept_by}
 use Rattle.quic_machine.specs.End.{End, streams_at}
-use Rattle.quic_machine.specs.Calls.{after_nexts, is_open}
+use Rattle.quic_machine.specs.Calls.{after_nexts}
 use Rattle.quic_machine.specs.StreamCalls.{after_on_streams}
-use Rattle.quic_machine.specs.Acked.{stream_lost, streams_lost, carried_lost, packets_lost, packets_acked, after_named}
-use Rattle.quic_machine.specs.Receive.{take_frame, Outcome}
+use Rattle.quic_machine.specs.Acked.{stream_lost, streams_lost, carried_lost, packets_lost, verdict, losses_detected, measured, sampled, without_acked, after_named}
+use Rattle.quic_machine.specs.Receive.{is_above, names_ungiven, take_frame, Outcome}
 use Rattle.quic_machine.specs.FrameCases.{OnStreams, Settling, named, ack_taken, acked_keeps, begun, passed, frames_leave}
 use Rattle.quic_machine.specs.FrameCases as cases
 use Rattle.quic_headline.specs.Runs.{Packet, Intake, In}
 use Rattle.quic_headline.specs.Observer.{Sent}
 use Rattle.quic_headline.specs.InFlight.{is_max_data, is_max_streams, limits_in, again_in}
-use Rattle.quic_headline.specs.Duties.{Limited, AllData, StreamData, StreamCount, limit_frame, limit_waits, AnyIn, IsInFlight, LimitHasArrived}
-use Rattle.quic_headline.proofs.Packets.Invariant.{AreTracked}
+use Rattle.quic_headline.specs.Duties.{Limited, AllData, StreamData, StreamCount, limit_frame, limit_waits, IsInFlight, LimitHasArrived}
 use Rattle.quic_headline.proofs.Packets.Carried.{carried_same}
 use Rattle.quic_headline.proofs.Packets.Delivered.{Arrivals, arrived}
-use Rattle.quic_headline.proofs.Packets.Named.{NamesTaken, Stands, in_filter, by_frame, frame_fewer}
+use Rattle.quic_headline.proofs.Packets.Named.{NamesTaken, Stands, by_frame}
 use Rattle.quic_headline.proofs.Packets.Rising.{one_number}
-use Rattle.quic_headline.proofs.Grown.Flags.{KeptIn, Decides, LimitsAlike, is_read, calls_keep, polled_keeps, acked_keeps as acked_flags, reset_acked_keeps, lost_keeps, frame_keeps}
+use Rattle.quic_headline.proofs.Grown.Flags.{KeptIn, Decides, calls_keep, acked_keeps as acked_flags, reset_acked_keeps, lost_keeps, frame_keeps}
 use Rattle.quic_headline.proofs.Duties.Lasting.{Knows, Ends, knows_lasts, ends_lasts, frame_lasts}
 
 -- ---- what waits
@@ -77,14 +72,14 @@ decides (StreamCount Bi) s t p q same i = or_left q.max_stream_id.bi (count_grew
 decides (StreamCount Uni) s t p q same i = or_left q.max_stream_id.uni (count_grew Uni t.opening) (ap (λ (f : Flags). f.uni) same.counts ∙ i)
 
 -- it waits still beside what was lost
-merged_left : (what : Limited) (p lost : Retransmits) → limit_waits p what ≡ true → limit_waits (merged p lost) what ≡ true
+pub merged_left : (what : Limited) (p lost : Retransmits) → limit_waits p what ≡ true → limit_waits (merged p lost) what ≡ true
 merged_left AllData p lost is = or_left p.max_data lost.max_data is
 merged_left (StreamData id) p lost is = has_all lost.max_stream_data p.max_stream_data id is
 merged_left (StreamCount Bi) p lost is = or_left p.max_stream_id.bi lost.max_stream_id.bi is
 merged_left (StreamCount Uni) p lost is = or_left p.max_stream_id.uni lost.max_stream_id.uni is
 
 -- and what was lost waits
-merged_right : (what : Limited) (p lost : Retransmits) → limit_waits lost what ≡ true → limit_waits (merged p lost) what ≡ true
+pub merged_right : (what : Limited) (p lost : Retransmits) → limit_waits lost what ≡ true → limit_waits (merged p lost) what ≡ true
 merged_right AllData p lost is = or_right p.max_data lost.max_data is
 merged_right (StreamData id) p lost is = has_given lost.max_stream_data p.max_stream_data id is
 merged_right (StreamCount Bi) p lost is = or_right p.max_stream_id.bi lost.max_stream_id.bi is
@@ -119,12 +114,14 @@ module _ (what : Limited) where
     lost = λ m e w. lost_keeps (WaitsIn what) (decides what) e.streams e.waiting.frames m w;
     again = λ c e w. waits_in what (streams_of e.streams (merged e.waiting.frames c.retransmits)) (merged_left what e.waiting.frames c.retransmits (waits_of what (streams_at e) w));
     tracked = λ t e w. w;
+    measured = λ r e w. w;
   }
 
   pub frame_waits : (f : FrameValue) (e : End) → IsWaiting what (streams_at e) → IsWaiting what (streams_at (take_frame f e).end)
   frame_waits f e is = waits_of what (streams_at (take_frame f e).end) (cases.frame_keeps (λ (x : End). Waits what (streams_at x)) (record {
-    ack = λ a x v. acked_keeps (λ (y : End). Waits what (streams_at y)) settles a (named a x) v;
+    ack = λ rises a x v. acked_keeps (λ (y : End). Waits what (streams_at y)) settles rises a (named a x) v;
     on_streams = λ g x on v. frame_keeps (WaitsIn what) (decides what) g x on v;
+    message = λ m x v. v;
   }) f e (waits_in what (streams_at e) is))
 
 -- ---- what a datagram carries
@@ -150,7 +147,7 @@ again_waits (StreamCount Bi) value fs i = any_is (is_max_streams false) (max_str
 again_waits (StreamCount Uni) value fs i = any_is (is_max_streams true) (max_streams (record { one_way = true; count = value })) fs i refl
 
 -- a limit in its frames is sent again if it is lost
-carried_waits : (what : Limited) (value : ℕ) (fs : List FrameValue) → In (limit_frame what value) fs → limit_waits (carried_in fs).retransmits what ≡ true
+pub carried_waits : (what : Limited) (value : ℕ) (fs : List FrameValue) → In (limit_frame what value) fs → limit_waits (carried_in fs).retransmits what ≡ true
 carried_waits what value fs i = subst (λ (c : Carried). limit_waits c.retransmits what ≡ true) (carried_same fs) (again_waits what value fs i)
 
 -- what lost packets carried waits, and what waited
@@ -180,10 +177,11 @@ losses_wait what (p ∷ ps) e i = losses_wait what ps (carried_lost p.1.carried 
 
 -- ---- where a limit is
 
--- a limit that is under way, no less than a value
+-- a limit that is under way, no less than a value, in a datagram of which it is said again if that is lost: no probe took that
 pub record FliesFrom (own : List Sent) (packets : Table TrackedPacket) (what : Limited) (value : ℕ) : Type 0 where
   pub limit : ℕ
   pub flies : IsInFlight own packets (limit_frame what limit)
+  pub again : limit_waits flies.packet.carried.retransmits what ≡ true
   pub enough : value ≤ limit
 
 -- it matters no more, waits, is under way, or came
@@ -207,26 +205,54 @@ filter_has f x (y ∷ xs) i on = go (f y) refl i (filter_has f x xs)
     go false is (inl same) later = let clash : true ≡ false = sym on ∙ (ap f same ∙ is) in cc
     go false is (inr more) later = later more on
 
+module _ (took : List Packet) (own : List Sent) (what : Limited) (value : ℕ) where
+  -- it is under way still where its packet stays tracked
+  pub still : (before after : Table TrackedPacket) (i : FliesFrom own before what value) → In (i.flies.sent.number, i.flies.packet) after → FliesFrom own after what value
+  still before after i there = record {
+    limit = i.limit;
+    flies = record { sent = i.flies.sent; among = i.flies.among; carried = i.flies.carried; packet = i.flies.packet; tracked = there };
+    again = i.again;
+    enough = i.enough;
+  }
+
+  -- losses that are detected
+  detected_flies : (e : End) → FliesFrom own e.tracking.packets what value → LimitStands took own what value (losses_detected e)
+  detected_flies e i = go (is_lost (verdict e) here) refl
+    where
+      here : ℕ × TrackedPacket
+      here = (i.flies.sent.number, i.flies.packet)
+
+      go : (lost : Bool) → is_lost (verdict e) here ≡ lost → LimitStands took own what value (losses_detected e)
+      go true is = inr (inl (losses_wait what (lost_by (verdict e) e.tracking.packets) e (inr (here.0, here.1, filter_has (is_lost (verdict e)) here e.tracking.packets i.flies.tracked is, i.again))))
+      go false is = inr (inr (inl (still e.tracking.packets (kept_by (verdict e) e.tracking.packets) i (filter_has (λ q. not (is_lost (verdict e) q)) here e.tracking.packets i.flies.tracked (ap not is)))))
+
+  pub detected_more : (e : End) → (limit_waits e.waiting.frames what ≡ true) ⊎ FliesFrom own e.tracking.packets what value ⊎ LimitHasArrived took what value → LimitStands took own what value (losses_detected e)
+  detected_more e (inl waits) = inr (inl (losses_wait what (lost_by (verdict e) e.tracking.packets) e (inl waits)))
+  detected_more e (inr (inl flies)) = detected_flies e flies
+  detected_more e (inr (inr came)) = inr (inr (inr came))
+
+  -- a round trip is measured, if one is
+  sampled_flies : (o : Option TrackedPacket) (a : AckValue) (e : End) → FliesFrom own e.tracking.packets what value → FliesFrom own (sampled o a e).tracking.packets what value
+  sampled_flies None a e i = i
+  sampled_flies (Some p) a e i = i
+
 module _ (took : List Packet) (own : List Sent) (what : Limited) (value : ℕ) (stands : Stands took own) where
   -- an ACK frame that names these packets
-  named_flies : (ps : Table TrackedPacket) (a : AckValue) (e : End) → acked_by a e.tracking.packets ≡ ps → NamesTaken took a → AreTracked own e.tracking.packets → FliesFrom own e.tracking.packets what value → LimitStands took own what value (after_named ps a e)
-  named_flies [] a e is takes tracked i = inr (inr (inl i))
-  named_flies (p ∷ ps) a e is takes tracked i = go (names a number) (is_below (cut_against e.numbers) number) refl refl
+  named_flies : (ps : Table TrackedPacket) (rises : Bool) (a : AckValue) (e : End) → NamesTaken took a → FliesFrom own e.tracking.packets what value → LimitStands took own what value (after_named ps rises a e)
+  named_flies [] rises a e takes i = inr (inr (inl i))
+  named_flies (p ∷ ps) rises a e takes i = go (names a number) refl
     where
       number : ℕ
       number = i.flies.sent.number
 
-      left : Table TrackedPacket
-      left = not_acked_by a e.tracking.packets
+      left : End
+      left = without_acked (p ∷ ps) a e
 
-      lost : Table TrackedPacket
-      lost = lost_below (cut_against e.numbers) left
+      o : Option TrackedPacket
+      o = measured rises a (p ∷ ps)
 
-      among : names a number ≡ false → In (number, i.flies.packet) left
-      among off = filter_has (λ q. not (names a q.0)) (number, i.flies.packet) e.tracking.packets i.flies.tracked (ap not off)
-
-      go : (acked below : Bool) → names a number ≡ acked → is_below (cut_against e.numbers) number ≡ below → LimitStands took own what value (after_named (p ∷ ps) a e)
-      go true below on under =
+      go : (acked : Bool) → names a number ≡ acked → LimitStands took own what value (after_named (p ∷ ps) rises a e)
+      go true on =
           let arrived = takes number on in
           let found = stands.taken arrived.packet arrived.was_taken in
           let same : i.flies.sent ≡ found.sent = one_number 0 own i.flies.sent found.sent stands.rising i.flies.among found.is.0 (sym (found.is.1 ∙ arrived.is)) in
@@ -237,35 +263,20 @@ module _ (took : List Packet) (own : List Sent) (what : Limited) (value : ℕ) (
             carried = subst (In (limit_frame what i.limit)) (ap (λ (s : Sent). s.frames) same ∙ found.frames) i.flies.carried;
             enough = i.enough;
           })))
-      go false true off under =
-          let was = tracked number i.flies.packet i.flies.tracked in
-          let same : i.flies.sent ≡ was.0 = one_number 0 own i.flies.sent was.0 stands.rising i.flies.among was.1.0 (sym was.1.1) in
-          let carries : limit_waits i.flies.packet.carried.retransmits what ≡ true =
-          subst (λ (c : Carried). limit_waits c.retransmits what ≡ true) (sym was.2) (carried_waits what i.limit was.0.frames (subst (λ (s : Sent). In (limit_frame what i.limit) s.frames) same i.flies.carried)) in
-          inr (inl (losses_wait what lost (packets_acked (p ∷ ps) e) (inr (number, i.flies.packet, filter_has (λ q. is_below (cut_against e.numbers) q.0) (number, i.flies.packet) left (among off) under, carries))))
-      go false false off above = inr (inr (inl (record {
-        limit = i.limit;
-        flies = record {
-          sent = i.flies.sent;
-          among = i.flies.among;
-          carried = i.flies.carried;
-          packet = i.flies.packet;
-          tracked = filter_has (λ q. not (is_below (cut_against e.numbers) q.0)) (number, i.flies.packet) left (among off) (ap not above);
-        };
-        enough = i.enough;
-      })))
+      go false off =
+          let there : In (number, i.flies.packet) (not_acked_by a e.tracking.packets) = filter_has (λ q. not (names a q.0)) (number, i.flies.packet) e.tracking.packets i.flies.tracked (ap not off) in
+          detected_flies took own what value (sampled o a left) (sampled_flies took own what value o a left (still took own what value e.tracking.packets (not_acked_by a e.tracking.packets) i there))
 
   -- ---- a delivery
 
   -- an ACK frame, taken or refused
-  ack_flies : (b : Bool) (a : AckValue) (e : End) → NamesTaken took a → AreTracked own e.tracking.packets → FliesFrom own e.tracking.packets what value → LimitStands took own what value (ack_taken b a e).end
-  ack_flies true a e takes tracked i = inr (inr (inl i))
-  ack_flies false a e takes tracked i = named_flies (acked_by a e.tracking.packets) a (named a e) refl takes tracked i
+  ack_flies : (b : Bool) (a : AckValue) (e : End) → NamesTaken took a → FliesFrom own e.tracking.packets what value → LimitStands took own what value (ack_taken b a e).end
+  ack_flies true a e takes i = inr (inr (inl i))
+  ack_flies false a e takes i = named_flies (acked_by a e.tracking.packets) (is_above e.numbers.largest_acked a.largest) a (named a e) takes i
 
   -- over the frames of a packet
   record Going (over : List FrameValue) (e : End) : Type 0 where
     takes : (a : AckValue) → In (ack a) over → NamesTaken took a
-    tracked : AreTracked own e.tracking.packets
     knows : AllReceiving (Knows what) e.streams
     stand : LimitStands took own what value e
 
@@ -288,23 +299,22 @@ module _ (took : List Packet) (own : List Sent) (what : Limited) (value : ℕ) (
       go : LimitStands took own what value e → LimitStands took own what value (take_frame f e).end
       go (inl ends) = inl (frame_lasts (Ends what) (ends_lasts what) f e ends)
       go (inr (inl waits)) = inr (inl (frame_waits what f e waits))
-      go (inr (inr (inl flies))) = by_frame f e (λ h p. LimitStands took own what value p.end) (λ a is. ack_flies (nat_le e.numbers.next a.largest) a e (g.takes a (inl is)) g.tracked flies)
+      go (inr (inr (inl flies))) = by_frame f e (λ h p. LimitStands took own what value p.end) (λ a is. ack_flies (names_ungiven a e) a e (g.takes a (inl is)) flies)
           (λ other on. inr (inr (inl (subst (λ (t : Tracking). FliesFrom own t.packets what value) (sym (frame_tracks f e on)) flies))))
-          (λ other same. subst (LimitStands took own what value) (sym same) (inr (inr (inl flies))))
+          (λ other m same. subst (LimitStands took own what value) (sym same) (inr (inr (inl flies))))
       go (inr (inr (inr came))) = inr (inr (inr came))
 
   frames_stand : (fs : List FrameValue) (e : End) → Going fs e → (over : List FrameValue) × Going over (passed fs e).end
   frames_stand fs e g = frames_leave Going (λ f over x k. record {
     takes = λ a j. k.takes a (inr j);
-    tracked = λ n t j. k.tracked n t (frame_fewer x f x (λ m u i. i) n t j);
     knows = frame_lasts (Knows what) (knows_lasts what) f x k.knows;
     stand = frame_stands f over x k;
   }) fs e g
 
   -- each case of a delivery
-  pub arrivals_stated : (e : End) (now n : ℕ) (frames : List FrameValue) (came : Intake) → ((a : AckValue) → In (ack a) frames → NamesTaken took a) → AreTracked own e.tracking.packets → Stated took own what value e
+  pub arrivals_stated : (e : End) (now n : ℕ) (frames : List FrameValue) (came : Intake) → ((a : AckValue) → In (ack a) frames → NamesTaken took a) → Stated took own what value e
       → Arrivals e now n frames came (λ (o : Outcome) (j : Intake). Stated took own what value o.end)
-  arrivals_stated e now n frames came takes tracked i = record {
+  arrivals_stated e now n frames came takes i = record {
     ignored = λ reason. i;
     noted = λ state reason. record { knows = i.knows; stand = i.stand };
     takes = λ state new none. record { knows = after.1.knows; stand = after.1.stand };
@@ -312,4 +322,4 @@ module _ (took : List Packet) (own : List Sent) (what : Limited) (value : ℕ) (
   }
     where
       after : (over : List FrameValue) × Going over (arrived e now n frames).end
-      after = frames_stand frames (begun e now n) (record { takes = takes; tracked = tracked; knows = i.knows; stand = i.stand })
+      after = frames_stand frames (begun e now n) (record { takes = takes; knows = i.knows; stand = i.stand })

@@ -1,29 +1,26 @@
 -- What a poll makes of limits that were said: one that waits goes, no less than it was said before; and each that goes is under way.
-use Rattle.std.proofs.Common.{◌≡◌, ℕ, zero, suc, ◌+◌, ◌-◌, ◌≤◌, Bool, true, false, ◌||◌, List, [], ◌∷◌, ◌++◌, length, replicate, Option, Some, None, refl, sym, ap, ◌∙◌, subst, ◌⊎◌, inl, inr, arith}
+use Rattle.std.proofs.Common.{◌≡◌, ℕ, zero, suc, ◌+◌, ◌-◌, ◌≤◌, Bool, true, false, List, [], ◌∷◌, ◌++◌, length, replicate, Option, Some, None, refl, sym, ap, ◌∙◌, subst, ◌⊎◌, inl, inr, arith}
 use Rattle.std.specs.Prelude.{map, if◌then◌else◌, ◌&&◌}
 use Rattle.std.specs.Option.{option_map}
 use Rattle.std.specs.Ordering.{nat_cmp}
 use Rattle.std.specs.BTreeMap.{is_at}
 use Rattle.std.proofs.lemmas.Bool.{or_parts, or_cases, cases_eq}
-use Rattle.std.proofs.lemmas.List.{append-nil}
-use Rattle.quic_wire_core.specs.declared.stream_id.Dir.{Dir}
 use Rattle.quic_wire_core.specs.declared.stream_id.Dir.TheVariants.{Bi, Uni}
 use Rattle.quic_packet.specs.Number.{truncated}
-use Rattle.quic_wire.specs.Value.{FrameValue, padding, ack, ping, stream, stop_sending, reset_stream, max_data, max_stream_data, max_streams, data_blocked, stream_data_blocked, asks}
-use Rattle.quic_wire.specs.FrameView.{is_one_way}
-use Rattle.quic_streams_parts.specs.Table.{Table, at, added}
-use Rattle.quic_streams_parts.specs.Dirs.{of, with_of, Flags}
+use Rattle.quic_wire.specs.Value.{FrameValue, padding, ack, ping, stream, reset_stream, max_data, max_stream_data, max_streams, data_blocked, stream_data_blocked, asks, datagram}
+use Rattle.quic_streams_parts.specs.Table.{Table, at, put}
+use Rattle.quic_streams_parts.specs.Dirs.{of}
 use Rattle.quic_streams_parts.specs.SendHalf.{SendHalf, frame_of}
 use Rattle.quic_streams_parts.specs.RecvHalf.{RecvHalf, takes_limits, raised_on}
-use Rattle.quic_streams_halves.specs.Halves.{Status, unknown, fresh, live, done, status_from, has_place}
+use Rattle.quic_streams_halves.specs.Halves.{status_from, has_place}
 use Rattle.quic_retransmits.specs.Retransmits.{Retransmits, nothing_waits, has_id, others_of}
 use Rattle.quic_streams_state.specs.declared.state.StreamsState.{StreamsState}
 use Rattle.quic_streams_state.specs.declared.control.ControlKind.{ControlKind}
-use Rattle.quic_streams_state.specs.declared.control.ControlKind.TheVariants.{ResetStream, StopSending, MaxData, MaxStreamData, MaxStreams, DataBlocked, StreamDataBlocked}
-use Rattle.quic_streams_state.specs.State.{is_opened, receives_on, receiving_status}
+use Rattle.quic_streams_state.specs.declared.control.ControlKind.TheVariants.{MaxData, MaxStreamData, MaxStreams}
+use Rattle.quic_streams_state.specs.State.{is_opened, receives_on}
 use Rattle.quic_streams_state.specs.Limits.{raised_data, raised_count, can_send_data_blocked}
 use Rattle.quic_streams_state.specs.Waiting.{stream_data_blocked_limit}
-use Rattle.quic_streams_state.specs.Control.{Entry, limit_entry, data_entry, count_entry, waiting, without_first, first_dropped, first_sent}
+use Rattle.quic_streams_state.specs.Control.{Entry, limit_entry, data_entry, count_entry, waiting, without_first}
 use Rattle.quic_streams_state.specs.Control as control
 use Rattle.quic_streams_laws.specs.ControlWalk.{by_control}
 use Rattle.quic_streams_laws.specs.Content.{AllReceiving}
@@ -37,36 +34,39 @@ use Rattle.quic_streams_laws.specs.Limited.{IsWithin}
 use Rattle.quic_streams_laws.specs.ToldLaws.{first_is}
 use Rattle.quic_recovery_core.specs.PendingAcks.{can_send}
 use Rattle.quic_machine.specs.declared.run.Call.{Call}
-use Rattle.quic_machine.specs.declared.run.Call.TheVariants as calls
 use Rattle.quic_machine.specs.declared.run.Answer.{Answer}
 use Rattle.quic_machine.specs.declared.run.Answer.TheVariants as answers
 use Rattle.quic_machine.specs.Policy.{Policy}
-use Rattle.quic_machine.specs.Numbers.{Numbers, cut_against}
-use Rattle.quic_machine.specs.Tracking.{Tracking, TrackedPacket, carried_in}
-use Rattle.quic_machine.specs.End.{End, streams_at}
+use Rattle.quic_spaces.specs.Numbers.{cut_against}
+use Rattle.quic_machine.specs.Closing.{ticked}
+use Rattle.quic_machine.specs.Tracking.{Tracking, TrackedPacket, is_behind, after_sent, without_record}
+use Rattle.quic_machine.specs.End.{End, with_closing, streams_at, number_of}
 use Rattle.quic_machine.specs.Calls.{is_open}
-use Rattle.quic_machine.specs.Poll.{Polled, Draft, no_frames, ack_of, with_ping_frame, ping_if, with_control_frames, with_asking, with_ack, ack_fits, ack_if, composed_if, composed, asking, frame_room, tracked_if, after_given, polled}
-use Rattle.quic_machine.specs.DraftLaws.{with_half_frame, by_streams, by_writing}
-use Rattle.quic_machine.specs.PollCases.{at_moment, ready_at, frames_padded, frames_at, by_poll_to, composes}
+use Rattle.quic_machine.specs.Poll.{Polled, Draft, no_frames, ack_of, with_ping_frame, ping_if, with_control_frames, with_asking, with_ack, ack_fits, ack_if, composed_if, composed, asking, frame_room, lazied, packet_of, tracked, record_moved, after_given, polled, with_message_frames}
+use Rattle.quic_machine.specs.DraftLaws.{with_half_frame, by_streams, by_writing, by_messages}
+use Rattle.quic_machine.specs.PollCases.{ready_at, ready_leaves, draft_at, frames_padded, by_poll_to, composes}
 use Rattle.quic_machine.specs.CallCases.{is_delivery, is_poll, by_call}
 use Rattle.quic_machine.specs.LeaveCases.{by_expired, by_event}
 use Rattle.quic_machine.specs.Machine.{IsAnswer, after_call, gave}
 use Rattle.quic_headline.specs.Runs.{Packet, In}
 use Rattle.quic_headline.specs.Observer.{Sent}
-use Rattle.quic_headline.specs.Duties.{Limited, AllData, StreamData, StreamCount, limit_frame, limit_waits, WasGiven, AnyIn, IsInFlight, LimitHasArrived}
-use Rattle.quic_headline.proofs.Packets.Entries.{flag_first, listed_first, by_first}
+use Rattle.quic_headline.specs.Duties.{Limited, AllData, StreamData, StreamCount, limit_frame, limit_waits, AnyIn, LimitHasArrived}
+use Rattle.quic_headline.proofs.Packets.Entries.{flag_first, by_first}
 use Rattle.quic_headline.proofs.Packets.Growth.{in_more}
-use Rattle.quic_headline.proofs.Packets.Named.{Stands}
+use Rattle.quic_headline.proofs.Packets.Ascending.{Ascends}
+use Rattle.quic_headline.proofs.Packets.Probes.{by_ready, ready_state}
+use Rattle.quic_headline.proofs.Packets.Given.{composed_number}
 use Rattle.quic_headline.proofs.Places.Told.{in_left, in_right, in_append}
 use Rattle.quic_headline.proofs.Places.Parties.{sent_by, sent_if}
 use Rattle.quic_headline.proofs.Halves.QuietSteps.{composed_quiet}
-use Rattle.quic_headline.proofs.Channel.Received.{Stays, stays_kept, stays_self}
-use Rattle.quic_headline.proofs.Channel.Told.{IsTold, told_stays}
+use Rattle.quic_headline.proofs.Channel.Received.{Stays, stays_kept}
+use Rattle.quic_headline.proofs.Channel.Told.{IsTold}
 use Rattle.quic_headline.proofs.Channel.Given.{Grown, Given, grown_same}
 use Rattle.quic_headline.proofs.Channel.Given as given
-use Rattle.quic_headline.proofs.Duties.Carrier.{any_member, any_added, IsNew}
+use Rattle.quic_headline.proofs.Duties.Carrier.{any_member, any_there, any_put, any_sent, IsNew, ready_new}
+use Rattle.quic_headline.proofs.Duties.Tail.{AskBefore, sent_quiet, ready_before}
 use Rattle.quic_headline.proofs.Duties.Lasting.{WasUsed, Knows, Ends, knows_lasts, ends_lasts, lasting, told_lasts, call_lasts}
-use Rattle.quic_headline.proofs.Duties.Limits.{call_waits, FliesFrom, LimitStands, Stated}
+use Rattle.quic_headline.proofs.Duties.Limits.{merged_left, merged_right, carried_waits, call_waits, FliesFrom, LimitStands, still, detected_more}
 
 -- ---- frames of control
 
@@ -231,11 +231,12 @@ module _ (e : End) (what : Limited) (value : ℕ) (told : IsTold e.streams (limi
 
   -- what asks goes
   asking_moved : (d : Draft) → Untouched d → IsMoved what value (with_asking d)
-  asking_moved d u = by_streams (IsMoved what value) (λ x i h room found first left is counts m. stream_goes x i h room found m) (with_control_frames (with_ping_frame d)) (controls (with_ping_frame d) (pinged d.end.waiting.ping))
+  asking_moved d u = by_streams (IsMoved what value) (λ x i h room found first left is counts m. stream_goes x i h room found m) (with_message_frames (with_control_frames (with_ping_frame d)))
+      (by_messages (IsMoved what value) (λ x m ms is fit moved. moved_more what value x (datagram m) moved) (with_control_frames (with_ping_frame d)) (controls (with_ping_frame d) (pinged d.end.waiting.ping)))
     where
       stream_goes : (x : Draft) (i : ℕ) (h : SendHalf) (room : ℕ) → at x.end.streams.sending.halves.live i ≡ Some h → IsMoved what value x → IsMoved what value (with_half_frame x i h room)
       stream_goes x i h room found (inl waits) = inl waits
-      stream_goes x i h room found (inr (inl ends)) = inr (inl (by_frame (AllReceiving (Ends what)) (lasting (Ends what) (ends_lasts what)) x.end.fair x.end.streams i room h found tt ends))
+      stream_goes x i h room found (inr (inl ends)) = inr (inl (by_frame (AllReceiving (Ends what)) (lasting (Ends what) (ends_lasts what)) x.end.transport.send_fairness x.end.streams i room h found tt ends))
       stream_goes x i h room found (inr (inr said)) = inr (inr (says_left what value x.frames (stream (frame_of i h room) ∷ []) said))
 
       pinged : (b : Bool) → Untouched (ping_if b d)
@@ -328,10 +329,11 @@ composed_sees e shape = by_writing Sees (record {
       | inr new ↦ (let live = due_live d.end.streams id limit kind d.end.waiting.frames entry es is (due ∙ ap (λ (g : FrameValue). Some g) (sym new)) in knows_at id d.end.streams live.0 b.shape live.1)
     ]);
   };
+  message = λ d m ms waits fit b. record { shape = b.shape; frames = λ id limit i. elim (in_more (limit_frame (StreamData id) limit) (datagram m) d.frames i) [ inl old ↦ b.frames id limit old | inr new ↦ cc ] };
   stream = λ d i h room found first some is counts b. record {
-    shape = by_frame IsShaped shape_any d.end.fair d.end.streams i room h found tt b.shape;
+    shape = by_frame IsShaped shape_any d.end.transport.send_fairness d.end.streams i room h found tt b.shape;
     frames = λ id limit among. elim (in_more (limit_frame (StreamData id) limit) (stream (frame_of i h room)) d.frames among) [
-      | inl old ↦ by_frame (AllReceiving (Knows (StreamData id))) (lasting (Knows (StreamData id)) (knows_lasts (StreamData id))) d.end.fair d.end.streams i room h found tt (b.frames id limit old)
+      | inl old ↦ by_frame (AllReceiving (Knows (StreamData id))) (lasting (Knows (StreamData id)) (knows_lasts (StreamData id))) d.end.transport.send_fairness d.end.streams i room h found tt (b.frames id limit old)
       | inr new ↦ cc
     ];
   };
@@ -345,16 +347,13 @@ said_known (StreamCount dir) value d sees i = record { shape = sees.shape; each 
 
 -- ---- a datagram goes
 
-any_same : {X : Type 0} (x : X) (xs : List X) → In x xs → AnyIn (λ y. y ≡ x) xs
-any_same x [] i = absurd i
-any_same x (y ∷ xs) (inl same) = inl (sym same)
-any_same x (y ∷ xs) (inr more) = inr (any_same x xs more)
+-- one that is equal to one of a list is among it
+same_in : {X : Type 0} (x : X) (xs : List X) → AnyIn (λ y. y ≡ x) xs → In x xs
+same_in x xs i = let m = any_member (λ y. y ≡ x) xs i in subst (λ y. In y xs) m.2 m.1
 
--- a tracked packet is tracked with a new one
-added_has : (packets : Table TrackedPacket) (id : ℕ) (v : TrackedPacket) (q : ℕ × TrackedPacket) → IsNew packets id → (q ≡ (id, v)) ⊎ In q packets → In q (added packets id v)
-added_has packets id v q new i =
-    let m = any_member (λ y. y ≡ q) (added packets id v) (any_added (λ y. y ≡ q) packets id v new (elim i [ inl same ↦ inl (sym same) | inr old ↦ inr (any_same q packets old) ])) in
-    subst (λ y. In y (added packets id v)) m.2 m.1
+-- a packet that goes is tracked, and so is one that was, unless it is of the tail
+sent_has : (t : Tracking) (n : ℕ) (p : TrackedPacket) (q : ℕ × TrackedPacket) → IsNew t.packets n → ((r : ℕ × TrackedPacket) → In r t.packets → is_behind t.greatest_asking r.0 ≡ true → r ≡ q → ⊥) → (q ≡ (n, p)) ⊎ In q t.packets → In q (after_sent t n p).packets
+sent_has t n p q new none i = same_in q (after_sent t n p).packets (any_sent (λ y. y ≡ q) t n p new none (elim i [ inl same ↦ inl (sym same) | inr old ↦ inr (any_there (λ y. y ≡ q) q t.packets old refl) ]))
 
 -- frames that don't ask say no limit
 none_says : (what : Limited) (value : ℕ) (fs : List FrameValue) → asking fs ≡ false → In (limit_frame what value) fs → ⊥
@@ -385,18 +384,19 @@ stands_more took own more what value e (inr (inl waits)) = inr (inl waits)
 stands_more took own more what value e (inr (inr (inl i))) = inr (inr (inl (record {
   limit = i.limit;
   flies = record { sent = i.flies.sent; among = in_left i.flies.sent own more i.flies.among; carried = i.flies.carried; packet = i.flies.packet; tracked = i.flies.tracked };
+  again = i.again;
   enough = i.enough;
 })))
 stands_more took own more what value e (inr (inr (inr came))) = inr (inr (inr came))
 
 module _ (took : List Packet) (own : List Sent) (what : Limited) (value : ℕ) where
-  -- a datagram that goes is tracked where it asks
-  given_stands : (b : Bool) (d : Draft) (x : Sent) → asking d.frames ≡ b → x.number ≡ d.end.numbers.next → x.frames ≡ frames_padded d → IsNew d.end.tracking.packets d.end.numbers.next
-      → IsMoved what value d ⊎ FliesFrom own d.end.tracking.packets what value ⊎ LimitHasArrived took what value → LimitStands took (own ++ x ∷ []) what value (tracked_if b d)
-  given_stands true d x is number frames new (inl (inl waits)) = inr (inl waits)
-  given_stands true d x is number frames new (inl (inr (inl ends))) = inl ends
-  given_stands true d x is number frames new (inl (inr (inr said))) =
-      let packet : TrackedPacket = record { generation = d.end.path.generation; time_sent = d.end.closing.clock; carried = carried_in d.frames } in
+  -- a datagram that goes is tracked
+  given_stands : (d : Draft) (x : Sent) → x.number ≡ number_of d.end → x.frames ≡ frames_padded d → AskBefore own d.end.tracking.greatest_asking → IsNew d.end.tracking.packets (number_of d.end)
+      → IsMoved what value d ⊎ FliesFrom own d.end.tracking.packets what value ⊎ LimitHasArrived took what value → LimitStands took (own ++ x ∷ []) what value (tracked d)
+  given_stands d x number frames before new (inl (inl waits)) = inr (inl waits)
+  given_stands d x number frames before new (inl (inr (inl ends))) = inl ends
+  given_stands d x number frames before new (inl (inr (inr said))) =
+      let packet : TrackedPacket = packet_of d in
       inr (inr (inl (record {
         limit = said.limit;
         flies = record {
@@ -404,11 +404,12 @@ module _ (took : List Packet) (own : List Sent) (what : Limited) (value : ℕ) w
           among = in_right x own (x ∷ []) (inl refl);
           carried = subst (In (limit_frame what said.limit)) (sym frames) (in_left (limit_frame what said.limit) d.frames _ said.said);
           packet = packet;
-          tracked = added_has d.end.tracking.packets d.end.numbers.next packet (x.number, packet) new (inl (ap (λ n. (n, packet)) number));
+          tracked = sent_has d.end.tracking (number_of d.end) packet (x.number, packet) new (λ r j behind same. new r.0 r.1 j (ap (λ (y : ℕ × TrackedPacket). y.0) same ∙ number)) (inl (ap (λ n. (n, packet)) number));
         };
+        again = carried_waits what said.limit d.frames said.said;
         enough = said.enough;
       })))
-  given_stands true d x is number frames new (inr (inl i)) =
+  given_stands d x number frames before new (inr (inl i)) =
       inr (inr (inl (record {
         limit = i.limit;
         flies = record {
@@ -416,34 +417,53 @@ module _ (took : List Packet) (own : List Sent) (what : Limited) (value : ℕ) w
           among = in_left i.flies.sent own (x ∷ []) i.flies.among;
           carried = i.flies.carried;
           packet = i.flies.packet;
-          tracked = added_has d.end.tracking.packets d.end.numbers.next _ (i.flies.sent.number, i.flies.packet) new (inr i.flies.tracked);
+          tracked = sent_has d.end.tracking (number_of d.end) (packet_of d) (i.flies.sent.number, i.flies.packet) new (λ r j behind same. (
+              let there : is_behind d.end.tracking.greatest_asking i.flies.sent.number ≡ true = ap (λ (y : ℕ × TrackedPacket). is_behind d.end.tracking.greatest_asking y.0) (sym same) ∙ behind in
+              none_says what i.limit i.flies.sent.frames (sent_quiet own d.end.tracking.greatest_asking i.flies.sent before i.flies.among there) i.flies.carried)) (inr i.flies.tracked);
         };
+        again = i.again;
         enough = i.enough;
       })))
-  given_stands true d x is number frames new (inr (inr came)) = inr (inr (inr came))
-  given_stands false d x is number frames new (inl (inl waits)) = inr (inl waits)
-  given_stands false d x is number frames new (inl (inr (inl ends))) = inl ends
-  given_stands false d x is number frames new (inl (inr (inr said))) = absurd (none_says what said.limit d.frames is said.said)
-  given_stands false d x is number frames new (inr (inl i)) = stands_more took own (x ∷ []) what value d.end (inr (inr (inl i)))
-  given_stands false d x is number frames new (inr (inr came)) = inr (inr (inr came))
+  given_stands d x number frames before new (inr (inr came)) = inr (inr (inr came))
 
-  module _ (p : Policy) (e : End) (now : ℕ) (new : IsNew e.tracking.packets e.numbers.next) where
-    -- the draft of a poll
-    module _ (pings : Bool) (ready : ready_at e now ≡ at_moment e now pings) where
-      before : End
-      before = at_moment e now pings
+  module _ (p : Policy) (e : End) (now : ℕ) (ascends : Ascends e) (before : AskBefore own e.tracking.greatest_asking) (new : IsNew e.tracking.packets (number_of e)) where
+    -- where something waits for each probe: what a probe carries waits
+    ready_stands : LimitStands took own what value e → LimitStands took own what value (ready_at e now)
+    ready_stands i = by_ready (LimitStands took own what value) e now i i (λ q among. moved q among i)
+      where
+        moved : (q : ℕ × TrackedPacket) → In q e.tracking.packets → LimitStands took own what value e → LimitStands took own what value (record_moved (Some q) (with_closing e (ticked e.closing now)))
+        moved q among (inl ends) = inl ends
+        moved q among (inr (inl waits)) = inr (inl (merged_left what e.waiting.frames q.1.carried.retransmits waits))
+        moved q among (inr (inr (inl i))) =
+            let here : ℕ × TrackedPacket = (i.flies.sent.number, i.flies.packet) in
+            let changed : Table TrackedPacket = put e.tracking.packets q.0 (without_record q.1) in
+            elim (any_put (λ y. y ≡ here) (q ≡ here) e.tracking.packets q (without_record q.1) ascends among (λ same. inr same) (any_there (λ y. y ≡ here) here e.tracking.packets i.flies.tracked refl)) [
+              | inl there ↦ inr (inr (inl (still took own what value e.tracking.packets changed i (same_in here changed there))))
+              | inr same ↦ inr (inl (merged_right what e.waiting.frames q.1.carried.retransmits (ap (λ (y : ℕ × TrackedPacket). limit_waits y.1.carried.retransmits what) same ∙ i.again)))
+            ]
+        moved q among (inr (inr (inr came))) = inr (inr (inr came))
 
-      abbrev d : Draft
-      d = composed (at_moment e now pings)
+    -- the end that is ready, and its draft
+    abbrev r : End
+    r = lazied (ready_at e now)
 
-      number : (sent_by e now).number ≡ d.end.numbers.next
-      number = sym (ap (λ (x : Numbers). x.next) (composes (at_moment e now pings)).numbers)
+    abbrev d : Draft
+    d = draft_at e now
 
-      frames : (sent_by e now).frames ≡ frames_padded d
-      frames = ap (λ (y : End). frames_padded (composed y)) ready
+    state : e.streams ≡ r.streams
+    state = sym (ready_state e now)
 
-      fresh_number : IsNew d.end.tracking.packets d.end.numbers.next
-      fresh_number = subst (λ (x : Numbers). IsNew d.end.tracking.packets x.next) (sym (composes (at_moment e now pings)).numbers) (subst (λ (x : Tracking). IsNew x.packets e.numbers.next) (sym (composes (at_moment e now pings)).tracking) new)
+    tracks : (ready_at e now).tracking ≡ d.end.tracking
+    tracks = sym (composes r).tracking
+
+    number : (sent_by e now).number ≡ number_of d.end
+    number = sym (composed_number r ∙ ap (λ (x : End). number_of x) (ready_leaves e now))
+
+    fresh_number : IsNew d.end.tracking.packets (number_of d.end)
+    fresh_number = subst (λ (n : ℕ). IsNew d.end.tracking.packets n) number (subst (λ (t : Tracking). IsNew t.packets (number_of e)) tracks (ready_new e now (number_of e) new))
+
+    asked : AskBefore own d.end.tracking.greatest_asking
+    asked = subst (λ (t : Tracking). AskBefore own t.greatest_asking) tracks (ready_before own e now before)
 
     -- a limit that was said before
     pub polled_stands : IsTold e.streams (limit_frame what value) → Given e.streams (limit_frame what value) → Stays e.streams e.streams → AllReceiving (Knows what) e.streams → LimitStands took own what value e
@@ -451,16 +471,16 @@ module _ (took : List Packet) (own : List Sent) (what : Limited) (value : ℕ) w
     polled_stands told may stays knows i = by_poll_to p e now (λ (q : Polled). LimitStands took (own ++ sent_if (gave (answers.Poll q.answer)) (sent_by e now)) what value q.end) (record {
       silent = stands_more took own [] what value e i;
       failed = stands_more took own [] what value e i;
-      idle = λ pings. stands_more took own [] what value e i;
-      used_up = λ pings. stands_more took own [] what value e i;
-      gives = λ pings is_open numbered some ready.
-          given_stands (asking (d pings ready).frames) (d pings ready) (sent_by e now) refl (number pings ready) (frames pings ready) (fresh_number pings ready) (draft pings ready i);
+      idle = stands_more took own [] what value (ready_at e now) (ready_stands i);
+      used_up = stands_more took own [] what value (ready_at e now) (ready_stands i);
+      gives = λ is_open numbered some. given_stands d (sent_by e now) number refl asked fresh_number (draft (ready_stands i));
     })
       where
-        draft : (pings : Bool) (ready : ready_at e now ≡ at_moment e now pings) → LimitStands took own what value e → IsMoved what value (d pings ready) ⊎ FliesFrom own (d pings ready).end.tracking.packets what value ⊎ LimitHasArrived took what value
-        draft pings ready (inl ends) = inl (inr (inl (composed_quiet (AllReceiving (Ends what)) (is_quiet (AllReceiving (Ends what)) (lasting (Ends what) (ends_lasts what))) (at_moment e now pings) ends)))
-        draft pings ready (inr (inl waits)) = inl (composed_moved (at_moment e now pings) what value told may stays knows waits)
-        draft pings ready (inr (inr more)) = inr (subst (λ (x : Tracking). FliesFrom own x.packets what value ⊎ LimitHasArrived took what value) (sym (composes (at_moment e now pings)).tracking) more)
+        draft : LimitStands took own what value (ready_at e now) → IsMoved what value d ⊎ FliesFrom own d.end.tracking.packets what value ⊎ LimitHasArrived took what value
+        draft (inl ends) = inl (inr (inl (composed_quiet (AllReceiving (Ends what)) (is_quiet (AllReceiving (Ends what)) (lasting (Ends what) (ends_lasts what))) r ends)))
+        draft (inr (inl waits)) =
+            inl (composed_moved r what value (subst (λ t. IsTold t (limit_frame what value)) state told) (subst (λ t. Given t (limit_frame what value)) state may) (subst (λ t. Stays t t) state stays) (subst (AllReceiving (Knows what)) state knows) waits)
+        draft (inr (inr more)) = inr (subst (λ (x : Tracking). FliesFrom own x.packets what value ⊎ LimitHasArrived took what value) tracks more)
 
     -- one that goes
     pub polled_says : IsShaped e.streams → (t : Sent) → In t (sent_if (gave (answers.Poll (polled p e now).answer)) (sent_by e now)) → In (limit_frame what value) t.frames
@@ -469,32 +489,26 @@ module _ (took : List Packet) (own : List Sent) (what : Limited) (value : ℕ) w
         → AllReceiving (Knows what) q.end.streams × LimitStands took (own ++ sent_if (gave (answers.Poll q.answer)) (sent_by e now)) what value q.end) (record {
           silent = λ i said. absurd i;
           failed = λ i said. absurd i;
-          idle = λ pings i said. absurd i;
-          used_up = λ pings i said. absurd i;
-          gives = λ pings is_open numbered some ready i said. goes pings ready (among i said);
+          idle = λ i said. absurd i;
+          used_up = λ i said. absurd i;
+          gives = λ is_open numbered some i said. goes (among i said);
         })
       where
         among : In t (sent_by e now ∷ []) → In (limit_frame what value) t.frames → In (limit_frame what value) (sent_by e now).frames
         among (inl is) said = subst (λ (u : Sent). In (limit_frame what value) u.frames) is said
         among (inr none) said = absurd none
 
-        goes : (pings : Bool) (ready : ready_at e now ≡ at_moment e now pings) → In (limit_frame what value) (sent_by e now).frames
-            → AllReceiving (Knows what) (after_given (d pings ready)).streams × LimitStands took (own ++ sent_by e now ∷ []) what value (after_given (d pings ready))
-        goes pings ready said =
-            let x : Draft = d pings ready in
-            let here : In (limit_frame what value) x.frames =
-            elim (in_append (limit_frame what value) x.frames (replicate (4 - ((truncated x.end.numbers.next (cut_against x.end.numbers)).width + length x.bytes)) padding) (subst (In (limit_frame what value)) (frames pings ready) said)) [
+        goes : In (limit_frame what value) (sent_by e now).frames → AllReceiving (Knows what) (after_given p d).streams × LimitStands took (own ++ sent_by e now ∷ []) what value (after_given p d)
+        goes said =
+            let here : In (limit_frame what value) d.frames =
+            elim (in_append (limit_frame what value) d.frames (replicate (4 - ((truncated (number_of d.end) (cut_against d.end.numbers)).width + length d.bytes)) padding) said) [
               | inl front ↦ front
               | inr behind ↦ absurd (not_padding what value _ behind)
             ] in
-            let known : AllReceiving (Knows what) x.end.streams = said_known what value x (composed_sees (at_moment e now pings) shape) here in (
-              tracked_streams (asking x.frames) x known,
-              given_stands (asking x.frames) x (sent_by e now) refl (number pings ready) (frames pings ready) (fresh_number pings ready) (inl (inr (inr (record { limit = value; said = here; enough = omega arith })))),
+            let known : AllReceiving (Knows what) d.end.streams = said_known what value d (composed_sees r (subst (λ t. IsShaped t) state shape)) here in (
+              known,
+              given_stands d (sent_by e now) number refl asked fresh_number (inl (inr (inr (record { limit = value; said = here; enough = omega arith })))),
             )
-          where
-            tracked_streams : (b : Bool) (x : Draft) → AllReceiving (Knows what) x.end.streams → AllReceiving (Knows what) (tracked_if b x).streams
-            tracked_streams true x k = k
-            tracked_streams false x k = k
 
 -- ---- any call
 
@@ -507,11 +521,12 @@ call_stated took own what value p e theirs call a within apart other is i = go i
     go (inr more) = by_call p e theirs (λ (f : End). LimitStands took own what value f) call a (record {
       same = inr more;
       on_streams = λ on answer. elim more [ inl waits ↦ inr (inl (call_waits what (is_open e.closing.state) (streams_at e) call a waits)) | inr far ↦ inr (inr far) ];
+      on_messages = λ on answer. inr more;
       pings = inr more;
       heard = λ path same. inr more;
       times = λ now acks loss set. by_expired e now (λ (f : End). LimitStands took own what value f) (λ pending tracking timers runs packets.
-          inr (subst (λ (t : Table TrackedPacket). (limit_waits e.waiting.frames what ≡ true) ⊎ FliesFrom own t what value ⊎ LimitHasArrived took what value) (sym packets) more)) acks loss;
+          inr (subst (λ (t : Table TrackedPacket). (limit_waits e.waiting.frames what ≡ true) ⊎ FliesFrom own t what value ⊎ LimitHasArrived took what value) (sym packets) more)) (λ pending timers runs. detected_more took own what value (with_closing e (ticked e.closing now)) more) acks loss;
       polls = λ now set. cc;
       hears = λ now d set. cc;
-      tells = λ asks. by_event e (λ (f : End). LimitStands took own what value f) (λ told. inr more);
+      tells = λ asks. by_event e (λ (f : End). LimitStands took own what value f) (inr more) (λ told. inr more);
     })

@@ -1,10 +1,10 @@
 -- A reset that isn't known to have come waits, or stands in a packet that is tracked: each call keeps that.
 use Rattle.std.proofs.Common.{◌≡◌, ℕ, Bool, true, false, ◌||◌, ◌==◌, List, [], ◌∷◌, ◌++◌, length, Option, Some, None, Result, Ok, Err, refl, sym, ap, ◌∙◌, subst, ◌⊎◌, inl, inr}
-use Rattle.std.specs.Prelude.{if◌then◌else◌, nat_le}
+use Rattle.std.specs.Prelude.{if◌then◌else◌}
 use Rattle.std.specs.Option.{IsSome, is_some, option_map}
 use Rattle.std.proofs.lemmas.Bool.{or_parts, or_cases, or_left, or_right, eqb-true}
 use Rattle.std.proofs.lemmas.List.Folds.{list_any-append}
-use Rattle.quic_wire.specs.Value.{FrameValue, AckValue, ResetStreamValue, ack, stream, reset_stream, stop_sending, max_data, max_stream_data, max_streams, stream_data_blocked, streams_blocked, asks}
+use Rattle.quic_wire.specs.Value.{FrameValue, AckValue, ResetStreamValue, ack, stream, reset_stream, stop_sending, max_data, max_stream_data, max_streams, stream_data_blocked, streams_blocked, asks, datagram}
 use Rattle.quic_send_buffer.specs.declared.stream_meta.StreamMeta.{StreamMeta}
 use Rattle.quic_streams_parts.specs.declared.answers.UpdateError.{UpdateError}
 use Rattle.quic_streams_parts.specs.declared.answers.UpdateError.TheVariants as update_errors
@@ -27,16 +27,16 @@ use Rattle.quic_machine.specs.declared.run.Call.TheVariants as calls
 use Rattle.quic_machine.specs.declared.run.Answer.{Answer}
 use Rattle.quic_machine.specs.declared.run.Answer.TheVariants as answers
 use Rattle.quic_machine.specs.Policy.{Policy}
-use Rattle.quic_machine.specs.Numbers.{Numbers, cut_against}
-use Rattle.quic_machine.specs.Tracking.{Tracking, TrackedPacket, Carried, carried_in, names, acked_by, not_acked_by, is_below, lost_below}
-use Rattle.quic_machine.specs.End.{End, streams_at}
+use Rattle.quic_machine.specs.Closing.{ticked}
+use Rattle.quic_machine.specs.Tracking.{Tracking, TrackedPacket, Carried, carried_in, retransmits_in, without_record, names, acked_by, is_lost, lost_by}
+use Rattle.quic_machine.specs.End.{End, with_closing, streams_at, number_of}
 use Rattle.quic_machine.specs.Calls.{after_nexts, is_open}
 use Rattle.quic_machine.specs.StreamCalls.{IsStreamAnswer, if_ok, after_on_streams}
-use Rattle.quic_machine.specs.Acked.{without_known, reset_acked, resets_acked, stream_acked, streams_acked, packet_acked, packets_acked, stream_lost, streams_lost, carried_lost, packets_lost, after_named}
-use Rattle.quic_machine.specs.Receive.{take_frame, Outcome}
-use Rattle.quic_machine.specs.Poll.{Polled, Draft, no_frames, ack_of, with_ping_frame, ping_if, with_control_frames, with_asking, with_ack, ack_fits, ack_if, composed_if, composed, asking, frame_room, tracked_if, after_given, polled}
-use Rattle.quic_machine.specs.DraftLaws.{with_half_frame, by_streams}
-use Rattle.quic_machine.specs.PollCases.{at_moment, by_poll_to, composes}
+use Rattle.quic_machine.specs.Acked.{without_known, reset_acked, resets_acked, stream_acked, streams_acked, packet_acked, packets_acked, stream_lost, streams_lost, carried_lost, packets_lost, verdict, losses_detected, measured, sampled, without_acked, after_named}
+use Rattle.quic_machine.specs.Receive.{is_above, names_ungiven, take_frame, Outcome}
+use Rattle.quic_machine.specs.Poll.{Polled, Draft, no_frames, ack_of, with_ping_frame, ping_if, with_control_frames, with_asking, with_ack, ack_fits, ack_if, composed_if, composed, asking, frame_room, lazied, packet_of, tracked, record_moved, after_given, polled, with_message, with_message_frames}
+use Rattle.quic_machine.specs.DraftLaws.{with_half_frame, by_streams, by_messages}
+use Rattle.quic_machine.specs.PollCases.{ready_at, ready_leaves, draft_at, by_poll_to, composes}
 use Rattle.quic_machine.specs.FrameCases.{OnStreams, named, ack_taken, begun, passed, frames_leave}
 use Rattle.quic_machine.specs.CallCases.{is_delivery, by_call}
 use Rattle.quic_machine.specs.LeaveCases.{by_expired, by_event}
@@ -45,7 +45,10 @@ use Rattle.quic_headline.specs.Runs.{Packet, Intake, In, reset_by, ResetHasArriv
 use Rattle.quic_headline.specs.Observer.{Sent}
 use Rattle.quic_headline.specs.InFlight.{resets_in}
 use Rattle.quic_headline.specs.Duties.{Reset, has_reset, IsCarried}
-use Rattle.quic_headline.proofs.Packets.Invariant.{AreTracked}
+use Rattle.quic_headline.proofs.Packets.Invariant.{IsCarriedFrom, AreTracked, carried_again}
+use Rattle.quic_headline.proofs.Packets.Ascending.{Ascends}
+use Rattle.quic_headline.proofs.Packets.Probes.{by_ready, ready_tracked}
+use Rattle.quic_headline.proofs.Packets.Given.{composed_number}
 use Rattle.quic_headline.proofs.Packets.Carried.{carried_same}
 use Rattle.quic_headline.proofs.Packets.Delivered.{Arrivals, arrived}
 use Rattle.quic_headline.proofs.Packets.MayGo.{WasReset, AreReady}
@@ -54,7 +57,8 @@ use Rattle.quic_headline.proofs.Places.Told.{in_right}
 use Rattle.quic_headline.proofs.Halves.Waiting.{write_same, write_chunks_same, stop_same, finalize_same, received_reset_same, stream_same, reset_same, stream_acked_same, reset_acked_same}
 use Rattle.quic_headline.proofs.Halves.Pile.{resets_of, entry_moves, entry_leaves}
 use Rattle.quic_headline.proofs.Halves.PilePolls.{resets_more}
-use Rattle.quic_headline.proofs.Duties.Carrier.{any_either, any_member, any_added, IsNew}
+use Rattle.quic_headline.proofs.Duties.Carrier.{any_either, any_member, any_put, any_sent, IsNew, ready_new}
+use Rattle.quic_headline.proofs.Duties.Tail.{AskBefore, Quiet, tail_quiet, ready_before}
 
 -- ---- lists of resets
 
@@ -144,39 +148,53 @@ losses_wait (p ∷ ps) e id i = losses_wait ps (carried_lost p.1.carried e) id (
     one (inr (inl here)) = inl (ap (has_reset id) same ∙ has_behind id (waiting_of e) c.retransmits.reset_stream here)
     one (inr (inr more)) = inr more
 
+-- a reset in what was carried stands in one of the frames
+carried_has : (c : Carried) (fs : List FrameValue) (id : ℕ) → IsCarriedFrom c fs → has_reset id c.retransmits.reset_stream ≡ true → has_reset id (resets_in fs) ≡ true
+carried_has c fs id from is = go (carried_again c fs from)
+  where
+    go : (c.retransmits ≡ retransmits_in fs) ⊎ (c.retransmits ≡ nothing_waits) → has_reset id (resets_in fs) ≡ true
+    go (inl same) = sym (carried_resets fs id) ∙ (ap (λ (r : Retransmits). has_reset id r.reset_stream) (sym same) ∙ is)
+    go (inr none) = let clash : false ≡ true = ap (λ (r : Retransmits). has_reset id r.reset_stream) (sym none) ∙ is in cc
+
 -- what a packet carried that was taken came
 carried_came : (took : List Packet) (c : Carried) (id : ℕ) → WasCarried took c → has_reset id c.retransmits.reset_stream ≡ true → ResetHasArrived took id
 carried_came took c id was is =
-    let found = frame_resets was.packet.frames id (sym (carried_resets was.packet.frames id) ∙ (ap (λ (x : Carried). has_reset id x.retransmits.reset_stream) (sym was.is) ∙ is)) in
+    let found = frame_resets was.packet.frames id (carried_has c was.packet.frames id was.is is) in
     record { packet = was.packet; was_taken = was.was_taken; frame = found.0; carried = found.1; of_stream = found.2 }
 
 module _ (took : List Packet) (id : ℕ) where
+  abbrev HasIt : ℕ × TrackedPacket → Type 0
+  HasIt q = has_reset id q.1.carried.retransmits.reset_stream ≡ true
+
+  -- losses that are detected
+  detected_stands : (e : End) → ResetStands took id e → ResetStands took id (losses_detected e)
+  detected_stands e (inl waits) = inl (losses_wait (lost_by (verdict e) e.tracking.packets) e id (inl waits))
+  detected_stands e (inr (inl flying)) = elim (any_either HasIt (is_lost (verdict e)) e.tracking.packets flying) [ inl gone ↦ inl (losses_wait (lost_by (verdict e) e.tracking.packets) e id (inr gone)) | inr kept ↦ inr (inl kept) ]
+  detected_stands e (inr (inr came)) = inr (inr came)
+
+  -- a round trip is measured, if one is
+  sampled_stands : (o : Option TrackedPacket) (a : AckValue) (e : End) → ResetStands took id e → ResetStands took id (sampled o a e)
+  sampled_stands None a e i = i
+  sampled_stands (Some p) a e i = i
+
   -- an ACK frame that names these packets
-  named_stands : (ps : Table TrackedPacket) (a : AckValue) (e : End) → acked_by a e.tracking.packets ≡ ps → ((n : ℕ) (t : TrackedPacket) → In (n, t) (acked_by a e.tracking.packets) → WasCarried took t.carried) → ResetStands took id e → ResetStands took id (after_named ps a e)
-  named_stands [] a e is was i = i
-  named_stands (p ∷ ps) a e is was i = go i
+  named_stands : (ps : Table TrackedPacket) (rises : Bool) (a : AckValue) (e : End) → acked_by a e.tracking.packets ≡ ps → ((n : ℕ) (t : TrackedPacket) → In (n, t) (acked_by a e.tracking.packets) → WasCarried took t.carried) → ResetStands took id e → ResetStands took id (after_named ps rises a e)
+  named_stands [] rises a e is was i = i
+  named_stands (p ∷ ps) rises a e is was i =
+      let o : Option TrackedPacket = measured rises a (p ∷ ps) in
+      let left : End = without_acked (p ∷ ps) a e in
+      detected_stands (sampled o a left) (sampled_stands o a left (go i))
     where
       packets : Table TrackedPacket
       packets = e.tracking.packets
 
-      left : Table TrackedPacket
-      left = not_acked_by a packets
-
-      lost : Table TrackedPacket
-      lost = lost_below (cut_against e.numbers) left
-
-      -- what waits, or is lost
-      waits : (has_reset id (waiting_of e) ≡ true) ⊎ IsCarried lost (Reset id) → ResetStands took id (after_named (p ∷ ps) a e)
-      waits (inl was) = inl (losses_wait lost (packets_acked (p ∷ ps) e) id (inl (ap (has_reset id) (packets_wait (p ∷ ps) e) ∙ was)))
-      waits (inr gone) = inl (losses_wait lost (packets_acked (p ∷ ps) e) id (inr gone))
-
-      go : ResetStands took id e → ResetStands took id (after_named (p ∷ ps) a e)
-      go (inl waiting) = waits (inl waiting)
-      go (inr (inl flying)) = elim (any_either (λ q. has_reset id q.1.carried.retransmits.reset_stream ≡ true) (λ q. names a q.0) packets flying) [
+      go : ResetStands took id e → ResetStands took id (without_acked (p ∷ ps) a e)
+      go (inl waiting) = inl (ap (has_reset id) (packets_wait (p ∷ ps) e) ∙ waiting)
+      go (inr (inl flying)) = elim (any_either HasIt (λ q. names a q.0) packets flying) [
         | inl acked ↦ (
-            let m = any_member (λ q. has_reset id q.1.carried.retransmits.reset_stream ≡ true) (acked_by a packets) acked in
+            let m = any_member HasIt (acked_by a packets) acked in
             inr (inr (carried_came took m.0.1.carried id (was m.0.0 m.0.1 m.1) m.2)))
-        | inr other ↦ elim (any_either (λ q. has_reset id q.1.carried.retransmits.reset_stream ≡ true) (λ q. is_below (cut_against e.numbers) q.0) left other) [ inl gone ↦ waits (inr gone) | inr kept ↦ inr (inl kept) ]
+        | inr other ↦ inr (inl other)
       ]
       go (inr (inr came)) = inr (inr came)
 
@@ -198,7 +216,7 @@ module _ (took : List Packet) (id : ℕ) where
     -- an ACK frame, taken or refused
     ack_stands : (b : Bool) (a : AckValue) (e : End) → NamesTaken took a → AreTracked sents e.tracking.packets → ResetStands took id e → ResetStands took id (ack_taken b a e).end
     ack_stands true a e takes tracked i = i
-    ack_stands false a e takes tracked i = named_stands (acked_by a e.tracking.packets) a (named a e) refl (named_carried took sents stands a e.tracking.packets takes tracked) i
+    ack_stands false a e takes tracked i = named_stands (acked_by a e.tracking.packets) (is_above e.numbers.largest_acked a.largest) a (named a e) refl (named_carried took sents stands a e.tracking.packets takes tracked) i
 
     -- over the frames of a packet
     record Going (left : List FrameValue) (e : End) : Type 0 where
@@ -208,8 +226,8 @@ module _ (took : List Packet) (id : ℕ) where
 
     -- any frame
     frame_stands : (f : FrameValue) (left : List FrameValue) (e : End) → Going (f ∷ left) e → ResetStands took id (take_frame f e).end
-    frame_stands f left e g = by_frame f e (λ h p. ResetStands took id p.end) (λ a is. ack_stands (nat_le e.numbers.next a.largest) a e (g.takes a (inl is)) g.tracked g.stand)
-        (λ other on. frame_waits f e on g.stand) (λ other same. subst (ResetStands took id) (sym same) g.stand)
+    frame_stands f left e g = by_frame f e (λ h p. ResetStands took id p.end) (λ a is. ack_stands (names_ungiven a e) a e (g.takes a (inl is)) g.tracked g.stand)
+        (λ other on. frame_waits f e on g.stand) (λ other m same. subst (ResetStands took id) (sym same) g.stand)
 
     frames_stand : (fs : List FrameValue) (e : End) → ((a : AckValue) → In (ack a) fs → NamesTaken took a) → AreTracked sents e.tracking.packets → ResetStands took id e → ResetStands took id (passed fs e).end
     frames_stand fs e takes tracked i = (frames_leave Going (λ f left x g. record {
@@ -293,7 +311,8 @@ module _ (e : End) (ready : AreReady e.streams.sending.halves.live e.waiting.fra
 
   -- what asks goes
   asking_moved : (d : Draft) → Untouched d → IsMoved (with_asking d)
-  asking_moved d u = by_streams IsMoved (λ x i h room found first left is counts m. moved_more x (stream (frame_of i h room)) (with_half_frame x i h room).end refl m) (with_control_frames (with_ping_frame d)) (controls (with_ping_frame d) (pinged d.end.waiting.ping))
+  asking_moved d u = by_streams IsMoved (λ x i h room found first left is counts m. moved_more x (stream (frame_of i h room)) (with_half_frame x i h room).end refl m) (with_message_frames (with_control_frames (with_ping_frame d)))
+      (by_messages IsMoved (λ x m ms is fit moved. moved_more x (datagram m) (with_message x m ms).end refl moved) (with_control_frames (with_ping_frame d)) (controls (with_ping_frame d) (pinged d.end.waiting.ping)))
     where
       pinged : (b : Bool) → Untouched (ping_if b d)
       pinged true = record { streams = u.streams; waits = u.waits }
@@ -329,39 +348,63 @@ none_resets [] id silent is = cc
 none_resets (reset_stream f ∷ fs) id silent is = cc
 none_resets (f ∷ fs) id silent is = none_resets fs id (or_parts (asks f) (asking fs) silent).1 is
 
-module _ (took : List Packet) (id : ℕ) where
-  -- a datagram that goes is tracked where it asks
-  given_stands : (b : Bool) (d : Draft) → asking d.frames ≡ b → IsNew d.end.tracking.packets d.end.numbers.next
-      → ((has_reset id (waiting_of d.end) ≡ true) ⊎ (has_reset id (resets_in d.frames) ≡ true)) ⊎ IsCarried d.end.tracking.packets (Reset id) ⊎ ResetHasArrived took id → ResetStands took id (tracked_if b d)
-  given_stands true d is new (inl (inl waits)) = inl waits
-  given_stands true d is new (inl (inr went)) = inr (inl (any_added (λ p. has_reset id p.1.carried.retransmits.reset_stream ≡ true) d.end.tracking.packets d.end.numbers.next _ new (inl (carried_resets d.frames id ∙ went))))
-  given_stands true d is new (inr (inl flies)) = inr (inl (any_added (λ p. has_reset id p.1.carried.retransmits.reset_stream ≡ true) d.end.tracking.packets d.end.numbers.next _ new (inr flies)))
-  given_stands true d is new (inr (inr came)) = inr (inr came)
-  given_stands false d is new (inl (inl waits)) = inl waits
-  given_stands false d is new (inl (inr went)) = absurd (none_resets d.frames id is went)
-  given_stands false d is new (inr (inl flies)) = inr (inl flies)
-  given_stands false d is new (inr (inr came)) = inr (inr came)
+module _ (took : List Packet) (sents : List Sent) (id : ℕ) where
+  -- a packet of the tail reset nothing
+  tail_resets : (q : ℕ × TrackedPacket) → Quiet sents q → HasIt took id q → ⊥
+  tail_resets q quiet is = none_resets quiet.sent.frames id quiet.quiet (carried_has q.1.carried quiet.sent.frames id quiet.carried is)
 
-  -- after a poll
-  polled_stands : (p : Policy) (e : End) (now : ℕ) → IsNew e.tracking.packets e.numbers.next → AreReady e.streams.sending.halves.live e.waiting.frames → ResetStands took id e → ResetStands took id (polled p e now).end
-  polled_stands p e now new ready i = by_poll_to p e now (λ (q : Polled). ResetStands took id q.end) (record {
-    silent = i;
-    failed = i;
-    idle = λ pings. i;
-    used_up = λ pings. i;
-    gives = λ pings is may some rest. gives pings;
-  })
+  -- a datagram that goes is tracked
+  given_stands : (d : Draft) → AreTracked sents d.end.tracking.packets → AskBefore sents d.end.tracking.greatest_asking → IsNew d.end.tracking.packets (number_of d.end)
+      → ((has_reset id (waiting_of d.end) ≡ true) ⊎ (has_reset id (resets_in d.frames) ≡ true)) ⊎ IsCarried d.end.tracking.packets (Reset id) ⊎ ResetHasArrived took id → ResetStands took id (tracked d)
+  given_stands d were before new i = go i
     where
-      gives : (pings : Bool) → ResetStands took id (after_given (composed (at_moment e now pings)))
-      gives pings =
-          let before : End = at_moment e now pings in
-          let d : Draft = composed before in
-          let same = composes before in
-          let fresh : IsNew d.end.tracking.packets d.end.numbers.next = subst (λ (x : Numbers). IsNew d.end.tracking.packets x.next) (sym same.numbers) (subst (λ (x : Tracking). IsNew x.packets e.numbers.next) (sym same.tracking) new) in
-          given_stands (asking d.frames) d refl fresh (elim i [
-            | inl waits ↦ inl (composed_moved before ready id waits)
-            | inr more ↦ inr (subst (λ (x : Tracking). IsCarried x.packets (Reset id) ⊎ ResetHasArrived took id) (sym same.tracking) more)
-          ])
+      flies : HasIt took id (number_of d.end, packet_of d) ⊎ IsCarried d.end.tracking.packets (Reset id) → ResetStands took id (tracked d)
+      flies o = inr (inl (any_sent (HasIt took id) d.end.tracking (number_of d.end) (packet_of d) new (λ q j behind. tail_resets q (tail_quiet sents d.end.tracking were before q j behind)) o))
+
+      go : ((has_reset id (waiting_of d.end) ≡ true) ⊎ (has_reset id (resets_in d.frames) ≡ true)) ⊎ IsCarried d.end.tracking.packets (Reset id) ⊎ ResetHasArrived took id → ResetStands took id (tracked d)
+      go (inl (inl waits)) = inl waits
+      go (inl (inr went)) = flies (inl (carried_resets d.frames id ∙ went))
+      go (inr (inl flying)) = flies (inr flying)
+      go (inr (inr came)) = inr (inr came)
+
+  module _ (e : End) (now : ℕ) (ascends : Ascends e) (were : AreTracked sents e.tracking.packets) (before : AskBefore sents e.tracking.greatest_asking) (new : IsNew e.tracking.packets (number_of e)) where
+    -- where something waits for each probe: what a probe carries waits
+    ready_stands : ResetStands took id e → ResetStands took id (ready_at e now)
+    ready_stands i = by_ready (ResetStands took id) e now i i (λ p among. moved p among i)
+      where
+        moved : (p : ℕ × TrackedPacket) → In p e.tracking.packets → ResetStands took id e → ResetStands took id (record_moved (Some p) (with_closing e (ticked e.closing now)))
+        moved p among (inl waits) = inl (has_front id (waiting_of e) p.1.carried.retransmits.reset_stream waits)
+        moved p among (inr (inl flying)) = elim (any_put (HasIt took id) (HasIt took id p) e.tracking.packets p (without_record p.1) ascends among (λ here. inr here) flying) [
+          | inl there ↦ inr (inl there)
+          | inr here ↦ inl (has_behind id (waiting_of e) p.1.carried.retransmits.reset_stream here)
+        ]
+        moved p among (inr (inr came)) = inr (inr came)
+
+    -- after a poll
+    polled_stands : (p : Policy) → AreReady (ready_at e now).streams.sending.halves.live (ready_at e now).waiting.frames → ResetStands took id e → ResetStands took id (polled p e now).end
+    polled_stands p ready i = by_poll_to p e now (λ (q : Polled). ResetStands took id q.end) (record {
+      silent = i;
+      failed = i;
+      idle = ready_stands i;
+      used_up = ready_stands i;
+      gives = λ is may some. gives;
+    })
+      where
+        gives : ResetStands took id (after_given p (draft_at e now))
+        gives =
+            let r : End = ready_at e now in
+            let d : Draft = draft_at e now in
+            let same = composes (lazied r) in
+            let tracks : r.tracking ≡ d.end.tracking = sym same.tracking in
+            let number : number_of e ≡ number_of d.end = sym (composed_number (lazied r) ∙ ap (λ (x : End). number_of x) (ready_leaves e now)) in
+            given_stands d
+            (subst (λ (t : Tracking). AreTracked sents t.packets) tracks (ready_tracked sents e now were))
+            (subst (λ (t : Tracking). AskBefore sents t.greatest_asking) tracks (ready_before sents e now before))
+            (subst (λ (n : ℕ). IsNew d.end.tracking.packets n) number (subst (λ (t : Tracking). IsNew t.packets (number_of e)) tracks (ready_new e now (number_of e) new)))
+            (elim (ready_stands i) [
+              | inl waits ↦ inl (composed_moved (lazied r) ready id waits)
+              | inr more ↦ inr (subst (λ (x : Tracking). IsCarried x.packets (Reset id) ⊎ ResetHasArrived took id) tracks more)
+            ])
 
 -- ---- calls on streams
 
@@ -430,16 +473,18 @@ module _ (id : ℕ) where
 
 -- ---- any call
 
-module _ (took : List Packet) (id : ℕ) where
+module _ (took : List Packet) (sents : List Sent) (id : ℕ) where
   -- but a delivery
-  pub call_stands : (p : Policy) (e : End) (theirs : List (List ℕ)) (call : Call) (a : Answer) → is_delivery call ≡ false → IsNew e.tracking.packets e.numbers.next → AreReady e.streams.sending.halves.live e.waiting.frames → ResetStands took id e → ResetStands took id (after_call p e theirs call a)
-  call_stands p e theirs call a apart new ready i = by_call p e theirs (ResetStands took id) call a (record {
+  pub call_stands : (p : Policy) (e : End) (theirs : List (List ℕ)) (call : Call) (a : Answer) → is_delivery call ≡ false → Ascends e → AreTracked sents e.tracking.packets → AskBefore sents e.tracking.greatest_asking → IsNew e.tracking.packets (number_of e)
+      → ((now : ℕ) → AreReady (ready_at e now).streams.sending.halves.live (ready_at e now).waiting.frames) → ResetStands took id e → ResetStands took id (after_call p e theirs call a)
+  call_stands p e theirs call a apart ascends were before new ready i = by_call p e theirs (ResetStands took id) call a (record {
     same = i;
     on_streams = λ on answer. elim i [ inl waits ↦ inl (call_waits id (is_open e.closing.state) (streams_at e) call a waits) | inr more ↦ inr more ];
+    on_messages = λ on answer. i;
     pings = i;
     heard = λ path same. i;
-    times = λ now acks loss set. by_expired e now (ResetStands took id) (λ pending tracking timers runs packets. rw packets i) acks loss;
-    polls = λ now set. polled_stands took id p e now new ready i;
+    times = λ now acks loss set. by_expired e now (ResetStands took id) (λ pending tracking timers runs packets. rw packets i) (λ pending timers runs. detected_stands took id (with_closing e (ticked e.closing now)) i) acks loss;
+    polls = λ now set. polled_stands took sents id e now ascends were before new p (ready now) i;
     hears = λ now d set. cc;
-    tells = λ asks. by_event e (ResetStands took id) (λ told. i);
+    tells = λ asks. by_event e (ResetStands took id) i (λ told. i);
   })

@@ -1,10 +1,9 @@
 -- What of an end's streams is in flight stands in a packet that it tracks: each call keeps that.
-use Rattle.std.proofs.Common.{◌≡◌, ℕ, Bool, true, false, not, List, [], ◌∷◌, ◌++◌, Option, Some, None, refl, sym, ap, subst, ◌⊎◌, inl, inr}
-use Rattle.std.specs.Prelude.{nat_le}
+use Rattle.std.proofs.Common.{◌≡◌, ℕ, Bool, true, false, not, List, [], ◌∷◌, ◌++◌, Option, Some, None, refl, sym, ap, ◌∙◌, subst, ◌⊎◌, inl, inr}
 use Rattle.std.proofs.lemmas.Bool.{or_parts}
-use Rattle.quic_wire.specs.Value.{FrameValue, AckValue, ack, ping, stream, reset_stream, stop_sending, max_data, max_stream_data, max_streams, stream_data_blocked, streams_blocked, asks}
+use Rattle.quic_wire.specs.Value.{FrameValue, AckValue, ack, ping, stream, reset_stream, stop_sending, max_data, max_stream_data, max_streams, stream_data_blocked, streams_blocked, asks, datagram}
 use Rattle.quic_send_buffer.specs.declared.stream_meta.StreamMeta.{StreamMeta}
-use Rattle.quic_streams_parts.specs.Table.{Table, at, added}
+use Rattle.quic_streams_parts.specs.Table.{Table, at, put}
 use Rattle.quic_streams_parts.specs.SendHalf.{SendHalf, frame_of, meta_of, half_after}
 use Rattle.quic_streams_state.specs.declared.state.StreamsState.{StreamsState}
 use Rattle.quic_streams_state.specs.Frames.{after_frame_sent}
@@ -15,22 +14,27 @@ use Rattle.quic_streams_laws.specs.WrittenHalves.{stopped_holds, limited_holds, 
 use Rattle.quic_machine.specs.declared.run.Call.{Call}
 use Rattle.quic_machine.specs.declared.run.Answer.{Answer}
 use Rattle.quic_machine.specs.Policy.{Policy}
-use Rattle.quic_machine.specs.Numbers.{Numbers, cut_against}
-use Rattle.quic_machine.specs.Tracking.{Tracking, TrackedPacket, Carried, dir_named, streams_in, carried_in, names, acked_by, not_acked_by, is_below, lost_below, kept_above}
-use Rattle.quic_machine.specs.End.{End, streams_at}
+use Rattle.quic_machine.specs.Closing.{ticked}
+use Rattle.quic_machine.specs.Tracking.{Tracking, TrackedPacket, Carried, dir_named, streams_in, without_record, names, acked_by, not_acked_by, is_lost, lost_by, kept_by}
+use Rattle.quic_machine.specs.End.{End, with_closing, streams_at, number_of}
 use Rattle.quic_machine.specs.Calls.{is_open}
 use Rattle.quic_machine.specs.StreamCalls.{is_on_streams}
-use Rattle.quic_machine.specs.Acked.{without_known, resets_acked, stream_acked, streams_acked, packet_acked, packets_acked, stream_lost, streams_lost, carried_lost, packets_lost, after_named}
-use Rattle.quic_machine.specs.Receive.{take_frame, Outcome}
-use Rattle.quic_machine.specs.Poll.{Polled, Draft, ack_of, composed, asking, tracked_if, after_given, polled}
+use Rattle.quic_machine.specs.Acked.{without_known, resets_acked, stream_acked, streams_acked, packet_acked, packets_acked, stream_lost, streams_lost, carried_lost, packets_lost, verdict, losses_detected, measured, sampled, without_acked, after_named}
+use Rattle.quic_machine.specs.Receive.{is_above, names_ungiven, take_frame, Outcome}
+use Rattle.quic_machine.specs.Poll.{Polled, Draft, ack_of, composed, asking, lazied, packet_of, tracked, after_given, polled}
 use Rattle.quic_machine.specs.DraftLaws.{by_writing}
-use Rattle.quic_machine.specs.PollCases.{at_moment, by_poll_to, composes}
+use Rattle.quic_machine.specs.PollCases.{ready_at, ready_leaves, draft_at, by_poll_to, composes}
 use Rattle.quic_machine.specs.FrameCases.{OnStreams, named, ack_taken, begun, passed, resets_acked_keep, frames_leave}
 use Rattle.quic_machine.specs.CallCases.{is_delivery, by_call}
 use Rattle.quic_machine.specs.LeaveCases.{by_expired, by_event}
 use Rattle.quic_machine.specs.Machine.{IsAnswer, after_call}
 use Rattle.quic_headline.specs.Runs.{Intake, In}
 use Rattle.quic_headline.specs.Duties.{Duty, AnyIn, Carries}
+use Rattle.quic_headline.specs.Observer.{Sent}
+use Rattle.quic_headline.proofs.Packets.Invariant.{AreTracked, carried_streams}
+use Rattle.quic_headline.proofs.Packets.Ascending.{Ascends}
+use Rattle.quic_headline.proofs.Packets.Probes.{by_ready, ready_tracked}
+use Rattle.quic_headline.proofs.Packets.Given.{composed_number}
 use Rattle.quic_headline.proofs.Packets.Delivered.{Arrivals, arrived}
 use Rattle.quic_headline.proofs.Packets.Named.{in_filter, by_frame, frame_fewer}
 use Rattle.quic_headline.proofs.Halves.Small.{IsSmallLimit}
@@ -39,7 +43,8 @@ use Rattle.quic_headline.proofs.Halves.WordsCalls.{done_none, call_on_is}
 use Rattle.quic_headline.proofs.Halves.Wrote.{done_by}
 use Rattle.quic_headline.proofs.Duties.Flies.{flies_more, flies_went}
 use Rattle.quic_headline.proofs.Duties.InStreams.{AllFly, all_more, fly_kept, fly_calls, fly_acked, fly_lost}
-use Rattle.quic_headline.proofs.Duties.Carrier.{any_either, any_front, any_behind, any_added, IsNew, all_leave}
+use Rattle.quic_headline.proofs.Duties.Carrier.{any_either, any_front, any_behind, any_put, any_sent, IsNew, ready_new, all_leave}
+use Rattle.quic_headline.proofs.Duties.Tail.{AskBefore, Quiet, tail_quiet, ready_before}
 
 -- ---- where it stands
 
@@ -123,22 +128,36 @@ module _ (done : ℕ → Wrote) where
   abbrev pub TrackedEnds : Table TrackedPacket → Type 0
   TrackedEnds packets = (p : ℕ × TrackedPacket) → In p packets → EndsIn p
 
-  -- an ACK frame that names these packets
-  named_fly : (ps : Table TrackedPacket) (a : AckValue) (e : End) → acked_by a e.tracking.packets ≡ ps → TrackedEnds e.tracking.packets → Fly done e → Fly done (after_named ps a e)
-  named_fly [] a e is ends i = i
-  named_fly (p ∷ ps) a e is ends i =
-      let greatest : ℕ = cut_against e.numbers in
+  -- losses that are detected
+  detected_fly : (e : End) → TrackedEnds e.tracking.packets → Fly done e → Fly done (losses_detected e)
+  detected_fly e ends i =
       let packets : Table TrackedPacket = e.tracking.packets in
-      let left : Table TrackedPacket = not_acked_by a packets in
-      let kept : Duty → Type 0 = InPackets (kept_above greatest left) in
-      let lost : Duty → Type 0 = λ u. InPackets (lost_below greatest left) u ⊎ kept u in
-      let all : Stand (λ u. InPackets (p ∷ ps) u ⊎ lost u) e =
-      stand_more (InPackets packets) (λ u. InPackets (p ∷ ps) u ⊎ lost u) e (λ u s. elim (any_either (λ q. InPacket q u) (λ q. names a q.0) packets s) [
+      let lost : Table TrackedPacket = lost_by (verdict e) packets in
+      let kept : Duty → Type 0 = InPackets (kept_by (verdict e) packets) in
+      losses_stand kept lost e (λ q j. ends q (in_filter (is_lost (verdict e)) q packets j))
+      (stand_more (InPackets packets) (λ u. InPackets lost u ⊎ kept u) e (λ u s. any_either (λ q. InPacket q u) (is_lost (verdict e)) packets s) i)
+
+  -- a round trip is measured, if one is
+  sampled_fly : (o : Option TrackedPacket) (a : AckValue) (e : End) → TrackedEnds e.tracking.packets × Fly done e → TrackedEnds (sampled o a e).tracking.packets × Fly done (sampled o a e)
+  sampled_fly None a e i = i
+  sampled_fly (Some p) a e i = i
+
+  -- an ACK frame that names these packets
+  named_fly : (ps : Table TrackedPacket) (rises : Bool) (a : AckValue) (e : End) → acked_by a e.tracking.packets ≡ ps → TrackedEnds e.tracking.packets → Fly done e → Fly done (after_named ps rises a e)
+  named_fly [] rises a e is ends i = i
+  named_fly (p ∷ ps) rises a e is ends i =
+      let packets : Table TrackedPacket = e.tracking.packets in
+      let left : Duty → Type 0 = InPackets (not_acked_by a packets) in
+      let all : Stand (λ u. InPackets (p ∷ ps) u ⊎ left u) e =
+      stand_more (InPackets packets) (λ u. InPackets (p ∷ ps) u ⊎ left u) e (λ u s. elim (any_either (λ q. InPacket q u) (λ q. names a q.0) packets s) [
         | inl acked ↦ inl (subst (λ (t : Table TrackedPacket). InPackets t u) is acked)
-        | inr other ↦ inr (any_either (λ q. InPacket q u) (λ q. is_below greatest q.0) left other)
+        | inr other ↦ inr other
       ]) i in
-      losses_stand kept (lost_below greatest left) (packets_acked (p ∷ ps) e) (λ q j. ends q (in_filter (λ r. not (names a r.0)) q packets (in_filter (λ r. is_below greatest r.0) q left j)))
-      (packets_stand lost (p ∷ ps) e (λ q j. ends q (in_filter (λ r. names a r.0) q packets (subst (λ (t : Table TrackedPacket). In q t) (sym is) j))) all)
+      let acked : Fly done (without_acked (p ∷ ps) a e) = packets_stand left (p ∷ ps) e (λ q j. ends q (in_filter (λ r. names a r.0) q packets (subst (λ (t : Table TrackedPacket). In q t) (sym is) j))) all in
+      let few : TrackedEnds (without_acked (p ∷ ps) a e).tracking.packets = (λ q j. ends q (in_filter (λ r. not (names a r.0)) q packets j)) in
+      let o : Option TrackedPacket = measured rises a (p ∷ ps) in
+      let timed = sampled_fly o a (without_acked (p ∷ ps) a e) (few, acked) in
+      detected_fly (sampled o a (without_acked (p ∷ ps) a e)) timed.0 timed.1
 
   -- ---- frames on streams
 
@@ -172,13 +191,13 @@ module _ (done : ℕ → Wrote) where
   -- an ACK frame, taken or refused
   ack_fly : (b : Bool) (a : AckValue) (e : End) → TrackedEnds e.tracking.packets → Fly done e → Fly done (ack_taken b a e).end
   ack_fly true a e ends i = i
-  ack_fly false a e ends i = named_fly (acked_by a e.tracking.packets) a (named a e) refl ends i
+  ack_fly false a e ends i = named_fly (acked_by a e.tracking.packets) (is_above e.numbers.largest_acked a.largest) a (named a e) refl ends i
 
   -- any frame
   frame_fly : (f : FrameValue) (e : End) → IsSmallLimit f → TrackedEnds e.tracking.packets → Fly done e → Fly done (take_frame f e).end
-  frame_fly f e small ends i = by_frame f e (λ g p. Fly done p.end) (λ a is. ack_fly (nat_le e.numbers.next a.largest) a e ends i)
+  frame_fly f e small ends i = by_frame f e (λ g p. Fly done p.end) (λ a is. ack_fly (names_ungiven a e) a e ends i)
       (λ other on. subst (λ (t : Tracking). AllFly (InPackets t.packets) done (take_frame f e).end.streams) (sym (frame_tracks f e on)) (frame_stands (InPackets e.tracking.packets) f e on small i))
-      (λ other same. subst (Fly done) (sym same) i)
+      (λ other m same. subst (Fly done) (sym same) i)
 
   -- over the frames of a packet
   record Going (left : List FrameValue) (e : End) : Type 0 where
@@ -247,7 +266,8 @@ module _ (done : ℕ → Wrote) (F : Duty → Type 0) where
     control = λ d kind entry es f is due b. (
         let G : Duty → Type 0 = InDraft F (d.frames ++ f ∷ []) in
         by_told (AllFly G done) (fly_kept G done) kind d.end.waiting.frames entry es d.end.streams is (more_drafted d (f ∷ []) d.end.streams b));
-    stream = λ d id h room found first some is counts b. half_drafted d d.end.fair id room h found b;
+    message = λ d m ms is fit b. more_drafted d (datagram m ∷ []) d.end.streams b;
+    stream = λ d id h room found first some is counts b. half_drafted d d.end.transport.send_fairness id room h found b;
   }) e (all_more F (InDraft F []) done e.streams (λ u f. inr f) i)
 
 -- frames that don't ask have no STREAM frame among them
@@ -256,38 +276,52 @@ none_asks [] u silent i = i
 none_asks (stream f ∷ fs) u silent i = cc
 none_asks (f ∷ fs) u silent i = none_asks fs u (or_parts (asks f) (asking fs) silent).1 i
 
--- a datagram that goes is tracked where it asks
-given_fly : (done : ℕ → Wrote) (b : Bool) (d : Draft) → asking d.frames ≡ b → IsNew d.end.tracking.packets d.end.numbers.next → Drafted done (InPackets d.end.tracking.packets) d → Fly done (tracked_if b d)
-given_fly done true d is new i =
-    let packets : Table TrackedPacket = d.end.tracking.packets in
-    let packet : TrackedPacket = record { generation = d.end.path.generation; time_sent = d.end.closing.clock; carried = carried_in d.frames } in
-    all_more (InDraft (InPackets packets) d.frames) (InPackets (added packets d.end.numbers.next packet)) done d.end.streams (λ u o. any_added (λ p. InPacket p u) packets d.end.numbers.next packet new o) i
-given_fly done false d is new i = all_more (InDraft (InPackets d.end.tracking.packets) d.frames) (InPackets d.end.tracking.packets) done d.end.streams (λ u o. elim o [ inl went ↦ absurd (none_asks d.frames u is went) | inr old ↦ old ]) i
+-- nor has a packet of the tail
+tail_empty : (sents : List Sent) (q : ℕ × TrackedPacket) → Quiet sents q → (u : Duty) → InPacket q u → ⊥
+tail_empty sents q quiet u i = none_asks quiet.sent.frames u quiet.quiet (subst (λ (ms : List StreamMeta). InMetas ms u) (carried_streams q.1.carried quiet.sent.frames quiet.carried) i)
 
--- after a poll
-polled_fly : (done : ℕ → Wrote) (p : Policy) (e : End) (now : ℕ) → IsNew e.tracking.packets e.numbers.next → Fly done e → Fly done (polled p e now).end
-polled_fly done p e now new i = by_poll_to p e now (λ (q : Polled). Fly done q.end) (record {
-  silent = i;
-  failed = i;
-  idle = λ pings. i;
-  used_up = λ pings. i;
-  gives = λ pings is may some ready. gives pings;
-})
-  where
-    gives : (pings : Bool) → Fly done (after_given (composed (at_moment e now pings)))
-    gives pings =
-        let before : End = at_moment e now pings in
-        let d : Draft = composed before in
-        let same = composes before in
-        let fresh : IsNew d.end.tracking.packets d.end.numbers.next = subst (λ (x : Numbers). IsNew d.end.tracking.packets x.next) (sym same.numbers) (subst (λ (x : Tracking). IsNew x.packets e.numbers.next) (sym same.tracking) new) in
-        let drafted : Drafted done (InPackets d.end.tracking.packets) d = subst (λ (x : Tracking). Drafted done (InPackets x.packets) d) (sym same.tracking) (composed_drafted done (InPackets e.tracking.packets) before i) in
-        given_fly done (asking d.frames) d refl fresh drafted
+-- a datagram that goes is tracked
+given_fly : (done : ℕ → Wrote) (sents : List Sent) (d : Draft) → AreTracked sents d.end.tracking.packets → AskBefore sents d.end.tracking.greatest_asking → IsNew d.end.tracking.packets (number_of d.end) → Drafted done (InPackets d.end.tracking.packets) d → Fly done (tracked d)
+given_fly done sents d were before new i =
+    let t : Tracking = d.end.tracking in
+    all_more (InDraft (InPackets t.packets) d.frames) (InPackets (tracked d).tracking.packets) done d.end.streams
+    (λ u o. any_sent (λ p. InPacket p u) t (number_of d.end) (packet_of d) new (λ q j behind. tail_empty sents q (tail_quiet sents t were before q j behind) u) o) i
+
+module _ (done : ℕ → Wrote) (sents : List Sent) (e : End) (now : ℕ) (ascends : Ascends e) (were : AreTracked sents e.tracking.packets) (before : AskBefore sents e.tracking.greatest_asking) (new : IsNew e.tracking.packets (number_of e)) where
+  -- where something waits for each probe
+  ready_fly : Fly done e → Fly done (ready_at e now)
+  ready_fly i = by_ready (Fly done) e now i i (λ p among. all_more (InPackets e.tracking.packets) (InPackets (put e.tracking.packets p.0 (without_record p.1))) done e.streams (λ u j.
+      elim (any_put (λ q. InPacket q u) ⊥ e.tracking.packets p (without_record p.1) ascends among (λ here. inl here) j) [ inl there ↦ there | inr none ↦ absurd none ]) i)
+
+  -- after a poll
+  polled_fly : (p : Policy) → Fly done e → Fly done (polled p e now).end
+  polled_fly p i = by_poll_to p e now (λ (q : Polled). Fly done q.end) (record {
+    silent = i;
+    failed = i;
+    idle = ready_fly i;
+    used_up = ready_fly i;
+    gives = λ is may some. gives;
+  })
+    where
+      gives : Fly done (after_given p (draft_at e now))
+      gives =
+          let r : End = ready_at e now in
+          let d : Draft = draft_at e now in
+          let same = composes (lazied r) in
+          let tracks : r.tracking ≡ d.end.tracking = sym same.tracking in
+          let number : number_of e ≡ number_of d.end = sym (composed_number (lazied r) ∙ ap (λ (x : End). number_of x) (ready_leaves e now)) in
+          given_fly done sents d
+          (subst (λ (t : Tracking). AreTracked sents t.packets) tracks (ready_tracked sents e now were))
+          (subst (λ (t : Tracking). AskBefore sents t.greatest_asking) tracks (ready_before sents e now before))
+          (subst (λ (n : ℕ). IsNew d.end.tracking.packets n) number (subst (λ (t : Tracking). IsNew t.packets (number_of e)) tracks (ready_new e now (number_of e) new)))
+          (subst (λ (t : Tracking). Drafted done (InPackets t.packets) d) tracks (composed_drafted done (InPackets r.tracking.packets) (lazied r) (ready_fly i)))
 
 -- ---- any call
 
 -- but a delivery
-pub call_fly : (done : ℕ → Wrote) (p : Policy) (e : End) (theirs : List (List ℕ)) (call : Call) (a : Answer) → is_delivery call ≡ false → IsAnswer p e theirs call a → IsNew e.tracking.packets e.numbers.next → Fly done e → Fly (done_by call a done) (after_call p e theirs call a)
-call_fly done p e theirs call a apart is new i = go (is_on_streams call) refl
+pub call_fly : (done : ℕ → Wrote) (sents : List Sent) (p : Policy) (e : End) (theirs : List (List ℕ)) (call : Call) (a : Answer) → is_delivery call ≡ false → IsAnswer p e theirs call a → Ascends e → AreTracked sents e.tracking.packets → AskBefore sents e.tracking.greatest_asking → IsNew e.tracking.packets (number_of e)
+    → TrackedEnds done e.tracking.packets → Fly done e → Fly (done_by call a done) (after_call p e theirs call a)
+call_fly done sents p e theirs call a apart is ascends were before new ends i = go (is_on_streams call) refl
   where
     F : Duty → Type 0
     F = InPackets e.tracking.packets
@@ -299,10 +333,11 @@ call_fly done p e theirs call a apart is new i = go (is_on_streams call) refl
     go false off = subst (λ (w : ℕ → Wrote). Fly w (after_call p e theirs call a)) (sym (done_none call a done off)) (by_call p e theirs (Fly done) call a (record {
       same = i;
       on_streams = λ on answer. cc;
+      on_messages = λ on answer. i;
       pings = i;
       heard = λ path same. i;
-      times = λ now acks loss set. by_expired e now (Fly done) (λ pending tracking timers runs packets. subst (λ (t : Table TrackedPacket). AllFly (InPackets t) done e.streams) (sym packets) i) acks loss;
-      polls = λ now set. polled_fly done p e now new i;
+      times = λ now acks loss set. by_expired e now (Fly done) (λ pending tracking timers runs packets. subst (λ (t : Table TrackedPacket). AllFly (InPackets t) done e.streams) (sym packets) i) (λ pending timers runs. detected_fly done (with_closing e (ticked e.closing now)) ends i) acks loss;
+      polls = λ now set. polled_fly done sents e now ascends were before new p i;
       hears = λ now d set. cc;
-      tells = λ asks. by_event e (Fly done) (λ told. by_polled (AllFly F done) (fly_kept F done) e.streams i);
+      tells = λ asks. by_event e (Fly done) i (λ told. by_polled (AllFly F done) (fly_kept F done) e.streams i);
     }))

@@ -1,6 +1,6 @@
 -- So it is at each place of an honest run: limits that grew wait at both ends.
-use Rattle.std.proofs.Common.{◌≡◌, ℕ, ◌+◌, ◌≤◌, ◌/◌, true, false, take, List, [], Some, None, refl, sym, ap, ◌∙◌, subst, arith}
-use Rattle.std.specs.Prelude.{max, min, ◌&&◌}
+use Rattle.std.proofs.Common.{◌≡◌, ℕ, ◌+◌, true, take, List, sym, subst, arith}
+use Rattle.std.specs.Prelude.{min, ◌&&◌}
 use Rattle.std.proofs.lemmas.Bool.{le-leb, leb-true, and_from}
 use Rattle.quic_wire_core.specs.declared.stream_id.Side.{Side}
 use Rattle.quic_wire_core.specs.declared.stream_id.Dir.{Dir}
@@ -8,11 +8,11 @@ use Rattle.quic_wire_core.specs.StreamId.{other_side}
 use Rattle.quic_wire_core.specs.declared.stream_id.Dir.TheVariants.{Bi, Uni}
 use Rattle.quic_config.specs.Transport.{Settings, parameters_of}
 use Rattle.quic_streams_parts.specs.Dirs.{of}
-use Rattle.quic_streams_parts.specs.RecvHalf.{RecvHalf, least_growth, greatest_offset, raised_on, takes_limits}
+use Rattle.quic_streams_parts.specs.RecvHalf.{least_growth, raised_on, takes_limits}
 use Rattle.quic_streams_halves.specs.Halves.{status_from, has_place}
 use Rattle.quic_streams_state.specs.declared.state.StreamsState.{StreamsState}
-use Rattle.quic_streams_state.specs.State.{Streams, no_opening, new_streams, is_opened, receives_on}
-use Rattle.quic_streams_state.specs.Limits.{most_streams, raised_data, raised_count, data_grew, count_grew}
+use Rattle.quic_streams_state.specs.State.{no_opening, new_streams, is_opened, receives_on}
+use Rattle.quic_streams_state.specs.Limits.{most_streams, raised_data, raised_count, count_grew}
 use Rattle.quic_streams_laws.specs.Content.{IsRecvStatus, HoldsRead}
 use Rattle.quic_streams_laws.specs.Reads.{IsRecvHalf}
 use Rattle.quic_streams_laws.specs.Written.{Wrote}
@@ -20,16 +20,14 @@ use Rattle.quic_streams_laws.specs.StartLaws.{shape_new, shape_set_params}
 use Rattle.quic_machine.specs.declared.run.Call.{Call}
 use Rattle.quic_machine.specs.declared.run.Answer.{Answer}
 use Rattle.quic_machine.specs.End.{End, streams_at}
-use Rattle.quic_machine.specs.Receive.{Outcome}
 use Rattle.quic_machine.specs.FrameCases.{begun, passed}
 use Rattle.quic_machine.specs.Machine.{World, end_at}
 use Rattle.quic_machine.specs.RunLaws.{one_run}
 use Rattle.quic_headline.specs.Runs.{Run, Told, Intake, until, AreServed}
 use Rattle.quic_headline.specs.Headline.{IsHonest}
 use Rattle.quic_headline.specs.Grown.{GrownLimitsWaitAt, GrownLimitsWait}
-use Rattle.quic_headline.proofs.Packets.Delivered.{Arrivals}
 use Rattle.quic_headline.proofs.Packets.Group.{meets}
-use Rattle.quic_headline.proofs.Places.Parties.{Party, called, Beginning, begun_as, AreMade}
+use Rattle.quic_headline.proofs.Places.Parties.{Party, called, Beginning, begun_as}
 use Rattle.quic_headline.proofs.Places.Groups.{Way, Calls, Group}
 use Rattle.quic_headline.proofs.Places.Coming.{by_coming}
 use Rattle.quic_headline.proofs.Places.Placed.{party_at, Placed}

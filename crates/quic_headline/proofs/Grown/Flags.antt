@@ -1,7 +1,7 @@
 -- Words about streams leave how far the peer was told that it may come on all of them, and how many it may open, with what was used up of
 -- both and what waits to be told; or limits are decided anew.
 use Rattle.std.proofs.Common.{◌≡◌, ℕ, zero, suc, ◌+◌, Bool, true, false, not, ◌==◌, List, [], length, take, Option, Some, None, Result, Ok, Err, refl}
-use Rattle.std.specs.Prelude.{nat_le, nat_lt, if◌then◌else◌, ◌&&◌}
+use Rattle.std.specs.Prelude.{nat_lt, if◌then◌else◌}
 use Rattle.std.specs.Option.{is_some}
 use Rattle.std.proofs.lemmas.Bool.{cond_both}
 use Rattle.quic_wire_core.specs.declared.stream_id.Dir.{Dir}
@@ -25,7 +25,7 @@ use Rattle.quic_streams_state.specs.State.{Streams, Opening, Receiving, streams_
 use Rattle.quic_streams_state.specs.Limits.{decided, settled}
 use Rattle.quic_streams_state.specs.Opening.{opens, opened_if, opened_by, with_remote, after_open, after_accept, after_max_streams, sending_refusal}
 use Rattle.quic_streams_state.specs.Writing.{grown_by, accepted_at, blocked_by_all, blocked_by_own, blocked_at, written_by, after_write, chunks_accepted_at, after_write_chunks, ended_at, finished_by, reset_at, after_reset, after_set_priority, priority_at, replaced}
-use Rattle.quic_streams_state.specs.Reading.{with_stop, stopped_if, stopped_at, after_stop, received_reset_answer, reset_told, after_received_reset}
+use Rattle.quic_streams_state.specs.Reading.{with_stop, stopped_if, stopped_at, after_stop, received_reset_answer, reset_told}
 use Rattle.quic_streams_state.specs.Taking.{joined, writable_again, is_used_up, limited_half, limit_raised, limit_at, limit_unless, stop_at, stop_unless, sending_for, part_for, renewed, refusal, stream_at, stream_unless, reset_breach, reset_unless}
 use Rattle.quic_streams_state.specs.Taking as taking
 use Rattle.quic_streams_state.specs.Acked.{sent_half, finished, acked_on, acked_at, after_stream_acked, reset_acked_at, after_reset_acked, lost_at, after_stream_lost}

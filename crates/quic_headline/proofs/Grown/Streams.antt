@@ -13,7 +13,7 @@ use Rattle.quic_streams_parts.specs.SendHalf.{SendHalf}
 use Rattle.quic_streams_parts.specs.RecvHalf.{RecvHalf, new_recv_half, greatest_offset, raised_on, least_growth, limit_grew, takes_limits, end_of, after_frame, with_offsets_of, with_frame, after_reset_stream, reset_by}
 use Rattle.quic_streams_halves.specs.Halves.{with_half, without_half, changed_at, is_done}
 use Rattle.quic_streams_state.specs.declared.state.StreamsState.{StreamsState}
-use Rattle.quic_streams_state.specs.State.{Receiving, receiving_half, receiving_status, sending_status, with_send, without_send, done_if, seen_at}
+use Rattle.quic_streams_state.specs.State.{Receiving, receiving_status, sending_status, without_send, done_if, seen_at}
 use Rattle.quic_streams_state.specs.Taking.{joined}
 use Rattle.quic_streams_state.specs.Control.{limit_told}
 use Rattle.quic_streams_laws.specs.Keeping.{KeepsBy}

@@ -1,5 +1,5 @@
 -- Each limit that grew waits to be told: each call of an end keeps that, each frame, and each poll, by which limits are told.
-use Rattle.std.proofs.Common.{◌≡◌, ℕ, ◌+◌, ◌-◌, ◌^◌, ◌≤◌, Bool, true, false, nat_le, ◌||◌, List, [], ◌∷◌, length, Option, Some, None, Result, Ok, Err, refl, sym, ap, ◌∙◌, subst, ◌⊎◌, inl, inr, arith}
+use Rattle.std.proofs.Common.{◌≡◌, ℕ, ◌+◌, ◌-◌, ◌^◌, Bool, true, false, nat_le, List, [], ◌∷◌, length, Option, Some, None, Result, Ok, Err, refl, sym, ap, ◌∙◌, subst, ◌⊎◌, inl, inr, arith}
 use Rattle.std.specs.Prelude.{min, map, if◌then◌else◌}
 use Rattle.std.specs.List.{sum_by}
 use Rattle.std.specs.Map.{values_of}
@@ -8,28 +8,27 @@ use Rattle.std.specs.Ordering.{nat_cmp}
 use Rattle.std.proofs.lemmas.Bool.{leb-true, or_cases, cases_eq}
 use Rattle.quic_wire_core.specs.declared.stream_id.Dir.{Dir}
 use Rattle.quic_wire_core.specs.declared.stream_id.Dir.TheVariants.{Bi, Uni}
-use Rattle.quic_wire.specs.Value.{FrameValue, AckValue, max_data, max_stream_data, max_streams}
+use Rattle.quic_wire.specs.Value.{FrameValue, max_stream_data}
 use Rattle.quic_assembler.specs.declared.assembler.Chunk.{Chunk}
 use Rattle.quic_streams_parts.specs.declared.answers.ReadError.{ReadError}
-use Rattle.quic_streams_parts.specs.Table.{Table, at, put}
+use Rattle.quic_streams_parts.specs.Table.{at, put}
 use Rattle.quic_streams_parts.specs.Dirs.{Counts, Flags, of, with_of}
-use Rattle.quic_streams_parts.specs.SendHalf.{SendHalf}
-use Rattle.quic_streams_parts.specs.RecvHalf.{RecvHalf, least_growth, credit, raised_on, limit_grew, takes_limits, stopped_now}
+use Rattle.quic_streams_parts.specs.RecvHalf.{RecvHalf, least_growth, credit, raised_on, limit_grew, takes_limits}
 use Rattle.quic_streams_halves.specs.Halves.{changed_at, placed}
 use Rattle.quic_retransmits.specs.Retransmits.{Retransmits, nothing_waits, has_id, others_of}
 use Rattle.quic_streams_state.specs.declared.state.StreamsState.{StreamsState}
 use Rattle.quic_streams_state.specs.declared.control.ControlKind.{ControlKind}
 use Rattle.quic_streams_state.specs.declared.control.ControlKind.TheVariants.{ResetStream, StopSending, MaxData, MaxStreamData, MaxStreams, DataBlocked, StreamDataBlocked}
 use Rattle.quic_streams_state.specs.State.{Streams, Receiving, Opening, streams_of, consumed}
-use Rattle.quic_streams_state.specs.Limits.{most_streams, raised_data, raised_count, data_grew, count_grew, grew_on, stream_grew}
+use Rattle.quic_streams_state.specs.Limits.{most_streams, raised_data, raised_count, data_grew, count_grew, grew_on}
 use Rattle.quic_streams_state.specs.Opening.{announced_count}
-use Rattle.quic_streams_state.specs.Reading.{Told, told_bytes, told_by, after_read_begun, after_next, next_answer, stop_answer, after_stop, after_received_reset}
-use Rattle.quic_streams_state.specs.Control.{Entry, data_told, limit_told, limit_frame, data_entry, limit_entry, count_entry, waiting, without_first, first_dropped, first_sent}
+use Rattle.quic_streams_state.specs.Reading.{Told, told_bytes, told_by, after_read_begun, after_next, stop_answer, after_stop}
+use Rattle.quic_streams_state.specs.Control.{Entry, data_told, limit_told, limit_frame, data_entry, limit_entry, count_entry, waiting, without_first}
 use Rattle.quic_streams_state.specs.Control as control
 use Rattle.quic_streams_laws.specs.ControlWalk.{by_control}
 use Rattle.quic_streams_laws.specs.Quiet.{IsQuiet, IsSentWithin}
 use Rattle.quic_streams_laws.specs.QuietLaws.{is_quiet}
-use Rattle.quic_streams_laws.specs.KeepingLaws.{by_option, by_accept, by_read_begun, by_next, by_stop, by_received_reset, by_stream, by_reset_frame, by_frame}
+use Rattle.quic_streams_laws.specs.KeepingLaws.{by_accept, by_read_begun, by_next, by_stop, by_received_reset, by_stream, by_reset_frame, by_frame}
 use Rattle.quic_streams_laws.specs.ContentLaws.{by_next_answer}
 use Rattle.quic_streams_laws.specs.LimitedLaws.{sum_with}
 use Rattle.quic_streams_laws.specs.Told.{CountsAreTold, AreTold}
@@ -40,21 +39,21 @@ use Rattle.quic_machine.specs.declared.run.Call.TheVariants as calls
 use Rattle.quic_machine.specs.declared.run.Answer.{Answer}
 use Rattle.quic_machine.specs.declared.run.Answer.TheVariants as answers
 use Rattle.quic_machine.specs.Policy.{Policy}
-use Rattle.quic_machine.specs.End.{End, streams_at}
+use Rattle.quic_machine.specs.Closing.{ticked}
+use Rattle.quic_machine.specs.End.{End, with_closing, streams_at}
 use Rattle.quic_machine.specs.Calls.{AreNexts, after_nexts, is_open}
-use Rattle.quic_machine.specs.StreamCalls.{if_ok, IsStreamAnswer, after_on_streams, is_on_streams}
+use Rattle.quic_machine.specs.StreamCalls.{if_ok, IsStreamAnswer, after_on_streams}
 use Rattle.quic_machine.specs.Receive.{take_frame}
-use Rattle.quic_machine.specs.Poll.{Polled, Draft, no_frames, with_ping_frame, ping_if, with_control_frames, with_asking, with_ack, ack_fits, ack_if, composed_if, composed, frame_room, tracked_if, asking, after_given, polled}
-use Rattle.quic_machine.specs.DraftLaws.{with_half_frame, by_streams}
-use Rattle.quic_machine.specs.PollCases.{at_moment, by_poll}
-use Rattle.quic_machine.specs.FrameCases.{OnStreams, Settling, named, acked_keeps, passed, frames_keep, begun}
+use Rattle.quic_machine.specs.Poll.{Draft, no_frames, with_ping_frame, ping_if, with_control_frames, with_message_frames, with_asking, with_ack, ack_fits, ack_if, composed_if, composed, frame_room}
+use Rattle.quic_machine.specs.DraftLaws.{by_streams, by_messages}
+use Rattle.quic_machine.specs.FrameCases.{OnStreams, Settling, named, acked_keeps, losses_keep, passed, frames_keep}
 use Rattle.quic_machine.specs.FrameCases as cases
 use Rattle.quic_machine.specs.CallCases.{is_delivery, by_call}
 use Rattle.quic_machine.specs.LeaveCases.{by_expired, by_event}
 use Rattle.quic_machine.specs.Machine.{IsAnswer, after_call}
-use Rattle.quic_headline.proofs.Packets.Entries.{by_first, flag_first, listed_first}
+use Rattle.quic_headline.proofs.Packets.Entries.{flag_first, listed_first}
+use Rattle.quic_headline.proofs.Packets.Probes.{ready_streams, poll_streams}
 use Rattle.quic_headline.proofs.Halves.QuietSteps.{on_streams_quiet, frame_quiet}
-use Rattle.quic_headline.proofs.Halves.WordsCalls.{call_on_is}
 use Rattle.quic_headline.proofs.Grown.Streams.{Grown, grown_more, grown_kept, frame_grows_not, reset_grows_not, told_once}
 use Rattle.quic_headline.proofs.Grown.Flags.{is_read, KeptIn, Decides, calls_keep, polled_keeps, reset_acked_keeps, lost_keeps, frame_keeps}
 use Rattle.quic_headline.proofs.Grown.Flags as flags
@@ -168,6 +167,7 @@ settles = record {
       waits_of ids _ (lost_keeps (Flagged ids) (decides ids) e.streams e.waiting.frames m (flags_of (streams_at e) w)) ((quiet (IsListed ids)).lost e.streams m w.each));
   again = λ c e w. waits_told (IsListed e.waiting.frames.max_stream_data) _ w.each (told_merged e.streams e.waiting.frames c.retransmits (told_of_waits (streams_at e) w));
   tracked = λ t e w. w;
+  measured = λ r e w. w;
 }
 
 -- one on streams
@@ -182,8 +182,9 @@ on_streams_waits f e on w =
 -- all frames of a packet
 pub frames_wait : (fs : List FrameValue) (e : End) → Waits (streams_at e) → Waits (streams_at (passed fs e).end)
 frames_wait fs e w = frames_keep (λ (x : End). Waits (streams_at x)) (cases.frame_keeps (λ (x : End). Waits (streams_at x)) (record {
-  ack = λ a x v. acked_keeps (λ (y : End). Waits (streams_at y)) settles a (named a x) v;
+  ack = λ rises a x v. acked_keeps (λ (y : End). Waits (streams_at y)) settles rises a (named a x) v;
   on_streams = on_streams_waits;
+  message = λ m x v. v;
 })) fs e w
 
 -- ---- frames that go
@@ -303,8 +304,9 @@ Drafted d = Waits (streams_at d.end)
 asking_waits : (d : Draft) → Drafted d → Drafted (with_asking d)
 asking_waits d w = by_streams Drafted (λ x id h room found first left is counts i. record {
   all = record { bytes = i.all.bytes; counts = i.all.counts };
-  each = by_frame (Grown (IsListed x.end.waiting.frames.max_stream_data)) (grown_kept (IsListed x.end.waiting.frames.max_stream_data)) x.end.fair x.end.streams id room h found tt i.each;
-}) (with_control_frames (with_ping_frame d)) (control_waits (frame_room (with_ping_frame d).end) (length (with_ping_frame d).bytes) (streams_at (with_ping_frame d).end) (pinged d.end.waiting.ping))
+  each = by_frame (Grown (IsListed x.end.waiting.frames.max_stream_data)) (grown_kept (IsListed x.end.waiting.frames.max_stream_data)) x.end.transport.send_fairness x.end.streams id room h found tt i.each;
+}) (with_message_frames (with_control_frames (with_ping_frame d))) (by_messages Drafted (λ x m ms is fit i. i) (with_control_frames (with_ping_frame d))
+    (control_waits (frame_room (with_ping_frame d).end) (length (with_ping_frame d).bytes) (streams_at (with_ping_frame d).end) (pinged d.end.waiting.ping)))
   where
     pinged : (b : Bool) → Drafted (ping_if b d)
     pinged true = w
@@ -329,18 +331,13 @@ pub call_grown : (p : Policy) (e : End) (theirs : List (List ℕ)) (call : Call)
 call_grown p e theirs call a within apart is w = by_call p e theirs (λ (f : End). Waits (streams_at f)) call a (record {
   same = w;
   on_streams = λ on answer. call_waits e within (is_open e.closing.state) call a (answer is) w;
+  on_messages = λ on answer. w;
   pings = w;
   heard = λ path same. w;
-  times = λ now acks loss set. by_expired e now (λ (f : End). Waits (streams_at f)) (λ pending tracking timers runs packets. w) acks loss;
-  polls = λ now set. by_poll p e now (λ (q : Polled). Waits (streams_at q.end)) (record {
-    silent = w;
-    failed = w;
-    idle = λ pings. w;
-    used_up = λ pings. w;
-    gives = λ pings tracking timers is may some ready. composed_waits (at_moment e now pings) w;
-  });
+  times = λ now acks loss set. by_expired e now (λ (f : End). Waits (streams_at f)) (λ pending tracking timers runs packets. w) (λ pending timers runs. losses_keep (λ (f : End). Waits (streams_at f)) settles (with_closing e (ticked e.closing now)) w) acks loss;
+  polls = λ now set. poll_streams Waits p e now composed_waits w (ready_streams Waits e now w (λ n t among. settles.again t.carried e w));
   hears = λ now d set. cc;
-  tells = λ asks. by_event e (λ (f : End). Waits (streams_at f)) (λ told.
+  tells = λ asks. by_event e (λ (f : End). Waits (streams_at f)) w (λ told.
       (let ids : List ℕ = e.waiting.frames.max_stream_data in
       waits_of ids _ (polled_keeps (Flagged ids) (decides ids) e.streams e.waiting.frames (flags_of (streams_at e) w)) ((quiet (IsListed ids)).polls e.streams w.each)));
 })

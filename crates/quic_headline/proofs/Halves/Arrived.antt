@@ -19,11 +19,11 @@ use Rattle.quic_machine.specs.StreamCalls.{is_on_streams}
 use Rattle.quic_machine.specs.Receive.{Outcome}
 use Rattle.quic_headline.specs.Runs.{Packet, Intake, In, WasTaken, HasArrived, EndHasArrived, nothing_came}
 use Rattle.quic_headline.specs.Observer.{Sent}
-use Rattle.quic_headline.proofs.Packets.Invariant.{IsSent, WereSent}
+use Rattle.quic_headline.proofs.Packets.Invariant.{IsSent, WereSent, carried_stream}
 use Rattle.quic_headline.proofs.Packets.Growth.{step_of}
 use Rattle.quic_headline.proofs.Packets.Intakes.{took_more}
 use Rattle.quic_headline.proofs.Packets.Delivered.{Arrivals}
-use Rattle.quic_headline.proofs.Packets.Named.{NamesTaken, WasCarried, IsCarriedBy}
+use Rattle.quic_headline.proofs.Packets.Named.{NamesTaken, WasCarried, IsCarriedBy, tracked_carried}
 use Rattle.quic_headline.proofs.Packets.Group.{PacketsHold, meets}
 use Rattle.quic_headline.proofs.Places.Parties.{Party, called, came_to, told_of, Beginning, begun_as}
 use Rattle.quic_headline.proofs.Places.Groups.{Way, Calls, Group}
@@ -32,7 +32,7 @@ use Rattle.quic_headline.proofs.Halves.Wrote.{wrote, done_by, ResetsFirst, wrote
 use Rattle.quic_headline.proofs.Halves.Writes.{Writes, resets_first}
 use Rattle.quic_headline.proofs.Halves.Ghosts.{SaysOf, Saying}
 use Rattle.quic_headline.proofs.Halves.Small.{payload_small}
-use Rattle.quic_headline.proofs.Halves.WordsCalls.{call_on_is, call_keeps}
+use Rattle.quic_headline.proofs.Halves.WordsCalls.{HaveEnds, call_on_is, call_keeps}
 use Rattle.quic_headline.proofs.Halves.Finished.{finished_words, finished_same, finished_grows, Brought, finished_arrivals}
 
 -- ---- what frames say
@@ -56,7 +56,7 @@ module _ (sents : List Sent) (w : ℕ → Wrote) (says : (s : Sent) → In s sen
   -- what a packet carried that was taken arrived
   carried_came : (c : Carried) (m : StreamMeta) → WasCarried took c → In m c.stream_frames → MetaArrived (OffsetIn took) (EndIn took) w m
   carried_came c m was among =
-      let found = meta_in was.packet.frames m (subst (λ (x : Carried). In m x.stream_frames) was.is among) in
+      let found = meta_in was.packet.frames m (carried_stream c was.packet.frames was.is m among) in
       let f : StreamValue = found.0 in
       let at = sent was.packet was.was_taken in
       let said : IsStreamOf (w f.id) f = says at.sent at.is.0 (stream f) (subst (λ (fs : List FrameValue). In (stream f) fs) (sym at.frames) found.1) in
@@ -70,7 +70,7 @@ module _ (sents : List Sent) (w : ℕ → Wrote) (says : (s : Sent) → In s sen
   -- one that was sent had the end only where there is one
   carried_ended : (c : Carried) (m : StreamMeta) → IsCarriedBy sents c → In m c.stream_frames → m.fin ≡ true → (w m.id).ended ≡ true
   carried_ended c m was among =
-      let found = meta_in was.sent.frames m (subst (λ (x : Carried). In m x.stream_frames) was.is among) in
+      let found = meta_in was.sent.frames m (carried_stream c was.sent.frames was.is m among) in
       let f : StreamValue = found.0 in
       let said : IsStreamOf (w f.id) f = says was.sent was.among (stream f) found.1 in
       subst (λ (n : StreamMeta). n.fin ≡ true → (w n.id).ended ≡ true) (sym found.2) (λ fin. said.ended fin)
@@ -107,6 +107,10 @@ module _ (B : Way) (b : IsSpoken B) where
   names_taken : (x y : Party) → PacketsHold y x → (s : Sent) → In s y.sents → (a : AckValue) → In (ack a) s.frames → NamesTaken (came_to y x).took a
   names_taken x y back s among a carried k named = back.named s a k among carried named
 
+  -- what x sent had the end of a stream only where there is one
+  ends : (x y : Party) → PacketsHold x y → Saying x y → HaveEnds (wrote x.told) x.end.tracking.packets
+  ends x y p says n t among m inside fin = carried_ended x.sents (wrote x.told) says (came_to y x).took p.taken t.carried m (tracked_carried x.sents x.end.tracking.packets p.tracked n t among) inside fin
+
   -- x makes a call
   arrives_writer : (x y : Party) (call : Call) (a : Answer) → Calls B x y call a → Arrives x y → Arrives (called x y.given call a) y
   arrives_writer x y call a c i =
@@ -115,7 +119,7 @@ module _ (B : Way) (b : IsSpoken B) where
       let took : List Packet = (came_to y x).took in
       finished_same (OffsetIn took) (EndIn took) (done_by call a (wrote x.told)) (wrote (called x y.given call a).told) (called x y.given call a).end.streams (b.done x y call a c)
       (by_coming x y a c.joined c.served (meets y x takes) (λ (e : End) (j : Intake). FinishedHave (OffsetIn took) (EndIn took) (done_by call a (wrote x.told)) e.streams) call c.answer (record {
-        apart = λ apart. call_keeps (FinishedHave (OffsetIn took) (EndIn took)) (finished_words (OffsetIn took) (EndIn took)) x.policy (wrote x.told) x.end y.given call a apart c.answer i;
+        apart = λ apart. call_keeps (FinishedHave (OffsetIn took) (EndIn took)) (finished_words (OffsetIn took) (EndIn took)) x.policy (wrote x.told) x.end y.given call a apart c.answer (ends x y gives (b.says x y c.gives)) i;
         none = λ delivery is. none delivery is;
         comes = λ delivery is s among. comes gives takes delivery is s among;
       }))

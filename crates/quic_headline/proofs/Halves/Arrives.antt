@@ -57,7 +57,7 @@ module _ (done : ℕ → Wrote) (e : End) (w : Writes done (streams_at e)) where
       (stream_acked_same e.streams e.waiting.frames m)
 
   -- and one that is lost
-  lost_leaves : (m : StreamMeta) → (m.fin ≡ true → (done m.id).ended ≡ true) → Writes done (streams_of (after_stream_lost e.streams m) e.waiting.frames)
+  pub lost_leaves : (m : StreamMeta) → (m.fin ≡ true → (done m.id).ended ≡ true) → Writes done (streams_of (after_stream_lost e.streams m) e.waiting.frames)
   lost_leaves m ends =
       leaves (streams_of (after_stream_lost e.streams m) e.waiting.frames)
       (by_stream_lost (Keeping done) (keeping_kept done) e.streams m (λ h is free. (lost_on h m, λ x. lost_holds (done m.id) h x m free ends)) w.keeps) refl
@@ -67,7 +67,7 @@ module _ (done : ℕ → Wrote) (e : End) (w : Writes done (streams_at e)) where
   reset_leaves id = leaves (after_reset_acked e.streams e.waiting.frames id) (by_reset_acked (Keeping done) (keeping_kept done) e.streams e.waiting.frames id w.keeps) (reset_acked_same e.streams e.waiting.frames id)
 
   -- what else a packet carried waits again
-  again_leaves : (c : Carried) → CarriedSays done c → Writes done (streams_of e.streams (merged e.waiting.frames c.retransmits))
+  pub again_leaves : (c : Carried) → CarriedSays done c → Writes done (streams_of e.streams (merged e.waiting.frames c.retransmits))
   again_leaves c says = record { keeps = w.keeps; waits = resets_merged done e.waiting.frames c.retransmits w.waits says.resets }
 
 -- what an ACK frame makes of an end, where what was sent says what was written
@@ -79,4 +79,5 @@ settles_leave done took sents taken sent = record {
   lost = λ c m e was i w. lost_leaves done e w m ((sent c was).ends m i);
   again = λ c e was w. again_leaves done e w c (sent c was);
   tracked = λ t e w. w;
+  measured = λ r e w. w;
 }

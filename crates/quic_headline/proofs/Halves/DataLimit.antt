@@ -1,6 +1,6 @@
 -- The limit on all streams that the peer told is below 2^62, as each number of a frame is (RFC 9000, sections 16 and 19.9).
 use Rattle.std.proofs.Common.{ℕ, zero, suc, ◌<◌, ◌^◌, Bool, true, false, not, ◌&&◌, ◌==◌, List, [], length, take, Option, None, Some, Result, Ok, Err, refl, sym, subst, inl, inr, arith}
-use Rattle.std.specs.Prelude.{nat_le, if◌then◌else◌}
+use Rattle.std.specs.Prelude.{if◌then◌else◌}
 use Rattle.quic_wire.specs.Value.{FrameValue, AckValue}
 use Rattle.quic_streams_parts.specs.declared.answers.WriteError.{WriteError}
 use Rattle.quic_streams_parts.specs.declared.answers.WriteError.TheVariants as write_errors
@@ -20,7 +20,7 @@ use Rattle.quic_streams_laws.specs.KeepingLaws.{by_open, by_accept, by_max_strea
 use Rattle.quic_machine.specs.declared.run.Call.{Call}
 use Rattle.quic_machine.specs.declared.run.Answer.{Answer}
 use Rattle.quic_machine.specs.End.{End}
-use Rattle.quic_machine.specs.Receive.{Progress, take_frame, Outcome}
+use Rattle.quic_machine.specs.Receive.{Progress, is_above, names_ungiven, take_frame, Outcome}
 use Rattle.quic_machine.specs.FrameCases.{Settling, named, ack_taken, acked_keeps, begun, passed, frames_leave}
 use Rattle.quic_headline.specs.Runs.{In, Intake}
 use Rattle.quic_headline.proofs.Packets.Invariant.{IsSent}
@@ -160,15 +160,16 @@ settling = record {
   lost = λ m e i. small_words.lost ended_all e.streams m (λ fin. refl) i;
   again = λ carried e i. i;
   tracked = λ t e i. i;
+  measured = λ r e i. i;
 }
 
 -- a frame with a small limit
 small_frame : (f : FrameValue) (e : End) → IsSmallLimit f → SmallAt e → SmallAt (take_frame f e).end
-small_frame f e small i = by_kind f e (λ (g : FrameValue) (r : Progress). SmallAt r.end) (λ a is. ack_case (nat_le e.numbers.next a.largest) a) (λ apart on. frame_on (λ done s. HasSmallLimit s) small_words ended_all f e on small i) (λ apart same. subst SmallAt (sym same) i)
+small_frame f e small i = by_kind f e (λ (g : FrameValue) (r : Progress). SmallAt r.end) (λ a is. ack_case (names_ungiven a e) a) (λ apart on. frame_on (λ done s. HasSmallLimit s) small_words ended_all f e on small i) (λ apart m same. subst SmallAt (sym same) i)
   where
     ack_case : (b : Bool) (a : AckValue) → SmallAt (ack_taken b a e).end
     ack_case true a = i
-    ack_case false a = acked_keeps SmallAt settling a (named a e) i
+    ack_case false a = acked_keeps SmallAt settling (is_above e.numbers.largest_acked a.largest) a (named a e) i
 
 -- several
 small_frames : (fs : List FrameValue) (e : End) → ((f : FrameValue) → In f fs → IsSmallLimit f) → SmallAt e → SmallAt (passed fs e).end
@@ -192,7 +193,7 @@ pub record KnowsLimit (x y : Party) : Type 0 where
 limit_step : (x y : Party) (call : Call) (a : Answer) → Before PacketsHold x y call a → KnowsLimit x y → KnowsLimit (called x y.given call a) y
 limit_step x y call a c i = record {
   small = by_coming x y a c.joined c.served (meets y x c.takes) (λ (e : End) (j : Intake). SmallAt e) call c.answer (record {
-    apart = λ apart. call_keeps (λ done s. HasSmallLimit s) small_words x.policy ended_all x.end y.given call a apart c.answer i.small;
+    apart = λ apart. call_keeps (λ done s. HasSmallLimit s) small_words x.policy ended_all x.end y.given call a apart c.answer (λ n t among m inside fin. refl) i.small;
     none = λ delivery is. i.small;
     comes = λ delivery is s among. (
         let spelled = step_of (IsSent y.policy x.id) y.sents y.given s c.takes.gives.each among in

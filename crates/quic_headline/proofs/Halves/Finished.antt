@@ -123,6 +123,7 @@ module _ (took : List Packet) (sents : List Sent) (stands : Stands took sents) (
     lost = λ c m e was among i. (finished_words arrived end_arrived).lost wrote e.streams m (b.ended c m was among) i;
     again = λ c e was i. i;
     tracked = λ t e i. i;
+    measured = λ r e i. i;
   }
 
   -- so do all frames of a packet, taken or refused, whose ACK frames name packets that were taken
@@ -135,4 +136,5 @@ module _ (took : List Packet) (sents : List Sent) (stands : Stands took sents) (
         settles = settles;
         names = λ a x among h. h;
         on_streams = λ f x among on h. frame_on (FinishedHave arrived end_arrived) (finished_words arrived end_arrived) wrote f x on (small f among) h;
+        message = λ m x h. h;
       }) (begun e now n) names tracked i

@@ -1,6 +1,9 @@
 -- What is written on the streams between two ends, and what waits to go of them, as one group over the packets: what an end composes has a form.
-use Rattle.std.proofs.Common.{◌<◌, ◌^◌}
+use Rattle.std.proofs.Common.{ℕ, ◌<◌, ◌^◌, sym, subst}
 use Rattle.quic_machine.specs.End.{End}
+use Rattle.quic_machine.specs.PollCases.{ready_at}
+use Rattle.quic_headline.proofs.Packets.Probes.{ready_state}
+use Rattle.quic_headline.proofs.Halves.Kept.{Keeping}
 use Rattle.quic_headline.proofs.Packets.MayGo.{AreReady, MayGo, may_go_spells, may_go_brings}
 use Rattle.quic_headline.proofs.Packets.Group.{PacketsHold}
 use Rattle.quic_headline.proofs.Places.Parties.{Party}
@@ -14,17 +17,17 @@ pub record GoesWell (e : End) : Type 0 where
   pub limit : e.streams.sending.limit < 2 ^ 62
   pub waits : AreReady e.streams.sending.halves.live e.waiting.frames
 
-module _ (R : Way) (goes : (x y : Party) → R x y → GoesWell x.end) where
+module _ (R : Way) (goes : (x y : Party) → PacketsHold x y → R x y → (now : ℕ) → GoesWell (ready_at x.end now)) where
   -- what is written, and what else is known of the streams of the end that writes
   pub streams_spell : Spells (And WritesHold R)
   streams_spell = record {
     known = MayGo;
     spelling = may_go_spells;
     bringing = may_go_brings;
-    holds = λ x y h. (
+    holds = λ x y p h now. (
         let w = h.0 in
-        let keeps = w.writes.keeps in
-        let g : GoesWell x.end = goes x y h.1 in
+        let keeps = subst (Keeping (wrote x.told)) (sym (ready_state x.end now)) w.writes.keeps in
+        let g : GoesWell (ready_at x.end now) = goes x y p h.1 now in
         record { wrote = wrote x.told; streams = record { holds = keeps.holds; orderly = keeps.orderly; few = keeps.few; limit = g.limit }; waits = g.waits });
   }
 

@@ -36,18 +36,23 @@ use Rattle.quic_machine.specs.declared.run.Call.TheVariants as calls
 use Rattle.quic_machine.specs.declared.run.Answer.{Answer}
 use Rattle.quic_machine.specs.declared.run.Answer.TheVariants as answers
 use Rattle.quic_machine.specs.Policy.{Policy}
-use Rattle.quic_machine.specs.End.{End, streams_at, with_streams}
+use Rattle.quic_machine.specs.End.{End, with_closing, streams_at, with_streams}
 use Rattle.quic_machine.specs.Calls.{AreNexts, after_nexts, is_open}
 use Rattle.quic_machine.specs.StreamCalls.{IsStreamAnswer, if_ok, after_on_streams}
 use Rattle.quic_machine.specs.Machine.{IsAnswer, after_call}
 use Rattle.quic_machine.specs.CallCases.{by_call}
-use Rattle.quic_machine.specs.LeaveCases.{by_expired, at_event, by_event}
+use Rattle.quic_machine.specs.LeaveCases.{at_losses, by_expired, at_event, by_event}
+use Rattle.quic_recovery_core.specs.PendingAcks.{Pending}
+use Rattle.quic_time.specs.Timers.{Timers}
+use Rattle.quic_machine.specs.Closing.{ticked}
+use Rattle.quic_machine.specs.Acked.{losses_detected}
+use Rattle.quic_headline.proofs.Packets.Ascending.{Ascends}
 use Rattle.quic_headline.specs.Runs.{In}
 use Rattle.quic_headline.specs.Headline.{CodeIsSmall}
 use Rattle.quic_headline.proofs.Places.Told.{in_left, in_right, in_append}
 use Rattle.quic_headline.proofs.Halves.InUse.{InUse, in_use_kept, requeued_reset}
 use Rattle.quic_headline.proofs.Halves.Pile.{times, times_append, NothingElse, SamePile, resets_of, stops_of}
-use Rattle.quic_headline.proofs.Halves.PileSteps.{HoldsAll, same_pile, both, all_on, again_all, received_holds}
+use Rattle.quic_headline.proofs.Halves.PileSteps.{HoldsAll, same_pile, both, all_on, again_all, losses_hold, received_holds}
 use Rattle.quic_headline.proofs.Halves.PilePolls.{polled_holds}
 
 -- ---- writes
@@ -372,18 +377,24 @@ module _ (wrote : ℕ → Wrote) (e : End) (holds : HoldsWritten wrote e.streams
   call_holds call a small is = absurd is
 
 -- any call
-pub step_holds : (p : Policy) (e : End) (theirs : List (List ℕ)) (call : Call) (a : Answer) (wrote : ℕ → Wrote) → HoldsWritten wrote e.streams → AreFew e.streams → CodeIsSmall call → IsAnswer p e theirs call a → HoldsAll e → HoldsAll (after_call p e theirs call a)
-step_holds p e theirs call a wrote holds few small is h = by_call p e theirs HoldsAll call a (record {
+pub step_holds : (p : Policy) (e : End) (theirs : List (List ℕ)) (call : Call) (a : Answer) (wrote : ℕ → Wrote) → HoldsWritten wrote e.streams → AreFew e.streams → CodeIsSmall call → IsAnswer p e theirs call a → Ascends e → HoldsAll e → HoldsAll (after_call p e theirs call a)
+step_holds p e theirs call a wrote holds few small is ascends h = by_call p e theirs HoldsAll call a (record {
   same = h;
   on_streams = λ on answer. call_holds wrote e holds few h (is_open e.closing.state) call a small (answer is);
+  on_messages = λ on answer. again_all e _ refl refl refl h;
   pings = again_all e _ refl refl refl h;
   heard = λ path same. again_all e _ refl refl refl h;
-  times = λ now acks loss set. by_expired e now HoldsAll (λ pending tracking timers runs packets. again_all e _ refl refl packets h) acks loss;
-  polls = λ now set. polled_holds p e now h;
+  times = λ now acks loss set. by_expired e now HoldsAll (λ pending tracking timers runs packets. again_all e _ refl refl packets h) (λ pending timers runs. expired now pending timers) acks loss;
+  polls = λ now set. polled_holds p e now ascends h;
   hears = λ now d set. received_holds p e now d h;
-  tells = λ asks. by_event e HoldsAll (λ told. told_holds told);
+  tells = λ asks. by_event e HoldsAll (again_all e _ refl refl refl h) (λ told. told_holds told);
 })
   where
+    expired : (now : ℕ) (pending : Pending) (timers : Timers) → HoldsAll (at_losses e now pending timers)
+    expired now pending timers =
+        let begins : End = with_closing e (ticked e.closing now) in
+        again_all (losses_detected begins) (at_losses e now pending timers) refl refl refl (losses_hold begins (again_all e begins refl refl refl h))
+
     told_holds : (told : Bool) → HoldsAll (at_event e told)
     told_holds told = record {
       holds = record { pile = record { once = h.holds.pile.once; reset = λ r i. by_polled (InUse r) (in_use_kept r) e.streams (h.holds.pile.reset r i); small = h.holds.pile.small }; others = record { no_ids = h.holds.others.no_ids; no_retired = h.holds.others.no_retired; no_frequency = h.holds.others.no_frequency } };

@@ -1,30 +1,35 @@
 -- What an end gives moves RESET_STREAM and STOP_SENDING from what waits to what a tracked packet carried.
-use Rattle.std.proofs.Common.{◌≡◌, ℕ, ◌+◌, ◌≤◌, Bool, true, false, List, [], ◌∷◌, ◌++◌, refl, sym, ap, ◌∙◌, subst, inl, inr, arith}
+use Rattle.std.proofs.Common.{◌≡◌, ℕ, ◌+◌, ◌≤◌, Bool, true, false, cond, Option, Some, None, List, [], ◌∷◌, ◌++◌, refl, sym, ap, ◌∙◌, subst, inl, inr, arith}
 use Rattle.std.specs.Ordering.{nat_cmp, match_ordering}
+use Rattle.std.specs.BTreeMap.{is_at}
 use Rattle.std.specs.declared.cmp.Ordering.{Ordering}
 use Rattle.std.specs.declared.cmp.Ordering.TheVariants.{Less, Equal, Greater}
 use Rattle.std.proofs.lemmas.List.{append-nil}
-use Rattle.quic_wire.specs.Value.{FrameValue, StopSendingValue, ack, ping, stream, reset_stream, stop_sending}
-use Rattle.quic_streams_parts.specs.Table.{Table, added}
-use Rattle.quic_streams_parts.specs.SendHalf.{frame_of}
+use Rattle.quic_wire.specs.Value.{FrameValue, StopSendingValue, ack, ping, stream, datagram, reset_stream, stop_sending}
+use Rattle.quic_streams_parts.specs.Table.{Table, put, added, without}
+use Rattle.quic_streams_parts.specs.SendHalf.{SendHalf, frame_of}
 use Rattle.quic_retransmits.specs.Retransmits.{Retransmits}
 use Rattle.quic_streams_state.specs.State.{Sending}
 use Rattle.quic_streams_state.specs.Control.{without_first}
 use Rattle.quic_streams_laws.specs.KeepingLaws.{by_frame}
 use Rattle.quic_machine.specs.Policy.{Policy}
-use Rattle.quic_machine.specs.Tracking.{Tracking, TrackedPacket, Carried, carried_in}
-use Rattle.quic_machine.specs.End.{End}
-use Rattle.quic_machine.specs.Poll.{Polled, Draft, ack_of, composed, asking, tracked_if, after_given, polled}
-use Rattle.quic_machine.specs.PollCases.{at_moment, by_poll_to, composes}
+use Rattle.quic_machine.specs.Tracking.{Tracking, TrackedPacket, Carried, without_packet, forgotten, without_record, carried_in}
+use Rattle.quic_machine.specs.Closing.{ticked}
+use Rattle.quic_machine.specs.End.{End, with_closing, with_ping, number_of}
+use Rattle.quic_machine.specs.Acked.{again}
+use Rattle.quic_machine.specs.Poll.{Polled, Draft, ack_of, composed, packet_of, tracked, after_given, record_moved, lazied, polled}
+use Rattle.quic_machine.specs.PollCases.{ready_at, draft_at, by_poll_to, composes}
 use Rattle.quic_machine.specs.DraftLaws.{by_writing}
 use Rattle.quic_headline.specs.Runs.{In}
 use Rattle.quic_headline.specs.InFlight.{resets_in, stops_in}
 use Rattle.quic_headline.proofs.Packets.Carried.{carried_same}
-use Rattle.quic_headline.proofs.Packets.TrackedSteps.{in_added}
+use Rattle.quic_headline.proofs.Packets.TrackedSteps.{in_sent, asking_packets}
+use Rattle.quic_headline.proofs.Packets.Probes.{in_put, by_ready}
+use Rattle.quic_headline.proofs.Packets.Ascending.{Splits, put_splits, Ascends}
 use Rattle.quic_headline.proofs.Places.Told.{in_left, in_right, in_append}
 use Rattle.quic_headline.proofs.Halves.InUse.{InUse, in_use_kept}
 use Rattle.quic_headline.proofs.Halves.Pile.{times, times_append, IsPile, part_of, NothingElse, resets_of, stops_of, Moves, entry_moves, entry_leaves, without_fewer}
-use Rattle.quic_headline.proofs.Halves.PileSteps.{CarryNothingElse, Holds, HoldsAll, holds_part, again_all}
+use Rattle.quic_headline.proofs.Halves.PileSteps.{CarryNothingElse, Holds, HoldsAll, holds_part, again_step, again_all}
 
 -- ---- frames
 
@@ -107,8 +112,9 @@ module _ (resets : List (ℕ × ℕ)) (stops : List StopSendingValue) where
           pile = subst (λ (q : Sending). IsPile q.halves.live ((without_first kind w).reset_stream ++ (resets_in (d.frames ++ f ∷ []) ++ resets)) ((without_first kind w).stop_sending ++ (stops_in (d.frames ++ f ∷ []) ++ stops))) (sym same) (moved d (without_first kind w) f m g);
           others = record { no_ids = m.ids ∙ g.others.no_ids; no_retired = m.retired ∙ g.others.no_retired; no_frequency = m.frequency ∙ g.others.no_frequency };
         });
+    message = λ d m ms is fit g. other_frame d (datagram m) _ refl refl (record { pile = g.pile; others = g.others });
     stream = λ d id h room found first some is counts g. other_frame d (stream (frame_of id h room)) _ refl refl (record {
-      pile = record { once = g.pile.once; reset = λ r i. by_frame (InUse r) (in_use_kept r) d.end.fair d.end.streams id room h found (λ was. refl) (g.pile.reset r i); small = g.pile.small };
+      pile = record { once = g.pile.once; reset = λ r i. by_frame (InUse r) (in_use_kept r) d.end.transport.send_fairness d.end.streams id room h found (λ was. refl) (g.pile.reset r i); small = g.pile.small };
       others = g.others;
     });
   }) e h
@@ -156,16 +162,58 @@ added_stops (e ∷ es) n v s i = go (nat_cmp n e.0) i (added_stops es n v s)
       | inr x ↦ elim (in_append s v.carried.retransmits.stop_sending (stops_of es) (later x)) [ inl y ↦ in_left s v.carried.retransmits.stop_sending (stops_of (e ∷ es)) y | inr y ↦ in_right s v.carried.retransmits.stop_sending (stops_of (e ∷ es)) (in_right s e.1.carried.retransmits.stop_sending (stops_of es) y) ]
     ]
 
--- a datagram that goes is tracked, or isn't
-given_holds : (b : Bool) (d : Draft) → Drafts (resets_of d.end.tracking.packets) (stops_of d.end.tracking.packets) d → CarryNothingElse d.end.tracking.packets → HoldsAll (tracked_if b d)
-given_holds false d h none = record {
-  holds = holds_part d.end (resets_in d.frames ++ resets_of d.end.tracking.packets) (resets_of d.end.tracking.packets) (stops_in d.frames ++ stops_of d.end.tracking.packets) (stops_of d.end.tracking.packets)
-      (λ id. (let all = times_append id (resets_in d.frames) (resets_of d.end.tracking.packets) in omega arith)) (λ r i. in_right r (resets_in d.frames) (resets_of d.end.tracking.packets) i) (λ s i. in_right s (stops_in d.frames) (stops_of d.end.tracking.packets) i) h;
-  carried = none;
-}
-given_holds true d h none = record {
-  holds = record { pile = part.pile; others = part.others };
-  carried = λ n t i. elim (in_added packets d.end.numbers.next packet (n, t) i) [
+-- fewer packets carry less
+without_times : (es : Table TrackedPacket) (n id : ℕ) → times id (resets_of (without es n)) ≤ times id (resets_of es)
+without_times [] n id = omega arith
+without_times (e ∷ es) n id = go (is_at (nat_cmp n) e.0) (without_times es n id)
+  where
+    go : (b : Bool) → times id (resets_of (without es n)) ≤ times id (resets_of es) → times id (resets_of (cond b es (e ∷ without es n))) ≤ times id (resets_of (e ∷ es))
+    go true later = let all = times_append id e.1.carried.retransmits.reset_stream (resets_of es) in omega arith
+    go false later =
+        let all = times_append id e.1.carried.retransmits.reset_stream (resets_of es) in
+        let fewer = times_append id e.1.carried.retransmits.reset_stream (resets_of (without es n)) in
+        omega arith
+
+without_resets : (es : Table TrackedPacket) (n : ℕ) (r : ℕ × ℕ) → In r (resets_of (without es n)) → In r (resets_of es)
+without_resets [] n r i = i
+without_resets (e ∷ es) n r i = go (is_at (nat_cmp n) e.0) i (without_resets es n r)
+  where
+    go : (b : Bool) → In r (resets_of (cond b es (e ∷ without es n))) → (In r (resets_of (without es n)) → In r (resets_of es)) → In r (resets_of (e ∷ es))
+    go true i later = in_right r e.1.carried.retransmits.reset_stream (resets_of es) i
+    go false i later = elim (in_append r e.1.carried.retransmits.reset_stream (resets_of (without es n)) i) [
+      | inl x ↦ in_left r e.1.carried.retransmits.reset_stream (resets_of es) x
+      | inr x ↦ in_right r e.1.carried.retransmits.reset_stream (resets_of es) (later x)
+    ]
+
+without_stops : (es : Table TrackedPacket) (n : ℕ) (s : StopSendingValue) → In s (stops_of (without es n)) → In s (stops_of es)
+without_stops [] n s i = i
+without_stops (e ∷ es) n s i = go (is_at (nat_cmp n) e.0) i (without_stops es n s)
+  where
+    go : (b : Bool) → In s (stops_of (cond b es (e ∷ without es n))) → (In s (stops_of (without es n)) → In s (stops_of es)) → In s (stops_of (e ∷ es))
+    go true i later = in_right s e.1.carried.retransmits.stop_sending (stops_of es) i
+    go false i later = elim (in_append s e.1.carried.retransmits.stop_sending (stops_of (without es n)) i) [
+      | inl x ↦ in_left s e.1.carried.retransmits.stop_sending (stops_of es) x
+      | inr x ↦ in_right s e.1.carried.retransmits.stop_sending (stops_of es) (later x)
+    ]
+
+-- where one may be forgotten
+kept_times : (o : Option (ℕ × TrackedPacket)) (es : Table TrackedPacket) (id : ℕ) → times id (resets_of (without_packet o es)) ≤ times id (resets_of es)
+kept_times None es id = omega arith
+kept_times (Some p) es id = without_times es p.0 id
+
+kept_resets : (o : Option (ℕ × TrackedPacket)) (es : Table TrackedPacket) (r : ℕ × ℕ) → In r (resets_of (without_packet o es)) → In r (resets_of es)
+kept_resets None es r i = i
+kept_resets (Some p) es r i = without_resets es p.0 r i
+
+kept_stops : (o : Option (ℕ × TrackedPacket)) (es : Table TrackedPacket) (s : StopSendingValue) → In s (stops_of (without_packet o es)) → In s (stops_of es)
+kept_stops None es s i = i
+kept_stops (Some p) es s i = without_stops es p.0 s i
+
+-- a datagram that goes is tracked
+given_holds : (d : Draft) → Drafts (resets_of d.end.tracking.packets) (stops_of d.end.tracking.packets) d → CarryNothingElse d.end.tracking.packets → HoldsAll (tracked d)
+given_holds d h none = record {
+  holds = record { pile = subst (λ (ps : Table TrackedPacket). IsPile live (w.reset_stream ++ resets_of ps) (w.stop_sending ++ stops_of ps)) (sym there) part.pile; others = part.others };
+  carried = λ n t i. elim (in_sent d.end.tracking (number_of d.end) packet (n, t) i) [
     | inl old ↦ none n t old
     | inr new ↦ (
         let same : carried_in d.frames ≡ t.carried = ap (λ (x : ℕ × TrackedPacket). x.1.carried) (sym new) in
@@ -173,11 +221,26 @@ given_holds true d h none = record {
   ];
 }
   where
+    live : Table SendHalf
+    live = d.end.streams.sending.halves.live
+
+    w : Retransmits
+    w = d.end.waiting.frames
+
     packets : Table TrackedPacket
     packets = d.end.tracking.packets
 
     packet : TrackedPacket
-    packet = record { generation = d.end.path.generation; time_sent = d.end.closing.clock; carried = carried_in d.frames }
+    packet = packet_of d
+
+    kept : Table TrackedPacket
+    kept = without_packet (forgotten d.end.tracking packet) packets
+
+    all : Table TrackedPacket
+    all = added kept (number_of d.end) packet
+
+    there : (tracked d).tracking.packets ≡ all
+    there = asking_packets packet.asks (number_of d.end) packet.time_sent (record d.end.tracking { packets = all })
 
     resets_are : packet.carried.retransmits.reset_stream ≡ resets_in d.frames
     resets_are = ap (λ (c : Carried). c.retransmits.reset_stream) (sym (carried_same d.frames))
@@ -185,34 +248,152 @@ given_holds true d h none = record {
     stops_are : packet.carried.retransmits.stop_sending ≡ stops_in d.frames
     stops_are = ap (λ (c : Carried). c.retransmits.stop_sending) (sym (carried_same d.frames))
 
-    part : Holds d.end (resets_of (added packets d.end.numbers.next packet)) (stops_of (added packets d.end.numbers.next packet))
-    part = holds_part d.end (resets_in d.frames ++ resets_of packets) (resets_of (added packets d.end.numbers.next packet)) (stops_in d.frames ++ stops_of packets) (stops_of (added packets d.end.numbers.next packet))
+    resets_went : (r : ℕ × ℕ) → In r (packet.carried.retransmits.reset_stream ++ resets_of kept) → In r (resets_in d.frames ++ resets_of packets)
+    resets_went r i = elim (in_append r packet.carried.retransmits.reset_stream (resets_of kept) i) [
+      | inl x ↦ in_left r (resets_in d.frames) (resets_of packets) (subst (λ (rs : List (ℕ × ℕ)). In r rs) resets_are x)
+      | inr x ↦ in_right r (resets_in d.frames) (resets_of packets) (kept_resets (forgotten d.end.tracking packet) packets r x)
+    ]
+
+    stops_went : (s : StopSendingValue) → In s (packet.carried.retransmits.stop_sending ++ stops_of kept) → In s (stops_in d.frames ++ stops_of packets)
+    stops_went s i = elim (in_append s packet.carried.retransmits.stop_sending (stops_of kept) i) [
+      | inl x ↦ in_left s (stops_in d.frames) (stops_of packets) (subst (λ (ss : List StopSendingValue). In s ss) stops_are x)
+      | inr x ↦ in_right s (stops_in d.frames) (stops_of packets) (kept_stops (forgotten d.end.tracking packet) packets s x)
+    ]
+
+    part : Holds d.end (resets_of all) (stops_of all)
+    part = holds_part d.end (resets_in d.frames ++ resets_of packets) (resets_of all) (stops_in d.frames ++ stops_of packets) (stops_of all)
         (λ id. (
-        let more = added_times packets d.end.numbers.next packet id in
+        let more = added_times kept (number_of d.end) packet id in
         let same : times id packet.carried.retransmits.reset_stream ≡ times id (resets_in d.frames) = ap (times id) resets_are in
-        let all = times_append id (resets_in d.frames) (resets_of packets) in
+        let fewer = kept_times (forgotten d.end.tracking packet) packets id in
+        let sum = times_append id (resets_in d.frames) (resets_of packets) in
         omega arith))
-        (λ r i. subst (λ (rs : List (ℕ × ℕ)). In r (rs ++ resets_of packets)) resets_are (added_resets packets d.end.numbers.next packet r i))
-        (λ s i. subst (λ (ss : List StopSendingValue). In s (ss ++ stops_of packets)) stops_are (added_stops packets d.end.numbers.next packet s i))
+        (λ r i. resets_went r (added_resets kept (number_of d.end) packet r i))
+        (λ s i. stops_went s (added_stops kept (number_of d.end) packet s i))
         h
 
+-- ---- a probe
+
+-- packets one behind another
+resets_behind : (id : ℕ) (xs ys : Table TrackedPacket) → times id (resets_of (xs ++ ys)) ≡ times id (resets_of xs) + times id (resets_of ys)
+resets_behind id [] ys = omega arith
+resets_behind id (x ∷ xs) ys =
+    let rest = resets_behind id xs ys in
+    let all = times_append id x.1.carried.retransmits.reset_stream (resets_of (xs ++ ys)) in
+    let some = times_append id x.1.carried.retransmits.reset_stream (resets_of xs) in
+    omega arith
+
+-- what one of them carried stands there
+resets_there : (ps : Table TrackedPacket) (p : ℕ × TrackedPacket) (r : ℕ × ℕ) → In p ps → In r p.1.carried.retransmits.reset_stream → In r (resets_of ps)
+resets_there [] p r i among = absurd i
+resets_there (q ∷ ps) p r (inl is) among = in_left r q.1.carried.retransmits.reset_stream (resets_of ps) (subst (λ (x : ℕ × TrackedPacket). In r x.1.carried.retransmits.reset_stream) is among)
+resets_there (q ∷ ps) p r (inr i) among = in_right r q.1.carried.retransmits.reset_stream (resets_of ps) (resets_there ps p r i among)
+
+stops_there : (ps : Table TrackedPacket) (p : ℕ × TrackedPacket) (s : StopSendingValue) → In p ps → In s p.1.carried.retransmits.stop_sending → In s (stops_of ps)
+stops_there [] p s i among = absurd i
+stops_there (q ∷ ps) p s (inl is) among = in_left s q.1.carried.retransmits.stop_sending (stops_of ps) (subst (λ (x : ℕ × TrackedPacket). In s x.1.carried.retransmits.stop_sending) is among)
+stops_there (q ∷ ps) p s (inr i) among = in_right s q.1.carried.retransmits.stop_sending (stops_of ps) (stops_there ps p s i among)
+
+-- and what stands there, one of them carried
+pub resets_from : (ps : Table TrackedPacket) (r : ℕ × ℕ) → In r (resets_of ps) → (q : ℕ × TrackedPacket) × In q ps × In r q.1.carried.retransmits.reset_stream
+resets_from [] r i = absurd i
+resets_from (q ∷ ps) r i = elim (in_append r q.1.carried.retransmits.reset_stream (resets_of ps) i) [
+  | inl here ↦ (q, inl refl, here)
+  | inr more ↦ (let rest = resets_from ps r more in (rest.0, inr rest.1, rest.2))
+]
+
+pub stops_from : (ps : Table TrackedPacket) (s : StopSendingValue) → In s (stops_of ps) → (q : ℕ × TrackedPacket) × In q ps × In s q.1.carried.retransmits.stop_sending
+stops_from [] s i = absurd i
+stops_from (q ∷ ps) s i = elim (in_append s q.1.carried.retransmits.stop_sending (stops_of ps) i) [
+  | inl here ↦ (q, inl refl, here)
+  | inr more ↦ (let rest = stops_from ps s more in (rest.0, inr rest.1, rest.2))
+]
+
+-- the record of a packet waits again, and the packet stays without it
+moved_holds : (p : ℕ × TrackedPacket) (e : End) → In p e.tracking.packets → Ascends e → HoldsAll e → HoldsAll (record_moved (Some p) e)
+moved_holds p e among ascends h = record {
+  holds = record { pile = waits.pile; others = waits.others };
+  carried = λ n t i. elim (in_put packets p.0 (without_record p.1) (n, t) i) [
+    | inl old ↦ h.carried n t old
+    | inr new ↦ subst (λ (x : ℕ × TrackedPacket). NothingElse x.1.carried.retransmits) (sym new) (record { no_ids = refl; no_retired = refl; no_frequency = refl })
+  ];
+}
+  where
+    packets : Table TrackedPacket
+    packets = e.tracking.packets
+
+    c : Carried
+    c = p.1.carried
+
+    left : Table TrackedPacket
+    left = put packets p.0 (without_record p.1)
+
+    splits : Splits packets left p (without_record p.1)
+    splits = put_splits 0 packets p (without_record p.1) ascends among
+
+    few : (id : ℕ) → times id (c.retransmits.reset_stream ++ resets_of left) ≤ times id (resets_of packets)
+    few id =
+        let there : times id (resets_of packets) ≡ times id (resets_of (splits.before ++ p ∷ splits.behind)) = ap (λ (x : Table TrackedPacket). times id (resets_of x)) splits.is in
+        let after : times id (resets_of left) ≡ times id (resets_of (splits.before ++ (p.0, without_record p.1) ∷ splits.behind)) = ap (λ (x : Table TrackedPacket). times id (resets_of x)) splits.put in
+        let old = resets_behind id splits.before (p ∷ splits.behind) in
+        let new = resets_behind id splits.before ((p.0, without_record p.1) ∷ splits.behind) in
+        let one = times_append id c.retransmits.reset_stream (resets_of splits.behind) in
+        let all = times_append id c.retransmits.reset_stream (resets_of left) in
+        omega arith
+
+    resets_were : (r : ℕ × ℕ) → In r (resets_of left) → In r (resets_of packets)
+    resets_were r i =
+        let q = resets_from left r i in
+        elim (in_put packets p.0 (without_record p.1) q.0 q.1) [
+          | inl old ↦ resets_there packets q.0 r old q.2
+          | inr new ↦ absurd (subst (λ (x : ℕ × TrackedPacket). In r x.1.carried.retransmits.reset_stream) new q.2)
+        ]
+
+    stops_were : (s : StopSendingValue) → In s (stops_of left) → In s (stops_of packets)
+    stops_were s i =
+        let q = stops_from left s i in
+        elim (in_put packets p.0 (without_record p.1) q.0 q.1) [
+          | inl old ↦ stops_there packets q.0 s old q.2
+          | inr new ↦ absurd (subst (λ (x : ℕ × TrackedPacket). In s x.1.carried.retransmits.stop_sending) new q.2)
+        ]
+
+    part : Holds e (c.retransmits.reset_stream ++ resets_of left) (c.retransmits.stop_sending ++ stops_of left)
+    part = holds_part e (resets_of packets) (c.retransmits.reset_stream ++ resets_of left) (stops_of packets) (c.retransmits.stop_sending ++ stops_of left) few
+        (λ r i. elim (in_append r c.retransmits.reset_stream (resets_of left) i) [ inl x ↦ resets_there packets p r among x | inr x ↦ resets_were r x ])
+        (λ s i. elim (in_append s c.retransmits.stop_sending (stops_of left) i) [ inl x ↦ stops_there packets p s among x | inr x ↦ stops_were s x ])
+        h.holds
+
+    waits : Holds (again c e) (resets_of left) (stops_of left)
+    waits = again_step c e (resets_of left) (stops_of left) (h.carried p.0 p.1 among) part
+
+-- an end that is ready to give
+pub ready_holds : (e : End) (now : ℕ) → Ascends e → HoldsAll e → HoldsAll (ready_at e now)
+ready_holds e now ascends h =
+    let begins : End = with_closing e (ticked e.closing now) in
+    let here : HoldsAll begins = again_all e begins refl refl refl h in
+    by_ready HoldsAll e now here (again_all begins (with_ping begins true) refl refl refl here) (λ p among. moved_holds p begins among ascends here)
+
 -- what a poll leaves
-pub polled_holds : (p : Policy) (e : End) (now : ℕ) → HoldsAll e → HoldsAll (polled p e now).end
-polled_holds p e now h = by_poll_to p e now (λ (q : Polled). HoldsAll q.end) (record {
+pub polled_holds : (p : Policy) (e : End) (now : ℕ) → Ascends e → HoldsAll e → HoldsAll (polled p e now).end
+polled_holds p e now ascends h = by_poll_to p e now (λ (q : Polled). HoldsAll q.end) (record {
   silent = h;
   failed = h;
-  idle = λ pings. again_all e _ refl refl refl h;
-  used_up = λ pings. again_all e _ refl refl refl h;
-  gives = λ pings is may some ready. gives pings;
+  idle = ready;
+  used_up = again_all (ready_at e now) _ refl refl refl ready;
+  gives = λ is may some. gives;
 })
   where
-    gives : (pings : Bool) → HoldsAll (after_given (composed (at_moment e now pings)))
-    gives pings =
-        let d : Draft = composed (at_moment e now pings) in
-        let same : d.end.tracking ≡ e.tracking = (composes (at_moment e now pings)).tracking in
-        let packets : d.end.tracking.packets ≡ e.tracking.packets = ap (λ (t : Tracking). t.packets) same in
-        let went : Drafts (resets_of e.tracking.packets) (stops_of e.tracking.packets) d =
-        composed_holds (resets_of e.tracking.packets) (stops_of e.tracking.packets) (at_moment e now pings) (record { pile = h.holds.pile; others = h.holds.others }) in
+    ready : HoldsAll (ready_at e now)
+    ready = ready_holds e now ascends h
+
+    gives : HoldsAll (after_given p (draft_at e now))
+    gives =
+        let there : End = lazied (ready_at e now) in
+        let d : Draft = composed there in
+        let same : d.end.tracking ≡ there.tracking = (composes there).tracking in
+        let packets : d.end.tracking.packets ≡ there.tracking.packets = ap (λ (t : Tracking). t.packets) same in
+        let went : Drafts (resets_of there.tracking.packets) (stops_of there.tracking.packets) d =
+        composed_holds (resets_of there.tracking.packets) (stops_of there.tracking.packets) there (record { pile = ready.holds.pile; others = ready.holds.others }) in
         let here : Drafts (resets_of d.end.tracking.packets) (stops_of d.end.tracking.packets) d = rw packets went in
-        let none : CarryNothingElse d.end.tracking.packets = rw packets h.carried in
-        again_all (tracked_if (asking d.frames) d) (after_given d) refl refl refl (given_holds (asking d.frames) d here none)
+        let none : CarryNothingElse d.end.tracking.packets = rw packets ready.carried in
+        again_all (tracked d) (after_given p d) refl refl refl (given_holds d here none)

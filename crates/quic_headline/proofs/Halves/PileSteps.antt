@@ -1,5 +1,5 @@
 -- What comes and what goes leave a pile of RESET_STREAM and STOP_SENDING: those that wait, and those that tracked packets carried.
-use Rattle.std.proofs.Common.{◌≡◌, ℕ, ◌+◌, ◌≤◌, ◌==◌, Bool, true, false, not, cond, List, [], ◌∷◌, ◌++◌, Option, Some, None, refl, sym, ap, subst, inl, inr, arith}
+use Rattle.std.proofs.Common.{◌≡◌, ℕ, ◌+◌, ◌≤◌, ◌==◌, Bool, true, false, not, cond, List, [], ◌∷◌, ◌++◌, filter, Option, Some, None, refl, sym, ap, subst, inl, inr, arith}
 use Rattle.std.specs.Prelude.{if◌then◌else◌}
 use Rattle.std.specs.Option.{is_some}
 use Rattle.std.proofs.lemmas.Bool.{eq-eqb}
@@ -17,10 +17,9 @@ use Rattle.quic_streams_state.specs.Taking as taking
 use Rattle.quic_streams_state.specs.Acked.{sent_half, acked_at, after_stream_acked, reset_acked_at, after_reset_acked}
 use Rattle.quic_streams_laws.specs.KeepingLaws.{by_stream, by_reset_frame, by_stop_sending, by_max_data_where, by_max_stream_data, by_max_streams, by_stream_lost, by_stream_acked_where, by_reset_acked_where}
 use Rattle.quic_machine.specs.Policy.{Policy}
-use Rattle.quic_machine.specs.Numbers.{cut_against}
-use Rattle.quic_machine.specs.Tracking.{TrackedPacket, Carried, dir_named, acked_by, not_acked_by, lost_below, kept_above, is_below}
+use Rattle.quic_machine.specs.Tracking.{TrackedPacket, Carried, dir_named, acked_by, not_acked_by, is_lost, lost_by, kept_by}
 use Rattle.quic_machine.specs.End.{End, with_streams}
-use Rattle.quic_machine.specs.Acked.{without_known, reset_acked, resets_acked, stream_acked, streams_acked, packet_acked, packets_acked, stream_lost, streams_lost, again, carried_lost, packets_lost, after_named}
+use Rattle.quic_machine.specs.Acked.{without_known, reset_acked, resets_acked, stream_acked, streams_acked, packet_acked, packets_acked, stream_lost, streams_lost, again, carried_lost, packets_lost, verdict, losses_detected, measured, sampled, without_acked, after_named}
 use Rattle.quic_machine.specs.Receive.{take_frame, received}
 use Rattle.quic_machine.specs.FrameCases.{OnStreams, named, frame_keeps, by_received}
 use Rattle.quic_headline.specs.Runs.{In, names}
@@ -144,7 +143,7 @@ abbrev pub CarryNothingElse : Table TrackedPacket → Type 0
 CarryNothingElse ps = (n : ℕ) (t : TrackedPacket) → In (n, t) ps → NothingElse t.carried.retransmits
 
 -- what else a packet carried waits again
-again_step : (c : Carried) (e : End) (resets : List (ℕ × ℕ)) (stops : List StopSendingValue) → NothingElse c.retransmits → Holds e (c.retransmits.reset_stream ++ resets) (c.retransmits.stop_sending ++ stops) → Holds (again c e) resets stops
+pub again_step : (c : Carried) (e : End) (resets : List (ℕ × ℕ)) (stops : List StopSendingValue) → NothingElse c.retransmits → Holds e (c.retransmits.reset_stream ++ resets) (c.retransmits.stop_sending ++ stops) → Holds (again c e) resets stops
 again_step c e resets stops none h = record {
   pile = rw (append_assoc e.waiting.frames.reset_stream c.retransmits.reset_stream resets, append_assoc e.waiting.frames.stop_sending c.retransmits.stop_sending stops) h.pile;
   others = (let o = h.others in record { no_ids = rw (o.no_ids, none.no_ids) refl; no_retired = rw (o.no_retired, none.no_retired) refl; no_frequency = rw (o.no_frequency, none.no_frequency) refl });
@@ -166,12 +165,31 @@ pub record HoldsAll (e : End) : Type 0 where
   pub holds : Holds e (resets_of e.tracking.packets) (stops_of e.tracking.packets)
   pub carried : CarryNothingElse e.tracking.packets
 
--- an ACK frame that names these packets
-named_step : (ps : Table TrackedPacket) (a : AckValue) (e : End) → acked_by a e.tracking.packets ≡ ps → HoldsAll e → HoldsAll (after_named ps a e)
-named_step [] a e is h = h
-named_step (p ∷ ps) a e is h = record {
+-- the same of an end whose streams, what waits and what is tracked are those of another
+pub again_all : (e f : End) → f.streams ≡ e.streams → f.waiting.frames ≡ e.waiting.frames → f.tracking.packets ≡ e.tracking.packets → HoldsAll e → HoldsAll f
+again_all e f streams waiting packets h = record {
+  holds = record { pile = rw (streams, waiting, packets) h.holds.pile; others = rw waiting h.holds.others };
+  carried = rw packets h.carried;
+}
+
+-- some of the packets, in two parts
+split_few : (f : ℕ × TrackedPacket → Bool) (packets : Table TrackedPacket) (id : ℕ) → times id (resets_of (filter f packets) ++ resets_of (filter (λ q. not (f q)) packets)) ≤ times id (resets_of packets)
+split_few f packets id =
+    let parts = times_split f id packets in
+    let all = times_append id (resets_of (filter f packets)) (resets_of (filter (λ q. not (f q)) packets)) in
+    omega arith
+
+split_resets : (f : ℕ × TrackedPacket → Bool) (packets : Table TrackedPacket) (r : ℕ × ℕ) → In r (resets_of (filter f packets) ++ resets_of (filter (λ q. not (f q)) packets)) → In r (resets_of packets)
+split_resets f packets r i = elim (in_append r (resets_of (filter f packets)) (resets_of (filter (λ q. not (f q)) packets)) i) [ inl x ↦ resets_among f r packets x | inr x ↦ resets_among (λ q. not (f q)) r packets x ]
+
+split_stops : (f : ℕ × TrackedPacket → Bool) (packets : Table TrackedPacket) (s : StopSendingValue) → In s (stops_of (filter f packets) ++ stops_of (filter (λ q. not (f q)) packets)) → In s (stops_of packets)
+split_stops f packets s i = elim (in_append s (stops_of (filter f packets)) (stops_of (filter (λ q. not (f q)) packets)) i) [ inl x ↦ stops_among f s packets x | inr x ↦ stops_among (λ q. not (f q)) s packets x ]
+
+-- packets that an ACK frame names are acknowledged
+acked_step : (ps : Table TrackedPacket) (a : AckValue) (e : End) → acked_by a e.tracking.packets ≡ ps → HoldsAll e → HoldsAll (without_acked ps a e)
+acked_step ps a e is h = record {
   holds = record { pile = settled.pile; others = settled.others };
-  carried = λ n t i. h.carried n t (in_filter not_named (n, t) packets (in_filter not_lost (n, t) left i));
+  carried = λ n t i. h.carried n t (in_filter (λ q. not (names a q.0)) (n, t) packets i);
 }
   where
     packets : Table TrackedPacket
@@ -180,49 +198,52 @@ named_step (p ∷ ps) a e is h = record {
     left : Table TrackedPacket
     left = not_acked_by a packets
 
-    lost : Table TrackedPacket
-    lost = lost_below (cut_against e.numbers) left
-
-    kept : Table TrackedPacket
-    kept = kept_above (cut_against e.numbers) left
-
     named_of : ℕ × TrackedPacket → Bool
     named_of q = names a q.0
 
-    not_named : ℕ × TrackedPacket → Bool
-    not_named q = not (names a q.0)
+    settled : Holds (packets_acked ps e) (resets_of left) (stops_of left)
+    settled = packets_step ps e (resets_of left) (stops_of left) (holds_part e (resets_of packets) (resets_of ps ++ resets_of left) (stops_of packets) (stops_of ps ++ stops_of left)
+        (λ id. subst (λ (x : Table TrackedPacket). times id (resets_of x ++ resets_of left) ≤ times id (resets_of packets)) is (split_few named_of packets id))
+        (λ r i. split_resets named_of packets r (subst (λ (x : Table TrackedPacket). In r (resets_of x ++ resets_of left)) (sym is) i))
+        (λ s i. split_stops named_of packets s (subst (λ (x : Table TrackedPacket). In s (stops_of x ++ stops_of left)) (sym is) i))
+        h.holds)
+
+-- losses are detected
+pub losses_hold : (e : End) → HoldsAll e → HoldsAll (losses_detected e)
+losses_hold e h = record {
+  holds = record { pile = settled.pile; others = settled.others };
+  carried = λ n t i. h.carried n t (in_filter (λ q. not (lost_of q)) (n, t) packets i);
+}
+  where
+    packets : Table TrackedPacket
+    packets = e.tracking.packets
 
     lost_of : ℕ × TrackedPacket → Bool
-    lost_of q = is_below (cut_against e.numbers) q.0
+    lost_of q = is_lost (verdict e) q
 
-    not_lost : ℕ × TrackedPacket → Bool
-    not_lost q = not (is_below (cut_against e.numbers) q.0)
+    lost : Table TrackedPacket
+    lost = lost_by (verdict e) packets
 
-    few : (id : ℕ) → times id (resets_of (p ∷ ps) ++ (resets_of lost ++ resets_of kept)) ≤ times id (resets_of packets)
-    few id =
-        let parts = times_split named_of id packets in
-        let others = times_split lost_of id left in
-        let one : times id (resets_of (acked_by a packets)) ≡ times id (resets_of (p ∷ ps)) = ap (λ (x : Table TrackedPacket). times id (resets_of x)) is in
-        let all = times_append id (resets_of (p ∷ ps)) (resets_of lost ++ resets_of kept) in
-        let more = times_append id (resets_of lost) (resets_of kept) in
-        omega arith
+    kept : Table TrackedPacket
+    kept = kept_by (verdict e) packets
 
-    among : (r : ℕ × ℕ) → In r (resets_of (p ∷ ps) ++ (resets_of lost ++ resets_of kept)) → In r (resets_of packets)
-    among r i = elim (in_append r (resets_of (p ∷ ps)) (resets_of lost ++ resets_of kept) i) [
-      | inl here ↦ resets_among named_of r packets (subst (λ (x : Table TrackedPacket). In r (resets_of x)) (sym is) here)
-      | inr more ↦ resets_among not_named r packets (elim (in_append r (resets_of lost) (resets_of kept) more) [ inl x ↦ resets_among lost_of r left x | inr x ↦ resets_among not_lost r left x ])
-    ]
+    settled : Holds (packets_lost lost e) (resets_of kept) (stops_of kept)
+    settled = losses_step lost e (resets_of kept) (stops_of kept) (λ n t i. h.carried n t (in_filter lost_of (n, t) packets i))
+        (holds_part e (resets_of packets) (resets_of lost ++ resets_of kept) (stops_of packets) (stops_of lost ++ stops_of kept) (split_few lost_of packets) (split_resets lost_of packets) (split_stops lost_of packets) h.holds)
 
-    less : (s : StopSendingValue) → In s (stops_of (p ∷ ps) ++ (stops_of lost ++ stops_of kept)) → In s (stops_of packets)
-    less s i = elim (in_append s (stops_of (p ∷ ps)) (stops_of lost ++ stops_of kept) i) [
-      | inl here ↦ stops_among named_of s packets (subst (λ (x : Table TrackedPacket). In s (stops_of x)) (sym is) here)
-      | inr more ↦ stops_among not_named s packets (elim (in_append s (stops_of lost) (stops_of kept) more) [ inl x ↦ stops_among lost_of s left x | inr x ↦ stops_among not_lost s left x ])
-    ]
+-- a round trip is measured, if one is
+sampled_hold : (o : Option TrackedPacket) (a : AckValue) (e : End) → HoldsAll e → HoldsAll (sampled o a e)
+sampled_hold None a e h = h
+sampled_hold (Some p) a e h = again_all e (sampled (Some p) a e) refl refl refl h
 
-    settled : Holds (packets_lost lost (packets_acked (p ∷ ps) e)) (resets_of kept) (stops_of kept)
-    settled = losses_step lost (packets_acked (p ∷ ps) e) (resets_of kept) (stops_of kept) (λ n t i. h.carried n t (in_filter not_named (n, t) packets (in_filter lost_of (n, t) left i)))
-        (packets_step (p ∷ ps) e (resets_of lost ++ resets_of kept) (stops_of lost ++ stops_of kept)
-        (holds_part e (resets_of packets) (resets_of (p ∷ ps) ++ (resets_of lost ++ resets_of kept)) (stops_of packets) (stops_of (p ∷ ps) ++ (stops_of lost ++ stops_of kept)) few among less h.holds))
+-- an ACK frame that names these packets
+named_step : (ps : Table TrackedPacket) (rises : Bool) (a : AckValue) (e : End) → acked_by a e.tracking.packets ≡ ps → HoldsAll e → HoldsAll (after_named ps rises a e)
+named_step [] rises a e is h = h
+named_step (p ∷ ps) rises a e is h =
+    let o = measured rises a (p ∷ ps) in
+    let left : End = without_acked (p ∷ ps) a e in
+    let found : End = losses_detected (sampled o a left) in
+    again_all found (after_named (p ∷ ps) rises a e) refl refl refl (losses_hold (sampled o a left) (sampled_hold o a left (acked_step (p ∷ ps) a e is h)))
 
 -- ---- frames that come
 
@@ -264,21 +285,15 @@ frame_step (stream_data_blocked f) e on h = all_on e _ (λ r u. u) (same_pile e.
 frame_step (streams_blocked f) e on h = all_on e _ (λ r u. u) (same_pile e.waiting.frames) h
 frame_step f e on h = absurd on
 
--- the same of an end whose streams, what waits and what is tracked are those of another
-pub again_all : (e f : End) → f.streams ≡ e.streams → f.waiting.frames ≡ e.waiting.frames → f.tracking.packets ≡ e.tracking.packets → HoldsAll e → HoldsAll f
-again_all e f streams waiting packets h = record {
-  holds = record { pile = rw (streams, waiting, packets) h.holds.pile; others = rw waiting h.holds.others };
-  carried = rw packets h.carried;
-}
-
 -- whatever comes
 pub received_holds : (p : Policy) (e : End) (now : ℕ) (d : List ℕ) → HoldsAll e → HoldsAll (received p e now d).end
 received_holds = by_received HoldsAll (record {
   notes = λ n e h. again_all e _ refl refl refl h;
   begins = λ now n e h. again_all e _ refl refl refl h;
   frame = frame_keeps HoldsAll (record {
-    ack = λ a e h. named_step (acked_by a e.tracking.packets) a (named a e) refl (again_all e (named a e) refl refl refl h);
+    ack = λ rises a e h. named_step (acked_by a e.tracking.packets) rises a (named a e) refl (again_all e (named a e) refl refl refl h);
     on_streams = λ f e on h. frame_step f e on h;
+    message = λ m e h. again_all e _ refl refl refl h;
   });
   takes = λ n asks e h. again_all e _ refl refl refl h;
   closes = λ reason e h. again_all e _ refl refl refl h;

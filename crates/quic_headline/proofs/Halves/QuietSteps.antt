@@ -1,6 +1,6 @@
 -- Calls and frames that bring and read nothing leave a fact of streams that words about what an end sends leave.
-use Rattle.std.proofs.Common.{◌≡◌, ℕ, Bool, true, false, nat_le, List, length, Result, Ok, Err, refl, sym, subst, inl, inr}
-use Rattle.quic_wire.specs.Value.{FrameValue, AckValue, StreamValue, ResetStreamValue, ack, stream, reset_stream, stop_sending, max_data, max_stream_data, max_streams}
+use Rattle.std.proofs.Common.{◌≡◌, ℕ, Bool, true, false, List, length, Result, Ok, Err, refl, sym, subst, inl, inr}
+use Rattle.quic_wire.specs.Value.{FrameValue, AckValue, StreamValue, ResetStreamValue, ack, stream, reset_stream, stop_sending, max_data, max_stream_data, max_streams, datagram}
 use Rattle.quic_streams_parts.specs.declared.answers.WriteError.TheVariants as write_errors
 use Rattle.quic_streams_state.specs.declared.state.StreamsState.{StreamsState}
 use Rattle.quic_streams_state.specs.State.{Streams}
@@ -17,15 +17,18 @@ use Rattle.quic_machine.specs.declared.run.Answer.{Answer}
 use Rattle.quic_recovery_core.specs.PendingAcks.{can_send}
 use Rattle.quic_machine.specs.Policy.{Policy}
 use Rattle.quic_machine.specs.Tracking.{dir_named}
-use Rattle.quic_machine.specs.End.{End, streams_at}
+use Rattle.quic_machine.specs.End.{End, with_closing, streams_at}
+use Rattle.quic_machine.specs.Closing.{ticked}
 use Rattle.quic_machine.specs.Calls.{is_open}
 use Rattle.quic_machine.specs.StreamCalls.{if_ok, after_on_streams, IsStreamAnswer}
 use Rattle.quic_machine.specs.Machine.{IsAnswer, after_call}
-use Rattle.quic_machine.specs.Receive.{take_frame}
-use Rattle.quic_machine.specs.Poll.{Draft, Polled, Kind, pings, controls, streams, put, with_asking, no_frames, with_ack, ack_if, ack_fits, ping_if, composed, composed_if, polled, frame_room, left, no_stream_frames}
+use Rattle.quic_machine.specs.Receive.{is_above, names_ungiven, take_frame}
+use Rattle.quic_machine.specs.Poll.{Draft, Polled, Kind, pings, controls, messages, streams, order, put, with_asking, no_frames, with_ack, ack_if, ack_fits, ping_if, composed, composed_if, lazied, polled, frame_room, left, no_stream_frames}
 use Rattle.quic_machine.specs.CallCases.{is_delivery, by_call}
-use Rattle.quic_machine.specs.FrameCases.{Settling, acked_keeps, named, ack_taken}
-use Rattle.quic_machine.specs.LeaveCases.{by_expired}
+use Rattle.quic_machine.specs.DraftLaws.{by_messages}
+use Rattle.quic_machine.specs.FrameCases.{Settling, acked_keeps, losses_keep, named, ack_taken, message_leaves}
+use Rattle.quic_machine.specs.LeaveCases.{by_expired, by_event}
+use Rattle.quic_headline.proofs.Packets.Kinds.{by_kinds}
 use Rattle.quic_machine.specs.PollCases.{at_moment, by_poll}
 
 -- a half counts no byte as sent that wasn't written
@@ -88,10 +91,12 @@ module _ (P : StreamsState → Type 0) (q : IsQuiet P) where
       go true = i
       go false = i
   kind_quiet d controls i = q.control_frames (frame_room d.end) (control.no_frames (length d.bytes) d.end.streams d.end.waiting.frames nothing_waits) i
-  kind_quiet d streams i = q.stream_frames d.end.fair (left d) (no_stream_frames d) i
+  kind_quiet d messages i = by_messages (λ (x : Draft). P x.end.streams) (λ x m ms is fit j. j) d i
+  kind_quiet d streams i = q.stream_frames d.end.transport.send_fairness (left d) (no_stream_frames d) i
 
+  -- all of them
   asking_quiet : (d : Draft) → P d.end.streams → P (with_asking d).end.streams
-  asking_quiet d i = kind_quiet (put (put d pings) controls) streams (kind_quiet (put d pings) controls (kind_quiet d pings i))
+  asking_quiet d i = by_kinds (λ (x : Draft). P x.end.streams) kind_quiet order d i
 
   -- what goes into a datagram
   pub composed_quiet : (e : End) → P e.streams → P (composed e).end.streams
@@ -109,27 +114,12 @@ module _ (P : StreamsState → Type 0) (q : IsQuiet P) where
   poll_quiet p e now i = by_poll p e now (λ (x : Polled). P x.end.streams) (record {
     silent = i;
     failed = i;
-    idle = λ pings. i;
-    used_up = λ pings. i;
-    gives = λ pings tracking timers is may some ready. composed_quiet (at_moment e now pings) i;
+    idle = λ t w ready. i;
+    used_up = λ t w ready. i;
+    gives = λ t w tracking timers is may some ready. composed_quiet (lazied (at_moment e now t w)) i;
   })
 
-  -- ---- any call by which nothing comes and nothing is read
-
-  pub call_quiet : (p : Policy) (e : End) (theirs : List (List ℕ)) (call : Call) (a : Answer) → IsAnswer p e theirs call a → ((id : ℕ) → IsSentWithin e.streams id) → is_delivery call ≡ false → is_reading call ≡ false → P e.streams
-      → P (after_call p e theirs call a).streams
-  call_quiet p e theirs call a is within apart quiet i = by_call p e theirs (λ (f : End). P f.streams) call a (record {
-    same = i;
-    on_streams = λ on answer. on_streams_quiet e within i (is_open e.closing.state) call a (answer is) quiet;
-    pings = i;
-    heard = λ path same. i;
-    times = λ now acks loss set. by_expired e now (λ (f : End). P f.streams) (λ pending tracking timers runs packets. i) acks loss;
-    polls = λ now set. poll_quiet p e now i;
-    hears = λ now d set. cc;
-    tells = λ asks. q.polls e.streams i;
-  })
-
-  -- ---- frames
+  -- ---- packets that are acknowledged or lost
 
   settles : Settling (λ (e : End). P e.streams)
   settles = record {
@@ -139,7 +129,26 @@ module _ (P : StreamsState → Type 0) (q : IsQuiet P) where
     lost = λ m e i. q.lost e.streams m i;
     again = λ carried e i. i;
     tracked = λ t e i. i;
+    measured = λ r e i. i;
   }
+
+  -- ---- any call by which nothing comes and nothing is read
+
+  pub call_quiet : (p : Policy) (e : End) (theirs : List (List ℕ)) (call : Call) (a : Answer) → IsAnswer p e theirs call a → ((id : ℕ) → IsSentWithin e.streams id) → is_delivery call ≡ false → is_reading call ≡ false → P e.streams
+      → P (after_call p e theirs call a).streams
+  call_quiet p e theirs call a is within apart quiet i = by_call p e theirs (λ (f : End). P f.streams) call a (record {
+    same = i;
+    on_streams = λ on answer. on_streams_quiet e within i (is_open e.closing.state) call a (answer is) quiet;
+    on_messages = λ on answer. i;
+    pings = i;
+    heard = λ path same. i;
+    times = λ now acks loss set. by_expired e now (λ (f : End). P f.streams) (λ pending tracking timers runs packets. i) (λ pending timers runs. losses_keep (λ (x : End). P x.streams) settles (with_closing e (ticked e.closing now)) i) acks loss;
+    polls = λ now set. poll_quiet p e now i;
+    hears = λ now d set. cc;
+    tells = λ asks. by_event e (λ (f : End). P f.streams) i (λ told. q.polls e.streams i);
+  })
+
+  -- ---- frames
 
   -- a frame that brings nothing of a stream leaves it; STREAM and RESET_STREAM as is shown
   pub frame_quiet : (f : FrameValue) (e : End) → ((g : StreamValue) → f ≡ stream g → P (after_stream e.streams e.waiting.frames g).state) → ((g : ResetStreamValue) → f ≡ reset_stream g → P (after_reset_frame e.streams e.waiting.frames g).state) → P e.streams
@@ -148,7 +157,7 @@ module _ (P : StreamsState → Type 0) (q : IsQuiet P) where
     where
       acked : (a : AckValue) (b : Bool) → P (ack_taken b a e).end.streams
       acked a true = i
-      acked a false = acked_keeps (λ (x : End). P x.streams) settles a (named a e) i
+      acked a false = acked_keeps (λ (x : End). P x.streams) settles (is_above e.numbers.largest_acked a.largest) a (named a e) i
 
       go : (f : FrameValue) → ((g : StreamValue) → f ≡ stream g → P (after_stream e.streams e.waiting.frames g).state) → ((g : ResetStreamValue) → f ≡ reset_stream g → P (after_reset_frame e.streams e.waiting.frames g).state) → P (take_frame f e).end.streams
       go (stream g) brings resets = brings g refl
@@ -157,5 +166,6 @@ module _ (P : StreamsState → Type 0) (q : IsQuiet P) where
       go (max_data limit) brings resets = q.max_data e.streams limit i
       go (max_stream_data g) brings resets = q.max_stream_data e.streams g.id g.limit i
       go (max_streams g) brings resets = q.max_streams (dir_named g.one_way) g.count e.streams i
-      go (ack a) brings resets = acked a (nat_le e.numbers.next a.largest)
+      go (ack a) brings resets = acked a (names_ungiven a e)
+      go (datagram m) brings resets = message_leaves (λ (x : End). P x.streams) m e i (λ left. i)
       go other brings resets = i

@@ -3,15 +3,16 @@ use Rattle.std.proofs.Common.{◌≡◌, ℕ, true, List, [], ◌∷◌, Some, r
 use Rattle.std.specs.List.{fold}
 use Rattle.quic_wire.specs.Value.{FrameValue, stream, reset_stream}
 use Rattle.quic_send_buffer.specs.declared.stream_meta.StreamMeta.{StreamMeta}
+use Rattle.quic_streams_parts.specs.Table.{Table}
 use Rattle.quic_retransmits.specs.Retransmits.{Retransmits, nothing_waits}
 use Rattle.quic_streams_laws.specs.Written.{Wrote, Grows, SaysResets}
 use Rattle.quic_streams_laws.specs.WrittenFrames.{all_append}
 use Rattle.quic_streams_laws.specs.ContentLaws.{stream_of_grows, reset_of_grows}
-use Rattle.quic_machine.specs.Tracking.{Carried, streams_in, and_again, carried_in}
+use Rattle.quic_machine.specs.Tracking.{Carried, TrackedPacket, streams_in, and_again, carried_in}
 use Rattle.quic_headline.specs.Runs.{Packet, In}
 use Rattle.quic_headline.specs.Observer.{Sent}
-use Rattle.quic_headline.proofs.Packets.Invariant.{WereSent}
-use Rattle.quic_headline.proofs.Packets.Named.{WasCarried, IsCarriedBy}
+use Rattle.quic_headline.proofs.Packets.Invariant.{IsCarriedFrom, AreTracked, WereSent}
+use Rattle.quic_headline.proofs.Packets.Named.{WasCarried, IsCarriedBy, tracked_carried}
 use Rattle.quic_headline.proofs.Halves.Ghosts.{SaysOf}
 
 -- each frame says what was done
@@ -58,13 +59,22 @@ resets_say done (f ∷ fs) r say before = resets_say done fs (and_again r f) (λ
 pub carried_says : (done : ℕ → Wrote) (fs : List FrameValue) → AllSay done fs → CarriedSays done (carried_in fs)
 carried_says done fs say = record { resets = resets_say done fs nothing_waits say tt; ends = ends_say done fs say }
 
+-- so does what is without what has to be sent again
+says_from : (done : ℕ → Wrote) (c : Carried) (fs : List FrameValue) → IsCarriedFrom c fs → AllSay done fs → CarriedSays done c
+says_from done c fs (inl is) say = subst (CarriedSays done) (sym is) (carried_says done fs say)
+says_from done c fs (inr is) say = subst (CarriedSays done) (sym is) (record { resets = tt; ends = ends_say done fs say })
+
 module _ (done : ℕ → Wrote) (sents : List Sent) (say : SentSay done sents) where
   -- a datagram that was sent
   pub sent_says : (c : Carried) → IsCarriedBy sents c → CarriedSays done c
-  sent_says c is = subst (CarriedSays done) (sym is.is) (carried_says done is.sent.frames (say is.sent is.among))
+  sent_says c is = says_from done c is.sent.frames is.is (say is.sent is.among)
 
   -- a packet that was taken
   pub taken_says : (took : List Packet) → WereSent sents took → (c : Carried) → WasCarried took c → CarriedSays done c
   taken_says took were c was =
       let found = were was.packet was.was_taken in
-      sent_says c (record { sent = found.sent; among = found.is.0; is = was.is ∙ ap carried_in (sym found.frames) })
+      sent_says c (record { sent = found.sent; among = found.is.0; is = subst (λ (fs : List FrameValue). IsCarriedFrom c fs) (sym found.frames) was.is })
+
+  -- what is tracked was sent
+  pub tracked_says : (packets : Table TrackedPacket) → AreTracked sents packets → (n : ℕ) (t : TrackedPacket) → In (n, t) packets → CarriedSays done t.carried
+  tracked_says packets tracked n t among = sent_says t.carried (tracked_carried sents packets tracked n t among)

@@ -1,7 +1,7 @@
 -- What an end composes says what was written on its streams, and leaves them holding it.
 use Rattle.std.proofs.Common.{ℕ, zero, suc, ◌-◌, ◌+◌, Bool, true, false, List, [], ◌∷◌, length, replicate, map, sym, subst, inl, inr, arith}
 use Rattle.std.specs.List.{AllByRecursion}
-use Rattle.quic_wire.specs.Value.{FrameValue, StreamValue, ping, padding, stream, reset_stream}
+use Rattle.quic_wire.specs.Value.{FrameValue, StreamValue, ping, padding, stream, datagram, reset_stream}
 use Rattle.quic_packet.specs.Number.{truncated}
 use Rattle.quic_retransmits.specs.Retransmits.{nothing_waits}
 use Rattle.quic_streams_state.specs.Control as control
@@ -14,12 +14,14 @@ use Rattle.quic_streams_laws.specs.WrittenFrames.{all_append, stream_frames_say}
 use Rattle.quic_streams_laws.specs.WrittenHalves.{polled_holds}
 use Rattle.quic_streams_laws.specs.WrittenResets.{TellsResets, control_frames_say}
 use Rattle.quic_recovery_core.specs.PendingAcks.{can_send}
-use Rattle.quic_machine.specs.Numbers.{cut_against}
-use Rattle.quic_machine.specs.End.{End, streams_at}
-use Rattle.quic_machine.specs.Poll.{Draft, frame_room, left, no_frames, no_stream_frames, ping_if, with_ping_frame, with_ack, ack_if, ack_fits, with_control_frames, with_stream_frames, with_asking, composed, composed_if}
+use Rattle.quic_spaces.specs.Numbers.{cut_against}
+use Rattle.quic_machine.specs.End.{End, number_of, streams_at}
+use Rattle.quic_machine.specs.Poll.{Draft, frame_room, left, no_frames, no_stream_frames, ping_if, with_ping_frame, with_ack, ack_if, ack_fits, with_control_frames, with_message_frames, with_stream_frames, Kind, pings, controls, messages, streams, order, put, with_asking, composed, composed_if}
+use Rattle.quic_machine.specs.DraftLaws.{by_messages}
 use Rattle.quic_machine.specs.PollCases.{frames_padded}
 use Rattle.quic_headline.specs.Runs.{In}
 use Rattle.quic_headline.proofs.Packets.Entries.{IsControl, entry_control}
+use Rattle.quic_headline.proofs.Packets.Kinds.{by_kinds}
 use Rattle.quic_headline.proofs.Halves.Ghosts.{SaysOf}
 use Rattle.quic_headline.proofs.Halves.Kept.{Keeping, keeping_kept}
 use Rattle.quic_headline.proofs.Halves.Writes.{Writes}
@@ -92,18 +94,27 @@ module _ (done : ℕ → Wrote) where
   stream_draws : (d : Draft) → Draws done d → Draws done (with_stream_frames d)
   stream_draws d w =
       let keeps = w.writes.keeps in
-      let t : of_streams.Sent = of_streams.with_stream_frames d.end.fair (left d) (no_stream_frames d) in
-      let say = stream_frames_say done d.end.fair (left d) (no_stream_frames d) keeps.holds keeps.few tt (omega arith) in
+      let t : of_streams.Sent = of_streams.with_stream_frames d.end.transport.send_fairness (left d) (no_stream_frames d) in
+      let say = stream_frames_say done d.end.transport.send_fairness (left d) (no_stream_frames d) keeps.holds keeps.few tt (omega arith) in
       record {
         writes = record {
-          keeps = by_stream_frames (Keeping done) (keeping_kept done) d.end.fair (left d) (no_stream_frames d) (λ s id room h is q. (polled_on h room, λ x. polled_holds (done id) h x room)) keeps;
+          keeps = by_stream_frames (Keeping done) (keeping_kept done) d.end.transport.send_fairness (left d) (no_stream_frames d) (λ s id room h is q. (polled_on h room, λ x. polled_holds (done id) h x room)) keeps;
           waits = w.writes.waits;
         };
         says = all_append (SaysOf done) d.frames (map stream t.frames) w.says (streams_say done t.frames say.0);
       }
 
+  message_draws : (d : Draft) → Draws done d → Draws done (with_message_frames d)
+  message_draws = by_messages (Draws done) (λ d m ms is fit w. record { writes = w.writes; says = all_append (SaysOf done) d.frames (datagram m ∷ []) w.says (tt, tt) })
+
+  kind_draws : (d : Draft) (kind : Kind) → Draws done d → Draws done (put d kind)
+  kind_draws d pings w = ping_draws d w
+  kind_draws d controls w = control_draws d w
+  kind_draws d messages w = message_draws d w
+  kind_draws d streams w = stream_draws d w
+
   asking_draws : (d : Draft) → Draws done d → Draws done (with_asking d)
-  asking_draws d w = stream_draws (with_control_frames (with_ping_frame d)) (control_draws (with_ping_frame d) (ping_draws d w))
+  asking_draws d w = by_kinds (Draws done) kind_draws order d w
 
   -- what goes into a datagram
   pub composed_draws : (e : End) → Writes done (streams_at e) → Draws done (composed e)
@@ -123,5 +134,5 @@ module _ (done : ℕ → Wrote) where
   -- its frames say what was written, those of PADDING too
   pub padded_say : (d : Draft) → Draws done d → AllSay done (frames_padded d)
   padded_say d w =
-      let count : ℕ = 4 - ((truncated d.end.numbers.next (cut_against d.end.numbers)).width + length d.bytes) in
+      let count : ℕ = 4 - ((truncated (number_of d.end) (cut_against d.end.numbers)).width + length d.bytes) in
       all_in (SaysOf done) (frames_padded d) (all_append (SaysOf done) d.frames (replicate count padding) w.says (padding_says done count))

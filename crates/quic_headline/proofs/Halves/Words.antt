@@ -236,7 +236,8 @@ module _ (F : (ℕ → Wrote) → StreamsState → Type 0) (w : Words F) where
     ping = λ d f. f;
     drops = λ d kind f. f;
     control = λ d kind entry es frame is due f. w.tells kind d.end.waiting.frames entry es done d.end.streams is f;
-    stream = λ d id h room found first some is counts f. w.sends d.end.fair done d.end.streams id h room found f;
+    message = λ d m ms is fit f. f;
+    stream = λ d id h room found first some is counts f. w.sends d.end.transport.send_fairness done d.end.streams id h room found f;
   }) e i
 
   -- ---- what comes

@@ -9,11 +9,17 @@ use Rattle.quic_machine.specs.Policy.{Policy}
 use Rattle.quic_machine.specs.End.{End, streams_at}
 use Rattle.quic_machine.specs.Calls.{is_open}
 use Rattle.quic_machine.specs.StreamCalls.{is_on_streams}
-use Rattle.quic_machine.specs.Poll.{Polled, polled}
+use Rattle.quic_machine.specs.Poll.{Polled, lazied, polled}
 use Rattle.quic_machine.specs.Machine.{after_call, AnswersOnStreams, end_on_streams, IsAnswer}
 use Rattle.quic_machine.specs.CallCases.{is_delivery, by_call}
-use Rattle.quic_machine.specs.LeaveCases.{by_expired}
+use Rattle.quic_machine.specs.LeaveCases.{by_expired, by_event}
 use Rattle.quic_machine.specs.PollCases.{at_moment, by_poll}
+use Rattle.quic_send_buffer.specs.declared.stream_meta.StreamMeta.{StreamMeta}
+use Rattle.quic_streams_parts.specs.Table.{Table}
+use Rattle.quic_streams_state.specs.State.{Streams}
+use Rattle.quic_machine.specs.Tracking.{TrackedPacket}
+use Rattle.quic_headline.specs.Runs.{In}
+use Rattle.quic_headline.proofs.Packets.Losses.{Losing, expiry_stays}
 use Rattle.quic_headline.proofs.Halves.Wrote.{done_by}
 use Rattle.quic_headline.proofs.Halves.Words.{Words, call_on, composed_on}
 
@@ -33,6 +39,8 @@ pub record IsCallOn (p : Policy) (e : End) (theirs : List (List ℕ)) (call : Ca
 
 -- a call on streams is
 pub call_on_is : (p : Policy) (e : End) (theirs : List (List ℕ)) (call : Call) (a : Answer) → is_on_streams call ≡ true → IsCallOn p e theirs call a
+call_on_is p e theirs (calls.Send message makes_room) a on = cc
+call_on_is p e theirs calls.Recv a on = cc
 call_on_is p e theirs calls.Ping a on = cc
 call_on_is p e theirs (calls.Poll now) a on = cc
 call_on_is p e theirs (calls.Timeout now) a on = cc
@@ -43,20 +51,28 @@ call_on_is p e theirs (calls.Timer timer) a on = cc
 call_on_is p e theirs calls.NextTimeout a on = cc
 call_on_is p e theirs call a on = record { answer = λ is. is; leaves = refl; same = refl }
 
+-- packets had the end of a stream only where there is one
+abbrev pub HaveEnds : (ℕ → Wrote) → Table TrackedPacket → Type 0
+HaveEnds w packets = (n : ℕ) (t : TrackedPacket) → In (n, t) packets → (m : StreamMeta) → In m t.carried.stream_frames → m.fin ≡ true → (w m.id).ended ≡ true
+
 module _ (F : (ℕ → Wrote) → StreamsState → Type 0) (words : Words F) where
+  -- packets that are lost
+  losing : (w : ℕ → Wrote) (packets : Table TrackedPacket) → HaveEnds w packets → Losing packets (λ (t : Streams). F w t.state)
+  losing w packets ends = record { lost = λ n t m e among inside i. words.lost w e.streams m (ends n t among m inside) i; again = λ n t e among i. i }
+
   -- a poll
   poll_keeps : (p : Policy) (w : ℕ → Wrote) (e : End) (now : ℕ) → F w e.streams → F w (polled p e now).end.streams
   poll_keeps p w e now i = by_poll p e now (λ (q : Polled). F w q.end.streams) (record {
     silent = i;
     failed = i;
-    idle = λ pings. i;
-    used_up = λ pings. i;
-    gives = λ pings tracking timers is may some ready. composed_on F words w (at_moment e now pings) i;
+    idle = λ t waits ready. i;
+    used_up = λ t waits ready. i;
+    gives = λ t waits tracking timers is may some ready. composed_on F words w (lazied (at_moment e now t waits)) i;
   })
 
   -- any call but a delivery
-  pub call_keeps : (p : Policy) (w : ℕ → Wrote) (e : End) (theirs : List (List ℕ)) (call : Call) (a : Answer) → is_delivery call ≡ false → IsAnswer p e theirs call a → F w e.streams → F (done_by call a w) (after_call p e theirs call a).streams
-  call_keeps p w e theirs call a apart is i = go (is_on_streams call) refl
+  pub call_keeps : (p : Policy) (w : ℕ → Wrote) (e : End) (theirs : List (List ℕ)) (call : Call) (a : Answer) → is_delivery call ≡ false → IsAnswer p e theirs call a → HaveEnds w e.tracking.packets → F w e.streams → F (done_by call a w) (after_call p e theirs call a).streams
+  call_keeps p w e theirs call a apart is ends i = go (is_on_streams call) refl
     where
       go : (b : Bool) → is_on_streams call ≡ b → F (done_by call a w) (after_call p e theirs call a).streams
       go true on =
@@ -65,10 +81,11 @@ module _ (F : (ℕ → Wrote) → StreamsState → Type 0) (words : Words F) whe
       go false off = subst (λ (v : ℕ → Wrote). F v (after_call p e theirs call a).streams) (sym (done_none call a w off)) (by_call p e theirs (λ (f : End). F w f.streams) call a (record {
         same = i;
         on_streams = λ on answer. cc;
+        on_messages = λ on answer. i;
         pings = i;
         heard = λ path same. i;
-        times = λ now acks loss set. by_expired e now (λ (f : End). F w f.streams) (λ pending tracking timers runs packets. i) acks loss;
+        times = λ now acks loss set. by_expired e now (λ (f : End). F w f.streams) (λ pending tracking timers runs packets. i) (λ pending timers runs. expiry_stays (λ (t : Streams). F w t.state) e now (losing w e.tracking.packets ends) i pending timers) acks loss;
         polls = λ now set. poll_keeps p w e now i;
         hears = λ now d set. cc;
-        tells = λ asks. words.polls w e.streams i;
+        tells = λ asks. by_event e (λ (f : End). F w f.streams) i (λ told. words.polls w e.streams i);
       }))

@@ -1,6 +1,5 @@
 -- The writing side between two ends, as one group over their packets: the one that gives holds what was written at it, and what it sent says so.
 use Rattle.std.proofs.Common.{◌≡◌, ℕ, ◌≤◌, ◌^◌, Bool, true, false, List, [], ◌∷◌, ◌++◌, refl, sym, ◌∙◌, subst, inl, inr, append-nil}
-use Rattle.std.specs.Prelude.{nat_lt, if◌then◌else◌}
 use Rattle.quic_wire_core.specs.declared.stream_id.Dir.{Dir}
 use Rattle.quic_wire_core.specs.declared.stream_id.Dir.TheVariants.{Bi, Uni}
 use Rattle.quic_parameters.specs.Parameters.{ParameterValues}
@@ -9,7 +8,6 @@ use Rattle.quic_streams_parts.specs.Dirs.{of}
 use Rattle.quic_streams_state.specs.declared.state.StreamsState.{StreamsState}
 use Rattle.quic_streams_laws.specs.StartLaws.{few_new, queue_new, few_set_params, queue_set_params}
 use Rattle.quic_streams_laws.specs.WrittenResets.{resets_grow}
-use Rattle.quic_machine.specs.Closing.{ticked}
 use Rattle.quic_machine.specs.FrameCases.{begun}
 use Rattle.quic_wire.specs.Value.{FrameValue}
 use Rattle.quic_streams_state.specs.State.{Streams, new_streams}
@@ -22,10 +20,10 @@ use Rattle.quic_machine.specs.declared.run.Call.TheVariants as calls
 use Rattle.quic_machine.specs.declared.run.Answer.{Answer}
 use Rattle.quic_machine.specs.Policy.{Policy}
 use Rattle.quic_machine.specs.Calls.{is_open}
-use Rattle.quic_machine.specs.End.{End, streams_at, with_closing, with_ping}
+use Rattle.quic_machine.specs.End.{End, streams_at}
 use Rattle.quic_machine.specs.Receive.{Outcome}
-use Rattle.quic_machine.specs.Poll.{Polled, composed, polled}
-use Rattle.quic_machine.specs.PollCases.{at_moment, ready_at, frames_at, by_poll}
+use Rattle.quic_machine.specs.Poll.{lazied, polled}
+use Rattle.quic_machine.specs.PollCases.{ready_at, draft_at, frames_at}
 use Rattle.quic_machine.specs.StreamCalls.{is_on_streams, IsStreamAnswer, after_on_streams}
 use Rattle.quic_machine.specs.Machine.{IsAnswer, after_call, gave}
 use Rattle.quic_machine.specs.CallCases.{is_delivery, by_call}
@@ -44,11 +42,14 @@ use Rattle.quic_headline.proofs.Halves.Ghosts.{Saying}
 use Rattle.quic_headline.proofs.Halves.Kept.{Keeping, keeping_kept}
 use Rattle.quic_headline.proofs.Halves.Wrote.{wrote, done_by, ResetsFirst, wrote_more}
 use Rattle.quic_headline.proofs.Halves.Writes.{Writes, calls_leave, calls_grow, resets_first}
-use Rattle.quic_headline.proofs.Halves.Says.{AllSay, SentSay, says_grow, sent_says, taken_says}
+use Rattle.quic_headline.proofs.Halves.Says.{AllSay, SentSay, says_grow, CarriedSays, sent_says, taken_says, tracked_says}
 use Rattle.quic_headline.proofs.Halves.Counts.{counts_in_range}
 use Rattle.quic_headline.proofs.Halves.Small.{IsSmallLimit, payload_small}
 use Rattle.quic_headline.proofs.Halves.Sends.{composed_draws, padded_say}
-use Rattle.quic_headline.proofs.Halves.Arrives.{frame_leaves, settles_leave}
+use Rattle.quic_headline.proofs.Halves.Arrives.{frame_leaves, lost_leaves, again_leaves, settles_leave}
+use Rattle.quic_machine.specs.Tracking.{TrackedPacket}
+use Rattle.quic_headline.proofs.Packets.Losses.{Losing, expiry_stays, ready_stays}
+use Rattle.quic_headline.proofs.Packets.Probes.{poll_streams}
 
 -- x gives
 pub record WritesHold (x y : Party) : Type 0 where
@@ -76,6 +77,8 @@ done_same call a done off q = refl
 
 -- one that is, is answered as the streams say
 on_answer : (p : Policy) (e : End) (theirs : List (List ℕ)) (call : Call) (a : Answer) → is_on_streams call ≡ true → IsAnswer p e theirs call a → IsStreamAnswer (is_open e.closing.state) e.streams call a
+on_answer p e theirs (calls.Send message makes_room) a on is = cc
+on_answer p e theirs calls.Recv a on is = cc
 on_answer p e theirs calls.Ping a on is = cc
 on_answer p e theirs (calls.Poll now) a on is = cc
 on_answer p e theirs (calls.Timeout now) a on is = cc
@@ -93,33 +96,32 @@ off_streams b off on = let clash : false ≡ true = sym off ∙ on in cc
 module _ (p : Policy) (e : End) (theirs : List (List ℕ)) (done : ℕ → Wrote) (w : Writes done (streams_at e)) where
   -- ---- a poll
 
-  -- an end that is ready to give has the same streams
-  ready_writes : (now : ℕ) → Writes done (streams_at (ready_at e now))
-  ready_writes now = go (nat_lt 0 e.tracking.probes)
-    where
-      go : (b : Bool) → Writes done (streams_at (if b then with_ping (with_closing e (ticked e.closing now)) true else with_closing e (ticked e.closing now)))
-      go true = w
-      go false = w
+  -- what its tracked packets carried says what was written
+  abbrev Says : Type 0
+  Says = (n : ℕ) (t : TrackedPacket) → In (n, t) e.tracking.packets → CarriedSays done t.carried
+
+  -- so packets that are lost, and probes, leave it
+  losing : Says → Losing e.tracking.packets (Writes done)
+  losing says = record { lost = λ n t m x among inside v. lost_leaves done x v m ((says n t among).ends m inside); again = λ n t x among v. again_leaves done x v t.carried (says n t among) }
+
+  ready_writes : Says → (now : ℕ) → Writes done (streams_at (ready_at e now))
+  ready_writes says now = ready_stays (Writes done) e now (losing says) w
 
   -- what it gives says what was written
-  pub poll_says : (now : ℕ) → AllSay done (frames_at e now)
-  poll_says now = padded_say done (composed (ready_at e now)) (composed_draws done (ready_at e now) (ready_writes now))
+  pub poll_says : Says → (now : ℕ) → AllSay done (frames_at e now)
+  poll_says says now = padded_say done (draft_at e now) (composed_draws done (lazied (ready_at e now)) (ready_writes says now))
 
-  poll_writes : (now : ℕ) → Writes done (streams_at (polled p e now).end)
-  poll_writes now = by_poll p e now (λ (q : Polled). Writes done (streams_at q.end)) (record {
-    silent = w;
-    failed = w;
-    idle = λ pings. w;
-    used_up = λ pings. w;
-    gives = λ pings tracking timers is may some ready. (let d = composed_draws done (at_moment e now pings) w in record { keeps = d.writes.keeps; waits = d.writes.waits });
-  })
+  poll_writes : Says → (now : ℕ) → Writes done (streams_at (polled p e now).end)
+  poll_writes says now = poll_streams (Writes done) p e now (λ x v. (composed_draws done x v).writes) w (ready_writes says now)
 
   -- ---- calls that are no delivery
 
-  call_writes : (call : Call) (a : Answer) → IsAnswer p e theirs call a → is_delivery call ≡ false → (b : Bool) → is_on_streams call ≡ b → Writes (done_by call a done) (streams_at (after_call p e theirs call a))
-  call_writes call a is apart true on = by_on call a on (calls_leave done e.streams e.waiting.frames w (is_open e.closing.state) call a (on_answer p e theirs call a on is))
+  call_writes : Says → (call : Call) (a : Answer) → IsAnswer p e theirs call a → is_delivery call ≡ false → (b : Bool) → is_on_streams call ≡ b → Writes (done_by call a done) (streams_at (after_call p e theirs call a))
+  call_writes says call a is apart true on = by_on call a on (calls_leave done e.streams e.waiting.frames w (is_open e.closing.state) call a (on_answer p e theirs call a on is))
     where
       by_on : (call : Call) (a : Answer) → is_on_streams call ≡ true → Writes (done_by call a done) (after_on_streams (is_open e.closing.state) (streams_at e) call a) → Writes (done_by call a done) (streams_at (after_call p e theirs call a))
+      by_on (calls.Send message makes_room) a on left = cc
+      by_on calls.Recv a on left = cc
       by_on calls.Ping a on left = cc
       by_on (calls.Poll now) a on left = cc
       by_on (calls.Timeout now) a on left = cc
@@ -129,15 +131,16 @@ module _ (p : Policy) (e : End) (theirs : List (List ℕ)) (done : ℕ → Wrote
       by_on (calls.Timer timer) a on left = cc
       by_on calls.NextTimeout a on left = cc
       by_on call a on left = left
-  call_writes call a is apart false off = writes_same done (done_by call a done) (streams_at (after_call p e theirs call a)) (done_same call a done off) (by_call p e theirs (λ (f : End). Writes done (streams_at f)) call a (record {
+  call_writes says call a is apart false off = writes_same done (done_by call a done) (streams_at (after_call p e theirs call a)) (done_same call a done off) (by_call p e theirs (λ (f : End). Writes done (streams_at f)) call a (record {
     same = w;
     on_streams = λ on answer. absurd (off_streams (is_on_streams call) off on);
+    on_messages = λ on answer. w;
     pings = w;
     heard = λ path same. w;
-    times = λ now acks loss set. by_expired e now (λ (f : End). Writes done (streams_at f)) (λ pending tracking timers runs packets. w) acks loss;
-    polls = λ now set. poll_writes now;
+    times = λ now acks loss set. by_expired e now (λ (f : End). Writes done (streams_at f)) (λ pending tracking timers runs packets. w) (λ pending timers runs. expiry_stays (Writes done) e now (losing says) w pending timers) acks loss;
+    polls = λ now set. poll_writes says now;
     hears = λ now d set. absurd (off_streams (is_delivery call) apart set);
-    tells = λ asks. by_event e (λ (f : End). Writes done (streams_at f)) (λ told. record { keeps = by_polled (Keeping done) (keeping_kept done) e.streams w.keeps; waits = w.waits });
+    tells = λ asks. by_event e (λ (f : End). Writes done (streams_at f)) w (λ told. record { keeps = by_polled (Keeping done) (keeping_kept done) e.streams w.keeps; waits = w.waits });
   }))
 
   -- what was done only grows
@@ -176,6 +179,7 @@ module _ (x y : Party) (p : PacketsHold x y) (back : PacketsHold y x) (say : Say
         settles = settles_leave (wrote x.told) took x.sents (taken_says (wrote x.told) x.sents say took p.taken) (sent_says (wrote x.told) x.sents say);
         names = λ a e i j. j;
         on_streams = λ f e i on j. frame_leaves (wrote x.told) e j f on (small f i);
+        message = λ m e j. j;
       }
 
       passed_writes : Writes (wrote x.told) (streams_at (arrived x.end now s.number s.frames).end)
@@ -200,6 +204,10 @@ module _ (B : Way) (packets : (x y : Party) → B x y → PacketsHold x y) (x y 
   abbrev done : ℕ → Wrote
   done = wrote x.told
 
+  -- what is tracked says what was done
+  tracked : (n : ℕ) (t : TrackedPacket) → In (n, t) x.end.tracking.packets → CarriedSays done t.carried
+  tracked n t among = tracked_says done x.sents g.says x.end.tracking.packets (packets x y c.gives).tracked n t among
+
   -- what was done behind the call
   pub done_behind : (q : ℕ) → wrote (x.told ++ told_of call a x.end.closing.state ∷ []) q ≡ done_by call a done q
   done_behind q = wrote_more x.told (told_of call a x.end.closing.state) q (call_first x.policy x.end y.given done g.writes call a c.answer (is_on_streams call) refl)
@@ -211,7 +219,7 @@ module _ (B : Way) (packets : (x y : Party) → B x y → PacketsHold x y) (x y 
   writes_behind : Writes (wrote (x.told ++ told_of call a x.end.closing.state ∷ [])) (streams_at (called x y.given call a).end)
   writes_behind = writes_same (done_by call a done) (wrote (x.told ++ told_of call a x.end.closing.state ∷ [])) (streams_at (called x y.given call a).end) done_behind
       (by_coming x y a c.joined c.served (meets y x (packets y x c.takes)) (λ (e : End) (i : Intake). Writes (done_by call a done) (streams_at e)) call c.answer (record {
-        apart = λ apart. call_writes x.policy x.end y.given done g.writes call a c.answer apart (is_on_streams call) refl;
+        apart = λ apart. call_writes x.policy x.end y.given done g.writes tracked call a c.answer apart (is_on_streams call) refl;
         none = λ delivery is. subst (λ (k : Call). Writes (done_by k a done) (streams_at x.end)) (sym is) g.writes;
         comes = λ delivery is s among. subst (λ (k : Call). Arrivals x.end delivery.now s.number s.frames (came_to x y) (λ (o : Outcome) (i : Intake). Writes (done_by k a done) (streams_at o.end))) (sym is)
             (arrivals_write x y (packets x y c.gives) (packets y x c.takes) g.says g.writes delivery.now s among);
@@ -226,7 +234,7 @@ module _ (B : Way) (packets : (x y : Party) → B x y → PacketsHold x y) (x y 
     where
       go : (k : Call) → call ≡ k → SentSay (wrote (x.told ++ told_of call a x.end.closing.state ∷ [])) (x.sents ++ sents_by x.end k a)
       go (calls.Poll now) is = sent_more (wrote (x.told ++ told_of call a x.end.closing.state ∷ [])) x.sents (gave a) (sent_by x.end now) old_says
-          (λ f i. says_grow done (wrote (x.told ++ told_of call a x.end.closing.state ∷ [])) grows_behind f (poll_says x.policy x.end y.given done g.writes now f i))
+          (λ f i. says_grow done (wrote (x.told ++ told_of call a x.end.closing.state ∷ [])) grows_behind f (poll_says x.policy x.end y.given done g.writes tracked now f i))
       go k is = subst (SentSay (wrote (x.told ++ told_of call a x.end.closing.state ∷ []))) (sym (append-nil x.sents)) old_says
 
   -- x calls

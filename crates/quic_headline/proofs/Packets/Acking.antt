@@ -3,17 +3,16 @@ use Rattle.std.proofs.Common.{◌≡◌, ℕ, ◌^◌, ◌<◌, Bool, true, fals
 use Rattle.quic_sets.specs.Runs.{Run}
 use Rattle.quic_wire.specs.Value.{FrameValue}
 use Rattle.quic_recovery_core.specs.Duplicates.{Seen}
-use Rattle.quic_recovery_core.specs.PendingAcks.{Pending, after_insert, with_wait, asking_counted, after_packet, starts_wait}
+use Rattle.quic_recovery_core.specs.PendingAcks.{Pending, none_pending, after_insert, with_wait, asking_counted, after_packet, starts_wait}
 use Rattle.quic_recovery_core.proofs.AckRunSteps.{at_most_kept, kept_numbers}
 use Rattle.quic_machine.specs.declared.run.Call.{Call}
 use Rattle.quic_machine.specs.declared.run.Answer.{Answer}
 use Rattle.quic_machine.specs.Policy.{Policy, CanOpen}
-use Rattle.quic_machine.specs.Acknowledging.{nothing_to_acknowledge}
 use Rattle.quic_machine.specs.Ids.{known}
 use Rattle.quic_machine.specs.End.{End}
 use Rattle.quic_machine.specs.Opens.{own_id_length}
 use Rattle.quic_machine.specs.Receive.{asks_in, received}
-use Rattle.quic_machine.specs.Poll.{Draft, composed, Polled, polled}
+use Rattle.quic_machine.specs.Poll.{Draft, composed, lazied, Polled, polled}
 use Rattle.quic_machine.specs.Machine.{after_call}
 use Rattle.quic_headline.specs.Runs.{Packet, Intake}
 use Rattle.quic_machine.specs.Start.{IsLawful}
@@ -27,7 +26,7 @@ use Rattle.quic_machine.specs.CallCases.{is_delivery, by_plain_call}
 use Rattle.quic_machine.specs.PollCases.{at_moment, by_poll}
 
 -- nothing came yet
-pub acks_first : Acks nothing_to_acknowledge
+pub acks_first : Acks none_pending
 acks_first = record { runs = record { runs = tt; few = omega arith; small = λ k h. absurd h }; small = λ k h. absurd h }
 
 -- the same runs
@@ -103,16 +102,16 @@ taken_arrivals e now n frames i acks before = record {
 
 -- whichever frames go, the numbers stay: an ACK that names them may be lost
 composed_runs : (e : End) → (composed e).end.acknowledging.runs ≡ e.acknowledging.runs
-composed_runs e = by_writing (λ (d : Draft). d.end.acknowledging.runs ≡ e.acknowledging.runs) (record { ack = λ d filled may same. same; ping = λ d same. same; drops = λ d kind same. same; control = λ d kind entry es f is due same. same; stream = λ d id h room found first some is counts same. same }) e refl
+composed_runs e = by_writing (λ (d : Draft). d.end.acknowledging.runs ≡ e.acknowledging.runs) (record { ack = λ d filled may same. same; ping = λ d same. same; drops = λ d kind same. same; control = λ d kind entry es f is due same. same; message = λ d m ms is fit same. same; stream = λ d id h room found first some is counts same. same }) e refl
 
 -- a poll leaves the numbers to acknowledge
 polled_runs : (p : Policy) (e : End) (now : ℕ) → (polled p e now).end.acknowledging.runs ≡ e.acknowledging.runs
 polled_runs p e now = by_poll p e now (λ (q : Polled). q.end.acknowledging.runs ≡ e.acknowledging.runs) (record {
   silent = refl;
   failed = refl;
-  idle = λ pings. refl;
-  used_up = λ pings. refl;
-  gives = λ pings tracking timers is may some ready. composed_runs (at_moment e now pings);
+  idle = λ t w ready. refl;
+  used_up = λ t w ready. refl;
+  gives = λ t w tracking timers is may some ready. composed_runs (lazied (at_moment e now t w));
 })
 
 -- ---- any call
@@ -122,9 +121,10 @@ runs_step : (q : Policy) (e : End) (theirs : List (List ℕ)) (call : Call) (a :
 runs_step q e theirs call a other = by_plain_call q e theirs (λ (f : End). f.acknowledging.runs ≡ e.acknowledging.runs) call a (record {
   same = refl;
   on_streams = λ t. refl;
+  on_messages = λ m. refl;
   pings = refl;
   heard = λ path same. refl;
-  times = λ now acks loss is. by_expired e now (λ (f : End). f.acknowledging.runs ≡ e.acknowledging.runs) (λ pending tracking timers runs packets. runs) acks loss;
+  times = λ now acks loss is. by_expired e now (λ (f : End). f.acknowledging.runs ≡ e.acknowledging.runs) (λ pending tracking timers runs packets. runs) (λ pending timers runs. runs) acks loss;
   polls = λ now is. polled_runs q e now;
   hears = λ now d is. cc;
   tells = λ told. refl;

@@ -8,9 +8,8 @@ use Rattle.quic_send_buffer.specs.declared.stream_meta.StreamMeta.{StreamMeta}
 use Rattle.quic_streams_parts.specs.SendHalf.{meta_of}
 use Rattle.quic_streams_parts.specs.Dirs.{Flags, with_of}
 use Rattle.quic_retransmits.specs.Retransmits.{Retransmits, nothing_waits, with_ids}
-use Rattle.quic_machine.specs.Tracking.{Carried, acked_in, streams_in, dir_named, and_again, carried_in}
-use Rattle.quic_headline.specs.Observer.{Sent}
-use Rattle.quic_headline.specs.InFlight.{offsets_in, all_offsets, first_acknowledged, is_max_data, is_data_blocked, is_max_streams, resets_in, stops_in, limits_in, blocked_in, again_in, carried_by, waited_for}
+use Rattle.quic_machine.specs.Tracking.{acked_in, streams_in, dir_named, and_again, retransmits_in, carried_in}
+use Rattle.quic_headline.specs.InFlight.{offsets_in, all_offsets, first_acknowledged, is_max_data, is_data_blocked, is_max_streams, resets_in, stops_in, limits_in, blocked_in, again_in, carried_by}
 
 -- the offsets that stand in frames are what the machine carries of them
 offsets_same : (fs : List FrameValue) → all_offsets fs ≡ streams_in fs
@@ -77,9 +76,9 @@ carried_same fs =
     ∙ ap (λ (ms : List StreamMeta). record { largest_acked = acked_in fs; stream_frames = ms; retransmits = again_in fs }) (offsets_same fs)
     ∙ ap (λ (r : Retransmits). record { largest_acked = acked_in fs; stream_frames = streams_in fs; retransmits = r }) (sym (again_same nothing_waits fs))
 
--- what an end knows of a datagram that was sent so
-pub waited_is : (s : Sent) → waited_for s ≡ (s.number, record { generation = 0; time_sent = s.moment; carried = carried_in s.frames })
-waited_is s = ap (λ (c : Carried). (s.number, record { generation = 0; time_sent = s.moment; carried = c })) (carried_same s.frames)
+-- what of it has to be sent again
+pub again_is : (fs : List FrameValue) → again_in fs ≡ retransmits_in fs
+again_is fs = sym (again_same nothing_waits fs)
 
 -- ---- PADDING
 

@@ -1,11 +1,11 @@
 -- What an end composes spells the payload of its next datagram, whatever its frames mean (RFC 9000, sections 12.4 and 19).
-use Rattle.std.proofs.Common.{◌≡◌, ℕ, ◌+◌, ◌-◌, ◌<◌, ◌≤◌, ◌^◌, zero, suc, Bool, true, false, cond, ◌==◌, min, List, [], ◌∷◌, ◌++◌, length, drop, replicate, Some, None, refl, sym, ap, ◌⊎◌, inl, inr, arith}
-use Rattle.std.specs.Prelude.{nat_le, ◌/◌}
+use Rattle.std.proofs.Common.{◌≡◌, ℕ, ◌+◌, ◌-◌, ◌<◌, ◌≤◌, ◌^◌, zero, suc, Bool, true, false, cond, ◌&&◌, ◌||◌, ◌==◌, min, List, [], ◌∷◌, ◌++◌, length, drop, replicate, Some, None, refl, sym, ap, ◌⊎◌, inl, inr, arith}
+use Rattle.std.specs.Prelude.{nat_le, nat_lt, ◌/◌}
 use Rattle.std.proofs.lemmas.Bool.{leb-true, ltb-false, and_parts}
 use Rattle.std.proofs.lemmas.List.{append-nil, append_assoc, length-append, length-take, length-drop}
 use Rattle.quic_wire_core.specs.Law.{length-shortest, varint_size_le}
 use Rattle.quic_packet.specs.Number.{truncated}
-use Rattle.quic_wire.specs.Value.{FrameValue, StreamValue, ack, padding, ping, stream}
+use Rattle.quic_wire.specs.Value.{FrameValue, StreamValue, ack, padding, ping, stream, datagram}
 use Rattle.quic_wire.specs.Grammar.{Payload}
 use Rattle.quic_wire.specs.AckGrammar.{AckFits}
 use Rattle.quic_wire.specs.Writing.{spelling, stream_spelling, StreamFits, Fits, frame_size, width_of, offset_width}
@@ -14,18 +14,19 @@ use Rattle.quic_wire.proofs.AckSet.{set_fits}
 use Rattle.quic_send_buffer.specs.Buffered as buffered
 use Rattle.quic_send_buffer.specs.Buffered.{Buffered, next_start, sent_end, writes_length}
 use Rattle.quic_recovery_core.specs.PendingAcks.{is_filled, delay_of, can_send}
+use Rattle.quic_recovery_core.specs.declared.spaces.pending_acks.TheConstants.{LAZY_ACK_THRESHOLD}
 use Rattle.quic_streams_parts.specs.Table.{at}
 use Rattle.quic_streams_parts.specs.SendHalf.{SendHalf, HasFrame, frame_of, frame_counts}
 use Rattle.quic_streams_state.specs.declared.control.ControlKind.{ControlKind}
 use Rattle.quic_streams_state.specs.State.{Streams, streams_of}
 use Rattle.quic_streams_state.specs.Control.{Entry, waiting, without_first}
 use Rattle.quic_streams_state.specs.Frames.{after_frame_sent}
-use Rattle.quic_machine.specs.Acknowledging.{written_delay, delay_at}
-use Rattle.quic_machine.specs.Numbers.{cut_against}
-use Rattle.quic_machine.specs.End.{End, streams_at, with_ping}
-use Rattle.quic_machine.specs.Poll.{Draft, no_frames, with_frame, frame_room, left, ping_if, with_ping_frame, with_control_frames, with_asking, ack_of, with_ack, ack_fits, ack_if, composed_if, composed, payload_of, waits}
+use Rattle.quic_spaces.specs.Acknowledging.{written_delay, delay_at}
+use Rattle.quic_spaces.specs.Numbers.{cut_against}
+use Rattle.quic_machine.specs.End.{End, number_of, streams_at, with_ping}
+use Rattle.quic_machine.specs.Poll.{Draft, no_frames, with_frame, frame_room, fits, left, ping_if, with_ping_frame, with_control_frames, with_message, with_message_frames, with_asking, ack_of, with_ack, ack_fits, ack_if, composed_if, composed, payload_of, lazied, asks_to_go, waits}
 use Rattle.quic_machine.specs.PollCases.{frames_padded}
-use Rattle.quic_machine.specs.DraftLaws.{SendsHalf, stream_room, with_entry, with_half_frame, by_entries, by_streams}
+use Rattle.quic_machine.specs.DraftLaws.{SendsHalf, stream_room, with_entry, with_half_frame, by_entries, by_messages, by_streams}
 use Rattle.quic_headline.proofs.Packets.Invariant.{Acks}
 
 -- ---- what is known of streams
@@ -43,6 +44,16 @@ pub record Spelling (K : Streams → Type 0) : Type 0 where
 pub record IsSpellable (e : End) : Type 0 where
   pub spells : Payload (frames_padded (composed e)) (payload_of (composed e))
   pub some : waits e ≡ true → 0 < length (composed e).frames
+
+-- what waits waits still where an acknowledgement becomes due
+pub waits_lazied : (e : End) → waits e ≡ true → waits (lazied e) ≡ true
+waits_lazied e on = go e.acknowledging.due (nat_lt LAZY_ACK_THRESHOLD e.acknowledging.silent) (is_filled e.acknowledging.runs) on
+  where
+    go : (due lazy filled : Bool) → ((due && filled) || asks_to_go e) ≡ true → (((due || lazy) && filled) || asks_to_go e) ≡ true
+    go true lazy filled on = on
+    go false true true on = refl
+    go false true false on = on
+    go false false filled on = on
 
 -- ---- how a frame is spelled
 
@@ -162,11 +173,11 @@ Stands d = Behind d ⊎ Full d
 -- bytes 0 may follow frames that don't take the whole room, and behind those that do there are none
 fills : (d : Draft) → Stands d → Payload (frames_padded d) (payload_of d)
 fills d (inl behind) =
-    let count : ℕ = 4 - ((truncated d.end.numbers.next (cut_against d.end.numbers)).width + length d.bytes) in
+    let count : ℕ = 4 - ((truncated (number_of d.end) (cut_against d.end.numbers)).width + length d.bytes) in
     behind (replicate count padding) (replicate count 0) (zeros_padding count)
 fills d (inr f) =
     let long = f.long in
-    let none : 4 - ((truncated d.end.numbers.next (cut_against d.end.numbers)).width + length d.bytes) ≡ 0 = omega arith in
+    let none : 4 - ((truncated (number_of d.end) (cut_against d.end.numbers)).width + length d.bytes) ≡ 0 = omega arith in
     rw (none, append-nil d.frames, append-nil d.bytes) f.spells
 
 -- one frame more, where what is spelled behind it may follow
@@ -210,6 +221,12 @@ ack_room d fits =
     let some = ack_some d.end in
     (parts.0, omega arith)
 
+-- a message that fits is short
+pub message_form : (d : Draft) (m : List ℕ) → fits d (datagram m) ≡ true → Fits (datagram m)
+message_form d m fit =
+    let within = leb-true (length d.bytes + frame_size (datagram m)) (frame_room d.end) fit in
+    (omega arith, tt)
+
 -- ---- all of them
 
 module _ (K : Streams → Type 0) (k : Spelling K) where
@@ -243,10 +260,15 @@ module _ (K : Streams → Type 0) (k : Spelling K) where
       let one = k.control (streams_at d.end) kind e es f is due g.streams in
       record { streams = one.1; acks = g.acks; stands = behind_fit d f (with_entry d kind e f).end g.stands one.0 }))
 
+  -- messages go
+  messages_go : (d : Draft) → Goes Behind d → Goes Behind (with_message_frames d)
+  messages_go = by_messages (Goes Behind)
+      (λ d m ms is fit g. record { streams = g.streams; acks = g.acks; stands = behind_fit d (datagram m) (with_message d m ms).end g.stands (message_form d m fit) })
+
   -- frames of streams go
   half_goes : SendsHalf (Goes Stands)
   half_goes d id h room found first some is counts g =
-      let one = k.stream d.end.fair (streams_at d.end) id h room found counts g.streams in
+      let one = k.stream d.end.transport.send_fairness (streams_at d.end) id h room found counts g.streams in
       record { streams = one.2; acks = g.acks; stands = go g.stands one.0 one.1 }
     where
       go : Stands d → id < 2 ^ 62 → HasFrame h room → Stands (with_half_frame d id h room)
@@ -256,8 +278,8 @@ module _ (K : Streams → Type 0) (k : Spelling K) where
   -- what asks goes
   asking_goes : (d : Draft) → Goes Behind d → Goes Stands (with_asking d)
   asking_goes d g =
-      let before = entries_go (with_ping_frame d) (ping_goes d g) in
-      by_streams (Goes Stands) half_goes (with_control_frames (with_ping_frame d)) (record { streams = before.streams; acks = before.acks; stands = inl before.stands })
+      let before = messages_go (with_control_frames (with_ping_frame d)) (entries_go (with_ping_frame d) (ping_goes d g)) in
+      by_streams (Goes Stands) half_goes (with_message_frames (with_control_frames (with_ping_frame d))) (record { streams = before.streams; acks = before.acks; stands = inl before.stands })
 
   -- an ACK frame goes behind it where it fits
   late_stands : (d : Draft) → Goes Stands d → (b : Bool) → ack_fits d ≡ b → Stands (ack_if b d)

@@ -24,7 +24,7 @@ use Rattle.quic_machine.specs.declared.run.Answer.{Answer}
 use Rattle.quic_machine.specs.declared.run.Answer.TheVariants as answers
 use Rattle.quic_machine.specs.Policy.{Policy, CanOpen}
 use Rattle.quic_machine.specs.Ids.{known}
-use Rattle.quic_machine.specs.Numbers.{expected, number_opened}
+use Rattle.quic_spaces.specs.Numbers.{expected, number_opened}
 use Rattle.quic_recovery_core.specs.Duplicates.{is_duplicate}
 use Rattle.quic_recovery_core.specs.DuplicateRuns.{seen_after}
 use Rattle.quic_machine.specs.End.{End, closed_by, with_numbers}

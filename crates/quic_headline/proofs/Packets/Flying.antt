@@ -1,136 +1,306 @@
 -- What frames that come and datagrams that go leave in flight, as an observer counts it, is what their end waits for.
-use Rattle.std.proofs.Common.{◌≡◌, ℕ, zero, suc, ◌+◌, ◌-◌, ◌<◌, ◌≤◌, ◌^◌, max, Bool, true, false, not, ◌||◌, List, [], ◌∷◌, ◌++◌, length, map, filter, cond, replicate, Option, Some, None, refl, sym, ap, ◌∙◌, subst, inl, inr, arith}
-use Rattle.std.specs.Prelude.{if◌then◌else◌, nat_le, unwrap_or}
+use Rattle.std.proofs.Common.{◌≡◌, ℕ, zero, suc, ◌+◌, ◌-◌, ◌*◌, ◌<◌, ◌≤◌, ◌^◌, max, min, Bool, true, false, not, ◌||◌, ◌&&◌, List, [], ◌∷◌, ◌++◌, length, filter, replicate, Option, Some, None, refl, sym, ap, ◌∙◌, subst, inl, inr, arith}
+use Rattle.std.specs.Prelude.{if◌then◌else◌, nat_lt, unwrap_or}
 use Rattle.std.specs.List.{list_any}
-use Rattle.std.specs.Ordering.{nat_cmp, match_ordering}
-use Rattle.std.specs.declared.cmp.Ordering.{Ordering}
-use Rattle.std.specs.declared.cmp.Ordering.TheVariants.{Less, Equal, Greater}
+use Rattle.std.specs.Ordering.{nat_cmp}
+use Rattle.std.specs.BTreeMap.{is_at}
 use Rattle.std.proofs.lemmas.Bool.{eq-eqb}
-use Rattle.std.proofs.lemmas.Cmp.{ranked}
-use Rattle.std.proofs.lemmas.List.{map-append}
 use Rattle.quic_wire.specs.Value.{FrameValue, AckValue, ack, padding, asks}
 use Rattle.quic_packet.specs.Number.{truncated, expanded}
 use Rattle.quic_packet.specs.Datagram.{Opening, opened_packet}
 use Rattle.quic_packet.proofs.Numbers.{newest_opens}
+use Rattle.quic_time.specs.Rtt.{Rtt, with_sample}
+use Rattle.quic_parameters.specs.Parameters.{ParameterValues}
+use Rattle.quic_config.specs.Transport.{TransportSettings}
 use Rattle.quic_machine.specs.Policy.{Policy, CanOpen}
-use Rattle.quic_machine.specs.Closing.{Closing}
+use Rattle.quic_machine.specs.Closing.{Closing, ticked}
 use Rattle.quic_machine.specs.Opens.{own_id_length}
-use Rattle.quic_machine.specs.Numbers.{Numbers, cut_against, greatest_of, number_given}
-use Rattle.quic_machine.specs.Parts.{Path}
-use Rattle.quic_streams_parts.specs.Table.{Table, added}
-use Rattle.quic_machine.specs.Tracking.{Tracking, TrackedPacket, Carried, carried_in, acked_by, not_acked_by, is_below, kept_above, lost_below, after_answered}
-use Rattle.quic_machine.specs.End.{End, with_numbers, with_tracking}
-use Rattle.quic_machine.specs.Acked.{packets_acked, packets_lost, after_named}
-use Rattle.quic_machine.specs.Receive.{take_frame}
-use Rattle.quic_machine.specs.Poll.{Draft, composed, asking, tracked_if, after_given}
-use Rattle.quic_machine.specs.FrameCases.{OnStreams, named, ack_taken, passed, frame_leaves, frames_taken}
-use Rattle.quic_machine.specs.PollCases.{frames_padded, Composes, composes}
+use Rattle.quic_spaces.specs.Numbers.{Numbers, cut_against, greatest_of}
+use Rattle.quic_machine.specs.Parts.{Path, Messaging}
+use Rattle.quic_streams_parts.specs.Table.{Table, added, put}
+use Rattle.quic_machine.specs.Tracking.{Tracking, TrackedPacket, carried_in, without_record, asks_any, is_behind, tail_of, forgets, forgotten, oldest, without_packet, asking_sent, acked_by, not_acked_by, Verdict, verdict_at, lost_by, kept_by, loss_time_of, after_detection, after_answered, after_loss_timeout, moment_or, probe_moment, backed_off}
+use Rattle.quic_machine.specs.End.{End, number_of, with_messages, with_tracking, with_rtt, probe_timeout}
+use Rattle.quic_machine.specs.Acked.{without_known, packet_acked, packets_acked, packets_lost, verdict, losses_detected, told_delay, measured, sampled, without_acked, after_named}
+use Rattle.quic_machine.specs.Receive.{is_above, names_ungiven, take_frame}
+use Rattle.quic_machine.specs.Poll.{Draft, composed, asking, datagram_size, packet_of, after_given}
+use Rattle.quic_machine.specs.Timeouts.{loss_judged, loss_expired}
+use Rattle.quic_machine.specs.FrameCases.{OnStreams, named, ack_taken, passed, streams_acked_keep, resets_acked_keep, packets_lost_keep, frame_leaves, frames_taken}
+use Rattle.quic_machine.specs.PollCases.{ready_at, frames_padded, Composes, composes}
 use Rattle.quic_headline.specs.Runs.{In, names}
-use Rattle.quic_headline.specs.Observer.{Sent, Flight, is_lost, settled_by, after_ack, after_frames, and_sent, sent_as}
-use Rattle.quic_headline.specs.InFlight.{waited_for}
+use Rattle.quic_headline.specs.Observer.{Sent, Terms, terms_of, asks_of, Flight, latest, late_by, is_lost, after_losses, is_greatest, of_number, measures, rtt_behind, settled_by, after_ack, after_frames, is_behind_asked, unasked, without_oldest, kept_flying, and_sent, waited, probe_due, due_or, loss_due, expired_for, sent_as}
 use Rattle.quic_headline.proofs.Packets.Invariant.{IsGiven}
-use Rattle.quic_headline.proofs.Packets.Stays.{settles_ack}
-use Rattle.quic_headline.proofs.Packets.Carried.{waited_is, carried_padded}
+use Rattle.quic_headline.proofs.Packets.Carried.{carried_padded}
 use Rattle.quic_headline.proofs.Packets.Named.{in_filter, IsNoAck, by_frame}
+use Rattle.quic_headline.proofs.Packets.Probes.{by_ready}
+use Rattle.quic_headline.proofs.Packets.Given.{composed_number}
 use Rattle.quic_headline.proofs.Packets.Delivered.{shown_if, expands, opened_given, frames_of_payload}
+use Rattle.quic_headline.proofs.Packets.Numbered.{Lies, lies_remove, one_key, added_last, is_at_same}
+use Rattle.quic_headline.proofs.Packets.Waited.{IsWaited, AreWaited, waited_filter, waited_length, waited_asks, waited_put, waited_push, waited_oldest, IsFound, waited_found, waited_staying, waited_lost, waited_late}
+use Rattle.quic_headline.proofs.Timers.LossTimers.{OpenStands}
 
 -- ---- what an end waits for
 
--- those of the datagrams that are chosen by number are chosen so of what the end knows
-chosen_waits : (f : ℕ → Bool) (ss : List Sent) → map waited_for (filter (λ s. f s.number) ss) ≡ filter (λ p. f p.0) (map waited_for ss)
-chosen_waits f [] = refl
-chosen_waits f (s ∷ ss) = go (f s.number) (chosen_waits f ss)
-  where
-    go : (b : Bool) → map waited_for (filter (λ t. f t.number) ss) ≡ filter (λ p. f p.0) (map waited_for ss)
-        → map waited_for (cond b (s ∷ filter (λ t. f t.number) ss) (filter (λ t. f t.number) ss)) ≡ cond b (waited_for s ∷ filter (λ p. f p.0) (map waited_for ss)) (filter (λ p. f p.0) (map waited_for ss))
-    go true rest = ap (λ (ps : Table TrackedPacket). waited_for s ∷ ps) rest
-    go false rest = rest
+-- the parts of an end that its observer knows of: numbers, clock, how it judges losses, what the peer told, the path, and what is tracked
+pub record Held : Type 0 where
+  pub numbers : Numbers
+  pub closing : Closing
+  pub transport : TransportSettings
+  pub peer : ParameterValues
+  pub path : Path
+  pub tracking : Tracking
 
--- an end waits for what is in flight, and knows of the greatest number that was named
-pub record Waits (f : Flight) (e : End) : Type 0 where
-  pub named : f.named ≡ cut_against e.numbers
-  pub waits : e.tracking.packets ≡ map waited_for f.flying
+-- those of an end
+abbrev pub held : End → Held
+held e = record { numbers = e.numbers; closing = e.closing; transport = e.transport; peer = e.peer_params; path = e.path; tracking = e.tracking }
+
+-- by what it judges losses
+abbrev pub terms_in : Held → Terms
+terms_in h = record { threshold = h.transport.packet_threshold; part = h.transport.time_threshold; exponent = h.peer.ack_delay_exponent; delay = h.peer.max_ack_delay * 1000000 }
+
+-- the last that asks is the greatest that asks, and went when that did
+abbrev pub IsAsked : Option Sent → Tracking → Type 0
+IsAsked None t = t.greatest_asking ≡ None
+IsAsked (Some s) t = (t.greatest_asking ≡ Some s.number) × (t.last_asking ≡ s.moment)
+
+-- An end knows what its observer does: by what losses are judged, the clock, the greatest number that was named, what is in flight, which of that asks last, and
+-- how long a round trip takes.
+pub record Tells (t : Terms) (now : ℕ) (f : Flight) (h : Held) : Type 0 where
+  pub terms : t ≡ terms_in h
+  pub clock : now ≡ h.closing.clock
+  pub named : f.named ≡ h.numbers.largest_acked
+  pub waits : AreWaited f.flying h.tracking.packets
+  pub asked : IsAsked f.asked h.tracking
+  pub rtt : f.rtt ≡ h.path.rtt
+
+-- An end waits for what is in flight: and when the next may be lost by time, and how often the timer of losses expired, as far as that doubles the wait.
+pub record Waits (t : Terms) (now : ℕ) (f : Flight) (h : Held) : Type 0 where
+  pub tells : Tells t now f h
+  pub loss_time : f.loss_time ≡ h.tracking.loss_time
+  pub expiries : min f.expiries 16 ≡ min h.tracking.timeouts 16
+
+-- ---- losses
+
+-- packets that are lost leave all of that
+lost_held : (ps : Table TrackedPacket) (e : End) → held (packets_lost ps e) ≡ held e
+lost_held ps e = packets_lost_keep (λ (x : End). held x ≡ held e) (λ m x i. i) (λ c x i. i) ps e refl
+
+-- losses leave all but what is tracked
+pub detected_held : (e : End) → held (losses_detected e) ≡ record (held e) { tracking = after_detection (verdict e) e.tracking }
+detected_held e = ap (λ (h : Held). record h { tracking = after_detection (verdict e) e.tracking }) (lost_held (lost_by (verdict e) e.tracking.packets) e)
+
+-- the observer judges as the end does
+abbrev judged : Terms → ℕ → Flight → Verdict
+judged t now f = verdict_at (unwrap_or f.named 0) t.threshold (late_by t f.rtt) now
+
+judged_same : (t : Terms) (now : ℕ) (f : Flight) (e : End) → Tells t now f (held e) → judged t now f ≡ verdict e
+judged_same t now f e w =
+    ap (λ (u : Terms). judged u now f) w.terms
+    ∙ ap (λ (n : ℕ). judged (terms_of e) n f) w.clock
+    ∙ ap (λ (o : Option ℕ). verdict_at (unwrap_or o 0) e.transport.packet_threshold (late_by (terms_of e) f.rtt) e.closing.clock) w.named
+    ∙ ap (λ (r : Rtt). verdict_at (cut_against e.numbers) e.transport.packet_threshold (late_by (terms_of e) r) e.closing.clock) w.rtt
+
+-- what is lost at an end is lost to its observer
+pub losses_tell : (t : Terms) (now : ℕ) (f : Flight) (e : End) → Tells t now f (held e) → Tells t now (after_losses t now f) (held (losses_detected e)) × ((after_losses t now f).loss_time ≡ (losses_detected e).tracking.loss_time)
+losses_tell t now f e w = (
+  subst (λ (h : Held). Tells t now (after_losses t now f) h) (sym (detected_held e)) (record {
+    terms = w.terms;
+    clock = w.clock;
+    named = w.named;
+    waits = subst (λ (v : Verdict). AreWaited (after_losses t now f).flying (kept_by v e.tracking.packets)) same kept;
+    asked = asked f.asked w.asked;
+    rtt = w.rtt;
+  }),
+  waited_late (late_by t f.rtt) (unwrap_or f.named 0) (after_losses t now f).flying (kept_by (judged t now f) e.tracking.packets) kept ∙ ap (λ (v : Verdict). loss_time_of v (kept_by v e.tracking.packets)) same,
+)
+  where
+    same : judged t now f ≡ verdict e
+    same = judged_same t now f e w
+
+    kept : AreWaited (after_losses t now f).flying (kept_by (judged t now f) e.tracking.packets)
+    kept = waited_staying t (late_by t f.rtt) now (unwrap_or f.named 0) f.flying e.tracking.packets w.waits
+
+    asked : (o : Option Sent) → IsAsked o e.tracking → IsAsked o (after_detection (verdict e) e.tracking)
+    asked None i = i
+    asked (Some s) i = i
+
+-- those of the datagrams in flight that are lost, in step with the packets that are
+lost_waited : (t : Terms) (now : ℕ) (f : Flight) (e : End) → Tells t now f (held e) → AreWaited (filter (λ s. is_lost t (late_by t f.rtt) now (unwrap_or f.named 0) s) f.flying) (lost_by (verdict e) e.tracking.packets)
+lost_waited t now f e w =
+    subst (λ (v : Verdict). AreWaited (filter (λ s. is_lost t (late_by t f.rtt) now (unwrap_or f.named 0) s) f.flying) (lost_by v e.tracking.packets)) (judged_same t now f e w)
+    (waited_lost t (late_by t f.rtt) now (unwrap_or f.named 0) f.flying e.tracking.packets w.waits)
 
 -- ---- an ACK frame
 
--- the greatest number that was named, with one more
-named_after : (o : Option ℕ) (n : ℕ) → greatest_of o n ≡ max (unwrap_or o 0) n
-named_after None n = omega arith
-named_after (Some m) n = refl
+-- packets that are acknowledged leave what the observer knows of
+acked_held : (ps : Table TrackedPacket) (e : End) → held (packets_acked ps e) ≡ held e
+acked_held ps e = go ps e refl
+  where
+    knows : (o : Option ℕ) (x : End) → held x ≡ held e → held (without_known o x) ≡ held e
+    knows None x i = i
+    knows (Some n) x i = i
 
--- what an ACK frame leaves of the packets of an end, where it names these
-abbrev left_by : Table TrackedPacket → ℕ → Table TrackedPacket → Table TrackedPacket → Table TrackedPacket
-left_by [] greatest others packets = packets
-left_by (p ∷ ps) greatest others packets = kept_above greatest others
+    go : (qs : Table TrackedPacket) (x : End) → held x ≡ held e → held (packets_acked qs x) ≡ held e
+    go [] x i = i
+    go (q ∷ qs) x i =
+        go qs (packet_acked q.1 x) (streams_acked_keep (λ (y : End). held y ≡ held e) (λ m y j. j) q.1.carried.stream_frames _
+        (resets_acked_keep (λ (y : End). held y ≡ held e) (λ id y j. j) q.1.carried.retransmits.reset_stream (without_known q.1.carried.largest_acked x) (knows q.1.carried.largest_acked x i)))
 
-named_left : (ps : Table TrackedPacket) (a : AckValue) (e : End) → (after_named ps a e).tracking.packets ≡ left_by ps (cut_against e.numbers) (not_acked_by a e.tracking.packets) e.tracking.packets
-named_left [] a e = refl
-named_left (p ∷ ps) a e = refl
+-- whether a number lies above all that were named
+above_same : (o : Option ℕ) (n : ℕ) → is_above o n ≡ is_greatest o n
+above_same None n = refl
+above_same (Some m) n = refl
 
--- what is left of the datagrams in flight is what the end waits for
-settled_waits : (acked : List Sent) (greatest : ℕ) (others : List Sent) (f : Flight) → left_by (map waited_for acked) greatest (map waited_for others) (map waited_for f.flying) ≡ map waited_for (settled_by acked greatest others f).flying
-settled_waits [] greatest others f = refl
-settled_waits (s ∷ ss) greatest others f = sym (chosen_waits (λ n. not (is_below greatest n)) others)
+-- both measure one datagram, or none
+found_if : (b c : Bool) (o : Option Sent) (p : Option TrackedPacket) → b ≡ c → IsFound o p → IsFound (if b then o else None) (if c then p else None)
+found_if b c o p same found = subst (λ (d : Bool). IsFound (if b then o else None) (if d then p else None)) same (go b)
+  where
+    go : (b : Bool) → IsFound (if b then o else None) (if b then p else None)
+    go true = found
+    go false = tt
 
-settled_named : (acked : List Sent) (greatest : ℕ) (others : List Sent) (f : Flight) → (settled_by acked greatest others f).named ≡ greatest
-settled_named [] greatest others f = refl
-settled_named (s ∷ ss) greatest others f = refl
+measured_found : (named : Option ℕ) (rises : Bool) (a : AckValue) (ss : List Sent) (ps : Table TrackedPacket) → rises ≡ is_greatest named a.largest → AreWaited ss ps → IsFound (measures named a ss) (measured rises a ps)
+measured_found named rises a ss ps is w =
+    found_if (is_greatest named a.largest && list_any asks_of ss) (rises && asks_any ps) (of_number a.largest ss) _
+    (ap (λ (b : Bool). b && list_any asks_of ss) (sym is) ∙ ap (λ (b : Bool). rises && b) (waited_asks ss ps w)) (waited_found a.largest ss ps w)
 
--- ---- frames
+-- so the round trip is measured alike
+measured_tells : (t : Terms) (now : ℕ) (f : Flight) (a : AckValue) (e : End) (o : Option Sent) (p : Option TrackedPacket) → IsFound o p → Tells t now f (held e) → Tells t now (record f { rtt = rtt_behind t now a o f.rtt }) (held (sampled p a e))
+measured_tells t now f a e None None found w = w
+measured_tells t now f a e (Some s) (Some p) found w = record { terms = w.terms; clock = w.clock; named = w.named; waits = w.waits; asked = w.asked; rtt = same }
+  where
+    same : rtt_behind t now a (Some s) f.rtt ≡ with_sample e.path.rtt (told_delay e a) (e.closing.clock - p.time_sent)
+    same =
+        ap (λ (u : Terms). rtt_behind u now a (Some s) f.rtt) w.terms
+        ∙ ap (λ (n : ℕ). rtt_behind (terms_of e) n a (Some s) f.rtt) w.clock
+        ∙ ap (λ (r : Rtt). with_sample r (told_delay e a) (e.closing.clock - s.moment)) w.rtt
+        ∙ ap (λ (n : ℕ). with_sample e.path.rtt (told_delay e a) (e.closing.clock - n)) (sym found)
+measured_tells t now f a e None (Some p) found w = absurd found
+measured_tells t now f a e (Some s) None found w = absurd found
 
--- What holds of the datagrams in flight, of those that were acknowledged there, and of the end that gave them, while it takes these frames.
+-- the end once packets are acknowledged, and the round trip is measured, before losses are detected
+abbrev timed : Table TrackedPacket → Bool → AckValue → End → End
+timed ps rises a e = sampled (measured rises a ps) a (without_acked ps a e)
+
+-- and what is in flight then
+abbrev settling : Terms → ℕ → AckValue → List Sent → List Sent → Flight → Flight
+settling t now a ss others f = record f {
+  named = Some (greatest_of f.named a.largest);
+  flying = others;
+  acked = f.acked ++ ss;
+  rtt = rtt_behind t now a (measures f.named a ss) f.rtt;
+  expiries = 0;
+}
+
+-- the greatest number that an ACK frame names counts
+abbrev counted : AckValue → Flight → Flight
+counted a f = record f { named = Some (greatest_of f.named a.largest) }
+
+timed_tells : (t : Terms) (now : ℕ) (ss others : List Sent) (ps : Table TrackedPacket) (rises : Bool) (a : AckValue) (f : Flight) (e : End) → rises ≡ is_greatest f.named a.largest → AreWaited ss ps → AreWaited others (not_acked_by a e.tracking.packets)
+    → Tells t now (counted a f) (held e) → Tells t now (settling t now a ss others f) (held (timed ps rises a e))
+timed_tells t now ss others ps rises a f e is acked stay w =
+    measured_tells t now (record f { named = Some (greatest_of f.named a.largest); flying = others; acked = f.acked ++ ss; expiries = 0 }) a (without_acked ps a e) (measures f.named a ss) (measured rises a ps) (measured_found f.named rises a ss ps is acked)
+    (subst (λ (h : Held). Tells t now (record f { named = Some (greatest_of f.named a.largest); flying = others; acked = f.acked ++ ss; expiries = 0 }) (record h { tracking = record e.tracking { packets = not_acked_by a e.tracking.packets } })) (sym (acked_held ps e))
+    (record { terms = w.terms; clock = w.clock; named = w.named; waits = stay; asked = asked f.asked w.asked; rtt = w.rtt }))
+  where
+    asked : (o : Option Sent) → IsAsked o e.tracking → IsAsked o (record e.tracking { packets = not_acked_by a e.tracking.packets })
+    asked None i = i
+    asked (Some s) i = i
+
+-- an ACK frame that names these leaves both so
+named_waits : (t : Terms) (now : ℕ) (ss others : List Sent) (ps : Table TrackedPacket) (rises : Bool) (a : AckValue) (f : Flight) (e : End) → rises ≡ is_greatest f.named a.largest → AreWaited ss ps → AreWaited others (not_acked_by a e.tracking.packets)
+    → Waits t now (counted a f) (held e) → Waits t now (settled_by t now a ss others f) (held (after_named ps rises a e))
+named_waits t now [] others [] rises a f e is acked stay w = w
+named_waits t now (s ∷ ss) others (p ∷ ps) rises a f e is acked stay w =
+    let found = losses_tell t now (settling t now a (s ∷ ss) others f) (timed (p ∷ ps) rises a e) (timed_tells t now (s ∷ ss) others (p ∷ ps) rises a f e is acked stay w.tells) in
+    let told = found.0 in
+    record {
+      tells = record { terms = told.terms; clock = told.clock; named = told.named; waits = told.waits; asked = asked f.asked told.asked; rtt = told.rtt };
+      loss_time = found.1;
+      expiries = refl;
+    }
+  where
+    left : Tracking
+    left = (losses_detected (timed (p ∷ ps) rises a e)).tracking
+
+    asked : (o : Option Sent) → IsAsked o left → IsAsked o (after_answered left)
+    asked None i = i
+    asked (Some u) i = i
+named_waits t now [] others (p ∷ ps) rises a f e is acked stay w = absurd acked
+named_waits t now (s ∷ ss) others [] rises a f e is acked stay w = absurd acked
+
+-- ---- what losses and frames keep
+
+-- what holds of the datagrams in flight, of those that were acknowledged there, and of the end that gave them, stays where some of them are lost
+pub record Loses (P : List Sent → List Sent → End → Type 0) : Type 0 where
+  -- other packets are tracked
+  pub tracked : (flying acked : List Sent) (t : Tracking) (e : End) → P flying acked e → P flying acked (with_tracking e t)
+  -- of the datagrams in flight some are lost, which are tracked as these packets, and others stay
+  pub loses : (flying acked gone left : List Sent) (ps : Table TrackedPacket) (e : End) → ((s : Sent) → In s gone → In s flying) → ((s : Sent) → In s left → In s flying) → AreWaited gone ps → P flying acked e → P left acked (packets_lost ps e)
+
+-- and while the end takes these frames
 pub record Flies (frames : List FrameValue) (P : List Sent → List Sent → End → Type 0) : Type 0 where
+  pub losing : Loses P
   -- the greatest number of an ACK frame counts
   pub names : (flying acked : List Sent) (a : AckValue) (e : End) → In (ack a) frames → P flying acked e → P flying acked (named a e)
-  -- of the datagrams in flight these are acknowledged, others stay, and packets are lost
-  pub settles : (flying acked ss left : List Sent) (ps : Table TrackedPacket) (t : Tracking) (e : End) → ((s : Sent) → In s ss → In s flying) → ((s : Sent) → In s left → In s flying) → ((n : ℕ) (p : TrackedPacket) → In (n, p) ps → In (n, p) (map waited_for flying))
-      → P flying acked e → P left (acked ++ ss) (with_tracking (packets_lost ps (packets_acked (map waited_for ss) e)) t)
+  -- of the datagrams in flight these are acknowledged, which are tracked as these packets, and others stay
+  pub acks : (flying acked ss left : List Sent) (ps : Table TrackedPacket) (e : End) → ((s : Sent) → In s ss → In s flying) → ((s : Sent) → In s left → In s flying) → AreWaited ss ps → P flying acked e → P left (acked ++ ss) (packets_acked ps e)
+  -- the round trip is measured
+  pub measured : (flying acked : List Sent) (r : Rtt) (e : End) → P flying acked e → P flying acked (with_rtt e r)
   pub on_streams : (flying acked : List Sent) (f : FrameValue) (e : End) → In f frames → OnStreams f → P flying acked e → P flying acked (take_frame f e).end
+  pub message : (flying acked : List Sent) (m : Messaging) (e : End) → P flying acked e → P flying acked (with_messages e m)
+
+-- where an end knows what its observer does, losses are such
+pub losses_fly : (P : List Sent → List Sent → End → Type 0) → Loses P → (t : Terms) (now : ℕ) (f : Flight) (acked : List Sent) (e : End) → Tells t now f (held e) → P f.flying acked e → P (after_losses t now f).flying acked (losses_detected e)
+losses_fly P c t now f acked e w i =
+    let delay : ℕ = late_by t f.rtt in
+    let greatest : ℕ = unwrap_or f.named 0 in
+    let gone : List Sent = filter (λ s. is_lost t delay now greatest s) f.flying in
+    let ps : Table TrackedPacket = lost_by (verdict e) e.tracking.packets in
+    c.tracked (after_losses t now f).flying acked (after_detection (verdict e) e.tracking) (packets_lost ps e)
+    (c.loses f.flying acked gone (after_losses t now f).flying ps e (λ s j. in_filter (λ s. is_lost t delay now greatest s) s f.flying j) (λ s j. in_filter (λ s. not (is_lost t delay now greatest s)) s f.flying j) (lost_waited t now f e w) i)
 
 -- the first frame, and then the others
-first_flight : (f : FrameValue) (fs : List FrameValue) (x : Flight) → after_frames (f ∷ fs) x ≡ after_frames fs (after_frames (f ∷ []) x)
-first_flight (ack a) fs x = refl
-first_flight f fs x = refl
+first_flight : (t : Terms) (now : ℕ) (f : FrameValue) (fs : List FrameValue) (x : Flight) → after_frames t now (f ∷ fs) x ≡ after_frames t now fs (after_frames t now (f ∷ []) x)
+first_flight t now (ack a) fs x = refl
+first_flight t now f fs x = refl
 
 -- a frame that is no ACK frame leaves what is in flight
-no_ack_flight : (f : FrameValue) (x : Flight) → IsNoAck f → after_frames (f ∷ []) x ≡ x
-no_ack_flight (ack a) x other = absurd other
-no_ack_flight f x other = refl
+no_ack_flight : (t : Terms) (now : ℕ) (f : FrameValue) (x : Flight) → IsNoAck f → after_frames t now (f ∷ []) x ≡ x
+no_ack_flight t now (ack a) x other = absurd other
+no_ack_flight t now f x other = refl
 
-module _ (frames : List FrameValue) (P : List Sent → List Sent → End → Type 0) (c : Flies frames P) where
+module _ (t : Terms) (now : ℕ) (frames : List FrameValue) (P : List Sent → List Sent → End → Type 0) (c : Flies frames P) where
   -- an end waits for what is in flight, and P of both
   pub record Flying (x : Flight) (e : End) : Type 0 where
-    pub waits : Waits x e
+    pub waits : Waits t now x (held e)
     pub holds : P x.flying x.acked e
 
+  -- a round trip is measured, or none is
+  sampled_flies : (flying acked : List Sent) (o : Option TrackedPacket) (a : AckValue) (e : End) → P flying acked e → P flying acked (sampled o a e)
+  sampled_flies flying acked None a e i = i
+  sampled_flies flying acked (Some p) a e i = c.measured flying acked (with_sample e.path.rtt (told_delay e a) (e.closing.clock - p.time_sent)) e i
+
   -- an ACK frame that names these
-  named_flies : (ss : List Sent) (greatest : ℕ) (others : List Sent) (x : Flight) (a : AckValue) (e : End) → ((s : Sent) → In s ss → In s x.flying) → ((s : Sent) → In s others → In s x.flying) → e.tracking.packets ≡ map waited_for x.flying
-      → P x.flying x.acked e → P (settled_by ss greatest others x).flying (settled_by ss greatest others x).acked (after_named (map waited_for ss) a e)
-  named_flies [] greatest others x a e inside stays waits i = i
-  named_flies (s ∷ ss) greatest others x a e inside stays waits i =
-      let left : Table TrackedPacket = not_acked_by a e.tracking.packets in
-      let count : ℕ = cut_against e.numbers in
-      c.settles x.flying x.acked (s ∷ ss) (filter (λ t. not (is_lost greatest t)) others) (lost_below count left) (after_answered e.tracking (kept_above count left)) e
-      inside (λ t among. stays t (in_filter (λ u. not (is_lost greatest u)) t others among))
-      (λ n p among. subst (λ (ps : Table TrackedPacket). In (n, p) ps) waits (in_filter (λ q. not (names a q.0)) (n, p) e.tracking.packets (in_filter (λ q. is_below count q.0) (n, p) left among)))
-      i
+  named_flies : (ss others : List Sent) (ps : Table TrackedPacket) (rises : Bool) (x : Flight) (a : AckValue) (e : End) → rises ≡ is_greatest x.named a.largest → ((s : Sent) → In s ss → In s x.flying) → ((s : Sent) → In s others → In s x.flying)
+      → AreWaited ss ps → AreWaited others (not_acked_by a e.tracking.packets) → Tells t now (counted a x) (held e) → P x.flying x.acked e → P (settled_by t now a ss others x).flying (settled_by t now a ss others x).acked (after_named ps rises a e)
+  named_flies [] others [] rises x a e is inside stays acked stay w i = i
+  named_flies (s ∷ ss) others (p ∷ ps) rises x a e is inside stays acked stay w i =
+      let ss' : List Sent = s ∷ ss in
+      let ps' : Table TrackedPacket = p ∷ ps in
+      let left : End = without_acked ps' a e in
+      let found : End = losses_detected (timed ps' rises a e) in
+      c.losing.tracked (settled_by t now a ss' others x).flying (x.acked ++ ss') (after_answered found.tracking) found
+      (losses_fly P c.losing t now (settling t now a ss' others x) (x.acked ++ ss') (timed ps' rises a e) (timed_tells t now ss' others ps' rises a x e is acked stay w)
+      (sampled_flies others (x.acked ++ ss') (measured rises a ps') a left (c.losing.tracked others (x.acked ++ ss') left.tracking (packets_acked ps' e) (c.acks x.flying x.acked ss' others ps' e inside stays acked i))))
+  named_flies [] others (p ∷ ps) rises x a e is inside stays acked stay w i = absurd acked
+  named_flies (s ∷ ss) others [] rises x a e is inside stays acked stay w i = absurd acked
 
   -- an ACK frame that is taken
-  ack_flies : (b : Bool) (a : AckValue) (x : Flight) (e : End) → (ack_taken b a e).fault ≡ None → In (ack a) frames → Flying x e → Flying (after_ack a x) (ack_taken b a e).end
+  ack_flies : (b : Bool) (a : AckValue) (x : Flight) (e : End) → (ack_taken b a e).fault ≡ None → In (ack a) frames → Flying x e → Flying (after_ack t now a x) (ack_taken b a e).end
   ack_flies true a x e none among f = cc
   ack_flies false a x e none among f = record {
-    waits = record {
-      named = settled_named acked greatest others x ∙ counts ∙ sym (ap (λ (n : Numbers). cut_against n) (settles_ack a (named a e)).numbers);
-      waits =
-          named_left (acked_by a e.tracking.packets) a (named a e)
-          ∙ ap (λ (n : ℕ). left_by (acked_by a e.tracking.packets) n (not_acked_by a e.tracking.packets) e.tracking.packets) (sym counts)
-          ∙ ap (λ (ps : Table TrackedPacket). left_by (acked_by a ps) greatest (not_acked_by a ps) ps) f.waits.waits
-          ∙ ap (λ (ps : Table TrackedPacket). left_by ps greatest (not_acked_by a (map waited_for x.flying)) (map waited_for x.flying)) (sym (chosen_waits (λ n. names a n) x.flying))
-          ∙ ap (λ (ps : Table TrackedPacket). left_by (map waited_for acked) greatest ps (map waited_for x.flying)) (sym (chosen_waits (λ n. not (names a n)) x.flying))
-          ∙ settled_waits acked greatest others x;
-    };
-    holds = subst (λ (ps : Table TrackedPacket). P (after_ack a x).flying (after_ack a x).acked (after_named ps a (named a e))) (sym (ap (λ (ps : Table TrackedPacket). acked_by a ps) f.waits.waits ∙ sym (chosen_waits (λ n. names a n) x.flying)))
-        (named_flies acked greatest others x a (named a e) (λ s i. in_filter (λ t. names a t.number) s x.flying i) (λ s i. in_filter (λ t. not (names a t.number)) s x.flying i) f.waits.waits (c.names x.flying x.acked a e among f.holds));
+    waits = named_waits t now acked others (acked_by a e.tracking.packets) rises a x (named a e) is first second counts;
+    holds = named_flies acked others (acked_by a e.tracking.packets) rises x a (named a e) is (λ s i. in_filter (λ t. names a t.number) s x.flying i) (λ s i. in_filter (λ t. not (names a t.number)) s x.flying i) first second counts.tells (c.names x.flying x.acked a e among f.holds);
   }
     where
       acked : List Sent
@@ -139,39 +309,104 @@ module _ (frames : List FrameValue) (P : List Sent → List Sent → End → Typ
       others : List Sent
       others = filter (λ s. not (names a s.number)) x.flying
 
-      greatest : ℕ
-      greatest = max x.named a.largest
+      rises : Bool
+      rises = is_above e.numbers.largest_acked a.largest
 
-      counts : greatest ≡ cut_against (named a e).numbers
-      counts = ap (λ (n : ℕ). max n a.largest) f.waits.named ∙ sym (named_after e.numbers.largest_acked a.largest)
+      is : rises ≡ is_greatest x.named a.largest
+      is = above_same e.numbers.largest_acked a.largest ∙ ap (λ (o : Option ℕ). is_greatest o a.largest) (sym f.waits.tells.named)
+
+      first : AreWaited acked (acked_by a e.tracking.packets)
+      first = waited_filter (λ s. names a s.number) (λ p. names a p.0) (λ s p w. ap (λ (n : ℕ). names a n) (sym w.number)) x.flying e.tracking.packets f.waits.tells.waits
+
+      second : AreWaited others (not_acked_by a e.tracking.packets)
+      second = waited_filter (λ s. not (names a s.number)) (λ p. not (names a p.0)) (λ s p w. ap (λ (n : ℕ). not (names a n)) (sym w.number)) x.flying e.tracking.packets f.waits.tells.waits
+
+      counts : Waits t now (counted a x) (held (named a e))
+      counts =
+          let w = f.waits.tells in
+          record {
+            tells = record { terms = w.terms; clock = w.clock; named = ap (λ (o : Option ℕ). Some (greatest_of o a.largest)) w.named; waits = w.waits; asked = w.asked; rtt = w.rtt };
+            loss_time = f.waits.loss_time;
+            expiries = f.waits.expiries;
+          }
 
   -- a frame that is no ACK frame leaves what the end waits for
   other_flies : (f : FrameValue) (x : Flight) (e : End) → OnStreams f → In f frames → Flying x e → Flying x (take_frame f e).end
-  other_flies f x e on among i = record { waits = frame_leaves (Waits x) f e on (λ t. record { named = i.waits.named; waits = i.waits.waits }); holds = c.on_streams x.flying x.acked f e among on i.holds }
+  other_flies f x e on among i = record { waits = frame_leaves (λ (g : End). Waits t now x (held g)) f e on (λ u. i.waits); holds = c.on_streams x.flying x.acked f e among on i.holds }
 
   -- any frame that is taken
-  frame_flies : (f : FrameValue) (x : Flight) (e : End) → (take_frame f e).fault ≡ None → In f frames → Flying x e → Flying (after_frames (f ∷ []) x) (take_frame f e).end
+  frame_flies : (f : FrameValue) (x : Flight) (e : End) → (take_frame f e).fault ≡ None → In f frames → Flying x e → Flying (after_frames t now (f ∷ []) x) (take_frame f e).end
   frame_flies f x e none among i =
-      by_frame f e (λ g p. p.fault ≡ None → Flying (after_frames (g ∷ []) x) p.end)
-      (λ a is ok. ack_flies (nat_le e.numbers.next a.largest) a x e ok (subst (λ (g : FrameValue). In g frames) (sym is) among) i)
-      (λ other on ok. subst (λ (y : Flight). Flying y (take_frame f e).end) (sym (no_ack_flight f x other)) (other_flies f x e on among i))
-      (λ other same ok. subst (λ (y : Flight). Flying y (take_frame f e).end) (sym (no_ack_flight f x other)) (subst (λ (g : End). Flying x g) (sym same) i))
+      by_frame f e (λ g p. p.fault ≡ None → Flying (after_frames t now (g ∷ []) x) p.end)
+      (λ a is ok. ack_flies (names_ungiven a e) a x e ok (subst (λ (g : FrameValue). In g frames) (sym is) among) i)
+      (λ other on ok. subst (λ (y : Flight). Flying y (take_frame f e).end) (sym (no_ack_flight t now f x other)) (other_flies f x e on among i))
+      (λ other m same ok. subst (λ (y : Flight). Flying y (take_frame f e).end) (sym (no_ack_flight t now f x other)) (subst (λ (g : End). Flying x g) (sym same) (record { waits = i.waits; holds = c.message x.flying x.acked m e i.holds })))
       none
 
   -- where all frames of a packet were taken, an end waits for what they leave in flight
-  pub frames_fly : (x : Flight) (e : End) → (passed frames e).fault ≡ None → Flying x e → Flying (after_frames frames x) (passed frames e).end
+  pub frames_fly : (x : Flight) (e : End) → (passed frames e).fault ≡ None → Flying x e → Flying (after_frames t now frames x) (passed frames e).end
   frames_fly x e none i =
-      let all = frames_taken (λ (left : List FrameValue) (g : End). ((f : FrameValue) → In f left → In f frames) × ((y : Flight) × (after_frames left y ≡ after_frames frames x) × Flying y g))
+      let all = frames_taken (λ (left : List FrameValue) (g : End). ((f : FrameValue) → In f left → In f frames) × ((y : Flight) × (after_frames t now left y ≡ after_frames t now frames x) × Flying y g))
       (λ f left g is before. (
         (λ h j. before.0 h (inr j)),
-        (after_frames (f ∷ []) before.1.0, sym (first_flight f left before.1.0) ∙ before.1.1, frame_flies f before.1.0 g is (before.0 f (inl refl)) before.1.2),
+        (after_frames t now (f ∷ []) before.1.0, sym (first_flight t now f left before.1.0) ∙ before.1.1, frame_flies f before.1.0 g is (before.0 f (inl refl)) before.1.2),
       ))
       frames e none ((λ f j. j), (x, refl, i)) in
       subst (λ (y : Flight). Flying y (passed frames e).end) all.1.1 all.1.2
 
 -- so it waits for them, whatever else holds
-pub frames_wait : (frames : List FrameValue) (x : Flight) (e : End) → (passed frames e).fault ≡ None → Waits x e → Waits (after_frames frames x) (passed frames e).end
-frames_wait frames x e none w = (frames_fly frames (λ flying acked g. Unit {0}) (record { names = λ flying acked a g among i. tt; settles = λ flying acked ss left ps t g inside stays lost i. tt; on_streams = λ flying acked f g among on i. tt }) x e none (record { waits = w; holds = tt })).waits
+pub frames_wait : (t : Terms) (now : ℕ) (frames : List FrameValue) (x : Flight) (e : End) → (passed frames e).fault ≡ None → Waits t now x (held e) → Waits t now (after_frames t now frames x) (held (passed frames e).end)
+frames_wait t now frames x e none w = (frames_fly t now frames (λ flying acked g. Unit {0}) (record {
+  losing = record { tracked = λ flying acked u g i. tt; loses = λ flying acked gone left ps g inside stays lost i. tt };
+  names = λ flying acked a g among i. tt;
+  acks = λ flying acked ss left ps g inside stays all i. tt;
+  measured = λ flying acked r g i. tt;
+  on_streams = λ flying acked f g among on i. tt;
+  message = λ flying acked m g i. tt;
+}) x e none (record { waits = w; holds = tt })).waits
+
+-- ---- the timer of losses
+
+-- the first of two moments
+due_same : (o p : Option ℕ) → moment_or o p ≡ due_or o p
+due_same None p = refl
+due_same (Some moment) p = refl
+
+-- how long is waited
+waited_so : (t : Terms) (now : ℕ) (f : Flight) (e : End) → Waits t now f (held e) → backed_off (probe_timeout e) e.tracking.timeouts ≡ waited t f.rtt f.expiries
+waited_so t now f e w =
+    ap (λ (n : ℕ). min (probe_timeout e * 2 ^ n) latest) (sym w.expiries)
+    ∙ ap (λ (r : Rtt). waited (terms_of e) r f.expiries) (sym w.tells.rtt)
+    ∙ ap (λ (u : Terms). waited u f.rtt f.expiries) (sym w.tells.terms)
+
+-- where no number asks, no packet does
+none_ask : (ps : Table TrackedPacket) → ((p : ℕ × TrackedPacket) → In p ps → p.1.asks ≡ true → true ≡ false) → asks_any ps ≡ true → ⊥
+none_ask [] none is = cc
+none_ask (p ∷ ps) none is = go p.1.asks refl is (none_ask ps (λ q i. none q (inr i)))
+  where
+    go : (b : Bool) → p.1.asks ≡ b → (b || asks_any ps) ≡ true → (asks_any ps ≡ true → ⊥) → ⊥
+    go true asks at later = (let clash = none p (inl refl) asks in cc)
+    go false asks at later = later at
+
+-- the timer of an open end is set to what its observer reckons
+pub timer_is : (t : Terms) (now : ℕ) (f : Flight) (e : End) → OpenStands e → Waits t now f (held e) → e.timers.loss_detection ≡ loss_due t f
+timer_is t now f e s w =
+    s.set
+    ∙ ap (λ (o : Option ℕ). moment_or o (probe_moment (asks_any e.tracking.packets) (probe_timeout e) e.tracking)) (sym w.loss_time)
+    ∙ ap (λ (o : Option ℕ). moment_or f.loss_time o) (go f.asked (asks_any e.tracking.packets) refl w.tells.asked)
+    ∙ due_same f.loss_time (probe_due t f f.asked)
+  where
+    some : list_any asks_of f.flying ≡ asks_any e.tracking.packets
+    some = waited_asks f.flying e.tracking.packets w.tells.waits
+
+    go : (o : Option Sent) (b : Bool) → asks_any e.tracking.packets ≡ b → IsAsked o e.tracking → probe_moment b (probe_timeout e) e.tracking ≡ probe_due t f o
+    go None true is none = absurd (none_ask e.tracking.packets (λ p i asks. subst (λ (o : Option ℕ). is_behind o p.0 ≡ false) none (s.stands.asked p i asks)) is)
+    go None false is none = refl
+    go (Some u) true is last =
+        ap (λ (n : ℕ). Some (min (n + backed_off (probe_timeout e) e.tracking.timeouts) latest)) last.1
+        ∙ ap (λ (n : ℕ). Some (min (u.moment + n) latest)) (waited_so t now f e w)
+        ∙ ap (λ (b : Bool). if b then Some (min (u.moment + waited t f.rtt f.expiries) latest) else None) (sym (some ∙ is))
+    go (Some u) false is last = ap (λ (b : Bool). if b then Some (min (u.moment + waited t f.rtt f.expiries) latest) else None) (sym (some ∙ is))
 
 -- ---- a datagram that is given
 
@@ -180,12 +415,12 @@ expands_there : (n reference : ℕ) → n - reference < 2 ^ 31 → reference ≤
 expands_there n reference near behind = eq-eqb (expanded (truncated n reference) reference) n (newest_opens n reference reference near (omega arith) (omega arith))
 
 -- the datagram of a number opens to what it was sent as, by the keys of its taker alone
-pub sent_read : (p q : Policy) (id : List ℕ) (n reference : ℕ) (frames : List FrameValue) (d : List ℕ) → IsGiven p id n reference frames d → CanOpen p q → length id ≡ own_id_length → reference ≤ n → (moment : ℕ)
-    → sent_as (opened_packet q.header q.packet (own_id_length + 1) reference d) reference moment ≡ record { number = n; reference = reference; frames = frames; moment = moment } ∷ []
-sent_read p q id n reference frames d g mates eight behind moment =
-    ap (λ (o : Option Opening). sent_as o reference moment) (opened_given p q id n reference frames d g mates eight reference)
-    ∙ ap (λ (b : Bool). sent_as (shown_if b n reference g.payload) reference moment) (expands_there n reference g.near behind)
-    ∙ ap (λ (fs : List FrameValue). record { number = n; reference = reference; frames = fs; moment = moment } ∷ []) (frames_of_payload frames g.payload g.spells)
+pub sent_read : (p q : Policy) (id : List ℕ) (n reference : ℕ) (frames : List FrameValue) (d : List ℕ) → IsGiven p id n reference frames d → CanOpen p q → length id ≡ own_id_length → reference ≤ n → (moment size : ℕ)
+    → sent_as (opened_packet q.header q.packet (own_id_length + 1) reference d) reference moment size ≡ record { number = n; reference = reference; frames = frames; moment = moment; size = size } ∷ []
+sent_read p q id n reference frames d g mates eight behind moment size =
+    ap (λ (o : Option Opening). sent_as o reference moment size) (opened_given p q id n reference frames d g mates eight reference)
+    ∙ ap (λ (b : Bool). sent_as (shown_if b n reference g.payload) reference moment size) (expands_there n reference g.near behind)
+    ∙ ap (λ (fs : List FrameValue). record { number = n; reference = reference; frames = fs; moment = moment; size = size } ∷ []) (frames_of_payload frames g.payload g.spells)
 
 -- PADDING doesn't ask for an acknowledgement
 pub asking_padded : (fs : List FrameValue) (count : ℕ) → asking (fs ++ replicate count padding) ≡ asking fs
@@ -193,48 +428,69 @@ asking_padded [] zero = refl
 asking_padded [] (suc count) = asking_padded [] count
 asking_padded (f ∷ fs) count = ap (λ (b : Bool). asks f || b) (asking_padded fs count)
 
--- a value whose number is above all of a table goes behind them
-added_last : (es : Table TrackedPacket) (n : ℕ) (v : TrackedPacket) → ((m : ℕ) (t : TrackedPacket) → In (m, t) es → m < n) → added es n v ≡ es ++ (n, v) ∷ []
-added_last [] n v below = refl
-added_last (e ∷ es) n v below = go (nat_cmp n e.0) refl (added_last es n v (λ m t i. below m t (inr i)))
+-- what is forgotten where a datagram goes, is forgotten of both
+kept_waited : (b c : Bool) (us ss : List Sent) (qs ps : Table TrackedPacket) → b ≡ c → AreWaited us qs → AreWaited ss ps → AreWaited (if b then without_oldest us ss else ss) (without_packet (if c then oldest qs else None) ps)
+kept_waited b c us ss qs ps same tail all = subst (λ (d : Bool). AreWaited (if b then without_oldest us ss else ss) (without_packet (if d then oldest qs else None) ps)) same (go b)
   where
-    go : (r : Ordering) → nat_cmp n e.0 ≡ r → added es n v ≡ es ++ (n, v) ∷ [] → match_ordering r ((n, v) ∷ e ∷ es) ((e.0, v) ∷ es) (e ∷ added es n v) ≡ e ∷ (es ++ (n, v) ∷ [])
-    go Less is rest = (let lower = below e.0 e.1 (inl refl) in let order = ranked n e.0 Less (sym is) in absurd (omega arith))
-    go Equal is rest = (let lower = below e.0 e.1 (inl refl) in let order = ranked n e.0 Equal (sym is) in absurd (omega arith))
-    go Greater is rest = ap (λ (xs : Table TrackedPacket). e ∷ xs) rest
+    go : (b : Bool) → AreWaited (if b then without_oldest us ss else ss) (without_packet (if b then oldest qs else None) ps)
+    go true = waited_oldest ss ps us qs tail all
+    go false = all
 
--- a datagram that goes is in flight where it asks, and its end waits for it
-given_waits : (b : Bool) (d : Draft) (s : Sent) (f : Flight) → list_any asks s.frames ≡ b → ((m : ℕ) (t : TrackedPacket) → In (m, t) d.end.tracking.packets → m < d.end.numbers.next)
-    → waited_for s ≡ (d.end.numbers.next, record { generation = d.end.path.generation; time_sent = d.end.closing.clock; carried = carried_in d.frames }) → Waits f d.end
-    → Waits (and_sent s f) (with_numbers (tracked_if b d) (number_given d.end.numbers))
-given_waits b d s f asks_is below is w = subst (λ (x : Flight). Waits x (with_numbers (tracked_if b d) (number_given d.end.numbers))) (ap (λ (a : Bool). if a then record f { flying = f.flying ++ s ∷ [] } else f) (sym asks_is)) (go b)
+-- the tail of both
+behind_same : (o : Option Sent) (t : Tracking) (n : ℕ) → IsAsked o t → is_behind_asked o n ≡ is_behind t.greatest_asking n
+behind_same None t n is = ap (λ (g : Option ℕ). is_behind g n) (sym is)
+behind_same (Some s) t n is = ap (λ (g : Option ℕ). is_behind g n) (sym is.0)
+
+-- those that stay rise too
+kept_lies : (o : Option (ℕ × TrackedPacket)) (low high : ℕ) (ps : Table TrackedPacket) → Lies low high ps → Lies low high (without_packet o ps)
+kept_lies None low high ps lies = lies
+kept_lies (Some p) low high ps lies = lies_remove (is_at (nat_cmp p.0)) low high ps lies
+
+-- a datagram that goes is in flight, and its end waits for it
+given_waits : (t : Terms) (now : ℕ) (tr : Tracking) (n next : ℕ) (p : TrackedPacket) (s : Sent) (f : Flight) (h : Held) → IsWaited s (n, p) → Lies 0 next h.tracking.packets → next ≤ n → Waits t now f h → (numbers : Numbers) → numbers.largest_acked ≡ h.numbers.largest_acked
+    → tr ≡ asking_sent p.asks n p.time_sent (record h.tracking { packets = added (without_packet (forgotten h.tracking p) h.tracking.packets) n p }) → Waits t now (and_sent s f) (record h { tracking = tr; numbers = numbers })
+given_waits t now tr n next p s f h is lies above w numbers same tracks =
+    subst (λ (u : Tracking). Waits t now (and_sent s f) (record h { tracking = u; numbers = numbers })) (sym tracks)
+    (subst (λ (b : Bool). Waits t now (record f { flying = kept_flying (asks_of s) f ++ s ∷ []; asked = if b then Some s else f.asked }) (record h { tracking = asking_sent p.asks n p.time_sent (record h.tracking { packets = added kept n p }); numbers = numbers })) is.asks
+    (go p.asks))
   where
-    packet : TrackedPacket
-    packet = record { generation = d.end.path.generation; time_sent = d.end.closing.clock; carried = carried_in d.frames }
+    kept : Table TrackedPacket
+    kept = without_packet (forgotten h.tracking p) h.tracking.packets
 
-    go : (a : Bool) → Waits (if a then record f { flying = f.flying ++ s ∷ [] } else f) (with_numbers (tracked_if a d) (number_given d.end.numbers))
+    tail : AreWaited (unasked f) (tail_of h.tracking)
+    tail = waited_filter (λ u. is_behind_asked f.asked u.number) (λ q. is_behind h.tracking.greatest_asking q.0) (λ u q i. behind_same f.asked h.tracking u.number w.tells.asked ∙ ap (λ (m : ℕ). is_behind h.tracking.greatest_asking m) (sym i.number)) f.flying h.tracking.packets w.tells.waits
+
+    forgets_so : (not (asks_of s) && nat_lt 1000 (length (unasked f))) ≡ forgets h.tracking p
+    forgets_so = ap (λ (b : Bool). not b && nat_lt 1000 (length (unasked f))) (sym is.asks) ∙ ap (λ (m : ℕ). not p.asks && nat_lt 1000 m) (waited_length (unasked f) (tail_of h.tracking) tail)
+
+    stay : AreWaited (kept_flying (asks_of s) f) kept
+    stay = kept_waited (not (asks_of s) && nat_lt 1000 (length (unasked f))) (forgets h.tracking p) (unasked f) f.flying (tail_of h.tracking) h.tracking.packets forgets_so tail w.tells.waits
+
+    all : AreWaited (kept_flying (asks_of s) f ++ s ∷ []) (added kept n p)
+    all = subst (λ (ps : Table TrackedPacket). AreWaited (kept_flying (asks_of s) f ++ s ∷ []) ps) (sym (added_last 0 next kept n p (kept_lies (forgotten h.tracking p) 0 next h.tracking.packets lies) above)) (waited_push (kept_flying (asks_of s) f) kept s (n, p) stay is)
+
+    asked : (o : Option Sent) → IsAsked o h.tracking → IsAsked o (record h.tracking { packets = added kept n p })
+    asked None i = i
+    asked (Some u) i = i
+
+    go : (b : Bool) → Waits t now (record f { flying = kept_flying (asks_of s) f ++ s ∷ []; asked = if b then Some s else f.asked }) (record h { tracking = asking_sent b n p.time_sent (record h.tracking { packets = added kept n p }); numbers = numbers })
     go true = record {
-      named = w.named;
-      waits = added_last d.end.tracking.packets d.end.numbers.next packet below ∙ ap (λ (ps : Table TrackedPacket). ps ++ (d.end.numbers.next, packet) ∷ []) w.waits
-          ∙ ap (λ (x : ℕ × TrackedPacket). map waited_for f.flying ++ x ∷ []) (sym is) ∙ sym (map-append waited_for f.flying (s ∷ []));
+      tells = record { terms = w.tells.terms; clock = w.tells.clock; named = w.tells.named ∙ sym same; waits = all; asked = (ap (λ (m : ℕ). Some m) is.number, is.time); rtt = w.tells.rtt };
+      loss_time = w.loss_time;
+      expiries = w.expiries;
     }
-    go false = record { named = w.named; waits = w.waits }
-
--- and neither its path nor its clock changes
-pub given_same : (b : Bool) (d : Draft) → ((tracked_if b d).path ≡ d.end.path) × ((tracked_if b d).closing ≡ d.end.closing)
-given_same true d = (refl, refl)
-given_same false d = (refl, refl)
+    go false = record {
+      tells = record { terms = w.tells.terms; clock = w.tells.clock; named = w.tells.named ∙ sym same; waits = all; asked = asked f.asked w.tells.asked; rtt = w.tells.rtt };
+      loss_time = w.loss_time;
+      expiries = w.expiries;
+    }
 
 -- what an end gives is in flight, and waited for
-pub draft_waits : (e : End) (s : Sent) (f : Flight) → e.path.generation ≡ 0 → s.number ≡ e.numbers.next → s.moment ≡ e.closing.clock → s.frames ≡ frames_padded (composed e) → ((m : ℕ) (t : TrackedPacket) → In (m, t) e.tracking.packets → m < e.numbers.next) → Waits f e
-    → Waits (and_sent s f) (after_given (composed e))
-draft_waits e s f path number moment frames below w =
-    given_waits (asking d.frames) d s f (ap asking frames ∙ asking_padded d.frames count) (λ m t i. subst (λ (x : Numbers). m < x.next) (sym c.numbers) (below m t (subst (λ (x : Tracking). In (m, t) x.packets) c.tracking i)))
-    (waited_is s ∙ ap (λ (n : ℕ). (n, record { generation = 0; time_sent = s.moment; carried = carried_in s.frames })) (number ∙ ap (λ (x : Numbers). x.next) (sym c.numbers))
-    ∙ ap (λ (n : ℕ). (d.end.numbers.next, record { generation = 0; time_sent = n; carried = carried_in s.frames })) (moment ∙ ap (λ (x : Closing). x.clock) (sym c.closing))
-    ∙ ap (λ (g : ℕ). (d.end.numbers.next, record { generation = g; time_sent = d.end.closing.clock; carried = carried_in s.frames })) (sym path ∙ ap (λ (x : Path). x.generation) (sym c.path))
-    ∙ ap (λ (x : Carried). (d.end.numbers.next, record { generation = d.end.path.generation; time_sent = d.end.closing.clock; carried = x })) (ap carried_in frames ∙ carried_padded d.frames count))
-    (record { named = w.named ∙ ap (λ (x : Numbers). cut_against x) (sym c.numbers); waits = ap (λ (x : Tracking). x.packets) c.tracking ∙ w.waits })
+pub draft_waits : (p : Policy) (t : Terms) (now : ℕ) (e : End) (s : Sent) (f : Flight) → e.path.generation ≡ 0 → s.number ≡ number_of e → s.moment ≡ e.closing.clock → s.frames ≡ frames_padded (composed e) → s.size ≡ datagram_size (composed e)
+    → Lies 0 e.numbers.next e.tracking.packets → e.numbers.next ≤ number_of e → Waits t now f (held e) → Waits t now (and_sent s f) (held (after_given p (composed e)))
+draft_waits p t now e s f path number moment frames size lies above w =
+    given_waits t now (after_given p d).tracking (number_of d.end) e.numbers.next (packet_of d) s f (held d.end) is (subst (λ (x : Tracking). Lies 0 e.numbers.next x.packets) (sym c.tracking) lies) (subst (λ (n : ℕ). e.numbers.next ≤ n) (sym given) above)
+    (subst (λ (h : Held). Waits t now f h) same w) (after_given p d).numbers refl refl
   where
     d : Draft
     d = composed e
@@ -242,5 +498,89 @@ draft_waits e s f path number moment frames below w =
     c : Composes e d.end
     c = composes e
 
-    count : ℕ
-    count = 4 - ((truncated d.end.numbers.next (cut_against d.end.numbers)).width + length d.bytes)
+    given : number_of d.end ≡ number_of e
+    given = composed_number e
+
+    same : held e ≡ held d.end
+    same = rw (c.numbers, c.closing, c.transport, c.peer, c.path, c.tracking) refl
+
+    asks_are : asks_of s ≡ asking d.frames
+    asks_are = ap asking frames ∙ asking_padded d.frames _
+
+    is : IsWaited s (number_of d.end, packet_of d)
+    is = record {
+      number = given ∙ sym number;
+      generation = ap (λ (x : Path). x.generation) c.path ∙ path;
+      time = ap (λ (x : Closing). x.clock) c.closing ∙ sym moment;
+      size = ap (λ (n : ℕ). if asking d.frames then n else 0) (sym size) ∙ ap (λ (b : Bool). if b then s.size else 0) (sym asks_are);
+      asks = sym asks_are;
+      carried = inl (sym (ap carried_in frames ∙ carried_padded d.frames _));
+    }
+
+-- the clock goes on
+pub ticked_waits : (t : Terms) (before now : ℕ) (f : Flight) (h : Held) → Waits t before f h → Waits t (max before now) f (record h { closing = ticked h.closing now })
+ticked_waits t before now f h w = record {
+  tells = record { terms = w.tells.terms; clock = ap (λ (n : ℕ). max n now) w.tells.clock; named = w.tells.named; waits = w.tells.waits; asked = w.tells.asked; rtt = w.tells.rtt };
+  loss_time = w.loss_time;
+  expiries = w.expiries;
+}
+
+-- other numbers stand, but the greatest that was named
+pub numbers_wait : (t : Terms) (now : ℕ) (f : Flight) (h : Held) (numbers : Numbers) → numbers.largest_acked ≡ h.numbers.largest_acked → Waits t now f h → Waits t now f (record h { numbers = numbers })
+numbers_wait t now f h numbers same w = record {
+  tells = record { terms = w.tells.terms; clock = w.tells.clock; named = w.tells.named ∙ sym same; waits = w.tells.waits; asked = w.tells.asked; rtt = w.tells.rtt };
+  loss_time = w.loss_time;
+  expiries = w.expiries;
+}
+
+-- an end that is ready waits as before: a probe may take the record of a packet
+pub ready_waits : (t : Terms) (before now : ℕ) (f : Flight) (e : End) → Lies 0 e.numbers.next e.tracking.packets → Waits t before f (held e) → Waits t (max before now) f (held (ready_at e now))
+ready_waits t before now f e lies i = by_ready (λ (x : End). Waits t (max before now) f (held x)) e now w w (λ p among. record {
+  tells = record {
+    terms = w.tells.terms;
+    clock = w.tells.clock;
+    named = w.tells.named;
+    waits = waited_put p f.flying e.tracking.packets (λ q j at. one_key 0 e.numbers.next e.tracking.packets lies q p j among (sym (is_at_same p.0 q.0 at))) w.tells.waits;
+    asked = asked p f.asked w.tells.asked;
+    rtt = w.tells.rtt;
+  };
+  loss_time = w.loss_time;
+  expiries = w.expiries;
+})
+  where
+    w : Waits t (max before now) f (record (held e) { closing = ticked e.closing now })
+    w = ticked_waits t before now f (held e) i
+
+    asked : (p : ℕ × TrackedPacket) (o : Option Sent) → IsAsked o e.tracking → IsAsked o (record e.tracking { packets = put e.tracking.packets p.0 (without_record p.1) })
+    asked p None i = i
+    asked p (Some s) i = i
+
+-- ---- the timer expires
+
+-- the observer counts an expiry, or detects losses, as the end does
+judged_waits : (t : Terms) (now : ℕ) (f : Flight) (e : End) → Waits t now f (held e) → (o : Option ℕ) → Waits t now (expired_for o t now f) (held (loss_judged o e))
+judged_waits t now f e w None = record {
+  tells = record { terms = w.tells.terms; clock = w.tells.clock; named = w.tells.named; waits = w.tells.waits; asked = asked f.asked w.tells.asked; rtt = w.tells.rtt };
+  loss_time = w.loss_time;
+  expiries = let same = w.expiries in omega (arith, same);
+}
+  where
+    asked : (o : Option Sent) → IsAsked o e.tracking → IsAsked o (after_loss_timeout e.tracking)
+    asked None i = i
+    asked (Some s) i = i
+judged_waits t now f e w (Some moment) = let found = losses_tell t now f e w.tells in record { tells = found.0; loss_time = found.1; expiries = w.expiries }
+
+-- where it expired
+pub expired_waits : (t : Terms) (now : ℕ) (f : Flight) (e : End) → Waits t now f (held e) → (b : Bool) → Waits t now (if b then expired_for f.loss_time t now f else f) (held (loss_expired b e))
+expired_waits t now f e w true = subst (λ (o : Option ℕ). Waits t now (expired_for f.loss_time t now f) (held (loss_judged o e))) w.loss_time (judged_waits t now f e w f.loss_time)
+expired_waits t now f e w false = w
+
+-- what losses keep, it keeps
+pub expired_flies : (P : List Sent → List Sent → End → Type 0) → Loses P → (t : Terms) (now : ℕ) (f : Flight) (e : End) → Waits t now f (held e) → P f.flying f.acked e → (b : Bool)
+    → P (if b then expired_for f.loss_time t now f else f).flying (if b then expired_for f.loss_time t now f else f).acked (loss_expired b e)
+expired_flies P c t now f e w i false = i
+expired_flies P c t now f e w i true = subst (λ (o : Option ℕ). P (expired_for f.loss_time t now f).flying (expired_for f.loss_time t now f).acked (loss_judged o e)) w.loss_time (go f.loss_time)
+  where
+    go : (o : Option ℕ) → P (expired_for o t now f).flying (expired_for o t now f).acked (loss_judged o e)
+    go None = c.tracked f.flying f.acked (after_loss_timeout e.tracking) e i
+    go (Some moment) = losses_fly P c t now f f.acked e w.tells i

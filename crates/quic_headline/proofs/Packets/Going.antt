@@ -1,13 +1,13 @@
 -- Where something waits, a frame goes.
-use Rattle.std.proofs.Common.{◌≡◌, ℕ, zero, suc, ◌+◌, ◌<◌, ◌≤◌, Bool, true, false, ◌==◌, ◌&&◌, ◌||◌, not, List, [], ◌∷◌, ◌++◌, length, Option, Some, None, refl, sym, ap, ◌∙◌, ◌⊎◌, inl, inr, arith}
-use Rattle.std.specs.Prelude.{if◌then◌else◌, map, nat_le, nat_lt}
+use Rattle.std.proofs.Common.{◌≡◌, ℕ, zero, suc, ◌+◌, ◌-◌, ◌<◌, ◌≤◌, Bool, true, false, ◌==◌, ◌&&◌, ◌||◌, not, List, [], ◌∷◌, ◌++◌, length, Option, Some, None, refl, sym, ap, ◌∙◌, subst, ◌⊎◌, inl, inr, arith}
+use Rattle.std.specs.Prelude.{if◌then◌else◌, map, nat_le, nat_lt, ◌*◌}
 use Rattle.std.specs.List.{list_any, fold}
 use Rattle.std.specs.Option.{is_some, option_map}
-use Rattle.std.proofs.lemmas.Bool.{le-leb, or_cases, and_parts}
+use Rattle.std.proofs.lemmas.Bool.{le-leb, leb-true, or_cases, and_parts}
 use Rattle.std.proofs.lemmas.List.{length-append, length-map}
 use Rattle.quic_wire_core.specs.declared.stream_id.Dir.TheVariants.{Bi, Uni}
 use Rattle.quic_wire_core.specs.Law.{length-shortest, varint_size_le}
-use Rattle.quic_wire.specs.Value.{FrameValue, StopSendingValue, ack, ping, stream, stream_data_blocked}
+use Rattle.quic_wire.specs.Value.{FrameValue, StopSendingValue, ack, ping, stream, datagram, stream_data_blocked}
 use Rattle.quic_wire.specs.Writing.{frame_size, width_of}
 use Rattle.quic_recovery_core.specs.PendingAcks.{can_send}
 use Rattle.quic_retransmits.specs.Retransmits.{Retransmits, nothing_waits}
@@ -27,11 +27,12 @@ use Rattle.quic_streams_state.specs.Control as control
 use Rattle.quic_streams_state.specs.Frames as of_streams
 use Rattle.quic_streams_state.specs.Frames.{Sent, frame_sent, frame_if, frame_and_more, stream_frames}
 use Rattle.quic_streams_laws.specs.ControlWalk.{others_wait}
-use Rattle.quic_machine.specs.Closing.{ticked}
-use Rattle.quic_machine.specs.End.{End, with_closing, with_ping, streams_at}
-use Rattle.quic_machine.specs.Poll.{Draft, no_frames, frame_room, left, no_stream_frames, ping_if, with_control_frames, with_stream_frames, with_asking, ack_of, with_ack, ack_fits, ack_if, composed_if, composed, asks_to_go, waits}
-use Rattle.quic_machine.specs.PollCases.{ready_at}
-use Rattle.quic_machine.specs.DraftLaws.{Writing, room_most, without_entry, by_entries, by_streams, by_asking}
+use Rattle.quic_messages.specs.Messages.{fitting, frame_bytes}
+use Rattle.quic_spaces.specs.Numbers.{cut_against}
+use Rattle.quic_machine.specs.End.{End, number_of, streams_at}
+use Rattle.quic_machine.specs.Poll.{Draft, current_mtu, no_frames, frame_room, least_room, fits, left, no_stream_frames, ping_if, with_control_frames, with_message, with_messages_of, with_message_frames, with_stream_frames, with_asking, ack_of, with_ack, ack_fits, ack_if, composed_if, composed, lazied, message_waits, asks_to_go, waits}
+use Rattle.quic_machine.specs.PollCases.{at_moment, ready_at, ready_leaves}
+use Rattle.quic_machine.specs.DraftLaws.{Writing, room_most, without_entry, by_entries, by_messages, by_streams, by_asking}
 use Rattle.quic_headline.specs.Runs.{In}
 use Rattle.quic_headline.proofs.Packets.Invariant.{Acks}
 use Rattle.quic_headline.proofs.Packets.Entries.{entry_control, control_short}
@@ -218,22 +219,60 @@ frames_stay = record {
   ping = λ d some. one_more d ping;
   drops = λ d kind some. some;
   control = λ d kind e es f is due some. one_more d f;
+  message = λ d m ms is fit some. one_more d (datagram m);
   stream = λ d id h room found first left is counts some. one_more d (stream (frame_of id h room));
 }
 
--- no frame went: there is no byte, the streams are as they were, and there is as much room
+-- no frame went: there is no byte, the streams and the messages are as they were, and there is as much room
 record Untouched (e : End) (d : Draft) : Type 0 where
   bytes : length d.bytes ≡ 0
   streams : d.end.streams ≡ e.streams
+  messages : d.end.messages.queues.outgoing ≡ e.messages.queues.outgoing
   room : frame_room d.end ≡ frame_room e
 
 -- frames of control go or don't
 touched_or_not : (e : End) → HasFrames (with_control_frames (no_frames e)) ⊎ Untouched e (with_control_frames (no_frames e))
-touched_or_not e = by_entries (λ (d : Draft). HasFrames d ⊎ Untouched e d) drops (λ d kind entry es f is due before. inl (one_more d f)) (no_frames e) (inr (record { bytes = refl; streams = refl; room = refl }))
+touched_or_not e = by_entries (λ (d : Draft). HasFrames d ⊎ Untouched e d) drops (λ d kind entry es f is due before. inl (one_more d f)) (no_frames e) (inr (record { bytes = refl; streams = refl; messages = refl; room = refl }))
   where
     drops : (d : Draft) (kind : ControlKind) → HasFrames d ⊎ Untouched e d → HasFrames (without_entry d kind) ⊎ Untouched e (without_entry d kind)
     drops d kind (inl some) = inl some
-    drops d kind (inr u) = inr (record { bytes = u.bytes; streams = u.streams; room = u.room })
+    drops d kind (inr u) = inr (record { bytes = u.bytes; streams = u.streams; messages = u.messages; room = u.room })
+
+-- messages go behind them or don't
+untold_or_not : (e : End) → HasFrames (with_message_frames (with_control_frames (no_frames e))) ⊎ Untouched e (with_message_frames (with_control_frames (no_frames e)))
+untold_or_not e = by_messages (λ (d : Draft). HasFrames d ⊎ Untouched e d) (λ d m ms is fit before. inl (one_more d (datagram m))) (with_control_frames (no_frames e)) (touched_or_not e)
+
+-- no fewer bytes are left for frames, whichever number a datagram has
+room_least : (e : End) → least_room e ≤ frame_room e
+room_least e =
+    let between : ℕ = number_of e - cut_against e.numbers in
+    go (nat_lt (2 * between) 256) (nat_lt (2 * between) 65536) (nat_lt (2 * between) 16777216)
+  where
+    go : (a b c : Bool) → least_room e ≤ current_mtu - (1 + length e.ids.active.id + (if a then 1 else (if b then 2 else (if c then 3 else 4))) + 16)
+    go true b c = omega arith
+    go false true c = omega arith
+    go false false true = omega arith
+    go false false false = omega arith
+
+-- behind none, the oldest message goes, where it fits
+message_brings : (e : End) (d : Draft) → Untouched e d → message_waits e ≡ true → HasFrames (with_message_frames d)
+message_brings e d u on =
+    go d.end.messages.queues.outgoing (subst (λ (ms : List (List ℕ)). is_some (fitting (least_room e) ms) ≡ true) (sym u.messages) on)
+  where
+    short : (m : List ℕ) (b : Bool) → nat_le (frame_bytes m) (least_room e) ≡ b → is_some (if b then Some m else None) ≡ true → fits d (datagram m) ≡ true
+    short m true is waits =
+        let within = leb-true (frame_bytes m) (least_room e) is in
+        let least = room_least e in
+        let bytes = u.bytes in
+        let room = u.room in
+        le-leb (length d.bytes + frame_size (datagram m)) (frame_room d.end) (omega arith)
+    short m false is waits = cc
+
+    go : (ms : List (List ℕ)) → is_some (fitting (least_room e) ms) ≡ true → HasFrames (with_messages_of ms d)
+    go [] waits = cc
+    go (m ∷ ms) waits =
+        let goes = short m (nat_le (frame_bytes m) (least_room e)) refl waits in
+        rw goes (by_messages HasFrames frames_stay.message (with_message d m ms) (one_more d (datagram m)))
 
 -- behind none, that of the stream that stands first goes
 first_brings : (e : End) (d : Draft) → 1159 ≤ frame_room e → Untouched e d → BringsFirst e.streams → HasFrames (with_stream_frames d)
@@ -241,9 +280,9 @@ first_brings e d room u b =
     let narrow : width_of b.id ≤ 8 = rw (length-shortest b.id) (varint_size_le b.id) in
     let bytes = u.bytes in
     let as_much = u.room in
-    let goes = first_goes (left d) d.end.fair (left d) (no_stream_frames d) b.id b.half (omega arith) (omega arith) (ap (λ (s : StreamsState). first_queued s.sending.queue) u.streams ∙ b.first)
+    let goes = first_goes (left d) d.end.transport.send_fairness (left d) (no_stream_frames d) b.id b.half (omega arith) (omega arith) (ap (λ (s : StreamsState). first_queued s.sending.queue) u.streams ∙ b.first)
     (ap (λ (s : StreamsState). at s.sending.halves.live b.id) u.streams ∙ b.found) (b.counts (of_streams.stream_room (left d) (no_stream_frames d) b.id) (omega arith)) in
-    let sent : Sent = of_streams.with_stream_frames d.end.fair (left d) (no_stream_frames d) in
+    let sent : Sent = of_streams.with_stream_frames d.end.transport.send_fairness (left d) (no_stream_frames d) in
     let all = length-append d.frames (map stream sent.frames) in
     let as_many : length (map stream sent.frames) ≡ length sent.frames = length-map sent.frames stream in
     omega arith
@@ -408,19 +447,32 @@ module _ (K : Streams → Type 0) (k : Spelling K) (c : Bringing K) where
   asking_goes : (e : End) → 1159 ≤ frame_room e → K (streams_at e) → asks_to_go e ≡ true → HasFrames (with_asking (no_frames e))
   asking_goes e room i asks = pinged e.waiting.ping asks
     where
-      -- frames of streams go behind others, or else the first of them
-      behind : HasFrames (with_control_frames (no_frames e)) ⊎ Untouched e (with_control_frames (no_frames e)) → BringsFirst e.streams → HasFrames (with_stream_frames (with_control_frames (no_frames e)))
-      behind (inl some) b = by_streams HasFrames frames_stay.stream (with_control_frames (no_frames e)) some
-      behind (inr u) b = first_brings e (with_control_frames (no_frames e)) room u b
+      -- messages and frames of streams go behind others
+      more : (d : Draft) → HasFrames d → HasFrames (with_stream_frames (with_message_frames d))
+      more d some = by_streams HasFrames frames_stay.stream (with_message_frames d) (by_messages HasFrames frames_stay.message d some)
 
-      quiet : (not (is_empty e.waiting.frames e.streams) || can_send_stream_data e.streams) ≡ true → HasFrames (with_stream_frames (with_control_frames (no_frames e)))
-      quiet on = elim (or_cases (not (is_empty e.waiting.frames e.streams)) (can_send_stream_data e.streams) on) [
-        | inl some ↦ by_streams HasFrames frames_stay.stream (with_control_frames (no_frames e)) (control_goes e (omega arith) i (false_of (is_empty e.waiting.frames e.streams) some))
-        | inr some ↦ behind (touched_or_not e) (c.queued (streams_at e) i some)
+      -- or else the oldest message goes
+      told : HasFrames (with_control_frames (no_frames e)) ⊎ Untouched e (with_control_frames (no_frames e)) → message_waits e ≡ true → HasFrames (with_stream_frames (with_message_frames (with_control_frames (no_frames e))))
+      told (inl some) on = more (with_control_frames (no_frames e)) some
+      told (inr u) on = by_streams HasFrames frames_stay.stream (with_message_frames (with_control_frames (no_frames e))) (message_brings e (with_control_frames (no_frames e)) u on)
+
+      -- or else the first frame of a stream
+      behind : HasFrames (with_message_frames (with_control_frames (no_frames e))) ⊎ Untouched e (with_message_frames (with_control_frames (no_frames e))) → BringsFirst e.streams
+          → HasFrames (with_stream_frames (with_message_frames (with_control_frames (no_frames e))))
+      behind (inl some) b = by_streams HasFrames frames_stay.stream (with_message_frames (with_control_frames (no_frames e))) some
+      behind (inr u) b = first_brings e (with_message_frames (with_control_frames (no_frames e))) room u b
+
+      quiet : (not (is_empty e.waiting.frames e.streams) || (message_waits e || can_send_stream_data e.streams)) ≡ true → HasFrames (with_stream_frames (with_message_frames (with_control_frames (no_frames e))))
+      quiet on = elim (or_cases (not (is_empty e.waiting.frames e.streams)) (message_waits e || can_send_stream_data e.streams) on) [
+        | inl some ↦ more (with_control_frames (no_frames e)) (control_goes e (omega arith) i (false_of (is_empty e.waiting.frames e.streams) some))
+        | inr others ↦ elim (or_cases (message_waits e) (can_send_stream_data e.streams) others) [
+          | inl some ↦ told (touched_or_not e) some
+          | inr some ↦ behind (untold_or_not e) (c.queued (streams_at e) i some)
+        ]
       ]
 
-      pinged : (b : Bool) → (b || (not (is_empty e.waiting.frames e.streams) || can_send_stream_data e.streams)) ≡ true → HasFrames (with_stream_frames (with_control_frames (ping_if b (no_frames e))))
-      pinged true on = by_streams HasFrames frames_stay.stream (with_control_frames (ping_if true (no_frames e))) (by_entries HasFrames frames_stay.drops frames_stay.control (ping_if true (no_frames e)) (omega arith))
+      pinged : (b : Bool) → (b || (not (is_empty e.waiting.frames e.streams) || (message_waits e || can_send_stream_data e.streams))) ≡ true → HasFrames (with_stream_frames (with_message_frames (with_control_frames (ping_if b (no_frames e)))))
+      pinged true on = more (with_control_frames (ping_if true (no_frames e))) (by_entries HasFrames frames_stay.drops frames_stay.control (ping_if true (no_frames e)) (omega arith))
       pinged false on = quiet on
 
   -- where something waits, a frame goes
@@ -440,12 +492,8 @@ module _ (K : Streams → Type 0) (k : Spelling K) (c : Bringing K) where
   spellable e acks short i = record { spells = composed_spells K k e acks i; some = composed_some e short i }
 
   -- at any moment
-  pub spellable_next : (e : End) → Acks e.acknowledging → length e.ids.active.id ≤ 20 → K (streams_at e) → (now : ℕ) → IsSpellable (ready_at e now)
-  spellable_next e acks short i now = go (nat_lt 0 e.tracking.probes)
-    where
-      after : End
-      after = with_closing e (ticked e.closing now)
-
-      go : (b : Bool) → IsSpellable (if b then with_ping after true else after)
-      go true = spellable (with_ping after true) acks short i
-      go false = spellable after acks short i
+  pub spellable_next : (e : End) → Acks e.acknowledging → length e.ids.active.id ≤ 20 → ((now : ℕ) → K (streams_at (ready_at e now))) → (now : ℕ) → IsSpellable (lazied (ready_at e now))
+  spellable_next e acks short i now =
+      let is = ready_leaves e now in
+      let there : End = at_moment e now (ready_at e now).tracking (ready_at e now).waiting in
+      subst (λ (x : End). IsSpellable (lazied x)) (sym is) (spellable (lazied there) (record { runs = acks.runs; small = acks.small }) short (subst (λ (x : End). K (streams_at x)) is (i now)))

@@ -1,17 +1,23 @@
 -- What holds of the packets between two ends, as one group: what the one gave, and what the other took of it.
-use Rattle.std.proofs.Common.{◌≡◌, ℕ, ◌<◌, ◌≤◌, ◌^◌, List, [], ◌∷◌, ◌++◌, length, Bool, false, refl, sym, ap, ◌∙◌, subst, arith}
+use Rattle.std.proofs.Common.{◌≡◌, ℕ, ◌<◌, ◌≤◌, ◌^◌, List, [], ◌∷◌, ◌++◌, length, false, refl, sym, ap, ◌∙◌, subst, arith}
 use Rattle.std.proofs.lemmas.List.{length-append}
 use Rattle.quic_machine.specs.declared.run.Call.{Call}
 use Rattle.quic_machine.specs.declared.run.Answer.{Answer}
 use Rattle.quic_machine.specs.Ids.{Ids, known}
-use Rattle.quic_machine.specs.Numbers.{number_given}
+use Rattle.quic_spaces.specs.Numbers.{Numbers, number_given}
+use Rattle.quic_recovery_core.specs.PendingAcks.{Pending}
+use Rattle.quic_time.specs.Timers.{Timers}
+use Rattle.quic_machine.specs.declared.answers.State.{State}
+use Rattle.quic_machine.specs.Closing.{Closing, ticked}
+use Rattle.quic_machine.specs.Parts.{Waiting}
+use Rattle.quic_machine.specs.Tracking.{Tracking}
 use Rattle.quic_machine.specs.Policy.{Policy}
-use Rattle.quic_machine.specs.End.{End}
+use Rattle.quic_machine.specs.End.{End, with_closing, number_of}
 use Rattle.quic_machine.specs.Receive.{Outcome}
-use Rattle.quic_machine.specs.Poll.{Polled, composed, polled}
+use Rattle.quic_machine.specs.Poll.{Polled, composed, lazied, polled}
 use Rattle.quic_machine.specs.Machine.{after_call, gives}
 use Rattle.quic_machine.specs.CallCases.{is_delivery, by_plain_call}
-use Rattle.quic_machine.specs.LeaveCases.{by_expired}
+use Rattle.quic_machine.specs.LeaveCases.{at_losses, by_expired}
 use Rattle.quic_machine.specs.PollCases.{at_moment, ready_at, by_poll, composes}
 use Rattle.quic_headline.specs.Runs.{Intake, In, count_given, nothing_came}
 use Rattle.quic_headline.specs.Observer.{Sent}
@@ -19,12 +25,13 @@ use Rattle.quic_headline.proofs.Packets.Invariant.{IsSent, Gives, KnowsIn, Acks,
 use Rattle.quic_headline.proofs.Packets.Growth.{step_of}
 use Rattle.quic_headline.proofs.Packets.Intakes.{count_more, took_more}
 use Rattle.quic_headline.proofs.Packets.Delivered.{Arrivals}
-use Rattle.quic_headline.proofs.Packets.Stays.{placed_call}
+use Rattle.quic_headline.proofs.Packets.Stays.{settles_losses, placed_call}
 use Rattle.quic_headline.proofs.Packets.Knowing.{knows_first, knows_given, expects_in, knows_arrivals}
 use Rattle.quic_headline.proofs.Packets.Acking.{acks_first, acks_step, acks_arrivals, taken_step, taken_arrivals}
 use Rattle.quic_headline.proofs.Packets.Composed.{IsSpellable}
 use Rattle.quic_headline.proofs.Packets.Given.{gives_step}
 use Rattle.quic_headline.proofs.Packets.TrackedSteps.{tracked_step}
+use Rattle.quic_headline.proofs.Packets.Ascending.{Ascends, ascends_call}
 use Rattle.quic_headline.proofs.Packets.Naming.{were_sent_more, sent_arrivals, name_taken_on, name_taken_step}
 use Rattle.quic_headline.proofs.Places.Steps.{gives_count}
 use Rattle.quic_headline.proofs.Places.Parties.{sents_by, told_of, Party, called, came_to, AreJoined}
@@ -34,12 +41,13 @@ use Rattle.quic_headline.proofs.Places.Coming.{Meets, by_coming, came_ids}
 -- x gives, and y takes.
 pub record PacketsHold (x y : Party) : Type 0 where
   -- the datagrams that were given, as they were sent
-  pub gives : Gives x.policy y.id x.end.numbers x.sents x.given
+  pub gives : Gives x.policy y.id x.end.numbers x.end.filter.last x.sents x.given
   pub active : x.end.ids.active.id ≡ y.id
   pub size : 1200 ≤ x.end.path.size
   pub count : length x.given ≡ count_given x.told
   -- what x waits for was sent
   pub tracked : AreTracked x.sents x.end.tracking.packets
+  pub ascends : Ascends x.end
   -- what the ACK frames of x name, x took
   pub named : NameTaken x.sents (came_to x y).took
   pub known : known y.end.ids ≡ (came_to y x).ids
@@ -66,25 +74,33 @@ record Takes (sents : List Sent) (e : End) (i : Intake) : Type 0 where
 -- a poll changes neither the state nor what is known, but where the end closes
 knows_poll : (p : Policy) (e : End) (now : ℕ) (i : Intake) → KnowsIn e.closing.state e.numbers i → KnowsIn (polled p e now).end.closing.state (polled p e now).end.numbers i
 knows_poll p e now i k =
-    by_poll p e now (λ (q : Polled). KnowsIn q.end.closing.state q.end.numbers i) (record { silent = k; failed = k; idle = λ pings. k; used_up = λ pings. expects_in e.closing.state e.numbers i k; gives = λ pings tracking timers is may some ready. gives pings })
+    by_poll p e now (λ (q : Polled). KnowsIn q.end.closing.state q.end.numbers i) (record { silent = k; failed = k; idle = λ t w ready. k; used_up = λ t w ready. expects_in e.closing.state e.numbers i k; gives = λ t w tracking timers is may some ready. gives t w })
   where
-    gives : (pings : Bool) → KnowsIn (composed (at_moment e now pings)).end.closing.state (number_given (composed (at_moment e now pings)).end.numbers) i
-    gives pings =
-        let c = composes (at_moment e now pings) in
-        rw (c.closing, c.numbers) (knows_given e.closing.state e.numbers i k)
+    gives : (t : Tracking) (w : Waiting) → KnowsIn (composed (lazied (at_moment e now t w))).end.closing.state (number_given (composed (lazied (at_moment e now t w))).end.numbers (number_of (composed (lazied (at_moment e now t w))).end)) i
+    gives t w =
+        let c = composes (lazied (at_moment e now t w)) in
+        let d : End = (composed (lazied (at_moment e now t w))).end in
+        subst (λ (s : State). KnowsIn s (number_given d.numbers (number_of d)) i) (sym (ap (λ (x : Closing). x.state) c.closing))
+        (subst (λ (x : Numbers). KnowsIn e.closing.state (number_given x (number_of d)) i) (sym c.numbers) (knows_given e.closing.state e.numbers (number_of d) i k))
 
 -- what came is known, after a call that is no delivery
 knows_step : (q : Policy) (e : End) (theirs : List (List ℕ)) (call : Call) (a : Answer) (i : Intake) → is_delivery call ≡ false → KnowsIn e.closing.state e.numbers i → KnowsIn (after_call q e theirs call a).closing.state (after_call q e theirs call a).numbers i
 knows_step q e theirs call a i other k = by_plain_call q e theirs (λ (f : End). KnowsIn f.closing.state f.numbers i) call a (record {
   same = k;
   on_streams = λ t. k;
+  on_messages = λ m. k;
   pings = k;
   heard = λ path same. k;
-  times = λ now acks loss set. by_expired e now (λ (f : End). KnowsIn f.closing.state f.numbers i) (λ pending tracking timers runs packets. k) acks loss;
+  times = λ now acks loss set. by_expired e now (λ (f : End). KnowsIn f.closing.state f.numbers i) (λ pending tracking timers runs packets. k) (λ pending timers runs. losses now pending timers) acks loss;
   polls = λ now set. knows_poll q e now i k;
   hears = λ now d set. cc;
   tells = λ told. k;
 })
+  where
+    losses : (now : ℕ) (pending : Pending) (timers : Timers) → KnowsIn (at_losses e now pending timers).closing.state (at_losses e now pending timers).numbers i
+    losses now pending timers =
+        let s = settles_losses (with_closing e (ticked e.closing now)) in
+        subst (λ (c : Closing). KnowsIn c.state (at_losses e now pending timers).numbers i) (sym s.closing) (subst (λ (x : Numbers). KnowsIn e.closing.state x i) (sym s.numbers) k)
 
 -- in each case of a delivery
 takes_arrivals : (e : End) (now : ℕ) (s : Sent) (i : Intake) (sents : List Sent) → In s sents → s.number < 2 ^ 62 → Takes sents e i → Arrivals e now s.number s.frames i (λ (o : Outcome) (j : Intake). Takes sents o.end j)
@@ -120,7 +136,7 @@ takes_step B x y call a c p = by_coming x y a c.joined c.served (meets y x p) (T
 
 -- what an end composes next has a form, whenever it is polled
 abbrev pub SpellsNext : End → Type 0
-SpellsNext e = (now : ℕ) → IsSpellable (ready_at e now)
+SpellsNext e = (now : ℕ) → IsSpellable (lazied (ready_at e now))
 
 -- x makes a call: how many datagrams it gave
 counted : (B : Way) (x y : Party) (call : Call) (a : Answer) → Before B x y call a → length x.given ≡ count_given x.told → length (called x y.given call a).given ≡ count_given (called x y.given call a).told
@@ -143,6 +159,7 @@ module _ (B : Way) (spells : (x y : Party) → AreJoined x y → B x y → B y x
         size = subst (λ (n : ℕ). 1200 ≤ n) (sym placed.size) p.size;
         count = counted B x y call a c p.count;
         tracked = tracked_step x.policy x.end y.given call a x.sents c.answer c.served p.tracked;
+        ascends = ascends_call x.policy x.end y.given call a p.ascends;
         named = name_taken_on (x.sents ++ more) (came_to x y).took (came_to (called x y.given call a) y).took
             (took_more x.policy y.final x.told t (nothing_came (x.id ∷ [])))
             (name_taken_step x.end call a x.sents (came_to x y).took back.acks back.acking p.named);
@@ -163,6 +180,7 @@ module _ (B : Way) (spells : (x y : Party) → AreJoined x y → B x y → B y x
         size = back.size;
         count = back.count;
         tracked = back.tracked;
+        ascends = back.ascends;
         named = back.named;
         known = ap (λ (ids : Ids). known ids) (placed_call x.policy x.end y.given call a).ids ∙ back.known ∙ sym (came_ids x y call a);
         knows = t.knows;
@@ -175,11 +193,12 @@ module _ (B : Way) (spells : (x y : Party) → AreJoined x y → B x y → B y x
   pub packets_group : Early B PacketsHold
   packets_group = record {
     first = λ x y m. record {
-      gives = record { rising = tt; below = λ s i. absurd i; next = refl; behind = omega arith; each = tt };
+      gives = record { rising = tt; below = λ s i. absurd i; next = refl; behind = omega arith; left_out = tt; each = tt };
       active = refl;
       size = omega arith;
       count = refl;
       tracked = λ n t is. absurd is;
+      ascends = tt;
       named = λ s a k is i named. absurd is;
       known = refl;
       knows = knows_first (y.making.id ∷ []);

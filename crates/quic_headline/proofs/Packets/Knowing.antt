@@ -8,7 +8,7 @@ use Rattle.quic_machine.specs.declared.run.Answer.TheVariants as answers
 use Rattle.quic_machine.specs.Policy.{Policy, CanOpen}
 use Rattle.quic_machine.specs.Ids.{known}
 use Rattle.quic_machine.specs.Closing.{Closing}
-use Rattle.quic_machine.specs.Numbers.{Numbers, no_numbers, cut_against, expected, after_greatest, greatest_of, number_given, number_opened, number_taken}
+use Rattle.quic_spaces.specs.Numbers.{Numbers, no_numbers, cut_against, expected, after_greatest, greatest_of, number_given, number_opened, number_taken}
 use Rattle.quic_machine.specs.End.{End}
 use Rattle.quic_machine.specs.Opens.{own_id_length}
 use Rattle.quic_machine.specs.Receive.{received}
@@ -25,11 +25,11 @@ pub knows_first : (ids : List (List ℕ)) → Knows no_numbers (nothing_came ids
 knows_first ids = record { seen = refl; expected = refl; named = refl }
 
 -- a number that is given says nothing of what came
-pub knows_given : (s : State) (numbers : Numbers) (i : Intake) → KnowsIn s numbers i → KnowsIn s (number_given numbers) i
-knows_given states.Open numbers i k = record { seen = k.seen; expected = k.expected; named = k.named }
-knows_given states.Closing numbers i k = k
-knows_given states.Drained numbers i k = k
-knows_given states.Failed numbers i k = k
+pub knows_given : (s : State) (numbers : Numbers) (n : ℕ) (i : Intake) → KnowsIn s numbers i → KnowsIn s (number_given numbers n) i
+knows_given states.Open numbers n i k = record { seen = k.seen; expected = k.expected; named = k.named }
+knows_given states.Closing numbers n i k = k
+knows_given states.Drained numbers n i k = k
+knows_given states.Failed numbers n i k = k
 
 -- an end in any state expects what the lists say
 pub expects_in : (s : State) (numbers : Numbers) (i : Intake) → KnowsIn s numbers i → Expects numbers i

@@ -1,19 +1,23 @@
 -- What ACK frames name: an end that takes some waits for no packet more, and where the peer took what they name, each packet that is acknowledged was taken.
 use Rattle.std.proofs.Common.{◌≡◌, ℕ, Bool, true, false, not, List, [], ◌∷◌, filter, cond, Option, Some, None, refl, sym, ap, ◌∙◌, subst, inl, inr}
-use Rattle.std.specs.Prelude.{nat_le}
-use Rattle.quic_wire.specs.Value.{FrameValue, AckValue, ack, stream, reset_stream, stop_sending, max_data, max_stream_data, max_streams, stream_data_blocked, streams_blocked, new_token, handshake_done}
+use Rattle.quic_wire.specs.Value.{FrameValue, AckValue, ack, stream, reset_stream, stop_sending, max_data, max_stream_data, max_streams, stream_data_blocked, streams_blocked, new_token, handshake_done, datagram}
 use Rattle.quic_send_buffer.specs.declared.stream_meta.StreamMeta.{StreamMeta}
 use Rattle.quic_streams_parts.specs.Table.{Table}
 use Rattle.quic_machine.specs.Policy.{Policy}
-use Rattle.quic_machine.specs.Numbers.{cut_against}
-use Rattle.quic_machine.specs.Tracking.{Tracking, TrackedPacket, Carried, carried_in, acked_by, not_acked_by, is_below, kept_above, lost_below, after_answered}
-use Rattle.quic_machine.specs.End.{End, with_tracking}
-use Rattle.quic_machine.specs.Acked.{without_known, reset_acked, resets_acked, stream_acked, streams_acked, packet_acked, packets_acked, stream_lost, streams_lost, again, carried_lost, packets_lost, after_named}
-use Rattle.quic_machine.specs.Receive.{Progress, take_frame, received}
-use Rattle.quic_machine.specs.FrameCases.{OnStreams, named, ack_taken, passed, frame_keeps, frame_leaves, frames_leave, by_received}
+use Rattle.quic_time.specs.Rtt.{Rtt}
+use Rattle.quic_time.specs.Timers.{Timers}
+use Rattle.quic_recovery_core.specs.PendingAcks.{Pending}
+use Rattle.quic_machine.specs.Closing.{Closing, ticked}
+use Rattle.quic_machine.specs.Tracking.{Tracking, TrackedPacket, Carried, acked_by, Verdict, is_lost, lost_by, after_detection}
+use Rattle.quic_machine.specs.LeaveCases.{at_losses}
+use Rattle.quic_machine.specs.Parts.{Messaging}
+use Rattle.quic_machine.specs.End.{End, with_closing, with_messages, with_tracking, with_rtt}
+use Rattle.quic_machine.specs.Acked.{without_known, reset_acked, resets_acked, stream_acked, streams_acked, packet_acked, packets_acked, stream_lost, streams_lost, again, carried_lost, packets_lost, verdict, losses_detected, measured, sampled, without_acked, after_named}
+use Rattle.quic_machine.specs.Receive.{Progress, is_above, names_ungiven, take_message, take_frame, received}
+use Rattle.quic_machine.specs.FrameCases.{OnStreams, named, ack_taken, passed, message_leaves, frame_keeps, frame_leaves, frames_leave, by_received}
 use Rattle.quic_headline.specs.Runs.{Packet, In, IsTaken, names}
 use Rattle.quic_headline.specs.Observer.{Sent}
-use Rattle.quic_headline.proofs.Packets.Invariant.{AreTracked, RisingFrom, WereSent}
+use Rattle.quic_headline.proofs.Packets.Invariant.{IsCarriedFrom, AreTracked, RisingFrom, WereSent}
 use Rattle.quic_headline.proofs.Packets.Rising.{one_number}
 
 -- ---- fewer packets
@@ -42,18 +46,30 @@ filter_chose f x (y ∷ xs) i = go (f y) refl i (filter_chose f x xs)
 abbrev pub WaitsForFewer : End → End → Type 0
 WaitsForFewer e f = (n : ℕ) (t : TrackedPacket) → In (n, t) f.tracking.packets → In (n, t) e.tracking.packets
 
--- so it is after an ACK frame that names these
-named_fewer : (ps : Table TrackedPacket) (a : AckValue) (e : End) → WaitsForFewer e (after_named ps a e)
-named_fewer [] a e n t i = i
-named_fewer (p ∷ ps) a e n t i =
-    let left : Table TrackedPacket = not_acked_by a e.tracking.packets in
-    in_filter (λ q. not (names a q.0)) (n, t) e.tracking.packets (in_filter (λ q. not (is_below (cut_against e.numbers) q.0)) (n, t) left i)
+-- measuring a round trip leaves what is tracked
+pub sampled_tracking : (o : Option TrackedPacket) (a : AckValue) (e : End) → (sampled o a e).tracking ≡ e.tracking
+sampled_tracking None a e = refl
+sampled_tracking (Some p) a e = refl
+
+-- so it is where losses are detected
+pub losses_fewer : (e : End) → WaitsForFewer e (losses_detected e)
+losses_fewer e n t i = in_filter (λ q. not (is_lost (verdict e) q)) (n, t) e.tracking.packets i
+
+-- and after an ACK frame that names these
+named_fewer : (ps : Table TrackedPacket) (rises : Bool) (a : AckValue) (e : End) → WaitsForFewer e (after_named ps rises a e)
+named_fewer [] rises a e n t i = i
+named_fewer (p ∷ ps) rises a e n t i =
+    let o = measured rises a (p ∷ ps) in
+    let left = without_acked (p ∷ ps) a e in
+    let timed : In (n, t) (sampled o a left).tracking.packets = losses_fewer (sampled o a left) n t i in
+    in_filter (λ q. not (names a q.0)) (n, t) e.tracking.packets (subst (λ (x : Tracking). In (n, t) x.packets) (sampled_tracking o a left) timed)
 
 -- after any frame, behind what was left
 pub frame_fewer : (e : End) (f : FrameValue) (x : End) → WaitsForFewer e x → WaitsForFewer e (take_frame f x).end
 frame_fewer e = frame_keeps (WaitsForFewer e) (record {
-  ack = λ a x w n t i. w n t (named_fewer (acked_by a x.tracking.packets) a (named a x) n t i);
+  ack = λ rises a x w n t i. w n t (named_fewer (acked_by a x.tracking.packets) rises a (named a x) n t i);
   on_streams = λ f x on w. frame_leaves (WaitsForFewer e) f x on (λ streams. w);
+  message = λ m x w. w;
 })
 
 -- whatever comes adds none
@@ -85,13 +101,13 @@ pub record Stands (took : List Packet) (sents : List Sent) : Type 0 where
 pub record WasCarried (took : List Packet) (c : Carried) : Type 0 where
   pub packet : Packet
   pub was_taken : In packet took
-  pub is : c ≡ carried_in packet.frames
+  pub is : IsCarriedFrom c packet.frames
 
 -- what a datagram carried that was sent
 pub record IsCarriedBy (sents : List Sent) (c : Carried) : Type 0 where
   pub sent : Sent
   pub among : In sent sents
-  pub is : c ≡ carried_in sent.frames
+  pub is : IsCarriedFrom c sent.frames
 
 module _ (took : List Packet) (sents : List Sent) (stands : Stands took sents) where
   -- a tracked packet that an ACK frame names carried what a packet did that was taken
@@ -104,14 +120,18 @@ module _ (took : List Packet) (sents : List Sent) (stands : Stands took sents) w
       record {
         packet = arrived.packet;
         was_taken = arrived.was_taken;
-        is = was.2 ∙ ap (λ (s : Sent). carried_in s.frames) (sym same) ∙ ap carried_in found.frames;
+        is = subst (λ (fs : List FrameValue). IsCarriedFrom t.carried fs) (ap (λ (s : Sent). s.frames) (sym same) ∙ found.frames) was.2;
       }
 
-  -- one that counts as lost carried what was sent
-  lost_carried : (a : AckValue) (greatest : ℕ) (packets : Table TrackedPacket) → AreTracked sents packets → (n : ℕ) (t : TrackedPacket) → In (n, t) (lost_below greatest (not_acked_by a packets)) → IsCarriedBy sents t.carried
-  lost_carried a greatest packets tracked n t i =
-      let was = tracked n t (in_filter (λ p. not (names a p.0)) (n, t) packets (in_filter (λ p. is_below greatest p.0) (n, t) (not_acked_by a packets) i)) in
-      record { sent = was.0; among = was.1.0; is = was.2 }
+-- one that counts as lost carried what was sent
+pub lost_carried : (sents : List Sent) (v : Verdict) (packets : Table TrackedPacket) → AreTracked sents packets → (n : ℕ) (t : TrackedPacket) → In (n, t) (lost_by v packets) → IsCarriedBy sents t.carried
+lost_carried sents v packets tracked n t i =
+    let was = tracked n t (in_filter (is_lost v) (n, t) packets i) in
+    record { sent = was.0; among = was.1.0; is = was.2 }
+
+-- so did any that is tracked
+pub tracked_carried : (sents : List Sent) (packets : Table TrackedPacket) → AreTracked sents packets → (n : ℕ) (t : TrackedPacket) → In (n, t) packets → IsCarriedBy sents t.carried
+tracked_carried sents packets tracked n t i = let was = tracked n t i in record { sent = was.0; among = was.1.0; is = was.2 }
 
 -- ---- steps
 
@@ -127,6 +147,8 @@ pub record SettlesOn (took : List Packet) (sents : List Sent) (P : End → Type 
   pub again : (c : Carried) (e : End) → IsCarriedBy sents c → P e → P (again c e)
   -- fewer packets are tracked
   pub tracked : (t : Tracking) (e : End) → P e → P (with_tracking e t)
+  -- the round trip is measured
+  pub measured : (r : Rtt) (e : End) → P e → P (with_rtt e r)
 
 module _ (took : List Packet) (sents : List Sent) (P : End → Type 0) (s : SettlesOn took sents P) where
   -- what the peer knows of, if anything
@@ -168,34 +190,54 @@ module _ (took : List Packet) (sents : List Sent) (P : End → Type 0) (s : Sett
       let here : IsCarriedBy sents c = was p.0 p.1 (inl refl) in
       losses_on ps (carried_lost c e) (λ n t j. was n t (inr j)) (s.again c (streams_lost c.stream_frames e) here (lost_on c here c.stream_frames e (λ m j. j) i))
 
+  -- losses are detected
+  pub detected_on : (e : End) → AreTracked sents e.tracking.packets → P e → P (losses_detected e)
+  detected_on e tracked i =
+      let lost = lost_by (verdict e) e.tracking.packets in
+      s.tracked (after_detection (verdict e) e.tracking) (packets_lost lost e) (losses_on lost e (lost_carried sents (verdict e) e.tracking.packets tracked) i)
+
+  -- a round trip is measured, if one is
+  sampled_on : (o : Option TrackedPacket) (a : AckValue) (e : End) → P e → P (sampled o a e)
+  sampled_on None a e i = i
+  sampled_on (Some p) a e i = s.measured (sampled (Some p) a e).path.rtt e i
+
   -- an ACK frame that names these packets
-  named_on : (ps : Table TrackedPacket) (a : AckValue) (e : End) → ((n : ℕ) (t : TrackedPacket) → In (n, t) ps → WasCarried took t.carried)
-      → ((n : ℕ) (t : TrackedPacket) → In (n, t) (lost_below (cut_against e.numbers) (not_acked_by a e.tracking.packets)) → IsCarriedBy sents t.carried) → P e → P (after_named ps a e)
-  named_on [] a e was lost i = i
-  named_on (p ∷ ps) a e was lost i =
-      let left = not_acked_by a e.tracking.packets in
-      let greatest = cut_against e.numbers in
-      let acked : End = packets_acked (p ∷ ps) e in
-      s.tracked (after_answered e.tracking (kept_above greatest left)) (packets_lost (lost_below greatest left) acked)
-      (losses_on (lost_below greatest left) acked lost (packets_on (p ∷ ps) e was i))
+  named_on : (ps : Table TrackedPacket) (rises : Bool) (a : AckValue) (e : End) → ((n : ℕ) (t : TrackedPacket) → In (n, t) ps → WasCarried took t.carried) → AreTracked sents e.tracking.packets → P e → P (after_named ps rises a e)
+  named_on [] rises a e was tracked i = i
+  named_on (p ∷ ps) rises a e was tracked i =
+      let o = measured rises a (p ∷ ps) in
+      let left : End = without_acked (p ∷ ps) a e in
+      let timed : End = sampled o a left in
+      let stay : AreTracked sents left.tracking.packets = (λ n t j. tracked n t (in_filter (λ q. not (names a q.0)) (n, t) e.tracking.packets j)) in
+      let rest : AreTracked sents timed.tracking.packets = subst (λ (x : Tracking). AreTracked sents x.packets) (sym (sampled_tracking o a left)) stay in
+      let acked : P left = s.tracked left.tracking (packets_acked (p ∷ ps) e) (packets_on (p ∷ ps) e was i) in
+      s.tracked (after_named (p ∷ ps) rises a e).tracking (losses_detected timed) (detected_on timed rest (sampled_on o a left acked))
+
+  -- losses that a timeout detects, where the clock may go on
+  pub expired_on : (e : End) (now : ℕ) → ((c : Closing) (x : End) → P x → P (with_closing x c)) → ((acks : Pending) (timers : Timers) (x : End) → P x → P (record x { acknowledging = acks; timers = timers })) → AreTracked sents e.tracking.packets → P e
+      → (acks : Pending) (timers : Timers) → P (at_losses e now acks timers)
+  expired_on e now passes times tracked i acks timers =
+      let begins : End = with_closing e (ticked e.closing now) in
+      times acks timers (losses_detected begins) (detected_on begins tracked (passes (ticked e.closing now) e i))
 
 -- ---- frames of a packet that an end takes
 
--- what holds over the frames of a packet: its ACK frames settle what they do, and its frames on streams leave them so
+-- what holds over the frames of a packet: its ACK frames settle what they do, its frames on streams leave them so, and its messages wait to be read
 pub record TakesOn (took : List Packet) (sents : List Sent) (frames : List FrameValue) (P : End → Type 0) : Type 0 where
   pub settles : SettlesOn took sents P
   -- the greatest number of an ACK frame counts
   pub names : (a : AckValue) (e : End) → In (ack a) frames → P e → P (named a e)
   pub on_streams : (f : FrameValue) (e : End) → In f frames → OnStreams f → P e → P (take_frame f e).end
+  pub message : (m : Messaging) (e : End) → P e → P (with_messages e m)
 
 -- a frame that is no ACK frame
 abbrev pub IsNoAck : FrameValue → Type 0
 IsNoAck (ack a) = ⊥
 IsNoAck f = Unit {0}
 
--- a frame is an ACK frame, or one on streams, or changes nothing
-pub by_frame : (f : FrameValue) (e : End) (Q : FrameValue → Progress → Type 0) → ((a : AckValue) → ack a ≡ f → Q (ack a) (ack_taken (nat_le e.numbers.next a.largest) a e)) → (IsNoAck f → OnStreams f → Q f (take_frame f e))
-    → (IsNoAck f → (take_frame f e).end ≡ e → Q f (take_frame f e)) → Q f (take_frame f e)
+-- a frame is an ACK frame, or one on streams, or changes nothing but messages
+pub by_frame : (f : FrameValue) (e : End) (Q : FrameValue → Progress → Type 0) → ((a : AckValue) → ack a ≡ f → Q (ack a) (ack_taken (names_ungiven a e) a e)) → (IsNoAck f → OnStreams f → Q f (take_frame f e))
+    → (IsNoAck f → (m : Messaging) → (take_frame f e).end ≡ with_messages e m → Q f (take_frame f e)) → Q f (take_frame f e)
 by_frame (ack a) e Q acks on same = acks a refl
 by_frame (stream f) e Q acks on same = on tt tt
 by_frame (reset_stream f) e Q acks on same = on tt tt
@@ -205,23 +247,23 @@ by_frame (max_stream_data f) e Q acks on same = on tt tt
 by_frame (max_streams f) e Q acks on same = on tt tt
 by_frame (stream_data_blocked f) e Q acks on same = on tt tt
 by_frame (streams_blocked f) e Q acks on same = on tt tt
-by_frame (new_token t) e Q acks on same = same tt refl
-by_frame handshake_done e Q acks on same = same tt refl
-by_frame f e Q acks on same = same tt refl
+by_frame (datagram m) e Q acks on same = same tt (take_message m e).end.messages (message_leaves (λ (x : End). x ≡ with_messages e x.messages) m e refl (λ left. refl))
+by_frame (new_token t) e Q acks on same = same tt e.messages refl
+by_frame handshake_done e Q acks on same = same tt e.messages refl
+by_frame f e Q acks on same = same tt e.messages refl
 
 module _ (took : List Packet) (sents : List Sent) (stands : Stands took sents) (frames : List FrameValue) (P : End → Type 0) (c : TakesOn took sents frames P) where
   -- an ACK frame, taken or refused
   ack_on : (b : Bool) (a : AckValue) (e : End) → In (ack a) frames → NamesTaken took a → AreTracked sents e.tracking.packets → P e → P (ack_taken b a e).end
   ack_on true a e among takes tracked i = i
   ack_on false a e among takes tracked i =
-      named_on took sents P c.settles (acked_by a e.tracking.packets) a (named a e) (named_carried took sents stands a e.tracking.packets takes tracked)
-      (lost_carried took sents stands a (cut_against (named a e).numbers) e.tracking.packets tracked) (c.names a e among i)
+      named_on took sents P c.settles (acked_by a e.tracking.packets) (is_above e.numbers.largest_acked a.largest) a (named a e) (named_carried took sents stands a e.tracking.packets takes tracked) tracked (c.names a e among i)
 
   -- one frame
   frame_on : (f : FrameValue) (e : End) → In f frames → ((a : AckValue) → In (ack a) frames → NamesTaken took a) → AreTracked sents e.tracking.packets → P e → P (take_frame f e).end
   frame_on f e among takes tracked i =
-      by_frame f e (λ g p. P p.end) (λ a is. (let there : In (ack a) frames = subst (λ (g : FrameValue). In g frames) (sym is) among in ack_on (nat_le e.numbers.next a.largest) a e there (takes a there) tracked i))
-      (λ other on. c.on_streams f e among on i) (λ other same. subst P (sym same) i)
+      by_frame f e (λ g p. P p.end) (λ a is. (let there : In (ack a) frames = subst (λ (g : FrameValue). In g frames) (sym is) among in ack_on (names_ungiven a e) a e there (takes a there) tracked i))
+      (λ other on. c.on_streams f e among on i) (λ other m same. subst P (sym same) (c.message m e i))
 
   -- what holds over such frames, while what is waited for was given
   record Going (left : List FrameValue) (e : End) : Type 0 where

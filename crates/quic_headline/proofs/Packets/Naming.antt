@@ -1,23 +1,22 @@
 -- ACK frames name numbers of packets that their giver took, and those alone are to be acknowledged.
-use Rattle.std.proofs.Common.{◌≡◌, ℕ, zero, suc, ◌+◌, ◌-◌, inl, inr, Bool, true, false, nat_le, ◌&&◌, ◌||◌, nat_lt, List, [], ◌∷◌, ◌++◌, length, replicate, refl, sym, ap, ◌∙◌, subst}
-use Rattle.std.specs.Prelude.{if◌then◌else◌}
+use Rattle.std.proofs.Common.{◌≡◌, ℕ, zero, suc, ◌+◌, ◌-◌, inl, inr, Bool, true, false, nat_le, ◌&&◌, ◌||◌, List, [], ◌∷◌, ◌++◌, length, replicate, refl, sym, ap, ◌∙◌, subst, arith}
 use Rattle.std.specs.List.{list_any}
-use Rattle.std.proofs.lemmas.Bool.{leb-true, and_parts}
+use Rattle.std.proofs.lemmas.Bool.{leb-true, le-leb, and_parts}
 use Rattle.std.proofs.lemmas.List.{append-nil}
 use Rattle.quic_sets.specs.Runs.{Run, Has}
 use Rattle.quic_packet.specs.Number.{truncated}
-use Rattle.quic_wire.specs.Value.{FrameValue, AckValue, ack, stream, ping, padding}
-use Rattle.quic_wire.specs.AckGrammar.{InRanges}
+use Rattle.quic_wire.specs.Value.{FrameValue, AckValue, ack, stream, datagram, ping, padding}
+use Rattle.quic_wire.specs.Grammar.{Payload}
+use Rattle.quic_wire.specs.AckGrammar.{InRanges, GoDown}
 use Rattle.quic_wire.specs.AckSet.{ranges_of_set}
 use Rattle.quic_wire.proofs.AckSet.{set_numbers}
 use Rattle.quic_recovery_core.specs.PendingAcks.{Pending}
 use Rattle.quic_machine.specs.declared.run.Call.{Call}
 use Rattle.quic_machine.specs.declared.run.Call.TheVariants as calls
 use Rattle.quic_machine.specs.declared.run.Answer.{Answer}
-use Rattle.quic_machine.specs.Closing.{ticked}
-use Rattle.quic_machine.specs.Numbers.{cut_against}
-use Rattle.quic_machine.specs.End.{End, with_closing, with_ping}
-use Rattle.quic_machine.specs.Poll.{Draft, ack_of, composed}
+use Rattle.quic_spaces.specs.Numbers.{cut_against}
+use Rattle.quic_machine.specs.End.{End, number_of}
+use Rattle.quic_machine.specs.Poll.{Draft, ack_of, composed, lazied}
 use Rattle.quic_streams_parts.specs.SendHalf.{frame_of}
 use Rattle.quic_headline.proofs.Packets.Entries.{IsControl, entry_control}
 use Rattle.quic_headline.specs.Runs.{Packet, Intake, In, names}
@@ -28,6 +27,7 @@ use Rattle.quic_headline.proofs.Packets.Invariant.{SentAs, NameTaken, WereSent, 
 use Rattle.quic_headline.proofs.Packets.Growth.{in_more}
 use Rattle.quic_machine.specs.PollCases.{ready_at, frames_at}
 use Rattle.quic_headline.proofs.Packets.Delivered.{Arrivals}
+use Rattle.quic_headline.proofs.Packets.Probes.{ready_acks}
 use Rattle.quic_headline.proofs.Places.Parties.{sent_by, sent_if, sents_by}
 use Rattle.quic_headline.proofs.Places.Told.{in_left}
 
@@ -42,6 +42,29 @@ in_ranges (r ∷ ranges) k named = go (nat_le r.0 k && nat_le k r.1) refl named 
         → (list_any (λ x. nat_le x.0 k && nat_le k x.1) ranges ≡ true → InRanges ranges k) → InRanges (r ∷ ranges) k
     go true is named behind = let parts = and_parts (nat_le r.0 k) (nat_le k r.1) is in inl (leb-true r.0 k parts.0, leb-true k r.1 parts.1)
     go false is named behind = inr (behind named)
+
+-- the ranges of each ACK frame of a payload go down from its greatest number
+acks_go_down : (fs : List FrameValue) (payload : List ℕ) (a : AckValue) → Payload fs payload → In (ack a) fs → GoDown a.largest a.ranges
+acks_go_down [] payload a spells i = absurd i
+acks_go_down (f ∷ fs) payload a spells (inl is) = here f is spells
+  where
+    here : (f : FrameValue) → ack a ≡ f → Payload (f ∷ fs) payload → GoDown a.largest a.ranges
+    here (ack b) is spells = let same : a ≡ b = cc in rw same spells.2.0
+    here f is spells = cc
+acks_go_down (f ∷ fs) payload a spells (inr i) = acks_go_down fs spells.1 a spells.3 i
+
+-- so the greatest is in one of them
+greatest_in : (a : AckValue) (ranges : List (ℕ × ℕ)) → GoDown a.largest ranges → list_any (λ r. nat_le r.0 a.largest && nat_le a.largest r.1) ranges ≡ true
+greatest_in a [] down = absurd down
+greatest_in a (r ∷ rs) down =
+    let top = down.1 in
+    let low : nat_le r.0 a.largest ≡ true = le-leb r.0 a.largest (let order = down.0 in omega arith) in
+    let high : nat_le a.largest r.1 ≡ true = le-leb a.largest r.1 (omega arith) in
+    rw (low, high) refl
+
+-- and so each ACK frame of a payload names its greatest number
+pub greatest_named : (fs : List FrameValue) (payload : List ℕ) (a : AckValue) → Payload fs payload → In (ack a) fs → names a a.largest ≡ true
+greatest_named fs payload a spells i = greatest_in a a.ranges (acks_go_down fs payload a spells i)
 
 -- ---- the ACK frames of a draft
 
@@ -72,6 +95,7 @@ composed_acknowledges e = by_writing (Acknowledges e.acknowledging.runs) (record
   ping = λ d k. record { frames = ack_more e.acknowledging.runs d.frames ping k.frames (λ a is. cc); same = k.same };
   drops = λ d kind k. record { frames = k.frames; same = k.same };
   control = λ d kind entry es f is goes k. record { frames = ack_more e.acknowledging.runs d.frames f k.frames (λ a ack_is. absurd (no_ack f a (entry_control kind d.end.waiting.frames entry es d.end.streams f is goes) ack_is)); same = k.same };
+  message = λ d m ms is fit k. record { frames = ack_more e.acknowledging.runs d.frames (datagram m) k.frames (λ a is. cc); same = k.same };
   stream = λ d id h room found first some is counts k. record { frames = ack_more e.acknowledging.runs d.frames (stream (frame_of id h room)) k.frames (λ a is. cc); same = k.same };
 }) e (record { frames = λ a i. absurd i; same = refl })
 
@@ -83,24 +107,13 @@ ack_zeros runs [] (suc count) all a (inr i) = ack_zeros runs [] count (λ b j. a
 ack_zeros runs (f ∷ frames) count all a (inl is) = all a (inl is)
 ack_zeros runs (f ∷ frames) count all a (inr i) = ack_zeros runs frames count (λ b j. all b (inr j)) a i
 
--- a moment that passes and a probe that waits leave what is to be acknowledged
-ready_acks : (e : End) (now : ℕ) → (ready_at e now).acknowledging ≡ e.acknowledging
-ready_acks e now = go (nat_lt 0 e.tracking.probes)
-  where
-    after : End
-    after = with_closing e (ticked e.closing now)
-
-    go : (b : Bool) → (if b then with_ping after true else after).acknowledging ≡ e.acknowledging
-    go true = refl
-    go false = refl
-
 -- a number that an ACK frame names is one that its giver has to acknowledge
 pub names_kept : (e : End) (now : ℕ) (a : AckValue) (k : ℕ) → Acks e.acknowledging → In (ack a) (frames_at e now) → names a k ≡ true → Has e.acknowledging.runs k
 names_kept e now a k acks i named =
-    let ready = ready_at e now in
+    let ready = lazied (ready_at e now) in
     let d = composed ready in
     let acknowledges = composed_acknowledges ready in
-    let count : ℕ = 4 - ((truncated d.end.numbers.next (cut_against d.end.numbers)).width + length d.bytes) in
+    let count : ℕ = 4 - ((truncated (number_of d.end) (cut_against d.end.numbers)).width + length d.bytes) in
     let ranges : a.ranges ≡ ranges_of_set ready.acknowledging.runs = ack_zeros ready.acknowledging.runs d.frames count acknowledges.frames a i in
     let same : a.ranges ≡ ranges_of_set e.acknowledging.runs = ranges ∙ ap (λ (p : Pending). ranges_of_set p.runs) (ready_acks e now) in
     (set_numbers e.acknowledging.runs k acks.runs.runs).1 (subst (λ (rs : List (ℕ × ℕ)). InRanges rs k) same (in_ranges a.ranges k named))

@@ -6,12 +6,13 @@ use Rattle.quic_headline.specs.Observer.{Sent, next_number}
 use Rattle.quic_headline.specs.Headline.{Rise}
 use Rattle.quic_headline.proofs.Packets.Invariant.{InStep, RisingFrom, IsSent}
 
--- one more, with a number above all
-pub rising_push : (low : ℕ) (sents : List Sent) (s : Sent) → RisingFrom low sents → low ≤ s.number → ((t : Sent) → In t sents → t.number < s.number) → RisingFrom low (sents ++ s ∷ [])
-rising_push low [] s rising le above = (le, tt)
-rising_push low (t ∷ sents) s rising le above =
+-- one more, with a number above all, of which at most one is left out before it
+pub rising_push : (low : ℕ) (sents : List Sent) (s : Sent) → RisingFrom low sents → low ≤ s.number → s.number ≤ max low (next_number sents) + 1 → ((t : Sent) → In t sents → t.number < s.number) → RisingFrom low (sents ++ s ∷ [])
+rising_push low [] s rising le near above = (le, omega arith, tt)
+rising_push low (t ∷ sents) s rising le near above =
     let here = above t (inl refl) in
-    (rising.0, rising_push (t.number + 1) sents s rising.1 (omega arith) (λ u i. above u (inr i)))
+    let first = rising.0 in
+    (first, rising.1, rising_push (t.number + 1) sents s rising.2 (omega arith) (omega arith) (λ u i. above u (inr i)))
 
 -- the number that goes behind one more
 pub next_push : (sents : List Sent) (s : Sent) → next_number (sents ++ s ∷ []) ≡ max (next_number sents) (s.number + 1)
@@ -26,7 +27,7 @@ rising_from low [] s rising i = absurd i
 rising_from low (t ∷ sents) s rising (inl is) = rw is rising.0
 rising_from low (t ∷ sents) s rising (inr i) =
     let first = rising.0 in
-    let later = rising_from (t.number + 1) sents s rising.1 i in
+    let later = rising_from (t.number + 1) sents s rising.2 i in
     omega arith
 
 -- two of the same number are one
@@ -34,20 +35,20 @@ pub one_number : (low : ℕ) (sents : List Sent) (s t : Sent) → RisingFrom low
 one_number low [] s t rising i j same = absurd i
 one_number low (u ∷ sents) s t rising (inl i) (inl j) same = i ∙ sym j
 one_number low (u ∷ sents) s t rising (inl i) (inr j) same =
-    let later = rising_from (u.number + 1) sents t rising.1 j in
+    let later = rising_from (u.number + 1) sents t rising.2 j in
     let here : s.number ≡ u.number = rw i refl in
     absurd (omega arith)
 one_number low (u ∷ sents) s t rising (inr i) (inl j) same =
-    let later = rising_from (u.number + 1) sents s rising.1 i in
+    let later = rising_from (u.number + 1) sents s rising.2 i in
     let here : t.number ≡ u.number = rw j refl in
     absurd (omega arith)
-one_number low (u ∷ sents) s t rising (inr i) (inr j) same = one_number (u.number + 1) sents s t rising.1 i j same
+one_number low (u ∷ sents) s t rising (inr i) (inr j) same = one_number (u.number + 1) sents s t rising.2 i j same
 
 -- the datagrams given are those of numbers that rise
 pub rise : (p : Policy) (id : List ℕ) (low : ℕ) (sents : List Sent) (ds : List (List ℕ)) → RisingFrom low sents → InStep (IsSent p id) sents ds → Rise p id low (map (λ s. s.reference) sents) ds
 rise p id low [] [] rising all = tt
 rise p id low (s ∷ sents) (d ∷ ds) rising all =
     let g = all.0 in
-    (s.number, rising.0, record { frames = s.frames; is = record { payload = g.payload; spells = g.spells; is = g.is } }, rise p id (s.number + 1) sents ds rising.1 all.1)
+    (s.number, rising.0, rising.1, record { frames = s.frames; is = record { payload = g.payload; spells = g.spells; is = g.is } }, rise p id (s.number + 1) sents ds rising.2 all.1)
 rise p id low [] (d ∷ ds) rising all = absurd all
 rise p id low (s ∷ sents) [] rising all = absurd all

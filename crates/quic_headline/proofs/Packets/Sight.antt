@@ -1,5 +1,5 @@
 -- What the observer of an end knows at each place: what is left to be given, how what went was sent, and what the end waits for.
-use Rattle.std.proofs.Common.{◌≡◌, ℕ, ◌<◌, Bool, true, false, List, [], ◌∷◌, ◌++◌, Option, Some, refl, sym, ap, ◌∙◌, subst}
+use Rattle.std.proofs.Common.{arith, ◌≡◌, ℕ, Bool, true, false, List, [], ◌∷◌, ◌++◌, Option, Some, refl, sym, ap, ◌∙◌, subst}
 use Rattle.std.proofs.lemmas.List.{append-nil, append_assoc}
 use Rattle.quic_machine.specs.declared.answers.State.{State}
 use Rattle.quic_machine.specs.declared.answers.State.TheVariants as states
@@ -9,22 +9,23 @@ use Rattle.quic_machine.specs.declared.run.Answer.{Answer}
 use Rattle.quic_machine.specs.declared.run.Answer.TheVariants as answers
 use Rattle.quic_machine.specs.declared.run.Delivery.{Delivery}
 use Rattle.quic_machine.specs.Policy.{Policy}
-use Rattle.quic_machine.specs.Numbers.{cut_against}
-use Rattle.quic_machine.specs.Tracking.{TrackedPacket}
+use Rattle.quic_spaces.specs.Numbers.{cut_against}
 use Rattle.quic_machine.specs.End.{End}
 use Rattle.quic_machine.specs.Receive.{Outcome}
-use Rattle.quic_machine.specs.Poll.{Polled, composed, datagram_of, polled}
+use Rattle.quic_machine.specs.Poll.{Polled, composed, datagram_of, lazied, polled}
 use Rattle.quic_machine.specs.Machine.{IsAnswer, after_call, gives, fails, gave}
 use Rattle.quic_machine.specs.CallCases.{is_delivery, is_poll, is_timeout}
 use Rattle.quic_machine.specs.PollCases.{at_moment, given_as, gives_as, by_poll}
-use Rattle.quic_headline.specs.Runs.{Told, Intake, In, acknowledged, and_told}
-use Rattle.quic_headline.specs.Observer.{Sent, Watch, first_watch, clock_behind, watch_told, watch_given}
-use Rattle.quic_headline.proofs.Packets.Invariant.{InStep, IsSent, AreTracked, Gives}
+use Rattle.quic_headline.specs.Runs.{Told, Intake, acknowledged, and_told}
+use Rattle.quic_headline.specs.Observer.{Sent, terms_of, no_flight, Watch, first_watch, clock_behind, watch_told, watch_given, watch_moment}
+use Rattle.quic_headline.proofs.Packets.Invariant.{InStep, IsSent, Gives}
 use Rattle.quic_headline.proofs.Packets.Intakes.{folded_more}
 use Rattle.quic_headline.proofs.Packets.Delivered.{Arrivals}
-use Rattle.quic_headline.proofs.Packets.Watching.{IsWatched, watched_intake, came_with, none_comes, told_quiet, told_left, told_own, with_delivery, nothing_delivered, arrivals_watched, poll_watched, timeout_watched, no_moment, leaves_call, leaves_watched, open_named}
+use Rattle.quic_headline.proofs.Packets.Watching.{IsWatched, watched_intake, came_with, timed_with, untimely, none_comes, told_timed, told_quiet, told_left, told_own, with_delivery, nothing_delivered, arrivals_watched, poll_watched, timeout_watched, no_moment, leaves_call, leaves_watched, open_named}
+use Rattle.quic_headline.proofs.Packets.Flying.{Waits, held}
+use Rattle.quic_headline.proofs.Timers.LossTimers.{LossStands, call_stands}
 use Rattle.quic_headline.proofs.Places.Steps.{gives_count, only_polls_give, poll_answer}
-use Rattle.quic_headline.proofs.Places.Parties.{sent_by, sent_if, sents_by, told_of, Party, called, came_to, lens, watch_of, AreJoined, Beginning, begun_as}
+use Rattle.quic_headline.proofs.Places.Parties.{sent_by, sent_if, sents_by, told_of, Party, called, came_to, lens, watch_of, AreJoined, Beginning, new_as, begun_as}
 use Rattle.quic_headline.proofs.Places.Groups.{Group}
 use Rattle.quic_headline.proofs.Places.Coming.{Meets, came_more, by_coming}
 use Rattle.quic_headline.proofs.Packets.Group.{PacketsHold, meets}
@@ -38,11 +39,19 @@ pub record Sight (x y : Party) : Type 0 where
   -- how what went was sent
   pub own : (watch_of x y).own ≡ x.sents
   -- what the end waits for, and its clock
-  pub watched : IsWatched (watch_of x y) x.end
+  pub watched : IsWatched x.terms (watch_of x y) x.end
+  -- what it tracks, and its timer of losses
+  pub stands : LossStands x.end
 
 -- before the first call
 pub sight_first : (x y : Beginning) → Sight (begun_as x y) (begun_as y x)
-sight_first x y = record { left = λ rest whole. sym whole; own = refl; watched = record { path = refl; clock = λ opened. refl; flight = λ opened. record { named = refl; waits = refl } } }
+sight_first x y = record { left = λ rest whole. sym whole; own = refl; watched = record { path = refl; flight = λ opened. first }; stands = λ opened. record { stands = record { lies = omega arith; asked = λ p i asks. absurd i; late = λ there. cc }; set = refl } }
+  where
+    e : End
+    e = new_as x y
+
+    first : Waits (terms_of e) x.making.moment (no_flight e.transport.initial_rtt) (held e)
+    first = record { tells = record { terms = refl; clock = refl; named = refl; waits = tt; asked = refl; rtt = refl }; loss_time = refl; expiries = refl }
 
 -- ---- what a poll gives
 
@@ -62,25 +71,21 @@ poll_gives : (p : Policy) (e : End) (now : ℕ) (d : List ℕ) → (polled p e n
 poll_gives p e now d = by_poll p e now (λ (r : Polled). r.datagram ≡ Some d → IsGivenBy r d) (record {
   silent = λ is. cc;
   failed = λ is. cc;
-  idle = λ pings is. cc;
-  used_up = λ pings is. cc;
-  gives = λ pings tracking timers s n w r is. (let same : datagram_of p (composed (at_moment e now pings)) ≡ d = cc in record { gave = refl; given = ap (λ (x : List ℕ). x ∷ []) same });
+  idle = λ t w ready is. cc;
+  used_up = λ t w ready is. cc;
+  gives = λ t w tracking timers s n goes ready is. (let same : datagram_of p (composed (lazied (at_moment e now t w))) ≡ d = cc in record { gave = refl; given = ap (λ (x : List ℕ). x ∷ []) same });
 })
 
 -- ---- any call
 
-module _ (x y : Party) (joined : AreJoined x y) (meets : Meets y x) (gives_before : Gives x.policy y.id x.end.numbers x.sents x.given) (tracked : AreTracked x.sents x.end.tracking.packets) (sight : Sight x y) where
+module _ (x y : Party) (joined : AreJoined x y) (meets : Meets y x) (gives_before : Gives x.policy y.id x.end.numbers x.end.filter.last x.sents x.given) (sight : Sight x y) where
   -- what the observer knows before the call
   abbrev pub seen : Watch
   seen = watch_of x y
 
   -- what came to the end, as the observer has it
   seen_intake : seen.intake ≡ came_to x y
-  seen_intake = watched_intake (lens x y) x.told (first_watch (x.id ∷ []) x.final x.began)
-
-  -- what waits for an acknowledgement has a lower number than what goes next
-  tracked_below : (n : ℕ) (t : TrackedPacket) → In (n, t) x.end.tracking.packets → n < x.end.numbers.next
-  tracked_below n t i = let s = tracked n t i in subst (λ (m : ℕ). m < x.end.numbers.next) s.1.1 (gives_before.below s.0 s.1.0)
+  seen_intake = watched_intake (lens x y) x.told (first_watch (x.id ∷ []) x.final x.began x.initial_rtt)
 
   -- what it knows behind the call
   abbrev pub after_told : Call → Answer → Watch
@@ -89,7 +94,7 @@ module _ (x y : Party) (joined : AreJoined x y) (meets : Meets y x) (gives_befor
   -- what was given more, and what the end waits for
   pub record KnowsOn (call : Call) (a : Answer) : Type 0 where
     pub own : (after_told call a).own ≡ seen.own ++ sents_by x.end call a
-    pub watched : IsWatched (after_told call a) (after_call x.policy x.end y.given call a)
+    pub watched : IsWatched x.terms (after_told call a) (after_call x.policy x.end y.given call a)
 
   -- a call that is no poll gives nothing
   none_more : (call : Call) (a : Answer) → is_poll call ≡ false → IsAnswer x.policy x.end y.given call a → (after_told call a).own ≡ seen.own ++ sents_by x.end call a
@@ -101,32 +106,33 @@ module _ (x y : Party) (joined : AreJoined x y) (meets : Meets y x) (gives_befor
       none_sent call silent = refl
 
   -- a delivery
-  delivery_seen : (delivery : Delivery) (a : Answer) → IsAnswer x.policy x.end y.given (calls.Deliver delivery) a → fails a ≡ false → IsWatched (after_told (calls.Deliver delivery) a) (after_call x.policy x.end y.given (calls.Deliver delivery) a)
+  delivery_seen : (delivery : Delivery) (a : Answer) → IsAnswer x.policy x.end y.given (calls.Deliver delivery) a → fails a ≡ false → IsWatched x.terms (after_told (calls.Deliver delivery) a) (after_call x.policy x.end y.given (calls.Deliver delivery) a)
   delivery_seen delivery a is served =
       let state : State = x.end.closing.state in
       let call : Call = calls.Deliver delivery in
       let after : End = after_call x.policy x.end y.given call a in
-      let came : IsWatched (with_delivery seen state delivery (came_to (called x y.given call a) y)) after = by_coming x y a joined served meets (λ (e : End) (i : Intake). IsWatched (with_delivery seen state delivery i) e) call is (record {
+      let came : IsWatched x.terms (with_delivery x.terms seen state delivery (came_to (called x y.given call a) y)) after = by_coming x y a joined served meets (λ (e : End) (i : Intake). IsWatched x.terms (with_delivery x.terms seen state delivery i) e) call is (record {
         apart = λ apart. cc;
         none = λ other same. there other same;
         comes = λ other same s among. comes other same s;
       }) in
       let intake : came_to (called x y.given call a) y ≡ and_told x.policy y.final (told_of call a state) seen.intake =
       came_more x y call a ∙ ap (λ (i : Intake). and_told x.policy y.final (told_of call a state) i) (sym seen_intake) in
-      subst (λ (w : Watch). IsWatched w after) (sym (ap (λ (b : Bool). watch_given b (lens x y) (came_with (lens x y) (told_of call a state) seen)) (only_polls_give x.policy x.end y.given call a refl is)))
-      (subst (λ (i : Intake). IsWatched (with_delivery seen state delivery i) after) intake came)
+      subst (λ (w : Watch). IsWatched x.terms w after) (sym (ap (λ (b : Bool). watch_given b (lens x y) (timed_with (lens x y) (told_of call a state) seen)) (only_polls_give x.policy x.end y.given call a refl is)
+      ∙ ap (λ (b : Bool). watch_moment b x.terms (came_with (lens x y) (told_of call a state) seen)) (untimely state call refl)))
+      (subst (λ (i : Intake). IsWatched x.terms (with_delivery x.terms seen state delivery i) after) intake came)
     where
-      there : (other : Delivery) → calls.Deliver delivery ≡ calls.Deliver other → IsWatched (with_delivery seen x.end.closing.state delivery (came_to x y)) x.end
+      there : (other : Delivery) → calls.Deliver delivery ≡ calls.Deliver other → IsWatched x.terms (with_delivery x.terms seen x.end.closing.state delivery (came_to x y)) x.end
       there other same =
-          subst (λ (i : Intake). IsWatched (with_delivery seen x.end.closing.state delivery i) x.end) seen_intake
-          (subst (λ (w : Watch). IsWatched w x.end) (sym (nothing_delivered seen x.end.closing.state delivery)) sight.watched)
+          subst (λ (i : Intake). IsWatched x.terms (with_delivery x.terms seen x.end.closing.state delivery i) x.end) seen_intake
+          (subst (λ (w : Watch). IsWatched x.terms w x.end) (sym (nothing_delivered x.terms seen x.end.closing.state delivery)) sight.watched)
 
-      comes : (other : Delivery) → calls.Deliver delivery ≡ calls.Deliver other → (s : Sent) → Arrivals x.end other.now s.number s.frames (came_to x y) (λ (o : Outcome) (i : Intake). IsWatched (with_delivery seen x.end.closing.state delivery i) o.end)
+      comes : (other : Delivery) → calls.Deliver delivery ≡ calls.Deliver other → (s : Sent) → Arrivals x.end other.now s.number s.frames (came_to x y) (λ (o : Outcome) (i : Intake). IsWatched x.terms (with_delivery x.terms seen x.end.closing.state delivery i) o.end)
       comes other same s =
           let is : delivery ≡ other = cc in
-          subst (λ (d : Delivery). Arrivals x.end d.now s.number s.frames (came_to x y) (λ (o : Outcome) (i : Intake). IsWatched (with_delivery seen x.end.closing.state delivery i) o.end)) is
-          (subst (λ (j : Intake). Arrivals x.end delivery.now s.number s.frames j (λ (o : Outcome) (i : Intake). IsWatched (with_delivery seen x.end.closing.state delivery i) o.end)) seen_intake
-          (arrivals_watched seen x.end delivery s.number s.frames sight.watched))
+          subst (λ (d : Delivery). Arrivals x.end d.now s.number s.frames (came_to x y) (λ (o : Outcome) (i : Intake). IsWatched x.terms (with_delivery x.terms seen x.end.closing.state delivery i) o.end)) is
+          (subst (λ (j : Intake). Arrivals x.end delivery.now s.number s.frames j (λ (o : Outcome) (i : Intake). IsWatched x.terms (with_delivery x.terms seen x.end.closing.state delivery i) o.end)) seen_intake
+          (arrivals_watched x.terms seen x.end delivery s.number s.frames sight.watched))
 
   -- one that is neither a delivery nor a poll nor a timeout leaves what is watched
   quiet_seen : (call : Call) (a : Answer) → is_delivery call ≡ false → is_poll call ≡ false → is_timeout call ≡ false → IsAnswer x.policy x.end y.given call a → KnowsOn call a
@@ -134,17 +140,17 @@ module _ (x y : Party) (joined : AreJoined x y) (meets : Meets y x) (gives_befor
       let t : Told = told_of call a x.end.closing.state in
       record {
         own = none_more call a silent is;
-        watched = subst (λ (v : Watch). IsWatched v (after_call x.policy x.end y.given call a))
-            (sym (told_quiet (lens x y) t seen (only_polls_give x.policy x.end y.given call a silent is) (none_comes (lens x y) t seen.intake apart) ∙ ap (λ (m : Option ℕ). record seen { clock = clock_behind seen.clock m }) (no_moment x.end.closing.state call apart silent other)))
-            (leaves_watched seen x.end (after_call x.policy x.end y.given call a) (leaves_call x.policy x.end y.given call a apart silent other) sight.watched);
+        watched = subst (λ (v : Watch). IsWatched x.terms v (after_call x.policy x.end y.given call a))
+            (sym (told_quiet (lens x y) t seen other (only_polls_give x.policy x.end y.given call a silent is) (none_comes (lens x y) t seen.intake apart) ∙ ap (λ (m : Option ℕ). record seen { clock = clock_behind seen.clock m }) (no_moment x.end.closing.state call apart silent other)))
+            (leaves_watched x.terms seen x.end (after_call x.policy x.end y.given call a) (leaves_call x.policy x.end y.given call a apart silent other) sight.watched);
       }
 
   -- a timeout
-  timeout_seen : (now : ℕ) (a : Answer) → IsAnswer x.policy x.end y.given (calls.Timeout now) a → IsWatched (after_told (calls.Timeout now) a) (after_call x.policy x.end y.given (calls.Timeout now) a)
+  timeout_seen : (now : ℕ) (a : Answer) → IsAnswer x.policy x.end y.given (calls.Timeout now) a → IsWatched x.terms (after_told (calls.Timeout now) a) (after_call x.policy x.end y.given (calls.Timeout now) a)
   timeout_seen now a is =
       let t : Told = told_of (calls.Timeout now) a x.end.closing.state in
-      subst (λ (v : Watch). IsWatched v (after_call x.policy x.end y.given (calls.Timeout now) a)) (sym (told_quiet (lens x y) t seen (only_polls_give x.policy x.end y.given (calls.Timeout now) a refl is) (none_comes (lens x y) t seen.intake refl)))
-      (timeout_watched seen x.end now sight.watched)
+      subst (λ (v : Watch). IsWatched x.terms v (after_call x.policy x.end y.given (calls.Timeout now) a)) (sym (told_timed (lens x y) t seen (only_polls_give x.policy x.end y.given (calls.Timeout now) a refl is) (none_comes (lens x y) t seen.intake refl)))
+      (timeout_watched x.terms seen x.end now sight.stands sight.watched)
 
   -- what a poll gives was sent so, where it holds behind the call of all that was given
   gives_at : (now : ℕ) → InStep (IsSent x.policy y.id) (x.sents ++ sents_by x.end (calls.Poll now) (answers.Poll (polled x.policy x.end now).answer)) (x.given ++ gives x.policy x.end (calls.Poll now) (answers.Poll (polled x.policy x.end now).answer))
@@ -173,7 +179,7 @@ module _ (x y : Party) (joined : AreJoined x y) (meets : Meets y x) (gives_befor
       goes_on : InStep (IsSent x.policy y.id) (x.sents ++ sents_by x.end (calls.Poll now) (answers.Poll (polled x.policy x.end now).answer)) (x.given ++ gives x.policy x.end (calls.Poll now) (answers.Poll (polled x.policy x.end now).answer))
           → seen.left ≡ given_as (polled x.policy x.end now).answer (polled x.policy x.end now).datagram ++ rest → fails (answers.Poll (polled x.policy x.end now).answer) ≡ false → KnowsOn (calls.Poll now) (answers.Poll (polled x.policy x.end now).answer)
       goes_on all whole ok =
-          let on = poll_watched (lens x y) y.id rest joined.to_y joined.y_long x.end seen gives_before.behind tracked_below knows sight.watched now ok (λ d has. gives_at now all d has) whole in
+          let on = poll_watched (lens x y) y.id rest joined.x_lawful joined.to_y joined.y_long x.end seen gives_before.behind sight.stands knows sight.watched now ok (λ d has. gives_at now all d has) whole in
           record { own = on.0; watched = on.1 }
 
   -- after any call the observer knows what the end knows
@@ -189,7 +195,7 @@ module _ (x y : Party) (joined : AreJoined x y) (meets : Meets y x) (gives_befor
       → (rest : List (List ℕ)) × ((x.given ++ gives x.policy x.end call a) ++ rest ≡ x.final) → Sight (called x y.given call a) y
   sight_step call a is served behind more =
       let t : Told = told_of call a x.end.closing.state in
-      let first : Watch = first_watch (x.id ∷ []) x.final x.began in
+      let first : Watch = first_watch (x.id ∷ []) x.final x.began x.initial_rtt in
       let after : watch_of (called x y.given call a) y ≡ after_told call a = folded_more (watch_told (lens x y)) x.told t first in
       let before : (rest : List (List ℕ)) → (x.given ++ gives x.policy x.end call a) ++ rest ≡ x.final → seen.left ≡ gives x.policy x.end call a ++ rest =
       λ rest whole. sight.left (gives x.policy x.end call a ++ rest) (sym (append_assoc x.given (gives x.policy x.end call a) rest) ∙ whole) in
@@ -197,7 +203,8 @@ module _ (x y : Party) (joined : AreJoined x y) (meets : Meets y x) (gives_befor
       record {
         left = λ rest whole. ap (λ (w : Watch). w.left) after ∙ told_left (lens x y) t seen (gives x.policy x.end call a) rest (gave a) refl (gives_count x.policy x.end y.given call a is) (before rest whole);
         own = ap (λ (w : Watch). w.own) after ∙ knows.own ∙ ap (λ (ss : List Sent). ss ++ sents_by x.end call a) sight.own;
-        watched = subst (λ (w : Watch). IsWatched w (after_call x.policy x.end y.given call a)) (sym after) knows.watched;
+        watched = subst (λ (w : Watch). IsWatched x.terms w (after_call x.policy x.end y.given call a)) (sym after) knows.watched;
+        stands = call_stands x.policy x.end y.given call a sight.stands;
       }
 
 -- ---- the group
@@ -206,6 +213,6 @@ module _ (x y : Party) (joined : AreJoined x y) (meets : Meets y x) (gives_befor
 pub sight_group : Group PacketsHold Sight
 sight_group = record {
   first = λ x y m there here. sight_first x y;
-  writer = λ x y call a c sight back. sight_step x y c.joined (meets y x c.takes) c.gives.gives c.gives.tracked sight call a c.answer c.served c.gives_behind.gives.each c.joined_behind.x_more;
-  reader = λ x y call a c sight back. record { left = back.left; own = back.own; watched = back.watched };
+  writer = λ x y call a c sight back. sight_step x y c.joined (meets y x c.takes) c.gives.gives sight call a c.answer c.served c.gives_behind.gives.each c.joined_behind.x_more;
+  reader = λ x y call a c sight back. record { left = back.left; own = back.own; watched = back.watched; stands = back.stands };
 }

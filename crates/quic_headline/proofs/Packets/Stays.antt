@@ -1,24 +1,30 @@
 -- What a delivery leaves as it was, whatever its frames say: ids, path and clock, the next number to give, and what is still to acknowledge.
 use Rattle.std.proofs.Common.{◌≡◌, ℕ, Bool, true, false, List, [], ◌∷◌, Option, Some, None, refl, sym, ap, ◌∙◌, subst, arith}
 use Rattle.std.specs.Prelude.{max, nat_le, unwrap_or}
-use Rattle.std.proofs.lemmas.Bool.{leb-false}
+use Rattle.std.proofs.lemmas.Bool.{leb-false, or_parts}
 use Rattle.quic_sets.specs.Runs.{Has}
-use Rattle.quic_wire.specs.Value.{FrameValue, AckValue, ack}
+use Rattle.quic_wire.specs.Value.{FrameValue, AckValue, ack, datagram}
 use Rattle.quic_recovery_core.specs.PendingAcks.{Pending, after_subtract}
 use Rattle.quic_recovery_core.proofs.AckRunSteps.{above_kept, in_above}
 use Rattle.quic_machine.specs.declared.run.Call.{Call}
 use Rattle.quic_machine.specs.declared.run.Call.TheVariants as calls
 use Rattle.quic_machine.specs.declared.run.Answer.{Answer}
-use Rattle.quic_machine.specs.Numbers.{Numbers, cut_against, greatest_of}
+use Rattle.quic_spaces.specs.Numbers.{Numbers, cut_against, greatest_of}
 use Rattle.quic_machine.specs.Parts.{Path}
 use Rattle.quic_machine.specs.Policy.{Policy}
-use Rattle.quic_machine.specs.End.{End}
-use Rattle.quic_machine.specs.Acked.{after_acked}
-use Rattle.quic_machine.specs.Receive.{take_frame, received}
-use Rattle.quic_machine.specs.Poll.{Polled}
+use Rattle.quic_parameters.specs.Parameters.{ParameterValues}
+use Rattle.quic_config.specs.Transport.{TransportSettings}
+use Rattle.quic_time.specs.Timers.{Timers}
+use Rattle.quic_spaces.specs.Filter.{Filter}
+use Rattle.quic_machine.specs.Ids.{Ids}
+use Rattle.quic_machine.specs.Closing.{Closing, ticked}
+use Rattle.quic_machine.specs.End.{End, with_closing}
+use Rattle.quic_machine.specs.Acked.{losses_detected, after_acked}
+use Rattle.quic_machine.specs.Receive.{is_above, names_ungiven, take_frame, received}
+use Rattle.quic_machine.specs.Poll.{Polled, lazied}
 use Rattle.quic_machine.specs.Machine.{after_call}
-use Rattle.quic_machine.specs.FrameCases.{named, ack_taken, passed, acked_keeps, frame_keeps, frame_leaves, frames_keep, frames_taken, by_received}
-use Rattle.quic_machine.specs.LeaveCases.{by_expired}
+use Rattle.quic_machine.specs.FrameCases.{Settling, losses_keep, named, ack_taken, passed, acked_keeps, message_leaves, frame_keeps, frame_leaves, frames_keep, frames_taken, by_received}
+use Rattle.quic_machine.specs.LeaveCases.{at_timeout, at_losses, at_event, by_expired}
 use Rattle.quic_machine.specs.PollCases.{at_moment, by_poll, composes}
 use Rattle.quic_machine.specs.CallCases.{is_poll, by_plain_call}
 use Rattle.quic_headline.specs.Runs.{acknowledged_in}
@@ -30,50 +36,118 @@ use Rattle.quic_headline.proofs.Packets.Invariant.{IsBehind, Acks}
 acks_above : (p : Pending) (n : ℕ) → Acks p → Acks (after_subtract p n)
 acks_above p n acks = record { runs = above_kept p.runs n acks.runs; small = λ k h. acks.small k (in_above n k p.runs h).0 }
 
--- packets that are acknowledged or lost leave ids, path, numbers and clock; and no number more is to be acknowledged
-pub record Settles (e f : End) : Type 0 where
+-- the parts of an end that no ACK frame changes but by what it names: ids, of the path its place and its size, the clock, how it sends, what the peer told, and
+-- which numbers are left out; and the numbers, and what is to be acknowledged
+pub record Kept : Type 0 where
+  pub ids : Ids
+  pub generation : ℕ
+  pub size : ℕ
+  pub closing : Closing
+  pub transport : TransportSettings
+  pub peer : ParameterValues
+  pub filter : Filter
+  pub numbers : Numbers
+  pub acks : Pending
+
+-- those of an end
+abbrev pub kept : End → Kept
+kept e = record {
+  ids = e.ids;
+  generation = e.path.generation;
+  size = e.path.size;
+  closing = e.closing;
+  transport = e.transport;
+  peer = e.peer_params;
+  filter = e.filter;
+  numbers = e.numbers;
+  acks = e.acknowledging;
+}
+
+-- Packets that are acknowledged or lost leave them, and no number more is to be acknowledged.
+pub record AreSettled (e f : Kept) : Type 0 where
   pub ids : f.ids ≡ e.ids
-  pub path : f.path ≡ e.path
+  pub generation : f.generation ≡ e.generation
+  pub size : f.size ≡ e.size
   pub closing : f.closing ≡ e.closing
+  pub transport : f.transport ≡ e.transport
+  pub peer : f.peer ≡ e.peer
+  pub filter : f.filter ≡ e.filter
   pub numbers : f.numbers ≡ e.numbers
-  pub acks : Acks e.acknowledging → Acks f.acknowledging
-  pub fewer : (k : ℕ) → Has f.acknowledging.runs k → Has e.acknowledging.runs k
+  pub acks : Acks e.acks → Acks f.acks
+  pub fewer : (k : ℕ) → Has f.acks.runs k → Has e.acks.runs k
+
+abbrev pub Settles : End → End → Type 0
+Settles e f = AreSettled (kept e) (kept f)
+
+-- nothing changed
+settles_same : (e : End) → Settles e e
+settles_same e = record { ids = refl; generation = refl; size = refl; closing = refl; transport = refl; peer = refl; filter = refl; numbers = refl; acks = λ acks. acks; fewer = λ k h. h }
+
+-- each step of an ACK frame
+settling : (e : End) → Settling (Settles e)
+settling e = record {
+  known = λ n x s. record {
+    ids = s.ids;
+    generation = s.generation;
+    size = s.size;
+    closing = s.closing;
+    transport = s.transport;
+    peer = s.peer;
+    filter = s.filter;
+    numbers = s.numbers;
+    acks = λ acks. acks_above x.acknowledging n (s.acks acks);
+    fewer = λ k h. s.fewer k (in_above n k x.acknowledging.runs h).0;
+  };
+  reset = λ id x s. s;
+  acked = λ m x s. s;
+  lost = λ m x s. s;
+  again = λ c x s. s;
+  tracked = λ t x s. s;
+  measured = λ r x s. s;
+}
 
 -- an ACK frame that was taken
-pub settles_ack : (a : AckValue) (e : End) → Settles e (after_acked a e)
-settles_ack a e = acked_keeps (Settles e) (record {
-  known = λ n x s. record { ids = s.ids; path = s.path; closing = s.closing; numbers = s.numbers; acks = λ acks. acks_above x.acknowledging n (s.acks acks); fewer = λ k h. s.fewer k (in_above n k x.acknowledging.runs h).0 };
-  reset = λ id x s. record { ids = s.ids; path = s.path; closing = s.closing; numbers = s.numbers; acks = s.acks; fewer = s.fewer };
-  acked = λ m x s. record { ids = s.ids; path = s.path; closing = s.closing; numbers = s.numbers; acks = s.acks; fewer = s.fewer };
-  lost = λ m x s. record { ids = s.ids; path = s.path; closing = s.closing; numbers = s.numbers; acks = s.acks; fewer = s.fewer };
-  again = λ c x s. record { ids = s.ids; path = s.path; closing = s.closing; numbers = s.numbers; acks = s.acks; fewer = s.fewer };
-  tracked = λ t x s. record { ids = s.ids; path = s.path; closing = s.closing; numbers = s.numbers; acks = s.acks; fewer = s.fewer };
-}) a e (record { ids = refl; path = refl; closing = refl; numbers = refl; acks = λ acks. acks; fewer = λ k h. h })
+pub settles_ack : (rises : Bool) (a : AckValue) (e : End) → Settles e (after_acked rises a e)
+settles_ack rises a e = acked_keeps (Settles e) (settling e) rises a e (settles_same e)
+
+-- losses that were detected
+pub settles_losses : (e : End) → Settles e (losses_detected e)
+settles_losses e = losses_keep (Settles e) (settling e) e (settles_same e)
 
 -- ---- frames
 
--- frames leave ids, path and clock, and of the numbers all but the greatest that was named; what is to be acknowledged stays lawful, and no number more is
-pub record Keeps (e f : End) : Type 0 where
+-- Frames leave all of it, but of the numbers the greatest that was named; what is to be acknowledged stays lawful, and no number more is.
+pub record AreKept (e f : Kept) : Type 0 where
   pub ids : f.ids ≡ e.ids
-  pub path : f.path ≡ e.path
+  pub generation : f.generation ≡ e.generation
+  pub size : f.size ≡ e.size
   pub closing : f.closing ≡ e.closing
+  pub transport : f.transport ≡ e.transport
+  pub peer : f.peer ≡ e.peer
+  pub filter : f.filter ≡ e.filter
   pub numbers : f.numbers ≡ record e.numbers { largest_acked = f.numbers.largest_acked }
-  pub acks : Acks e.acknowledging → Acks f.acknowledging
-  pub fewer : (k : ℕ) → Has f.acknowledging.runs k → Has e.acknowledging.runs k
+  pub acks : Acks e.acks → Acks f.acks
+  pub fewer : (k : ℕ) → Has f.acks.runs k → Has e.acks.runs k
+
+abbrev pub Keeps : End → End → Type 0
+Keeps e f = AreKept (kept e) (kept f)
 
 -- nothing changed
-keeps_same : (e : End) → Keeps e e
-keeps_same e = record { ids = refl; path = refl; closing = refl; numbers = refl; acks = λ acks. acks; fewer = λ k h. h }
+pub keeps_same : (e : End) → Keeps e e
+keeps_same e = record { ids = refl; generation = refl; size = refl; closing = refl; transport = refl; peer = refl; filter = refl; numbers = refl; acks = λ acks. acks; fewer = λ k h. h }
 
 -- an ACK frame changes of the numbers only the greatest that was named
-keeps_ack : (e : End) (a : AckValue) (x : End) → Keeps e x → Keeps e (after_acked a (named a x))
-keeps_ack e a x k =
-    let s = settles_ack a (named a x) in
-    let left = after_acked a (named a x) in
+keeps_ack : (e : End) (rises : Bool) (a : AckValue) (x : End) → Keeps e x → Keeps e (after_acked rises a (named a x))
+keeps_ack e rises a x k =
+    let s = settles_ack rises a (named a x) in
     record {
       ids = s.ids ∙ k.ids;
-      path = s.path ∙ k.path;
+      generation = s.generation ∙ k.generation;
+      size = s.size ∙ k.size;
       closing = s.closing ∙ k.closing;
+      transport = s.transport ∙ k.transport;
+      peer = s.peer ∙ k.peer;
+      filter = s.filter ∙ k.filter;
       numbers = s.numbers ∙ ap (λ (n : Numbers). record n { largest_acked = (named a x).numbers.largest_acked }) k.numbers ∙ ap (λ (n : Numbers). record e.numbers { largest_acked = n.largest_acked }) (sym s.numbers);
       acks = λ acks. s.acks (k.acks acks);
       fewer = λ n h. k.fewer n (s.fewer n h);
@@ -82,8 +156,9 @@ keeps_ack e a x k =
 -- all frames of a packet change at most that
 pub keeps_frames : (fs : List FrameValue) (e : End) → Keeps e (passed fs e).end
 keeps_frames fs e = frames_keep (Keeps e) (frame_keeps (Keeps e) (record {
-  ack = keeps_ack e;
-  on_streams = λ f x on k. frame_leaves (Keeps e) f x on (λ t. record { ids = k.ids; path = k.path; closing = k.closing; numbers = k.numbers; acks = k.acks; fewer = k.fewer });
+  ack = λ rises a x k. keeps_ack e rises a x k;
+  on_streams = λ f x on k. frame_leaves (Keeps e) f x on (λ t. k);
+  message = λ m x k. k;
 })) fs e (keeps_same e)
 
 -- ---- the greatest number that frames named
@@ -96,11 +171,12 @@ named_one (Some m) n = omega arith
 -- what an ACK frame names that is taken
 named_ack : (b : Bool) (a : AckValue) (e : End) → (ack_taken b a e).fault ≡ None → cut_against (ack_taken b a e).end.numbers ≡ max (max a.largest 0) (cut_against e.numbers)
 named_ack true a e none = cc
-named_ack false a e none = ap (λ (n : Numbers). cut_against n) (settles_ack a (named a e)).numbers ∙ named_one e.numbers.largest_acked a.largest
+named_ack false a e none = ap (λ (n : Numbers). cut_against n) (settles_ack (is_above e.numbers.largest_acked a.largest) a (named a e)).numbers ∙ named_one e.numbers.largest_acked a.largest
 
 -- what a frame that is taken names
 named_frame : (f : FrameValue) (e : End) → (take_frame f e).fault ≡ None → cut_against (take_frame f e).end.numbers ≡ max (acknowledged_in (f ∷ [])) (cut_against e.numbers)
-named_frame (ack a) e none = named_ack (nat_le e.numbers.next a.largest) a e none
+named_frame (ack a) e none = named_ack (names_ungiven a e) a e none
+named_frame (datagram m) e none = message_leaves (λ (x : End). cut_against x.numbers ≡ max (acknowledged_in (datagram m ∷ [])) (cut_against e.numbers)) m e (omega arith) (λ left. omega arith)
 named_frame f e none = omega arith
 
 -- what frames acknowledge is what the first does, or the others
@@ -123,82 +199,120 @@ named_frames fs e none =
 
 -- ---- any call but a poll
 
--- ids and path are as they were, and so is the next number to give, which is cut against no greater one
-pub record Stays (e f : End) : Type 0 where
+-- Ids, the path, how an end sends, what its peer told and which numbers are left out are as they were; and so is the next number to give, which is cut against no
+-- greater one.
+pub record AreStaying (e f : Kept) : Type 0 where
   pub ids : f.ids ≡ e.ids
-  pub generation : f.path.generation ≡ e.path.generation
-  pub size : f.path.size ≡ e.path.size
+  pub generation : f.generation ≡ e.generation
+  pub size : f.size ≡ e.size
+  pub transport : f.transport ≡ e.transport
+  pub peer : f.peer ≡ e.peer
+  pub filter : f.filter ≡ e.filter
   pub next : f.numbers.next ≡ e.numbers.next
   pub behind : IsBehind e.numbers → IsBehind f.numbers
 
+abbrev pub Stays : End → End → Type 0
+Stays e f = AreStaying (kept e) (kept f)
+
 -- nothing changed
-stays_same : (e : End) → Stays e e
-stays_same e = record { ids = refl; generation = refl; size = refl; next = refl; behind = λ b. b }
+pub stays_same : (e : End) → Stays e e
+stays_same e = record { ids = refl; generation = refl; size = refl; transport = refl; peer = refl; filter = refl; next = refl; behind = λ b. b }
+
+-- the same, whatever clock, tracked packets, streams and timers there are
+stays_like : (e x f : End) → f.ids ≡ x.ids → f.path.generation ≡ x.path.generation → f.path.size ≡ x.path.size → f.transport ≡ x.transport → f.peer_params ≡ x.peer_params → f.filter ≡ x.filter → f.numbers ≡ x.numbers → Stays e x → Stays e f
+stays_like e x f ids generation size transport peer filter numbers s = record {
+  ids = ids ∙ s.ids;
+  generation = generation ∙ s.generation;
+  size = size ∙ s.size;
+  transport = transport ∙ s.transport;
+  peer = peer ∙ s.peer;
+  filter = filter ∙ s.filter;
+  next = ap (λ (n : Numbers). n.next) numbers ∙ s.next;
+  behind = λ b. subst (λ (n : Numbers). IsBehind n) (sym numbers) (s.behind b);
+}
 
 -- an ACK frame that is taken names numbers that were given
-behind_ack : (a : AckValue) (e : End) → nat_le e.numbers.next a.largest ≡ false → IsBehind e.numbers → IsBehind (after_acked a (named a e)).numbers
-behind_ack a e is behind =
+behind_named : (a : AckValue) (e : End) → nat_le e.numbers.next a.largest ≡ false → IsBehind e.numbers → IsBehind (named a e).numbers
+behind_named a e is behind =
     let lower = leb-false e.numbers.next a.largest is in
     let greatest = named_one e.numbers.largest_acked a.largest in
-    subst (λ (n : Numbers). IsBehind n) (sym (settles_ack a (named a e)).numbers) (omega arith)
+    omega arith
 
-stays_ack : (b : Bool) (a : AckValue) (e x : End) → nat_le x.numbers.next a.largest ≡ b → Stays e x → Stays e (ack_taken b a x).end
+stays_ack : (b : Bool) (a : AckValue) (e x : End) → names_ungiven a x ≡ b → Stays e x → Stays e (ack_taken b a x).end
 stays_ack true a e x is s = s
 stays_ack false a e x is s =
-    let t = settles_ack a (named a x) in
-    record {
-      ids = t.ids ∙ s.ids;
-      generation = ap (λ (p : Path). p.generation) t.path ∙ s.generation;
-      size = ap (λ (p : Path). p.size) t.path ∙ s.size;
-      next = ap (λ (n : Numbers). n.next) t.numbers ∙ s.next;
-      behind = λ b. behind_ack a x is (s.behind b);
-    }
+    let t = settles_ack (is_above x.numbers.largest_acked a.largest) a (named a x) in
+    stays_like e (named a x) (after_acked (is_above x.numbers.largest_acked a.largest) a (named a x)) t.ids t.generation t.size t.transport t.peer t.filter t.numbers
+    (record {
+      ids = s.ids;
+      generation = s.generation;
+      size = s.size;
+      transport = s.transport;
+      peer = s.peer;
+      filter = s.filter;
+      next = s.next;
+      behind = λ b. behind_named a x (or_parts (nat_le x.numbers.next a.largest) _ is).0 (s.behind b);
+    })
 
 -- any frame, behind what stayed
 stays_frame : (e : End) (f : FrameValue) (x : End) → Stays e x → Stays e (take_frame f x).end
-stays_frame e (ack a) x s = stays_ack (nat_le x.numbers.next a.largest) a e x refl s
-stays_frame e f x s = record { ids = s.ids; generation = s.generation; size = s.size; next = s.next; behind = s.behind }
+stays_frame e (ack a) x s = stays_ack (names_ungiven a x) a e x refl s
+stays_frame e (datagram m) x s = message_leaves (Stays e) m x s (λ left. s)
+stays_frame e f x s = s
 
 -- whatever comes leaves them
 pub stays_received : (p : Policy) (e : End) (now : ℕ) (d : List ℕ) → Stays e (received p e now d).end
 stays_received p e now d = by_received (Stays e) (record {
-  notes = λ n x s. record { ids = s.ids; generation = s.generation; size = s.size; next = s.next; behind = s.behind };
-  begins = λ now n x s. record { ids = s.ids; generation = s.generation; size = s.size; next = s.next; behind = s.behind };
+  notes = λ n x s. record { ids = s.ids; generation = s.generation; size = s.size; transport = s.transport; peer = s.peer; filter = s.filter; next = s.next; behind = s.behind };
+  begins = λ now n x s. record { ids = s.ids; generation = s.generation; size = s.size; transport = s.transport; peer = s.peer; filter = s.filter; next = s.next; behind = s.behind };
   frame = stays_frame e;
-  takes = λ n asks x s. record { ids = s.ids; generation = s.generation; size = s.size; next = s.next; behind = s.behind };
-  closes = λ reason x s. record { ids = s.ids; generation = s.generation; size = s.size; next = s.next; behind = s.behind };
+  takes = λ n asks x s. record { ids = s.ids; generation = s.generation; size = s.size; transport = s.transport; peer = s.peer; filter = s.filter; next = s.next; behind = s.behind };
+  closes = λ reason x s. record { ids = s.ids; generation = s.generation; size = s.size; transport = s.transport; peer = s.peer; filter = s.filter; next = s.next; behind = s.behind };
 }) p e now d (stays_same e)
+
+-- losses that are detected at a moment leave them
+stays_losses : (e : End) (now : ℕ) (acks : Pending) (timers : Timers) → Stays e (at_losses e now acks timers)
+stays_losses e now acks timers =
+    let begins : End = with_closing e (ticked e.closing now) in
+    let t = settles_losses begins in
+    stays_like e begins (at_losses e now acks timers) t.ids t.generation t.size t.transport t.peer t.filter t.numbers (record { ids = refl; generation = refl; size = refl; transport = refl; peer = refl; filter = refl; next = refl; behind = λ b. b })
 
 -- only a poll gives numbers
 pub stays_call : (p : Policy) (e : End) (theirs : List (List ℕ)) (call : Call) (a : Answer) → is_poll call ≡ false → Stays e (after_call p e theirs call a)
 stays_call p e theirs call a other = by_plain_call p e theirs (Stays e) call a (record {
   same = stays_same e;
-  on_streams = λ t. record { ids = refl; generation = refl; size = refl; next = refl; behind = λ b. b };
-  pings = record { ids = refl; generation = refl; size = refl; next = refl; behind = λ b. b };
-  heard = λ path same. record { ids = refl; generation = same.generation; size = same.size; next = refl; behind = λ b. b };
-  times = λ now acks loss is. by_expired e now (Stays e) (λ pending tracking timers runs packets. record { ids = refl; generation = refl; size = refl; next = refl; behind = λ b. b }) acks loss;
+  on_streams = λ t. stays_same e;
+  on_messages = λ m. stays_same e;
+  pings = stays_same e;
+  heard = λ path same. stays_like e e (record e { path = path }) refl same.generation same.size refl refl refl refl (stays_same e);
+  times = λ now acks loss is. by_expired e now (Stays e) (λ pending tracking timers runs packets. stays_like e e (at_timeout e now pending tracking timers) refl refl refl refl refl refl refl (stays_same e)) (λ pending timers runs. stays_losses e now pending timers) acks loss;
   polls = λ now is. cc;
   hears = λ now d is. stays_received p e now d;
-  tells = λ told. record { ids = refl; generation = refl; size = refl; next = refl; behind = λ b. b };
+  tells = λ told. stays_like e e (at_event e told) refl refl refl refl refl refl refl (stays_same e);
 })
 
 -- ---- any call
 
--- an end whose ids and path are those of another
-pub record IsPlaced (e f : End) : Type 0 where
+-- An end whose ids and path are those of another, which sends as it did and to a peer that told the same.
+pub record ArePlaced (e f : Kept) : Type 0 where
   pub ids : f.ids ≡ e.ids
-  pub generation : f.path.generation ≡ e.path.generation
-  pub size : f.path.size ≡ e.path.size
+  pub generation : f.generation ≡ e.generation
+  pub size : f.size ≡ e.size
+  pub transport : f.transport ≡ e.transport
+  pub peer : f.peer ≡ e.peer
+
+abbrev pub IsPlaced : End → End → Type 0
+IsPlaced e f = ArePlaced (kept e) (kept f)
 
 -- no call changes them
 pub placed_call : (p : Policy) (e : End) (theirs : List (List ℕ)) (call : Call) (a : Answer) → IsPlaced e (after_call p e theirs call a)
 placed_call p e theirs (calls.Poll now) a = by_poll p e now (λ (q : Polled). IsPlaced e q.end) (record {
-  silent = record { ids = refl; generation = refl; size = refl };
-  failed = record { ids = refl; generation = refl; size = refl };
-  idle = λ pings. record { ids = refl; generation = refl; size = refl };
-  used_up = λ pings. record { ids = refl; generation = refl; size = refl };
-  gives = λ pings tracking timers is may some ready.
-      let c = composes (at_moment e now pings) in
-      record { ids = c.ids; generation = ap (λ (p : Path). p.generation) c.path; size = ap (λ (p : Path). p.size) c.path };
+  silent = record { ids = refl; generation = refl; size = refl; transport = refl; peer = refl };
+  failed = record { ids = refl; generation = refl; size = refl; transport = refl; peer = refl };
+  idle = λ t w ready. record { ids = refl; generation = refl; size = refl; transport = refl; peer = refl };
+  used_up = λ t w ready. record { ids = refl; generation = refl; size = refl; transport = refl; peer = refl };
+  gives = λ t w tracking timers is may some ready.
+      let c = composes (lazied (at_moment e now t w)) in
+      record { ids = c.ids; generation = ap (λ (p : Path). p.generation) c.path; size = ap (λ (p : Path). p.size) c.path; transport = c.transport; peer = c.peer };
 })
-placed_call p e theirs call a = let s = stays_call p e theirs call a refl in record { ids = s.ids; generation = s.generation; size = s.size }
+placed_call p e theirs call a = let s = stays_call p e theirs call a refl in record { ids = s.ids; generation = s.generation; size = s.size; transport = s.transport; peer = s.peer }

@@ -1,30 +1,34 @@
 -- What calls leave of the tracked packets: each was given, and carries what its frames say.
-use Rattle.std.proofs.Common.{◌≡◌, ℕ, ◌+◌, ◌-◌, Bool, true, false, List, [], ◌∷◌, ◌++◌, length, refl, sym, ap, ◌∙◌, subst, ◌⊎◌, inl, inr}
+use Rattle.std.proofs.Common.{◌≡◌, ℕ, ◌+◌, ◌-◌, Bool, true, false, cond, Option, Some, None, List, [], ◌∷◌, ◌++◌, length, refl, sym, ap, ◌∙◌, subst, ◌⊎◌, inl, inr}
 use Rattle.std.specs.Ordering.{nat_cmp, match_ordering}
+use Rattle.std.specs.BTreeMap.{is_at}
 use Rattle.std.specs.declared.cmp.Ordering.{Ordering}
 use Rattle.std.specs.declared.cmp.Ordering.TheVariants.{Less, Equal, Greater}
 use Rattle.std.proofs.lemmas.Cmp.{ranked}
 use Rattle.quic_packet.specs.Number.{truncated}
-use Rattle.quic_streams_parts.specs.Table.{Table, added}
+use Rattle.quic_streams_parts.specs.Table.{Table, added, without}
 use Rattle.quic_machine.specs.declared.run.Call.{Call}
 use Rattle.quic_machine.specs.declared.run.Call.TheVariants as calls
 use Rattle.quic_machine.specs.declared.run.Answer.{Answer}
 use Rattle.quic_machine.specs.declared.run.Answer.TheVariants as answers
-use Rattle.quic_machine.specs.Numbers.{Numbers, cut_against}
+use Rattle.quic_spaces.specs.Numbers.{cut_against}
 use Rattle.quic_machine.specs.Policy.{Policy}
-use Rattle.quic_machine.specs.Tracking.{Tracking, TrackedPacket, carried_in}
-use Rattle.quic_machine.specs.End.{End}
+use Rattle.quic_machine.specs.Tracking.{Tracking, TrackedPacket, without_packet, forgotten, asking_sent, after_sent, carried_in}
+use Rattle.quic_machine.specs.End.{End, with_closing, number_of}
+use Rattle.quic_machine.specs.Closing.{ticked}
 use Rattle.quic_machine.specs.Receive.{received}
-use Rattle.quic_machine.specs.Poll.{Polled, Draft, composed, asking, tracked_if, after_given, polled}
+use Rattle.quic_machine.specs.Poll.{Polled, Draft, composed, packet_of, tracked, after_given, lazied, polled}
 use Rattle.quic_machine.specs.Machine.{IsAnswer, after_call, fails, gave}
-use Rattle.quic_machine.specs.PollCases.{at_moment, ready_at, frames_padded, frames_at, by_poll_to, composes}
+use Rattle.quic_machine.specs.PollCases.{ready_at, ready_leaves, draft_at, frames_padded, by_poll_to, composes}
 use Rattle.quic_machine.specs.LeaveCases.{by_expired}
 use Rattle.quic_machine.specs.CallCases.{is_poll, by_plain_call}
 use Rattle.quic_headline.specs.Runs.{In}
 use Rattle.quic_headline.specs.Observer.{Sent}
 use Rattle.quic_headline.proofs.Packets.Invariant.{AreTracked}
 use Rattle.quic_headline.proofs.Packets.Carried.{carried_padded}
-use Rattle.quic_headline.proofs.Packets.Named.{tracked_received}
+use Rattle.quic_headline.proofs.Packets.Named.{losses_fewer, tracked_received}
+use Rattle.quic_headline.proofs.Packets.Probes.{ready_tracked}
+use Rattle.quic_headline.proofs.Packets.Given.{composed_number}
 use Rattle.quic_headline.proofs.Places.Told.{in_left, in_last}
 use Rattle.quic_headline.proofs.Places.Parties.{sent_by, sent_if, sents_by}
 use Rattle.quic_headline.proofs.Places.Steps.{poll_answer}
@@ -51,22 +55,44 @@ in_added (e ∷ es) id v x i = go (nat_cmp id e.0) refl i (in_added es id v x)
 pub tracked_more : (sents more : List Sent) (packets : Table TrackedPacket) → AreTracked sents packets → AreTracked (sents ++ more) packets
 tracked_more sents more packets i n t is = let s = i n t is in (s.0, (in_left s.0 sents more s.1.0, s.1.1), s.2)
 
+-- a packet that asks takes a probe away, and leaves what is tracked
+pub asking_packets : (b : Bool) (number now : ℕ) (t : Tracking) → (asking_sent b number now t).packets ≡ t.packets
+asking_packets true number now t = refl
+asking_packets false number now t = refl
+
+-- what is tracked without a packet was tracked before
+in_without : {A : Type 0} (es : Table A) (id : ℕ) (x : ℕ × A) → In x (without es id) → In x es
+in_without [] id x i = i
+in_without (e ∷ es) id x i = go (is_at (nat_cmp id) e.0) i (in_without es id x)
+  where
+    go : (b : Bool) → In x (cond b es (e ∷ without es id)) → (In x (without es id) → In x es) → In x (e ∷ es)
+    go true more later = inr more
+    go false (inl here) later = inl here
+    go false (inr more) later = inr (later more)
+
+pub without_fewer : (o : Option (ℕ × TrackedPacket)) (packets : Table TrackedPacket) (x : ℕ × TrackedPacket) → In x (without_packet o packets) → In x packets
+without_fewer None packets x i = i
+without_fewer (Some p) packets x i = in_without packets p.0 x i
+
+-- what is tracked after a packet was sent was tracked before, or is that packet
+pub in_sent : (t : Tracking) (number : ℕ) (p : TrackedPacket) (x : ℕ × TrackedPacket) → In x (after_sent t number p).packets → In x t.packets ⊎ (x ≡ (number, p))
+in_sent t number p x i =
+    let kept : Table TrackedPacket = without_packet (forgotten t p) t.packets in
+    let there : In x (added kept number p) = subst (λ (ps : Table TrackedPacket). In x ps) (asking_packets p.asks number p.time_sent (record t { packets = added kept number p })) i in
+    elim (in_added kept number p x there) [ inl old ↦ inl (without_fewer (forgotten t p) t.packets x old) | inr new ↦ inr new ]
+
 -- a datagram that goes is tracked as it was sent, under its number and with its frames
-tracked_given : (b : Bool) (d : Draft) (sents : List Sent) (s : Sent) → s.number ≡ d.end.numbers.next → s.frames ≡ frames_padded d → AreTracked sents d.end.tracking.packets → AreTracked (sents ++ s ∷ []) (tracked_if b d).tracking.packets
-tracked_given false d sents s number frames i n t is = tracked_more sents (s ∷ []) d.end.tracking.packets i n t is
-tracked_given true d sents s number frames i n t is = elim (in_added d.end.tracking.packets d.end.numbers.next packet (n, t) is) [
+tracked_given : (d : Draft) (sents : List Sent) (s : Sent) → s.number ≡ number_of d.end → s.frames ≡ frames_padded d → AreTracked sents d.end.tracking.packets → AreTracked (sents ++ s ∷ []) (tracked d).tracking.packets
+tracked_given d sents s number frames i n t is = elim (in_sent d.end.tracking (number_of d.end) (packet_of d) (n, t) is) [
   | inl old ↦ tracked_more sents (s ∷ []) d.end.tracking.packets i n t old
   | inr new ↦ (
-      let same : n ≡ d.end.numbers.next = ap (λ (x : ℕ × TrackedPacket). x.0) new in
+      let same : n ≡ number_of d.end = ap (λ (x : ℕ × TrackedPacket). x.0) new in
       let carried : t.carried ≡ carried_in d.frames = ap (λ (x : ℕ × TrackedPacket). x.1.carried) new in (
         s,
         (in_last s sents, number ∙ sym same),
-        carried ∙ sym (carried_padded d.frames (4 - ((truncated d.end.numbers.next (cut_against d.end.numbers)).width + length d.bytes))) ∙ ap carried_in (sym frames),
+        inl (carried ∙ sym (carried_padded d.frames (4 - ((truncated (number_of d.end) (cut_against d.end.numbers)).width + length d.bytes))) ∙ ap carried_in (sym frames)),
       ))
 ]
-  where
-    packet : TrackedPacket
-    packet = record { generation = d.end.path.generation; time_sent = d.end.closing.clock; carried = carried_in d.frames }
 
 -- after a poll
 tracked_polled : (p : Policy) (e : End) (now : ℕ) (sents : List Sent) → AreTracked sents e.tracking.packets
@@ -75,29 +101,31 @@ tracked_polled p e now sents i =
     by_poll_to p e now (λ (q : Polled). AreTracked (sents ++ sent_if (gave (answers.Poll q.answer)) (sent_by e now)) q.end.tracking.packets) (record {
       silent = tracked_more sents [] e.tracking.packets i;
       failed = tracked_more sents [] e.tracking.packets i;
-      idle = λ pings. tracked_more sents [] e.tracking.packets i;
-      used_up = λ pings. tracked_more sents [] e.tracking.packets i;
-      gives = λ pings is may some ready. gives pings ready;
+      idle = tracked_more sents [] (ready_at e now).tracking.packets ready;
+      used_up = tracked_more sents [] (ready_at e now).tracking.packets ready;
+      gives = λ is may some. gives;
     })
   where
-    gives : (pings : Bool) → ready_at e now ≡ at_moment e now pings → AreTracked (sents ++ sent_by e now ∷ []) (after_given (composed (at_moment e now pings))).tracking.packets
-    gives pings ready =
-        let before : End = at_moment e now pings in
+    ready : AreTracked sents (ready_at e now).tracking.packets
+    ready = ready_tracked sents e now i
+
+    gives : AreTracked (sents ++ sent_by e now ∷ []) (after_given p (draft_at e now)).tracking.packets
+    gives =
+        let before : End = lazied (ready_at e now) in
         let d : Draft = composed before in
-        let same = composes before in
-        let number : e.numbers.next ≡ d.end.numbers.next = ap (λ (x : Numbers). x.next) (sym same.numbers) in
-        let packets : AreTracked sents d.end.tracking.packets = subst (λ (x : Tracking). AreTracked sents x.packets) (sym same.tracking) i in
-        let frames : frames_at e now ≡ frames_padded d = ap (λ (x : End). frames_padded (composed x)) ready in
-        tracked_given (asking d.frames) d sents (sent_by e now) number frames packets
+        let number : number_of e ≡ number_of d.end = sym (composed_number before ∙ ap (λ (x : End). number_of x) (ready_leaves e now)) in
+        let packets : AreTracked sents d.end.tracking.packets = subst (λ (x : Tracking). AreTracked sents x.packets) (sym (composes before).tracking) ready in
+        tracked_given d sents (sent_by e now) number refl packets
 
 -- another call than a poll gives nothing that is tracked
 tracked_other : (p : Policy) (e : End) (theirs : List (List ℕ)) (call : Call) (a : Answer) (sents more : List Sent) → is_poll call ≡ false → AreTracked sents e.tracking.packets → AreTracked (sents ++ more) (after_call p e theirs call a).tracking.packets
 tracked_other p e theirs call a sents more silent i = by_plain_call p e theirs (λ (f : End). AreTracked (sents ++ more) f.tracking.packets) call a (record {
   same = same;
   on_streams = λ t. same;
+  on_messages = λ m. same;
   pings = same;
   heard = λ path is. same;
-  times = λ now acks loss is. by_expired e now (λ (f : End). AreTracked (sents ++ more) f.tracking.packets) (λ pending tracking timers runs packets. subst (λ (x : Table TrackedPacket). AreTracked (sents ++ more) x) (sym packets) same) acks loss;
+  times = λ now acks loss is. by_expired e now (λ (f : End). AreTracked (sents ++ more) f.tracking.packets) (λ pending tracking timers runs packets. subst (λ (x : Table TrackedPacket). AreTracked (sents ++ more) x) (sym packets) same) (λ pending timers runs n t i. same n t (losses_fewer (with_closing e (ticked e.closing now)) n t i)) acks loss;
   polls = λ now is. cc;
   hears = λ now d is. tracked_more sents more (received p e now d).end.tracking.packets (tracked_received p e now d sents i);
   tells = λ told. same;

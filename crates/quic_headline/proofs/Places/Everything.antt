@@ -1,5 +1,5 @@
 -- All that holds between the ends of an honest run, in one group: packets, streams, what observers know and what is read; and the clauses of it.
-use Rattle.std.proofs.Common.{ℕ}
+use Rattle.std.proofs.Common.{ℕ, sym, subst}
 use Rattle.quic_wire_core.specs.declared.stream_id.Side.{Side}
 use Rattle.quic_machine.specs.Machine.{World}
 use Rattle.quic_headline.specs.Runs.{Run, AreServed}
@@ -7,8 +7,11 @@ use Rattle.quic_headline.specs.InFlight.{TracksInFlight}
 use Rattle.quic_headline.specs.Causes.{NumberLimit}
 use Rattle.quic_headline.specs.Duties.{DutiesStand}
 use Rattle.quic_headline.specs.Grown.{GrownLimitsWait}
-use Rattle.quic_headline.specs.Headline.{IsHonest, IsRun, OrderedPrefix, Slices, Once, EndAfterAll, BlockedOnlyWithoutBytes, AcceptsAll, FinishedMeansArrived, AcknowledgedWereTaken, NamesWereTaken, OpensExactly, NumbersRise}
-use Rattle.quic_headline.specs.Moments.{LossMoments, AckMoments}
+use Rattle.quic_headline.specs.Messages.{MessagesAtMostOnce}
+use Rattle.quic_headline.specs.Headline.{IsHonest, IsRun, OrderedPrefix, Slices, Once, EndAfterAll, BlockedOnlyWithoutBytes, AcceptsAll, FinishedMeansArrived, AcknowledgedWereTaken, NamesWereTaken, OpensExactly, NewestOpens, NumbersRise}
+use Rattle.quic_headline.specs.Moments.{LossMoments, LossTimerQuiet, AckMoments}
+use Rattle.quic_machine.specs.PollCases.{ready_at}
+use Rattle.quic_headline.proofs.Packets.Probes.{ready_state}
 use Rattle.quic_headline.proofs.Packets.MayGo.{AreReady}
 use Rattle.quic_headline.proofs.Packets.Group.{PacketsHold}
 use Rattle.quic_headline.proofs.Packets.Sight.{Sight}
@@ -18,7 +21,7 @@ use Rattle.quic_headline.proofs.Places.Placed.{Placed, placed}
 use Rattle.quic_headline.proofs.Places.Order as order
 use Rattle.quic_headline.proofs.Places.Together as together
 use Rattle.quic_headline.proofs.Halves.Ghosts.{IsWriting}
-use Rattle.quic_headline.proofs.Halves.DataLimit.{KnowsLimit, limit_group}
+use Rattle.quic_headline.proofs.Halves.DataLimit.{HasSmallLimit, KnowsLimit, limit_group}
 use Rattle.quic_headline.proofs.Halves.Writer.{WritesHold, grows_behind}
 use Rattle.quic_headline.proofs.Halves.Joined.{GoesWell, streams_spell, streams_group}
 use Rattle.quic_headline.proofs.Halves.ReadGroup.{ReadsHold, reads_group}
@@ -37,7 +40,7 @@ use Rattle.quic_headline.proofs.Grown.Clause as grown
 -- what waits to go of streams, as a group over the packets and what is written
 pub record IsReadying (Ready : Way) : Type 1 where
   pub group : Group (And PacketsHold WritesHold) Ready
-  pub waits : (x y : Party) → Ready x y → AreReady x.end.streams.sending.halves.live x.end.waiting.frames
+  pub probes : (x y : Party) → PacketsHold x y → Ready x y → (now : ℕ) → AreReady (ready_at x.end now).streams.sending.halves.live (ready_at x.end now).waiting.frames
 
 module _ (Ready : Way) (ready : IsReadying Ready) where
   -- ---- the groups
@@ -49,8 +52,8 @@ module _ (Ready : Way) (ready : IsReadying Ready) where
   rest : Group (And PacketsHold WritesHold) Rest
   rest = beside (And PacketsHold WritesHold) KnowsLimit Ready (over PacketsHold (And PacketsHold WritesHold) KnowsLimit (λ x y h. h.0) (early_group PacketsHold KnowsLimit limit_group)) ready.group
 
-  goes : (x y : Party) → Rest x y → GoesWell x.end
-  goes x y h = record { limit = h.0.small; waits = ready.waits x y h.1 }
+  goes : (x y : Party) → PacketsHold x y → Rest x y → (now : ℕ) → GoesWell (ready_at x.end now)
+  goes x y p h now = record { limit = subst HasSmallLimit (sym (ready_state x.end now)) h.0.small; waits = ready.probes x y p h.1 now }
 
   -- the streams of an end that writes
   abbrev pub Streams : Way
@@ -116,7 +119,7 @@ module _ (Ready : Way) (ready : IsReadying Ready) where
   all_flying = both Nothing (And (And All Arrives) Said) Flying all_said (flying_group (And Nothing (And (And All Arrives) Said)) (record {
     packets = λ x y h. h.1.0.0.0.0;
     writes = λ x y h. h.1.0.0.0.1.0;
-    ready = λ x y h. ready.waits x y h.1.0.0.0.1.1.1;
+    ready = λ x y h. ready.probes x y h.1.0.0.0.0 h.1.0.0.0.1.1.1;
     names = λ x y h. h.1.1.0;
     within = λ x y h. h.1.1.1;
   }))
@@ -163,6 +166,9 @@ module _ (Ready : Way) (ready : IsReadying Ready) where
     pub opens_exactly : OpensExactly r
     opens_exactly = together.all_open Streams (streams_spell Rest goes) (streams_group Rest goes rest) r end honest run
 
+    pub newest_opens : NewestOpens r
+    newest_opens = together.all_newest Streams (streams_spell Rest goes) (streams_group Rest goes rest) r end honest run
+
     pub numbers_rise : NumbersRise r
     numbers_rise = together.all_rise Streams (streams_spell Rest goes) (streams_group Rest goes rest) r end honest run
 
@@ -172,8 +178,14 @@ module _ (Ready : Way) (ready : IsReadying Ready) where
     pub loss_moments : LossMoments r
     loss_moments = together.all_paced Streams (streams_spell Rest goes) (streams_group Rest goes rest) r end honest run
 
+    pub loss_timer_quiet : LossTimerQuiet r
+    loss_timer_quiet = together.all_quiet Streams (streams_spell Rest goes) (streams_group Rest goes rest) r end honest run
+
     pub ack_moments : AckMoments r
     ack_moments = together.all_due Streams (streams_spell Rest goes) (streams_group Rest goes rest) r end honest run
+
+    pub messages_at_most_once : MessagesAtMostOnce r
+    messages_at_most_once = together.all_messages Streams (streams_spell Rest goes) (streams_group Rest goes rest) r end honest run
 
     pub number_limit : NumberLimit r
     number_limit = used_up.number_limit (And All Shut) (record { packets = λ x y h. h.0.0.0; sight = λ x y h. h.0.1; shut = λ x y h. h.1 }) r end honest (placed (And All Shut) all_shut r end honest run)

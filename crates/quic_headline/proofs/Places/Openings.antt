@@ -14,7 +14,7 @@ use Rattle.quic_machine.specs.declared.run.Answer.{Answer}
 use Rattle.quic_machine.specs.declared.run.Answer.TheVariants as answers
 use Rattle.quic_machine.specs.Policy.{Policy, CanOpen}
 use Rattle.quic_machine.specs.Ids.{known}
-use Rattle.quic_machine.specs.Numbers.{expected}
+use Rattle.quic_spaces.specs.Numbers.{expected}
 use Rattle.quic_machine.specs.Start.{IsLawful}
 use Rattle.quic_machine.specs.End.{End}
 use Rattle.quic_machine.specs.Opens.{own_id_length, opens, would_open}
@@ -68,7 +68,7 @@ names_taken p q id sents given packets mates lawful long all taken ids x number 
     by_opening false n = absurd n.carried
 
 -- what the packets name that were sent so was taken
-named_taken : (sents : List Sent) (packets theirs : List Packet) → WereSent sents packets → NameTaken sents theirs → (number : ℕ) → IsNamed packets number → IsTaken theirs number
+pub named_taken : (sents : List Sent) (packets theirs : List Packet) → WereSent sents packets → NameTaken sents theirs → (number : ℕ) → IsNamed packets number → IsTaken theirs number
 named_taken sents packets theirs sent taken number n =
     let w = sent n.packet n.was_taken in
     taken w.sent n.frame number w.is.0 (subst (λ (frames : List FrameValue). In (ack n.frame) frames) (sym w.frames) n.carried) n.named
@@ -84,7 +84,7 @@ pub took_is : (r : Run) → IsHonest r → (w : World) (i : ℕ) (side : Side) (
 took_is r honest w i side sents theirs =
     let x : Party = party_at r i w side sents in
     let y : Party = party_at r i w (other_side side) theirs in
-    ap (λ (v : Watch). v.intake) (watch_is r honest w i side sents theirs) ∙ watched_intake (lens x y) x.told (first_watch (x.id ∷ []) x.final x.began)
+    ap (λ (v : Watch). v.intake) (watch_is r honest w i side sents theirs) ∙ watched_intake (lens x y) x.told (first_watch (x.id ∷ []) x.final x.began x.initial_rtt)
 
 -- what the other took
 pub took_there : (r : Run) → IsHonest r → (w : World) (i : ℕ) (side : Side) (sents theirs : List Sent) → (watch r (other_side side) i).intake ≡ came_to (party_at r i w (other_side side) theirs) (party_at r i w side sents)
@@ -101,11 +101,11 @@ module _ (r : Run) (end : World) (honest : IsHonest r) (side : Side) (i : ℕ) (
   took_here : took r side i ≡ (came_to here there).took
   took_here = ap (λ (j : Intake). j.took) (took_is r honest at.world i side at.sents at.theirs)
 
-  took_other : took r (other_side side) i ≡ (came_to there here).took
+  pub took_other : took r (other_side side) i ≡ (came_to there here).took
   took_other = ap (λ (j : Intake). j.took) (took_there r honest at.world i side at.sents at.theirs)
 
   -- what it gave so far
-  given_here : given_until r side i ≡ here.given
+  pub given_here : given_until r side i ≡ here.given
   given_here =
       let more = at.joined.x_more in
       ap (λ (ds : List (List ℕ)). take (count_given (until r side i)) ds) (sym more.1) ∙ take_given here.given more.0 (count_given (until r side i)) at.gives.count

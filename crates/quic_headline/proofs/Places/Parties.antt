@@ -8,20 +8,21 @@ use Rattle.quic_machine.specs.declared.run.Call.{Call}
 use Rattle.quic_machine.specs.declared.run.Call.TheVariants as calls
 use Rattle.quic_machine.specs.declared.run.Answer.{Answer}
 use Rattle.quic_machine.specs.Policy.{Policy, CanOpen}
-use Rattle.quic_machine.specs.Numbers.{cut_against}
+use Rattle.quic_spaces.specs.Numbers.{cut_against}
 use Rattle.quic_machine.specs.Start.{IsLawful, Making, IsMaking}
-use Rattle.quic_machine.specs.End.{End, new_end}
+use Rattle.quic_machine.specs.End.{End, number_of, new_end}
 use Rattle.quic_machine.specs.Opens.{own_id_length}
-use Rattle.quic_machine.specs.PollCases.{frames_at}
+use Rattle.quic_machine.specs.Poll.{datagram_size}
+use Rattle.quic_machine.specs.PollCases.{draft_at, frames_at}
 use Rattle.quic_machine.specs.Machine.{after_call, gives, gave}
 use Rattle.quic_headline.specs.Runs.{Told, Intake, nothing_came, and_told, folded}
-use Rattle.quic_headline.specs.Observer.{Sent, Watch, first_watch, Lens, watch_told}
+use Rattle.quic_headline.specs.Observer.{Sent, Terms, terms_of, Watch, first_watch, Lens, watch_told}
 
 -- ---- what a call adds
 
 -- what the datagram is sent as that an end gives at a moment, if it gives one
 abbrev pub sent_by : End → ℕ → Sent
-sent_by e now = record { number = e.numbers.next; reference = cut_against e.numbers; frames = frames_at e now; moment = max e.closing.clock now }
+sent_by e now = record { number = number_of e; reference = cut_against e.numbers; frames = frames_at e now; moment = max e.closing.clock now; size = datagram_size (draft_at e now) }
 
 -- one more datagram as it was sent, where one was given
 abbrev pub sent_if : Bool → Sent → List Sent
@@ -38,13 +39,16 @@ told_of call a state = record { call = call; answer = a; state = state }
 
 -- ---- one end
 
--- one end of a run: its side, its keys, the id that it is known by, the moment at which it was made, the datagrams that it gives in all,
--- and the end as it was made; and, at a place: the end, the datagrams that it gave, how they were sent, and what was told at it
+-- one end of a run: its side, its keys, the id that it is known by, the moment at which it was made, how long a round trip was taken to last then, by what
+-- losses are judged at it, the datagrams that it gives in all, and the end as it was made; and, at a place: the end, the datagrams that it gave, how they
+-- were sent, and what was told at it
 pub record Party : Type 0 where
   pub side : Side
   pub policy : Policy
   pub id : List ℕ
   pub began : ℕ
+  pub initial_rtt : ℕ
+  pub terms : Terms
   pub final : List (List ℕ)
   pub made : End
   pub end : End
@@ -67,11 +71,11 @@ came_to y x = folded (and_told y.policy x.final) y.told (nothing_came (y.id ∷ 
 
 -- how the lists of a run are read for an end: what it gives, the other opens
 abbrev pub lens : Party → Party → Lens
-lens x y = record { taker = y.policy; own = x.policy; peer_gave = y.final }
+lens x y = record { taker = y.policy; own = x.policy; peer_gave = y.final; terms = x.terms }
 
 -- what the observer of an end knows
 abbrev pub watch_of : Party → Party → Watch
-watch_of x y = folded (watch_told (lens x y)) x.told (first_watch (x.id ∷ []) x.final x.began)
+watch_of x y = folded (watch_told (lens x y)) x.told (first_watch (x.id ∷ []) x.final x.began x.initial_rtt)
 
 -- ---- two ends
 
@@ -113,6 +117,10 @@ pub record Beginning : Type 0 where
   pub making : Making
   pub final : List (List ℕ)
 
+-- the end as it is made, whose peer begins so
+abbrev pub new_as : Beginning → Beginning → End
+new_as x y = new_end x.side x.making.settings (parameters_of y.making.settings) x.making.id y.making.id x.making.moment x.making.validated x.making.word
+
 -- the end that begins so, whose peer begins so
 abbrev pub begun_as : Beginning → Beginning → Party
 begun_as x y = record {
@@ -120,9 +128,11 @@ begun_as x y = record {
   policy = x.policy;
   id = x.making.id;
   began = x.making.moment;
+  initial_rtt = (new_as x y).transport.initial_rtt;
+  terms = terms_of (new_as x y);
   final = x.final;
-  made = new_end x.side x.making.settings (parameters_of y.making.settings) x.making.id y.making.id x.making.moment x.making.validated;
-  end = new_end x.side x.making.settings (parameters_of y.making.settings) x.making.id y.making.id x.making.moment x.making.validated;
+  made = new_as x y;
+  end = new_as x y;
   given = [];
   sents = [];
   told = [];

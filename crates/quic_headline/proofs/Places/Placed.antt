@@ -19,7 +19,7 @@ use Rattle.quic_machine.specs.End.{End, IsMade, new_end}
 use Rattle.quic_machine.specs.Start.{AreStarted}
 use Rattle.quic_machine.specs.Machine.{World, Policies, IsAnswer, IsLeft, IsStep, after_call, end_at, given_by, gives, policy_at, fails, Follows, view_of}
 use Rattle.quic_headline.specs.Runs.{Run, Told, In, given_of, told_by, ids_of, folded, until, state_at, LeadsTo, AreServed}
-use Rattle.quic_headline.specs.Observer.{Sent, first_watch, watch_told, lens_of, watch}
+use Rattle.quic_headline.specs.Observer.{Sent, terms_of, first_watch, watch_told, lens_of, watch}
 use Rattle.quic_headline.specs.Headline.{IsHonest, IsRun, IsAt, used, CodeIsSmall}
 use Rattle.quic_headline.specs.Amounts.{making_at}
 use Rattle.quic_headline.proofs.Places.Parties.{sents_by, told_of, Party, called, watch_of, AreJoined, turned, Beginning, begun_as, AreMade}
@@ -29,14 +29,15 @@ use Rattle.quic_headline.proofs.Places.Moments.{Grown, grown, Moment, moment, la
 -- ---- how an honest run begins
 
 -- what an end is made as
-made_is : {E : Type 0} (side : Side) (settings : Settings) (r : Result ParameterValues E) (theirs : ParameterValues) (own_id peer_id : List ℕ) (now : ℕ) (validated : Bool) (e : End) → r ≡ Ok theirs → IsMade side settings r own_id peer_id now validated e → e ≡ new_end side settings theirs own_id peer_id now validated
-made_is side settings r theirs own_id peer_id now validated e is made = rw is at made
+made_is : {E : Type 0} (side : Side) (settings : Settings) (r : Result ParameterValues E) (theirs : ParameterValues) (own_id peer_id : List ℕ) (now : ℕ) (validated : Bool) (word : ℕ) (e : End) → r ≡ Ok theirs → IsMade side settings r own_id peer_id now validated word e
+    → e ≡ new_end side settings theirs own_id peer_id now validated word
+made_is side settings r theirs own_id peer_id now validated word e is made = rw is at made
 
 -- the ends as they were made
 pub start_is : (w : World) (s : AreStarted w) (side : Side)
-    → end_at side w ≡ new_end side (making_at side w s).settings (parameters_of (making_at (other_side side) w s).settings) (making_at side w s).id (making_at (other_side side) w s).id (making_at side w s).moment (making_at side w s).validated
-start_is w s Client = made_is Client s.client_making.settings (parameters_at s.server_making.parameters) (parameters_of s.server_making.settings) s.client_making.id s.server_making.id s.client_making.moment s.client_making.validated w.client s.server_is.says s.client
-start_is w s Server = made_is Server s.server_making.settings (parameters_at s.client_making.parameters) (parameters_of s.client_making.settings) s.server_making.id s.client_making.id s.server_making.moment s.server_making.validated w.server s.client_is.says s.server
+    → end_at side w ≡ new_end side (making_at side w s).settings (parameters_of (making_at (other_side side) w s).settings) (making_at side w s).id (making_at (other_side side) w s).id (making_at side w s).moment (making_at side w s).validated (making_at side w s).word
+start_is w s Client = made_is Client s.client_making.settings (parameters_at s.server_making.parameters) (parameters_of s.server_making.settings) s.client_making.id s.server_making.id s.client_making.moment s.client_making.validated s.client_making.word w.client s.server_is.says s.client
+start_is w s Server = made_is Server s.server_making.settings (parameters_at s.client_making.parameters) (parameters_of s.client_making.settings) s.server_making.id s.client_making.id s.server_making.moment s.server_making.validated s.server_making.word w.server s.client_is.says s.server
 
 -- the id that an end is known by first
 abbrev pub first_id : Run → Side → List ℕ
@@ -57,6 +58,8 @@ party r side w sents told = record {
   policy = policy_at side r.keys;
   id = first_id r side;
   began = (end_at side r.start).closing.clock;
+  initial_rtt = (end_at side r.start).transport.initial_rtt;
+  terms = terms_of (end_at side r.start);
   final = given_of r side;
   made = end_at side r.start;
   end = end_at side w;
@@ -112,7 +115,7 @@ pub shown : (r : Run) (w : World) (i : ℕ) (v : View) → LeadsTo r (suc i) w �
 shown r w i v leads there = last_view r.keys i r.start w r.events r.answers r.views v leads there
 
 -- what a group says less holds at the place too
-pub placed_less : (C G : Way) (r : Run) (end : World) (side : Side) (i : ℕ) → ((x y : Party) → C x y → G x y) → Placed C r end side i → Placed G r end side i
+abbrev pub placed_less : (C G : Way) (r : Run) (end : World) (side : Side) (i : ℕ) → ((x y : Party) → C x y → G x y) → Placed C r end side i → Placed G r end side i
 placed_less C G r end side i less at = record {
   world = at.world;
   leads = at.leads;
@@ -131,7 +134,7 @@ watch_is r honest w i side sents theirs = by_side side
   where
     by_side : (side : Side) → watch r side i ≡ watch_of (party_at r i w side sents) (party_at r i w (other_side side) theirs)
     by_side side =
-        ap (λ (ids : List (List ℕ)). folded (watch_told (lens_of r side)) (until r side i) (first_watch ids (given_of r side) (end_at side r.start).closing.clock)) (known_first r honest side)
+        ap (λ (ids : List (List ℕ)). folded (watch_told (lens_of r side)) (until r side i) (first_watch ids (given_of r side) (end_at side r.start).closing.clock (end_at side r.start).transport.initial_rtt)) (known_first r honest side)
 
 -- what was told at one of the ends
 abbrev told_there : Side → List Told → List Told → List Told
@@ -168,7 +171,7 @@ module _ (G : Way) (g : Group Nothing G) (r : Run) (end : World) (honest : IsHon
 
   -- an end that has given these, before anything was told
   abbrev fresh : Side → End → List (List ℕ) → Party
-  fresh side e ds = record { side = side; policy = policy_at side r.keys; id = own_id e.ids.living; began = e.closing.clock; final = given_of r side; made = e; end = e; given = ds; sents = []; told = [] }
+  fresh side e ds = record { side = side; policy = policy_at side r.keys; id = own_id e.ids.living; began = e.closing.clock; initial_rtt = e.transport.initial_rtt; terms = terms_of e; final = given_of r side; made = e; end = e; given = ds; sents = []; told = [] }
 
   gave_nothing : (side : Side) → given_by side r.start ≡ []
   gave_nothing Client = honest.start.client_gave

@@ -13,6 +13,7 @@ use Rattle.quic_machine.specs.StreamCalls.{IsRead, IsStreamAnswer}
 use Rattle.quic_machine.specs.End.{End}
 use Rattle.quic_machine.specs.Machine.{IsAnswer, IsDelivered, gives, gave, fails}
 use Rattle.quic_machine.specs.Poll.{polled}
+use Rattle.quic_machine.specs.Timeouts.{timed_out}
 use Rattle.quic_machine.specs.CallCases.{is_poll}
 use Rattle.quic_machine.specs.PollCases.{poll_count}
 use Rattle.quic_machine.specs.InjectionCases.{injected_gives}
@@ -54,12 +55,14 @@ delivery_gives p e now (Some d) a is = either_gives a _ _ refl refl is
 pub only_polls_give : (p : Policy) (e : End) (theirs : List (List ℕ)) (call : Call) (a : Answer) → is_poll call ≡ false → IsAnswer p e theirs call a → gave a ≡ false
 only_polls_give p e theirs calls.Ping a other is = ap gave is
 only_polls_give p e theirs (calls.Poll now) a other is = cc
-only_polls_give p e theirs (calls.Timeout now) a other is = ap gave is
+only_polls_give p e theirs (calls.Timeout now) a other is = either_gives a _ _ refl refl is
 only_polls_give p e theirs (calls.Deliver delivery) a other is = delivery_gives p e delivery.now (slice_get theirs delivery.index) a is
 only_polls_give p e theirs (calls.Inject injection) a other is = ap gave is ∙ injected_gives (would_open p e injection.bytes) p e injection.now injection.bytes
 only_polls_give p e theirs calls.Event a other is = ap gave is
 only_polls_give p e theirs (calls.Timer timer) a other is = ap gave is
 only_polls_give p e theirs calls.NextTimeout a other is = ap gave is
+only_polls_give p e theirs (calls.Send message makes_room) a other is = either_gives a _ _ refl refl is
+only_polls_give p e theirs calls.Recv a other is = ap gave is
 only_polls_give p e theirs call a other is = streams_give (is_open e.closing.state) e.streams call a is
 
 -- nothing is given where the answer says so
@@ -70,6 +73,11 @@ none_given a q = rw q refl
 pub poll_answer : (p : Policy) (e : End) (now : ℕ) (a : Answer) → (a ≡ answers.Poll (polled p e now).answer) ⊎ (a ≡ answers.Poll (Err (record {}))) → fails a ≡ false → a ≡ answers.Poll (polled p e now).answer
 poll_answer p e now a (inl is) ok = is
 poll_answer p e now a (inr is) ok = let lacks = ap fails is in cc
+
+-- and so is a timeout
+pub timeout_answer : (e : End) (now : ℕ) (a : Answer) → (a ≡ answers.Timeout (timed_out e now).answer) ⊎ (a ≡ answers.Timeout (Err (record {}))) → fails a ≡ false → a ≡ answers.Timeout (timed_out e now).answer
+timeout_answer e now a (inl is) ok = is
+timeout_answer e now a (inr is) ok = let lacks = ap fails is in cc
 
 -- as many datagrams are given as the answer says
 pub gives_count : (p : Policy) (e : End) (theirs : List (List ℕ)) (call : Call) (a : Answer) → IsAnswer p e theirs call a → length (gives p e call a) ≡ (if gave a then 1 else 0)

@@ -3,16 +3,17 @@ use Rattle.quic_machine.specs.Machine.{World}
 use Rattle.quic_headline.specs.Runs.{Run}
 use Rattle.quic_headline.specs.Duties.{DutiesStand}
 use Rattle.quic_headline.specs.Grown.{GrownLimitsWait}
+use Rattle.quic_headline.specs.Messages.{MessagesAtMostOnce}
 use Rattle.quic_headline.specs.InFlight.{TracksInFlight}
 use Rattle.quic_headline.specs.Causes.{NumberLimit}
-use Rattle.quic_headline.specs.Moments.{LossMoments, AckMoments}
-use Rattle.quic_headline.specs.Headline.{IsHonest, IsRun, OrderedPrefix, Slices, Once, EndAfterAll, BlockedOnlyWithoutBytes, AcceptsAll, FinishedMeansArrived, AcknowledgedWereTaken, NamesWereTaken, OpensExactly, NumbersRise}
-use Rattle.quic_headline.proofs.Halves.Ready.{Ready, ready_waits, ready_group}
+use Rattle.quic_headline.specs.Moments.{LossMoments, LossTimerQuiet, AckMoments}
+use Rattle.quic_headline.specs.Headline.{IsHonest, IsRun, OrderedPrefix, Slices, Once, EndAfterAll, BlockedOnlyWithoutBytes, AcceptsAll, FinishedMeansArrived, AcknowledgedWereTaken, NamesWereTaken, OpensExactly, NewestOpens, NumbersRise}
+use Rattle.quic_headline.proofs.Halves.Ready.{Ready, ready_probes, ready_group}
 use Rattle.quic_headline.proofs.Places.Everything as everything
 
 -- what waits to go of streams may go
 pub ready : everything.IsReadying Ready
-ready = record { group = ready_group; waits = ready_waits }
+ready = record { group = ready_group; probes = ready_probes }
 
 -- ---- what is read and finished
 
@@ -37,6 +38,11 @@ accepts_all = everything.accepts_all Ready ready
 pub finished_means_arrived : (r : Run) (end : World) → IsHonest r → IsRun r end → FinishedMeansArrived r
 finished_means_arrived = everything.finished_means_arrived Ready ready
 
+-- ---- messages
+
+pub messages_at_most_once : (r : Run) (end : World) → IsHonest r → IsRun r end → MessagesAtMostOnce r
+messages_at_most_once = everything.messages_at_most_once Ready ready
+
 -- ---- packets
 
 pub acknowledged_were_taken : (r : Run) (end : World) → IsHonest r → IsRun r end → AcknowledgedWereTaken r
@@ -47,6 +53,9 @@ names_were_taken = everything.names_were_taken Ready ready
 
 pub opens_exactly : (r : Run) (end : World) → IsHonest r → IsRun r end → OpensExactly r
 opens_exactly = everything.opens_exactly Ready ready
+
+pub newest_opens : (r : Run) (end : World) → IsHonest r → IsRun r end → NewestOpens r
+newest_opens = everything.newest_opens Ready ready
 
 pub numbers_rise : (r : Run) (end : World) → IsHonest r → IsRun r end → NumbersRise r
 numbers_rise = everything.numbers_rise Ready ready
@@ -64,6 +73,9 @@ grown_limits_wait = everything.grown_limits_wait Ready ready
 
 pub loss_moments : (r : Run) (end : World) → IsHonest r → IsRun r end → LossMoments r
 loss_moments = everything.loss_moments Ready ready
+
+pub loss_timer_quiet : (r : Run) (end : World) → IsHonest r → IsRun r end → LossTimerQuiet r
+loss_timer_quiet = everything.loss_timer_quiet Ready ready
 
 pub ack_moments : (r : Run) (end : World) → IsHonest r → IsRun r end → AckMoments r
 ack_moments = everything.ack_moments Ready ready

@@ -5,36 +5,44 @@ use Rattle.quic_streams_state.specs.State.{Streams}
 use Rattle.quic_machine.specs.Opens.{own_id_length}
 use Rattle.quic_machine.specs.Machine.{World}
 use Rattle.quic_machine.specs.End.{streams_at}
+use Rattle.quic_machine.specs.PollCases.{ready_at}
 use Rattle.quic_headline.specs.Runs.{Run, AreServed}
 use Rattle.quic_headline.specs.InFlight.{TracksInFlight}
-use Rattle.quic_headline.specs.Headline.{IsHonest, IsRun, AcknowledgedWereTaken, NamesWereTaken, OpensExactly, NumbersRise}
-use Rattle.quic_headline.specs.Moments.{LossMoments, AckMoments}
+use Rattle.quic_headline.specs.Messages.{MessagesAtMostOnce}
+use Rattle.quic_headline.specs.Headline.{IsHonest, IsRun, AcknowledgedWereTaken, NamesWereTaken, OpensExactly, NewestOpens, NumbersRise}
+use Rattle.quic_headline.specs.Moments.{LossMoments, LossTimerQuiet, AckMoments}
 use Rattle.quic_headline.proofs.Packets.Composed.{Spelling}
 use Rattle.quic_headline.proofs.Packets.Going.{Bringing, spellable_next}
 use Rattle.quic_headline.proofs.Packets.Group.{PacketsHold, SpellsNext, packets_group}
 use Rattle.quic_headline.proofs.Packets.Sight.{Sight, sight_group}
+use Rattle.quic_headline.proofs.Packets.Referring.{Refers, refers_group}
 use Rattle.quic_headline.proofs.Places.Parties.{Party, AreJoined}
 use Rattle.quic_headline.proofs.Places.Groups.{Way, Nothing, And, Group, both, over, knot}
 use Rattle.quic_headline.proofs.Places.Placed.{Placed, placed, placed_less}
 use Rattle.quic_headline.proofs.Places.Openings.{acknowledged_were_taken, names_were_taken, opens_exactly}
 use Rattle.quic_headline.proofs.Places.Flights.{numbers_rise, tracks_in_flight}
+use Rattle.quic_headline.proofs.Places.Newest.{newest_opens}
 use Rattle.quic_headline.proofs.Timers.Watched.{Observed}
-use Rattle.quic_headline.proofs.Timers.LossMoments.{InPace, pace_group, loss_moments}
+use Rattle.quic_headline.proofs.Timers.LossMoments.{loss_moments}
 use Rattle.quic_headline.proofs.Timers.AckMoments.{InDebt, debt_group, ack_moments}
+use Rattle.quic_headline.proofs.Timers.Quiet.{Unnamed, quiet_group, loss_timer_quiet}
+use Rattle.quic_headline.proofs.Messages.Group.{AtMostOnce, messages_group}
+use Rattle.quic_headline.proofs.Messages.Clause.{messages_at_most_once}
 
 -- streams of which K is known spell what an end composes
 pub record Spells (H : Way) : Type 1 where
   pub known : Streams → Type 0
   pub spelling : Spelling known
   pub bringing : Bringing known
-  pub holds : (x y : Party) → H x y → known (streams_at x.end)
+  -- also where something waits for each probe
+  pub holds : (x y : Party) → PacketsHold x y → H x y → (now : ℕ) → known (streams_at (ready_at x.end now))
 
 module _ (H : Way) (s : Spells H) where
   -- what an end composes next has a form
   spells : (x y : Party) → AreJoined x y → And Nothing H x y → And Nothing H y x → PacketsHold x y → PacketsHold y x → SpellsNext x.end
   spells x y joined there back p q =
       let long : length x.end.ids.active.id ≡ own_id_length = ap (λ (id : List ℕ). length id) p.active ∙ joined.y_long in
-      spellable_next s.known s.spelling s.bringing x.end q.acks (omega arith) (s.holds x y there.1)
+      spellable_next s.known s.spelling s.bringing x.end q.acks (omega arith) (s.holds x y p there.1)
 
   module _ (streams : Group PacketsHold H) where
     -- the packets and the streams
@@ -80,6 +88,9 @@ module _ (H : Way) (s : Spells H) where
       pub all_open : OpensExactly r
       all_open = opens_exactly r end honest packets_place
 
+      pub all_newest : NewestOpens r
+      all_newest = newest_opens r end honest (observed_at Refers (over PacketsHold Observed Refers (λ x y h. h.0) refers_group))
+
       pub all_rise : NumbersRise r
       all_rise = numbers_rise r end honest observed_place
 
@@ -87,7 +98,13 @@ module _ (H : Way) (s : Spells H) where
       all_tracked = tracks_in_flight r end honest sight_place
 
       pub all_paced : LossMoments r
-      all_paced = loss_moments r end honest (observed_at InPace pace_group)
+      all_paced = loss_moments r end honest sight_place
+
+      pub all_quiet : LossTimerQuiet r
+      all_quiet = loss_timer_quiet r end honest (observed_at Unnamed quiet_group)
 
       pub all_due : AckMoments r
       all_due = ack_moments r end honest (observed_at InDebt debt_group)
+
+      pub all_messages : MessagesAtMostOnce r
+      all_messages = messages_at_most_once Observed r end (observed_at AtMostOnce (over PacketsHold Observed AtMostOnce (λ x y h. h.0) messages_group))

@@ -1,5 +1,5 @@
 -- Datagrams are acknowledged: their end knows of all that stands in them, and tells each stream finished of which that was the last.
-use Rattle.std.proofs.Common.{◌≡◌, ℕ, ◌+◌, ◌<◌, ◌≤◌, true, List, [], ◌∷◌, ◌++◌, length, map, Option, Some, None, refl, ap, subst, ◌⊎◌, inl, inr}
+use Rattle.std.proofs.Common.{◌≡◌, ℕ, ◌+◌, ◌<◌, ◌≤◌, true, List, [], ◌∷◌, ◌++◌, length, Option, Some, None, refl, sym, ap, ◌∙◌, subst, ◌⊎◌, inl, inr}
 use Rattle.quic_wire.specs.Value.{FrameValue, StreamValue, stream}
 use Rattle.quic_send_buffer.specs.declared.stream_meta.StreamMeta.{StreamMeta}
 use Rattle.quic_streams_parts.specs.SendHalf.{meta_of}
@@ -8,13 +8,17 @@ use Rattle.quic_streams_laws.specs.Written.{Wrote}
 use Rattle.quic_streams_laws.specs.Acknowledged.{FinishedHave, MetaArrived}
 use Rattle.quic_streams_laws.specs.AcknowledgedLaws.{half_arrived}
 use Rattle.quic_streams_laws.specs.FinishedLaws.{finished_kept, finished_stream_acked}
-use Rattle.quic_machine.specs.Tracking.{Carried}
+use Rattle.quic_streams_parts.specs.Table.{Table}
+use Rattle.quic_machine.specs.Tracking.{TrackedPacket, Carried}
 use Rattle.quic_machine.specs.End.{End}
 use Rattle.quic_machine.specs.Acked.{without_known, reset_acked, resets_acked, stream_acked, streams_acked, packet_acked, packets_acked, stream_lost}
 use Rattle.quic_machine.specs.FrameCases.{resets_acked_keep}
 use Rattle.quic_headline.specs.Runs.{In}
 use Rattle.quic_headline.specs.Observer.{Sent, HoldsOffset, HoldsEnd}
-use Rattle.quic_headline.specs.InFlight.{all_offsets, waited_for}
+use Rattle.quic_headline.specs.InFlight.{all_offsets}
+use Rattle.quic_headline.proofs.Packets.Invariant.{carried_streams}
+use Rattle.quic_headline.proofs.Packets.Carried.{carried_same}
+use Rattle.quic_headline.proofs.Packets.Waited.{IsWaited, AreWaited}
 use Rattle.quic_headline.proofs.Places.Told.{in_left, in_append}
 use Rattle.quic_headline.proofs.Halves.Finished.{finished_words, finished_grows}
 use Rattle.quic_headline.proofs.Settled.Half.{Known, KnowsMore, settles_follow, knows_same}
@@ -110,6 +114,10 @@ all_known sents acks ss =
 
 -- ---- steps
 
+-- a packet that is tracked has the offsets of its datagram
+pub waited_offsets : (s : Sent) (p : ℕ × TrackedPacket) → IsWaited s p → p.1.carried.stream_frames ≡ all_offsets s.frames
+waited_offsets s p waited = carried_streams p.1.carried s.frames waited.carried ∙ ap (λ (c : Carried). c.stream_frames) (sym (carried_same s.frames))
+
 module _ (arrived : ℕ → ℕ → Type 0) (end_arrived : ℕ → Type 0) (n : ℕ → ℕ) (w : ℕ → Wrote) where
   -- what holds of the streams of an end
   abbrev pub Holds : Known → End → Type 0
@@ -149,27 +157,34 @@ module _ (arrived : ℕ → ℕ → Type 0) (end_arrived : ℕ → Type 0) (n : 
       metas_hold ms (with_meta m k) (stream_acked m e) (λ q j. (let y = sent q (inr j) in record { offsets = y.offsets; end = y.end; came = y.came }))
       (acked_holds k (with_meta m k) m e (record { sent = λ id o s. s; end_sent = λ id s. s; acked = λ id o a. a; end_acked = λ id a. a; was_sent = λ o a from below. x.offsets o from below; end_was_sent = λ a fin. x.end fin }) x.came i)
 
-  -- datagrams are
-  pub sents_hold : (ss : List Sent) (k : Known) (e : End) → ((s : Sent) → In s ss → (m : StreamMeta) → In m (all_offsets s.frames) → MetaSent k m) → Holds k e → Holds (with_sents ss k) (packets_acked (map waited_for ss) e)
-  sents_hold [] k e sent i = i
-  sents_hold (s ∷ ss) k e sent i =
-      let c : Carried = (waited_for s).1.carried in
+  -- a datagram is, that is tracked as this packet
+  packet_holds : (s : Sent) (p : ℕ × TrackedPacket) → IsWaited s p → (k : Known) (e : End) → ((m : StreamMeta) → In m (all_offsets s.frames) → MetaSent k m) → Holds k e → Holds (with_metas (all_offsets s.frames) k) (packet_acked p.1 e)
+  packet_holds s p waited k e sent i =
+      let c : Carried = p.1.carried in
       let known : End = without_known c.largest_acked e in
       let resets : End = resets_acked c.retransmits.reset_stream known in
-      let one : Holds (with_metas (all_offsets s.frames) k) (packet_acked (waited_for s).1 e) =
-      metas_hold (all_offsets s.frames) k resets (sent s (inl refl)) (resets_acked_keep (Holds k) (reset_holds k) c.retransmits.reset_stream known (knows_holds k c.largest_acked e i)) in
+      subst (λ (ms : List StreamMeta). Holds (with_metas (all_offsets s.frames) k) (streams_acked ms resets)) (sym (waited_offsets s p waited))
+      (metas_hold (all_offsets s.frames) k resets sent (resets_acked_keep (Holds k) (reset_holds k) c.retransmits.reset_stream known (knows_holds k c.largest_acked e i)))
+
+  -- datagrams are
+  pub sents_hold : (ss : List Sent) (ps : Table TrackedPacket) → AreWaited ss ps → (k : Known) (e : End) → ((s : Sent) → In s ss → (m : StreamMeta) → In m (all_offsets s.frames) → MetaSent k m) → Holds k e → Holds (with_sents ss k) (packets_acked ps e)
+  sents_hold [] [] waited k e sent i = i
+  sents_hold (s ∷ ss) (p ∷ ps) waited k e sent i =
       let keep = metas_keep (all_offsets s.frames) k in
-      sents_hold ss (with_metas (all_offsets s.frames) k) (packet_acked (waited_for s).1 e) (λ t j m a. (let y = sent t (inr j) m a in record { offsets = λ o from below. keep.sent m.id o (y.offsets o from below); end = λ fin. keep.end_sent m.id (y.end fin); came = y.came })) one
+      sents_hold ss ps waited.1 (with_metas (all_offsets s.frames) k) (packet_acked p.1 e) (λ t j m a. (let y = sent t (inr j) m a in record { offsets = λ o from below. keep.sent m.id o (y.offsets o from below); end = λ fin. keep.end_sent m.id (y.end fin); came = y.came }))
+      (packet_holds s p waited.0 k e (sent s (inl refl)) i)
+  sents_hold [] (p ∷ ps) waited k e sent i = absurd waited
+  sents_hold (s ∷ ss) [] waited k e sent i = absurd waited
 
 -- datagrams of an end that were sent are acknowledged: its end knows of them too
-pub sents_settle : (n : ℕ → ℕ) (w : ℕ → Wrote) (sents acks ss : List Sent) (e : End) → ((s : Sent) → In s ss → (m : StreamMeta) → In m (all_offsets s.frames) → MetaSent (λ id o. HoldsOffset (acks ++ ss) id o) (λ id. HoldsEnd (acks ++ ss) id) n w (known_of sents acks) m)
+pub sents_settle : (n : ℕ → ℕ) (w : ℕ → Wrote) (sents acks ss : List Sent) (ps : Table TrackedPacket) → AreWaited ss ps → (e : End) → ((s : Sent) → In s ss → (m : StreamMeta) → In m (all_offsets s.frames) → MetaSent (λ id o. HoldsOffset (acks ++ ss) id o) (λ id. HoldsEnd (acks ++ ss) id) n w (known_of sents acks) m)
     → Holds (λ id o. HoldsOffset acks id o) (λ id. HoldsEnd acks id) n w (known_of sents acks) e
-    → Holds (λ id o. HoldsOffset (acks ++ ss) id o) (λ id. HoldsEnd (acks ++ ss) id) n w (known_of sents (acks ++ ss)) (packets_acked (map waited_for ss) e)
-sents_settle n w sents acks ss e sent i =
+    → Holds (λ id o. HoldsOffset (acks ++ ss) id o) (λ id. HoldsEnd (acks ++ ss) id) n w (known_of sents (acks ++ ss)) (packets_acked ps e)
+sents_settle n w sents acks ss ps waited e sent i =
     let first = finished_grows (λ id o. HoldsOffset acks id o) (λ id o. HoldsOffset (acks ++ ss) id o) (λ id. HoldsEnd acks id) (λ id. HoldsEnd (acks ++ ss) id)
     (λ id o x. record { sent = x.sent; among = in_left x.sent acks ss x.among; frame = x.frame; carried = x.carried; of_stream = x.of_stream; from = x.from; below = x.below })
     (λ id x. record { sent = x.sent; among = in_left x.sent acks ss x.among; frame = x.frame; carried = x.carried; of_stream = x.of_stream; fin = x.fin }) w e.streams i.0 in
-    let after : End = packets_acked (map waited_for ss) e in
-    let all = sents_hold (λ id o. HoldsOffset (acks ++ ss) id o) (λ id. HoldsEnd (acks ++ ss) id) n w ss (known_of sents acks) e sent (first, i.1) in
+    let after : End = packets_acked ps e in
+    let all = sents_hold (λ id o. HoldsOffset (acks ++ ss) id o) (λ id. HoldsEnd (acks ++ ss) id) n w ss ps waited (known_of sents acks) e sent (first, i.1) in
     let t = telling n (is_reset w) after.streams in
     (all.0, settles_follow (with_sents ss (known_of sents acks)) (known_of sents (acks ++ ss)) t t (all_known sents acks ss) after.streams (record { times = λ id. refl; reset = λ id. refl }) all.1)

@@ -1,6 +1,6 @@
 -- Where an open end has nothing left to tell, each stream was told finished that is wholly acknowledged, once, and no other.
 use Rattle.std.proofs.Common.{◌≡◌, ℕ, ◌<◌, ◌≤◌, Bool, true, false, List, [], ◌∷◌, length, Option, Some, None, refl, sym, ap, ◌∙◌, subst, inl, inr, arith}
-use Rattle.std.specs.Prelude.{◌==◌, ◌&&◌, option_map}
+use Rattle.std.specs.Prelude.{◌==◌, ◌&&◌, option_map, if◌then◌else◌}
 use Rattle.std.specs.Option.{is_some}
 use Rattle.std.proofs.lemmas.Bool.{cases_lt, cond_both, eq-eqb, both_ways}
 use Rattle.quic_sets.specs.Runs.{Has}
@@ -24,10 +24,11 @@ use Rattle.quic_streams_laws.specs.Written.{Wrote, IsSendHalf, nothing_done}
 use Rattle.quic_streams_laws.specs.WrittenHalves.{bytes_written}
 use Rattle.quic_streams_laws.specs.Acknowledged.{HalfArrived, IsSettled}
 use Rattle.quic_machine.specs.declared.answers.State.TheVariants as states
+use Rattle.quic_machine.specs.declared.answers.Event.TheVariants as events
 use Rattle.quic_machine.specs.declared.run.Call.TheVariants as calls
 use Rattle.quic_machine.specs.declared.run.Answer.TheVariants as answers
 use Rattle.quic_machine.specs.Closing.{Closing}
-use Rattle.quic_machine.specs.Calls.{tells_of}
+use Rattle.quic_machine.specs.Calls.{tells_message, tells_of}
 use Rattle.quic_machine.specs.Machine.{World}
 use Rattle.quic_headline.specs.Runs.{Run, Told, AreServed, state_at, reset}
 use Rattle.quic_headline.specs.Observer.{Sent, HoldsOffset, HoldsEnd, Watch}
@@ -66,9 +67,10 @@ none_left s =
     behind (Some n) t same is = cc
 
 -- an end that tells nothing has nothing to tell of streams
-none_of_streams : (o : Option StreamEvent) (c : Closing) → answers.Event None ≡ answers.Event (tells_of o c) → o ≡ None
-none_of_streams None c is = refl
-none_of_streams (Some event) c is = cc
+none_of_streams : (message : Bool) (o : Option StreamEvent) (c : Closing) → answers.Event None ≡ answers.Event (if message then Some events.Message else tells_of o c) → o ≡ None
+none_of_streams true o c is = cc
+none_of_streams false None c is = refl
+none_of_streams false (Some event) c is = cc
 
 -- ---- a half of which all is acknowledged
 
@@ -167,7 +169,7 @@ module _ (G : Way) (settles : (x y : Party) → G x y → Settled x y) (r : Run)
       told state event =
           let s = x.end.streams in
           let is = answered r p.world end i side calls.Event (answers.Event None) p.goes_on event in
-          let queue = none_left s (none_of_streams (polled s).answer x.end.closing is) in
+          let queue = none_left s (none_of_streams (tells_message x.end) (polled s).answer x.end.closing is) in
           let open_now : Open x.sents (wrote x.told) (told_so x) (acks x y) x.end = held.still (p.state ∙ state) in
           let shape = open_now.0.acked.shape in
           let status = status_half (wrote x.told id ≡ nothing_done) (λ h. IsSendHalf (wrote x.told id) h × HalfArrived (λ o. HoldsOffset (acks x y) id o) (HoldsEnd (acks x y) id) h) (IsSettled (λ o. HoldsOffset (acks x y) id o) (HoldsEnd (acks x y) id) (wrote x.told id))

@@ -1,10 +1,8 @@
 -- What an observer counts as acknowledged in flight, an open end knows so of its streams; and each stream is told to be finished once, where all of it is. It holds at each
 -- place of an honest run.
-use Rattle.std.proofs.Common.{◌≡◌, ℕ, ◌+◌, ◌<◌, ◌≤◌, Bool, true, false, List, [], ◌∷◌, ◌++◌, map, append-nil, Option, Some, None, refl, sym, ap, ◌∙◌, subst, inl, inr, arith}
-use Rattle.std.specs.Prelude.{if◌then◌else◌, option_map}
-use Rattle.std.specs.List.{list_any}
-use Rattle.std.proofs.lemmas.Bool.{cond_both}
-use Rattle.quic_wire.specs.Value.{FrameValue, StreamValue, stream, asks}
+use Rattle.std.proofs.Common.{◌≡◌, ℕ, ◌+◌, ◌<◌, ◌≤◌, Bool, true, false, List, [], ◌∷◌, ◌++◌, append-nil, Option, Some, None, refl, sym, ap, ◌∙◌, subst, inl, inr, arith}
+use Rattle.std.specs.Prelude.{if◌then◌else◌, max, length, option_map}
+use Rattle.quic_wire.specs.Value.{FrameValue, StreamValue, stream}
 use Rattle.quic_send_buffer.specs.declared.stream_meta.StreamMeta.{StreamMeta}
 use Rattle.quic_streams_parts.specs.declared.answers.StreamEvent.{StreamEvent}
 use Rattle.quic_streams_parts.specs.declared.answers.StreamEvent.TheVariants.{Opened, Readable, Writable, Finished, Stopped, Available}
@@ -15,13 +13,14 @@ use Rattle.quic_streams_laws.specs.Each.{HalfIs}
 use Rattle.quic_streams_laws.specs.StartLaws.{nowhere}
 use Rattle.quic_streams_parts.specs.SendHalf.{meta_of}
 use Rattle.quic_streams_state.specs.declared.state.StreamsState.{StreamsState}
-use Rattle.quic_streams_state.specs.Telling.{Telling}
+use Rattle.quic_streams_state.specs.State.{Streams}
 use Rattle.quic_streams_state.specs.Telling as telling_next
 use Rattle.quic_streams_laws.specs.KeepingLaws.{by_polled}
 use Rattle.quic_streams_laws.specs.Keeping.{finishes_in}
 use Rattle.quic_streams_laws.specs.Written.{Wrote, IsStreamOf}
 use Rattle.quic_machine.specs.declared.answers.LostReason.{LostReason}
 use Rattle.quic_machine.specs.declared.answers.Event.TheVariants as events
+use Rattle.quic_machine.specs.declared.answers.State.{State}
 use Rattle.quic_machine.specs.declared.answers.State.TheVariants as states
 use Rattle.quic_machine.specs.declared.run.Call.{Call}
 use Rattle.quic_machine.specs.declared.run.Call.TheVariants as calls
@@ -32,8 +31,9 @@ use Rattle.quic_machine.specs.Policy.{Policy}
 use Rattle.quic_machine.specs.Closing.{Closing, loss_to_tell}
 use Rattle.quic_machine.specs.Tracking.{TrackedPacket, Carried, streams_in}
 use Rattle.quic_machine.specs.End.{End, streams_at}
-use Rattle.quic_machine.specs.Acked.{stream_lost, streams_lost, carried_lost, packets_acked, packets_lost}
-use Rattle.quic_machine.specs.Calls.{is_open, tells_of, end_tells}
+use Rattle.quic_spaces.specs.Numbers.{Numbers, number_opened}
+use Rattle.quic_machine.specs.Acked.{stream_lost, streams_lost, carried_lost, packets_lost}
+use Rattle.quic_machine.specs.Calls.{is_open, tells_message, tells_of, message_told, others_told}
 use Rattle.quic_machine.specs.StreamCalls.{is_on_streams}
 use Rattle.quic_machine.specs.Receive.{Outcome}
 use Rattle.quic_machine.specs.Poll.{polled}
@@ -43,17 +43,20 @@ use Rattle.quic_machine.specs.LeaveCases.{by_expired}
 use Rattle.quic_machine.specs.FrameCases.{begun}
 use Rattle.quic_packet.specs.Datagram.{opened_packet}
 use Rattle.quic_machine.specs.Opens.{own_id_length}
+use Rattle.quic_machine.specs.declared.answers.Event.{Event}
 use Rattle.quic_headline.specs.Runs.{Told, Packet, Intake, In, acknowledged, and_told, finish_told_by, finishes_told}
-use Rattle.quic_headline.specs.Observer.{Sent, Flight, HoldsOffset, HoldsEnd, Watch, Lens, first_watch, news, after_packets, after_frames, and_sent, and_all_sent, sent_as, watch_sent, watch_given, watch_told}
-use Rattle.quic_headline.specs.InFlight.{all_offsets, waited_for}
-use Rattle.quic_headline.proofs.Packets.Invariant.{IsSent, AreTracked, WereSent}
+use Rattle.quic_headline.specs.Observer.{Sent, Terms, Flight, HoldsOffset, HoldsEnd, Watch, Lens, first_watch, has_opened, moment_of, clock_behind, after_packets, after_frames, and_sent, and_all_sent, loss_due, is_past, expired_for, sent_as, watch_sent, watch_given, is_timely, watch_moment, watch_came, watch_told}
+use Rattle.quic_headline.specs.InFlight.{all_offsets}
+use Rattle.quic_headline.proofs.Packets.Invariant.{IsSent, AreTracked, WereSent, carried_stream}
 use Rattle.quic_headline.proofs.Packets.Growth.{step_of}
 use Rattle.quic_headline.proofs.Packets.Intakes.{folded_more}
 use Rattle.quic_headline.proofs.Packets.Carried.{carried_same}
 use Rattle.quic_headline.proofs.Packets.Delivered.{Arrivals, arrived, with_taken}
 use Rattle.quic_headline.proofs.Packets.Named.{WasCarried, SettlesOn, frames_settle}
-use Rattle.quic_headline.proofs.Packets.Flying.{Flies, frames_fly}
-use Rattle.quic_headline.proofs.Packets.Watching.{watched_intake, none_new, one_new, none_comes}
+use Rattle.quic_headline.proofs.Packets.Losses.{Losing, expiry_stays}
+use Rattle.quic_headline.proofs.Packets.Waited.{IsWaited, AreWaited, waited_there}
+use Rattle.quic_headline.proofs.Packets.Flying.{Waits, held, Loses, Flies, frames_fly, ticked_waits, numbers_wait}
+use Rattle.quic_headline.proofs.Packets.Watching.{came_with, timed_with, watched_intake, none_new, none_comes, packet_delivered}
 use Rattle.quic_headline.proofs.Packets.Group.{PacketsHold, meets}
 use Rattle.quic_headline.proofs.Packets.Sight.{Sight}
 use Rattle.quic_headline.proofs.Places.Told.{in_right}
@@ -65,7 +68,7 @@ use Rattle.quic_headline.proofs.Causes.Shown.{call_closes}
 use Rattle.quic_headline.proofs.Halves.Wrote.{done_by}
 use Rattle.quic_headline.proofs.Halves.Ghosts.{wrote, SaysOf, Saying}
 use Rattle.quic_headline.proofs.Halves.Words.{call_with}
-use Rattle.quic_headline.proofs.Halves.WordsCalls.{done_none, call_on_is}
+use Rattle.quic_headline.proofs.Halves.WordsCalls.{HaveEnds, done_none, call_on_is}
 use Rattle.quic_headline.proofs.Halves.Small.{IsSmallLimit, payload_small}
 use Rattle.quic_headline.proofs.Halves.Finished.{finished_words, finished_same, finished_grows}
 use Rattle.quic_headline.proofs.Halves.Finishing.{tells, told_counts}
@@ -74,7 +77,7 @@ use Rattle.quic_headline.proofs.Halves.Arrived as arrived_halves
 use Rattle.quic_headline.proofs.Settled.Half.{Known, IsFree, UnusedSettles, HalfSettles, DoneSettles, Settles, settles_kept, settles_alike, nothing_known}
 use Rattle.quic_headline.proofs.Settled.Acked.{telling, KnowsAcked}
 use Rattle.quic_headline.proofs.Settled.Words.{Settling, is_reset, settling_calls, settling_frame}
-use Rattle.quic_headline.proofs.Settled.Carried.{known_of, MetaSent, sents_settle, reset_holds, lost_holds, acked_holds}
+use Rattle.quic_headline.proofs.Settled.Carried.{known_of, waited_offsets, MetaSent, sents_settle, reset_holds, lost_holds, acked_holds}
 use Rattle.quic_headline.proofs.Settled.Sends.{poll_settles_nothing, poll_settles}
 
 -- ---- where the same was done and told
@@ -96,10 +99,14 @@ module _ (arrived : ℕ → ℕ → Type 0) (end_arrived : ℕ → Type 0) (k : 
           (by_polled (Settles k (telling n (is_reset w) s)) (settles_kept k (telling n (is_reset w) s)) s i.1),
     )
 
+    -- packets that are lost
+    losing : (packets : Table TrackedPacket) → HaveEnds w packets → Losing packets (λ (t : Streams). Settling arrived end_arrived k n w t.state)
+    losing packets ends = record { lost = λ c t m e among inside i. lost_holds arrived end_arrived n w k m e (ends c t among m inside) i; again = λ c t e among i. i }
+
     -- a call that is neither a delivery nor a poll, nor asks what is told
-    pub call_settles : (p : Policy) (e : End) (theirs : List (List ℕ)) (call : Call) (a : Answer) → is_delivery call ≡ false → is_poll call ≡ false → asks_event call ≡ false → IsAnswer p e theirs call a
+    pub call_settles : (p : Policy) (e : End) (theirs : List (List ℕ)) (call : Call) (a : Answer) → is_delivery call ≡ false → is_poll call ≡ false → asks_event call ≡ false → IsAnswer p e theirs call a → HaveEnds w e.tracking.packets
         → Settling arrived end_arrived k n w e.streams → Settling arrived end_arrived k n (done_by call a w) (after_call p e theirs call a).streams
-    call_settles p e theirs call a apart silent quiet is i = go (is_on_streams call) refl
+    call_settles p e theirs call a apart silent quiet is ends i = go (is_on_streams call) refl
       where
         go : (b : Bool) → is_on_streams call ≡ b → Settling arrived end_arrived k n (done_by call a w) (after_call p e theirs call a).streams
         go true on =
@@ -108,9 +115,11 @@ module _ (arrived : ℕ → ℕ → Type 0) (end_arrived : ℕ → Type 0) (k : 
         go false off = subst (λ (v : ℕ → Wrote). Settling arrived end_arrived k n v (after_call p e theirs call a).streams) (sym (done_none call a w off)) (by_call p e theirs (λ (f : End). Settling arrived end_arrived k n w f.streams) call a (record {
           same = i;
           on_streams = λ on answer. cc;
+          on_messages = λ on answer. i;
           pings = i;
           heard = λ path same. i;
-          times = λ now acks loss set. by_expired e now (λ (f : End). Settling arrived end_arrived k n w f.streams) (λ pending tracking timers runs packets. i) acks loss;
+          times = λ now acks loss set. by_expired e now (λ (f : End). Settling arrived end_arrived k n w f.streams) (λ pending tracking timers runs packets. i)
+              (λ pending timers runs. expiry_stays (λ (t : Streams). Settling arrived end_arrived k n w t.state) e now (losing e.tracking.packets ends) i pending timers) acks loss;
           polls = λ now set. cc;
           hears = λ now d set. cc;
           tells = λ asks. cc;
@@ -145,47 +154,67 @@ told_event id None c = go (loss_to_tell c)
 
 -- ---- what the observer counts
 
--- those that were acknowledged in flight, once this came
-abbrev acked_with : Watch → Intake → List Sent
-acked_with w i = (after_packets (news w.intake i) w.flight).acked
+-- those that were acknowledged in flight, once this came by a call
+abbrev acked_with : Terms → State → Call → Watch → Intake → List Sent
+acked_with t state call w i = (watch_came t i (clock_behind w.clock (moment_of state (has_opened w.intake i) call)) w).flight.acked
 
 abbrev pub acks : Party → Party → List Sent
 acks x y = (watch_of x y).flight.acked
 
 sent_acked : (ss : List Sent) (f : Flight) → (and_all_sent ss f).acked ≡ f.acked
 sent_acked [] f = refl
-sent_acked (s ∷ ss) f = sent_acked ss (and_sent s f) ∙ cond_both {A = Flight} (list_any asks s.frames) _ _ (λ (g : Flight). g.acked ≡ f.acked) (λ e. refl) (λ e. refl)
+sent_acked (s ∷ ss) f = sent_acked ss (and_sent s f)
 
 datagram_acked : (taker : Policy) (ds : List (List ℕ)) (w : Watch) → (watch_sent taker ds w).flight.acked ≡ w.flight.acked
 datagram_acked taker [] w = refl
-datagram_acked taker (d ∷ ds) w = sent_acked (sent_as (opened_packet taker.header taker.packet (own_id_length + 1) (acknowledged w.intake.took) d) (acknowledged w.intake.took) w.clock) w.flight
+datagram_acked taker (d ∷ ds) w = sent_acked (sent_as (opened_packet taker.header taker.packet (own_id_length + 1) (acknowledged w.intake.took) d) (acknowledged w.intake.took) w.clock (length d)) w.flight
 
 given_acked : (b : Bool) (l : Lens) (w : Watch) → (watch_given b l w).flight.acked ≡ w.flight.acked
 given_acked false l w = refl
 given_acked true l w = datagram_acked l.taker w.left w
+
+-- a moment acknowledges nothing
+expired_acked : (o : Option ℕ) (t : Terms) (clock : ℕ) (f : Flight) → (expired_for o t clock f).acked ≡ f.acked
+expired_acked None t clock f = refl
+expired_acked (Some moment) t clock f = refl
+
+moment_acked : (b : Bool) (t : Terms) (w : Watch) → (watch_moment b t w).flight.acked ≡ w.flight.acked
+moment_acked false t w = refl
+moment_acked true t w = go (is_past (loss_due t w.flight) w.clock)
+  where
+    go : (b : Bool) → (if b then expired_for w.flight.loss_time t w.clock w.flight else w.flight).acked ≡ w.flight.acked
+    go true = expired_acked w.flight.loss_time t w.clock w.flight
+    go false = refl
 
 module _ (x y : Party) where
   abbrev seen : Watch
   seen = watch_of x y
 
   seen_intake : seen.intake ≡ came_to x y
-  seen_intake = watched_intake (lens x y) x.told (first_watch (x.id ∷ []) x.final x.began)
+  seen_intake = watched_intake (lens x y) x.told (first_watch (x.id ∷ []) x.final x.began x.initial_rtt)
 
   -- behind a call
-  acks_behind : (call : Call) (a : Answer) → acks (called x y.given call a) y ≡ acked_with seen (came_to (called x y.given call a) y)
+  acks_behind : (call : Call) (a : Answer) → acks (called x y.given call a) y ≡ acked_with x.terms x.end.closing.state call seen (came_to (called x y.given call a) y)
   acks_behind call a =
       let t : Told = told_of call a x.end.closing.state in
-      ap (λ (w : Watch). w.flight.acked) (folded_more (watch_told (lens x y)) x.told t (first_watch (x.id ∷ []) x.final x.began))
-      ∙ given_acked (gave a) (lens x y) _
-      ∙ ap (λ (i : Intake). acked_with seen i) (ap (λ (i : Intake). and_told x.policy y.final t i) seen_intake ∙ sym (came_more x y call a))
+      ap (λ (w : Watch). w.flight.acked) (folded_more (watch_told (lens x y)) x.told t (first_watch (x.id ∷ []) x.final x.began x.initial_rtt))
+      ∙ given_acked (gave a) (lens x y) (timed_with (lens x y) t seen)
+      ∙ moment_acked (is_timely t.state call) x.terms (came_with (lens x y) t seen)
+      ∙ ap (λ (i : Intake). acked_with x.terms x.end.closing.state call seen i) (ap (λ (i : Intake). and_told x.policy y.final t i) seen_intake ∙ sym (came_more x y call a))
 
   -- where nothing came
-  acked_here : acked_with seen (came_to x y) ≡ acks x y
-  acked_here = ap (λ (i : Intake). acked_with seen i) (sym seen_intake) ∙ ap (λ (ps : List Packet). (after_packets ps seen.flight).acked) (none_new seen.intake)
+  acked_here : (call : Call) → acked_with x.terms x.end.closing.state call seen (came_to x y) ≡ acks x y
+  acked_here call =
+      ap (λ (i : Intake). acked_with x.terms x.end.closing.state call seen i) (sym seen_intake)
+      ∙ ap (λ (ps : List Packet). (after_packets x.terms (clock_behind seen.clock (moment_of x.end.closing.state (has_opened seen.intake seen.intake) call)) ps seen.flight).acked) (none_new seen.intake)
 
-  -- where a packet was taken
-  acked_then : (n : ℕ) (frames : List FrameValue) → acked_with seen (with_taken (came_to x y) n frames) ≡ (after_frames frames seen.flight).acked
-  acked_then n frames = ap (λ (i : Intake). acked_with seen (with_taken i n frames)) (sym seen_intake) ∙ ap (λ (ps : List Packet). (after_packets ps seen.flight).acked) (one_new seen.intake n frames)
+  -- where an open end took a packet
+  acked_then : (call : Call) (delivery : Delivery) → call ≡ calls.Deliver delivery → x.end.closing.state ≡ states.Open → (n : ℕ) (frames : List FrameValue)
+      → acked_with x.terms x.end.closing.state call seen (with_taken (came_to x y) n frames) ≡ (after_frames x.terms (max seen.clock delivery.now) frames seen.flight).acked
+  acked_then call delivery is opened n frames =
+      ap (λ (c : Call). acked_with x.terms x.end.closing.state c seen (with_taken (came_to x y) n frames)) is
+      ∙ ap (λ (i : Intake). acked_with x.terms x.end.closing.state (calls.Deliver delivery) seen (with_taken i n frames)) (sym seen_intake)
+      ∙ ap (λ (w : Watch). w.flight.acked) (packet_delivered x.terms seen x.end.closing.state delivery n frames opened)
 
 -- what an open end knows that sent these, of which these were acknowledged
 abbrev pub Open : List Sent → (ℕ → Wrote) → (ℕ → ℕ) → List Sent → End → Type 0
@@ -201,23 +230,21 @@ offset_in_frames fs m i = meta_in fs m (subst (λ (c : Carried). In m c.stream_f
 abbrev AllSent : List Sent → List Sent → Type 0
 AllSent sents flying = (s : Sent) → In s flying → (m : StreamMeta) → In m (all_offsets s.frames) → (t : Sent) × In t sents × In m (streams_in t.frames)
 
--- one that is waited for
-in_waiting : (s : Sent) (flying : List Sent) → In s flying → In (waited_for s) (map waited_for flying)
-in_waiting s [] i = absurd i
-in_waiting s (t ∷ flying) (inl is) = inl (ap waited_for is)
-in_waiting s (t ∷ flying) (inr i) = inr (in_waiting s flying i)
-
 -- what an end waits for was sent
-flying_sent : (sents flying : List Sent) (packets : Table TrackedPacket) → packets ≡ map waited_for flying → AreTracked sents packets → AllSent sents flying
+flying_sent : (sents flying : List Sent) (packets : Table TrackedPacket) → AreWaited flying packets → AreTracked sents packets → AllSent sents flying
 flying_sent sents flying packets waits tracked s i m j =
-    let found = tracked s.number (waited_for s).1 (subst (λ (ps : Table TrackedPacket). In (waited_for s) ps) (sym waits) (in_waiting s flying i)) in
-    (found.0, found.1.0, subst (λ (c : Carried). In m c.stream_frames) found.2 j)
+    let there = waited_there flying packets s waits i in
+    let p : ℕ × TrackedPacket = there.0 in
+    let found = tracked p.0 p.1 there.1 in
+    (found.0, found.1.0, carried_stream p.1.carried found.0.frames found.2 m (subst (λ (ms : List StreamMeta). In m ms) (sym (waited_offsets s p there.2)) j))
 
--- each that is waited for is one of them
-waiting_is : (flying : List Sent) (n : ℕ) (p : TrackedPacket) → In (n, p) (map waited_for flying) → (s : Sent) × In s flying × (p ≡ (waited_for s).1)
-waiting_is [] n p i = absurd i
-waiting_is (s ∷ flying) n p (inl is) = (s, inl refl, ap (λ (z : ℕ × TrackedPacket). z.1) is)
-waiting_is (s ∷ flying) n p (inr i) = let rest = waiting_is flying n p i in (rest.0, inr rest.1, rest.2)
+-- each packet in step with datagrams is one of them
+waiting_is : (flying : List Sent) (ps : Table TrackedPacket) → AreWaited flying ps → (n : ℕ) (p : TrackedPacket) → In (n, p) ps → (s : Sent) × In s flying × IsWaited s (n, p)
+waiting_is [] [] waits n p i = absurd i
+waiting_is (s ∷ flying) (q ∷ ps) waits n p (inl is) = (s, inl refl, subst (λ (r : ℕ × TrackedPacket). IsWaited s r) (sym is) waits.0)
+waiting_is (s ∷ flying) (q ∷ ps) waits n p (inr i) = let rest = waiting_is flying ps waits.1 n p i in (rest.0, inr rest.1, rest.2)
+waiting_is [] (q ∷ ps) waits n p i = absurd waits
+waiting_is (s ∷ flying) [] waits n p i = absurd waits
 
 module _ (sents : List Sent) (w : ℕ → Wrote) (says : (s : Sent) → In s sents → (f : FrameValue) → In f s.frames → SaysOf w f) where
   -- it had the end only where there is one
@@ -227,11 +254,15 @@ module _ (sents : List Sent) (w : ℕ → Wrote) (says : (s : Sent) → In s sen
       let said : IsStreamOf (w found.0.id) found.0 = says t i (stream found.0) found.1 in
       subst (λ (x : StreamMeta). x.fin ≡ true → (w x.id).ended ≡ true) (sym found.2) (λ fin. said.ended fin)
 
-  flying_ended : (flying : List Sent) → AllSent sents flying → (n : ℕ) (p : TrackedPacket) → In (n, p) (map waited_for flying) → (m : StreamMeta) → In m p.carried.stream_frames → m.fin ≡ true → (w m.id).ended ≡ true
-  flying_ended flying all n p i m j =
-      let found = waiting_is flying n p i in
-      let was = all found.0 found.1 m (subst (λ (q : TrackedPacket). In m q.carried.stream_frames) found.2 j) in
+  flying_ended : (flying gone : List Sent) (ps : Table TrackedPacket) → AllSent sents flying → ((s : Sent) → In s gone → In s flying) → AreWaited gone ps → HaveEnds w ps
+  flying_ended flying gone ps all inside waits n p i m j =
+      let found = waiting_is gone ps waits n p i in
+      let was = all found.0 (inside found.0 found.1) m (subst (λ (ms : List StreamMeta). In m ms) (waited_offsets found.0 (n, p) found.2) j) in
       sent_ended was.0 was.1 m was.2
+
+  -- so had what is tracked
+  tracked_ended : (packets : Table TrackedPacket) → AreTracked sents packets → HaveEnds w packets
+  tracked_ended packets tracked n p i m j = let was = tracked n p i in sent_ended was.0 was.1.0 m (carried_stream p.carried was.0.frames was.2 m j)
 
   -- one that is acknowledged was sent, and is held then
   meta_sent : (n : ℕ → ℕ) (flying acked ss : List Sent) → AllSent sents flying → ((s : Sent) → In s ss → In s flying) → (s : Sent) → In s ss → (m : StreamMeta) → In m (all_offsets s.frames)
@@ -258,22 +289,29 @@ module _ (sents : List Sent) (w : ℕ → Wrote) (says : (s : Sent) → In s sen
     metas_lost [] e last i = i
     metas_lost (m ∷ ms) e last i = metas_lost ms (stream_lost m e) (λ q j. last q (inr j)) (lost_holds arrived end_arrived n w k m e (last m (inl refl)) i)
 
-    lost_all : (ps : Table TrackedPacket) (e : End) → ((c : ℕ) (p : TrackedPacket) → In (c, p) ps → (m : StreamMeta) → In m p.carried.stream_frames → m.fin ≡ true → (w m.id).ended ≡ true)
-        → Settling arrived end_arrived k n w e.streams → Settling arrived end_arrived k n w (packets_lost ps e).streams
+    lost_all : (ps : Table TrackedPacket) (e : End) → HaveEnds w ps → Settling arrived end_arrived k n w e.streams → Settling arrived end_arrived k n w (packets_lost ps e).streams
     lost_all [] e last i = i
     lost_all (p ∷ ps) e last i = lost_all ps (carried_lost p.1.carried e) (λ c q j. last c q (inr j)) (metas_lost p.1.carried.stream_frames e (last p.0 p.1 (inl refl)) i)
 
   -- ---- a packet of an open end, taken
 
+  open_loses : (n : ℕ → ℕ) → Loses (λ flying acked e. AllSent sents flying × Open sents w n acked e)
+  open_loses n = record {
+    tracked = λ flying acked t e i. i;
+    loses = λ flying acked gone left ps e inside stays waits i. (
+      (λ s j. i.0 s (stays s j)),
+      lost_all (λ id o. HoldsOffset acked id o) (λ id. HoldsEnd acked id) (known_of sents acked) n ps e (flying_ended flying gone ps i.0 inside waits) i.1,
+    );
+  }
+
   open_flies : (n : ℕ → ℕ) (frames : List FrameValue) → ((f : FrameValue) → In f frames → IsSmallLimit f) → Flies frames (λ flying acked e. AllSent sents flying × Open sents w n acked e)
   open_flies n frames small = record {
+    losing = open_loses n;
     names = λ flying acked a e among i. i;
-    settles = λ flying acked ss left ps t e inside stays lost i. (
-      (λ s j. i.0 s (stays s j)),
-      lost_all (λ id o. HoldsOffset (acked ++ ss) id o) (λ id. HoldsEnd (acked ++ ss) id) (known_of sents (acked ++ ss)) n ps (packets_acked (map waited_for ss) e) (λ c p j. flying_ended flying i.0 c p (lost c p j))
-          (sents_settle n w sents acked ss e (meta_sent n flying acked ss i.0 inside) i.1),
-    );
+    acks = λ flying acked ss left ps e inside stays waits i. ((λ s j. i.0 s (stays s j)), sents_settle n w sents acked ss ps waits e (meta_sent n flying acked ss i.0 inside) i.1);
+    measured = λ flying acked r e i. i;
     on_streams = λ flying acked f e among on i. (i.0, settling_frame (λ id o. HoldsOffset acked id o) (λ id. HoldsEnd acked id) (known_of sents acked) n w f e on (small f among) i.1);
+    message = λ flying acked m e i. i;
   }
 
 -- ---- a packet of any end, taken or refused
@@ -296,15 +334,16 @@ module _ (took : List Packet) (sents : List Sent) (n : ℕ → ℕ) (w : ℕ →
     known = λ c e i. i;
     reset = λ c r e was among i. reset_holds Any AnyEnd n w nothing_known r.0 e i;
     acked = λ c m e was among i. acked_holds Any AnyEnd n w nothing_known nothing_known m e (knows_none m) (record { bytes = λ o from below. tt; end = λ fin. tt; ended = carried_ended c m was among }) i;
-    lost = λ c m e was among i. lost_holds Any AnyEnd n w nothing_known m e (sent_ended sents w says was.sent was.among m (subst (λ (x : Carried). In m x.stream_frames) was.is among)) i;
+    lost = λ c m e was among i. lost_holds Any AnyEnd n w nothing_known m e (sent_ended sents w says was.sent was.among m (carried_stream c was.sent.frames was.is m among)) i;
     again = λ c e was i. i;
     tracked = λ t e i. i;
+    measured = λ r e i. i;
   }
     where
       carried_ended : (c : Carried) (m : StreamMeta) → WasCarried took c → In m c.stream_frames → m.fin ≡ true → (w m.id).ended ≡ true
       carried_ended c m was among =
           let at = taken was.packet was.was_taken in
-          sent_ended sents w says at.sent at.is.0 m (subst (λ (fs : List FrameValue). In m (streams_in fs)) (sym at.frames) (subst (λ (x : Carried). In m x.stream_frames) was.is among))
+          sent_ended sents w says at.sent at.is.0 m (subst (λ (fs : List FrameValue). In m (streams_in fs)) (sym at.frames) (carried_stream c was.packet.frames was.is m among))
 
 -- ---- the group
 
@@ -357,27 +396,33 @@ module _ (B : Way) (b : SettlesOver B) (x y : Party) (call : Call) (a : Answer) 
         settles = always_settles took x.sents (told_so x) (wrote x.told) says gives.taken;
         names = λ ak e i j. j;
         on_streams = λ f e i on j. settling_frame Any AnyEnd nothing_known (told_so x) (wrote x.told) f e on (small d among f i) j;
+        message = λ m e j. j;
       }) (begun x.end now d.number) (λ ak i k named. takes.named d ak k among i named) gives.tracked s.always
 
   -- of an open end
-  still_arrives : (now : ℕ) (d : Sent) → In d y.sents → Arrivals x.end now d.number d.frames (came_to x y) (λ (o : Outcome) (i : Intake). o.end.closing.state ≡ states.Open → Open x.sents (wrote x.told) (told_so x) (acked_with (watch_of x y) i) o.end)
-  still_arrives now d among = record {
+  still_arrives : (delivery : Delivery) → call ≡ calls.Deliver delivery → (d : Sent) → In d y.sents
+      → Arrivals x.end delivery.now d.number d.frames (came_to x y) (λ (o : Outcome) (i : Intake). o.end.closing.state ≡ states.Open → Open x.sents (wrote x.told) (told_so x) (acked_with x.terms x.end.closing.state call (watch_of x y) i) o.end)
+  still_arrives delivery is d among = record {
     ignored = λ reason still. before still;
     noted = λ state reason still. (let clash : states.Closing ≡ states.Open = sym state ∙ still in cc);
     takes = λ state new none still. taken state none;
     refuses = λ state new f is still. cc;
   }
     where
-      before : x.end.closing.state ≡ states.Open → Open x.sents (wrote x.told) (told_so x) (acked_with (watch_of x y) (came_to x y)) x.end
-      before still = subst (λ (acked : List Sent). Open x.sents (wrote x.told) (told_so x) acked x.end) (sym (acked_here x y)) (s.still still)
+      before : x.end.closing.state ≡ states.Open → Open x.sents (wrote x.told) (told_so x) (acked_with x.terms x.end.closing.state call (watch_of x y) (came_to x y)) x.end
+      before still = subst (λ (acked : List Sent). Open x.sents (wrote x.told) (told_so x) acked x.end) (sym (acked_here x y call)) (s.still still)
 
-      taken : x.end.closing.state ≡ states.Open → (arrived x.end now d.number d.frames).fault ≡ None → Open x.sents (wrote x.told) (told_so x) (acked_with (watch_of x y) (with_taken (came_to x y) d.number d.frames)) (arrived x.end now d.number d.frames).end
-      taken state none =
-          let f = (watch_of x y).flight in
-          let w = (b.sight x y c.gives).watched.flight state in
-          let all = frames_fly d.frames (λ flying acked e. AllSent x.sents flying × Open x.sents (wrote x.told) (told_so x) acked e) (open_flies x.sents (wrote x.told) says (told_so x) d.frames (small d among)) f (begun x.end now d.number) none
-          (record { waits = record { named = w.named; waits = w.waits }; holds = (flying_sent x.sents f.flying x.end.tracking.packets w.waits gives.tracked, s.still state) }) in
-          subst (λ (acked : List Sent). Open x.sents (wrote x.told) (told_so x) acked (arrived x.end now d.number d.frames).end) (sym (acked_then x y d.number d.frames)) all.holds.1
+      taken : x.end.closing.state ≡ states.Open → (arrived x.end delivery.now d.number d.frames).fault ≡ None
+          → Open x.sents (wrote x.told) (told_so x) (acked_with x.terms x.end.closing.state call (watch_of x y) (with_taken (came_to x y) d.number d.frames)) (arrived x.end delivery.now d.number d.frames).end
+      taken opened none =
+          let w : Watch = watch_of x y in
+          let now : ℕ = max w.clock delivery.now in
+          let waits : Waits x.terms w.clock w.flight (held x.end) = (b.sight x y c.gives).watched.flight opened in
+          let numbers : Numbers = number_opened x.end.numbers d.number in
+          let begins : Waits x.terms now w.flight (held (begun x.end delivery.now d.number)) = ticked_waits x.terms w.clock delivery.now w.flight (record (held x.end) { numbers = numbers }) (numbers_wait x.terms w.clock w.flight (held x.end) numbers refl waits) in
+          let all = frames_fly x.terms now d.frames (λ flying acked e. AllSent x.sents flying × Open x.sents (wrote x.told) (told_so x) acked e) (open_flies x.sents (wrote x.told) says (told_so x) d.frames (small d among)) w.flight (begun x.end delivery.now d.number) none
+          (record { waits = begins; holds = (flying_sent x.sents w.flight.flying x.end.tracking.packets waits.tells.waits gives.tracked, s.still opened) }) in
+          subst (λ (acked : List Sent). Open x.sents (wrote x.told) (told_so x) acked (arrived x.end delivery.now d.number d.frames).end) (sym (acked_then x y call delivery is opened d.number d.frames)) all.holds.1
 
   -- a delivery
   always_delivered : (delivery : Delivery) → call ≡ calls.Deliver delivery → Always (told_so x) (wrote x.told) (called x y.given call a).end
@@ -387,11 +432,12 @@ module _ (B : Way) (b : SettlesOver B) (x y : Party) (call : Call) (a : Answer) 
     comes = λ other same d among. always_arrives other.now d among;
   })
 
-  still_delivered : (delivery : Delivery) → call ≡ calls.Deliver delivery → (called x y.given call a).end.closing.state ≡ states.Open → Open x.sents (wrote x.told) (told_so x) (acked_with (watch_of x y) (came_to (called x y.given call a) y)) (called x y.given call a).end
-  still_delivered delivery is = by_coming x y a c.joined c.served (meets y x takes) (λ (e : End) (i : Intake). e.closing.state ≡ states.Open → Open x.sents (wrote x.told) (told_so x) (acked_with (watch_of x y) i) e) call c.answer (record {
+  still_delivered : (delivery : Delivery) → call ≡ calls.Deliver delivery → (called x y.given call a).end.closing.state ≡ states.Open
+      → Open x.sents (wrote x.told) (told_so x) (acked_with x.terms x.end.closing.state call (watch_of x y) (came_to (called x y.given call a) y)) (called x y.given call a).end
+  still_delivered delivery is = by_coming x y a c.joined c.served (meets y x takes) (λ (e : End) (i : Intake). e.closing.state ≡ states.Open → Open x.sents (wrote x.told) (told_so x) (acked_with x.terms x.end.closing.state call (watch_of x y) i) e) call c.answer (record {
     apart = λ apart. (let clash : true ≡ false = sym (ap is_delivery is) ∙ apart in cc);
-    none = λ other same still. subst (λ (acked : List Sent). Open x.sents (wrote x.told) (told_so x) acked x.end) (sym (acked_here x y)) (s.still still);
-    comes = λ other same d among. still_arrives other.now d among;
+    none = λ other same still. subst (λ (acked : List Sent). Open x.sents (wrote x.told) (told_so x) acked x.end) (sym (acked_here x y call)) (s.still still);
+    comes = λ other same d among. still_arrives other same d among;
   })
 
   -- what is known of any other call, whatever is known
@@ -399,22 +445,34 @@ module _ (B : Way) (b : SettlesOver B) (x y : Party) (call : Call) (a : Answer) 
     -- a call that tells nothing of streams that are finished
     quiet_settles : is_delivery call ≡ false → is_poll call ≡ false → asks_event call ≡ false → Settling arrived end_arrived k (told_so (called x y.given call a)) (wrote (x.told ++ told_of call a x.end.closing.state ∷ [])) (called x y.given call a).end.streams
     quiet_settles apart silent quiet = settling_same arrived end_arrived k (told_so x) (told_so (called x y.given call a)) (done_by call a (wrote x.told)) (wrote (x.told ++ told_of call a x.end.closing.state ∷ [])) (called x y.given call a).end.streams (told_then quiet) done_then
-        (call_settles arrived end_arrived k (told_so x) (wrote x.told) x.policy x.end y.given call a apart silent quiet c.answer i)
+        (call_settles arrived end_arrived k (told_so x) (wrote x.told) x.policy x.end y.given call a apart silent quiet c.answer (tracked_ended x.sents (wrote x.told) says x.end.tracking.packets gives.tracked) i)
 
-    -- the call that asks what is told
+    -- the call that asks what is told, by whether it is told of a message
     asks_settles : call ≡ calls.Event → Settling arrived end_arrived k (told_so (called x y.given call a)) (wrote (x.told ++ told_of call a x.end.closing.state ∷ [])) (called x y.given call a).end.streams
-    asks_settles is =
-        let after : StreamsState = (telling_next.polled x.end.streams).state in
-        let answer : a ≡ answers.Event (end_tells x.end) = subst (λ (k : Call). IsAnswer x.policy x.end y.given k a) is c.answer in
-        let left : (called x y.given call a).end.streams ≡ after = ap (λ (k : Call). (after_call x.policy x.end y.given k a).streams) is in
-        let counts : (q : ℕ) → told_so (called x y.given call a) q ≡ told_so x q + tells q (telling_next.polled x.end.streams).answer = λ q.
-        (let one : one_if (finish_told_by q call a) ≡ tells q (telling_next.polled x.end.streams).answer =
-        ap (λ (k : Call). one_if (finish_told_by q k a)) is ∙ ap (λ (b : Answer). one_if (finish_told_by q calls.Event b)) answer ∙ told_event q (telling_next.polled x.end.streams).answer x.end.closing in
-        finishes_more q x.told (told_of call a x.end.closing.state) ∙ ap (λ (m : ℕ). finishes_told q x.told + m) one) in
-        let same : (q : ℕ) → wrote (x.told ++ told_of call a x.end.closing.state ∷ []) q ≡ wrote x.told q = λ q. done_then q ∙ ap (λ (k : Call). done_by k a (wrote x.told) q) is in
-        subst (λ (v : StreamsState). Settling arrived end_arrived k (told_so (called x y.given call a)) (wrote (x.told ++ told_of call a x.end.closing.state ∷ [])) v) (sym left)
-        (settling_same arrived end_arrived k (told_so (called x y.given call a)) (told_so (called x y.given call a)) (wrote x.told) (wrote (x.told ++ told_of call a x.end.closing.state ∷ [])) after (λ q. refl) same
-        (event_settles arrived end_arrived k (told_so x) (wrote x.told) (told_so (called x y.given call a)) x.end.streams counts i))
+    asks_settles is = go (tells_message x.end) (subst (λ (k : Call). IsAnswer x.policy x.end y.given k a) is c.answer) (ap (λ (k : Call). (after_call x.policy x.end y.given k a).streams) is)
+      where
+        same : (q : ℕ) → wrote (x.told ++ told_of call a x.end.closing.state ∷ []) q ≡ wrote x.told q
+        same q = done_then q ∙ ap (λ (k : Call). done_by k a (wrote x.told) q) is
+
+        -- what is told of streams by this answer
+        counts : (o : Option Event) (n : ℕ) (q : ℕ) → a ≡ answers.Event o → one_if (finish_told_by q calls.Event (answers.Event o)) ≡ n → told_so (called x y.given call a) q ≡ told_so x q + n
+        counts o n q answer told =
+            let one : one_if (finish_told_by q call a) ≡ n = ap (λ (k : Call). one_if (finish_told_by q k a)) is ∙ ap (λ (b : Answer). one_if (finish_told_by q calls.Event b)) answer ∙ told in
+            finishes_more q x.told (told_of call a x.end.closing.state) ∙ ap (λ (m : ℕ). finishes_told q x.told + m) one
+
+        go : (message : Bool) → a ≡ answers.Event (if message then Some events.Message else tells_of (telling_next.polled x.end.streams).answer x.end.closing) → (called x y.given call a).end.streams ≡ (if message then message_told x.end else others_told x.end).streams
+            → Settling arrived end_arrived k (told_so (called x y.given call a)) (wrote (x.told ++ told_of call a x.end.closing.state ∷ [])) (called x y.given call a).end.streams
+        go true answer left =
+            let as_often : (q : ℕ) → told_so (called x y.given call a) q ≡ told_so x q = λ q. (let more = counts (Some events.Message) 0 q answer refl in omega arith) in
+            subst (λ (v : StreamsState). Settling arrived end_arrived k (told_so (called x y.given call a)) (wrote (x.told ++ told_of call a x.end.closing.state ∷ [])) v) (sym left)
+            (settling_same arrived end_arrived k (told_so x) (told_so (called x y.given call a)) (wrote x.told) (wrote (x.told ++ told_of call a x.end.closing.state ∷ [])) x.end.streams as_often same i)
+        go false answer left =
+            let after : StreamsState = (telling_next.polled x.end.streams).state in
+            let more : (q : ℕ) → told_so (called x y.given call a) q ≡ told_so x q + tells q (telling_next.polled x.end.streams).answer =
+            λ q. counts (tells_of (telling_next.polled x.end.streams).answer x.end.closing) (tells q (telling_next.polled x.end.streams).answer) q answer (told_event q (telling_next.polled x.end.streams).answer x.end.closing) in
+            subst (λ (v : StreamsState). Settling arrived end_arrived k (told_so (called x y.given call a)) (wrote (x.told ++ told_of call a x.end.closing.state ∷ [])) v) (sym left)
+            (settling_same arrived end_arrived k (told_so (called x y.given call a)) (told_so (called x y.given call a)) (wrote x.told) (wrote (x.told ++ told_of call a x.end.closing.state ∷ [])) after (λ q. refl) same
+            (event_settles arrived end_arrived k (told_so x) (wrote x.told) (told_so (called x y.given call a)) x.end.streams more i))
 
   -- an end is open behind such a call only if it was
   open_before : is_delivery call ≡ false → (after_call x.policy x.end y.given call a).closing.state ≡ states.Open → x.end.closing.state ≡ states.Open
@@ -425,7 +483,7 @@ module _ (B : Way) (b : SettlesOver B) (x y : Party) (call : Call) (a : Answer) 
 
   -- where nothing came, as much is acknowledged
   acks_same : is_delivery call ≡ false → acks (called x y.given call a) y ≡ acks x y
-  acks_same apart = acks_behind x y call a ∙ ap (λ (i : Intake). acked_with (watch_of x y) i) (came_more x y call a ∙ nothing_came_by apart) ∙ acked_here x y
+  acks_same apart = acks_behind x y call a ∙ ap (λ (i : Intake). acked_with x.terms x.end.closing.state call (watch_of x y) i) (came_more x y call a ∙ nothing_came_by apart) ∙ acked_here x y call
     where
       nothing_came_by : is_delivery call ≡ false → and_told x.policy y.final (told_of call a x.end.closing.state) (came_to x y) ≡ came_to x y
       nothing_came_by apart = none_comes (lens x y) (told_of call a x.end.closing.state) (came_to x y) apart
@@ -451,7 +509,7 @@ still_on : (B : Way) → SettlesOver B → (x y : Party) (call : Call) (a : Answ
     → Open (x.sents ++ sents_by x.end call a) (wrote (x.told ++ told_of call a x.end.closing.state ∷ [])) (told_so (called x y.given call a)) (acks (called x y.given call a) y) (called x y.given call a).end
 still_on B b x y (calls.Deliver delivery) a c s still =
     let call : Call = calls.Deliver delivery in
-    let acked : List Sent = acked_with (watch_of x y) (came_to (called x y.given call a) y) in
+    let acked : List Sent = acked_with x.terms x.end.closing.state call (watch_of x y) (came_to (called x y.given call a) y) in
     open_as (wrote (x.told ++ told_of call a x.end.closing.state ∷ [])) (told_so (called x y.given call a)) (called x y.given call a).end x.sents (x.sents ++ []) acked (acks (called x y.given call a) y) (append-nil x.sents) (acks_behind x y call a)
     (settling_same (λ id o. HoldsOffset acked id o) (λ id. HoldsEnd acked id) (known_of x.sents acked) (told_so x) (told_so (called x y.given call a)) (wrote x.told) (wrote (x.told ++ told_of call a x.end.closing.state ∷ [])) (called x y.given call a).end.streams
     (told_then B b x y call a c s refl) (done_then B b x y call a c s) (still_delivered B b x y call a c s delivery refl still))

@@ -2,7 +2,7 @@
 use Rattle.std.proofs.Common.{◌≡◌, ℕ, zero, suc, ◌+◌, ◌<◌, ◌≤◌, Bool, List, [], ◌∷◌, ◌++◌, length, replicate, append-nil, Option, Some, None, refl, sym, ap, ◌∙◌, subst, ◌⊎◌, inl, inr, arith}
 use Rattle.std.specs.Prelude.{◌&&◌}
 use Rattle.std.proofs.lemmas.Bool.{cond_both}
-use Rattle.quic_wire.specs.Value.{FrameValue, StreamValue, stream, padding}
+use Rattle.quic_wire.specs.Value.{FrameValue, StreamValue, stream, padding, datagram}
 use Rattle.quic_send_buffer.specs.Buffered.{IsBuffered}
 use Rattle.quic_send_buffer.proofs.Buffered.Calls.{next_kept, next_bounded, sent_from, sent_within}
 use Rattle.quic_streams_parts.specs.Queue.{Place, Queue}
@@ -20,7 +20,7 @@ use Rattle.quic_streams_laws.specs.AcknowledgedLaws.{half_arrived}
 use Rattle.quic_machine.specs.declared.run.Answer.TheVariants as answers
 use Rattle.quic_machine.specs.Policy.{Policy}
 use Rattle.quic_machine.specs.End.{End}
-use Rattle.quic_machine.specs.Poll.{Draft, Polled, composed, polled}
+use Rattle.quic_machine.specs.Poll.{Draft, Polled, composed, lazied, polled}
 use Rattle.quic_machine.specs.PollCases.{at_moment, frames_padded, by_poll}
 use Rattle.quic_machine.specs.DraftLaws.{by_writing}
 use Rattle.quic_machine.specs.Machine.{gave}
@@ -129,11 +129,12 @@ module _ (arrived : ℕ → ℕ → Type 0) (end_arrived : ℕ → Type 0) (n : 
           let k : Known = K d.frames in
           holds_less k (K (d.frames ++ f ∷ [])) (entry.told s) (g.apart d.frames f (control_apart f (entry_control kind d.end.waiting.frames entry es s f is due)))
           ((finished_words arrived end_arrived).tells kind d.end.waiting.frames entry es w s is x.0, retold k n w s (entry.told s) (same_told s (entry.told s) (tells_queue kind d.end.waiting.frames entry es s is)) (by_told (Settles k t) (settles_kept k t) kind d.end.waiting.frames entry es s is x.1));
+      message = λ d m ms is fit x. holds_less (K d.frames) (K (d.frames ++ datagram m ∷ [])) d.end.streams (g.apart d.frames (datagram m) tt) x;
       stream = λ d id h room found first some is counts x.
           let s = d.end.streams in
           let lawful = (half_arrived arrived end_arrived w s id h (live_sends s id h found) x.0.acked).0.lawful in (
-            (finished_words arrived end_arrived).sends d.end.fair w s id h room found x.0,
-            settles_sent (K d.frames) (K (d.frames ++ stream (frame_of id h room) ∷ [])) (telling n (is_reset w) s) s d.end.fair id h room found lawful (g.stream d.frames (frame_of id h room)) x.1,
+            (finished_words arrived end_arrived).sends d.end.transport.send_fairness w s id h room found x.0,
+            settles_sent (K d.frames) (K (d.frames ++ stream (frame_of id h room) ∷ [])) (telling n (is_reset w) s) s d.end.transport.send_fairness id h room found lawful (g.stream d.frames (frame_of id h room)) x.1,
           );
     }) e i
 
@@ -148,7 +149,7 @@ nothing_goes = record {
 
 -- a datagram that isn't whole yet, behind those that were sent
 abbrev drafted : List FrameValue → Sent
-drafted fs = record { number = 0; reference = 0; frames = fs; moment = 0 }
+drafted fs = record { number = 0; reference = 0; frames = fs; moment = 0; size = 0 }
 
 no_stream : (f : FrameValue) (g : StreamValue) → IsNoStream f → stream g ≡ f → ⊥
 no_stream f g is same = subst IsNoStream (sym same) is
@@ -228,9 +229,9 @@ module _ (arrived : ℕ → ℕ → Type 0) (end_arrived : ℕ → Type 0) (n : 
   poll_settles_nothing i = by_poll p e now (λ (r : Polled). Settling arrived end_arrived nothing_known n w r.end.streams) (record {
     silent = i;
     failed = i;
-    idle = λ pings. i;
-    used_up = λ pings. i;
-    gives = λ pings tracking timers is may some ready. composed_settles arrived end_arrived n w (λ fs. nothing_known) nothing_goes (at_moment e now pings) i;
+    idle = λ t waiting ready. i;
+    used_up = λ t waiting ready. i;
+    gives = λ t waiting tracking timers is may some ready. composed_settles arrived end_arrived n w (λ fs. nothing_known) nothing_goes (lazied (at_moment e now t waiting)) i;
   })
 
   -- what it gives is known besides
@@ -239,14 +240,14 @@ module _ (arrived : ℕ → ℕ → Type 0) (end_arrived : ℕ → Type 0) (n : 
   poll_settles sents acks i = by_poll p e now (λ (r : Polled). Settling arrived end_arrived (known_of (sents ++ sent_if (gave (answers.Poll r.answer)) (sent_by e now)) acks) n w r.end.streams) (record {
     silent = same;
     failed = same;
-    idle = λ pings. same;
-    used_up = λ pings. same;
-    gives = λ pings tracking timers is may some ready.
-        let d : Draft = composed (at_moment e now pings) in
+    idle = λ t waiting ready. same;
+    used_up = λ t waiting ready. same;
+    gives = λ t waiting tracking timers is may some ready.
+        let d : Draft = composed (lazied (at_moment e now t waiting)) in
         let first = holds_less arrived end_arrived n w (known_of sents acks) (known_of (sents ++ drafted [] ∷ []) acks) e.streams (none_drafted sents acks) i in
         holds_less arrived end_arrived n w (known_of (sents ++ drafted d.frames ∷ []) acks) (known_of (sents ++ sent_by e now ∷ []) acks) d.end.streams
-        (padded_less sents acks (sent_by e now) d.frames _ (ap (λ (x : End). frames_padded (composed x)) ready))
-        (composed_settles arrived end_arrived n w (λ fs. known_of (sents ++ drafted fs ∷ []) acks) (drafts_go sents acks) (at_moment e now pings) first);
+        (padded_less sents acks (sent_by e now) d.frames _ (ap (λ (x : End). frames_padded (composed (lazied x))) ready))
+        (composed_settles arrived end_arrived n w (λ fs. known_of (sents ++ drafted fs ∷ []) acks) (drafts_go sents acks) (lazied (at_moment e now t waiting)) first);
   })
     where
       same : Settling arrived end_arrived (known_of (sents ++ []) acks) n w e.streams

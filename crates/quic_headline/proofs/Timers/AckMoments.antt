@@ -4,24 +4,25 @@ use Rattle.std.proofs.Common.{◌≡◌, ℕ, zero, suc, ◌⊎◌, Bool, true, 
 use Rattle.std.specs.Prelude.{if◌then◌else◌, slice_get}
 use Rattle.std.specs.List.{list_any}
 use Rattle.quic_wire_core.specs.declared.stream_id.Side.{Side}
-use Rattle.quic_wire.specs.Value.{FrameValue, ack, asks, padding}
+use Rattle.quic_wire.specs.Value.{FrameValue, ack, asks, padding, datagram}
 use Rattle.quic_recovery_core.specs.PendingAcks.{after_insert, starts_wait, asking_counted}
 use Rattle.quic_machine.specs.declared.answers.State.TheVariants as states
 use Rattle.quic_machine.specs.declared.run.Call.{Call}
 use Rattle.quic_machine.specs.declared.run.Call.TheVariants as calls
 use Rattle.quic_machine.specs.declared.run.Answer.{Answer}
 use Rattle.quic_machine.specs.declared.run.Answer.TheVariants as answers
-use Rattle.quic_machine.specs.Acknowledging.{ack_due, with_ack_timer}
-use Rattle.quic_machine.specs.Numbers.{number_given}
+use Rattle.quic_spaces.specs.Acknowledging.{ack_due}
 use Rattle.quic_machine.specs.Policy.{Policy}
-use Rattle.quic_machine.specs.End.{End, with_numbers}
+use Rattle.quic_machine.specs.Closing.{ticked}
+use Rattle.quic_machine.specs.End.{End, with_closing, with_ack_timer}
 use Rattle.quic_machine.specs.Receive.{asks_in, after_taken, Outcome}
-use Rattle.quic_machine.specs.Poll.{Polled, Draft, composed, asking, tracked_if, polled}
+use Rattle.quic_machine.specs.Poll.{Polled, Draft, composed, lazied, polled}
+use Rattle.quic_machine.specs.Timeouts.{loss_judged}
 use Rattle.quic_machine.specs.Machine.{World, IsAnswer, after_call, fails, gave, end_at}
 use Rattle.quic_machine.specs.CallCases.{is_delivery, by_plain_call}
 use Rattle.quic_machine.specs.LeaveCases.{at_expiry}
-use Rattle.quic_machine.specs.FrameCases.{named, begun, passed, acked_keeps, frame_keeps, frame_leaves, frames_keep}
-use Rattle.quic_machine.specs.PollCases.{at_moment, ready_at, frames_at, frames_padded, by_poll_to}
+use Rattle.quic_machine.specs.FrameCases.{Settling, named, begun, passed, acked_keeps, losses_keep, frame_keeps, frame_leaves, frames_keep}
+use Rattle.quic_machine.specs.PollCases.{ready_at, ready_leaves, draft_at, frames_at, by_poll_to}
 use Rattle.quic_machine.specs.DraftLaws.{by_writing}
 use Rattle.quic_headline.specs.Runs.{Run, Told, Packet, Intake, In, given_of, until, folded, AreServed}
 use Rattle.quic_headline.specs.Observer.{Sent, Watch, first_watch, news, Lens, watch_told, lens_of}
@@ -38,7 +39,7 @@ use Rattle.quic_headline.proofs.Places.Parties.{sent_by, sent_if, sents_by, told
 use Rattle.quic_headline.proofs.Places.Groups.{And, Calls, Group}
 use Rattle.quic_headline.proofs.Places.Coming.{by_coming}
 use Rattle.quic_headline.proofs.Places.Placed.{Placed, party_at, known_first}
-use Rattle.quic_headline.proofs.Timers.LossMoments.{was_open}
+use Rattle.quic_headline.proofs.Timers.Still.{was_open}
 use Rattle.quic_headline.proofs.Timers.Watched.{Observed, behind_is, own_behind, watched_behind, timers_behind, open_behind}
 
 -- ---- what goes
@@ -80,64 +81,71 @@ composed_stopped e = by_writing Stopped (record {
   ping = λ d i some. i (any_more d.frames _ refl some);
   drops = λ d kind i. i;
   control = λ d kind entry es f is goes i some. i (any_more d.frames f (control_not f (entry_control kind d.end.waiting.frames entry es d.end.streams f is goes)) some);
+  message = λ d m ms is fit i acks. i (any_more d.frames (datagram m) refl acks);
   stream = λ d id h room found first some is counts i acks. i (any_more d.frames _ refl acks);
 }) e (λ is. cc)
-
-given_stopped : (b : Bool) (d : Draft) → d.end.timers.max_ack_delay ≡ None → (with_numbers (tracked_if b d) (number_given d.end.numbers)).timers.max_ack_delay ≡ None
-given_stopped true d none = none
-given_stopped false d none = none
 
 -- so it is behind a poll that gives one
 polled_stopped : (p : Policy) (e : End) (now : ℕ) → acknowledges (sent_if (gave (answers.Poll (polled p e now).answer)) (sent_by e now)) ≡ true → (polled p e now).end.timers.max_ack_delay ≡ None
 polled_stopped p e now = by_poll_to p e now (λ (q : Polled). acknowledges (sent_if (gave (answers.Poll q.answer)) (sent_by e now)) ≡ true → q.end.timers.max_ack_delay ≡ None) (record {
   silent = λ some. cc;
   failed = λ some. cc;
-  idle = λ pings some. cc;
-  used_up = λ pings some. refl;
-  gives = λ pings is may some ready acks. one pings ready acks;
+  idle = λ some. cc;
+  used_up = λ some. refl;
+  gives = λ is may some acks. composed_stopped (lazied (ready_at e now)) (sym (any_padded (draft_at e now).frames _) ∙ first_only (list_any is_ack (frames_at e now)) acks);
 })
   where
     first_only : (b : Bool) → (b || false) ≡ true → b ≡ true
     first_only true is = refl
     first_only false is = is
 
-    one : (pings : Bool) → ready_at e now ≡ at_moment e now pings → acknowledges (sent_by e now ∷ []) ≡ true → (with_numbers (tracked_if (asking (composed (at_moment e now pings)).frames) (composed (at_moment e now pings))) (number_given (composed (at_moment e now pings)).end.numbers)).timers.max_ack_delay ≡ None
-    one pings ready acks =
-        let d : Draft = composed (at_moment e now pings) in
-        given_stopped (asking d.frames) d (composed_stopped (at_moment e now pings)
-        (sym (ap (λ (x : End). list_any is_ack (frames_padded (composed x))) ready ∙ any_padded d.frames _) ∙ first_only (list_any is_ack (frames_at e now)) acks))
-
 -- ---- a call that isn't a delivery sets no timer of acknowledgements
+
+-- the timer of an end is this
+abbrev HasTimer : Option ℕ → End → Type 0
+HasTimer o e = e.timers.max_ack_delay ≡ o
+
+-- packets that are acknowledged or lost leave it
+timer_settles : (o : Option ℕ) → Settling (HasTimer o)
+timer_settles o = record { known = λ n y j. j; reset = λ id y j. j; acked = λ m y j. j; lost = λ m y j. j; again = λ carried y j. j; tracked = λ t y j. j; measured = λ r y j. j }
 
 abbrev SetsNone : End → End → Type 0
 SetsNone e f = (moment : ℕ) → f.timers.max_ack_delay ≡ Some moment → e.timers.max_ack_delay ≡ Some moment
 
+-- losses leave it
+judged_none : (o : Option ℕ) (e : End) → (loss_judged o e).timers.max_ack_delay ≡ e.timers.max_ack_delay
+judged_none None e = refl
+judged_none (Some moment) e = losses_keep (HasTimer e.timers.max_ack_delay) (timer_settles e.timers.max_ack_delay) e refl
+
 expired_none : (e : End) (now : ℕ) (acks loss : Bool) → SetsNone e (at_expiry e now acks loss)
-expired_none e now true true moment set = cc
-expired_none e now true false moment set = cc
-expired_none e now false true moment set = set
+expired_none e now true loss moment set = cc
+expired_none e now false true moment set = sym (judged_none e.tracking.loss_time (with_closing e (ticked e.closing now))) ∙ set
 expired_none e now false false moment set = set
 
 composed_none : (e : End) → SetsNone e (composed e).end
-composed_none e = by_writing (λ (d : Draft). SetsNone e d.end) (record { ack = λ d filled may i moment set. cc; ping = λ d i. i; drops = λ d kind i. i; control = λ d kind entry es f is goes i. i; stream = λ d id h room found first some is counts i. i }) e (λ moment set. set)
+composed_none e = by_writing (λ (d : Draft). SetsNone e d.end) (record { ack = λ d filled may i moment set. cc; ping = λ d i. i; drops = λ d kind i. i; control = λ d kind entry es f is goes i. i; message = λ d m ms is fit i. i; stream = λ d id h room found first some is counts i. i }) e (λ moment set. set)
 
-given_none : (e : End) (b : Bool) (d : Draft) → SetsNone e d.end → SetsNone e (with_numbers (tracked_if b d) (number_given d.end.numbers))
-given_none e true d i = i
-given_none e false d i = i
+-- nor does a probe
+ready_none : (e : End) (now : ℕ) → SetsNone e (ready_at e now)
+ready_none e now moment set = ap (λ (x : End). x.timers.max_ack_delay) (sym (ready_leaves e now)) ∙ set
 
 polled_none : (p : Policy) (e : End) (now : ℕ) → SetsNone e (polled p e now).end
 polled_none p e now = by_poll_to p e now (λ (q : Polled). SetsNone e q.end) (record {
   silent = λ moment set. set;
   failed = λ moment set. set;
-  idle = λ pings moment set. set;
-  used_up = λ pings moment set. cc;
-  gives = λ pings is may some ready. given_none e (asking (composed (at_moment e now pings)).frames) (composed (at_moment e now pings)) (composed_none (at_moment e now pings));
+  idle = ready_none e now;
+  used_up = λ moment set. none_set moment set;
+  gives = λ is may some moment set. ready_none e now moment (composed_none (lazied (ready_at e now)) moment set);
 })
+  where
+    none_set : {A : Type 0} (moment : ℕ) → None ≡ Some moment → A
+    none_set moment clash = cc
 
 call_none : (p : Policy) (e : End) (theirs : List (List ℕ)) (call : Call) (a : Answer) → is_delivery call ≡ false → SetsNone e (after_call p e theirs call a)
 call_none p e theirs call a apart = by_plain_call p e theirs (SetsNone e) call a (record {
   same = λ moment set. set;
   on_streams = λ t moment set. set;
+  on_messages = λ m moment set. set;
   pings = λ moment set. set;
   heard = λ path same moment set. set;
   times = λ now acks loss is. expired_none e now acks loss;
@@ -157,13 +165,11 @@ abbrev SetBy : End → Intake → End → Intake → Type 0
 SetBy e i f j = (moment : ℕ) → f.timers.max_ack_delay ≡ Some moment → (e.timers.max_ack_delay ≡ Some moment) ⊎ ((moment ≡ ack_due f.closing.clock) × (one_asks (news i j) ≡ true))
 
 -- frames leave the timer
-abbrev HasTimer : Option ℕ → End → Type 0
-HasTimer o e = e.timers.max_ack_delay ≡ o
-
 frames_timer : (fs : List FrameValue) (e : End) → HasTimer e.timers.max_ack_delay (passed fs e).end
 frames_timer fs e = frames_keep (HasTimer e.timers.max_ack_delay) (frame_keeps (HasTimer e.timers.max_ack_delay) (record {
-  ack = λ a x i. acked_keeps (HasTimer e.timers.max_ack_delay) (record { known = λ n y j. j; reset = λ id y j. j; acked = λ m y j. j; lost = λ m y j. j; again = λ carried y j. j; tracked = λ t y j. j }) a (named a x) i;
+  ack = λ rises a x i. acked_keeps (HasTimer e.timers.max_ack_delay) (timer_settles e.timers.max_ack_delay) rises a (named a x) i;
   on_streams = λ f x on i. frame_leaves (HasTimer e.timers.max_ack_delay) f x on (λ t. i);
+  message = λ m x i. i;
 })) fs e refl
 
 asks_same : (fs : List FrameValue) → asks_in (map Ok fs) ≡ list_any asks fs
@@ -240,7 +246,7 @@ drop_all [] ys = refl
 drop_all (x ∷ xs) ys = drop_all xs ys
 
 -- what goes at a call is what the end gives
-went_is : (before after : Watch) (ss : List Sent) → after.own ≡ before.own ++ ss → went before after ≡ ss
+pub went_is : (before after : Watch) (ss : List Sent) → after.own ≡ before.own ++ ss → went before after ≡ ss
 went_is before after ss is = ap (λ (xs : List Sent). drop (length before.own) xs) is ∙ drop_all before.own ss
 
 -- a call that gives an ACK stops the timer
@@ -251,12 +257,12 @@ acks_stop p e theirs call a is served some = cc
 -- ---- the group
 
 -- nothing came to an end that is known by an id, gives these datagrams in all, and was made at a moment
-abbrev debt_first : List ℕ → List (List ℕ) → ℕ → Debt
-debt_first own final start = first_debt (first_watch (own ∷ []) final start)
+abbrev debt_first : List ℕ → List (List ℕ) → ℕ → ℕ → Debt
+debt_first own final start initial_rtt = first_debt (first_watch (own ∷ []) final start initial_rtt)
 
 -- what the observer of x knows
 abbrev pub debt_of : Party → Party → Debt
-debt_of x y = folded (debt_told (lens x y)) x.told (debt_first x.id x.final x.began)
+debt_of x y = folded (debt_told (lens x y)) x.told (debt_first x.id x.final x.began x.initial_rtt)
 
 -- the watch within the debt is the observer's
 owed_watch : (l : Lens) (told : List Told) (d : Debt) → (folded (debt_told l) told d).watch ≡ folded (watch_told l) told d.watch
@@ -278,17 +284,17 @@ debt_step x y call a c i = record { owes = owes }
     t = told_of call a x.end.closing.state
 
     same : d.watch ≡ watch_of x y
-    same = owed_watch (lens x y) x.told (debt_first x.id x.final x.began)
+    same = owed_watch (lens x y) x.told (debt_first x.id x.final x.began x.initial_rtt)
 
     after : Watch
     after = watch_told (lens x y) t d.watch
 
     -- what came before, and behind it
     before_is : d.watch.intake ≡ came_to x y
-    before_is = ap (λ (w : Watch). w.intake) same ∙ watched_intake (lens x y) x.told (first_watch (x.id ∷ []) x.final x.began)
+    before_is = ap (λ (w : Watch). w.intake) same ∙ watched_intake (lens x y) x.told (first_watch (x.id ∷ []) x.final x.began x.initial_rtt)
 
     after_is : after.intake ≡ came_to (called x y.given call a) y
-    after_is = ap (λ (w : Watch). w.intake) (sym (behind_is x y call a c d.watch same)) ∙ watched_intake (lens x y) (x.told ++ t ∷ []) (first_watch (x.id ∷ []) x.final x.began)
+    after_is = ap (λ (w : Watch). w.intake) (sym (behind_is x y call a c d.watch same)) ∙ watched_intake (lens x y) (x.told ++ t ∷ []) (first_watch (x.id ∷ []) x.final x.began x.initial_rtt)
 
     went_here : went d.watch after ≡ sents_by x.end call a
     went_here = went_is d.watch after (sents_by x.end call a) (own_behind x y call a c d.watch same)
@@ -304,7 +310,7 @@ debt_step x y call a c i = record { owes = owes }
         silent = ap acknowledges went_here ∙ none
 
         clock : after.clock ≡ (called x y.given call a).end.closing.clock
-        clock = (watched_behind x y call a c d.watch same).clock still
+        clock = ((watched_behind x y call a c d.watch same).flight still).tells.clock
 
         go : (x.end.timers.max_ack_delay ≡ Some moment) ⊎ ((moment ≡ ack_due (called x y.given call a).end.closing.clock) × (one_asks (news (came_to x y) (came_to (called x y.given call a) y)) ≡ true)) → IsDueFor (arrivals_behind d after) moment
         go (inl was) = stays_due d after moment silent (i.owes (was_open x.policy x.end y.given call a still) moment was)
@@ -314,7 +320,7 @@ debt_step x y call a c i = record { owes = owes }
 
     owes : (called x y.given call a).end.closing.state ≡ states.Open → Owes (debt_of (called x y.given call a) y) (called x y.given call a).end
     owes still =
-        subst (λ (b : Debt). Owes b (called x y.given call a).end) (sym (folded_more (debt_told (lens x y)) x.told t (debt_first x.id x.final x.began)))
+        subst (λ (b : Debt). Owes b (called x y.given call a).end) (sym (folded_more (debt_told (lens x y)) x.told t (debt_first x.id x.final x.began x.initial_rtt)))
         (by_acks (acknowledges (sents_by x.end call a)) refl still)
 
 -- over the packets and what observers know of them
@@ -335,5 +341,5 @@ ack_moments r end honest all side i moment v served there opened timer =
     let now_open : x.end.closing.state ≡ states.Open = open_behind r at.world i v side at.leads there opened in
     let set : Some x.end.timers.max_ack_delay ≡ Some (Some moment) = sym (ap (λ (ts : List (Option ℕ)). slice_get ts 8) (timers_behind r at.world i v side at.leads there)) ∙ timer in
     let is : x.end.timers.max_ack_delay ≡ Some moment = cc in
-    subst (λ (ids : List (List ℕ)). IsDueFor (folded (debt_told (lens_of r side)) (until r side (suc i)) (first_debt (first_watch ids (given_of r side) (end_at side r.start).closing.clock))).arrivals moment) (sym (known_first r honest side))
+    subst (λ (ids : List (List ℕ)). IsDueFor (folded (debt_told (lens_of r side)) (until r side (suc i)) (first_debt (first_watch ids (given_of r side) (end_at side r.start).closing.clock (end_at side r.start).transport.initial_rtt))).arrivals moment) (sym (known_first r honest side))
     (at.gives.1.owes now_open moment is)

@@ -1,5 +1,5 @@
 -- At an open end the timer of acknowledgements is set only where a packet that asks came since the last acknowledgement went: each call keeps that.
-use Rattle.std.proofs.Common.{◌≡◌, ℕ, ◌+◌, ◌-◌, ◌^◌, ◌<◌, Bool, true, false, cond, min, List, Option, Some, None, refl, sym, ap, ◌∙◌, arith}
+use Rattle.std.proofs.Common.{◌≡◌, ℕ, ◌+◌, ◌-◌, ◌^◌, ◌<◌, Bool, true, false, cond, min, List, Option, Some, None, refl, sym, ap, ◌∙◌, subst, arith}
 use Rattle.std.specs.Option.{is_some}
 use Rattle.quic_recovery_core.specs.Duplicates.{Seen}
 use Rattle.quic_recovery_core.specs.PendingAcks.{Pending, after_insert, asking_counted, starts_wait, after_packet}
@@ -12,17 +12,18 @@ use Rattle.quic_machine.specs.declared.run.Call.{Call}
 use Rattle.quic_machine.specs.declared.run.Answer.{Answer}
 use Rattle.quic_machine.specs.declared.run.View.{View}
 use Rattle.quic_machine.specs.Policy.{Policy}
-use Rattle.quic_machine.specs.Numbers.{number_given}
-use Rattle.quic_machine.specs.End.{End, closed_by, with_numbers}
+use Rattle.quic_machine.specs.Closing.{ticked}
+use Rattle.quic_machine.specs.End.{End, with_closing, closed_by}
 use Rattle.quic_machine.specs.Receive.{timers_after}
-use Rattle.quic_machine.specs.Poll.{Polled, Draft, with_ack, composed, asking, tracked_if, polled}
+use Rattle.quic_machine.specs.Poll.{Polled, Draft, with_ack, composed, lazied, polled}
+use Rattle.quic_machine.specs.Timeouts.{loss_judged}
 use Rattle.quic_machine.specs.Machine.{World, Policies, after_call, Follows}
 use Rattle.quic_headline.specs.Headline.{AckTimerFollows, AckTimersFollow}
 use Rattle.quic_machine.specs.DraftLaws.{by_writing}
 use Rattle.quic_machine.specs.LeaveCases.{at_expiry}
 use Rattle.quic_machine.specs.CallCases.{by_plain_call}
-use Rattle.quic_machine.specs.FrameCases.{Settling, Receives, named, acked_keeps, frame_keeps, frame_leaves, by_received}
-use Rattle.quic_machine.specs.PollCases.{at_moment, by_poll_to}
+use Rattle.quic_machine.specs.FrameCases.{Settling, Receives, named, acked_keeps, losses_keep, frame_keeps, frame_leaves, by_received}
+use Rattle.quic_machine.specs.PollCases.{ready_at, ready_leaves, by_poll_to}
 use Rattle.quic_headline.proofs.Timers.BothEnds.{run_keeps}
 
 -- no timer is set
@@ -37,7 +38,7 @@ closed_follows reason e = unset_follows (closed_by reason e) refl
 
 -- acknowledged and lost packets leave the timer, and the packets that ask count on
 settling : Settling AckTimerFollows
-settling = record { known = λ n e i. i; reset = λ id e i. i; acked = λ m e i. i; lost = λ m e i. i; again = λ carried e i. i; tracked = λ t e i. i }
+settling = record { known = λ n e i. i; reset = λ id e i. i; acked = λ m e i. i; lost = λ m e i. i; again = λ carried e i. i; tracked = λ t e i. i; measured = λ r e i. i }
 
 -- the timer waits or is left: the count stays
 wait_counts : (b : Bool) (p : Pending) (now : ℕ) → (cond b (record p { since = Some now }) p).asking ≡ p.asking
@@ -56,7 +57,7 @@ receives : Receives AckTimerFollows
 receives = record {
   notes = λ n e i. i;
   begins = λ now n e i. i;
-  frame = frame_keeps AckTimerFollows (record { ack = λ a e i. acked_keeps AckTimerFollows settling a (named a e) i; on_streams = λ f e on i. frame_leaves AckTimerFollows f e on (λ t. i) });
+  frame = frame_keeps AckTimerFollows (record { ack = λ rises a e i. acked_keeps AckTimerFollows settling rises a (named a e) i; on_streams = λ f e on i. frame_leaves AckTimerFollows f e on (λ t. i); message = λ m e i. i });
   takes = λ n asks e i opened. packet_counts asks e.timers (after_insert e.acknowledging n e.closing.clock) e.closing.clock n e.numbers.opened (i opened);
   closes = λ reason e i. closed_follows reason e;
 }
@@ -70,29 +71,33 @@ composed_follows = by_writing (λ (d : Draft). AckTimerFollows d.end) (record {
   ping = λ d i. i;
   drops = λ d kind i. i;
   control = λ d kind entry es f is goes i. i;
+  message = λ d m ms is fit i. i;
   stream = λ d id h room found first some is counts i. i;
 })
 
--- what goes may be tracked
-given_follows : (b : Bool) (d : Draft) → AckTimerFollows d.end → AckTimerFollows (with_numbers (tracked_if b d) (number_given d.end.numbers))
-given_follows true d i = i
-given_follows false d i = i
+-- what a probe changes leaves the timer
+ready_follows : (e : End) (now : ℕ) → AckTimerFollows e → AckTimerFollows (ready_at e now)
+ready_follows e now i = subst (λ (x : End). AckTimerFollows x) (sym (ready_leaves e now)) i
 
 polled_follows : (p : Policy) (e : End) (now : ℕ) → AckTimerFollows e → AckTimerFollows (polled p e now).end
 polled_follows p e now i = by_poll_to p e now (λ (q : Polled). AckTimerFollows q.end) (record {
   silent = i;
   failed = i;
-  idle = λ pings. i;
-  used_up = λ pings. closed_follows reasons.NumberLimit (at_moment e now pings);
-  gives = λ pings is may some ready. given_follows (asking (composed (at_moment e now pings)).frames) (composed (at_moment e now pings)) (composed_follows (at_moment e now pings) i);
+  idle = ready_follows e now i;
+  used_up = closed_follows reasons.NumberLimit (ready_at e now);
+  gives = λ is may some. composed_follows (lazied (ready_at e now)) (ready_follows e now i);
 })
 
 -- ---- any call
 
--- expired timers: that of acknowledgements stops
+-- expired timers: that of acknowledgements stops, and losses leave it
+judged_follows : (o : Option ℕ) (e : End) → AckTimerFollows e → AckTimerFollows (loss_judged o e)
+judged_follows None e i = i
+judged_follows (Some moment) e i = losses_keep AckTimerFollows settling e i
+
 expired_follows : (e : End) (now : ℕ) (acks loss : Bool) → AckTimerFollows e → AckTimerFollows (at_expiry e now acks loss)
 expired_follows e now true loss i = unset_follows (at_expiry e now true loss) refl
-expired_follows e now false true i = i
+expired_follows e now false true i = judged_follows e.tracking.loss_time (with_closing e (ticked e.closing now)) i
 expired_follows e now false false i = i
 
 -- what any call leaves
@@ -100,6 +105,7 @@ call_follows : (p : Policy) (e : End) (theirs : List (List ℕ)) (call : Call) (
 call_follows p e theirs call a i = by_plain_call p e theirs AckTimerFollows call a (record {
   same = i;
   on_streams = λ t. i;
+  on_messages = λ m. i;
   pings = i;
   heard = λ path same. i;
   times = λ now acks loss is. expired_follows e now acks loss i;

@@ -1,139 +1,404 @@
--- At an open end the loss timer follows what is tracked, and is set to its moment: each call keeps that.
-use Rattle.std.proofs.Common.{◌≡◌, ℕ, Bool, true, false, not, List, [], ◌∷◌, Option, Some, refl, sym, ap, ◌∙◌, subst}
-use Rattle.std.specs.Prelude.{if◌then◌else◌}
+-- At an open end the loss timer is set to the moment of what is tracked, and is set exactly while a packet that asks is: each call keeps that.
+use Rattle.std.proofs.Common.{◌≡◌, ℕ, ◌+◌, ◌≤◌, ◌⊎◌, Bool, true, false, not, ◌||◌, ◌==◌, List, [], ◌∷◌, ◌++◌, Option, Some, None, Result, refl, sym, ap, ◌∙◌, subst, inl, inr, arith}
+use Rattle.std.specs.Prelude.{if◌then◌else◌, nat_lt}
 use Rattle.std.specs.Option.{is_some}
-use Rattle.quic_recovery_core.specs.PendingAcks.{after_insert, packet_starts_wait}
-use Rattle.quic_time.specs.Timers.{Timers}
+use Rattle.std.specs.Ordering.{nat_cmp}
+use Rattle.std.specs.BTreeMap.{is_at}
+use Rattle.std.proofs.lemmas.Bool.{le-ltb}
+use Rattle.quic_recovery_core.specs.Duplicates.{is_duplicate}
+use Rattle.quic_time.specs.Clocks.{saturated}
+use Rattle.quic_time.specs.Rtt.{Rtt}
+use Rattle.quic_time.specs.Rtt.{probe_timeout as rtt_timeout}
+use Rattle.quic_packet.specs.Header.{key_phase, reserved_bits}
+use Rattle.quic_packet.specs.Destination.{decoded, fixed_length_id}
+use Rattle.quic_packet.specs.Datagram.{Opening}
+use Rattle.quic_packet.specs.declared.packet.HeaderError.{HeaderError}
+use Rattle.quic_wire.specs.Value.{FrameValue, AckValue}
+use Rattle.quic_wire.specs.Items.{items}
+use Rattle.quic_wire.specs.declared.frame.InvalidFrame.{InvalidFrame}
+use Rattle.quic_machine.specs.declared.answers.State.{State}
 use Rattle.quic_machine.specs.declared.answers.State.TheVariants as states
+use Rattle.quic_machine.specs.declared.answers.DropReason.TheVariants as drops
 use Rattle.quic_machine.specs.declared.answers.LostReason.{LostReason}
 use Rattle.quic_machine.specs.declared.answers.LostReason.TheVariants as reasons
 use Rattle.quic_machine.specs.declared.run.RunEvent.{RunEvent}
 use Rattle.quic_machine.specs.declared.run.Call.{Call}
 use Rattle.quic_machine.specs.declared.run.Answer.{Answer}
 use Rattle.quic_machine.specs.declared.run.View.{View}
-use Rattle.quic_wire.specs.Value.{AckValue}
-use Rattle.quic_streams_parts.specs.Table.{Table}
+use Rattle.quic_streams_parts.specs.Table.{Table, added, put}
 use Rattle.quic_machine.specs.Policy.{Policy}
-use Rattle.quic_machine.specs.Closing.{Closing}
-use Rattle.quic_machine.specs.Numbers.{cut_against, number_given}
-use Rattle.quic_machine.specs.Acknowledging.{ack_due, with_ack_timer}
-use Rattle.quic_machine.specs.Tracking.{Tracking, TrackedPacket, is_idle, moment_if, loss_moment, acked_by, not_acked_by, kept_above, after_answered, after_sent, carried_in, after_loss_timeout}
-use Rattle.quic_machine.specs.End.{End, closed_by, with_numbers}
-use Rattle.quic_machine.specs.Acked.{after_named}
-use Rattle.quic_machine.specs.Receive.{after_taken}
-use Rattle.quic_machine.specs.Poll.{Polled, Draft, composed, asking, tracked_if, polled}
+use Rattle.quic_machine.specs.Ids.{known}
+use Rattle.quic_machine.specs.Opens.{own_id_length}
+use Rattle.quic_machine.specs.Closing.{Closing, ticked}
+use Rattle.quic_spaces.specs.Numbers.{Numbers, number_opened}
+use Rattle.quic_machine.specs.Tracking.{Tracking, TrackedPacket, asks_any, without_record, is_behind, tail_of, forgets, forgotten, oldest, without_packet, asking_sent, after_sent, Verdict, is_lost, kept_by, loss_moment, moment_or, probe_moment, after_detection, acked_by, not_acked_by, names}
+use Rattle.quic_machine.specs.End.{End, with_closing, closed_by, with_numbers, number_of, with_ping, peer_delay, probe_timeout, with_loss_timer}
+use Rattle.quic_machine.specs.Acked.{verdict, losses_detected, measured, sampled, without_acked, after_named, after_acked}
+use Rattle.quic_machine.specs.Receive.{Fault, violation, reason_of, take_frame, take_items, take_payload, is_empty, asks_in, after_taken, dropped, ends_as, by_state, opened_to, opened_as, opening, headed, received_in, received}
+use Rattle.quic_machine.specs.Poll.{Polled, Draft, composed, packet_of, after_given, record_moved, lazied, polled}
+use Rattle.quic_machine.specs.Timeouts.{acks_expired, loss_judged, loss_expired}
 use Rattle.quic_machine.specs.Machine.{World, Policies, after_call, Follows}
-use Rattle.quic_headline.specs.Headline.{LossTimerFollows, LossTimersFollow}
 use Rattle.quic_machine.specs.LeaveCases.{at_expiry}
 use Rattle.quic_machine.specs.CallCases.{by_plain_call}
-use Rattle.quic_machine.specs.FrameCases.{Receives, named, frame_keeps, frame_leaves, by_received}
-use Rattle.quic_machine.specs.PollCases.{at_moment, by_poll_to, composes}
-use Rattle.quic_headline.proofs.Timers.BothEnds.{run_keeps}
+use Rattle.quic_machine.specs.FrameCases.{Settling, named, begun, acked_keeps, losses_keep, frame_keeps, frame_leaves, items_keep}
+use Rattle.quic_machine.specs.PollCases.{ready_at, by_poll_to, Composes, composes}
+use Rattle.quic_headline.specs.Runs.{In}
+use Rattle.quic_headline.specs.Headline.{LossTimerFollows, LossTimersFollow}
+use Rattle.quic_headline.proofs.Packets.Named.{in_filter, filter_chose}
+use Rattle.quic_headline.proofs.Packets.Probes.{in_put, by_ready}
+use Rattle.quic_headline.proofs.Packets.Given.{allocated_near}
+use Rattle.quic_headline.proofs.Packets.Growth.{in_more}
+use Rattle.quic_headline.proofs.Packets.Numbered.{Lies, lies_below, lies_filter, lies_remove, lies_put, lies_push, one_key, added_last, in_remove, oldest_in, asks_last, asks_remove, asks_put, late_asks, is_at_same}
+use Rattle.quic_headline.proofs.Timers.BothEnds.{AtBoth, run_keeps}
 
--- the moment is there exactly where something is tracked
-moment_there : (idle : Bool) (t : Tracking) → is_some (moment_if idle t) ≡ not idle
-moment_there true t = refl
-moment_there false t = refl
+-- ---- a datagram, where frames keep less
 
--- the loss timer of an open end stands so to what is tracked
-abbrev pub LossStands : (Option ℕ → Tracking → Type 0) → End → Type 0
-LossStands P e = e.closing.state ≡ states.Open → P e.timers.loss_detection e.tracking
+-- what a datagram may make of an end: P holds of it before and behind, and Q while its frames are taken
+pub record Hears (P Q : End → Type 0) : Type 0 where
+  pub notes : (n : ℕ) (e : End) → P e → P (with_numbers e (number_opened e.numbers n))
+  pub begins : (now n : ℕ) (e : End) → P e → Q (begun e now n)
+  pub frame : (f : FrameValue) (e : End) → Q e → Q (take_frame f e).end
+  pub takes : (n : ℕ) (asks : Bool) (e : End) → Q e → P (after_taken n asks e)
+  pub closes : (reason : LostReason) (e : End) → Q e → P (closed_by reason e)
 
--- the timer of acknowledgements is another
-waits_on : (b : Bool) (t : Timers) (moment : Option ℕ) → (if b then with_ack_timer t moment else t).loss_detection ≡ t.loss_detection
-waits_on true t moment = refl
-waits_on false t moment = refl
+module _ (P Q : End → Type 0) (c : Hears P Q) where
+  -- a payload
+  payload_hears : (first : ℕ) (is : List (Result FrameValue InvalidFrame)) (e : End) → Q e → Q (take_payload first is e).end
+  payload_hears first is e i = go (not (reserved_bits first == 0) || is_empty is)
+    where
+      go : (b : Bool) → Q (if b then record { end = e; fault = Some violation } else take_items is e).end
+      go true = i
+      go false = items_keep Q c.frame is e i
 
--- what the moment of each tracking has to it, an open end keeps by any call
-module _ (P : Option ℕ → Tracking → Type 0) (set : (t : Tracking) → P (loss_moment t) t) where
-  -- an end that closes isn't open
-  closed_stands : (reason : LostReason) (e : End) → LossStands P (closed_by reason e)
-  closed_stands reason e opened = cc
+  -- all frames were taken, or one was at fault
+  ends_hear : (fault : Option Fault) (asks : Bool) (n : ℕ) (e : End) → Q e → P (ends_as fault asks n e).end
+  ends_hear None asks n e i = c.takes n asks e i
+  ends_hear (Some fault) asks n e i = c.closes (reason_of fault) e i
 
-  -- ---- a datagram
+  -- a packet whose number is new
+  state_hears : (state : State) (o : Opening) (now : ℕ) (e : End) → P e → P (by_state state o now (with_numbers e (number_opened e.numbers o.number))).end
+  state_hears states.Open o now e i =
+      let taken = take_payload o.first (items o.payload) (begun e now o.number) in
+      ends_hear taken.fault (asks_in (items o.payload)) o.number taken.end (payload_hears o.first (items o.payload) (begun e now o.number) (c.begins now o.number e i))
+  state_hears states.Closing o now e i = c.notes o.number e i
+  state_hears states.Drained o now e i = c.notes o.number e i
+  state_hears states.Failed o now e i = c.notes o.number e i
 
-  -- an ACK frame that names these packets
-  named_stands : (ps : Table TrackedPacket) (a : AckValue) (e : End) → LossStands P e → LossStands P (after_named ps a e)
-  named_stands [] a e i = i
-  named_stands (p ∷ ps) a e i =
-      let left = not_acked_by a e.tracking.packets in
-      let greatest = cut_against e.numbers in
-      λ opened. set (after_answered e.tracking (kept_above greatest left))
+  -- a packet that opened
+  opened_hears : (o : Opening) (now : ℕ) (e : End) → P e → P (opened_to o now e).end
+  opened_hears o now e i = go (key_phase o.first) (is_duplicate e.numbers.opened o.number)
+    where
+      go : (a b : Bool) → P (if a then dropped drops.KeyPhase e else (if b then dropped drops.Duplicate e else by_state e.closing.state o now (with_numbers e (number_opened e.numbers o.number)))).end
+      go true b = i
+      go false true = i
+      go false false = state_hears e.closing.state o now e i
 
-  -- a packet was taken
-  taken_stands : (n : ℕ) (asks : Bool) (e : End) → LossStands P e → LossStands P (after_taken n asks e)
-  taken_stands n asks e i opened =
-      subst (λ (o : Option ℕ). P o e.tracking) (sym (waits_on (packet_starts_wait (after_insert e.acknowledging n e.closing.clock) n asks e.numbers.opened) e.timers (Some (ack_due e.closing.clock)))) (i opened)
+  packet_hears : (o : Option Opening) (now : ℕ) (e : End) → P e → P (opened_as o now e).end
+  packet_hears None now e i = i
+  packet_hears (Some o) now e i = opened_hears o now e i
 
-  receives : Receives (LossStands P)
-  receives = record {
-    notes = λ n e i. i;
-    begins = λ now n e i. i;
-    frame = frame_keeps (LossStands P) (record { ack = λ a e i. named_stands (acked_by a e.tracking.packets) a (named a e) i; on_streams = λ f e on i. frame_leaves (LossStands P) f e on (λ t. i) });
-    takes = taken_stands;
-    closes = λ reason e i. closed_stands reason e;
-  }
+  headed_hears : (r : Result (List ℕ) HeaderError) (p : Policy) (e : End) (now : ℕ) (d : List ℕ) → P e → P (headed r p e now d).end
+  headed_hears (Result.Err error) p e now d i = i
+  headed_hears (Result.Ok id) p e now d i = packet_hears (opening p e d) now e i
 
-  -- ---- a poll
+  received_hears : (state : State) (p : Policy) (e : End) (now : ℕ) (d : List ℕ) → P e → P (received_in state p e now d).end
+  received_hears states.Failed p e now d i = i
+  received_hears states.Drained p e now d i = i
+  received_hears states.Open p e now d i = headed_hears (decoded (fixed_length_id own_id_length) (known e.ids) d) p e now d i
+  received_hears states.Closing p e now d i = headed_hears (decoded (fixed_length_id own_id_length) (known e.ids) d) p e now d i
 
-  -- what goes leaves the timer until it is tracked
-  composed_stands : (e : End) → LossStands P e → LossStands P (composed e).end
-  composed_stands e i opened =
-      let c = composes e in
-      subst (λ (t : Tracking). P (composed e).end.timers.loss_detection t) (sym c.tracking)
-      (subst (λ (o : Option ℕ). P o e.tracking) (sym c.loss) (i (ap (λ (x : Closing). x.state) (sym c.closing) ∙ opened)))
+  -- what holds after a datagram
+  pub by_hearing : (p : Policy) (e : End) (now : ℕ) (d : List ℕ) → P e → P (received p e now d).end
+  by_hearing p e now d i = received_hears e.closing.state p e now d i
 
-  -- where it asks, the timer is set by what is tracked
-  given_stands : (b : Bool) (d : Draft) → LossStands P d.end → LossStands P (with_numbers (tracked_if b d) (number_given d.end.numbers))
-  given_stands true d i = λ opened. set (after_sent d.end.tracking d.end.numbers.next d.end.path.generation d.end.closing.clock (carried_in d.frames))
-  given_stands false d i = i
+-- ---- what is tracked
 
-  polled_stands : (p : Policy) (e : End) (now : ℕ) → LossStands P e → LossStands P (polled p e now).end
-  polled_stands p e now i = by_poll_to p e now (λ (q : Polled). LossStands P q.end) (record {
-    silent = i;
-    failed = i;
-    idle = λ pings. i;
-    used_up = λ pings. closed_stands reasons.NumberLimit (at_moment e now pings);
-    gives = λ pings is may some ready. given_stands (asking (composed (at_moment e now pings)).frames) (composed (at_moment e now pings)) (composed_stands (at_moment e now pings) i);
-  })
+-- those that ask aren't above the greatest that asks
+abbrev pub AreAsked : Option ℕ → Table TrackedPacket → Type 0
+AreAsked greatest packets = (p : ℕ × TrackedPacket) → In p packets → p.1.asks ≡ true → is_behind greatest p.0 ≡ false
 
-  -- ---- any call
+-- The numbers of what is tracked rise, below the next one; what was sent since the last that asks doesn't ask; and one may be lost by time only where one asks.
+pub record Stands (next : ℕ) (t : Tracking) : Type 0 where
+  pub lies : Lies 0 next t.packets
+  pub asked : AreAsked t.greatest_asking t.packets
+  pub late : is_some t.loss_time ≡ true → asks_any t.packets ≡ true
 
-  -- expired timers: the loss timer is set anew by what is tracked
-  expired_stands : (e : End) (now : ℕ) (acks loss : Bool) → LossStands P e → LossStands P (at_expiry e now acks loss)
-  expired_stands e now true true i = λ opened. set (after_loss_timeout e.tracking)
-  expired_stands e now true false i = i
-  expired_stands e now false true i = λ opened. set (after_loss_timeout e.tracking)
-  expired_stands e now false false i = i
+-- losses are detected
+stands_detected : (next : ℕ) (v : Verdict) (t : Tracking) → Lies 0 next t.packets → AreAsked t.greatest_asking t.packets → Stands next (after_detection v t)
+stands_detected next v t lies asked = record {
+  lies = lies_filter (λ p. not (is_lost v p)) 0 next t.packets lies;
+  asked = λ p i asks. asked p (in_filter (λ q. not (is_lost v q)) p t.packets i) asks;
+  late = late_asks v.greatest v.delay (λ p. saturated (p.1.time_sent + v.delay)) (kept_by v t.packets);
+}
 
-  -- what any call leaves
-  pub call_stands : (p : Policy) (e : End) (theirs : List (List ℕ)) (call : Call) (a : Answer) → LossStands P e → LossStands P (after_call p e theirs call a)
-  call_stands p e theirs call a i = by_plain_call p e theirs (LossStands P) call a (record {
-    same = i;
-    on_streams = λ t. i;
-    pings = i;
-    heard = λ path same. i;
-    times = λ now acks loss is. expired_stands e now acks loss i;
-    polls = λ now is. polled_stands p e now i;
-    hears = λ now d is. by_received (LossStands P) receives p e now d i;
-    tells = λ told. i;
-  })
+-- a packet that is forgotten doesn't ask
+stands_forgotten : (next : ℕ) (t : Tracking) (o : Option (ℕ × TrackedPacket)) → ((p : ℕ × TrackedPacket) → o ≡ Some p → is_behind t.greatest_asking p.0 ≡ true) → Stands next t → Stands next (record t { packets = without_packet o t.packets })
+stands_forgotten next t None behind s = record { lies = s.lies; asked = s.asked; late = s.late }
+stands_forgotten next t (Some p) behind s = record {
+  lies = lies_remove (is_at (nat_cmp p.0)) 0 next t.packets s.lies;
+  asked = λ q i asks. s.asked q (in_remove (is_at (nat_cmp p.0)) q t.packets i) asks;
+  late = λ there. asks_remove (is_at (nat_cmp p.0)) t.packets silent ∙ s.late there;
+}
+  where
+    silent : (q : ℕ × TrackedPacket) → In q t.packets → is_at (nat_cmp p.0) q.0 ≡ true → q.1.asks ≡ false
+    silent q i at = go q.1.asks refl
+      where
+        go : (b : Bool) → q.1.asks ≡ b → q.1.asks ≡ false
+        go false is = is
+        go true is =
+            let above : is_behind t.greatest_asking q.0 ≡ true = ap (λ (n : ℕ). is_behind t.greatest_asking n) (sym (is_at_same p.0 q.0 at)) ∙ behind p refl in
+            let clash : true ≡ false = sym above ∙ s.asked q i is in
+            cc
 
--- it is set where a datagram that asks is waited for
-abbrev IsSetFor : Option ℕ → Tracking → Type 0
-IsSetFor o t = is_some o ≡ not (is_idle t.packets)
+-- the one that is forgotten lies above the last that asks
+pub forgotten_behind : (t : Tracking) (p : TrackedPacket) (q : ℕ × TrackedPacket) → forgotten t p ≡ Some q → is_behind t.greatest_asking q.0 ≡ true
+forgotten_behind t p q = go (forgets t p)
+  where
+    go : (b : Bool) → (if b then oldest (tail_of t) else None) ≡ Some q → is_behind t.greatest_asking q.0 ≡ true
+    go true is = filter_chose (λ (x : ℕ × TrackedPacket). is_behind t.greatest_asking x.0) q t.packets (oldest_in (tail_of t) q is)
+    go false is = cc
 
--- a run
-pub loss_timers_follow : (k : Policies) (w end : World) (events : List RunEvent) (told : List Answer) (views : List View) → Follows k w events told views end → LossTimersFollow w → LossTimersFollow end
-loss_timers_follow k w end events told views f i = run_keeps LossTimerFollows (record {
-  call = call_stands IsSetFor (λ t. moment_there (is_idle t.packets) t);
-  stops = λ e next is opened. let clash : states.Failed ≡ states.Open = sym is.0 ∙ opened in cc;
-}) k w end events told views f i
+-- what is tracked once a packet of a number above all goes
+pub stands_sent : (next n : ℕ) (t : Tracking) (p : TrackedPacket) → next ≤ n → Stands next t → Stands (n + 1) (after_sent t n p)
+stands_sent next n t p above s = go p.asks refl
+  where
+    kept : Table TrackedPacket
+    kept = without_packet (forgotten t p) t.packets
+
+    before : Stands next (record t { packets = kept })
+    before = stands_forgotten next t (forgotten t p) (forgotten_behind t p) s
+
+    behind : added kept n p ≡ kept ++ (n, p) ∷ []
+    behind = added_last 0 next kept n p before.lies above
+
+    lies : Lies 0 (n + 1) (added kept n p)
+    lies = subst (λ (ps : Table TrackedPacket). Lies 0 (n + 1) ps) (sym behind) (lies_push 0 next kept n p before.lies above)
+
+    go : (b : Bool) → p.asks ≡ b → Stands (n + 1) (asking_sent b n p.time_sent (record t { packets = added kept n p }))
+    go true is = record {
+      lies = lies;
+      asked = λ q i asks. below q (in_more q (n, p) kept (subst (λ (ps : Table TrackedPacket). In q ps) behind i));
+      late = λ there. ap asks_any behind ∙ asks_last kept (n, p) ∙ ap (λ (b : Bool). asks_any kept || b) is ∙ or_true (asks_any kept);
+    }
+      where
+        or_true : (b : Bool) → (b || true) ≡ true
+        or_true true = refl
+        or_true false = refl
+
+        below : (q : ℕ × TrackedPacket) → In q kept ⊎ (q ≡ (n, p)) → nat_lt n q.0 ≡ false
+        below q (inl i) = let less = lies_below 0 next kept before.lies q i in le-ltb n q.0 (omega arith)
+        below q (inr same) = ap (λ (x : ℕ × TrackedPacket). nat_lt n x.0) same ∙ le-ltb n n (omega arith)
+    go false is = record {
+      lies = lies;
+      asked = λ q i asks. old q asks (in_more q (n, p) kept (subst (λ (ps : Table TrackedPacket). In q ps) behind i));
+      late = λ there. ap asks_any behind ∙ asks_last kept (n, p) ∙ ap (λ (b : Bool). b || p.asks) (before.late there);
+    }
+      where
+        old : (q : ℕ × TrackedPacket) → q.1.asks ≡ true → In q kept ⊎ (q ≡ (n, p)) → is_behind t.greatest_asking q.0 ≡ false
+        old q asks (inl i) = before.asked q i asks
+        old q asks (inr same) = (let clash : true ≡ false = sym asks ∙ ap (λ (x : ℕ × TrackedPacket). x.1.asks) same ∙ is in cc)
+
+-- ---- an end that is open
 
 -- the timer of an open end is set to the moment of what is tracked
 abbrev pub IsLossMoment : End → Type 0
-IsLossMoment = LossStands (λ o t. o ≡ loss_moment t)
+IsLossMoment e = e.timers.loss_detection ≡ loss_moment (probe_timeout e) e.tracking
 
--- any call keeps that
-pub call_sets : (p : Policy) (e : End) (theirs : List (List ℕ)) (call : Call) (a : Answer) → IsLossMoment e → IsLossMoment (after_call p e theirs call a)
-call_sets = call_stands (λ o t. o ≡ loss_moment t) (λ t. refl)
+-- what is tracked at an end
+abbrev pub StandsAt : End → Type 0
+StandsAt e = Stands e.numbers.next e.tracking
+
+-- both, while it is open
+pub record OpenStands (e : End) : Type 0 where
+  pub stands : StandsAt e
+  pub set : IsLossMoment e
+
+abbrev pub LossStands : End → Type 0
+LossStands e = e.closing.state ≡ states.Open → OpenStands e
+
+-- while it takes frames, only the first
+abbrev FrameStands : End → Type 0
+FrameStands e = e.closing.state ≡ states.Open → StandsAt e
+
+-- ---- a datagram
+
+-- numbers, clock and state are as they were
+record IsQuiet (e f : End) : Type 0 where
+  numbers : f.numbers ≡ e.numbers
+  closing : f.closing ≡ e.closing
+
+-- packets that are acknowledged or lost leave them
+quiet_settles : (e : End) → Settling (IsQuiet e)
+quiet_settles e = record {
+  known = λ n x q. record { numbers = q.numbers; closing = q.closing };
+  reset = λ id x q. record { numbers = q.numbers; closing = q.closing };
+  acked = λ m x q. record { numbers = q.numbers; closing = q.closing };
+  lost = λ m x q. record { numbers = q.numbers; closing = q.closing };
+  again = λ c x q. record { numbers = q.numbers; closing = q.closing };
+  tracked = λ t x q. record { numbers = q.numbers; closing = q.closing };
+  measured = λ r x q. record { numbers = q.numbers; closing = q.closing };
+}
+
+-- a round trip that is measured leaves what is tracked
+sampled_tracking : (o : Option TrackedPacket) (a : AckValue) (e : End) → (sampled o a e).tracking ≡ e.tracking
+sampled_tracking None a e = refl
+sampled_tracking (Some p) a e = refl
+
+-- an ACK frame that names these packets
+stands_named : (next : ℕ) (ps : Table TrackedPacket) (rises : Bool) (a : AckValue) (e : End) → Stands next e.tracking → Stands next (after_named ps rises a e).tracking
+stands_named next [] rises a e s = s
+stands_named next (p ∷ ps) rises a e s = record { lies = found.lies; asked = found.asked; late = found.late }
+  where
+    timed : End
+    timed = sampled (measured rises a (p ∷ ps)) a (without_acked (p ∷ ps) a e)
+
+    same : timed.tracking ≡ record e.tracking { packets = not_acked_by a e.tracking.packets }
+    same = sampled_tracking (measured rises a (p ∷ ps)) a (without_acked (p ∷ ps) a e)
+
+    found : Stands next (after_detection (verdict timed) timed.tracking)
+    found = stands_detected next (verdict timed) timed.tracking (subst (λ (t : Tracking). Lies 0 next t.packets) (sym same) (lies_filter (λ q. not (names a q.0)) 0 next e.tracking.packets s.lies))
+        (subst (λ (t : Tracking). AreAsked t.greatest_asking t.packets) (sym same) (λ q i asks. s.asked q (in_filter (λ x. not (names a x.0)) q e.tracking.packets i) asks))
+
+-- so it is at an open end
+ack_stands : (rises : Bool) (a : AckValue) (e : End) → FrameStands e → FrameStands (after_acked rises a (named a e))
+ack_stands rises a e i opened =
+    let quiet : IsQuiet (named a e) (after_acked rises a (named a e)) = acked_keeps (IsQuiet (named a e)) (quiet_settles (named a e)) rises a (named a e) (record { numbers = refl; closing = refl }) in
+    subst (λ (n : Numbers). Stands n.next (after_acked rises a (named a e)).tracking) (sym quiet.numbers)
+    (stands_named e.numbers.next (acked_by a e.tracking.packets) rises a (named a e) (i (ap (λ (c : Closing). c.state) (sym quiet.closing) ∙ opened)))
+
+-- an end that closes isn't open
+closed_stands : (reason : LostReason) (e : End) → LossStands (closed_by reason e)
+closed_stands reason e opened = cc
+
+hears : Hears LossStands FrameStands
+hears = record {
+  notes = λ n e i opened. (let s = i opened in record { stands = record { lies = s.stands.lies; asked = s.stands.asked; late = s.stands.late }; set = s.set });
+  begins = λ now n e i opened. (i opened).stands;
+  frame = frame_keeps FrameStands (record { ack = ack_stands; on_streams = λ f e on i. frame_leaves FrameStands f e on (λ t. i); message = λ m e i. i });
+  takes = λ n asks e i opened. record { stands = i opened; set = refl };
+  closes = λ reason e i. closed_stands reason e;
+}
+
+-- ---- a poll
+
+-- whether one asks says when a probe goes, whatever else is tracked
+probe_same : (b : Bool) (timeout : ℕ) (t : Tracking) (packets : Table TrackedPacket) → probe_moment b timeout (record t { packets = packets }) ≡ probe_moment b timeout t
+probe_same true timeout t packets = refl
+probe_same false timeout t packets = refl
+
+-- the record of a packet moves: the packet stays, and asks as before
+moved_stands : (next : ℕ) (p : ℕ × TrackedPacket) (t : Tracking) → In p t.packets → Stands next t
+    → Stands next (record t { packets = put t.packets p.0 (without_record p.1) }) × ((timeout : ℕ) → loss_moment timeout (record t { packets = put t.packets p.0 (without_record p.1) }) ≡ loss_moment timeout t)
+moved_stands next p t i s = (
+  record {
+    lies = lies_put (is_at (nat_cmp p.0)) (without_record p.1) 0 next t.packets s.lies;
+    asked = λ q j asks. old q asks (in_put t.packets p.0 (without_record p.1) q j);
+    late = λ there. same ∙ s.late there;
+  },
+  λ timeout. ap (λ (b : Bool). moment_or t.loss_time (probe_moment b timeout (record t { packets = put t.packets p.0 (without_record p.1) }))) same
+      ∙ ap (λ (o : Option ℕ). moment_or t.loss_time o) (probe_same (asks_any t.packets) timeout t (put t.packets p.0 (without_record p.1))),
+)
+  where
+    same : asks_any (put t.packets p.0 (without_record p.1)) ≡ asks_any t.packets
+    same = asks_put (is_at (nat_cmp p.0)) (without_record p.1) t.packets (λ q j at. ap (λ (x : ℕ × TrackedPacket). x.1.asks) (one_key 0 next t.packets s.lies q p j i (sym (is_at_same p.0 q.0 at))))
+
+    old : (q : ℕ × TrackedPacket) → q.1.asks ≡ true → In q t.packets ⊎ (q ≡ (p.0, without_record p.1)) → is_behind t.greatest_asking q.0 ≡ false
+    old q asks (inl j) = s.asked q j asks
+    old q asks (inr is) = ap (λ (x : ℕ × TrackedPacket). is_behind t.greatest_asking x.0) is ∙ s.asked p i (ap (λ (x : ℕ × TrackedPacket). x.1.asks) (sym is) ∙ asks)
+
+-- an end is ready
+pub ready_stands : (e : End) (now : ℕ) → LossStands e → LossStands (ready_at e now)
+ready_stands e now i = by_ready LossStands e now same pings moves
+  where
+    same : LossStands (with_closing e (ticked e.closing now))
+    same opened = let s = i opened in record { stands = s.stands; set = s.set }
+
+    pings : LossStands (with_ping (with_closing e (ticked e.closing now)) true)
+    pings opened = let s = i opened in record { stands = s.stands; set = s.set }
+
+    moves : (p : ℕ × TrackedPacket) → In p e.tracking.packets → LossStands (record_moved (Some p) (with_closing e (ticked e.closing now)))
+    moves p among opened =
+        let s = i opened in
+        let moved = moved_stands e.numbers.next p e.tracking among s.stands in
+        record { stands = moved.0; set = s.set ∙ sym (moved.1 (probe_timeout e)) }
+
+-- a datagram goes
+given_stands : (p : Policy) (e : End) → LossStands e → LossStands (after_given p (composed e))
+given_stands p e i opened =
+    let d : Draft = composed e in
+    let c : Composes e d.end = composes e in
+    let before = (i (ap (λ (x : Closing). x.state) (sym c.closing) ∙ opened)).stands in
+    let ready : Stands d.end.numbers.next d.end.tracking = subst (λ (n : Numbers). Stands n.next d.end.tracking) (sym c.numbers) (subst (λ (t : Tracking). Stands e.numbers.next t) (sym c.tracking) before) in
+    record { stands = stands_sent d.end.numbers.next (number_of d.end) d.end.tracking (packet_of d) (allocated_near d.end.filter d.end.numbers.next).0 ready; set = refl }
+
+polled_stands : (p : Policy) (e : End) (now : ℕ) → LossStands e → LossStands (polled p e now).end
+polled_stands p e now i = by_poll_to p e now (λ (q : Polled). LossStands q.end) (record {
+  silent = i;
+  failed = i;
+  idle = ready_stands e now i;
+  used_up = closed_stands reasons.NumberLimit (ready_at e now);
+  gives = λ is may some. given_stands p (lazied (ready_at e now)) (λ opened. (let s = ready_stands e now i opened in record { stands = s.stands; set = s.set }));
+})
+
+-- ---- any call
+
+-- expired timers: losses are detected, or probes wait, and the loss timer is set anew
+judged_stands : (e : End) (o : Option ℕ) → FrameStands e → FrameStands (loss_judged o e)
+judged_stands e None i opened = let s = i opened in record { lies = s.lies; asked = s.asked; late = s.late }
+judged_stands e (Some moment) i opened =
+    let quiet : IsQuiet e (losses_detected e) = losses_keep (IsQuiet e) (quiet_settles e) e (record { numbers = refl; closing = refl }) in
+    let s = i (ap (λ (c : Closing). c.state) (sym quiet.closing) ∙ opened) in
+    subst (λ (n : Numbers). Stands n.next (losses_detected e).tracking) (sym quiet.numbers) (stands_detected e.numbers.next (verdict e) e.tracking s.lies s.asked)
+
+expired_stands : (e : End) (now : ℕ) (acks loss : Bool) → LossStands e → LossStands (at_expiry e now acks loss)
+expired_stands e now acks loss i = after acks (loss_expired loss begun) (judged loss)
+  where
+    begun : End
+    begun = with_closing e (ticked e.closing now)
+
+    judged : (loss : Bool) → FrameStands (loss_expired loss begun)
+    judged true = judged_stands begun e.tracking.loss_time (λ opened. (i opened).stands)
+    judged false = λ opened. (i opened).stands
+
+    after : (acks : Bool) (f : End) → FrameStands f → LossStands (with_loss_timer (acks_expired acks f))
+    after true f j opened = (let s = j opened in record { stands = record { lies = s.lies; asked = s.asked; late = s.late }; set = refl })
+    after false f j opened = record { stands = j opened; set = refl }
+
+-- what any call leaves
+pub call_stands : (p : Policy) (e : End) (theirs : List (List ℕ)) (call : Call) (a : Answer) → LossStands e → LossStands (after_call p e theirs call a)
+call_stands p e theirs call a i = by_plain_call p e theirs LossStands call a (record {
+  same = i;
+  on_streams = λ t opened. (let s = i opened in record { stands = s.stands; set = s.set });
+  on_messages = λ m opened. (let s = i opened in record { stands = s.stands; set = s.set });
+  pings = λ opened. (let s = i opened in record { stands = s.stands; set = s.set });
+  heard = λ path same opened. (let s = i opened in record { stands = s.stands; set = s.set ∙ ap (λ (r : Rtt). loss_moment (saturated (rtt_timeout r + peer_delay e)) e.tracking) (sym same.rtt) });
+  times = λ now acks loss is. expired_stands e now acks loss i;
+  polls = λ now is. polled_stands p e now i;
+  hears = λ now d is. by_hearing LossStands FrameStands hears p e now d i;
+  tells = λ told opened. (let s = i opened in record { stands = s.stands; set = s.set });
+})
+
+-- ---- a run
+
+-- the timer is there exactly where one asks that is tracked
+moment_there : (o : Option ℕ) (b : Bool) (timeout : ℕ) (t : Tracking) → (is_some o ≡ true → b ≡ true) → is_some (moment_or o (probe_moment b timeout t)) ≡ b
+moment_there None true timeout t late = refl
+moment_there None false timeout t late = refl
+moment_there (Some moment) b timeout t late = sym (late refl)
+
+-- so it follows what is tracked
+pub stands_follow : (e : End) → LossStands e → LossTimerFollows e
+stands_follow e i opened =
+    let s = i opened in
+    ap (λ (o : Option ℕ). is_some o) s.set ∙ moment_there e.tracking.loss_time (asks_any e.tracking.packets) (probe_timeout e) e.tracking s.stands.late
+
+-- both ends keep it over a run
+pub losses_stand : (k : Policies) (w end : World) (events : List RunEvent) (told : List Answer) (views : List View) → Follows k w events told views end → AtBoth LossStands w → AtBoth LossStands end
+losses_stand k w end events told views f i = run_keeps LossStands (record {
+  call = call_stands;
+  stops = λ e next is opened. let clash : states.Failed ≡ states.Open = sym is.0 ∙ opened in cc;
+}) k w end events told views f i
+
+-- where it stands at first, the timers follow
+pub losses_follow : (k : Policies) (w end : World) (events : List RunEvent) (told : List Answer) (views : List View) → Follows k w events told views end → AtBoth LossStands w → LossTimersFollow end
+losses_follow k w end events told views f i = let both = losses_stand k w end events told views f i in (stands_follow end.client both.0, stands_follow end.server both.1)

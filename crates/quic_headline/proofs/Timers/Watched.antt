@@ -33,7 +33,7 @@ module _ (x y : Party) (call : Call) (a : Answer) (c : Calls Observed x y call a
   -- it is what the observer of the end knows there
   pub behind_is : watch_of (called x y.given call a) y ≡ watch_behind
   behind_is =
-      folded_more (watch_told (lens x y)) x.told (told_of call a x.end.closing.state) (first_watch (x.id ∷ []) x.final x.began)
+      folded_more (watch_told (lens x y)) x.told (told_of call a x.end.closing.state) (first_watch (x.id ∷ []) x.final x.began x.initial_rtt)
       ∙ ap (λ (v : Watch). watch_told (lens x y) (told_of call a x.end.closing.state) v) (sym is)
 
   -- what was given more, it knows
@@ -44,8 +44,8 @@ module _ (x y : Party) (call : Call) (a : Answer) (c : Calls Observed x y call a
       ∙ ap (λ (ss : List Sent). ss ++ sents_by x.end call a) (sym c.gives.1.own ∙ ap (λ (v : Watch). v.own) (sym is))
 
   -- and what the end waits for
-  pub watched_behind : IsWatched watch_behind (called x y.given call a).end
-  watched_behind = subst (λ (v : Watch). IsWatched v (called x y.given call a).end) behind_is c.gives_behind.1.watched
+  pub watched_behind : IsWatched x.terms watch_behind (called x y.given call a).end
+  watched_behind = subst (λ (v : Watch). IsWatched x.terms v (called x y.given call a).end) behind_is c.gives_behind.1.watched
 
 -- ---- a view
 

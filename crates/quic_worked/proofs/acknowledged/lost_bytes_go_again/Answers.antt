@@ -11,4 +11,4 @@ unfolding client_lost
 names_none = refl
 
 pub returns-clause-same : goal.returns-clause-same
-returns-clause-same c = ap (λ (named : Table TrackedPacket). after_named named third_ack client_lost) names_none
+returns-clause-same c rises = ap (λ (named : Table TrackedPacket). after_named named rises third_ack client_lost) names_none

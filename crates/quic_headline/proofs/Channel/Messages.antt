@@ -1,0 +1,270 @@
+-- Each message that an end sends is one that the other takes: it is told how long they may be, and refuses longer ones (RFC 9221, section 3).
+use Rattle.std.proofs.Common.{◌≡◌, ℕ, ◌-◌, min, Bool, true, false, ◌==◌, not, List, [], ◌∷◌, ◌++◌, length, replicate, zero, suc, Option, Some, None, Result, Ok, Err, refl, sym, ap, ◌∙◌, subst, inl, inr, arith}
+use Rattle.std.specs.Prelude.{if◌then◌else◌, nat_le, nat_lt, ◌||◌, is_none, is_ok, ◌+◌}
+use Rattle.std.specs.List.{AllByRecursion}
+use Rattle.std.proofs.lemmas.Bool.{ltb-false, le-leb}
+use Rattle.quic_wire.specs.Value.{FrameValue, ack, padding, ping, stream, datagram}
+use Rattle.quic_packet.specs.Number.{truncated}
+use Rattle.quic_config.specs.Transport.{TransportSettings, told_frame_size}
+use Rattle.quic_parameters.specs.Parameters.{ParameterValues}
+use Rattle.quic_streams_parts.specs.SendHalf.{frame_of}
+use Rattle.quic_streams_laws.specs.WrittenFrames.{all_append}
+use Rattle.quic_messages.specs.declared.errors.ReceivedError.{ReceivedError}
+use Rattle.quic_messages.specs.declared.errors.SendDatagramError.{SendDatagramError}
+use Rattle.quic_messages.specs.declared.errors.SendDatagramError.TheVariants.{Disabled, TooLarge, Blocked}
+use Rattle.quic_messages.specs.Messages.{Messages, bytes_of, is_taken, left_for, with_message, received_answer, after_received}
+use Rattle.quic_messages.specs.Sending.{max_size, has_room, sized_answer, send_answer, after_send}
+use Rattle.quic_machine.specs.declared.run.Call.{Call}
+use Rattle.quic_machine.specs.declared.run.Call.TheVariants as calls
+use Rattle.quic_machine.specs.declared.run.Answer.{Answer}
+use Rattle.quic_machine.specs.declared.run.Answer.TheVariants as answers
+use Rattle.quic_machine.specs.Policy.{Policy}
+use Rattle.quic_machine.specs.Closing.{ticked}
+use Rattle.quic_spaces.specs.Numbers.{cut_against}
+use Rattle.quic_machine.specs.End.{End, number_of, with_closing}
+use Rattle.quic_machine.specs.Receive.{is_above, names_ungiven, message_judged, take_frame}
+use Rattle.quic_machine.specs.Poll.{Draft, Polled, current_mtu, ack_of, composed, lazied, polled}
+use Rattle.quic_machine.specs.DraftLaws.{by_writing}
+use Rattle.quic_machine.specs.PollCases.{at_moment, frames_padded, frames_at, by_poll}
+use Rattle.quic_machine.specs.MessageCalls.{limits_of, after_on_messages}
+use Rattle.quic_machine.specs.FrameCases.{Settling, named, ack_taken, acked_keeps, losses_keep, by_received}
+use Rattle.quic_machine.specs.LeaveCases.{by_expired, by_event}
+use Rattle.quic_machine.specs.CallCases.{by_call}
+use Rattle.quic_machine.specs.Machine.{IsAnswer, after_call, gave}
+use Rattle.quic_headline.specs.Runs.{In}
+use Rattle.quic_headline.specs.Observer.{Sent}
+use Rattle.quic_headline.proofs.Packets.Growth.{in_more}
+use Rattle.quic_headline.proofs.Packets.Entries.{IsControl, entry_control}
+use Rattle.quic_headline.proofs.Packets.Stays.{placed_call}
+use Rattle.quic_headline.proofs.Places.Told.{in_append}
+use Rattle.quic_headline.proofs.Places.Steps.{poll_answer}
+use Rattle.quic_headline.proofs.Places.Parties.{Party, called, sent_by, sent_if, sents_by}
+use Rattle.quic_headline.proofs.Places.Groups.{Way, Calls, Group}
+
+-- ---- what an end takes
+
+-- an end that keeps so many bytes unread takes each of these
+abbrev pub AreTaken : Option ℕ → List (List ℕ) → Type 0
+AreTaken window ms = AllByRecursion (λ m. is_taken window m ≡ true) ms
+
+-- and each message that these frames have
+abbrev pub FramesTaken : Option ℕ → List FrameValue → Type 0
+FramesTaken window fs = (m : List ℕ) → In (datagram m) fs → is_taken window m ≡ true
+
+-- what waits at an end is what it takes
+abbrev Waits : Option ℕ → End → Type 0
+Waits window e = AreTaken window e.messages.queues.outgoing
+
+-- how long messages may be that an end sends to one that keeps so many bytes unread
+abbrev pub IsTold : Option ℕ → End → Type 0
+IsTold window e = e.peer_params.max_datagram_frame_size ≡ told_frame_size window
+
+-- ---- a call that sends one
+
+-- what isn't refused for its length isn't longer
+not_longer : (long : Bool) (r : Result (Unit {0}) SendDatagramError) → is_ok (if long then Err TooLarge else r) ≡ true → long ≡ false
+not_longer true r ok = cc
+not_longer false r ok = refl
+
+-- a message that isn't refused for its length is taken
+sized_taken : (window : Option ℕ) (frame size id : ℕ) (room : Bool) (m : List ℕ) → frame ≡ told_frame_size window → is_ok (sized_answer (max_size frame size id) room m) ≡ true → is_taken window m ≡ true
+sized_taken None frame size id room m told ok =
+    let none : max_size frame size id ≡ None = ap (λ (n : ℕ). max_size n size id) told in
+    let clash : is_ok (sized_answer None room m) ≡ true = subst (λ (o : Option ℕ). is_ok (sized_answer o room m) ≡ true) none ok in
+    cc
+sized_taken (Some window) frame size id room m told ok = go (frame == 0) ok
+  where
+    go : (b : Bool) → is_ok (sized_answer (if b then None else Some (min (frame - 9) (size - id - 30))) room m) ≡ true → nat_le (length m) window ≡ true
+    go true ok = cc
+    go false ok =
+        let short = ltb-false (min (frame - 9) (size - id - 30)) (length m) (not_longer (nat_lt (min (frame - 9) (size - id - 30)) (length m)) (if room then Ok tt else Err Blocked) ok) in
+        let most : frame ≡ min window 65535 = told in
+        le-leb (length m) window (omega arith)
+
+-- what an end that is open and takes messages answers
+opened_answer : (is_open none : Bool) (r : Result (Unit {0}) SendDatagramError) → is_ok (if not is_open then Err Blocked else (if none then Err Disabled else r)) ≡ true → is_ok r ≡ true
+opened_answer true true r ok = cc
+opened_answer true false r ok = ok
+opened_answer false none r ok = cc
+
+-- those that stay for one more
+left_taken : (window : Option ℕ) (room len : ℕ) (ms : List (List ℕ)) → AreTaken window ms → AreTaken window (left_for room len ms)
+left_taken window room len [] t = t
+left_taken window room len (m ∷ ms) t = go (nat_le (bytes_of (m ∷ ms) + len) room) (left_taken window room len ms t.1)
+  where
+    go : (b : Bool) → AreTaken window (left_for room len ms) → AreTaken window (if b then m ∷ ms else left_for room len ms)
+    go true rest = t
+    go false rest = rest
+
+module _ (window : Option ℕ) (e : End) (told : IsTold window e) (i : Waits window e) where
+  -- a message that is sent is taken, and waits behind the others
+  send_leaves : (makes_room : Bool) (m : List ℕ) → AreTaken window (after_send (limits_of e) makes_room m e.messages.queues).outgoing
+  send_leaves makes_room m = go (is_ok (send_answer (limits_of e) makes_room m e.messages.queues)) refl
+    where
+      go : (b : Bool) → is_ok (send_answer (limits_of e) makes_room m e.messages.queues) ≡ b
+          → AreTaken window (if b then record e.messages.queues { outgoing = with_message (limits_of e).send_buffer_size m e.messages.queues.outgoing } else e.messages.queues).outgoing
+      go true ok =
+          let sized = opened_answer (limits_of e).is_open (is_none (limits_of e).receive_buffer_size) (sized_answer (limits_of e).max_size (makes_room || has_room (limits_of e).send_buffer_size m e.messages.queues) m) ok in
+          let one = sized_taken window e.peer_params.max_datagram_frame_size current_mtu (length e.ids.active.id) (makes_room || has_room (limits_of e).send_buffer_size m e.messages.queues) m told sized in
+          all_append (λ n. is_taken window n ≡ true) (left_for (limits_of e).send_buffer_size (length m) e.messages.queues.outgoing) (m ∷ []) (left_taken window (limits_of e).send_buffer_size (length m) e.messages.queues.outgoing i) (one, tt)
+      go false refused = i
+
+  message_call_leaves : (call : Call) (a : Answer) → AreTaken window (after_on_messages e call a).queues.outgoing
+  message_call_leaves (calls.Send message makes_room) (answers.Send (Ok x)) = send_leaves makes_room message
+  message_call_leaves (calls.Send message makes_room) a = i
+  message_call_leaves calls.Recv a = i
+  message_call_leaves call a = i
+
+-- ---- what goes
+
+-- what waits is taken, and so is what went
+record Draws (window : Option ℕ) (d : Draft) : Type 0 where
+  waiting : Waits window d.end
+  frames : FramesTaken window d.frames
+
+-- one frame more
+one_more : (window : Option ℕ) (fs : List FrameValue) (f : FrameValue) → FramesTaken window fs → ((m : List ℕ) → datagram m ≡ f → is_taken window m ≡ true) → FramesTaken window (fs ++ f ∷ [])
+one_more window fs f all one m i = elim (in_more (datagram m) f fs i) [ inl old ↦ all m old | inr is ↦ one m is ]
+
+-- a frame of control is no message
+no_message : (f : FrameValue) (m : List ℕ) → IsControl f → datagram m ≡ f → ⊥
+no_message f m is same = subst IsControl (sym same) is
+
+composed_draws : (window : Option ℕ) (e : End) → Waits window e → Draws window (composed e)
+composed_draws window e i = by_writing (Draws window) (record {
+  ack = λ d filled may g. record { waiting = g.waiting; frames = one_more window d.frames (ack (ack_of d.end)) g.frames (λ m is. cc) };
+  ping = λ d g. record { waiting = g.waiting; frames = one_more window d.frames ping g.frames (λ m is. cc) };
+  drops = λ d kind g. record { waiting = g.waiting; frames = g.frames };
+  control = λ d kind entry es f is due g. record {
+    waiting = g.waiting;
+    frames = one_more window d.frames f g.frames (λ m same. absurd (no_message f m (entry_control kind d.end.waiting.frames entry es d.end.streams f is due) same));
+  };
+  message = λ d m ms is fit g. (
+      let all : AreTaken window (m ∷ ms) = subst (AreTaken window) is g.waiting in
+      record { waiting = all.1; frames = one_more window d.frames (datagram m) g.frames (λ n same. (let alike : n ≡ m = cc in rw alike all.0)) });
+  stream = λ d id h room found first some is counts g. record { waiting = g.waiting; frames = one_more window d.frames (stream (frame_of id h room)) g.frames (λ m is. cc) };
+}) e (record { waiting = i; frames = λ m j. absurd j })
+
+-- PADDING has none
+padded_taken : (window : Option ℕ) (fs : List FrameValue) (count : ℕ) → FramesTaken window fs → FramesTaken window (fs ++ replicate count padding)
+padded_taken window fs count all m i = elim (in_append (datagram m) fs (replicate count padding) i) [ inl here ↦ all m here | inr behind ↦ zeros count behind ]
+  where
+    zeros : (n : ℕ) → In (datagram m) (replicate n padding) → is_taken window m ≡ true
+    zeros zero i = absurd i
+    zeros (suc n) (inl is) = cc
+    zeros (suc n) (inr i) = zeros n i
+
+-- each message of these datagrams is taken
+abbrev pub AllTaken : Option ℕ → List Sent → Type 0
+AllTaken window sents = (s : Sent) → In s sents → FramesTaken window s.frames
+
+-- what a poll leaves and gives
+poll_takes : (window : Option ℕ) (p : Policy) (e : End) (now : ℕ) → Waits window e → Waits window (polled p e now).end × AllTaken window (sent_if (gave (answers.Poll (polled p e now).answer)) (sent_by e now))
+poll_takes window p e now i = by_poll p e now (λ (q : Polled). Waits window q.end × AllTaken window (sent_if (gave (answers.Poll q.answer)) (sent_by e now))) (record {
+  silent = (i, λ s j. absurd j);
+  failed = (i, λ s j. absurd j);
+  idle = λ tracked waits ready. (i, λ s j. absurd j);
+  used_up = λ tracked waits ready. (i, λ s j. absurd j);
+  gives = λ tracked waits tracking timers is may some ready. (
+      let x : End = lazied (at_moment e now tracked waits) in
+      let d : Draft = composed x in
+      let frames_are : frames_at e now ≡ frames_padded d = ap (λ (y : End). frames_padded (composed (lazied y))) ready in
+      let draws = composed_draws window x i in
+      (draws.waiting, λ s j m k. padded_taken window d.frames (4 - ((truncated (number_of d.end) (cut_against d.end.numbers)).width + length d.bytes)) draws.frames m (subst (In (datagram m)) frames_are (one s j m k))));
+})
+  where
+    one : (s : Sent) → In s (sent_by e now ∷ []) → (m : List ℕ) → In (datagram m) s.frames → In (datagram m) (frames_at e now)
+    one s (inl is) m k = subst (λ (u : Sent). In (datagram m) u.frames) is k
+    one s (inr none) m k = absurd none
+
+-- ---- what comes
+
+-- what comes leaves what waits to go
+received_leaves : (window : Option ℕ) (m : List ℕ) (s : Messages) → (after_received window m s).outgoing ≡ s.outgoing
+received_leaves None m s = refl
+received_leaves (Some window) m s = go (nat_le (length m) window)
+  where
+    go : (b : Bool) → (if b then record s { incoming = with_message window m s.incoming } else s).outgoing ≡ s.outgoing
+    go true = refl
+    go false = refl
+
+module _ (window : Option ℕ) where
+  -- what is acknowledged or lost is no message
+  settling : Settling (Waits window)
+  settling = record {
+    known = λ n e i. i;
+    reset = λ id e i. i;
+    acked = λ m e i. i;
+    lost = λ m e i. i;
+    again = λ carried e i. i;
+    tracked = λ t e i. i;
+    measured = λ r e i. i;
+  }
+
+  frame_leaves : (f : FrameValue) (e : End) → Waits window e → Waits window (take_frame f e).end
+  frame_leaves (ack a) e i = go (names_ungiven a e)
+    where
+      go : (b : Bool) → Waits window (ack_taken b a e).end
+      go true = i
+      go false = acked_keeps (Waits window) settling (is_above e.numbers.largest_acked a.largest) a (named a e) i
+  frame_leaves (datagram m) e i = go (received_answer e.transport.datagram_receive_buffer_size m e.messages.queues)
+    where
+      go : (r : Result Bool ReceivedError) → Waits window (message_judged r m e).end
+      go (Ok first) = subst (AreTaken window) (sym (received_leaves e.transport.datagram_receive_buffer_size m e.messages.queues)) i
+      go (Err error) = i
+  frame_leaves f e i = i
+
+  -- any call leaves it so
+  call_leaves : (p : Policy) (e : End) (theirs : List (List ℕ)) (call : Call) (a : Answer) → IsTold window e → Waits window e → Waits window (after_call p e theirs call a)
+  call_leaves p e theirs call a told i = by_call p e theirs (Waits window) call a (record {
+    same = i;
+    on_streams = λ on answer. i;
+    on_messages = λ on answer. message_call_leaves window e told i call a;
+    pings = i;
+    heard = λ path same. i;
+    times = λ now acks loss set. by_expired e now (Waits window) (λ pending tracking timers runs packets. i) (λ pending timers runs. losses_keep (Waits window) settling (with_closing e (ticked e.closing now)) i) acks loss;
+    polls = λ now set. (poll_takes window p e now i).0;
+    hears = λ now d set. by_received (Waits window) (record {
+      notes = λ n x j. j;
+      begins = λ time n x j. j;
+      frame = frame_leaves;
+      takes = λ n asks x j. j;
+      closes = λ reason x j. j;
+    }) p e now d i;
+    tells = λ asks. by_event e (Waits window) i (λ was_told. i);
+  })
+
+-- ---- the group
+
+-- x was told how long messages may be that this takes, and what waits at x and what it sent is no longer
+pub record FitsAt (window : Option ℕ) (x : Party) : Type 0 where
+  pub told : IsTold window x.end
+  pub waiting : AreTaken window x.end.messages.queues.outgoing
+  pub sent : AllTaken window x.sents
+
+-- each message of x is one that y takes
+abbrev pub MessagesFit : Way
+MessagesFit x y = FitsAt y.end.transport.datagram_receive_buffer_size x
+
+-- x makes a call
+fits_on : (B : Way) (x y : Party) (call : Call) (a : Answer) → Calls B x y call a → MessagesFit x y → MessagesFit (called x y.given call a) y
+fits_on B x y call a c i = record {
+  told = ap (λ (theirs : ParameterValues). theirs.max_datagram_frame_size) (placed_call x.policy x.end y.given call a).peer ∙ i.told;
+  waiting = call_leaves window x.policy x.end y.given call a i.told i.waiting;
+  sent = λ s j. elim (in_append s x.sents (sents_by x.end call a) j) [ inl old ↦ i.sent s old | inr new ↦ goes call c.answer s new ];
+}
+  where
+    window : Option ℕ
+    window = y.end.transport.datagram_receive_buffer_size
+
+    goes : (k : Call) → IsAnswer x.policy x.end y.given k a → AllTaken window (sents_by x.end k a)
+    goes (calls.Poll now) is = subst (λ (b : Answer). AllTaken window (sent_if (gave b) (sent_by x.end now))) (sym (poll_answer x.policy x.end now a is c.served)) (poll_takes window x.policy x.end now i.waiting).1
+    goes k is = λ s j. absurd j
+
+-- so it is at each place
+pub messages_group : (B : Way) → Group B MessagesFit
+messages_group B = record {
+  first = λ x y m there back. record { told = refl; waiting = tt; sent = λ s i. absurd i };
+  writer = λ x y call a c i back. fits_on B x y call a c i;
+  reader = λ x y call a c there i. subst (λ (t : TransportSettings). FitsAt t.datagram_receive_buffer_size y) (sym (placed_call x.policy x.end y.given call a).transport) i;
+}

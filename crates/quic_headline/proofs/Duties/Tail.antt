@@ -1,0 +1,181 @@
+-- What was sent since the last datagram that asks asks for nothing: a packet that is forgotten carried nothing that has to reach the peer.
+use Rattle.std.proofs.Common.{◌≡◌, ℕ, ◌<◌, Bool, true, false, List, [], ◌∷◌, ◌++◌, Option, Some, None, refl, sym, ap, ◌∙◌, subst, inl, inr, arith}
+use Rattle.std.proofs.lemmas.Bool.{le-ltb}
+use Rattle.quic_wire.specs.Value.{AckValue}
+use Rattle.quic_streams_parts.specs.Table.{Table}
+use Rattle.quic_machine.specs.declared.run.Call.{Call}
+use Rattle.quic_machine.specs.declared.run.Call.TheVariants as calls
+use Rattle.quic_machine.specs.declared.run.Answer.{Answer}
+use Rattle.quic_machine.specs.declared.run.Answer.TheVariants as answers
+use Rattle.quic_machine.specs.Policy.{Policy}
+use Rattle.quic_machine.specs.Closing.{ticked}
+use Rattle.quic_machine.specs.Tracking.{Tracking, TrackedPacket, is_behind, asking_sent, acked_by}
+use Rattle.quic_machine.specs.End.{End, with_closing, with_loss_timer, number_of}
+use Rattle.quic_machine.specs.Acked.{measured, without_acked, after_named}
+use Rattle.quic_machine.specs.Receive.{received}
+use Rattle.quic_machine.specs.Poll.{Polled, Draft, asking, lazied, after_given, polled}
+use Rattle.quic_machine.specs.PollCases.{ready_at, ready_leaves, draft_at, by_poll_to, composes}
+use Rattle.quic_machine.specs.Timeouts.{acks_expired, loss_judged, loss_expired}
+use Rattle.quic_machine.specs.LeaveCases.{at_expiry}
+use Rattle.quic_machine.specs.FrameCases.{named, frame_keeps, frame_leaves, by_received}
+use Rattle.quic_machine.specs.CallCases.{is_poll, by_plain_call}
+use Rattle.quic_machine.specs.Machine.{IsAnswer, after_call, fails, gave}
+use Rattle.quic_headline.specs.Runs.{In}
+use Rattle.quic_headline.specs.Observer.{Sent, asks_of}
+use Rattle.quic_headline.proofs.Packets.Invariant.{IsCarriedFrom, AreTracked}
+use Rattle.quic_headline.proofs.Packets.Named.{sampled_tracking}
+use Rattle.quic_headline.proofs.Packets.Probes.{by_ready}
+use Rattle.quic_headline.proofs.Packets.Given.{composed_number, allocated_near}
+use Rattle.quic_headline.proofs.Packets.Flying.{asking_padded}
+use Rattle.quic_headline.proofs.Places.Told.{in_append}
+use Rattle.quic_headline.proofs.Places.Parties.{sent_by, sent_if, sents_by}
+use Rattle.quic_headline.proofs.Places.Steps.{poll_answer}
+use Rattle.quic_headline.proofs.Duties.Carrier.{IsNew, number_new}
+
+-- those that ask aren't above the greatest that asks
+abbrev pub AskBefore : List Sent → Option ℕ → Type 0
+AskBefore sents greatest = (s : Sent) → In s sents → asks_of s ≡ true → is_behind greatest s.number ≡ false
+
+-- so a tracked packet above it carries what frames say that don't ask
+pub record Quiet (sents : List Sent) (q : ℕ × TrackedPacket) : Type 0 where
+  pub sent : Sent
+  pub among : In sent sents
+  pub number : sent.number ≡ q.0
+  pub carried : IsCarriedFrom q.1.carried sent.frames
+  pub quiet : asks_of sent ≡ false
+
+-- one that was sent above the greatest that asks doesn't ask
+pub sent_quiet : (sents : List Sent) (greatest : Option ℕ) (s : Sent) → AskBefore sents greatest → In s sents → is_behind greatest s.number ≡ true → asks_of s ≡ false
+sent_quiet sents greatest s before among behind = go (asks_of s) refl
+  where
+    go : (b : Bool) → asks_of s ≡ b → asks_of s ≡ false
+    go false is = is
+    go true is = let clash : true ≡ false = sym behind ∙ before s among is in cc
+
+pub tail_quiet : (sents : List Sent) (t : Tracking) → AreTracked sents t.packets → AskBefore sents t.greatest_asking → (q : ℕ × TrackedPacket) → In q t.packets → is_behind t.greatest_asking q.0 ≡ true → Quiet sents q
+tail_quiet sents t tracked before q i behind =
+    let was = tracked q.0 q.1 i in
+    record {
+      sent = was.0;
+      among = was.1.0;
+      number = was.1.1;
+      carried = was.2;
+      quiet = sent_quiet sents t.greatest_asking was.0 before was.1.0 (ap (λ (n : ℕ). is_behind t.greatest_asking n) was.1.1 ∙ behind);
+    }
+
+-- ---- what stays
+
+-- the greatest that asks
+abbrev Stays : Option ℕ → End → Type 0
+Stays greatest e = e.tracking.greatest_asking ≡ greatest
+
+-- an ACK frame that names these leaves it
+named_stays : (greatest : Option ℕ) (ps : Table TrackedPacket) (rises : Bool) (a : AckValue) (e : End) → Stays greatest e → Stays greatest (after_named ps rises a e)
+named_stays greatest [] rises a e i = i
+named_stays greatest (p ∷ ps) rises a e i = ap (λ (t : Tracking). t.greatest_asking) (sampled_tracking (measured rises a (p ∷ ps)) a (without_acked (p ∷ ps) a e)) ∙ i
+
+-- so does whatever comes
+received_stays : (greatest : Option ℕ) (p : Policy) (e : End) (now : ℕ) (d : List ℕ) → Stays greatest e → Stays greatest (received p e now d).end
+received_stays greatest = by_received (Stays greatest) (record {
+  notes = λ n x i. i;
+  begins = λ now n x i. i;
+  frame = frame_keeps (Stays greatest) (record {
+    ack = λ rises a x i. named_stays greatest (acked_by a x.tracking.packets) rises a (named a x) i;
+    on_streams = λ f x on i. frame_leaves (Stays greatest) f x on (λ streams. i);
+    message = λ m x i. i;
+  });
+  takes = λ n asks x i. i;
+  closes = λ reason x i. i;
+})
+
+-- and timers that expire
+expired_stays : (e : End) (now : ℕ) (acks loss : Bool) → Stays e.tracking.greatest_asking (at_expiry e now acks loss)
+expired_stays e now acks loss = after acks (loss_expired loss begins) (expires loss)
+  where
+    begins : End
+    begins = with_closing e (ticked e.closing now)
+
+    judges : (o : Option ℕ) → Stays e.tracking.greatest_asking (loss_judged o begins)
+    judges None = refl
+    judges (Some moment) = refl
+
+    expires : (loss : Bool) → Stays e.tracking.greatest_asking (loss_expired loss begins)
+    expires true = judges e.tracking.loss_time
+    expires false = refl
+
+    after : (acks : Bool) (f : End) → Stays e.tracking.greatest_asking f → Stays e.tracking.greatest_asking (with_loss_timer (acks_expired acks f))
+    after true f i = i
+    after false f i = i
+
+-- another call than a poll
+other_stays : (p : Policy) (e : End) (theirs : List (List ℕ)) (call : Call) (a : Answer) → is_poll call ≡ false → Stays e.tracking.greatest_asking (after_call p e theirs call a)
+other_stays p e theirs call a apart = by_plain_call p e theirs (Stays e.tracking.greatest_asking) call a (record {
+  same = refl;
+  on_streams = λ t. refl;
+  on_messages = λ m. refl;
+  pings = refl;
+  heard = λ path same. refl;
+  times = λ now acks loss is. expired_stays e now acks loss;
+  polls = λ now is. cc;
+  hears = λ now d is. received_stays e.tracking.greatest_asking p e now d refl;
+  tells = λ told. refl;
+})
+
+-- ---- a datagram goes
+
+-- the number that goes next is none of a tracked packet
+pub next_new : (sents : List Sent) (e : End) → ((s : Sent) → In s sents → s.number < e.numbers.next) → AreTracked sents e.tracking.packets → IsNew e.tracking.packets (number_of e)
+next_new sents e below tracked = number_new sents e.tracking.packets (number_of e) (λ s i. (
+    let less = below s i in
+    let near = (allocated_near e.filter e.numbers.next).0 in
+    omega arith)) tracked
+
+-- one more is sent
+before_sent : (sents : List Sent) (s : Sent) (b : Bool) (n now : ℕ) (t : Tracking) → s.number ≡ n → asks_of s ≡ b → ((u : Sent) → In u sents → u.number < n) → AskBefore sents t.greatest_asking → AskBefore (sents ++ s ∷ []) (asking_sent b n now t).greatest_asking
+before_sent sents s true n now t number is below before u i asks = elim (in_append u sents (s ∷ []) i) [
+  | inl old ↦ (let less = below u old in le-ltb n u.number (omega arith))
+  | inr last ↦ elim last [ inl same ↦ (let here : u.number ≡ n = ap (λ (x : Sent). x.number) same ∙ number in le-ltb n u.number (omega arith)) | inr none ↦ absurd none ]
+]
+before_sent sents s false n now t number is below before u i asks = elim (in_append u sents (s ∷ []) i) [
+  | inl old ↦ before u old asks
+  | inr last ↦ elim last [ inl same ↦ (let clash : true ≡ false = sym asks ∙ ap asks_of same ∙ is in cc) | inr none ↦ absurd none ]
+]
+
+-- none is
+before_none : (sents : List Sent) (greatest : Option ℕ) → AskBefore sents greatest → AskBefore (sents ++ []) greatest
+before_none sents greatest before u i = elim (in_append u sents [] i) [ inl old ↦ before u old | inr none ↦ absurd none ]
+
+-- an end that is ready to give leaves the greatest that asks
+pub ready_before : (sents : List Sent) (e : End) (now : ℕ) → AskBefore sents e.tracking.greatest_asking → AskBefore sents (ready_at e now).tracking.greatest_asking
+ready_before sents e now before = by_ready (λ (x : End). AskBefore sents x.tracking.greatest_asking) e now before before (λ q i. before)
+
+-- after a poll
+before_polled : (p : Policy) (e : End) (now : ℕ) (sents : List Sent) → ((s : Sent) → In s sents → s.number < e.numbers.next) → AskBefore sents e.tracking.greatest_asking
+    → AskBefore (sents ++ sent_if (gave (answers.Poll (polled p e now).answer)) (sent_by e now)) (polled p e now).end.tracking.greatest_asking
+before_polled p e now sents below before =
+    by_poll_to p e now (λ (q : Polled). AskBefore (sents ++ sent_if (gave (answers.Poll q.answer)) (sent_by e now)) q.end.tracking.greatest_asking) (record {
+      silent = before_none sents e.tracking.greatest_asking before;
+      failed = before_none sents e.tracking.greatest_asking before;
+      idle = before_none sents (ready_at e now).tracking.greatest_asking ready;
+      used_up = before_none sents (ready_at e now).tracking.greatest_asking ready;
+      gives = λ is may some. gives;
+    })
+  where
+    ready : AskBefore sents (ready_at e now).tracking.greatest_asking
+    ready = ready_before sents e now before
+
+    gives : AskBefore (sents ++ sent_by e now ∷ []) (after_given p (draft_at e now)).tracking.greatest_asking
+    gives =
+        let d : Draft = draft_at e now in
+        let number : number_of e ≡ number_of d.end = sym (composed_number (lazied (ready_at e now)) ∙ ap (λ (x : End). number_of x) (ready_leaves e now)) in
+        let near = (allocated_near e.filter e.numbers.next).0 in
+        let here : AskBefore sents d.end.tracking.greatest_asking = subst (λ (t : Tracking). AskBefore sents t.greatest_asking) (sym (composes (lazied (ready_at e now))).tracking) ready in
+        before_sent sents (sent_by e now) (asking d.frames) (number_of d.end) d.end.closing.clock _ number (asking_padded d.frames _) (λ u i. (let less = below u i in omega arith)) here
+
+-- any call that lacks no memory
+pub before_call : (p : Policy) (e : End) (theirs : List (List ℕ)) (call : Call) (a : Answer) (sents : List Sent) → IsAnswer p e theirs call a → fails a ≡ false → ((s : Sent) → In s sents → s.number < e.numbers.next) → AskBefore sents e.tracking.greatest_asking
+    → AskBefore (sents ++ sents_by e call a) (after_call p e theirs call a).tracking.greatest_asking
+before_call p e theirs (calls.Poll now) a sents is served below before =
+    subst (λ (x : Answer). AskBefore (sents ++ sent_if (gave x) (sent_by e now)) (polled p e now).end.tracking.greatest_asking) (sym (poll_answer p e now a is served)) (before_polled p e now sents below before)
+before_call p e theirs call a sents is served below before =
+    before_none sents (after_call p e theirs call a).tracking.greatest_asking (subst (AskBefore sents) (sym (other_stays p e theirs call a refl)) before)

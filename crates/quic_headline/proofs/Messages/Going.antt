@@ -1,0 +1,174 @@
+-- The end that sends: a message went or waits to go at most as often as it was sent.
+use Rattle.std.proofs.Common.{◌≡◌, ℕ, ◌+◌, ◌-◌, ◌≤◌, false, List, [], ◌∷◌, ◌++◌, length, replicate, Option, Some, None, Ok, refl, sym, ap, ◌∙◌, subst, arith}
+use Rattle.std.specs.Prelude.{slice_get}
+use Rattle.std.proofs.lemmas.List.{append_assoc, append-nil}
+use Rattle.quic_packet.specs.Number.{truncated}
+use Rattle.quic_wire.specs.Value.{FrameValue, padding, ping, ack, stream, datagram}
+use Rattle.quic_streams_parts.specs.SendHalf.{frame_of}
+use Rattle.quic_messages.specs.Messages.{Messages}
+use Rattle.quic_spaces.specs.Numbers.{cut_against}
+use Rattle.quic_machine.specs.declared.run.Call.{Call}
+use Rattle.quic_machine.specs.declared.run.Call.TheVariants as calls
+use Rattle.quic_machine.specs.declared.run.Answer.{Answer}
+use Rattle.quic_machine.specs.declared.run.Answer.TheVariants as answers
+use Rattle.quic_machine.specs.Parts.{Waiting}
+use Rattle.quic_machine.specs.Tracking.{Tracking}
+use Rattle.quic_machine.specs.Policy.{Policy}
+use Rattle.quic_machine.specs.End.{End, number_of}
+use Rattle.quic_machine.specs.Poll.{Polled, Draft, ack_of, composed, lazied, polled}
+use Rattle.quic_machine.specs.MessageCalls.{limits_of}
+use Rattle.quic_machine.specs.Machine.{IsAnswer, after_delivered, after_call, fails, gave}
+use Rattle.quic_machine.specs.DraftLaws.{by_writing}
+use Rattle.quic_machine.specs.FrameCases.{by_received}
+use Rattle.quic_machine.specs.PollCases.{at_moment, ready_at, frames_padded, frames_at, by_poll}
+use Rattle.quic_headline.specs.Runs.{Told}
+use Rattle.quic_headline.specs.Observer.{Sent}
+use Rattle.quic_headline.specs.Messages as messages
+use Rattle.quic_headline.specs.Messages.{sent_messages}
+use Rattle.quic_headline.proofs.Packets.Entries.{IsControl, entry_control}
+use Rattle.quic_headline.proofs.Places.Steps.{poll_answer}
+use Rattle.quic_headline.proofs.Places.Parties.{sent_by, sent_if, sents_by, told_of}
+use Rattle.quic_headline.proofs.Messages.Counted.{often, often_none, often_append, often_more, sent_more, received_leaves, messages_in, often_last, often_padded, gone, gone_append}
+use Rattle.quic_headline.proofs.Messages.Kept.{frame_messages, call_messages}
+
+-- ---- what a poll gives
+
+-- a frame of control has no message
+control_none : (f : FrameValue) → IsControl f → messages_in (f ∷ []) ≡ []
+control_none (datagram m) is = absurd is
+control_none f is = refl
+
+module _ (m : List ℕ) (e : End) where
+  -- a message goes in a draft or waits behind it as often as it waited
+  abbrev Same : Draft → Type 0
+  Same d = often m (messages_in d.frames) + often m d.end.messages.queues.outgoing ≡ often m e.messages.queues.outgoing
+
+  -- a frame without one
+  plain_goes : (d : Draft) (f : FrameValue) → messages_in (f ∷ []) ≡ [] → Same d → often m (messages_in (d.frames ++ f ∷ [])) + often m d.end.messages.queues.outgoing ≡ often m e.messages.queues.outgoing
+  plain_goes d f nothing before =
+      let all = often_last m d.frames f in
+      let one : often m (messages_in (f ∷ [])) ≡ often m [] = ap (often m) nothing in
+      let none = often_none m in
+      omega arith
+
+  -- that of the oldest message
+  message_goes : (d : Draft) (x : List ℕ) (xs : List (List ℕ)) → d.end.messages.queues.outgoing ≡ x ∷ xs → Same d → often m (messages_in (d.frames ++ datagram x ∷ [])) + often m xs ≡ often m e.messages.queues.outgoing
+  message_goes d x xs is before =
+      let all : often m (messages_in (d.frames ++ datagram x ∷ [])) ≡ often m (messages_in d.frames) + often m (x ∷ []) = often_last m d.frames (datagram x) in
+      let waited : often m d.end.messages.queues.outgoing ≡ often m (x ∷ xs) = ap (often m) is in
+      let more = often_more m x xs in
+      omega arith
+
+-- whichever frames go, a message goes or waits still as often as it waited
+drafted : (m : List ℕ) (e : End) → often m (messages_in (composed e).frames) + often m (composed e).end.messages.queues.outgoing ≡ often m e.messages.queues.outgoing
+drafted m e = by_writing (Same m e) (record {
+  ack = λ d filled may i. plain_goes m e d (ack (ack_of d.end)) refl i;
+  ping = λ d i. plain_goes m e d ping refl i;
+  drops = λ d kind i. i;
+  control = λ d kind entry es f is goes i. plain_goes m e d f (control_none f (entry_control kind d.end.waiting.frames entry es d.end.streams f is goes)) i;
+  message = λ d x xs is fit i. message_goes m e d x xs is i;
+  stream = λ d id h room found first some is counts i. plain_goes m e d (stream (frame_of id h room)) refl i;
+}) e (let none = often_none m in omega arith)
+
+-- what comes leaves the messages that wait to go
+delivery_leaves : (p : Policy) (e : End) (now : ℕ) (o : Option (List ℕ)) → (after_delivered p e now o).messages.queues.outgoing ≡ e.messages.queues.outgoing
+delivery_leaves p e now None = refl
+delivery_leaves p e now (Some d) = by_received (λ (f : End). f.messages.queues.outgoing ≡ e.messages.queues.outgoing) (record {
+  notes = λ n x same. same;
+  begins = λ moment n x same. same;
+  frame = λ f x same. frame_messages (λ (q : Messages). q.outgoing ≡ e.messages.queues.outgoing) f x same (λ y is. received_leaves x.transport.datagram_receive_buffer_size y x.messages.queues ∙ same);
+  takes = λ n asks x same. same;
+  closes = λ reason x same. same;
+}) p e now d refl
+
+-- ---- any call
+
+module _ (m : List ℕ) where
+  -- PADDING behind frames brings nothing
+  given_goes : (frames padded : List FrameValue) (count : ℕ) (left before : List (List ℕ)) → padded ≡ frames ++ replicate count padding → often m (messages_in frames) + often m left ≡ often m before
+      → often m (messages_in padded ++ []) + often m left ≤ often m before
+  given_goes frames padded count left before is sum =
+      let all : often m (messages_in padded ++ []) ≡ often m (messages_in (frames ++ replicate count padding)) =
+      ap (often m) (append-nil (messages_in padded)) ∙ ap (λ (fs : List FrameValue). often m (messages_in fs)) is in
+      let zeros = often_padded m frames count in
+      omega arith
+
+  -- nothing goes
+  quiet_goes : (left before asked : List (List ℕ)) → left ≡ before → often m [] + often m left ≤ often m before + often m asked
+  quiet_goes left before asked is =
+      let none = often_none m in
+      let same : often m left ≡ often m before = ap (often m) is in
+      omega arith
+
+  -- no more goes where more is sent
+  less_goes : (went left before asked : List (List ℕ)) → often m went + often m left ≤ often m before → often m went + often m left ≤ often m before + often m asked
+  less_goes went left before asked less = omega arith
+
+  -- a message that a poll gives waits no more
+  polled_goes : (p : Policy) (e : End) (now : ℕ)
+      → often m (gone (sent_if (gave (answers.Poll (polled p e now).answer)) (sent_by e now))) + often m (polled p e now).end.messages.queues.outgoing ≤ often m e.messages.queues.outgoing
+  polled_goes p e now = by_poll p e now (λ (q : Polled). often m (gone (sent_if (gave (answers.Poll q.answer)) (sent_by e now))) + often m q.end.messages.queues.outgoing ≤ often m e.messages.queues.outgoing)
+      (record { silent = nothing; failed = nothing; idle = λ t w ready. nothing; used_up = λ t w ready. nothing; gives = λ t w tracking timers is may some ready. one t w ready })
+    where
+      nothing : often m [] + often m e.messages.queues.outgoing ≤ often m e.messages.queues.outgoing
+      nothing = let none = often_none m in omega arith
+
+      one : (t : Tracking) (w : Waiting) → ready_at e now ≡ at_moment e now t w
+          → often m (messages_in (frames_at e now) ++ []) + often m (composed (lazied (at_moment e now t w))).end.messages.queues.outgoing ≤ often m e.messages.queues.outgoing
+      one t w ready =
+          let d : Draft = composed (lazied (at_moment e now t w)) in
+          let count : ℕ = 4 - ((truncated (number_of d.end) (cut_against d.end.numbers)).width + length d.bytes) in
+          given_goes d.frames (frames_at e now) count d.end.messages.queues.outgoing e.messages.queues.outgoing (ap (λ (x : End). frames_padded (composed (lazied x))) ready) (drafted m (lazied (at_moment e now t w)))
+
+  -- what a call gives and what waits behind it waited before, or is sent by it
+  goes_call : (p : Policy) (e : End) (theirs : List (List ℕ)) (call : Call) (a : Answer) → IsAnswer p e theirs call a → fails a ≡ false
+      → often m (gone (sents_by e call a)) + often m (after_call p e theirs call a).messages.queues.outgoing ≤ often m e.messages.queues.outgoing + often m (messages.sent_by call a)
+  goes_call p e theirs (calls.Poll now) a is served =
+      less_goes (gone (sent_if (gave a) (sent_by e now))) (polled p e now).end.messages.queues.outgoing e.messages.queues.outgoing []
+      (subst (λ (b : Answer). often m (gone (sent_if (gave b) (sent_by e now))) + often m (polled p e now).end.messages.queues.outgoing ≤ often m e.messages.queues.outgoing) (sym (poll_answer p e now a is served)) (polled_goes p e now))
+  goes_call p e theirs (calls.Send x makes_room) (answers.Send (Ok done)) is served =
+      let more = sent_more m (limits_of e) makes_room x e.messages.queues in
+      let none = often_none m in
+      omega arith
+  goes_call p e theirs (calls.Send x makes_room) a is served = quiet_goes e.messages.queues.outgoing e.messages.queues.outgoing [] refl
+  goes_call p e theirs calls.Recv a is served = quiet_goes e.messages.queues.outgoing e.messages.queues.outgoing [] refl
+  goes_call p e theirs (calls.Deliver delivery) a is served =
+      let o : Option (List ℕ) = slice_get theirs delivery.index in
+      quiet_goes (after_delivered p e delivery.now o).messages.queues.outgoing e.messages.queues.outgoing [] (delivery_leaves p e delivery.now o)
+  goes_call p e theirs call a is served =
+      quiet_goes (after_call p e theirs call a).messages.queues.outgoing e.messages.queues.outgoing []
+      (call_messages (λ (q : Messages). q.outgoing ≡ e.messages.queues.outgoing) p e theirs call a refl refl refl refl)
+
+-- ---- all of them
+
+-- what was sent by more calls
+sent_messages-append : (ts more : List Told) → sent_messages (ts ++ more) ≡ sent_messages ts ++ sent_messages more
+sent_messages-append [] more = refl
+sent_messages-append (t ∷ ts) more =
+    ap (λ (ms : List (List ℕ)). messages.sent_by t.call t.answer ++ ms) (sent_messages-append ts more) ∙ sym (append_assoc (messages.sent_by t.call t.answer) (sent_messages ts) (sent_messages more))
+
+-- a message went or waits at most as often as it was sent
+pub record Goes (e : End) (sents : List Sent) (told : List Told) : Type 0 where
+  pub most : (m : List ℕ) → often m (gone sents) + often m e.messages.queues.outgoing ≤ often m (sent_messages told)
+
+-- over plain lists
+goes_further : (m : List ℕ) (went more left before told asked : List (List ℕ)) → often m went + often m before ≤ often m told → often m more + often m left ≤ often m before + often m asked → often m (went ++ more) + often m left ≤ often m (told ++ asked)
+goes_further m went more left before told asked first step =
+    let all = often_append m went more in
+    let sent = often_append m told asked in
+    omega arith
+
+-- so it is behind a call
+pub goes_on : (p : Policy) (e : End) (theirs : List (List ℕ)) (call : Call) (a : Answer) (sents : List Sent) (told : List Told) → IsAnswer p e theirs call a → fails a ≡ false → Goes e sents told
+    → Goes (after_call p e theirs call a) (sents ++ sents_by e call a) (told ++ told_of call a e.closing.state ∷ [])
+goes_on p e theirs call a sents told is served before = record { most = most }
+  where
+    t : Told
+    t = told_of call a e.closing.state
+
+    asked : sent_messages (told ++ t ∷ []) ≡ sent_messages told ++ messages.sent_by call a
+    asked = sent_messages-append told (t ∷ []) ∙ ap (λ (ms : List (List ℕ)). sent_messages told ++ ms) (append-nil (messages.sent_by call a))
+
+    most : (m : List ℕ) → often m (gone (sents ++ sents_by e call a)) + often m (after_call p e theirs call a).messages.queues.outgoing ≤ often m (sent_messages (told ++ told_of call a e.closing.state ∷ []))
+    most m = rw (gone_append sents (sents_by e call a), asked)
+        (goes_further m (gone sents) (gone (sents_by e call a)) (after_call p e theirs call a).messages.queues.outgoing e.messages.queues.outgoing (sent_messages told) (messages.sent_by call a) (before.most m) (goes_call m p e theirs call a is served))

@@ -1,0 +1,49 @@
+-- What leaves the messages of an end as they were: all frames but DATAGRAM, and all calls but polls, deliveries and those on messages.
+use Rattle.std.proofs.Common.{◌≡◌, ℕ, Bool, true, false, List, Result, Ok, Err, refl}
+use Rattle.quic_wire.specs.Value.{FrameValue, ack, datagram}
+use Rattle.quic_messages.specs.declared.errors.ReceivedError.{ReceivedError}
+use Rattle.quic_messages.specs.Messages.{Messages, received_answer, after_received}
+use Rattle.quic_machine.specs.declared.run.Call.{Call}
+use Rattle.quic_machine.specs.declared.run.Answer.{Answer}
+use Rattle.quic_machine.specs.Closing.{ticked}
+use Rattle.quic_machine.specs.Policy.{Policy}
+use Rattle.quic_machine.specs.End.{End, with_closing}
+use Rattle.quic_machine.specs.Receive.{is_above, names_ungiven, message_judged, take_frame}
+use Rattle.quic_machine.specs.MessageCalls.{is_on_messages}
+use Rattle.quic_machine.specs.Machine.{after_call}
+use Rattle.quic_machine.specs.FrameCases.{Settling, losses_keep, named, ack_taken, acked_keeps}
+use Rattle.quic_machine.specs.LeaveCases.{by_expired, by_event}
+use Rattle.quic_machine.specs.CallCases.{is_delivery, is_poll, by_call}
+
+module _ (P : Messages → Type 0) where
+  -- packets that are acknowledged or lost
+  settles : Settling (λ (f : End). P f.messages.queues)
+  settles = record { known = λ n x p. p; reset = λ id x p. p; acked = λ m x p. p; lost = λ m x p. p; again = λ c x p. p; tracked = λ t x p. p; measured = λ r x p. p }
+
+  -- what holds of the messages, and where one more is taken, holds behind a frame
+  pub frame_messages : (f : FrameValue) (e : End) → P e.messages.queues → ((m : List ℕ) → f ≡ datagram m → P (after_received e.transport.datagram_receive_buffer_size m e.messages.queues)) → P (take_frame f e).end.messages.queues
+  frame_messages (ack a) e same takes = go (names_ungiven a e)
+    where
+      go : (b : Bool) → P (ack_taken b a e).end.messages.queues
+      go true = same
+      go false = acked_keeps (λ (f : End). P f.messages.queues) settles (is_above e.numbers.largest_acked a.largest) a (named a e) same
+  frame_messages (datagram m) e same takes = go (received_answer e.transport.datagram_receive_buffer_size m e.messages.queues)
+    where
+      go : (r : Result Bool ReceivedError) → P (message_judged r m e).end.messages.queues
+      go (Ok first) = takes m refl
+      go (Err error) = same
+  frame_messages f e same takes = same
+
+  -- what holds of the messages holds behind a call
+  pub call_messages : (p : Policy) (e : End) (theirs : List (List ℕ)) (call : Call) (a : Answer) → is_poll call ≡ false → is_delivery call ≡ false → is_on_messages call ≡ false → P e.messages.queues → P (after_call p e theirs call a).messages.queues
+  call_messages p e theirs call a unpolled apart off same = by_call p e theirs (λ (f : End). P f.messages.queues) call a (record {
+    same = same;
+    on_streams = λ on answer. same;
+    on_messages = λ on answer. cc;
+    pings = same;
+    heard = λ path is. same;
+    times = λ now acks loss set. by_expired e now (λ (f : End). P f.messages.queues) (λ pending tracking timers runs packets. same) (λ pending timers runs. losses_keep (λ (f : End). P f.messages.queues) settles (with_closing e (ticked e.closing now)) same) acks loss;
+    polls = λ now set. cc;
+    hears = λ now d set. cc;
+    tells = λ asks. by_event e (λ (f : End). P f.messages.queues) same (λ told. same);
+  })

@@ -1,0 +1,87 @@
+-- What a probe leaves (RFC 9002, section 6.2.4): what has to be sent again of a tracked packet waits again, and the packet stays tracked without it.
+use Rattle.std.proofs.Common.{◌≡◌, ℕ, Bool, true, false, cond, if◌then◌else◌, List, [], ◌∷◌, Some, refl, sym, ap, ◌∙◌, subst, ◌⊎◌, inl, inr}
+use Rattle.std.specs.Ordering.{nat_cmp, is_eq}
+use Rattle.std.proofs.lemmas.Cmp.{ranked}
+use Rattle.std.specs.declared.cmp.Ordering.{Ordering}
+use Rattle.std.specs.declared.cmp.Ordering.TheVariants.{Less, Equal, Greater}
+use Rattle.quic_streams_parts.specs.Table.{Table, put}
+use Rattle.quic_streams_state.specs.declared.state.StreamsState.{StreamsState}
+use Rattle.quic_streams_state.specs.State.{Streams}
+use Rattle.quic_streams_state.specs.Waiting.{is_empty}
+use Rattle.quic_spaces.specs.Records.{first_record}
+use Rattle.quic_machine.specs.Closing.{ticked}
+use Rattle.quic_machine.specs.Tracking.{TrackedPacket, without_record}
+use Rattle.quic_machine.specs.End.{End, with_closing, with_ping, streams_at}
+use Rattle.quic_machine.specs.Acked.{again}
+use Rattle.quic_machine.specs.Poll.{Polled, record_moved, composed, lazied, polled}
+use Rattle.quic_machine.specs.Policy.{Policy}
+use Rattle.quic_machine.specs.PollCases.{ready_at, by_probed, ready_leaves, by_poll_to}
+use Rattle.quic_headline.specs.Runs.{In}
+use Rattle.quic_headline.specs.Observer.{Sent}
+use Rattle.quic_headline.proofs.Packets.Invariant.{IsCarriedFrom, AreTracked, carried_without}
+
+-- ---- tables of packets
+
+-- the first packet whose record would be written is one of them
+pub first_record_in : (s : StreamsState) (ps : Table TrackedPacket) (p : ℕ × TrackedPacket) → first_record s ps ≡ Some p → In p ps
+first_record_in s [] p is = cc
+first_record_in s (q ∷ ps) p is = go (is_empty q.1.carried.retransmits s) is (first_record_in s ps p)
+  where
+    go : (b : Bool) → (if b then first_record s ps else Some q) ≡ Some p → (first_record s ps ≡ Some p → In p ps) → In p (q ∷ ps)
+    go true is later = inr (later is)
+    go false is later = inl cc
+
+-- what stands in a table with another value at an id stood there before, or is that value
+pub in_put : {A : Type 0} (es : Table A) (id : ℕ) (v : A) (x : ℕ × A) → In x (put es id v) → In x es ⊎ (x ≡ (id, v))
+in_put [] id v x i = absurd i
+in_put {A} (e ∷ es) id v x i = go (nat_cmp id e.0) refl i (in_put es id v x)
+  where
+    go : (r : Ordering) → nat_cmp id e.0 ≡ r → In x (cond (is_eq r) ((e.0, v) ∷ es) (e ∷ put es id v)) → (In x (put es id v) → In x es ⊎ (x ≡ (id, v))) → In x (e ∷ es) ⊎ (x ≡ (id, v))
+    go Less is (inl here) later = inl (inl here)
+    go Less is (inr more) later = elim (later more) [ inl old ↦ inl (inr old) | inr new ↦ inr new ]
+    go Equal is (inl here) later = (let same : id ≡ e.0 = ranked id e.0 Equal (sym is) in inr (here ∙ ap (λ (n : ℕ). (n, v)) (sym same)))
+    go Equal is (inr more) later = inl (inr more)
+    go Greater is (inl here) later = inl (inl here)
+    go Greater is (inr more) later = elim (later more) [ inl old ↦ inl (inr old) | inr new ↦ inr new ]
+
+-- ---- an end that is ready to give
+
+-- What holds of an end at a moment holds where something waits for each probe, if it holds whether or not PING waits, and where the record of a tracked packet waits
+-- again.
+pub by_ready : (P : End → Type 0) (e : End) (now : ℕ) → P (with_closing e (ticked e.closing now)) → P (with_ping (with_closing e (ticked e.closing now)) true)
+    → ((p : ℕ × TrackedPacket) → In p e.tracking.packets → P (record_moved (Some p) (with_closing e (ticked e.closing now)))) → P (ready_at e now)
+by_ready P e now same pings moves = by_probed (with_closing e (ticked e.closing now)) P same pings (λ p probes is. moves p (first_record_in e.streams e.tracking.packets p is))
+
+-- what holds of streams and of what waits beside their bytes, if it stays where what has to be sent again of a tracked packet waits again
+pub ready_streams : (P : Streams → Type 0) (e : End) (now : ℕ) → P (streams_at e) → ((n : ℕ) (t : TrackedPacket) → In (n, t) e.tracking.packets → P (streams_at (again t.carried e))) → P (streams_at (ready_at e now))
+ready_streams P e now same moves = by_ready (λ (x : End). P (streams_at x)) e now same same (λ p i. moves p.0 p.1 i)
+
+-- A poll keeps what is so of streams and of what waits beside their bytes: what goes into a datagram keeps it.
+pub poll_streams : (P : Streams → Type 0) (p : Policy) (e : End) (now : ℕ) → ((x : End) → P (streams_at x) → P (streams_at (composed x).end)) → P (streams_at e) → P (streams_at (ready_at e now)) → P (streams_at (polled p e now).end)
+poll_streams P p e now goes same ready =
+    by_poll_to p e now (λ (q : Polled). P (streams_at q.end)) (record { silent = same; failed = same; idle = ready; used_up = ready; gives = λ is may some. goes (lazied (ready_at e now)) ready })
+
+-- the streams themselves stay
+pub ready_state : (e : End) (now : ℕ) → (ready_at e now).streams ≡ e.streams
+ready_state e now = ap (λ (x : End). x.streams) (ready_leaves e now)
+
+-- what is to be acknowledged does too
+pub ready_acks : (e : End) (now : ℕ) → (ready_at e now).acknowledging ≡ e.acknowledging
+ready_acks e now = ap (λ (x : End). x.acknowledging) (ready_leaves e now)
+
+-- each tracked packet was given still, and carries what its frames say
+pub ready_tracked : (sents : List Sent) (e : End) (now : ℕ) → AreTracked sents e.tracking.packets → AreTracked sents (ready_at e now).tracking.packets
+ready_tracked sents e now tracked = by_ready (λ (x : End). AreTracked sents x.tracking.packets) e now tracked tracked moved
+  where
+    moved : (p : ℕ × TrackedPacket) → In p e.tracking.packets → AreTracked sents (put e.tracking.packets p.0 (without_record p.1))
+    moved p among n t i = elim (in_put e.tracking.packets p.0 (without_record p.1) (n, t) i) [
+      | inl old ↦ tracked n t old
+      | inr new ↦ (
+          let was = tracked p.0 p.1 among in
+          let number : n ≡ p.0 = ap (λ (x : ℕ × TrackedPacket). x.0) new in
+          let packet : t ≡ without_record p.1 = ap (λ (x : ℕ × TrackedPacket). x.1) new in (
+            was.0,
+            (was.1.0, was.1.1 ∙ sym number),
+            subst (λ (u : TrackedPacket). IsCarriedFrom u.carried was.0.frames) (sym packet) (carried_without p.1 was.0.frames was.2),
+          ))
+    ]

@@ -1,0 +1,58 @@
+-- An end that is open behind a call was open before it.
+use Rattle.std.proofs.Common.{◌≡◌, ℕ, Bool, List, sym, ap, ◌∙◌}
+use Rattle.quic_machine.specs.declared.answers.State.TheVariants as states
+use Rattle.quic_machine.specs.declared.run.Call.{Call}
+use Rattle.quic_machine.specs.declared.run.Answer.{Answer}
+use Rattle.quic_machine.specs.Policy.{Policy}
+use Rattle.quic_machine.specs.Closing.{Closing, ticked}
+use Rattle.quic_machine.specs.End.{End, with_closing}
+use Rattle.quic_machine.specs.Poll.{Polled, lazied, polled}
+use Rattle.quic_machine.specs.Machine.{after_call}
+use Rattle.quic_machine.specs.CallCases.{by_plain_call}
+use Rattle.quic_machine.specs.LeaveCases.{at_expiry, by_expired}
+use Rattle.quic_machine.specs.FrameCases.{Receives, named, frame_keeps, frame_leaves, by_received}
+use Rattle.quic_machine.specs.PollCases.{at_moment, by_poll, composes}
+use Rattle.quic_headline.proofs.Packets.Stays.{settles_ack, settles_losses}
+
+-- it was open before
+abbrev pub WasOpen : End → End → Type 0
+WasOpen e f = f.closing.state ≡ states.Open → e.closing.state ≡ states.Open
+
+opened_receives : (e : End) → Receives (WasOpen e)
+opened_receives e = record {
+  notes = λ n f i. i;
+  begins = λ now n f i. i;
+  frame = frame_keeps (WasOpen e) (record {
+    ack = λ rises a f i opened. i (ap (λ (c : Closing). c.state) (sym (settles_ack rises a (named a f)).closing) ∙ opened);
+    on_streams = λ f g on i. frame_leaves (WasOpen e) f g on (λ t. i);
+    message = λ m f i. i;
+  });
+  takes = λ n asks f i. i;
+  closes = λ reason f i opened. cc;
+}
+
+opened_expired : (e : End) (now : ℕ) (acks loss : Bool) → WasOpen e (at_expiry e now acks loss)
+opened_expired e now = by_expired e now (WasOpen e) (λ pending tracking timers runs packets opened. opened) (λ pending timers runs opened. ap (λ (c : Closing). c.state) (sym (settles_losses (with_closing e (ticked e.closing now))).closing) ∙ opened)
+
+opened_polled : (p : Policy) (e : End) (now : ℕ) → WasOpen e (polled p e now).end
+opened_polled p e now = by_poll p e now (λ (q : Polled). WasOpen e q.end) (record {
+  silent = λ opened. opened;
+  failed = λ opened. opened;
+  idle = λ t w ready opened. opened;
+  used_up = λ t w ready opened. cc;
+  gives = λ t w tracking timers is may some ready opened. ap (λ (c : Closing). c.state) (sym (composes (lazied (at_moment e now t w))).closing) ∙ opened;
+})
+
+-- behind any call
+pub was_open : (p : Policy) (e : End) (theirs : List (List ℕ)) (call : Call) (a : Answer) → WasOpen e (after_call p e theirs call a)
+was_open p e theirs call a = by_plain_call p e theirs (WasOpen e) call a (record {
+  same = λ opened. opened;
+  on_streams = λ t opened. opened;
+  on_messages = λ m opened. opened;
+  pings = λ opened. opened;
+  heard = λ path same opened. opened;
+  times = λ now acks loss is. opened_expired e now acks loss;
+  polls = λ now is. opened_polled p e now;
+  hears = λ now d is. by_received (WasOpen e) (opened_receives e) p e now d (λ opened. opened);
+  tells = λ told opened. opened;
+})

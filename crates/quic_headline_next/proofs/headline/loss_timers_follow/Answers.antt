@@ -1,5 +1,0 @@
-use Rattle.quic_headline_next.proofs.Timers.Starts.{loss_timers_run}
-use Rattle.quic_headline_next.proofs.headline.loss_timers_follow.Goals as goal
-
-pub returns : goal.returns
-returns c = loss_timers_run

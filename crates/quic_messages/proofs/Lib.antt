@@ -1,0 +1,4 @@
+pub mod Fronts
+pub mod Leaving
+pub mod Turning
+pub mod Counting

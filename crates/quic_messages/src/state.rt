@@ -1,0 +1,203 @@
+//! The messages of an end.
+ghost use Rattle.std.specs.Prelude.{◌≡◌, ◌≢◌, nat_le, ◌<◌, ◌≤◌, ◌-◌, ◌^◌, Ok, Err, true, is_some, IfSome};
+ghost use Rattle.quic_wire.specs.Value.{datagram};
+ghost use Rattle.quic_wire.specs.Writing.{Fits};
+ghost use Rattle.quic_messages.specs.declared.errors.ReceivedError.TheVariants as received_errors;
+ghost use Rattle.quic_messages.specs.declared.errors.SendDatagramError.TheVariants as send_errors;
+ghost use Rattle.quic_messages.specs.Messages.{no_messages, bytes_of, is_taken, received_answer, after_received, oldest, after_recv, frame_bytes, fitting, after_fitting, without_longer};
+ghost use Rattle.quic_messages.specs.Sending.{send_answer, after_send};
+
+use crate::errors::{ReceivedError, SendDatagramError};
+use crate::limits::DatagramLimits;
+use crate::message_queue::{MessageQueue, fits};
+use bytes::Bytes;
+use quic_wire::frame::{Frame, size_of_frame};
+use std::alloc::Global;
+use std::marker::Model;
+
+/// The messages of an end that came and weren't read, and those that wait to be sent, each in the
+/// order in which they came (quinn-proto's `DatagramState`). A call takes constant time, amortized,
+/// beside that for the message and for those that it drops; only
+/// [`drop_oversized`](Self::drop_oversized) walks all that wait.
+#[derive(Drop)]
+pub struct DatagramState {
+    alloc: Global,
+    incoming: MessageQueue,
+    outgoing: MessageQueue,
+}
+
+impl Model for DatagramState {
+    ghost use Rattle.quic_messages.specs.Messages.{Messages};
+
+    ghost Value = { Messages };
+
+    ghost view = { λ s. record { incoming = s.incoming; outgoing = s.outgoing } };
+}
+
+/// Whether the frame of a message fits in the room.
+fn has_fitting_frame(message: &Bytes, room: usize) -> bool
+    requires { room < 2 ^ 62 }
+    ensures { result ≡ nat_le (frame_bytes message.now) room }
+{
+    message.len() <= room && size_of_frame(&Frame::Datagram { data: message }) <= room
+}
+
+impl DatagramState {
+    /// No messages.
+    pub fn new(alloc: Global) -> Self
+        ensures { result ≡ no_messages }
+    {
+        DatagramState {
+            alloc,
+            incoming: MessageQueue::new(alloc),
+            outgoing: MessageQueue::new(alloc),
+        }
+    }
+
+    /// A message came in a DATAGRAM frame (RFC 9221, section 4; quinn-proto's
+    /// `DatagramState::received`). `window` is how many bytes of unread messages this end keeps,
+    /// `None` where it takes no messages. The oldest unread go until the new one fits. Answers
+    /// whether none was unread before, which is what the application is to be told.
+    ///
+    /// # Errors
+    ///
+    /// [`ReceivedError::Breach`] where this end takes no messages, or the message is longer than
+    /// the window, and [`ReceivedError::Memory`] where memory lacks to keep it; nothing changes.
+    pub fn received(&mut self, message: &[u8], window: Option<usize>) -> Result<bool, ReceivedError>
+        ensures answer { result ≢ Err received_errors.Memory → result ≡ received_answer window message.now self.old }
+        ensures state { result ≢ Err received_errors.Memory → self.new ≡ after_received window message.now self.old }
+        ensures memory { result ≡ Err received_errors.Memory → self.new ≡ self.old }
+        ensures lacking { result ≡ Err received_errors.Memory → is_taken window message.now ≡ true }
+    {
+        let Some(window) = window else {
+            return Err(ReceivedError::Breach);
+        };
+        if message.len() > window {
+            return Err(ReceivedError::Breach);
+        }
+        let was_empty = self.incoming.is_empty();
+        let Ok(message) = Bytes::copy_from_slice(self.alloc, message) else {
+            return Err(ReceivedError::Memory);
+        };
+        match self.incoming.push(message, window) {
+            Ok(()) => Ok(was_empty),
+            Err(_) => Err(ReceivedError::Memory),
+        }
+    }
+
+    /// Reads the oldest message that wasn't read (quinn-proto's `Datagrams::recv`). `None` where
+    /// all were.
+    pub fn recv(&mut self) -> Option<Bytes>
+        ensures answer { result ≡ oldest self.old.incoming }
+        ensures state { self.new ≡ after_recv self.old }
+    {
+        self.incoming.pop()
+    }
+
+    /// Why a message may not be sent, if anything refuses it.
+    fn check_send(
+        &self,
+        message: &Bytes,
+        drop: bool,
+        limits: &DatagramLimits,
+    ) -> Result<(), SendDatagramError>
+        ensures answer { result ≡ send_answer limits.now drop message.now self.now }
+        ensures no_want { result ≢ Err send_errors.Memory }
+    {
+        if !limits.is_open {
+            return Err(SendDatagramError::Blocked);
+        }
+        if limits.receive_buffer_size.is_none() {
+            return Err(SendDatagramError::Disabled);
+        }
+        let Some(max_size) = limits.max_size else {
+            return Err(SendDatagramError::UnsupportedByPeer);
+        };
+        if message.len() > max_size {
+            return Err(SendDatagramError::TooLarge);
+        }
+        let room = limits.send_buffer_size;
+        if !drop && !fits(self.outgoing.total(), message.len(), room) {
+            return Err(SendDatagramError::Blocked);
+        }
+        Ok(())
+    }
+
+    /// Queues a message to be sent (quinn-proto's `Datagrams::send`). Where the send buffer has no
+    /// room for it and `drop` is set, the oldest that wait go until it fits, or none is left: it is
+    /// queued in both cases.
+    ///
+    /// # Errors
+    ///
+    /// They are tested in this order, and change nothing: `Blocked` where the end isn't open;
+    /// `Disabled` where this end takes no messages; `UnsupportedByPeer` where the peer takes none;
+    /// `TooLarge` where it is longer than the longest that may be sent; `Blocked` where the send
+    /// buffer has no room for it and `drop` isn't set; `Memory` where memory lacks.
+    pub fn send(
+        &mut self,
+        message: Bytes,
+        drop: bool,
+        limits: &DatagramLimits,
+    ) -> Result<(), SendDatagramError>
+        ensures answer { result ≢ Err send_errors.Memory → result ≡ send_answer limits.now drop message self.old }
+        ensures state { result ≢ Err send_errors.Memory → self.new ≡ after_send limits.now drop message self.old }
+        ensures memory { result ≡ Err send_errors.Memory → self.new ≡ self.old }
+        ensures lacking { result ≡ Err send_errors.Memory → send_answer limits.now drop message self.old ≡ Ok tt }
+    {
+        self.check_send(&message, drop, limits)?;
+        match self.outgoing.push(message, limits.send_buffer_size) {
+            Ok(()) => Ok(()),
+            Err(_) => Err(SendDatagramError::Memory),
+        }
+    }
+
+    /// How many more bytes may wait to be sent, of `send_buffer_size` in all (quinn-proto's
+    /// `Datagrams::send_buffer_space`).
+    pub fn send_buffer_space(&self, send_buffer_size: usize) -> usize
+        ensures { result ≡ send_buffer_size - bytes_of self.now.outgoing }
+    {
+        send_buffer_size.saturating_sub(self.outgoing.total())
+    }
+
+    /// Drops the messages that wait to be sent and are longer than `size` bytes, as a path that
+    /// takes less makes necessary (quinn-proto's `DatagramState::drop_oversized`).
+    pub fn drop_oversized(&mut self, size: usize)
+        ensures { self.new ≡ without_longer size self.old }
+    {
+        self.outgoing.drop_longer(size);
+    }
+
+    /// Whether a message waits to be sent.
+    pub fn is_waiting(&self) -> bool
+        ensures { result ≡ is_some (oldest self.now.outgoing) }
+    {
+        !self.outgoing.is_empty()
+    }
+
+    /// Whether the oldest message that waits has a frame of at most `room` bytes.
+    pub fn can_send(&self, room: usize) -> bool
+        requires { room < 2 ^ 62 }
+        ensures { result ≡ is_some (fitting room self.now.outgoing) }
+    {
+        match self.outgoing.oldest() {
+            Some(message) => has_fitting_frame(message, room),
+            None => false,
+        }
+    }
+
+    /// Takes off the oldest message that waits to be sent, where its frame has at most `room`
+    /// bytes: type, length and message (RFC 9221, section 4). It is to be written as
+    /// [`Frame::Datagram`]. `None` where it doesn't fit, or none waits: no other goes before it.
+    pub fn next_frame(&mut self, room: usize) -> Option<Bytes>
+        requires { room < 2 ^ 62 }
+        ensures answer { result ≡ fitting room self.old.outgoing }
+        ensures state { self.new ≡ after_fitting room self.old }
+        ensures size { IfSome result (λ m. frame_bytes m ≤ room) }
+        ensures form { IfSome result (λ m. Fits (datagram m)) }
+    {
+        if !self.can_send(room) {
+            return None;
+        }
+        self.outgoing.pop()
+    }
+}

@@ -1,0 +1,2 @@
+mod Flights
+mod Threefold

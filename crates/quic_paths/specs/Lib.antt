@@ -1,0 +1,4 @@
+-- The definitions of this crate.
+pub mod InFlight
+pub mod Paths
+pub mod Worked

@@ -1,0 +1,122 @@
+-- A path to the peer. Times are in nanoseconds, sizes and windows in bytes.
+use Rattle.std.specs.Prelude.{◌≡◌, ℕ, ◌+◌, ◌*◌, Bool, true, false, not, ◌&&◌, ◌==◌, nat_lt, if◌then◌else◌, List, [], ◌∷◌, Option, None}
+use Rattle.quic_time.specs.Clocks.{saturated}
+use Rattle.quic_time.specs.Rtt.{Rtt, assumed_rtt, best_rtt}
+use Rattle.quic_config.specs.Transport.{TransportSettings, first_mtu}
+use Rattle.quic_congestion.specs.Pacer.{Pacing, new_pacing}
+use Rattle.quic_paths.specs.InFlight.{Flight, no_flight, flight_with, flight_without}
+
+-- a path with its controller, whatever that is
+pub record PathValue (C : Type 0) : Type 0 where
+  -- how long a round trip takes (RFC 9002, section 5)
+  pub rtt : Rtt
+  -- how much may be in flight, how sending is spread, and what is in flight (section 7)
+  pub congestion : C
+  pub pacing : Pacing
+  pub in_flight : Flight
+  -- whether packets are marked (RFC 9000, section 13.4)
+  pub marks : Bool
+  -- whether the peer's address is validated (section 8), and the bytes of the datagrams that came and
+  -- went
+  pub validated : Bool
+  pub received : ℕ
+  pub sent : ℕ
+  -- the bytes of the greatest datagram (section 14)
+  pub size : ℕ
+  -- the number of the first packet that went after the round trip was sampled, if one did (RFC 9002,
+  -- section 7.6.2)
+  pub first_after_rtt : Option ℕ
+  -- which path of the connection it is
+  pub generation : ℕ
+
+-- made at a moment, with a controller that begins with this window
+abbrev pub new_path : {C : Type 0} → ℕ → ℕ → TransportSettings → C → ℕ → PathValue C
+new_path generation now settings controller initial = record {
+  rtt = assumed_rtt settings.initial_rtt;
+  congestion = controller;
+  pacing = new_pacing settings.initial_rtt initial (first_mtu settings) now;
+  in_flight = no_flight;
+  marks = true;
+  validated = false;
+  received = 0;
+  sent = 0;
+  size = first_mtu settings;
+  first_after_rtt = None;
+  generation = generation;
+}
+
+-- made at a moment in place of another, whose controller has this window: what was measured stays
+-- (RFC 9000, section 9)
+abbrev pub next_path : {C : Type 0} → PathValue C → ℕ → ℕ → ℕ → PathValue C
+next_path prev generation now window = record {
+  rtt = prev.rtt;
+  congestion = prev.congestion;
+  pacing = new_pacing (best_rtt prev.rtt) window prev.size now;
+  in_flight = no_flight;
+  marks = true;
+  validated = false;
+  received = 0;
+  sent = 0;
+  size = prev.size;
+  first_after_rtt = prev.first_after_rtt;
+  generation = generation;
+}
+
+-- what was measured is forgotten at a moment, with a controller that begins with this window
+abbrev pub path_after_reset : {C : Type 0}
+    → PathValue C → ℕ → TransportSettings → C → ℕ → PathValue C
+path_after_reset path now settings controller initial = record path {
+  rtt = assumed_rtt settings.initial_rtt;
+  congestion = controller;
+  pacing = new_pacing settings.initial_rtt initial (first_mtu settings) now;
+  size = first_mtu settings;
+}
+
+-- a packet went on the path
+abbrev pub path_with : {C : Type 0} → PathValue C → ℕ → Bool → PathValue C
+path_with path size asks = record path { in_flight = flight_with path.in_flight size asks }
+
+-- a packet that went on a path of some generation is no longer in flight
+abbrev pub path_without : {C : Type 0} → PathValue C → ℕ → ℕ → Bool → PathValue C
+path_without path generation size asks =
+    if generation == path.generation
+    then record path { in_flight = flight_without path.in_flight size asks }
+    else path
+
+-- a datagram of so many bytes came; 64 bits hold the sum
+abbrev pub path_after_received : {C : Type 0} → PathValue C → ℕ → PathValue C
+path_after_received path bytes = record path { received = saturated (path.received + bytes) }
+
+-- and one went
+abbrev pub path_after_sent : {C : Type 0} → PathValue C → ℕ → PathValue C
+path_after_sent path bytes = record path { sent = saturated (path.sent + bytes) }
+
+-- whether so many bytes have to wait: the peer's address isn't validated, and with them more would
+-- have gone than three times what came (RFC 9000, section 8.1), or more than 64 bits count
+abbrev pub is_blocked : {C : Type 0} → PathValue C → ℕ → Bool
+is_blocked path bytes =
+    not path.validated && nat_lt (saturated (3 * path.received)) (path.sent + bytes)
+
+-- a datagram of so many bytes came, or went
+pub data Datagram : Type 0 where
+  came : ℕ → Datagram
+  went : ℕ → Datagram
+
+-- the bytes of those that came
+abbrev pub bytes_came : List Datagram → ℕ
+bytes_came [] = 0
+bytes_came (came bytes ∷ later) = bytes + bytes_came later
+bytes_came (went bytes ∷ later) = bytes_came later
+
+-- and of those that went
+abbrev pub bytes_went : List Datagram → ℕ
+bytes_went [] = 0
+bytes_went (came bytes ∷ later) = bytes_went later
+bytes_went (went bytes ∷ later) = bytes + bytes_went later
+
+-- of these datagrams, the earliest first, none went that had to wait
+abbrev pub AreAllowed : {C : Type 0} → List Datagram → PathValue C → Type 0
+AreAllowed [] path = Unit {0}
+AreAllowed (came bytes ∷ later) path = AreAllowed later (path_after_received path bytes)
+AreAllowed (went bytes ∷ later) path =
+    (is_blocked path bytes ≡ false) × AreAllowed later (path_after_sent path bytes)

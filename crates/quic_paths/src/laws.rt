@@ -1,0 +1,5 @@
+//! What the definitions of this crate say together. Each function does nothing: its contract is the
+//! law.
+
+pub mod in_flight;
+pub mod paths;

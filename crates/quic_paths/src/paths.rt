@@ -1,0 +1,204 @@
+//! A path to the peer (RFC 9000, sections 8 and 9; quinn-proto's `paths`).
+ghost use Rattle.std.specs.Prelude.{◌≡◌, ◌==◌, IfOk};
+ghost use Rattle.quic_config.specs.Transport.{first_mtu};
+ghost use Rattle.quic_paths.specs.InFlight.{CanJoin, CanLeave};
+ghost use Rattle.quic_paths.specs.Paths.{new_path, next_path, path_after_reset, path_with, path_without, path_after_received, path_after_sent, is_blocked};
+
+use crate::in_flight::InFlight;
+use quic_config::TransportConfig;
+use quic_congestion::{Controller, ControllerFactory, Pacer};
+use quic_time::{Instant, RttEstimator};
+use std::alloc::AllocError;
+use std::marker::Model;
+
+/// A path to the peer, with its controller (quinn-proto's `PathData`).
+///
+/// It has no address, no challenges and no size search yet: the size of datagrams is the one that
+/// the settings begin with.
+#[derive(Drop)]
+pub struct PathData<C> {
+    /// How long a round trip takes (RFC 9002, section 5).
+    pub rtt: RttEstimator,
+    /// Whether packets are marked, so that routers can report congestion (RFC 9000, section 13.4).
+    pub sending_ecn: bool,
+    /// Says how many bytes may be in flight (RFC 9002, section 7).
+    pub congestion: C,
+    /// Spreads what goes over the round trip (RFC 9002, section 7.7).
+    pub pacing: Pacer,
+    /// What is in flight of the packets that went on this path, in bytes and packets.
+    pub in_flight: InFlight,
+    /// Whether the peer is known to receive at its address (RFC 9000, section 8).
+    pub validated: bool,
+    /// The number of the first packet that went after the round trip was sampled: persistent
+    /// congestion begins behind it (RFC 9002, section 7.6.2).
+    pub first_packet_after_rtt_sample: Option<u64>,
+    total_sent: u64,
+    total_recvd: u64,
+    current_mtu: u16,
+    generation: u64,
+}
+
+impl<C> Model for PathData<C> {
+    ghost use Rattle.quic_paths.specs.Paths.{PathValue};
+
+    ghost Value = { PathValue C };
+
+    ghost view = { λ p. record {
+      rtt = p.rtt;
+      congestion = p.congestion;
+      pacing = p.pacing;
+      in_flight = p.in_flight;
+      marks = p.sending_ecn;
+      validated = p.validated;
+      received = p.total_recvd;
+      sent = p.total_sent;
+      size = p.current_mtu;
+      first_after_rtt = p.first_packet_after_rtt_sample;
+      generation = p.generation;
+    } };
+}
+
+impl<C: Controller> PathData<C> {
+    /// A path made now, of which nothing was measured and whose peer isn't validated. The factory
+    /// makes its controller for the size of datagrams that the settings begin with.
+    ///
+    /// quinn-proto's also takes whether a greater size is looked for, and how many bytes the peer takes
+    /// at most: only the size search needs them.
+    pub fn new<F: ControllerFactory<Controller = C>>(
+        generation: u64,
+        now: Instant,
+        config: &TransportConfig,
+        factory: &F,
+    ) -> Self
+        ensures { let controller = F.built factory.now now (first_mtu config.now) in
+            let window = C.initial_of controller in
+            result ≡ new_path generation now config.now controller window }
+    {
+        let mtu = config.get_initial_mtu();
+        let initial_rtt = config.get_initial_rtt();
+        let congestion = factory.build(now, mtu);
+        PathData {
+            rtt: RttEstimator::new(initial_rtt),
+            sending_ecn: true,
+            pacing: Pacer::new(initial_rtt, congestion.initial_window(), mtu, now),
+            congestion,
+            in_flight: InFlight::new(),
+            validated: false,
+            first_packet_after_rtt_sample: None,
+            total_sent: 0,
+            total_recvd: 0,
+            current_mtu: mtu,
+            generation,
+        }
+    }
+
+    /// A path made now in place of another, as the peer's address changed (RFC 9000, section 9).
+    /// Round trip, controller, size and the first packet after a sample are the other's, and the
+    /// pacer is made for them. Nothing is in flight on it, and its peer isn't validated.
+    ///
+    /// An `Err` is want of memory for the controller.
+    pub fn from_previous(prev: &Self, generation: u64, now: Instant) -> Result<Self, AllocError>
+        ensures { let window = C.window_of prev.now.congestion in
+            IfOk result (λ path. path ≡ next_path prev.now generation now window) }
+    {
+        let congestion = prev.congestion.try_clone()?;
+        Ok(PathData {
+            rtt: prev.rtt,
+            sending_ecn: true,
+            pacing: Pacer::new(prev.rtt.get(), congestion.window(), prev.current_mtu, now),
+            congestion,
+            in_flight: InFlight::new(),
+            validated: false,
+            first_packet_after_rtt_sample: prev.first_packet_after_rtt_sample,
+            total_sent: 0,
+            total_recvd: 0,
+            current_mtu: prev.current_mtu,
+            generation,
+        })
+    }
+
+    /// Forgets now what was measured: round trip, controller, size and pacer are as on a new path.
+    /// The rest stays. It is for a path of which it is known that it changed.
+    pub fn reset<F: ControllerFactory<Controller = C>>(
+        &mut self,
+        now: Instant,
+        config: &TransportConfig,
+        factory: &F,
+    )
+        ensures { let controller = F.built factory.now now (first_mtu config.now) in
+            let window = C.initial_of controller in
+            self.new ≡ path_after_reset self.old now config.now controller window }
+    {
+        let mtu = config.get_initial_mtu();
+        let initial_rtt = config.get_initial_rtt();
+        let congestion = factory.build(now, mtu);
+        self.rtt = RttEstimator::new(initial_rtt);
+        self.pacing = Pacer::new(initial_rtt, congestion.initial_window(), mtu, now);
+        self.congestion = congestion;
+        self.current_mtu = mtu;
+    }
+}
+
+impl<C> PathData<C> {
+    /// The bytes of the greatest datagram (RFC 9000, section 14).
+    pub fn current_mtu(&self) -> u16
+        ensures { result ≡ self.now.size }
+    {
+        self.current_mtu
+    }
+
+    /// Which path of the connection it is: each has a number of its own.
+    pub fn generation(&self) -> u64
+        ensures { result ≡ self.now.generation }
+    {
+        self.generation
+    }
+
+    /// A packet goes on this path, into flight: its size in bytes, and whether it asks for an
+    /// acknowledgement. [`InFlight::insert`] says what is required.
+    pub fn sent(&mut self, size: u16, ack_eliciting: bool)
+        requires { CanJoin self.old.in_flight size ack_eliciting }
+        ensures { self.new ≡ path_with self.old size ack_eliciting }
+    {
+        self.in_flight.insert(size, ack_eliciting);
+    }
+
+    /// Takes a packet out of flight that went on the path of this generation: false, and nothing
+    /// changes, where that is another path. Of this path it has to be one that went into flight.
+    pub fn remove_in_flight(&mut self, generation: u64, size: u16, ack_eliciting: bool) -> bool
+        requires { generation ≡ self.old.generation → CanLeave self.old.in_flight size ack_eliciting }
+        ensures answer { result ≡ (generation == self.old.generation) }
+        ensures next { self.new ≡ path_without self.old generation size ack_eliciting }
+    {
+        if generation != self.generation {
+            return false;
+        }
+        self.in_flight.remove(size, ack_eliciting);
+        true
+    }
+
+    /// A datagram of so many bytes came. The sum saturates, which never lets more go.
+    pub fn on_datagram_received(&mut self, bytes: u64)
+        ensures { self.new ≡ path_after_received self.old bytes }
+    {
+        self.total_recvd = self.total_recvd.saturating_add(bytes);
+    }
+
+    /// A datagram of so many bytes went. The sum saturates, but not where the peer isn't validated
+    /// and [`anti_amplification_blocked`](Self::anti_amplification_blocked) let the bytes go.
+    pub fn on_datagram_sent(&mut self, bytes: u64)
+        ensures { self.new ≡ path_after_sent self.old bytes }
+    {
+        self.total_sent = self.total_sent.saturating_add(bytes);
+    }
+
+    /// Whether so many bytes have to wait: the peer isn't validated, and with them more would have
+    /// gone to it than three times what came (RFC 9000, section 8.1), or more than 64 bits count.
+    pub fn anti_amplification_blocked(&self, bytes_to_send: u64) -> bool
+        ensures { result ≡ is_blocked self.now bytes_to_send }
+    {
+        let limit = self.total_recvd.saturating_mul(3);
+        !self.validated
+            && u128::from(limit) < u128::from(self.total_sent) + u128::from(bytes_to_send)
+    }
+}

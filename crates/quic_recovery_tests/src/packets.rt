@@ -1,0 +1,50 @@
+// Packets that go, and packet number spaces that track them. Moments are in microseconds.
+use quic_retransmits::ThinRetransmits;
+use quic_sent_packets::SentPacket;
+use quic_spaces::PacketSpace;
+use quic_time::Instant;
+use std::alloc::{AllocError, Global};
+use std::process::Abort;
+
+pub(crate) fn at(micros: u64) -> Instant {
+    Instant::from_nanos(micros.saturating_mul(1000))
+}
+
+// A packet that carried nothing that has to be sent again.
+pub(crate) fn packet(alloc: Global, micros: u64, asks: bool) -> SentPacket {
+    SentPacket {
+        path_generation: 0,
+        time_sent: at(micros),
+        size: 1200,
+        ack_eliciting: asks,
+        largest_acked: None,
+        retransmits: ThinRetransmits::new(),
+        stream_frames: Vec::new(alloc),
+    }
+}
+
+// When the packet went that is forgotten, if one is.
+pub(crate) fn sent(
+    space: &mut PacketSpace,
+    number: u64,
+    packet: SentPacket,
+) -> Result<Option<Instant>, AllocError> {
+    match space.sent(number, packet)? {
+        Some(forgotten) => Ok(Some(forgotten.time_sent)),
+        None => Ok(None),
+    }
+}
+
+// Where memory lacks, no packet is tracked yet, and it goes again.
+pub(crate) fn send<R: Abort + AllocGlobal>(
+    rt: &R,
+    space: &mut PacketSpace,
+    number: u64,
+    micros: u64,
+    asks: bool,
+) -> Result<Option<Instant>, AllocError> {
+    match sent(space, number, packet(rt.alloc(), micros, asks)) {
+        Ok(forgotten) => Ok(forgotten),
+        Err(_) => sent(space, number, packet(rt.alloc(), micros, asks)),
+    }
+}

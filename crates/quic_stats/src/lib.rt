@@ -1,0 +1,14 @@
+//! Statistics of a connection: what it sent and received, and its path (quinn-proto's
+//! `connection::stats`). No count passes the greatest number of its type, where it stays.
+#![tactic(auto)]
+
+mod connection;
+mod frames;
+pub mod laws;
+mod path;
+mod udp;
+
+pub use connection::ConnectionStats;
+pub use frames::FrameStats;
+pub use path::PathStats;
+pub use udp::UdpStats;

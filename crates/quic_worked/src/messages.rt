@@ -1,0 +1,82 @@
+//! The definitions computed on runs in which a message goes, and machines that give an application
+//! more messages, or others. Each function does nothing: its contract is the law.
+ghost use Rattle.std.specs.Prelude.{◌≡◌, [], ◌∷◌, None, Ok};
+ghost use Rattle.quic_wire_core.specs.declared.stream_id.Side.TheVariants.{Client, Server};
+ghost use Rattle.quic_wire.specs.Value.{datagram};
+ghost use Rattle.quic_wire.specs.Writing.{spelling};
+ghost use Rattle.quic_headline.specs.Runs.{until};
+ghost use Rattle.quic_headline.specs.Observer.{took};
+ghost use Rattle.quic_headline.specs.Headline.{IsHonest, IsRun};
+ghost use Rattle.quic_headline.specs.Messages.{sent_messages, received_messages, MessagesAtMostOnce};
+ghost use Rattle.quic_worked.specs.Worked.{client_gives, from_client};
+ghost use Rattle.quic_worked.specs.Broken.{IsNoRun};
+ghost use Rattle.quic_worked.specs.Messages.{ping_message, message_payload, message_datagram, message_packet, message_end, message_run, message_twice, message_cut, message_made_up, message_back, message_refused, once_late, late_end, late_run, message_again};
+
+/// A message goes in a frame of its own, with its length (RFC 9221, section 4). Its datagram comes
+/// twice, and is taken once: the application is told once that a message came, reads it once, and
+/// finds none behind it.
+#[tactic(auto, unfolding(crate::specs::Worked::once_taken))]
+pub fn message_comes_once()
+    ensures spelling { spelling (datagram ping_message) ≡ message_payload }
+    ensures bytes { from_client 0 message_payload ≡ message_datagram }
+    ensures honest { IsHonest message_run }
+    ensures run { IsRun message_run message_end }
+    ensures took { took message_run Server 8 ≡ message_packet ∷ [] }
+    ensures sent { sent_messages (until message_run Client 8) ≡ ping_message ∷ [] }
+    ensures received { received_messages (until message_run Server 8) ≡ ping_message ∷ [] }
+    ensures once { MessagesAtMostOnce message_run }
+{}
+
+/// A message whose datagram is lost doesn't go again (RFC 9221, section 5.2), and nothing is waited
+/// for then. Where that datagram comes late, the message is received once all the same.
+pub fn late_message_comes_once()
+    ensures honest { IsHonest late_run }
+    ensures run { IsRun late_run late_end }
+    ensures lost { (once_late 8).client.tracking.packets ≡ [] }
+    ensures silent { (client_gives (once_late 8).client 110000000).answer ≡ Ok None }
+    ensures sent { sent_messages (until late_run Client 11) ≡ ping_message ∷ [] }
+    ensures received { received_messages (until late_run Server 11) ≡ ping_message ∷ [] }
+    ensures once { MessagesAtMostOnce late_run }
+{}
+
+/// Receiving: a duplicate is taken again, and its message is received twice.
+pub fn message_is_taken_again()
+    ensures once { MessagesAtMostOnce message_twice → ⊥ }
+    ensures premises { IsHonest message_twice }
+    ensures machine { IsNoRun message_twice }
+{}
+
+/// Receiving: a message is received without its last byte.
+pub fn message_is_cut()
+    ensures once { MessagesAtMostOnce message_cut → ⊥ }
+    ensures premises { IsHonest message_cut }
+    ensures machine { IsNoRun message_cut }
+{}
+
+/// Receiving: a message is received that nobody sent.
+pub fn message_is_made_up()
+    ensures once { MessagesAtMostOnce message_made_up → ⊥ }
+    ensures premises { IsHonest message_made_up }
+    ensures machine { IsNoRun message_made_up }
+{}
+
+/// Loss: a message whose datagram is lost goes again, and is received twice where both come.
+pub fn lost_message_goes_again()
+    ensures once { MessagesAtMostOnce message_again → ⊥ }
+    ensures premises { IsHonest message_again }
+    ensures machine { IsNoRun message_again }
+{}
+
+/// Application calls: an end receives the message that it sent.
+pub fn own_message_is_received()
+    ensures once { MessagesAtMostOnce message_back → ⊥ }
+    ensures premises { IsHonest message_back }
+    ensures machine { IsNoRun message_back }
+{}
+
+/// Sending: a message goes that is one byte too long, though its send was refused.
+pub fn refused_message_goes()
+    ensures once { MessagesAtMostOnce message_refused → ⊥ }
+    ensures premises { IsHonest message_refused }
+    ensures machine { IsNoRun message_refused }
+{}

@@ -1,5 +1,0 @@
-use Rattle.quic_worked_next.proofs.MeasuredRun.{cleared_not, never_shows_cleared, cleared_follows, cleared_leads}
-use Rattle.quic_worked_next.proofs.measured.cleared_timer_shows.Goals as goal
-
-pub returns : goal.returns
-returns c = record { moments = cleared_not; machine = never_shows_cleared; follows = cleared_follows; leads = cleared_leads }

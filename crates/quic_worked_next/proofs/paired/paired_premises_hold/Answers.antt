@@ -1,5 +1,0 @@
-use Rattle.quic_worked_next.proofs.PairedMachines.{h_told_of_reset, h_pair_giving, h_reset_unaccepted, h_second_unaccepted, h_other_bytes}
-use Rattle.quic_worked_next.proofs.paired.paired_premises_hold.Goals as goal
-
-pub returns : goal.returns
-returns c = record { told = h_told_of_reset; giving = h_pair_giving; first = h_reset_unaccepted; second = h_second_unaccepted; other = h_other_bytes }

@@ -1,5 +1,0 @@
-use Rattle.quic_worked_next.proofs.PairedMachines.{reset_duties, never_forgotten}
-use Rattle.quic_worked_next.proofs.paired.reset_is_forgotten.Goals as goal
-
-pub returns : goal.returns
-returns c = record { duties = reset_duties; machine = never_forgotten }
