@@ -1,8 +1,7 @@
 -- The codes of events, one event after another.
-use Rattle.std.proofs.Common.{◌≡◌, ℕ, zero, suc, ◌+◌, ◌<◌, List, [], ◌∷◌, length, Option, Some, None, inl, inr, sym, subst, arith}
+use Rattle.std.proofs.Common.{◌≡◌, ℕ, suc, ◌<◌, List, [], ◌∷◌, length, Some, inl, inr, sym, subst, arith}
 use Rattle.std.specs.Prelude.{slice_get, IfSome}
 use Rattle.quic_machine.specs.declared.run.RunEvent.{RunEvent}
-use Rattle.quic_headline.specs.Runs.{In}
 use Rattle.quic_headline.specs.Headline.{CodeIsSmall, AreCodes}
 
 -- the code of an event at a place, if there is one

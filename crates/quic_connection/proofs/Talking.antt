@@ -40,21 +40,20 @@ polls_behind (awaits ∷ turns) turns' = polls_behind turns turns'
 pub talks_none : (k : Policies) (now : ℕ) (at : Round) (n : ℕ) (w : World) → Talks k now now at at n n w w
 talks_none k now at n w = record { turns = []; talk = (refl, refl, refl); left = omega arith }
 
--- turns behind others, where polls are counted down; the keys of the second do what those of the first do
-pub talks_on : (k k' : Policies) (now between moment : ℕ) (at via end : Round) (before left after : ℕ) (w mid to : World) → k' ≡ k → Talks k now between at via before left w mid → Talks k' between moment via end left after mid to → Talks k now moment at end before after w to
-talks_on k k' now between moment at via end before left after w mid to same t more =
-    let next : Talks k between moment via end left after mid to = rw same at more in
+-- turns behind others, where polls are counted down
+pub talks_on : (k : Policies) (now between moment : ℕ) (at via end : Round) (before left after : ℕ) (w mid to : World) → Talks k now between at via before left w mid → Talks k between moment via end left after mid to → Talks k now moment at end before after w to
+talks_on k now between moment at via end before left after w mid to t more =
     record {
-      turns = t.turns ++ next.turns;
-      talk = talk_behind k now at w t.turns between via mid next.turns moment end to t.talk next.talk;
-      left = let both = polls_behind t.turns next.turns in let first = t.left in let second = next.left in omega arith;
+      turns = t.turns ++ more.turns;
+      talk = talk_behind k now at w t.turns between via mid more.turns moment end to t.talk more.talk;
+      left = let both = polls_behind t.turns more.turns in let first = t.left in let second = more.left in omega arith;
     }
 
 -- the same, to some place
-pub leads_on : (k k' : Policies) (now between moment : ℕ) (at via : Round) (before left after : ℕ) (w mid to : World) → k' ≡ k → Talks k now between at via before left w mid → Leads k' between moment via left after mid to → Leads k now moment at before after w to
-leads_on k k' now between moment at via before left after w mid to same t more = record {
+pub leads_on : (k : Policies) (now between moment : ℕ) (at via : Round) (before left after : ℕ) (w mid to : World) → Talks k now between at via before left w mid → Leads k between moment via left after mid to → Leads k now moment at before after w to
+leads_on k now between moment at via before left after w mid to t more = record {
   end = more.end;
-  talks = talks_on k k' now between moment at via more.end before left after w mid to same t more.talks;
+  talks = talks_on k now between moment at via more.end before left after w mid to t more.talks;
 }
 
 -- none or more, and some
@@ -75,11 +74,11 @@ talks_polled k now before after w next side had gave told same one poll = record
 }
 
 -- a wait behind turns
-pub waited_on : (k k' : Policies) (now between wake moment : ℕ) (at : Round) (before left : ℕ) (w mid end : World) → k' ≡ k → Talks k now between at quiet before left w mid → AreOpen mid → wakes mid ≡ Some wake → moment ≡ max between wake → IsHandled k' moment mid end → Talks k now moment at (asks Client false) before left w end
-waited_on k k' now between wake moment at before left w mid end same t opened woke is handled =
-    let waited : IsWaited k between moment mid end = record { are_open = opened; wake = wake; wakes = woke; is = is; handled = rw same at handled } in
+pub waited_on : (k : Policies) (now between wake moment : ℕ) (at : Round) (before left : ℕ) (w mid end : World) → Talks k now between at quiet before left w mid → AreOpen mid → wakes mid ≡ Some wake → moment ≡ max between wake → IsHandled k moment mid end → Talks k now moment at (asks Client false) before left w end
+waited_on k now between wake moment at before left w mid end t opened woke is handled =
+    let waited : IsWaited k between moment mid end = record { are_open = opened; wake = wake; wakes = woke; is = is; handled = handled } in
     let turn : Talks k between moment quiet (asks Client false) left left mid end = record { turns = awaits ∷ []; talk = (end, moment, waited, (refl, refl, refl)); left = omega arith } in
-    talks_on k k now between moment at quiet (asks Client false) before left left w mid end refl t turn
+    talks_on k now between moment at quiet (asks Client false) before left left w mid end t turn
 
 -- ---- where memory lacked
 
@@ -89,32 +88,28 @@ on_err (Ok x) p = tt
 on_err (Err e) p = p
 
 -- a turn that is begun behind others
-pub cut_behind : (k k' : Policies) (now between : ℕ) (at via : Round) (before left : ℕ) (w mid end : World) → k' ≡ k → Talks k now between at via before left w mid → IsCut k' between via mid end → IsCutOff k now at before w end
-cut_behind k k' now between at via before left w mid end same t cut = record {
+pub cut_behind : (k : Policies) (now between : ℕ) (at via : Round) (before left : ℕ) (w mid end : World) → Talks k now between at via before left w mid → IsCut k between via mid end → IsCutOff k now at before w end
+cut_behind k now between at via before left w mid end t cut = record {
   turns = t.turns;
   moment = between;
   end = via;
   last = mid;
   talk = t.talk;
   at_most = let first = t.left in omega arith;
-  cut = ended same cut;
+  cut = cut;
 }
-  where
-    ended : k' ≡ k → IsCut k' between via mid end → IsCut k between via mid end
-    ended is c = rw is at c
 
 -- turns behind others, and one that is begun
-pub cut_off_behind : (k k' : Policies) (now between : ℕ) (at via : Round) (before left : ℕ) (w mid end : World) → k' ≡ k → Talks k now between at via before left w mid → IsCutOff k' between via left mid end → IsCutOff k now at before w end
-cut_off_behind k k' now between at via before left w mid end same t more =
-    let next : IsCutOff k between via left mid end = rw same at more in
+pub cut_off_behind : (k : Policies) (now between : ℕ) (at via : Round) (before left : ℕ) (w mid end : World) → Talks k now between at via before left w mid → IsCutOff k between via left mid end → IsCutOff k now at before w end
+cut_off_behind k now between at via before left w mid end t more =
     record {
-      turns = t.turns ++ next.turns;
-      moment = next.moment;
-      end = next.end;
-      last = next.last;
-      talk = talk_behind k now at w t.turns between via mid next.turns next.moment next.end next.last t.talk next.talk;
-      at_most = let both = polls_behind t.turns next.turns in let first = t.left in let second = next.at_most in omega arith;
-      cut = next.cut;
+      turns = t.turns ++ more.turns;
+      moment = more.moment;
+      end = more.end;
+      last = more.last;
+      talk = talk_behind k now at w t.turns between via mid more.turns more.moment more.end more.last t.talk more.talk;
+      at_most = let both = polls_behind t.turns more.turns in let first = t.left in let second = more.at_most in omega arith;
+      cut = more.cut;
     }
 
 -- a wait of which the client's part was made, or none

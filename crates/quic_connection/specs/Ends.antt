@@ -1,14 +1,18 @@
--- What the machine sees of two ends with their keys, and of the datagrams that they gave.
-use Rattle.std.specs.Prelude.{ℕ, ◌≡◌, List, [], ◌∷◌, length}
+-- What the machine sees of two ends with their keys and random sources, and of the datagrams that they gave.
+use Rattle.std.specs.Prelude.{ℕ, ◌≡◌, ◌≢◌, ◌≤◌, ◌-◌, ◌⊎◌, List, [], ◌∷◌, Option, Some, None, Result, Ok, Err}
+use Rattle.rand_core.specs.Stream.{Stream}
+use Rattle.quic_config.specs.Transport.{Settings, parameters_of}
 use Rattle.quic_packet.specs.Keys.{Protection, Aead}
-use Rattle.quic_packet.specs.declared.crypto.Keys.{Keys}
+use Rattle.quic_machine.specs.declared.answers.Failed.{Failed}
+use Rattle.quic_machine.specs.declared.answers.Transmit.{Transmit}
 use Rattle.quic_machine.specs.declared.run.RunEvent.{RunEvent}
 use Rattle.quic_machine.specs.declared.run.Answer.{Answer}
 use Rattle.quic_machine.specs.declared.run.View.{View}
 use Rattle.quic_machine.specs.declared.answers.ConfigError.{ConfigError}
-use Rattle.quic_machine.specs.declared.answers.ConfigError.TheVariants as config_errors
-use Rattle.quic_machine.specs.End.{policy_of}
-use Rattle.quic_machine.specs.Opens.{own_id_length}
+use Rattle.quic_machine.specs.declared.answers.State.TheVariants as states
+use Rattle.quic_machine.specs.Policy.{Policy}
+use Rattle.quic_machine.specs.End.{End, ConnectionValue, policy_of, refusal_of}
+use Rattle.quic_connection_core.specs.Drawn.{words_of, after_words}
 use Rattle.quic_headline.specs.Runs.{Run, LeadsTo}
 use Rattle.quic_headline.specs.Headline.{IsHonest}
 use Rattle.quic_machine.specs.Machine.{World, Policies}
@@ -24,23 +28,42 @@ world_of ends given = record { client = ends.client.end; server = ends.server.en
 abbrev pub first_world : {H K R : Type 0} → Ends H K R → World
 first_world ends = record { client = ends.client.end; server = ends.server.end; from_client = []; from_server = [] }
 
--- what the keys of both ends do
-abbrev pub policies_of : {H K R : Type 0} → (H → Protection) → (K → Aead) → Ends H K R → Policies
-policies_of protection aead ends = record {
-  client = policy_of protection aead ends.client;
-  server = policy_of protection aead ends.server;
+-- what the keys of both ends do, and which words their random sources answer
+abbrev pub policies_of : {H K R : Type 0} → (H → Protection) → (K → Aead) → (R → Stream) → Ends H K R → Policies
+policies_of protection aead stream ends = record {
+  client = policy_of protection aead (words_of stream) ends.client;
+  server = policy_of protection aead (words_of stream) ends.server;
 }
 
--- what two ends have beside their states
-pub record Held (H K R : Type 0) : Type 0 where
-  pub client_keys : Keys H K
-  pub client_random : R
-  pub server_keys : Keys H K
-  pub server_random : R
+-- the datagram that a poll gave, where it gave one
+abbrev pub kept : Result (Option Transmit) Failed → List ℕ → List (List ℕ)
+kept (Ok (Some transmit)) bytes = bytes ∷ []
+kept (Ok None) bytes = []
+kept (Err failed) bytes = []
 
--- the keys and the random source of each end
-abbrev pub held_of : {H K R : Type 0} → Ends H K R → Held H K R
-held_of ends = record { client_keys = ends.client.keys; client_random = ends.client.random; server_keys = ends.server.keys; server_random = ends.server.random }
+-- ---- keys and random sources as ends go on
+
+-- An end goes on from one value to another: its keys stay, and unless it has failed, its random source answers what is left behind the words that were drawn.
+pub record GoesOn {H K R : Type 0} (stream : R → Stream) (old new : ConnectionValue H K R) : Type 0 where
+  pub keys : new.keys ≡ old.keys
+  pub served : new.end.closing.state ≢ states.Failed → old.end.closing.state ≢ states.Failed
+  pub drawn : new.end.closing.state ≢ states.Failed → old.end.filter.drawn ≤ new.end.filter.drawn
+  pub random : new.end.closing.state ≢ states.Failed → stream new.random ≡ after_words (new.end.filter.drawn - old.end.filter.drawn) (stream old.random)
+
+-- so do both ends
+pub record GoOn {H K R : Type 0} (stream : R → Stream) (old new : Ends H K R) : Type 0 where
+  pub client : GoesOn stream old.client new.client
+  pub server : GoesOn stream old.server new.server
+
+-- A policy does at an end what another one does: its keys do, and unless the end has failed, it answers the same of all words that aren't drawn yet.
+pub record Serves (k p : Policy) (e : End) : Type 0 where
+  pub keys : k ≡ record p { words = k.words }
+  pub words : e.closing.state ≢ states.Failed → (n : ℕ) → e.filter.drawn ≤ n → k.words n ≡ p.words n
+
+-- policies do at two ends what their keys and random sources do from here on
+pub record AreOf {H K R : Type 0} (k : Policies) (protection : H → Protection) (aead : K → Aead) (stream : R → Stream) (ends : Ends H K R) : Type 0 where
+  pub client : Serves k.client (policy_of protection aead (words_of stream) ends.client) ends.client.end
+  pub server : Serves k.server (policy_of protection aead (words_of stream) ends.server) ends.server.end
 
 -- transport parameters in ascending order of their ids
 abbrev pub in_order : List ℕ
@@ -63,18 +86,25 @@ abbrev pub world_left : {H K R : Type 0} → Outcome H K R → World
 world_left o = world_of o.ends o.given
 
 -- a fact of the run of these ends over these events that came out so, where the run is honest
-abbrev pub OnHonest : {H K R : Type 0} → (H → Protection) → (K → Aead) → Ends H K R → List RunEvent → Outcome H K R → (Run → Type 0) → Type 0
-OnHonest protection aead ends events o P =
-    let r = run_of (policies_of protection aead ends) ends events o.answers.items o.views.items o.given in
+abbrev pub OnHonest : {H K R : Type 0} → (H → Protection) → (K → Aead) → (R → Stream) → Ends H K R → List RunEvent → Outcome H K R → (Run → Type 0) → Type 0
+OnHonest protection aead stream ends events o P =
+    let r = run_of (policies_of protection aead stream ends) ends events o.answers.items o.views.items o.given in
     IsHonest r → P r
 
--- a fact of both ends at each place of the run, where it holds of the first ends
-abbrev pub AtEachPlace : {H K R : Type 0} → (H → Protection) → (K → Aead) → Ends H K R → List RunEvent → Outcome H K R → (World → Type 0) → Type 0
-AtEachPlace protection aead ends events o P =
-    let r = run_of (policies_of protection aead ends) ends events o.answers.items o.views.items o.given in
-    P r.start → (i : ℕ) (w : World) → LeadsTo r i w → P w
+-- a fact of both ends at each place of the run, where this one holds of the first ends
+abbrev pub AtEachPlace : {H K R : Type 0} → (H → Protection) → (K → Aead) → (R → Stream) → Ends H K R → List RunEvent → Outcome H K R → (World → Type 0) → (World → Type 0) → Type 0
+AtEachPlace protection aead stream ends events o Begins P =
+    let r = run_of (policies_of protection aead stream ends) ends events o.answers.items o.views.items o.given in
+    Begins r.start → (i : ℕ) (w : World) → LeadsTo r i w → P w
 
--- Two ends are refused: one of their ids hasn't eight bytes.
-pub record IsRefused (e : ConfigError) (client_id server_id : List ℕ) : Type 0 where
-  pub is : e ≡ config_errors.IdLength
-  pub wrong : (length client_id ≡ own_id_length) → (length server_id ≡ own_id_length) → ⊥
+-- ---- making two ends
+
+-- why an end isn't made for a peer with these settings and this id, want of memory aside
+abbrev pub refusal_for : Settings → Settings → List ℕ → List ℕ → Option ConfigError
+refusal_for own peer own_id peer_id = refusal_of {E = Unit {0}} own (Ok (parameters_of peer)) own_id peer_id
+
+-- two ends are refused: the client is, or else the server
+abbrev pub IsRefused : ConfigError → Settings → Settings → List ℕ → List ℕ → Type 0
+IsRefused e client server client_id server_id =
+    (refusal_for client server client_id server_id ≡ Some e)
+    ⊎ ((refusal_for client server client_id server_id ≡ None) × (refusal_for server client server_id client_id ≡ Some e))

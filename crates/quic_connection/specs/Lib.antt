@@ -1,17 +1,20 @@
 -- The definitions of this crate, and those of lower crates that its clauses cite.
 pub mod Ends
+pub mod GoingOn
 pub mod OnStreams
+pub mod OnMessages
 pub mod Settled
 pub use Rattle.quic_headline.specs.Runs
 pub use Rattle.quic_headline.specs.Observer
 pub use Rattle.quic_headline.specs.Headline
+pub use Rattle.quic_headline.specs.Amounts
 pub use Rattle.quic_headline.specs.Duties
+pub use Rattle.quic_headline.specs.Grown
 pub use Rattle.quic_headline.specs.InFlight
 pub use Rattle.quic_headline.specs.Causes
 pub use Rattle.quic_headline.specs.Moments
 pub use Rattle.quic_machine.specs.Policy
 pub use Rattle.quic_machine.specs.Closing
-pub use Rattle.quic_machine.specs.Numbers
 pub use Rattle.quic_machine.specs.Tracking
 pub use Rattle.quic_machine.specs.End
 pub use Rattle.quic_machine.specs.Opens
@@ -20,10 +23,15 @@ pub use Rattle.quic_machine.specs.Receive
 pub use Rattle.quic_machine.specs.Poll
 pub use Rattle.quic_machine.specs.Timeouts
 pub use Rattle.quic_machine.specs.Calls
+pub use Rattle.quic_machine.specs.CallCases
 pub use Rattle.quic_machine.specs.Lacking
 pub use Rattle.quic_machine.specs.Machine
 pub use Rattle.quic_machine.specs.Start
 pub use Rattle.quic_machine.specs.StreamCalls
+pub use Rattle.quic_spaces.specs.Numbers
+pub use Rattle.quic_spaces.specs.Filter
+pub use Rattle.quic_spaces.specs.Loss
+pub use Rattle.quic_connection_core.specs.Drawn
 pub use Rattle.quic_streams_parts.specs.Table
 pub use Rattle.quic_streams_state.specs.State
 pub use Rattle.quic_streams_state.specs.Opening

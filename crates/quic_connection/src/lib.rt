@@ -7,6 +7,7 @@
 //! its `poll_timeout` says when `handle_timeout` is due.
 #![tactic(auto)]
 
+mod on_messages;
 mod on_streams;
 mod pair;
 mod running;
@@ -21,8 +22,10 @@ pub use quic_machine::{
     Injection, Instant, LostReason, Nexts, ReadCall, Received, RunEvent, State, Timer, Transmit,
     TransportConfig, View,
 };
+pub use quic_messages::{DatagramLimits, DatagramState, Datagrams, SendDatagramError};
 pub use quic_packet::crypto::{HeaderKey, KeyPair, Keys, NotOpened, PacketKey};
 pub use quic_send_buffer::{BytesSource, ShouldTransmit};
+pub use quic_stats::{ConnectionStats, FrameStats, PathStats, UdpStats};
 pub use quic_streams_handles::{Chunks, EndStreams, RecvStream, SendStream, Streams};
 pub use quic_streams_parts::{
     ClosedStream, FinishError, ReadError, ReadableError, StreamEvent, UpdateError, WriteError,

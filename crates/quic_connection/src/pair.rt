@@ -7,7 +7,8 @@ ghost use Rattle.quic_machine.specs.Policy.{KeysCanOpen};
 ghost use Rattle.quic_machine.specs.End.{MadeFrom};
 ghost use Rattle.quic_machine.specs.Start.{AreStarted, AreKeys};
 ghost use Rattle.quic_machine.specs.declared.answers.ConfigError.TheVariants as config_errors;
-ghost use Rattle.quic_connection.specs.Ends.{first_world, policies_of, in_order, IsRefused};
+ghost use Rattle.quic_connection_core.specs.Drawn.{words_of, after_words};
+ghost use Rattle.quic_connection.specs.Ends.{first_world, policies_of, in_order, refusal_for, IsRefused};
 
 use crate::running::Ends;
 use quic_connection_core::{Config, Connection};
@@ -28,7 +29,7 @@ pub struct Making<H, K, R> {
     /// Its keys: what the `local` ones seal, the other end's `remote` ones open, and the other way
     /// round.
     pub keys: Keys<H, K>,
-    /// Its random source.
+    /// Its random source, of which a word is drawn at once.
     pub random: R,
     /// Whether the peer's address is validated already.
     pub validated: bool,
@@ -59,15 +60,18 @@ fn end_for<H: HeaderKey + Drop, K: PacketKey + Drop, R: Rng + Drop>(
 ) -> Result<Connection<H, K, R>, ConfigError>
     ensures made { IfOk result (λ c.
         MadeFrom side own.config (written_parameters (parameters_of peer.entry.now) in_order) own.id
-        peer_id now own.validated c.end) }
+        peer_id now own.validated (words_of R.stream own.random 0) c.end) }
     ensures keys { IfOk result (λ c. c.keys ≡ own.keys) }
-    ensures random { IfOk result (λ c. c.random ≡ own.random) }
+    ensures random { IfOk result (λ c. R.stream c.random ≡ after_words 1 (R.stream own.random)) }
     ensures id { OnOk result (length own.id ≡ 8) }
     ensures read_back { OnOk result (
         parameters_at (written_parameters (parameters_of peer.entry.now) in_order)
         ≡ Ok (parameters_of peer.entry.now)) }
     ensures range { OnOk result (IsInRange peer.entry.now) }
-    ensures refusal { IfErr result (λ e. e ≢ config_errors.Memory → IsRefused e own.id peer_id) }
+    ensures refusal { IfErr result (λ e.
+        e ≢ config_errors.Memory
+        → refusal_for own.config peer.entry.now own.id peer_id ≡ Some e) }
+    ensures lawful { OnOk result (refusal_for own.config peer.entry.now own.id peer_id ≡ None) }
 {
     let config = own.config;
     let parameters = parameters(alloc, peer)?;
@@ -90,7 +94,11 @@ impl<H: HeaderKey + Drop, K: PacketKey + Drop, R: Rng + Drop> Ends<H, K, R> {
     /// first id. They meet what the promises on runs ask of the ends; where the keys of both are
     /// mates in both directions, of keys too.
     ///
-    /// `IdLength`: an id hasn't eight bytes. `Memory`: memory lacks.
+    /// # Errors
+    ///
+    /// [`ConfigError`], the client's before the server's: `IdLength` where an id hasn't eight bytes,
+    /// `Size` where a size of datagrams is above what a UDP payload may have or the least is above
+    /// what the other end takes, `Memory` where memory lacks.
     pub fn new(
         alloc: Global,
         now: Instant,
@@ -100,22 +108,29 @@ impl<H: HeaderKey + Drop, K: PacketKey + Drop, R: Rng + Drop> Ends<H, K, R> {
         ensures client { IfOk result (λ ends.
             MadeFrom Side.Client client.config
             (written_parameters (parameters_of server.config) in_order) client.id server.id now
-            client.validated ends.client.end) }
+            client.validated (words_of R.stream client.random 0) ends.client.end) }
         ensures server { IfOk result (λ ends.
             MadeFrom Side.Server server.config
             (written_parameters (parameters_of client.config) in_order) server.id client.id now
-            server.validated ends.server.end) }
+            server.validated (words_of R.stream server.random 0) ends.server.end) }
         ensures client_keys { IfOk result (λ ends. ends.client.keys ≡ client.keys) }
         ensures server_keys { IfOk result (λ ends. ends.server.keys ≡ server.keys) }
-        ensures client_random { IfOk result (λ ends. ends.client.random ≡ client.random) }
-        ensures server_random { IfOk result (λ ends. ends.server.random ≡ server.random) }
+        ensures client_random { IfOk result (λ ends.
+            R.stream ends.client.random ≡ after_words 1 (R.stream client.random)) }
+        ensures server_random { IfOk result (λ ends.
+            R.stream ends.server.random ≡ after_words 1 (R.stream server.random)) }
         ensures refusal { IfErr result (λ e.
-            e ≢ config_errors.Memory → IsRefused e client.id server.id) }
+            e ≢ config_errors.Memory
+            → IsRefused e client.config server.config client.id server.id) }
+        ensures lawful { OnOk result (
+            refusal_for client.config server.config client.id server.id ≡ None) }
+        ensures lawful_server { OnOk result (
+            refusal_for server.config client.config server.id client.id ≡ None) }
         ensures started { IfOk result (λ ends. AreStarted (first_world ends)) }
         ensures keys { IfOk result (λ ends.
             KeysCanOpen H.protection K.aead client.keys server.keys
             → KeysCanOpen H.protection K.aead server.keys client.keys
-            → AreKeys (policies_of H.protection K.aead ends)) }
+            → AreKeys (policies_of H.protection K.aead R.stream ends)) }
     {
         let (client_config, server_config) = (client.config, server.config);
         let (client_id, server_id) = (client.id, server.id);

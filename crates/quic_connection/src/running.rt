@@ -1,26 +1,31 @@
 //! Runs of two ends over a network: one event at a time, or a list of them.
-ghost use Rattle.std.specs.Prelude.{◌≡◌, ◌++◌, [], length, ◌≤◌, ◌<◌, vec_capacity, slice_get, IsSome, IfOk, OnErr, true, false};
+ghost use Rattle.std.specs.Prelude.{◌≡◌, ◌++◌, [], length, ◌≤◌, ◌<◌, vec_len, vec_capacity, slice_get, IsSome, IfOk, OnErr, true, false};
 ghost use Rattle.quic_wire_core.specs.StreamId.{other_side};
 ghost use Rattle.quic_machine.specs.End.{policy_of, with_end};
-ghost use Rattle.quic_machine.specs.Machine.{IsAnswer, IsLeft, fails, gives, given_by, IsStep, view_of, end_view, Follows};
+ghost use Rattle.quic_machine.specs.Machine.{Policies, IsAnswer, IsLeft, fails, gives, given_by, IsStep, view_of, end_view, Follows};
+ghost use Rattle.quic_machine.specs.CallCases.{is_poll};
 ghost use Rattle.quic_machine.specs.Lacking.{LacksWhere, TakesOfItsOwn};
+ghost use Rattle.quic_machine.specs.Start.{AreStarted};
 ghost use Rattle.quic_time.specs.Timers.{each_timer};
 ghost use Rattle.quic_headline.specs.Causes.{NoBlame, TooManyPieces, NumberLimit, TakenOrTooMany};
-ghost use Rattle.quic_headline.specs.Headline.{CodeIsSmall, AreCodes, OrderedPrefix, Slices, Once, EndAfterAll, BlockedOnlyWithoutBytes, AcceptsAll, FinishedMeansArrived, FinishedIsTold, AcknowledgedWereTaken, NamesWereTaken, OpensExactly, LossTimersFollow, AckTimersFollow, NumbersRise};
+ghost use Rattle.quic_headline.specs.Headline.{CodeIsSmall, AreCodes, OrderedPrefix, Slices, Once, EndAfterAll, BlockedOnlyWithoutBytes, AcceptsAll, FinishedMeansArrived, FinishedIsTold, AcknowledgedWereTaken, NamesWereTaken, OpensExactly, NewestOpens, LossTimersFollow, AckTimersFollow, NumbersRise};
 ghost use Rattle.quic_headline.specs.Amounts.{WritesTakeWhatLimitsAllow};
 ghost use Rattle.quic_headline.specs.Duties.{DutiesStand};
 ghost use Rattle.quic_headline.specs.Grown.{GrownLimitsWait};
+ghost use Rattle.quic_headline.specs.Messages.{MessagesAtMostOnce};
 ghost use Rattle.quic_headline.specs.InFlight.{TracksInFlight};
-ghost use Rattle.quic_headline.specs.Moments.{LossMoments, AckMoments};
-ghost use Rattle.quic_connection.specs.Ends.{world_of, first_world, world_left, policies_of, held_of, OnHonest, AtEachPlace};
+ghost use Rattle.quic_headline.specs.Moments.{LossMoments, LossTimerQuiet, AckMoments};
+ghost use Rattle.quic_connection.specs.Ends.{world_of, first_world, world_left, policies_of, kept, AreOf, GoesOn, GoOn, OnHonest, AtEachPlace};
+ghost use Rattle.quic_connection_core.specs.Drawn.{words_of};
 ghost use Rattle.quic_connection.specs.declared.running.Given.{Given};
 
-use crate::on_streams;
+use crate::{on_messages, on_streams};
+use bytes::Bytes;
 use quic_connection_core::Connection;
 use quic_headline::headline;
 use quic_machine::{
-    Answer, Call, Datagram, Delivery, EndView, Injection, Instant, LostReason, RunEvent, Timer,
-    View,
+    Answer, Call, Datagram, Delivery, EndView, Failed, Injection, Instant, LostReason, RunEvent,
+    Timer, Transmit, View,
 };
 use quic_packet::crypto::{HeaderKey, PacketKey};
 use quic_wire_core::Side;
@@ -74,10 +79,11 @@ pub struct Outcome<H, K, R> {
     pub cut_short: bool,
 }
 
-/// Makes the call of one event, and appends a datagram that it gives. The call answers want of
-/// memory only where it takes some. An error is want of memory of its own, with no call made and
-/// nothing changed: it takes some at each poll, whether that gives a datagram or not, where it
-/// keeps the answers of a read, and where it copies what comes.
+/// Makes the call of one event, and appends a datagram that it gives. The ends keep their keys, and
+/// draw words of their random sources: policies that do what both did before (`AreOf`) do so still.
+/// The call answers want of memory only where it takes some. An error is want of memory of its own,
+/// with no call made and nothing changed: it takes some at each poll, whether that gives a datagram
+/// or not, where it keeps the answers of a read, and where it copies what comes.
 pub fn step<H: HeaderKey + Drop, K: PacketKey + Drop, R: Rng + Drop>(
     alloc: Global,
     ends: &mut Ends<H, K, R>,
@@ -85,12 +91,33 @@ pub fn step<H: HeaderKey + Drop, K: PacketKey + Drop, R: Rng + Drop>(
     event: &RunEvent,
 ) -> Result<Answer, AllocError>
     ensures step { IfOk result (λ a.
-        IsStep (policies_of H.protection K.aead ends.old) (world_of ends.old given.old) event.now a
-        (world_of ends.new given.new)) }
-    ensures keys { policies_of H.protection K.aead ends.new
-        ≡ policies_of H.protection K.aead ends.old }
-    ensures held { held_of ends.new ≡ held_of ends.old }
-    ensures err { OnErr result (world_of ends.new given.new ≡ world_of ends.old given.old) }
+        (k : Policies) → AreOf k H.protection K.aead R.stream ends.old
+        → IsStep k (world_of ends.old given.old) event.now a (world_of ends.new given.new)) }
+    ensures goes_on { GoOn R.stream ends.old ends.new }
+    ensures err { OnErr result (ends.new ≡ ends.old) }
+    ensures err_given { OnErr result (
+        world_of ends.new given.new ≡ world_of ends.old given.old) }
+    ensures own { OnErr result (
+        TakesOfItsOwn (given_by (other_side event.now.side) (world_of ends.old given.old))
+        event.now.call) }
+{
+    make(alloc, ends, given, event)
+}
+
+/// The same, as the keys and the random sources of the ends have it.
+fn make<H: HeaderKey + Drop, K: PacketKey + Drop, R: Rng + Drop>(
+    alloc: Global,
+    ends: &mut Ends<H, K, R>,
+    given: &mut Given,
+    event: &RunEvent,
+) -> Result<Answer, AllocError>
+    ensures step { IfOk result (λ a.
+        IsStep (policies_of H.protection K.aead R.stream ends.old) (world_of ends.old given.old)
+        event.now a (world_of ends.new given.new)) }
+    ensures goes_on { GoOn R.stream ends.old ends.new }
+    ensures err { OnErr result (ends.new ≡ ends.old) }
+    ensures err_given { OnErr result (
+        world_of ends.new given.new ≡ world_of ends.old given.old) }
     ensures own { OnErr result (
         TakesOfItsOwn (given_by (other_side event.now.side) (world_of ends.old given.old))
         event.now.call) }
@@ -122,16 +149,21 @@ fn at_end<H: HeaderKey + Drop, K: PacketKey + Drop, R: Rng + Drop>(
     call: &Call,
 ) -> Result<Answer, AllocError>
     ensures answer { IfOk result (λ a.
-        IsAnswer (policy_of H.protection K.aead end.old) end.old.end theirs.now call.now a) }
+        IsAnswer (policy_of H.protection K.aead (words_of R.stream) end.old) end.old.end theirs.now
+        call.now a) }
     ensures lacking { IfOk result (λ a.
-        LacksWhere (policy_of H.protection K.aead end.old) end.old.end theirs.now call.now a) }
+        LacksWhere (policy_of H.protection K.aead (words_of R.stream) end.old) end.old.end
+        theirs.now call.now a) }
     ensures end { IfOk result (λ a.
-        IsLeft (fails a) (policy_of H.protection K.aead end.old) end.old.end theirs.now call.now a
+        IsLeft (fails a) (policy_of H.protection K.aead (words_of R.stream) end.old) end.old.end
+        theirs.now call.now a
         end.new.end) }
     ensures given { IfOk result (λ a.
         mine.new.items
-        ≡ mine.old.items ++ gives (policy_of H.protection K.aead end.old) end.old.end call.now a) }
-    ensures keys { end.new ≡ with_end end.old end.new.end }
+        ≡ mine.old.items ++ gives (policy_of H.protection K.aead (words_of R.stream) end.old)
+        end.old.end call.now a) }
+    ensures keys { is_poll call.now ≡ false → end.new ≡ with_end end.old end.new.end }
+    ensures polled { is_poll call.now ≡ true → GoesOn R.stream end.old end.new }
     ensures err { OnErr result (end.new ≡ end.old) }
     ensures err_given { OnErr result (mine.new.items ≡ mine.old.items) }
     ensures own { OnErr result (TakesOfItsOwn theirs.now call.now) }
@@ -157,9 +189,11 @@ fn at_end<H: HeaderKey + Drop, K: PacketKey + Drop, R: Rng + Drop>(
         }
         Call::Stop(id, code) => Ok(on_streams::stop(end.streams_mut(), *id, *code)),
         Call::ReceivedReset(id) => Ok(on_streams::received_reset(end.streams_mut(), *id)),
+        Call::Send(message, makes_room) => send_at(alloc, end, message, *makes_room),
+        Call::Recv => Ok(recv_at(end)),
         Call::Ping => Ok(ping_at(end)),
         Call::Poll(now) => poll_at(alloc, end, mine, *now),
-        Call::Timeout(now) => Ok(Answer::Timeout(end.handle_timeout(*now))),
+        Call::Timeout(now) => Ok(timeout_at(end, *now)),
         Call::Deliver(delivery) => deliver_at(alloc, end, theirs, delivery),
         Call::Inject(injection) => inject_at(alloc, end, injection),
         Call::Event => Ok(Answer::Event(end.poll())),
@@ -168,17 +202,70 @@ fn at_end<H: HeaderKey + Drop, K: PacketKey + Drop, R: Rng + Drop>(
     }
 }
 
+/// A copy of a message is sent.
+fn send_at<H: HeaderKey + Drop, K: PacketKey + Drop, R: Rng + Drop>(
+    alloc: Global,
+    end: &mut Connection<H, K, R>,
+    message: &[u8],
+    makes_room: bool,
+) -> Result<Answer, AllocError>
+    ensures answer { IfOk result (λ a.
+        IsAnswer (policy_of H.protection K.aead (words_of R.stream) end.old) end.old.end []
+        (Call.Send message.now makes_room) a) }
+    ensures lacking { IfOk result (λ a.
+        LacksWhere (policy_of H.protection K.aead (words_of R.stream) end.old) end.old.end []
+        (Call.Send message.now makes_room) a) }
+    ensures end { IfOk result (λ a.
+        IsLeft (fails a) (policy_of H.protection K.aead (words_of R.stream) end.old) end.old.end []
+        (Call.Send message.now makes_room) a end.new.end) }
+    ensures given { IfOk result (λ a.
+        gives (policy_of H.protection K.aead (words_of R.stream) end.old) end.old.end
+        (Call.Send message.now makes_room) a ≡ []) }
+    ensures keys { end.new ≡ with_end end.old end.new.end }
+    ensures err { OnErr result (end.new ≡ end.old) }
+{
+    let copy = Bytes::copy_from_slice(alloc, message)?;
+    let limits = end.datagram_limits();
+    Ok(on_messages::send(end.datagrams_mut(), limits, copy, makes_room))
+}
+
+/// A message is read.
+fn recv_at<H: HeaderKey + Drop, K: PacketKey + Drop, R: Rng + Drop>(
+    end: &mut Connection<H, K, R>,
+) -> Answer
+    ensures answer { IsAnswer (policy_of H.protection K.aead (words_of R.stream) end.old)
+        end.old.end [] Call.Recv
+        result }
+    ensures lacking { LacksWhere (policy_of H.protection K.aead (words_of R.stream) end.old)
+        end.old.end [] Call.Recv
+        result }
+    ensures end { IsLeft (fails result) (policy_of H.protection K.aead (words_of R.stream) end.old)
+        end.old.end []
+        Call.Recv result end.new.end }
+    ensures given { gives (policy_of H.protection K.aead (words_of R.stream) end.old) end.old.end
+        Call.Recv result
+        ≡ [] }
+    ensures keys { end.new ≡ with_end end.old end.new.end }
+{
+    let limits = end.datagram_limits();
+    on_messages::recv(end.datagrams_mut(), limits)
+}
+
 /// A PING is asked for.
 fn ping_at<H: HeaderKey + Drop, K: PacketKey + Drop, R: Rng + Drop>(
     end: &mut Connection<H, K, R>,
 ) -> Answer
-    ensures answer { IsAnswer (policy_of H.protection K.aead end.old) end.old.end [] Call.Ping
+    ensures answer { IsAnswer (policy_of H.protection K.aead (words_of R.stream) end.old)
+        end.old.end [] Call.Ping
         result }
-    ensures lacking { LacksWhere (policy_of H.protection K.aead end.old) end.old.end [] Call.Ping
+    ensures lacking { LacksWhere (policy_of H.protection K.aead (words_of R.stream) end.old)
+        end.old.end [] Call.Ping
         result }
-    ensures end { IsLeft (fails result) (policy_of H.protection K.aead end.old) end.old.end []
+    ensures end { IsLeft (fails result) (policy_of H.protection K.aead (words_of R.stream) end.old)
+        end.old.end []
         Call.Ping result end.new.end }
-    ensures given { gives (policy_of H.protection K.aead end.old) end.old.end Call.Ping result
+    ensures given { gives (policy_of H.protection K.aead (words_of R.stream) end.old) end.old.end
+        Call.Ping result
         ≡ [] }
     ensures keys { end.new ≡ with_end end.old end.new.end }
 {
@@ -194,27 +281,61 @@ fn poll_at<H: HeaderKey + Drop, K: PacketKey + Drop, R: Rng + Drop>(
     now: Instant,
 ) -> Result<Answer, AllocError>
     ensures answer { IfOk result (λ a.
-        IsAnswer (policy_of H.protection K.aead end.old) end.old.end [] (Call.Poll now) a) }
+        IsAnswer (policy_of H.protection K.aead (words_of R.stream) end.old) end.old.end []
+        (Call.Poll now) a) }
     ensures lacking { IfOk result (λ a.
-        LacksWhere (policy_of H.protection K.aead end.old) end.old.end [] (Call.Poll now) a) }
+        LacksWhere (policy_of H.protection K.aead (words_of R.stream) end.old) end.old.end []
+        (Call.Poll now) a) }
     ensures end { IfOk result (λ a.
-        IsLeft (fails a) (policy_of H.protection K.aead end.old) end.old.end [] (Call.Poll now) a
+        IsLeft (fails a) (policy_of H.protection K.aead (words_of R.stream) end.old) end.old.end []
+        (Call.Poll now) a
         end.new.end) }
     ensures given { IfOk result (λ a.
         mine.new.items
-        ≡ mine.old.items ++ gives (policy_of H.protection K.aead end.old) end.old.end
+        ≡ mine.old.items ++ gives (policy_of H.protection K.aead (words_of R.stream) end.old)
+        end.old.end
         (Call.Poll now) a) }
-    ensures keys { end.new ≡ with_end end.old end.new.end }
+    ensures goes_on { GoesOn R.stream end.old end.new }
     ensures err { OnErr result (end.new ≡ end.old) }
     ensures err_given { OnErr result (mine.new.items ≡ mine.old.items) }
 {
     mine.reserve(1)?;
     let mut out = Vec::new(alloc);
     let polled = end.poll_transmit(now, &mut out);
-    if let Ok(Some(_)) = polled {
-        mine.push_reserved(Datagram::new(out));
-    }
+    keep(mine, &polled, out);
     Ok(Answer::Poll(polled))
+}
+
+/// Keeps the bytes that a poll gave, if it gave a datagram. There is room for it.
+fn keep(mine: &mut Vec<Datagram>, polled: &Result<Option<Transmit>, Failed>, bytes: Vec<u8>)
+    requires { vec_len mine.old < vec_capacity mine.old }
+    ensures { mine.new.items ≡ mine.old.items ++ kept polled.now bytes.items }
+{
+    match polled {
+        Ok(Some(_)) => mine.push_reserved(Datagram::new(bytes)),
+        Ok(None) | Err(Failed) => {}
+    }
+}
+
+/// The timers up to a moment expire.
+fn timeout_at<H: HeaderKey + Drop, K: PacketKey + Drop, R: Rng + Drop>(
+    end: &mut Connection<H, K, R>,
+    now: Instant,
+) -> Answer
+    ensures answer { IsAnswer (policy_of H.protection K.aead (words_of R.stream) end.old)
+        end.old.end
+        [] (Call.Timeout now) result }
+    ensures lacking { LacksWhere (policy_of H.protection K.aead (words_of R.stream) end.old)
+        end.old.end [] (Call.Timeout now) result }
+    ensures end { IsLeft (fails result)
+        (policy_of H.protection K.aead (words_of R.stream) end.old) end.old.end []
+        (Call.Timeout now) result end.new.end }
+    ensures given { gives (policy_of H.protection K.aead (words_of R.stream) end.old) end.old.end
+        (Call.Timeout now) result
+        ≡ [] }
+    ensures keys { end.new ≡ with_end end.old end.new.end }
+{
+    Answer::Timeout(end.handle_timeout(now))
 }
 
 /// The arrival of a datagram of the other end.
@@ -225,13 +346,15 @@ fn deliver_at<H: HeaderKey + Drop, K: PacketKey + Drop, R: Rng + Drop>(
     delivery: &Delivery,
 ) -> Result<Answer, AllocError>
     ensures answer { IfOk result (λ a.
-        IsAnswer (policy_of H.protection K.aead end.old) end.old.end theirs.now
+        IsAnswer (policy_of H.protection K.aead (words_of R.stream) end.old) end.old.end theirs.now
         (Call.Deliver delivery.entry.now) a) }
     ensures lacking { IfOk result (λ a.
-        LacksWhere (policy_of H.protection K.aead end.old) end.old.end theirs.now
+        LacksWhere (policy_of H.protection K.aead (words_of R.stream) end.old) end.old.end
+        theirs.now
         (Call.Deliver delivery.entry.now) a) }
     ensures end { IfOk result (λ a.
-        IsLeft (fails a) (policy_of H.protection K.aead end.old) end.old.end theirs.now
+        IsLeft (fails a) (policy_of H.protection K.aead (words_of R.stream) end.old) end.old.end
+        theirs.now
         (Call.Deliver delivery.entry.now) a end.new.end) }
     ensures keys { end.new ≡ with_end end.old end.new.end }
     ensures err { OnErr result (end.new ≡ end.old) }
@@ -253,10 +376,10 @@ fn inject_at<H: HeaderKey + Drop, K: PacketKey + Drop, R: Rng + Drop>(
     injection: &Injection,
 ) -> Result<Answer, AllocError>
     ensures answer { IfOk result (λ a.
-        IsAnswer (policy_of H.protection K.aead end.old) end.old.end []
+        IsAnswer (policy_of H.protection K.aead (words_of R.stream) end.old) end.old.end []
         (Call.Inject injection.entry.now) a) }
     ensures end { IfOk result (λ a.
-        IsLeft (fails a) (policy_of H.protection K.aead end.old) end.old.end []
+        IsLeft (fails a) (policy_of H.protection K.aead (words_of R.stream) end.old) end.old.end []
         (Call.Inject injection.entry.now) a end.new.end) }
     ensures keys { end.new ≡ with_end end.old end.new.end }
     ensures err { OnErr result (end.new ≡ end.old) }
@@ -315,69 +438,89 @@ fn view<H: HeaderKey + Drop, K: PacketKey + Drop, R: Rng + Drop>(ends: &Ends<H, 
 }
 
 /// Makes each event's call in turn, once: one answer and one view for each, until memory lacks in
-/// the run itself.
+/// the run itself. The ends keep their keys, and draw the words of their random sources in turn.
 ///
 /// Where a client and a server were made for one another, with keys that are mates, and
-/// applications use their own streams (`IsHonest`), it holds at each place up to which no delivery
-/// and no poll met want of memory: what is read of a stream in order is a prefix of what was
-/// written on it, each chunk that is read stands at its offset in that, no byte comes twice, the
-/// end comes only behind all, a read is blocked only where no byte that it may give stood in a
+/// applications use their own streams (`IsHonest`), it holds at each place up to which no delivery,
+/// no poll and no timeout met want of memory: what is read of a stream in order is a prefix of what
+/// was written on it, each chunk that is read stands at its offset in that, no byte comes twice,
+/// the end comes only behind all, a read is blocked only where no byte that it may give stood in a
 /// packet that was taken, each stream that a frame of such a packet opened is there to be accepted,
 /// a stream is told to be finished only where the other end took all of it, an acknowledgement that
-/// came names only what the other end took, and packet numbers rise. No end closes but for more
-/// than 2048 runs of a stream that wait to be read, or for used-up numbers, and each packet of the
-/// other end that comes is taken whole, but for such runs. No stream is told to be finished twice,
-/// and where an open end has nothing left to tell, each was that is wholly acknowledged and wasn't
-/// reset, and no other; all that was written waits to go, is under way, or arrived, and so does
-/// each limit that was said; a limit that grew waits to be said; a write at an open end takes what
-/// the peer's limits and the send window leave; and an open end waits for exactly
-/// the datagrams that are in flight, shows its loss timer set to the moment that is due for them,
-/// and its timer of acknowledgements to one that is due for a packet that it took and hasn't
-/// acknowledged since. At each place, also where memory lacks, and with any keys, an open end has
-/// its loss timer set exactly where a datagram that asks is waited for, and its timer of
-/// acknowledgements only where a packet that asks came since the last acknowledgement went, if it
-/// began so.
+/// came names only what the other end took, and packet numbers rise, one or two at a time. No end
+/// closes but for more than 2048 runs of a stream that wait to be read, or for used-up numbers, and
+/// each packet of the other end that comes is taken whole, but for such runs; each datagram with a
+/// number above all that the other end took opens there as it was sent. No stream is told to be
+/// finished twice, and where an open end has nothing left to tell, each was that is wholly
+/// acknowledged and wasn't reset, and no other; all that was written waits to go, is under way, or
+/// arrived, and so does each limit that was said; a limit that grew waits to be said; a write at an
+/// open end takes what the peer's limits and the send window leave; a message is received at most
+/// as often as the other end sent it; and an open end tracks exactly the datagrams that it gave and
+/// that are neither acknowledged, nor lost by number or by time, nor forgotten, shows its loss
+/// timer set to the moment that is due for them and its own round trips, and not set once all that
+/// ask were named, and its timer of acknowledgements to one that is due for a packet that it took
+/// and hasn't acknowledged since.
+///
+/// At each place, also where memory lacks, and with any keys, an open end of two that were made for
+/// one another has its loss timer set exactly where it tracks a datagram that asks; and one that
+/// began so has its timer of acknowledgements set only where a packet that asks came since the last
+/// acknowledgement went.
 pub fn run<H: HeaderKey + Drop, K: PacketKey + Drop, R: Rng + Drop>(
     alloc: Global,
     ends: Ends<H, K, R>,
     events: &[RunEvent],
 ) -> Outcome<H, K, R>
-    ensures follows { Follows (policies_of H.protection K.aead ends) (first_world ends) events.now
+    ensures follows { Follows (policies_of H.protection K.aead R.stream ends) (first_world ends)
+        events.now
         result.answers.items result.views.items (world_left result) }
     ensures whole { result.cut_short ≡ false → length result.answers.items ≡ length events.now }
     ensures stopped { result.cut_short ≡ true → length result.answers.items < length events.now }
-    ensures held { held_of result.ends ≡ held_of ends }
-    ensures ordered_prefix { OnHonest H.protection K.aead ends events.now result OrderedPrefix }
-    ensures slices { OnHonest H.protection K.aead ends events.now result Slices }
-    ensures once { OnHonest H.protection K.aead ends events.now result Once }
-    ensures end_after_all { OnHonest H.protection K.aead ends events.now result EndAfterAll }
-    ensures blocked_only_without_bytes { OnHonest H.protection K.aead ends events.now result
+    ensures goes_on { GoOn R.stream ends result.ends }
+    ensures ordered_prefix { OnHonest H.protection K.aead R.stream ends events.now result
+        OrderedPrefix }
+    ensures slices { OnHonest H.protection K.aead R.stream ends events.now result Slices }
+    ensures once { OnHonest H.protection K.aead R.stream ends events.now result Once }
+    ensures end_after_all { OnHonest H.protection K.aead R.stream ends events.now result EndAfterAll }
+    ensures blocked_only_without_bytes { OnHonest H.protection K.aead R.stream ends events.now
+        result
         BlockedOnlyWithoutBytes }
-    ensures accepts_all { OnHonest H.protection K.aead ends events.now result AcceptsAll }
-    ensures finished_means_arrived { OnHonest H.protection K.aead ends events.now result
+    ensures accepts_all { OnHonest H.protection K.aead R.stream ends events.now result AcceptsAll }
+    ensures finished_means_arrived { OnHonest H.protection K.aead R.stream ends events.now result
         FinishedMeansArrived }
-    ensures finished_is_told { OnHonest H.protection K.aead ends events.now result FinishedIsTold }
-    ensures duties_stand { OnHonest H.protection K.aead ends events.now result DutiesStand }
-    ensures grown_limits_wait { OnHonest H.protection K.aead ends events.now result
+    ensures finished_is_told { OnHonest H.protection K.aead R.stream ends events.now result
+        FinishedIsTold }
+    ensures duties_stand { OnHonest H.protection K.aead R.stream ends events.now result DutiesStand }
+    ensures grown_limits_wait { OnHonest H.protection K.aead R.stream ends events.now result
         GrownLimitsWait }
-    ensures writes_take_what_limits_allow { OnHonest H.protection K.aead ends events.now result
+    ensures messages_at_most_once { OnHonest H.protection K.aead R.stream ends events.now result
+        MessagesAtMostOnce }
+    ensures writes_take_what_limits_allow { OnHonest H.protection K.aead R.stream ends events.now
+        result
         WritesTakeWhatLimitsAllow }
-    ensures tracks_in_flight { OnHonest H.protection K.aead ends events.now result TracksInFlight }
-    ensures loss_moments { OnHonest H.protection K.aead ends events.now result LossMoments }
-    ensures ack_moments { OnHonest H.protection K.aead ends events.now result AckMoments }
-    ensures acknowledged_were_taken { OnHonest H.protection K.aead ends events.now result
+    ensures tracks_in_flight { OnHonest H.protection K.aead R.stream ends events.now result
+        TracksInFlight }
+    ensures loss_moments { OnHonest H.protection K.aead R.stream ends events.now result LossMoments }
+    ensures ack_moments { OnHonest H.protection K.aead R.stream ends events.now result AckMoments }
+    ensures acknowledged_were_taken { OnHonest H.protection K.aead R.stream ends events.now result
         AcknowledgedWereTaken }
-    ensures names_were_taken { OnHonest H.protection K.aead ends events.now result NamesWereTaken }
-    ensures opens_exactly { OnHonest H.protection K.aead ends events.now result OpensExactly }
-    ensures loss_timers_follow { AtEachPlace H.protection K.aead ends events.now result
-        LossTimersFollow }
-    ensures ack_timers_follow { AtEachPlace H.protection K.aead ends events.now result
-        AckTimersFollow }
-    ensures numbers_rise { OnHonest H.protection K.aead ends events.now result NumbersRise }
-    ensures no_blame { OnHonest H.protection K.aead ends events.now result NoBlame }
-    ensures too_many_pieces { OnHonest H.protection K.aead ends events.now result TooManyPieces }
-    ensures number_limit { OnHonest H.protection K.aead ends events.now result NumberLimit }
-    ensures taken_or_too_many { OnHonest H.protection K.aead ends events.now result TakenOrTooMany }
+    ensures names_were_taken { OnHonest H.protection K.aead R.stream ends events.now result
+        NamesWereTaken }
+    ensures opens_exactly { OnHonest H.protection K.aead R.stream ends events.now result
+        OpensExactly }
+    ensures newest_opens { OnHonest H.protection K.aead R.stream ends events.now result NewestOpens }
+    ensures loss_timer_quiet { OnHonest H.protection K.aead R.stream ends events.now result
+        LossTimerQuiet }
+    ensures loss_timers_follow { AtEachPlace H.protection K.aead R.stream ends events.now result
+        AreStarted LossTimersFollow }
+    ensures ack_timers_follow { AtEachPlace H.protection K.aead R.stream ends events.now result
+        AckTimersFollow AckTimersFollow }
+    ensures numbers_rise { OnHonest H.protection K.aead R.stream ends events.now result NumbersRise }
+    ensures no_blame { OnHonest H.protection K.aead R.stream ends events.now result NoBlame }
+    ensures too_many_pieces { OnHonest H.protection K.aead R.stream ends events.now result
+        TooManyPieces }
+    ensures number_limit { OnHonest H.protection K.aead R.stream ends events.now result NumberLimit }
+    ensures taken_or_too_many { OnHonest H.protection K.aead R.stream ends events.now result
+        TakenOrTooMany }
 {
     // What every run of the machine keeps: laws, which do nothing.
     headline::ordered_prefix();
@@ -390,6 +533,7 @@ pub fn run<H: HeaderKey + Drop, K: PacketKey + Drop, R: Rng + Drop>(
     headline::finished_is_told();
     headline::duties_stand();
     headline::grown_limits_wait();
+    headline::messages_at_most_once();
     headline::writes_take_what_limits_allow();
     headline::tracks_in_flight();
     headline::loss_moments();
@@ -397,6 +541,8 @@ pub fn run<H: HeaderKey + Drop, K: PacketKey + Drop, R: Rng + Drop>(
     headline::acknowledged_were_taken();
     headline::names_were_taken();
     headline::opens_exactly();
+    headline::newest_opens();
+    headline::loss_timer_quiet();
     headline::loss_timers_follow();
     headline::ack_timers_follow();
     headline::numbers_rise();
@@ -432,11 +578,12 @@ fn run_events<H: HeaderKey + Drop, K: PacketKey + Drop, R: Rng + Drop>(
     mut ends: Ends<H, K, R>,
     events: &[RunEvent],
 ) -> Outcome<H, K, R>
-    ensures follows { Follows (policies_of H.protection K.aead ends) (first_world ends) events.now
+    ensures follows { Follows (policies_of H.protection K.aead R.stream ends) (first_world ends)
+        events.now
         result.answers.items result.views.items (world_left result) }
     ensures whole { result.cut_short ≡ false → length result.answers.items ≡ length events.now }
     ensures stopped { result.cut_short ≡ true → length result.answers.items < length events.now }
-    ensures held { held_of result.ends ≡ held_of ends }
+    ensures goes_on { GoOn R.stream ends result.ends }
 {
     let mut given = Given::new(alloc);
     let mut answers = Vec::new(alloc);

@@ -3,8 +3,8 @@ ghost use Rattle.std.specs.Prelude.{◌≡◌, ◌≤◌, ◌<◌, ◌+◌, ◌�
 ghost use Rattle.quic_wire_core.specs.declared.stream_id.Side.TheVariants.{Client, Server};
 ghost use Rattle.quic_time.specs.Timers.{earlier};
 ghost use Rattle.quic_machine.specs.End.{End};
-ghost use Rattle.quic_machine.specs.Machine.{given_by, gave};
-ghost use Rattle.quic_connection.specs.Ends.{world_of, policies_of, held_of};
+ghost use Rattle.quic_machine.specs.Machine.{Policies, given_by, gave};
+ghost use Rattle.quic_connection.specs.Ends.{world_of, AreOf, GoOn};
 ghost use Rattle.quic_connection.specs.Settled.{Talks, Leads, asks, quiet, polled_on, IsPolled, IsHandled, IsHalfHandled, IsHalfPolled, IsCutOff, AreOpen, AreAtRest, HasClosed, Settles, end_wakes, wakes};
 ghost use Rattle.quic_connection.specs.declared.running.Given.{Given};
 
@@ -39,14 +39,12 @@ pub fn settle<H: HeaderKey + Drop, K: PacketKey + Drop, R: Rng + Drop>(
     given: &mut Given,
     now: Instant,
 ) -> Result<Option<Instant>, AllocError>
-    ensures settles { Settles (policies_of H.protection K.aead ends.old) now
-        (world_of ends.old given.old) result (world_of ends.new given.new) }
-    ensures keys { policies_of H.protection K.aead ends.new
-        ≡ policies_of H.protection K.aead ends.old }
-    ensures held { held_of ends.new ≡ held_of ends.old }
+    ensures settles { (k : Policies) → AreOf k H.protection K.aead R.stream ends.old
+        → Settles k now (world_of ends.old given.old) result (world_of ends.new given.new) }
+    ensures goes_on { GoOn R.stream ends.old ends.new }
     ensures rest { IfOk result (λ moment. IfSome moment (λ moment.
-        AreAtRest (policies_of H.protection K.aead ends.old) now (world_of ends.old given.old)
-        moment (world_of ends.new given.new))) }
+        (k : Policies) → AreOf k H.protection K.aead R.stream ends.old
+        → AreAtRest k now (world_of ends.old given.old) moment (world_of ends.new given.new))) }
     ensures later { IfOk result (λ moment. IfSome moment (λ moment. now ≤ moment)) }
 {
     let mut moment = now;
@@ -73,17 +71,18 @@ fn talk<H: HeaderKey + Drop, K: PacketKey + Drop, R: Rng + Drop>(
     left: &mut u64,
 ) -> Result<bool, AllocError>
     ensures talks { result ≡ Ok true
-        → Talks (policies_of H.protection K.aead ends.old) now now (asks Client false) quiet
+        → (k : Policies) → AreOf k H.protection K.aead R.stream ends.old
+        → Talks k now now (asks Client false) quiet
         left.old left.new (world_of ends.old given.old) (world_of ends.new given.new) }
     ensures stops { result ≡ Ok false
-        → Leads (policies_of H.protection K.aead ends.old) now now (asks Client false) left.old
+        → (k : Policies) → AreOf k H.protection K.aead R.stream ends.old
+        → Leads k now now (asks Client false) left.old
         left.new (world_of ends.old given.old) (world_of ends.new given.new) }
     ensures cut { OnErr result (
-        IsCutOff (policies_of H.protection K.aead ends.old) now (asks Client false) left.old
+        (k : Policies) → AreOf k H.protection K.aead R.stream ends.old
+        → IsCutOff k now (asks Client false) left.old
         (world_of ends.old given.old) (world_of ends.new given.new)) }
-    ensures keys { policies_of H.protection K.aead ends.new
-        ≡ policies_of H.protection K.aead ends.old }
-    ensures held { held_of ends.new ≡ held_of ends.old }
+    ensures goes_on { GoOn R.stream ends.old ends.new }
     ensures less { result ≡ Ok true → left.new < left.old }
     ensures opened { result ≡ Ok true → AreOpen (world_of ends.new given.new) }
     ensures gave_up { result ≡ Ok false → HasClosed (world_of ends.new given.new) ⊎ (left.new ≡ 0) }
@@ -107,19 +106,20 @@ fn round<H: HeaderKey + Drop, K: PacketKey + Drop, R: Rng + Drop>(
     left: &mut u64,
 ) -> Result<Option<bool>, AllocError>
     ensures talks { IfOk result (λ gave. IfSome gave (λ gave.
-        Talks (policies_of H.protection K.aead ends.old) now now (asks Client false)
+        (k : Policies) → AreOf k H.protection K.aead R.stream ends.old
+        → Talks k now now (asks Client false)
         (polled_on Server gave false) left.old left.new (world_of ends.old given.old)
         (world_of ends.new given.new))) }
     ensures stops { IfOk result (λ gave.
         IfNone gave (
-        Leads (policies_of H.protection K.aead ends.old) now now (asks Client false) left.old
+        (k : Policies) → AreOf k H.protection K.aead R.stream ends.old
+        → Leads k now now (asks Client false) left.old
         left.new (world_of ends.old given.old) (world_of ends.new given.new))) }
     ensures cut { OnErr result (
-        IsCutOff (policies_of H.protection K.aead ends.old) now (asks Client false) left.old
+        (k : Policies) → AreOf k H.protection K.aead R.stream ends.old
+        → IsCutOff k now (asks Client false) left.old
         (world_of ends.old given.old) (world_of ends.new given.new)) }
-    ensures keys { policies_of H.protection K.aead ends.new
-        ≡ policies_of H.protection K.aead ends.old }
-    ensures held { held_of ends.new ≡ held_of ends.old }
+    ensures goes_on { GoOn R.stream ends.old ends.new }
     ensures less { IfOk result (λ gave. IfSome gave (λ _. left.new < left.old)) }
     ensures gave_up { IfOk result (λ gave.
         IfNone gave (HasClosed (world_of ends.new given.new) ⊎ (left.new ≡ 0))) }
@@ -145,21 +145,22 @@ fn poll_all<H: HeaderKey + Drop, K: PacketKey + Drop, R: Rng + Drop>(
 ) -> Result<Option<bool>, AllocError>
     ensures talks { IfOk result (λ gave. IfSome gave (λ gave.
         (before : Bool)
-        → Talks (policies_of H.protection K.aead ends.old) now now (asks side before)
+        → (k : Policies) → AreOf k H.protection K.aead R.stream ends.old
+        → Talks k now now (asks side before)
         (polled_on side (before || gave) false) left.old left.new (world_of ends.old given.old)
         (world_of ends.new given.new))) }
     ensures stops { IfOk result (λ gave.
         IfNone gave (
         (before : Bool)
-        → Leads (policies_of H.protection K.aead ends.old) now now (asks side before) left.old
+        → (k : Policies) → AreOf k H.protection K.aead R.stream ends.old
+        → Leads k now now (asks side before) left.old
         left.new (world_of ends.old given.old) (world_of ends.new given.new))) }
     ensures cut { OnErr result (
         (before : Bool)
-        → IsCutOff (policies_of H.protection K.aead ends.old) now (asks side before) left.old
+        → (k : Policies) → AreOf k H.protection K.aead R.stream ends.old
+        → IsCutOff k now (asks side before) left.old
         (world_of ends.old given.old) (world_of ends.new given.new)) }
-    ensures keys { policies_of H.protection K.aead ends.new
-        ≡ policies_of H.protection K.aead ends.old }
-    ensures held { held_of ends.new ≡ held_of ends.old }
+    ensures goes_on { GoOn R.stream ends.old ends.new }
     ensures less { IfOk result (λ gave. IfSome gave (λ _. left.new < left.old)) }
     ensures gave_up { IfOk result (λ gave.
         IfNone gave (HasClosed (world_of ends.new given.new) ⊎ (left.new ≡ 0))) }
@@ -186,15 +187,14 @@ fn poll_once<H: HeaderKey + Drop, K: PacketKey + Drop, R: Rng + Drop>(
     requires some_left { 0 < left.old }
     requires opened { AreOpen (world_of ends.old given.old) }
     ensures polled { IfOk result (λ gave.
-        IsPolled (policies_of H.protection K.aead ends.old) side now gave
+        (k : Policies) → AreOf k H.protection K.aead R.stream ends.old
+        → IsPolled k side now gave
         (world_of ends.old given.old) (world_of ends.new given.new)) }
     ensures cut { OnErr result (
-        (world_of ends.new given.new ≡ world_of ends.old given.old)
-        ⊎ IsHalfPolled (policies_of H.protection K.aead ends.old) side now
-        (world_of ends.old given.old) (world_of ends.new given.new)) }
-    ensures keys { policies_of H.protection K.aead ends.new
-        ≡ policies_of H.protection K.aead ends.old }
-    ensures held { held_of ends.new ≡ held_of ends.old }
+        (k : Policies) → AreOf k H.protection K.aead R.stream ends.old
+        → (world_of ends.new given.new ≡ world_of ends.old given.old)
+        ⊎ IsHalfPolled k side now (world_of ends.old given.old) (world_of ends.new given.new)) }
+    ensures goes_on { GoOn R.stream ends.old ends.new }
     ensures less { IfOk result (λ _. left.new + 1 ≡ left.old) }
 {
     let index = count_given(given, side);
@@ -235,15 +235,14 @@ fn time_out<H: HeaderKey + Drop, K: PacketKey + Drop, R: Rng + Drop>(
     now: Instant,
 ) -> Result<(), AllocError>
     ensures handled { OnOk result (
-        IsHandled (policies_of H.protection K.aead ends.old) now (world_of ends.old given.old)
+        (k : Policies) → AreOf k H.protection K.aead R.stream ends.old
+        → IsHandled k now (world_of ends.old given.old)
         (world_of ends.new given.new)) }
     ensures cut { OnErr result (
-        (world_of ends.new given.new ≡ world_of ends.old given.old)
-        ⊎ IsHalfHandled (policies_of H.protection K.aead ends.old) now (world_of ends.old given.old)
-        (world_of ends.new given.new)) }
-    ensures keys { policies_of H.protection K.aead ends.new
-        ≡ policies_of H.protection K.aead ends.old }
-    ensures held { held_of ends.new ≡ held_of ends.old }
+        (k : Policies) → AreOf k H.protection K.aead R.stream ends.old
+        → (world_of ends.new given.new ≡ world_of ends.old given.old)
+        ⊎ IsHalfHandled k now (world_of ends.old given.old) (world_of ends.new given.new)) }
+    ensures goes_on { GoOn R.stream ends.old ends.new }
 {
     let client = RunEvent {
         side: Side::Client,

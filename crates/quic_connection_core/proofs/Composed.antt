@@ -12,7 +12,7 @@ use Rattle.quic_machine.specs.Tracking.{Carried, acked_in, streams_in, and_again
 use Rattle.quic_machine.specs.End.{End}
 use Rattle.quic_machine.specs.Poll.{Draft, no_frames, ack_of, with_ack, after_ack, ack_fits, ack_if, composed_if, composed, asking}
 use Rattle.quic_connection_core.specs.Frames.{asked, fits_behind, ack_bytes_if, acked_if, end_after_ack_if}
-use Rattle.quic_connection_core.proofs.AboutStreams.{acked_more}
+use Rattle.quic_connection_core.proofs.Content.{acked_more}
 use Rattle.quic_connection_core.proofs.Asking.{behind, asked_behind, asked_names_none}
 
 -- how an ACK frame is written

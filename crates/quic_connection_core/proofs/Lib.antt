@@ -1,13 +1,18 @@
 pub mod Tracked
 pub mod Payloads
 pub mod Headers
-pub mod AckSize
-pub mod Greatest
 pub mod Plain
 pub mod Shifted
-pub mod AboutStreams
+pub mod Fitting
+pub mod Content
 pub mod Asking
 pub mod Composed
+pub mod Words
+pub mod Delays
+pub mod Polls
+pub mod Moved
 pub mod Forms
 mod OnStreams
 mod Lost
+mod Ungiven
+pub mod Probing

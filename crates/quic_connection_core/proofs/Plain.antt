@@ -1,34 +1,86 @@
 -- What the parts of a packet say of the frames that it carries.
-use Rattle.std.proofs.Common.{◌≡◌, ℕ, ◌+◌, ◌-◌, ◌<◌, ◌^◌, ◌++◌, ◌≤◌, List, length, replicate, take, drop, sym, ap, ◌∙◌, arith}
-use Rattle.std.proofs.lemmas.List.{length-append, append_assoc, take-take, take_at}
+use Rattle.std.proofs.Common.{◌≡◌, ℕ, ◌+◌, ◌-◌, ◌<◌, ◌^◌, ◌++◌, ◌≤◌, Bool, true, false, List, length, replicate, take, drop, sym, ap, ◌∙◌, arith}
+use Rattle.std.specs.Prelude.{nat_lt, if◌then◌else◌}
+use Rattle.std.proofs.lemmas.Bool.{and_parts, ltb-true}
+use Rattle.std.proofs.lemmas.List.{length-append, length-replicate, append_assoc, take-take, take_at}
 use Rattle.quic_packet.specs.Number.{truncated}
 use Rattle.quic_packet.specs.Header.{header_bytes}
 use Rattle.quic_packet.specs.Keys.{Protection, Aead, KeepsLength}
 use Rattle.quic_packet.specs.Datagram.{protected, sent}
 use Rattle.quic_packet.proofs.Opening.{sealed_is_sent}
 use Rattle.quic_machine.specs.Ids.{Ids}
-use Rattle.quic_machine.specs.Numbers.{Numbers, cut_against}
+use Rattle.quic_spaces.specs.Numbers.{Numbers, cut_against, can_number}
+use Rattle.quic_spaces.specs.Filter.{Filter, allocated, is_skipped}
 use Rattle.quic_machine.specs.Policy.{Policy}
-use Rattle.quic_machine.specs.End.{End}
-use Rattle.quic_machine.specs.Poll.{composed, payload_of, datagram_of}
+use Rattle.quic_machine.specs.End.{End, number_of}
+use Rattle.quic_machine.specs.Tracking.{Carried, carried_in}
+use Rattle.quic_machine.specs.Poll.{Draft, composed, payload_of, datagram_of, datagram_size, asking, tracked}
+use Rattle.quic_connection_core.specs.Frames.{tracked_as}
 use Rattle.quic_machine.specs.PollCases.{composes}
 
--- what is composed leaves numbers and ids
+-- what is composed leaves numbers, those that are left out, and ids
 pub same_numbers : (e : End) → (composed e).end.numbers ≡ e.numbers
 same_numbers e = (composes e).numbers
+
+pub same_filter : (e : End) → (composed e).end.filter ≡ e.filter
+same_filter e = (composes e).filter
 
 pub same_ids : (e : End) → (composed e).end.ids ≡ e.ids
 same_ids e = (composes e).ids
 
+-- its number is that of the end
+pub same_number : (e : End) → number_of (composed e).end ≡ number_of e
+same_number e = ap (λ (f : Filter). allocated f (composed e).end.numbers.next) (same_filter e) ∙ ap (λ (n : Numbers). allocated e.filter n.next) (same_numbers e)
+
+-- and is cut as that is
+pub same_width : (e : End) → (truncated (number_of (composed e).end) (cut_against (composed e).end.numbers)).width ≡ (truncated (number_of e) (cut_against e.numbers)).width
+same_width e =
+    ap (λ (k : ℕ). (truncated k (cut_against (composed e).end.numbers)).width) (same_number e)
+    ∙ ap (λ (n : Numbers). (truncated (number_of e) (cut_against n)).width) (same_numbers e)
+
 -- its datagram has the number and the id of the end
-pub sent_of : (p : Policy) (e : End) → sent p.header p.packet e.numbers.next (cut_against e.numbers) e.ids.active.id (payload_of (composed e)) ≡ datagram_of p (composed e)
+pub sent_of : (p : Policy) (e : End) → sent p.header p.packet (number_of e) (cut_against e.numbers) e.ids.active.id (payload_of (composed e)) ≡ datagram_of p (composed e)
 sent_of p e =
-    ap (λ (n : Numbers). sent p.header p.packet n.next (cut_against n) e.ids.active.id (payload_of (composed e))) (sym (same_numbers e))
-    ∙ ap (λ (i : Ids). sent p.header p.packet (composed e).end.numbers.next (cut_against (composed e).end.numbers) i.active.id (payload_of (composed e))) (sym (same_ids e))
+    let payload : List ℕ = payload_of (composed e) in
+    ap (λ (k : ℕ). sent p.header p.packet k (cut_against e.numbers) e.ids.active.id payload) (sym (same_number e))
+    ∙ ap (λ (n : Numbers). sent p.header p.packet (number_of (composed e).end) (cut_against n) e.ids.active.id payload) (sym (same_numbers e))
+    ∙ ap (λ (i : Ids). sent p.header p.packet (number_of (composed e).end) (cut_against (composed e).end.numbers) i.active.id payload) (sym (same_ids e))
 
 -- its payload is padded for the number of the end
-pub payload_is : (e : End) → payload_of (composed e) ≡ (composed e).bytes ++ replicate (4 - ((truncated e.numbers.next (cut_against e.numbers)).width + length (composed e).bytes)) 0
-payload_is e = ap (λ (n : Numbers). (composed e).bytes ++ replicate (4 - ((truncated n.next (cut_against n)).width + length (composed e).bytes)) 0) (same_numbers e)
+pub payload_is : (e : End) → payload_of (composed e) ≡ (composed e).bytes ++ replicate (4 - ((truncated (number_of e) (cut_against e.numbers)).width + length (composed e).bytes)) 0
+payload_is e = ap (λ (k : ℕ). (composed e).bytes ++ replicate (4 - (k + length (composed e).bytes)) 0) (same_width e)
+
+-- how many bytes it has
+pub size_is : (e : End) → datagram_size (composed e) ≡ 1 + length e.ids.active.id + (truncated (number_of e) (cut_against e.numbers)).width + length (payload_of (composed e)) + 16
+size_is e =
+    ap (λ (i : Ids). 1 + length i.active.id + (truncated (number_of (composed e).end) (cut_against (composed e).end.numbers)).width + length (payload_of (composed e)) + 16) (same_ids e)
+    ∙ ap (λ (k : ℕ). 1 + length e.ids.active.id + k + length (payload_of (composed e)) + 16) (same_width e)
+
+-- how many bytes its payload has
+pub payload_long : (e : End) → length (payload_of (composed e)) ≡ length (composed e).bytes + (4 - ((truncated (number_of e) (cut_against e.numbers)).width + length (composed e).bytes))
+payload_long e =
+    let pad : ℕ = 4 - ((truncated (number_of e) (cut_against e.numbers)).width + length (composed e).bytes) in
+    ap length (payload_is e) ∙ length-append (composed e).bytes (replicate pad 0) ∙ ap (λ (k : ℕ). length (composed e).bytes + k) (length-replicate pad 0)
+
+-- it is tracked as its parts say
+pub tracked_is : (d : Draft) (asks : Bool) (size : ℕ) (carried : Carried) → asks ≡ asking d.frames → size ≡ datagram_size d → carried ≡ carried_in d.frames → tracked_as asks size carried d.end ≡ tracked d
+tracked_is d asks size carried a s c =
+    ap (λ (b : Bool). tracked_as b size carried d.end) a
+    ∙ ap (λ (k : ℕ). tracked_as (asking d.frames) k carried d.end) s
+    ∙ ap (λ (x : Carried). tracked_as (asking d.frames) (datagram_size d) x d.end) c
+
+-- ---- numbers
+
+-- where an end can number, its number has a form, and lies near the greatest that was acknowledged
+pub numbers_near : (f : Filter) (n : Numbers) → can_number n ≡ true → (allocated f n.next < 2 ^ 62) × (allocated f n.next - cut_against n < 2 ^ 31)
+numbers_near f n can = go (is_skipped f n.next)
+  where
+    both : (n.next + 16 < 2 ^ 62) × (n.next - cut_against n + 16 < 2 ^ 31)
+    both = let s = and_parts (nat_lt (n.next + 16) (2 ^ 62)) (nat_lt (n.next - cut_against n + 16) (2 ^ 31)) can in (ltb-true (n.next + 16) (2 ^ 62) s.0, ltb-true (n.next - cut_against n + 16) (2 ^ 31) s.1)
+
+    go : (b : Bool) → ((if b then n.next + 1 else n.next) < 2 ^ 62) × ((if b then n.next + 1 else n.next) - cut_against n < 2 ^ 31)
+    go true = let one = both.0 in let two = both.1 in (omega arith, omega arith)
+    go false = let one = both.0 in let two = both.1 in (omega arith, omega arith)
 
 -- ---- a packet
 
@@ -46,6 +98,11 @@ plain_of front before header whole padded bytes width wide len body b l s n w p 
     let zeros : ℕ → List ℕ = λ (k : ℕ). replicate (4 - k) 0 in
     let pad = zeros (width + length bytes) in
     p ∙ ap (λ (k : ℕ). whole ++ zeros k) long ∙ ap (λ (z : List ℕ). z ++ pad) w ∙ append_assoc before bytes pad ∙ ap (λ (z : List ℕ). z ++ (bytes ++ pad)) b ∙ append_assoc front header (bytes ++ pad)
+
+-- it has as many bytes as its datagram, but for the tag
+pub size_of : (size id width wide payload bytes old header frames whole body : ℕ) → size ≡ 1 + id + width + payload + 16 → payload ≡ bytes + (4 - (width + bytes)) → wide ≡ width
+    → header ≡ old + (1 + id + wide) → body ≡ header → frames ≡ header + bytes → whole ≡ frames + (4 - (wide + (frames - body))) → whole + 16 ≡ old + size
+size_of size id width wide payload bytes old header frames whole body s p w h b f z = omega (arith, s, p, w, h, b, f, z)
 
 -- sealed, it is the datagram of its payload
 pub sealed_of : (protection : Protection) (aead : Aead) → KeepsLength protection.hide

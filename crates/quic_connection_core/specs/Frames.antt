@@ -1,45 +1,68 @@
 -- What the frames that are sent say, and which bytes stand behind so many others.
-use Rattle.std.specs.Prelude.{ℕ, ◌+◌, ◌-◌, Bool, true, false, ◌&&◌, nat_le, List, [], ◌∷◌, ◌++◌, map, length, Option, Some, None}
-use Rattle.quic_wire.specs.Value.{FrameValue, AckValue, ack, ping, stream}
-use Rattle.quic_wire.specs.AckSet.{ack_of_set}
+use Rattle.std.specs.Prelude.{ℕ, ◌+◌, ◌-◌, Bool, true, false, ◌&&◌, nat_le, if◌then◌else◌, List, [], ◌∷◌, ◌++◌, map, length, Option, Some, None}
+use Rattle.quic_wire.specs.Value.{FrameValue, ack, ping, stream, datagram}
 use Rattle.quic_wire.specs.Writing.{spelling, spelled_all, frame_size}
-use Rattle.quic_recovery_core.specs.PendingAcks.{Pending, is_filled}
+use Rattle.quic_recovery_core.specs.PendingAcks.{is_filled}
 use Rattle.quic_retransmits.specs.Retransmits.{Retransmits, nothing_waits}
 use Rattle.quic_streams_state.specs.declared.state.StreamsState.{StreamsState}
 use Rattle.quic_streams_state.specs.State.{Streams, streams_of}
 use Rattle.quic_streams_state.specs.Control as control
 use Rattle.quic_streams_state.specs.Frames as of_streams
-use Rattle.quic_machine.specs.Acknowledging.{delay_at}
-use Rattle.quic_machine.specs.Tracking.{Carried, after_sent}
+use Rattle.quic_messages.specs.Messages.{frame_bytes}
+use Rattle.quic_machine.specs.Tracking.{Carried, TrackedPacket, after_sent}
 use Rattle.quic_machine.specs.Poll.{Draft, frame_room, ack_of, after_ack}
-use Rattle.quic_machine.specs.End.{End, with_tracking, with_streams, with_ping}
+use Rattle.quic_machine.specs.End.{End, number_of, with_tracking, with_streams, with_queued, with_ping}
 
--- ---- frames about streams, behind so many bytes of a payload that may have so many in all
+-- ---- messages, and frames about streams, behind so many bytes of a payload that may have so many in all
 
--- those but for STREAM, and what they leave
+-- those of control, and what they leave
 unfoldable pub control_part : ℕ → ℕ → StreamsState → Retransmits → control.Draft
 control_part most used s p = control.control_frames most used s p nothing_waits
 
--- the STREAM frames behind them
-unfoldable pub stream_part : Bool → ℕ → ℕ → StreamsState → Retransmits → of_streams.Sent
-stream_part fair most used s p = of_streams.stream_frames_in fair (most - (used + length (spelled_all (control_part most used s p).frames))) (control_part most used s p).state
+-- of messages that wait, the oldest that fit one behind another (RFC 9221, section 5)
+unfoldable pub message_part : ℕ → ℕ → List (List ℕ) → List (List ℕ)
+message_part most used [] = []
+message_part most used (m ∷ ms) = if nat_le (used + frame_bytes m) most then m ∷ message_part most (used + frame_bytes m) ms else []
 
--- both: the frames, how they are written, and the streams that they leave
-pub record AboutStreams : Type 0 where
+-- those that stay
+unfoldable pub messages_left : ℕ → ℕ → List (List ℕ) → List (List ℕ)
+messages_left most used [] = []
+messages_left most used (m ∷ ms) = if nat_le (used + frame_bytes m) most then messages_left most (used + frame_bytes m) ms else m ∷ ms
+
+-- how many bytes stand there once frames of control went
+abbrev pub behind_control : ℕ → ℕ → StreamsState → Retransmits → ℕ
+behind_control most used s p = used + length (spelled_all (control_part most used s p).frames)
+
+-- the frames of the messages behind those of control
+unfoldable pub message_frames : ℕ → ℕ → StreamsState → Retransmits → List (List ℕ) → List FrameValue
+message_frames most used s p ms = map datagram (message_part most (behind_control most used s p) ms)
+
+-- the STREAM frames behind them
+unfoldable pub stream_part : Bool → ℕ → ℕ → StreamsState → Retransmits → List (List ℕ) → of_streams.Sent
+stream_part fair most used s p ms = of_streams.stream_frames_in fair (most - (behind_control most used s p + length (spelled_all (message_frames most used s p ms)))) (control_part most used s p).state
+
+-- all of them: the frames, how they are written, and the streams and the messages that they leave
+pub record Content : Type 0 where
   pub frames : List FrameValue
   pub bytes : List ℕ
   pub streams : Streams
+  pub outgoing : List (List ℕ)
 
-unfoldable pub about_streams : Bool → ℕ → ℕ → StreamsState → Retransmits → AboutStreams
-about_streams fair most used s p = record {
-  frames = (control_part most used s p).frames ++ map stream (stream_part fair most used s p).frames;
-  bytes = spelled_all (control_part most used s p).frames ++ (stream_part fair most used s p).bytes;
-  streams = streams_of (stream_part fair most used s p).state (control_part most used s p).pending;
+unfoldable pub content : Bool → ℕ → ℕ → StreamsState → Retransmits → List (List ℕ) → Content
+content fair most used s p ms = record {
+  frames = (control_part most used s p).frames ++ (message_frames most used s p ms ++ map stream (stream_part fair most used s p ms).frames);
+  bytes = spelled_all (control_part most used s p).frames ++ (spelled_all (message_frames most used s p ms) ++ (stream_part fair most used s p ms).bytes);
+  streams = streams_of (stream_part fair most used s p ms).state (control_part most used s p).pending;
+  outgoing = messages_left most (behind_control most used s p) ms;
 }
 
 -- those of an end
-abbrev pub about_streams_at : End → ℕ → AboutStreams
-about_streams_at e used = about_streams e.fair (frame_room e) used e.streams e.waiting.frames
+abbrev pub content_at : End → ℕ → Content
+content_at e used = content e.transport.send_fairness (frame_room e) used e.streams e.waiting.frames e.messages.queues.outgoing
+
+-- the end that they leave
+abbrev pub with_content : End → Content → End
+with_content e c = with_queued (with_streams e c.streams) (record e.messages.queues { outgoing = c.outgoing })
 
 -- ---- PING
 
@@ -64,23 +87,15 @@ pinged e = end_after_ping_if e.waiting.ping e
 
 -- ---- what asks
 
--- what asks for an acknowledgement behind so many bytes of a payload: PING, and frames about streams behind it; how they are written, and the end that they leave
+-- what asks for an acknowledgement behind so many bytes of a payload: PING, and the others behind it; how they are written, and the end that they leave
 unfoldable pub asked : End → ℕ → Draft
 asked e used = record {
-  frames = ping_list e.waiting.ping ++ (about_streams_at (pinged e) (used + length (ping_bytes e.waiting.ping))).frames;
-  bytes = ping_bytes e.waiting.ping ++ (about_streams_at (pinged e) (used + length (ping_bytes e.waiting.ping))).bytes;
-  end = with_streams (pinged e) (about_streams_at (pinged e) (used + length (ping_bytes e.waiting.ping))).streams;
+  frames = ping_list e.waiting.ping ++ (content_at (pinged e) (used + length (ping_bytes e.waiting.ping))).frames;
+  bytes = ping_bytes e.waiting.ping ++ (content_at (pinged e) (used + length (ping_bytes e.waiting.ping))).bytes;
+  end = with_content (pinged e) (content_at (pinged e) (used + length (ping_bytes e.waiting.ping)));
 }
 
 -- ---- ACK
-
--- what an ACK frame says at a moment
-abbrev pub ack_at : Pending → ℕ → AckValue
-ack_at p now = ack_of_set (delay_at p now) p.runs None
-
--- the most bytes of an ACK frame with 64 ranges and no counts: its type, four numbers, and two for each further range
-abbrev pub most_ack_bytes : ℕ
-most_ack_bytes = 1041
 
 -- whether there is a number to acknowledge, and its frame fits where so many bytes are used
 abbrev pub fits_behind : End → ℕ → Bool
@@ -103,7 +118,10 @@ abbrev pub acked_if : Bool → End → Option ℕ
 acked_if true e = Some (ack_of e).largest
 acked_if false e = None
 
--- the end after a datagram that carries this, where it asks for an acknowledgement or doesn't
-abbrev pub tracked_as : Bool → Carried → End → End
-tracked_as true carried e = with_tracking e (after_sent e.tracking e.numbers.next e.path.generation e.closing.clock carried)
-tracked_as false carried e = e
+-- a packet of so many bytes as it is tracked, which asks for an acknowledgement or doesn't, and carries this
+abbrev pub packet_as : Bool → ℕ → Carried → End → TrackedPacket
+packet_as asks size carried e = record { generation = e.path.generation; time_sent = e.closing.clock; size = if asks then size else 0; asks = asks; carried = carried }
+
+-- the end after it went
+abbrev pub tracked_as : Bool → ℕ → Carried → End → End
+tracked_as asks size carried e = with_tracking e (after_sent e.tracking (number_of e) (packet_as asks size carried e))

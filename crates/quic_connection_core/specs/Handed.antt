@@ -1,8 +1,13 @@
--- An end whose streams were lent, and come back.
+-- An end whose streams or messages were lent, and come back.
 use Rattle.quic_streams_handles.specs.declared.end_streams.EndStreams.{EndStreams}
 use Rattle.quic_streams_state.specs.State.{streams_of}
-use Rattle.quic_machine.specs.End.{ConnectionValue, with_end, with_streams}
+use Rattle.quic_messages.specs.Messages.{Messages}
+use Rattle.quic_machine.specs.End.{ConnectionValue, with_end, with_streams, with_queued}
 
 -- an end whose streams are left so by whoever borrowed them
 abbrev pub handed_back : {H K R : Type 0} → ConnectionValue H K R → EndStreams → ConnectionValue H K R
 handed_back w s = with_end w (with_streams w.end (streams_of s.state s.pending))
+
+-- an end whose messages are left so by whoever borrowed them
+abbrev pub messages_back : {H K R : Type 0} → ConnectionValue H K R → Messages → ConnectionValue H K R
+messages_back w queues = with_end w (with_queued w.end queues)

@@ -2,5 +2,5 @@ pub mod Frames
 pub mod Faults
 pub mod Given
 pub mod Handed
-pub mod Views
 pub mod Tracked
+pub mod Drawn

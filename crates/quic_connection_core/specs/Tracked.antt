@@ -1,74 +1,43 @@
--- Which tracked packets an ACK frame takes out, and which are found lost.
-use Rattle.std.specs.Prelude.{◌≡◌, ℕ, ◌≤◌, Bool, true, not, ◌&&◌, nat_le, List, [], ◌∷◌, map, filter}
-use Rattle.std.specs.List.{list_any}
-use Rattle.std.specs.List.Sorted.{IsStrictlySortedBy}
-use Rattle.std.specs.Map.{keys_of}
-use Rattle.std.specs.Ordering.{nat_cmp}
-use Rattle.quic_wire.specs.AckGrammar.{Below}
+-- Which tracked packets are acknowledged and which are found lost, and what that makes of an end and of its streams alone.
+use Rattle.std.specs.Prelude.{◌≡◌, ◌≢◌, ℕ, ◌-◌, true, List, [], ◌∷◌, Option, Some, None, IsSome}
+use Rattle.quic_wire.specs.Value.{AckValue}
 use Rattle.quic_send_buffer.specs.declared.stream_meta.StreamMeta.{StreamMeta}
-use Rattle.quic_streams_parts.specs.Table.{Table}
 use Rattle.quic_retransmits.specs.Retransmits.{merged}
 use Rattle.quic_streams_state.specs.declared.state.StreamsState.{StreamsState}
 use Rattle.quic_streams_state.specs.State.{Streams, streams_of}
 use Rattle.quic_streams_state.specs.Acked.{after_stream_acked, after_stream_lost, after_reset_acked}
-use Rattle.quic_machine.specs.Tracking.{TrackedPacket, Carried, Tracking, is_below}
-use Rattle.quic_machine.specs.End.{End}
-use Rattle.quic_machine.specs.Acked.{packet_acked}
+use Rattle.quic_sent_packets.specs.Packets.{from}
+use Rattle.quic_time.specs.Rtt.{with_sample}
+use Rattle.quic_time.specs.Timers.{has_come}
+use Rattle.quic_machine.specs.Tracking.{TrackedPacket, Carried, Tracking, Verdict, lost_by, kept_by}
+use Rattle.quic_machine.specs.End.{End, with_tracking, with_rtt}
+use Rattle.quic_machine.specs.Acked.{verdict, packets_lost, told_delay}
 
--- the numbers ascend
-abbrev pub Ascends : Table TrackedPacket → Type 0
-Ascends packets = IsStrictlySortedBy nat_cmp (keys_of packets)
+-- ---- packets that are lost
 
--- the packets without their numbers
-abbrev pub packets_in : Table TrackedPacket → List TrackedPacket
-packets_in packets = map (λ p. p.1) packets
-
--- whether a number lies between two others
-abbrev pub is_within : ℕ → ℕ → ℕ → Bool
-is_within low high n = nat_le low n && nat_le n high
-
--- the packets whose numbers lie there
-abbrev pub within : ℕ → ℕ → Table TrackedPacket → Table TrackedPacket
-within low high packets = filter (λ p. is_within low high p.0) packets
-
--- the others
-abbrev pub outside : ℕ → ℕ → Table TrackedPacket → Table TrackedPacket
-outside low high packets = filter (λ p. not (is_within low high p.0)) packets
-
--- whether one of these ranges has a number
-abbrev pub is_among : List (ℕ × ℕ) → ℕ → Bool
-is_among ranges n = list_any (λ r. is_within r.0 r.1 n) ranges
-
--- the packets whose numbers the ranges have
-abbrev pub among : List (ℕ × ℕ) → Table TrackedPacket → Table TrackedPacket
-among ranges packets = filter (λ p. is_among ranges p.0) packets
-
--- the others
-abbrev pub apart_from : List (ℕ × ℕ) → Table TrackedPacket → Table TrackedPacket
-apart_from ranges packets = filter (λ p. not (is_among ranges p.0)) packets
-
--- each range lies below the one before it
-abbrev pub Descends : List (ℕ × ℕ) → Type 0
-Descends [] = Unit {0}
-Descends (r ∷ rs) = (r.0 ≤ r.1) × Below r.0 rs
-
--- the first packet is lost, where this is the greatest number that was acknowledged, and was taken out
-pub record PopsLost (greatest : ℕ) (packet : TrackedPacket) (old new : Tracking) : Type 0 where
-  pub number : ℕ
-  pub first : old.packets ≡ (number, packet) ∷ new.packets
-  pub lost : is_below greatest number ≡ true
+-- the first packet that a verdict finds lost is taken out, and below its number none is lost then
+pub record TakesLost (v : Verdict) (p : ℕ × TrackedPacket) (old new : Tracking) : Type 0 where
+  pub first : lost_by v old.packets ≡ p ∷ lost_by v new.packets
+  pub kept : kept_by v new.packets ≡ kept_by v old.packets
+  pub behind : lost_by v (from p.0 new.packets) ≡ lost_by v new.packets
   pub others : new ≡ record old { packets = new.packets }
 
--- ---- an end under an ACK frame
+-- the end once the packets are lost that a verdict finds so: the others stay tracked
+abbrev pub after_losses : Verdict → End → End
+after_losses v e = with_tracking (packets_lost (lost_by v e.tracking.packets) e) (record e.tracking { packets = kept_by v e.tracking.packets })
 
--- packets are acknowledged, one after another
-abbrev pub all_acked : List TrackedPacket → End → End
-all_acked [] e = e
-all_acked (p ∷ ps) e = all_acked ps (packet_acked p e)
+-- the loss timer has come at the moment of an end, was set for a packet that may be lost by time, and a packet is lost
+pub record LosesByTime (e : End) : Type 0 where
+  pub come : has_come e.timers.loss_detection e.closing.clock ≡ true
+  pub set : IsSome e.tracking.loss_time
+  pub some : lost_by (verdict e) e.tracking.packets ≢ []
 
--- the end with other tracked packets, and the loss timer as it was
-abbrev pub with_tracked : End → Tracking → End
-with_tracked e t = record e { tracking = t }
+-- ---- the round trip
+
+-- the end with the round trip of a packet that went at a moment as one more sample, if there is one
+abbrev pub sampled_at : Option ℕ → AckValue → End → End
+sampled_at None a e = e
+sampled_at (Some sent) a e = with_rtt e (with_sample e.path.rtt (told_delay e a) (e.closing.clock - sent))
 
 -- ---- what an ACK frame makes of streams alone
 

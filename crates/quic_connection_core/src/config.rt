@@ -12,11 +12,12 @@ use std::marker::Model;
 
 /// The configuration of an end. Contracts see its settings.
 ///
-/// At this stage an end acts on the windows for what it receives, on the send window, on the counts
-/// of streams that the peer may have open at once, and on whether streams of one priority take
-/// turns. It tells the peer of the other settings that have a transport parameter, and doesn't act
-/// on them yet: it has no idle timeout, takes no messages, and an ACK_FREQUENCY frame changes
-/// nothing.
+/// An end acts on the windows for what it receives, on the send window, on the counts of streams
+/// that the peer may have open at once, on whether streams of one priority take turns, on how many
+/// bytes of messages may wait to be read and to be sent, on the thresholds by which packets count
+/// as lost, and on the round trip that is assumed at first. Of the sizes of datagrams it only judges
+/// whether they can be. It tells the peer of the other settings that have a transport parameter, and
+/// doesn't act on them: it has no idle timeout, and an ACK_FREQUENCY frame changes nothing.
 #[derive(Clone, Copy, Debug)]
 pub struct Config {
     transport: TransportConfig,

@@ -1,42 +1,44 @@
 //! One end of a connection (RFC 9000).
-ghost use Rattle.std.specs.Prelude.{◌≡◌, ◌≢◌, ◌<◌, ◌^◌, ◌↔◌, false, IfOk, OnOk, OnErr, IfErr, IsTrue, Some, None, option_copied, if◌then◌else◌};
+ghost use Rattle.std.specs.Prelude.{◌≡◌, ◌≢◌, ◌*◌, ◌<◌, ◌^◌, ◌↔◌, false, IfOk, OnOk, OnErr, IfErr, IsTrue, Some, None, option_copied, if◌then◌else◌};
 ghost use Rattle.quic_parameters.specs.Parameters.{AreInRange};
 ghost use Rattle.quic_parameters.specs.ParametersRead.{parameters_at};
 ghost use Rattle.quic_machine.specs.declared.answers.State.TheVariants as states;
-ghost use Rattle.quic_machine.specs.End.{MadeFrom, refusal_of, with_end, with_closing, closed_by, with_numbers, with_ping, side_of, first_streams, HasFailed};
+ghost use Rattle.quic_machine.specs.End.{MadeFrom, refusal_of, with_end, with_closing, closed_by, with_numbers, with_loss_timer, with_ping, side_of, first_streams, are_sizes_wrong, peer_delay, probe_timeout, HasFailed};
+ghost use Rattle.quic_spaces.specs.Filter.{first_filter};
+ghost use Rattle.quic_connection_core.specs.Drawn.{words_of, after_words};
 ghost use Rattle.quic_retransmits.specs.Retransmits.{nothing_waits};
 ghost use Rattle.quic_machine.specs.Closing.{ticked};
 ghost use Rattle.quic_machine.specs.Poll.{waits};
 ghost use Rattle.quic_machine.specs.Receive.{after_taken};
 ghost use Rattle.quic_machine.specs.Calls.{is_open, end_after_ping};
-ghost use Rattle.quic_machine.specs.Numbers.{can_number, number_opened};
+ghost use Rattle.quic_spaces.specs.Numbers.{can_number, number_opened};
 ghost use Rattle.quic_recovery_core.specs.Duplicates.{is_duplicate};
 ghost use Rattle.quic_time.specs.Timers.{no_timers};
 
 mod acked;
-mod acknowledging;
 mod closing;
 mod ids;
-mod numbers;
+mod messages;
 mod receiving;
 mod sending;
+mod statistics;
 mod stream_frames;
 mod timeouts;
-mod tracking;
 
 use crate::config::Config;
-use crate::connection::acknowledging::{Acknowledging, ack_due};
 use crate::connection::closing::Closing;
 use crate::connection::ids::{Ids, OWN_ID_LENGTH};
-use crate::connection::numbers::Numbers;
-use crate::connection::tracking::Tracking;
-use quic_machine::{ConfigError, Instant, LostReason, State};
+use quic_config::MAX_UDP_PAYLOAD;
+use quic_machine::{ConfigError, Instant, LostReason, State, TransportConfig};
+use quic_messages::DatagramState;
 use quic_packet::crypto::{HeaderKey, Keys, PacketKey};
 use quic_parameters::TransportParameters;
 use quic_retransmits::Retransmits;
+use quic_spaces::{PacketNumberFilter, PacketSpace, ack_due};
+use quic_stats::ConnectionStats;
 use quic_streams_handles::{EndStreams, RecvStream, SendStream, Streams};
 use quic_streams_state::StreamsState;
-use quic_time::{Timer, TimerTable};
+use quic_time::{Duration, RttEstimator, Timer, TimerTable};
 use quic_wire_core::{ConnectionId, Side, StreamId};
 use rand_core::Rng;
 use std::alloc::{AllocError, Global};
@@ -71,6 +73,34 @@ fn first_streams(
     }
 }
 
+/// Whether the sizes of datagrams can't be: more than a UDP payload may have, or more on each path
+/// than the peer takes (RFC 9000, section 18.2).
+fn are_sizes_wrong(config: &Config, theirs: &TransportParameters) -> bool
+    ensures { result ≡ are_sizes_wrong config.now theirs.now }
+{
+    let transport = config.transport();
+    let least = transport.get_min_mtu();
+    transport.get_initial_mtu() > MAX_UDP_PAYLOAD
+        || u64::from(least) > theirs.max_udp_payload_size.into_inner()
+}
+
+/// How long a peer that told this may hold an acknowledgement back (RFC 9000, section 18.2).
+fn told_ack_delay(theirs: &TransportParameters) -> Duration
+    requires { AreInRange theirs.now }
+    ensures { result ≡ theirs.now.max_ack_delay * 1000000 }
+{
+    Duration::from_nanos(theirs.max_ack_delay.into_inner() * 1_000_000)
+}
+
+/// Which packet number is left out first, by a word of the random source.
+#[tactic(auto, unfolding(rand_core::specs::Stream::next_u64))]
+fn first_filter<R: Rng>(random: &mut R) -> PacketNumberFilter
+    ensures value { result ≡ first_filter (words_of R.stream random.old 0) }
+    ensures random { R.stream random.new ≡ after_words 1 (R.stream random.old) }
+{
+    PacketNumberFilter::new(random)
+}
+
 /// One end of a connection: a deterministic state machine of datagrams, moments and application
 /// calls (quinn-proto's `Connection`, without handshake and sockets).
 ///
@@ -79,25 +109,34 @@ fn first_streams(
 pub struct Connection<H, K, R> {
     closing: Closing,
     ids: Ids,
-    numbers: Numbers,
-    acknowledging: Acknowledging,
+    // The only packet number space there is: that of short headers.
+    space: PacketSpace,
+    // Which packet numbers are left out.
+    filter: PacketNumberFilter,
     timers: TimerTable,
-    tracking: Tracking,
     validated: bool,
+    // How long a round trip takes on the path.
+    rtt: RttEstimator,
+    transport: TransportConfig,
+    // What the peer told of itself.
+    peer_params: TransportParameters,
     // All streams, and what waits to be sent beside their bytes.
     streams: EndStreams,
-    // Whether streams of one priority take turns.
-    fair: bool,
-    // Whether a PING waits to be sent.
-    ping_pending: bool,
+    // All messages, and how often the application has still to be told that one came.
+    datagrams: DatagramState,
+    messages_to_tell: u64,
+    // What was counted. Contracts don't see it.
+    stats: ConnectionStats,
     keys: Keys<H, K>,
     random: R,
     alloc: Global,
 }
 
 impl<H, K, R> Model for Connection<H, K, R> {
+    ghost use Rattle.std.specs.Prelude.{◌≡◌, false};
+    ghost use Rattle.quic_parameters.specs.Parameters.{AreInRange};
     ghost use Rattle.quic_machine.specs.End.{ConnectionValue};
-    ghost use Rattle.quic_machine.specs.Parts.{first_path, no_messages};
+    ghost use Rattle.quic_machine.specs.Parts.{least_path_size};
 
     ghost Value = { ConnectionValue H K R };
 
@@ -107,17 +146,22 @@ impl<H, K, R> Model for Connection<H, K, R> {
       end = record {
         closing = c.closing;
         ids = c.ids;
-        numbers = c.numbers;
-        acknowledging = c.acknowledging;
+        numbers = c.space.numbers;
+        filter = c.filter;
+        acknowledging = c.space.acknowledging;
         timers = c.timers;
-        tracking = c.tracking;
-        path = first_path c.validated;
+        tracking = c.space.tracking;
+        path = record { validated = c.validated; generation = 0; size = least_path_size; rtt = c.rtt };
+        transport = c.transport;
+        peer_params = c.peer_params;
         streams = c.streams.state;
-        fair = c.fair;
-        messages = no_messages;
-        waiting = record { ping = c.ping_pending; frames = c.streams.pending };
+        messages = record { queues = c.datagrams; to_tell = c.messages_to_tell };
+        waiting = record { ping = c.space.ping_pending; frames = c.streams.pending };
       };
     } };
+
+    // Nothing asks for IMMEDIATE_ACK yet.
+    ghost invariant = { λ c. (c.space.immediate_ack_pending ≡ false) × AreInRange c.peer_params };
 }
 
 impl<H: HeaderKey + Drop, K: PacketKey + Drop, R: Rng + Drop> Connection<H, K, R> {
@@ -126,7 +170,8 @@ impl<H: HeaderKey + Drop, K: PacketKey + Drop, R: Rng + Drop> Connection<H, K, R
     /// `keys.header.local` and `keys.packet.local` seal, the peer's `remote` ones open, and the
     /// other way round. `validated` says whether the peer's address is validated already (RFC 9000,
     /// section 8): `is_validated` tells it, and nothing is held back for want of it yet. `random`
-    /// is the end's random source, which no call draws from yet.
+    /// is the end's random source: a word of it says which packet number is left out first, and
+    /// each time that one is left out, another word says which is next (RFC 9000, section 21.4).
     ///
     /// The errors are tested in the order in which [`ConfigError`] lists them. Memory never lacks:
     /// none is taken.
@@ -142,11 +187,11 @@ impl<H: HeaderKey + Drop, K: PacketKey + Drop, R: Rng + Drop> Connection<H, K, R
         random: R,
         validated: bool,
     ) -> Result<Connection<H, K, R>, ConfigError>
-        ensures made { IfOk result (λ c. MadeFrom side config.now peer_parameters.now own_id peer_id now validated c.end) }
+        ensures made { IfOk result (λ c. MadeFrom side config.now peer_parameters.now own_id peer_id now validated (words_of R.stream random 0) c.end) }
         ensures keys { IfOk result (λ c. c.keys ≡ keys) }
-        ensures random { IfOk result (λ c. c.random ≡ random) }
-        ensures refusal { IfErr result (λ e. Some e ≡ refusal_of (parameters_at peer_parameters.now) own_id peer_id) }
-        ensures lawful { OnOk result (refusal_of (parameters_at peer_parameters.now) own_id peer_id ≡ None) }
+        ensures random { IfOk result (λ c. R.stream c.random ≡ after_words 1 (R.stream random)) }
+        ensures refusal { IfErr result (λ e. Some e ≡ refusal_of config.now (parameters_at peer_parameters.now) own_id peer_id) }
+        ensures lawful { OnOk result (refusal_of config.now (parameters_at peer_parameters.now) own_id peer_id ≡ None) }
     {
         let Ok(theirs) = TransportParameters::read(side, peer_parameters) else {
             return Err(ConfigError::Parameters);
@@ -154,17 +199,26 @@ impl<H: HeaderKey + Drop, K: PacketKey + Drop, R: Rng + Drop> Connection<H, K, R
         if own_id.as_slice().len() != OWN_ID_LENGTH || peer_id.as_slice().is_empty() {
             return Err(ConfigError::IdLength);
         }
+        if are_sizes_wrong(config, &theirs) {
+            return Err(ConfigError::Size);
+        }
+        let transport = config.transport();
+        let mut random = random;
+        let filter = first_filter(&mut random);
         Ok(Connection {
             closing: Closing::new(now),
             ids: Ids::new(own_id, peer_id),
-            numbers: Numbers::new(),
-            acknowledging: Acknowledging::new(alloc),
+            space: PacketSpace::new(alloc, now),
+            filter,
             timers: TimerTable::default(),
-            tracking: Tracking::new(alloc),
             validated,
+            rtt: RttEstimator::new(transport.get_initial_rtt()),
+            transport,
+            peer_params: theirs,
             streams: first_streams(alloc, side, config, &theirs),
-            fair: config.transport().get_send_fairness(),
-            ping_pending: false,
+            datagrams: DatagramState::new(alloc),
+            messages_to_tell: 0,
+            stats: ConnectionStats::default(),
             keys,
             random,
             alloc,
@@ -185,7 +239,8 @@ impl<H: HeaderKey + Drop, K: PacketKey + Drop, R: Rng + Drop> Connection<H, K, R
         self.closing.state() == State::Drained
     }
 
-    /// Whether the end met want of memory where a datagram was taken or given.
+    /// Whether the end met want of memory where a datagram was taken or given, or packets were lost
+    /// at a timeout.
     pub fn is_failed(&self) -> bool
         ensures { IsTrue result ↔ (self.now.end.closing.state ≡ states.Failed) }
     {
@@ -228,7 +283,7 @@ impl<H: HeaderKey + Drop, K: PacketKey + Drop, R: Rng + Drop> Connection<H, K, R
         ensures answer { result ≡ is_duplicate self.old.end.numbers.opened number }
         ensures next { self.new ≡ with_end self.old (with_numbers self.old.end (if is_duplicate self.old.end.numbers.opened number then self.old.end.numbers else number_opened self.old.end.numbers number)) }
     {
-        self.numbers.open(number)
+        self.space.numbers.open(number)
     }
 
     /// The whole payload of a packet of this number was taken, which asks for an acknowledgement or
@@ -240,14 +295,40 @@ impl<H: HeaderKey + Drop, K: PacketKey + Drop, R: Rng + Drop> Connection<H, K, R
         ensures err { OnErr result (self.new ≡ self.old) }
     {
         let now = self.closing.clock();
-        let waits = self
+        let space = &mut self.space;
+        let waits = space
             .acknowledging
-            .take(number, now, asks, self.numbers.dedup())?;
-        self.numbers.take(number);
+            .take(number, now, asks, space.numbers.dedup())?;
+        space.numbers.take(number);
         if waits {
             self.timers.set(Timer::MaxAckDelay, ack_due(now));
         }
+        self.set_loss_timer();
         Ok(())
+    }
+
+    /// How long the peer may hold an acknowledgement back, as it told (RFC 9000, section 18.2).
+    fn peer_delay(&self) -> Duration
+        ensures { result ≡ peer_delay self.now.end }
+    {
+        told_ack_delay(&self.peer_params)
+    }
+
+    /// How long an acknowledgement is waited for before a probe goes (RFC 9002, section 6.2.1).
+    fn probe_timeout(&self) -> Duration
+        ensures { result ≡ probe_timeout self.now.end }
+    {
+        self.rtt.pto_base() + self.peer_delay()
+    }
+
+    /// Sets the loss timer to where what is tracked puts it, or stops it.
+    fn set_loss_timer(&mut self)
+        ensures { self.new ≡ with_end self.old (with_loss_timer self.old.end) }
+    {
+        match self.space.tracking.loss_moment(self.probe_timeout()) {
+            Some(moment) => self.timers.set(Timer::LossDetection, moment),
+            None => self.timers.stop(Timer::LossDetection),
+        }
     }
 
     /// Asks for a PING, so that the peer acknowledges (RFC 9000, section 19.2). Two before it goes
@@ -255,7 +336,7 @@ impl<H: HeaderKey + Drop, K: PacketKey + Drop, R: Rng + Drop> Connection<H, K, R
     pub fn ping(&mut self)
         ensures { self.new ≡ with_end self.old (end_after_ping self.old.end) }
     {
-        self.ping_pending = true;
+        self.space.ping_pending = true;
     }
 
     /// Whether the end is the client or the server.
@@ -293,16 +374,17 @@ impl<H: HeaderKey + Drop, K: PacketKey + Drop, R: Rng + Drop> Connection<H, K, R
     fn can_number(&self) -> bool
         ensures { result ≡ can_number self.now.end.numbers }
     {
-        self.numbers.can_number()
+        self.space.numbers.can_number()
     }
 
     /// Whether anything waits to be sent.
     fn has_waiting(&self) -> bool
         ensures { result ≡ waits self.now.end }
     {
-        self.acknowledging.is_due()
-            || self.ping_pending
+        self.space.acknowledging.is_due()
+            || self.space.ping_pending
             || !self.streams.pending.is_empty(&self.streams.state)
+            || self.message_waits()
             || self.streams.state.can_send_stream_data()
     }
 
@@ -311,8 +393,8 @@ impl<H: HeaderKey + Drop, K: PacketKey + Drop, R: Rng + Drop> Connection<H, K, R
         ensures waited { result ≡ self.old.end.waiting.ping }
         ensures end { self.new ≡ with_end self.old (with_ping self.old.end false) }
     {
-        let waited = self.ping_pending;
-        self.ping_pending = false;
+        let waited = self.space.ping_pending;
+        self.space.ping_pending = false;
         waited
     }
 }

@@ -1,24 +1,28 @@
-//! What an ACK frame makes of an end: packets are acknowledged, and others lost (RFC 9000, section 13.1; RFC 9002,
-//! section 6.1).
-ghost use Rattle.std.specs.Prelude.{◌≡◌, reverse, OnOk};
+//! What an ACK frame makes of an end: packets are acknowledged, a round trip is measured, and other
+//! packets are lost (RFC 9000, section 13.1; RFC 9002, sections 5 and 6.1).
+ghost use Rattle.std.specs.Prelude.{◌≡◌, ◌≢◌, [], reverse, ◌&&◌, None, if◌then◌else◌, IfSome, IfNone, OnOk, OnErr};
+ghost use Rattle.std.specs.Option.{option_map};
 ghost use Rattle.quic_retransmits.specs.Kept.{made};
 ghost use Rattle.quic_retransmits.specs.Retransmits.{merged};
 ghost use Rattle.quic_streams_state.specs.State.{streams_of};
 ghost use Rattle.quic_streams_state.specs.Acked.{after_stream_acked};
-ghost use Rattle.quic_machine.specs.End.{with_end, with_tracking};
-ghost use Rattle.quic_machine.specs.Numbers.{cut_against};
-ghost use Rattle.quic_machine.specs.Tracking.{lost_below, kept_above};
-ghost use Rattle.quic_machine.specs.Acked.{without_known, carried_acked, carried_lost, packets_lost, after_acked};
-ghost use Rattle.quic_connection_core.specs.Tracked.{all_acked, with_tracked, with_resets_acked, with_frames_acked, with_carried_acked, with_frames_lost, with_carried_lost};
+ghost use Rattle.quic_streams_parts.specs.Table.{at};
+ghost use Rattle.quic_sent_packets.specs.Packets.{asks_any, from};
+ghost use Rattle.quic_machine.specs.End.{with_end};
+ghost use Rattle.quic_machine.specs.Tracking.{lost_by, kept_by};
+ghost use Rattle.quic_machine.specs.Acked.{without_known, carried_acked, carried_lost, packets_acked, packets_lost, verdict, losses_detected, told_delay, after_acked};
+ghost use Rattle.quic_connection_core.specs.Tracked.{TakesLost, sampled_at, after_losses, with_resets_acked, with_frames_acked, with_carried_acked, with_frames_lost, with_carried_lost};
 
 use crate::connection::Connection;
-use crate::connection::tracking::{Carried, SentPacket};
-use quic_machine::Timer;
+use quic_machine::Instant;
 use quic_packet::crypto::{HeaderKey, PacketKey};
 use quic_retransmits::{Retransmits, ThinRetransmits};
 use quic_send_buffer::StreamMeta;
+use quic_sent_packets::SentPacket;
+use quic_spaces::{Tracking, Verdict};
 use quic_streams_handles::EndStreams;
 use quic_streams_state::StreamsState;
+use quic_time::Duration;
 use quic_wire::frame::Ack;
 use rand_core::Rng;
 use std::alloc::AllocError;
@@ -41,7 +45,8 @@ fn on_kept_acked(streams: &mut EndStreams, mut kept: ThinRetransmits)
     }
 }
 
-/// A STREAM frame is acknowledged: where its stream is wholly acknowledged then, its end too, the application is to be told so.
+/// A STREAM frame is acknowledged: where its stream is wholly acknowledged then, its end too, the
+/// application is to be told so.
 fn on_stream_acked(streams: &mut EndStreams, frame: &StreamMeta) -> Result<(), AllocError>
     ensures { OnOk result (streams_of streams.new.state streams.new.pending ≡ after_stream_acked streams.old.state streams.old.pending frame.now) }
 {
@@ -58,16 +63,17 @@ fn on_streams_acked(streams: &mut EndStreams, frames: &[StreamMeta]) -> Result<(
     Ok(())
 }
 
-/// What a packet carried of streams is acknowledged: the bytes, ends and resets that it carried never go again. An error is want
-/// of memory.
-fn on_carried_acked(streams: &mut EndStreams, carried: Carried) -> Result<(), AllocError>
-    ensures { OnOk result (streams_of streams.new.state streams.new.pending ≡ with_carried_acked carried (streams_of streams.old.state streams.old.pending)) }
+/// What a packet carried of streams is acknowledged: the bytes, ends and resets that it carried
+/// never go again. An error is want of memory.
+fn on_carried_acked(streams: &mut EndStreams, packet: SentPacket) -> Result<(), AllocError>
+    ensures { OnOk result (streams_of streams.new.state streams.new.pending ≡ with_carried_acked packet.carried (streams_of streams.old.state streams.old.pending)) }
 {
-    on_kept_acked(streams, carried.retransmits);
-    on_streams_acked(streams, carried.stream_frames.as_slice())
+    on_kept_acked(streams, packet.retransmits);
+    on_streams_acked(streams, packet.stream_frames.as_slice())
 }
 
-/// The STREAM frames of a packet are lost: what they carried goes again. An error is want of memory.
+/// The STREAM frames of a packet are lost: what they carried goes again. An error is want of
+/// memory.
 fn on_streams_lost(state: &mut StreamsState, frames: &[StreamMeta]) -> Result<(), AllocError>
     ensures { OnOk result (state.new ≡ with_frames_lost frames.now state.old) }
 {
@@ -87,75 +93,168 @@ fn on_kept_lost(pending: &mut Retransmits, kept: &ThinRetransmits) -> Result<(),
     }
 }
 
-/// What a packet carried is lost: it goes again. Its acknowledgement doesn't, since a later one says more. An error is want of
-/// memory.
-fn on_carried_lost(streams: &mut EndStreams, carried: &Carried) -> Result<(), AllocError>
-    ensures { OnOk result (streams_of streams.new.state streams.new.pending ≡ with_carried_lost carried.now (streams_of streams.old.state streams.old.pending)) }
+/// What a packet carried is lost: it goes again. Its acknowledgement doesn't, since a later one
+/// says more. An error is want of memory.
+fn on_carried_lost(streams: &mut EndStreams, packet: &SentPacket) -> Result<(), AllocError>
+    ensures { OnOk result (streams_of streams.new.state streams.new.pending ≡ with_carried_lost packet.now.carried (streams_of streams.old.state streams.old.pending)) }
 {
-    on_streams_lost(&mut streams.state, carried.stream_frames.as_slice())?;
-    on_kept_lost(&mut streams.pending, &carried.retransmits)
+    on_streams_lost(&mut streams.state, packet.stream_frames.as_slice())?;
+    on_kept_lost(&mut streams.pending, &packet.retransmits)
+}
+
+/// Whether one of these packets asks for an acknowledgement.
+fn asks_any(packets: &[(u64, SentPacket)]) -> bool
+    ensures { result ≡ asks_any packets.now }
+{
+    packets.iter().any(|(_, packet)| packet.ack_eliciting)
+}
+
+/// When the packet with the greatest number of an ACK frame went, if its round trip is measured:
+/// that number lies above all that were named before, and one of the newly acknowledged packets
+/// asks for an acknowledgement (RFC 9002, section 5.1).
+fn if_measured(rises: bool, sent: Option<Instant>, acked: &[(u64, SentPacket)]) -> Option<Instant>
+    ensures { result ≡ (if rises && asks_any acked.now then sent else None) }
+{
+    if rises && asks_any(acked) { sent } else { None }
+}
+
+/// Takes out the first lost packet, where none below `low` is lost: there may be one from there on.
+fn take_lost(tracking: &mut Tracking, low: u64, verdict: &Verdict) -> Option<(u64, SentPacket)>
+    requires { lost_by verdict.now (from low tracking.old.packets) ≡ lost_by verdict.now tracking.old.packets }
+    ensures taken { IfSome result (λ p. TakesLost verdict.now p tracking.old tracking.new) }
+    ensures none { IfNone result (lost_by verdict.now tracking.old.packets ≡ []) }
+    ensures same { IfNone result (tracking.new ≡ tracking.old) }
+{
+    let number = tracking.next_lost(low, verdict)?;
+    // The proof reads that the numbers ascend.
+    let _packet = tracking.packets().get(number);
+    let packet = tracking.take(number)?;
+    Some((number, packet))
 }
 
 impl<H: HeaderKey + Drop, K: PacketKey + Drop, R: Rng + Drop> Connection<H, K, R> {
-    /// Takes an ACK frame whose greatest number is counted already: the tracked packets that it names are acknowledged, those
-    /// far below the greatest that was ever named are lost, and the loss timer follows. One that names no tracked packet
-    /// changes nothing. An error is want of memory; the end is of no more use then.
-    pub(crate) fn on_ack_received(&mut self, frame: &Ack<'_>) -> Result<(), AllocError>
-        ensures ok { OnOk result (self.new ≡ with_end self.old (after_acked frame.now self.old.end)) }
+    /// Takes an ACK frame whose greatest number is counted already, and lies above all that were
+    /// named before or doesn't. The tracked packets that it names are acknowledged, the round trip
+    /// is measured where it can be, and packets that are late by number or by time are lost. One
+    /// that names no tracked packet changes nothing. An error is want of memory; the end is of no
+    /// more use then.
+    pub(crate) fn on_ack_received(&mut self, frame: &Ack<'_>, rises: bool) -> Result<(), AllocError>
+        ensures ok { OnOk result (self.new ≡ with_end self.old (after_acked rises frame.now self.old.end)) }
         ensures others { self.new ≡ with_end self.old self.new.end }
     {
+        let sent = self.sent_at(frame.largest());
         let mut acked = Vec::new(self.alloc);
-        self.tracking.take_named(frame, &mut acked)?;
+        self.space.tracking.take_named(frame, &mut acked)?;
         if acked.is_empty() {
             return Ok(());
         }
+        let sent = if_measured(rises, sent, &acked);
         self.on_packets_acked(acked)?;
-        self.on_packets_lost()?;
-        self.tracking.answered();
-        self.set_loss_timer();
+        self.update_rtt(frame, sent);
+        self.detect_lost_packets()?;
+        self.space.tracking.answered();
         Ok(())
     }
 
-    /// Packets are acknowledged, the last of the list first: they came with the greatest number first.
-    fn on_packets_acked(&mut self, mut acked: Vec<SentPacket>) -> Result<(), AllocError>
-        ensures ok { OnOk result (self.new ≡ with_end self.old (all_acked (reverse acked.items) self.old.end)) }
+    /// When the tracked packet of this number went, if there is one.
+    fn sent_at(&self, number: u64) -> Option<Instant>
+        ensures { result ≡ option_map (λ p. p.time_sent) (at self.now.end.tracking.packets number) }
+    {
+        Some(self.space.tracking.packets().get(number)?.time_sent)
+    }
+
+    /// Packets are acknowledged, the last of the list first: they came with the greatest number
+    /// first.
+    fn on_packets_acked(&mut self, mut acked: Vec<(u64, SentPacket)>) -> Result<(), AllocError>
+        ensures ok { OnOk result (self.new ≡ with_end self.old (packets_acked (reverse acked.items) self.old.end)) }
         ensures others { self.new ≡ with_end self.old self.new.end }
     {
-        while let Some(packet) = acked.pop() {
-            self.on_packet_acked(packet.carried)?;
+        while let Some((_, packet)) = acked.pop() {
+            self.on_packet_acked(packet)?;
         }
         Ok(())
     }
 
-    /// The peer knows that the numbers up to one came, if a packet that came acknowledged any: they need no more
-    /// acknowledgement.
+    /// The peer knows that the numbers up to one came, if a packet that came acknowledged any: they
+    /// need no more acknowledgement.
     fn forget_known(&mut self, largest_acked: Option<u64>)
         ensures { self.new ≡ with_end self.old (without_known largest_acked self.old.end) }
     {
         if let Some(largest) = largest_acked {
-            self.acknowledging.forget(largest);
+            self.space.acknowledging.forget(largest);
         }
     }
 
-    /// A packet that carried this is acknowledged: the numbers that its ACK frame named need no more acknowledgement, and what
-    /// it carried of streams never goes again.
-    fn on_packet_acked(&mut self, carried: Carried) -> Result<(), AllocError>
-        ensures ok { OnOk result (self.new ≡ with_end self.old (carried_acked carried self.old.end)) }
+    /// A packet is acknowledged: the numbers that its ACK frame named need no more acknowledgement,
+    /// and what it carried of streams never goes again.
+    fn on_packet_acked(&mut self, packet: SentPacket) -> Result<(), AllocError>
+        ensures ok { OnOk result (self.new ≡ with_end self.old (carried_acked packet.carried self.old.end)) }
         ensures others { self.new ≡ with_end self.old self.new.end }
     {
-        self.forget_known(carried.largest_acked);
-        on_carried_acked(&mut self.streams, carried)?;
+        self.forget_known(packet.largest_acked);
+        on_carried_acked(&mut self.streams, packet)?;
         Ok(())
     }
 
-    /// The packets far below the greatest number that was ever named are lost: what they carried goes again.
-    fn on_packets_lost(&mut self) -> Result<(), AllocError>
-        ensures ok { OnOk result (self.new ≡ with_end self.old (with_tracked (packets_lost (lost_below (cut_against self.old.end.numbers) self.old.end.tracking.packets) self.old.end) (record self.old.end.tracking { packets = kept_above (cut_against self.old.end.numbers) self.old.end.tracking.packets }))) }
-        ensures others { self.new ≡ with_end self.old self.new.end }
+    /// Takes the round trip of a packet that went at this moment as a sample, if there is one (RFC
+    /// 9002, section 5).
+    fn update_rtt(&mut self, frame: &Ack<'_>, sent: Option<Instant>)
+        ensures { self.new ≡ with_end self.old (sampled_at sent frame.now self.old.end) }
     {
-        let greatest = self.numbers.reference();
-        while let Some(packet) = self.tracking.pop_lost(greatest) {
+        if let Some(sent) = sent {
+            let delay = self.told_delay(frame);
+            let rtt = self.closing.clock().saturating_duration_since(sent);
+            self.rtt.update(delay, rtt);
+        }
+    }
+
+    /// How long the peer says that it held an acknowledgement back, but no longer than it may (RFC
+    /// 9002, section 5.3; RFC 9000, section 19.3).
+    fn told_delay(&self, frame: &Ack<'_>) -> Duration
+        ensures { result ≡ told_delay self.now.end frame.now }
+    {
+        let exponent = self.peer_params.ack_delay_exponent.into_inner();
+        let micros = frame.delay().saturating_mul(1 << exponent);
+        Duration::from_micros(micros).min(self.peer_delay())
+    }
+
+    /// How late a packet may be at this moment (RFC 9002, section 6.1).
+    fn verdict(&self) -> Verdict
+        ensures { result ≡ verdict self.now.end }
+    {
+        let (numerator, denominator) = self.transport.get_time_threshold();
+        Verdict::new(
+            self.space.numbers.reference(),
+            u64::from(self.transport.get_packet_threshold()),
+            (u64::from(numerator), u64::from(denominator)),
+            &self.rtt,
+            self.closing.clock(),
+        )
+    }
+
+    /// The packets that are late by number or by time are lost: what they carried goes again (RFC
+    /// 9002, section 6.1). An error is want of memory; the end is of no more use then.
+    pub(crate) fn detect_lost_packets(&mut self) -> Result<(), AllocError>
+        ensures ok { OnOk result (self.new ≡ with_end self.old (losses_detected self.old.end)) }
+        ensures others { self.new ≡ with_end self.old self.new.end }
+        ensures lacking { OnErr result (lost_by (verdict self.old.end) self.old.end.tracking.packets ≢ []) }
+    {
+        let verdict = self.verdict();
+        self.on_packets_lost(&verdict)?;
+        self.space.tracking.detected(&verdict);
+        Ok(())
+    }
+
+    /// The packets that a verdict finds lost are: what they carried goes again.
+    fn on_packets_lost(&mut self, verdict: &Verdict) -> Result<(), AllocError>
+        ensures ok { OnOk result (self.new ≡ with_end self.old (after_losses verdict.now self.old.end)) }
+        ensures others { self.new ≡ with_end self.old self.new.end }
+        ensures lacking { OnErr result (lost_by verdict.now self.old.end.tracking.packets ≢ []) }
+    {
+        let mut low = 0;
+        while let Some((number, packet)) = take_lost(&mut self.space.tracking, low, verdict) {
             self.on_packet_lost(&packet)?;
+            low = number;
         }
         Ok(())
     }
@@ -165,17 +264,8 @@ impl<H: HeaderKey + Drop, K: PacketKey + Drop, R: Rng + Drop> Connection<H, K, R
         ensures ok { OnOk result (self.new ≡ with_end self.old (carried_lost packet.now.carried self.old.end)) }
         ensures others { self.new ≡ with_end self.old self.new.end }
     {
-        on_carried_lost(&mut self.streams, &packet.carried)?;
+        self.count_lost(packet.size);
+        on_carried_lost(&mut self.streams, packet)?;
         Ok(())
-    }
-
-    /// Sets the loss timer to where what is tracked puts it, or stops it.
-    pub(crate) fn set_loss_timer(&mut self)
-        ensures { self.new ≡ with_end self.old (with_tracking self.old.end self.old.end.tracking) }
-    {
-        match self.tracking.moment() {
-            Some(moment) => self.timers.set(Timer::LossDetection, moment),
-            None => self.timers.stop(Timer::LossDetection),
-        }
     }
 }

@@ -1,5 +1,5 @@
 //! Taking a datagram (RFC 9000, sections 5.2, 12 and 13.1).
-ghost use Rattle.std.specs.Prelude.{◌≡◌, ◌≢◌, ◌+◌, ◌≤◌, ◌<◌, ◌^◌, length, slice_range, Some, None, IfSome, IfNone, IfOk, OnOk, MatchResult};
+ghost use Rattle.std.specs.Prelude.{◌≡◌, ◌≢◌, ◌+◌, ◌≤◌, ◌<◌, ◌^◌, length, slice_range, true, false, Some, None, IfSome, IfNone, IfOk, IfErr, OnOk, MatchResult};
 ghost use Rattle.quic_wire.specs.Items.{items};
 ghost use Rattle.quic_packet.specs.Destination.{decoded, fixed_length_id};
 ghost use Rattle.quic_machine.specs.Ids.{known};
@@ -7,7 +7,8 @@ ghost use Rattle.quic_time.specs.Timers.{no_timers};
 ghost use Rattle.quic_wire.specs.FrameView.{frame_view, item_view};
 ghost use Rattle.quic_machine.specs.End.{with_end, policy_of, closed_by, HasFailed};
 ghost use Rattle.quic_machine.specs.Opens.{own_id_length, would_open};
-ghost use Rattle.quic_machine.specs.Receive.{received, opened_to, processed, fault_of_breach, plain_error, take_ack, take_frame, take_item, take_items, take_payload, item_asks, asks_in, opening, error_of, reason_of, drop_of, violation};
+ghost use Rattle.quic_machine.specs.Receive.{is_above, names_ungiven, received, opened_to, processed, fault_of_breach, plain_error, take_ack, take_frame, take_item, take_items, take_payload, item_asks, asks_in, opening, error_of, reason_of, drop_of, violation};
+ghost use Rattle.quic_connection_core.specs.Drawn.{words_of};
 ghost use Rattle.quic_connection_core.specs.Faults.{fault_view, TakesAs, TakesAllAs, TakesPacketAs, HasForm, ItemHasForm};
 ghost use Rattle.quic_machine.specs.Lacking.{TakesFrames};
 
@@ -96,25 +97,26 @@ impl<H: HeaderKey + Drop, K: PacketKey + Drop, R: Rng + Drop> Connection<H, K, R
     /// Takes a datagram that came at this moment with this mark, opening it in place (RFC 9000,
     /// sections 5.2 and 12).
     ///
-    /// A datagram that is dropped changes nothing, but that the new number of one that a closing
-    /// end opened counts as seen. Where it breaks a rule, the end closes; the frames before keep
-    /// their effect, and its number isn't taken. Where memory lacks, the end fails for good. Its
-    /// number is to be acknowledged once all its frames were taken. Marks are not read yet. The
-    /// datagram's bytes may be changed; to what isn't said.
+    /// A datagram that is dropped changes nothing but what [`stats`](Self::stats) counts, and that
+    /// the new number of one that a closing end opened counts as seen. Where it breaks a rule, the
+    /// end closes; the frames before keep their effect, and its number isn't taken. Where memory
+    /// lacks, the end fails for good. Its number is to be acknowledged once all its frames were
+    /// taken. Marks are not read yet. The datagram's bytes may be changed; to what isn't said.
     pub fn receive(
         &mut self,
         now: Instant,
         ecn: Option<EcnCodepoint>,
         datagram: &mut [u8],
     ) -> Received
-        ensures answer { result ≢ Received.Failed → result ≡ (received (policy_of H.protection K.aead self.old) self.old.end now datagram.old).answer }
-        ensures end { result ≢ Received.Failed → self.new ≡ with_end self.old (received (policy_of H.protection K.aead self.old) self.old.end now datagram.old).end }
+        ensures answer { result ≢ Received.Failed → result ≡ (received (policy_of H.protection K.aead (words_of R.stream) self.old) self.old.end now datagram.old).answer }
+        ensures end { result ≢ Received.Failed → self.new ≡ with_end self.old (received (policy_of H.protection K.aead (words_of R.stream) self.old) self.old.end now datagram.old).end }
         ensures failed { result ≡ Received.Failed → HasFailed self.old self.new }
         ensures before { result ≡ Received.Failed → self.old.end.closing.state ≢ State.Failed }
         ensures stopped { result ≡ Received.Failed → self.new.end.timers ≡ no_timers }
-        ensures lacking { result ≡ Received.Failed → TakesFrames (received (policy_of H.protection K.aead self.old) self.old.end now datagram.old).answer }
+        ensures lacking { result ≡ Received.Failed → TakesFrames (received (policy_of H.protection K.aead (words_of R.stream) self.old) self.old.end now datagram.old).answer }
     {
         let _ = ecn;
+        self.stats.udp_rx.on_datagram(datagram.len());
         match self.state() {
             State::Failed => return Received::Dropped(DropReason::Failed),
             State::Drained => return Received::Dropped(DropReason::Drained),
@@ -142,7 +144,7 @@ impl<H: HeaderKey + Drop, K: PacketKey + Drop, R: Rng + Drop> Connection<H, K, R
     /// phase is 0. It is opened in place, so `scratch` is a copy of it, whose bytes may be changed;
     /// the end stays as it is.
     pub fn would_open(&self, scratch: &mut [u8]) -> bool
-        ensures { result ≡ would_open (policy_of H.protection K.aead self.now) self.now.end scratch.old }
+        ensures { result ≡ would_open (policy_of H.protection K.aead (words_of R.stream) self.now) self.now.end scratch.old }
     {
         if self.destination_of(scratch).is_err() {
             return false;
@@ -157,13 +159,13 @@ impl<H: HeaderKey + Drop, K: PacketKey + Drop, R: Rng + Drop> Connection<H, K, R
     fn unprotect(&self, datagram: &mut [u8]) -> Result<Opened, NotOpened>
         requires { own_id_length + 21 ≤ length datagram.old }
         ensures opened { MatchResult result
-            (λ o. opening (policy_of H.protection K.aead self.now) self.now.end datagram.old ≡ Some (record { first = o.first; number = o.number; payload = slice_range datagram.new o.start o.end }))
-            (λ _. opening (policy_of H.protection K.aead self.now) self.now.end datagram.old ≡ None) }
+            (λ o. opening (policy_of H.protection K.aead (words_of R.stream) self.now) self.now.end datagram.old ≡ Some (record { first = o.first; number = o.number; payload = slice_range datagram.new o.start o.end }))
+            (λ _. opening (policy_of H.protection K.aead (words_of R.stream) self.now) self.now.end datagram.old ≡ None) }
         ensures number { IfOk result (λ o. o.number < 2 ^ 62) }
         ensures start { IfOk result (λ o. o.start ≤ o.end) }
         ensures end { IfOk result (λ o. o.end ≤ length datagram.new) }
     {
-        let expected = self.numbers.expected();
+        let expected = self.space.numbers.expected();
         open_packet(
             datagram,
             1 + OWN_ID_LENGTH,
@@ -257,12 +259,15 @@ impl<H: HeaderKey + Drop, K: PacketKey + Drop, R: Rng + Drop> Connection<H, K, R
         ensures others { self.new ≡ with_end self.old self.new.end }
     {
         match item {
-            Ok(frame) => self.take_frame(frame),
+            Ok(frame) => {
+                self.stats.frame_rx.record(frame);
+                self.take_frame(frame)
+            }
             Err(invalid) => Err(Trouble::Broke(TransportError::from(*invalid))),
         }
     }
 
-    /// Takes a frame. Those that speak of neither packets nor streams do nothing yet.
+    /// Takes a frame. Those that speak of neither packets, streams nor messages do nothing yet.
     fn take_frame(&mut self, frame: &Frame<'_>) -> Result<(), Trouble>
         requires { HasForm (frame_view frame.now) }
         ensures takes { TakesAs result (take_frame (frame_view frame.now) self.old.end) self.new.end }
@@ -270,6 +275,7 @@ impl<H: HeaderKey + Drop, K: PacketKey + Drop, R: Rng + Drop> Connection<H, K, R
     {
         match frame {
             Frame::Ack(frame) => self.take_ack(frame),
+            Frame::Datagram { data } => self.take_message(data),
             _ => take_other(&mut self.streams, frame),
         }
     }
@@ -281,12 +287,29 @@ impl<H: HeaderKey + Drop, K: PacketKey + Drop, R: Rng + Drop> Connection<H, K, R
         ensures takes { TakesAs result (take_ack frame.now self.old.end) self.new.end }
         ensures others { self.new ≡ with_end self.old self.new.end }
     {
+        self.check_ack(frame)?;
         let largest = frame.largest();
-        if self.numbers.next() <= largest {
+        let rises = is_above(self.space.numbers.largest_acked(), largest);
+        self.space.numbers.name(largest);
+        self.on_ack_received(frame, rises)?;
+        Ok(())
+    }
+
+    /// Sees that an ACK frame names no number that was never given, and not the one that was left
+    /// out last (RFC 9000, sections 13.1 and 21.4).
+    fn check_ack(&self, frame: &Ack<'_>) -> Result<(), Trouble>
+        ensures ok { OnOk result (names_ungiven frame.now self.now.end ≡ false) }
+        ensures below { OnOk result (frame.now.largest < self.now.end.numbers.next) }
+        ensures err { IfErr result (λ trouble. (names_ungiven frame.now self.now.end ≡ true) × (fault_view trouble ≡ Some violation)) }
+    {
+        if self.space.numbers.next() <= frame.largest() {
             return Err(violation(Reason::NeverSent));
         }
-        self.numbers.name(largest);
-        self.on_ack_received(frame)?;
+        for range in frame.iter() {
+            if self.filter.check_ack(range).is_err() {
+                return Err(violation(Reason::NeverSent));
+            }
+        }
         Ok(())
     }
 
@@ -313,6 +336,16 @@ impl<H: HeaderKey + Drop, K: PacketKey + Drop, R: Rng + Drop> Connection<H, K, R
                 Received::Failed
             }
         }
+    }
+}
+
+/// Whether a number lies above the greatest that was named before, if one was.
+fn is_above(largest_acked: Option<u64>, number: u64) -> bool
+    ensures { result ≡ is_above largest_acked number }
+{
+    match largest_acked {
+        None => true,
+        Some(largest) => largest < number,
     }
 }
 

@@ -1,5 +1,5 @@
 //! Giving a datagram (RFC 9000, sections 12.2, 13.2, 13.3 and 14.1).
-ghost use Rattle.std.specs.Prelude.{◌≡◌, ◌≢◌, ◌+◌, ◌-◌, ◌<◌, ◌≤◌, ◌++◌, length, replicate, take, drop, IfOk, IfSome, IsSome, OnOk, OnErr, Ok, Some, None, true, vec_len, vec_capacity};
+ghost use Rattle.std.specs.Prelude.{◌≡◌, ◌≢◌, ◌+◌, ◌-◌, ◌<◌, ◌≤◌, ◌^◌, ◌++◌, length, replicate, take, drop, IfOk, IfSome, IsSome, OnOk, OnErr, Ok, Some, None, true, vec_len, vec_capacity};
 ghost use Rattle.quic_packet.specs.Number.{truncated};
 ghost use Rattle.quic_packet.specs.Header.{header_bytes};
 ghost use Rattle.quic_packet.specs.Datagram.{protected};
@@ -11,29 +11,59 @@ ghost use Rattle.quic_recovery_core.specs.PendingAcks.{can_send, is_filled};
 ghost use Rattle.quic_time.specs.Timers.{no_timers};
 ghost use Rattle.quic_retransmits.specs.Kept.{made};
 ghost use Rattle.quic_streams_state.specs.State.{streams_of};
-ghost use Rattle.quic_machine.specs.End.{with_end, with_numbers, with_streams, policy_of, HasFailed};
-ghost use Rattle.quic_machine.specs.Numbers.{can_number, cut_against, number_given};
+ghost use Rattle.quic_machine.specs.End.{with_end, with_number_given, number_of, policy_of, HasFailed};
+ghost use Rattle.quic_spaces.specs.Acknowledging.{most_ack_bytes};
+ghost use Rattle.quic_spaces.specs.Numbers.{can_number, cut_against};
 ghost use Rattle.quic_machine.specs.Tracking.{carried_in, retransmits_in};
-ghost use Rattle.quic_machine.specs.Poll.{IsSilent, polled, composed, frame_room, payload_of, datagram_of, after_given, asking, tracked_if, probed, ack_of, after_ack};
-ghost use Rattle.quic_connection_core.specs.Frames.{control_part, about_streams, about_streams_at, asked, ping_bytes, pinged, most_ack_bytes, fits_behind, ack_bytes_if, acked_if, end_after_ack_if, tracked_as};
+ghost use Rattle.quic_machine.specs.Poll.{IsSilent, polled, composed, frame_room, payload_of, datagram_of, datagram_size, after_given, asking, tracked, probed, lazied, ack_of, after_ack};
+ghost use Rattle.quic_machine.specs.Lacking.{PollTakes, MovesRecord};
+ghost use Rattle.quic_connection_core.specs.Frames.{control_part, content, content_at, with_content, asked, ping_bytes, pinged, fits_behind, ack_bytes_if, acked_if, end_after_ack_if, tracked_as};
 ghost use Rattle.quic_connection_core.specs.Given.{given_bytes};
-ghost use Rattle.quic_machine.specs.Lacking.{GivesOrHasFailed};
+ghost use Rattle.quic_connection_core.specs.Drawn.{words_of, after_words};
 
 use crate::connection::Connection;
-use crate::connection::tracking::{Carried, SentPacket};
+use crate::connection::messages::put_messages;
 use quic_machine::{Failed, Instant, LostReason, State, Timer, Transmit};
+use quic_messages::DatagramState;
 use quic_packet::crypto::{HeaderKey, PacketKey, TAG_LEN};
-use quic_packet::{ShortHeader, seal_reserved};
+use quic_packet::{PacketNumber, ShortHeader, seal_reserved};
 use quic_retransmits::{Retransmits, ThinRetransmits};
+use quic_send_buffer::StreamMeta;
+use quic_sent_packets::SentPacket;
 use quic_streams_handles::EndStreams;
 use quic_wire::frame::{Ack, Frame, Stream, put_frame};
 use quic_wire_core::EcnCodepoint;
 use quic_wire_core::reserved::append_zeros;
 use rand_core::Rng;
 use std::alloc::{AllocError, Global};
+use std::marker::Model;
 
 /// The most bytes of a datagram (RFC 9000, section 14.1).
-const CURRENT_MTU: usize = 1200;
+pub(crate) const CURRENT_MTU: usize = 1200;
+
+/// What a datagram carried that matters once it is acknowledged or lost.
+#[derive(Drop)]
+struct Carried {
+    // The greatest number that its ACK frame named, if it had one.
+    largest_acked: Option<u64>,
+    // The offsets and the ends of its STREAM frames.
+    stream_frames: Vec<StreamMeta>,
+    // What has to be sent again besides if it is lost (RFC 9000, section 13.3).
+    retransmits: ThinRetransmits,
+}
+
+impl Model for Carried {
+    ghost use Rattle.quic_machine.specs.Tracking as words;
+    ghost use Rattle.quic_retransmits.specs.Kept.{made};
+
+    ghost Value = { words.Carried };
+
+    ghost view = { λ c. record {
+      largest_acked = c.largest_acked;
+      stream_frames = c.stream_frames.items;
+      retransmits = made c.retransmits;
+    } };
+}
 
 /// What went into a datagram (quinn-proto's `SentFrames`).
 #[derive(Drop)]
@@ -63,10 +93,13 @@ impl SentFrames {
 
 impl<H: HeaderKey + Drop, K: PacketKey + Drop, R: Rng + Drop> Connection<H, K, R> {
     /// Appends the next datagram to `out`, if there is something to send at this moment: a due
-    /// acknowledgement, PING, what has to be told of streams, or bytes of them (RFC 9000, sections
-    /// 13.2 and 13.3). An acknowledgement that isn't due goes along where it fits, and where a
-    /// probe waits, a PING does (RFC 9002, section 6.2.4). A datagram that asks for an
-    /// acknowledgement is tracked until it is acknowledged or lost, and sets the loss timer anew.
+    /// acknowledgement, PING, what has to be told of streams, messages, or bytes of streams (RFC
+    /// 9000, sections 13.2 and 13.3; RFC 9221, section 5). An acknowledgement that isn't due goes
+    /// along where it fits. Where a probe waits and nothing has to be told of streams, what a
+    /// tracked packet carried of it is told once more, or a PING goes (RFC 9002, section 6.2.4). The
+    /// datagram is tracked until it is acknowledged, lost or forgotten, and sets the loss timer
+    /// anew. Where its number is the one above one that is left out, a word of the random source
+    /// says which is left out next.
     ///
     /// The datagram has at most 1200 bytes and is to be marked ECT(0). Where something waits and
     /// the packet numbers are used up, the end closes, no timer of it is set any more, and nothing
@@ -81,13 +114,15 @@ impl<H: HeaderKey + Drop, K: PacketKey + Drop, R: Rng + Drop> Connection<H, K, R
         now: Instant,
         out: &mut Vec<u8>,
     ) -> Result<Option<Transmit>, Failed>
-        ensures answer { OnOk result (result ≡ (polled (policy_of H.protection K.aead self.old) self.old.end now).answer) }
-        ensures end { OnOk result (self.new ≡ with_end self.old (polled (policy_of H.protection K.aead self.old) self.old.end now).end) }
-        ensures datagram { OnOk result (out.new.items ≡ out.old.items ++ given_bytes (polled (policy_of H.protection K.aead self.old) self.old.end now).datagram) }
+        ensures answer { OnOk result (result ≡ (polled (policy_of H.protection K.aead (words_of R.stream) self.old) self.old.end now).answer) }
+        ensures end { OnOk result (self.new.end ≡ (polled (policy_of H.protection K.aead (words_of R.stream) self.old) self.old.end now).end) }
+        ensures keys { self.new.keys ≡ self.old.keys }
+        ensures random { OnOk result (R.stream self.new.random ≡ after_words (self.new.end.filter.drawn - self.old.end.filter.drawn) (R.stream self.old.random)) }
+        ensures datagram { OnOk result (out.new.items ≡ out.old.items ++ given_bytes (polled (policy_of H.protection K.aead (words_of R.stream) self.old) self.old.end now).datagram) }
         ensures failed { OnErr result (HasFailed self.old self.new) }
         ensures stopped { self.old.end.closing.state ≢ State.Failed → OnErr result (self.new.end.timers ≡ no_timers) }
         ensures nothing { OnErr result (out.new.items ≡ out.old.items) }
-        ensures lacking { OnErr result (GivesOrHasFailed (polled (policy_of H.protection K.aead self.old) self.old.end now).answer) }
+        ensures lacking { OnErr result (PollTakes (policy_of H.protection K.aead (words_of R.stream) self.old) self.old.end now) }
         ensures still { self.old.end.closing.state ≡ State.Failed → self.new ≡ self.old }
         ensures size { IfOk result (λ given. IfSome given (λ transmit. transmit.size ≤ 1200)) }
         ensures silent { result ≡ Ok None → self.new.end.closing.state ≡ State.Open → IsSilent self.new.end }
@@ -98,17 +133,13 @@ impl<H: HeaderKey + Drop, K: PacketKey + Drop, R: Rng + Drop> Connection<H, K, R
             State::Open => {}
         }
         self.tick(now);
-        self.queue_probe();
+        self.queue_probe()?;
         if !self.has_waiting() {
             return Ok(None);
         }
         if !self.can_number() {
             self.close_by(LostReason::NumberLimit);
             return Ok(None);
-        }
-        if out.reserve(CURRENT_MTU).is_err() {
-            self.fail();
-            return Err(Failed);
         }
         let size = self.give(out)?;
         Ok(Some(Transmit {
@@ -117,25 +148,70 @@ impl<H: HeaderKey + Drop, K: PacketKey + Drop, R: Rng + Drop> Connection<H, K, R
         }))
     }
 
-    /// Where a probe waits, a PING does.
-    fn queue_probe(&mut self)
-        ensures { self.new ≡ with_end self.old (probed self.old.end) }
+    /// Sees that something goes with a probe that waits. Where memory lacks, the end fails for good.
+    fn queue_probe(&mut self) -> Result<(), Failed>
+        ensures ok { OnOk result (self.new ≡ with_end self.old (probed self.old.end)) }
+        ensures failed { OnErr result (HasFailed self.old self.new) }
+        ensures stopped { OnErr result (self.new.end.timers ≡ no_timers) }
+        ensures lacking { OnErr result (MovesRecord self.old.end) }
     {
-        if self.tracking.has_probes() {
-            self.ping();
+        if self.fill_probe().is_err() {
+            self.fail();
+            return Err(Failed);
         }
+        Ok(())
     }
 
-    /// Appends the datagram of what waits, for which there is room, tracks it where it asks for an
-    /// acknowledgement, and counts it as given: its size. Where memory lacks, nothing is appended,
-    /// and the end fails for good.
+    /// Sees that something goes with a probe that waits. An error is want of memory.
+    fn fill_probe(&mut self) -> Result<(), AllocError>
+        ensures ok { OnOk result (self.new ≡ with_end self.old (probed self.old.end)) }
+        ensures err { OnErr result (self.new ≡ self.old) }
+        ensures lacking { OnErr result (MovesRecord self.old.end) }
+    {
+        let EndStreams { state, pending } = &mut self.streams;
+        self.space.maybe_queue_probe(false, pending, state)
+    }
+
+    /// A packet is made: an acknowledgement is due where many packets came that don't ask.
+    fn lazy(&mut self)
+        ensures { self.new ≡ with_end self.old (lazied self.old.end) }
+    {
+        self.space.acknowledging.lazy();
+    }
+
+    /// Appends the datagram of what waits, tracks it, and counts it as given: its size. Where memory
+    /// lacks, nothing is appended, and the end fails for good.
     fn give(&mut self, out: &mut Vec<u8>) -> Result<usize, Failed>
-        requires number { can_number self.old.end.numbers ≡ true }
-        requires room { vec_len out.old + 1200 ≤ vec_capacity out.old }
-        ensures items { OnOk result (out.new.items ≡ out.old.items ++ datagram_of (policy_of H.protection K.aead self.old) (composed self.old.end)) }
+        requires { can_number self.old.end.numbers ≡ true }
+        ensures items { OnOk result (out.new.items ≡ out.old.items ++ datagram_of (policy_of H.protection K.aead (words_of R.stream) self.old) (composed (lazied self.old.end))) }
         ensures size { IfOk result (λ size. vec_len out.new ≡ vec_len out.old + size) }
         ensures most { IfOk result (λ size. size ≤ 1200) }
-        ensures end { OnOk result (self.new ≡ with_end self.old (after_given (composed self.old.end))) }
+        ensures end { OnOk result (self.new.end ≡ after_given (policy_of H.protection K.aead (words_of R.stream) self.old) (composed (lazied self.old.end))) }
+        ensures keys { self.new.keys ≡ self.old.keys }
+        ensures random { OnOk result (R.stream self.new.random ≡ after_words (self.new.end.filter.drawn - self.old.end.filter.drawn) (R.stream self.old.random)) }
+        ensures failed { OnErr result (HasFailed self.old self.new) }
+        ensures stopped { OnErr result (self.new.end.timers ≡ no_timers) }
+        ensures nothing { OnErr result (out.new.items ≡ out.old.items) }
+    {
+        if out.reserve(CURRENT_MTU).is_err() {
+            self.fail();
+            return Err(Failed);
+        }
+        self.lazy();
+        self.put_datagram(out)
+    }
+
+    /// The same, where there is room for the datagram, and an acknowledgement is due if many packets
+    /// came that don't ask.
+    fn put_datagram(&mut self, out: &mut Vec<u8>) -> Result<usize, Failed>
+        requires number { can_number self.old.end.numbers ≡ true }
+        requires room { vec_len out.old + 1200 ≤ vec_capacity out.old }
+        ensures items { OnOk result (out.new.items ≡ out.old.items ++ datagram_of (policy_of H.protection K.aead (words_of R.stream) self.old) (composed self.old.end)) }
+        ensures size { IfOk result (λ size. vec_len out.new ≡ vec_len out.old + size) }
+        ensures most { IfOk result (λ size. size ≤ 1200) }
+        ensures end { OnOk result (self.new.end ≡ after_given (policy_of H.protection K.aead (words_of R.stream) self.old) (composed self.old.end)) }
+        ensures keys { self.new.keys ≡ self.old.keys }
+        ensures random { OnOk result (R.stream self.new.random ≡ after_words (self.new.end.filter.drawn - self.old.end.filter.drawn) (R.stream self.old.random)) }
         ensures failed { OnErr result (HasFailed self.old self.new) }
         ensures stopped { OnErr result (self.new.end.timers ≡ no_timers) }
         ensures nothing { OnErr result (out.new.items ≡ out.old.items) }
@@ -148,48 +224,55 @@ impl<H: HeaderKey + Drop, K: PacketKey + Drop, R: Rng + Drop> Connection<H, K, R
         }
         self.seal(start, out);
         self.count_given();
+        self.set_loss_timer();
         Ok(out.len() - start)
     }
 
-    /// Appends the packet of what waits, for which there is room, unsealed, and tracks it where it
-    /// asks for an acknowledgement. An error is want of memory; the end is of no more use then, and
-    /// some of the packet may stand in `out`.
+    /// Appends the packet of what waits, for which there is room, unsealed, and tracks it. An error
+    /// is want of memory; the end is of no more use then, and some of the packet may stand in `out`.
     fn put_tracked(&mut self, out: &mut Vec<u8>) -> Result<(), AllocError>
         requires number { can_number self.old.end.numbers ≡ true }
         requires room { vec_len out.old + 1200 ≤ vec_capacity out.old }
-        ensures items { OnOk result (out.new.items ≡ out.old.items ++ (header_bytes self.old.end.ids.active.id (truncated self.old.end.numbers.next (cut_against self.old.end.numbers)) ++ payload_of (composed self.old.end))) }
+        ensures items { OnOk result (out.new.items ≡ out.old.items ++ (header_bytes self.old.end.ids.active.id (truncated (number_of self.old.end) (cut_against self.old.end.numbers)) ++ payload_of (composed self.old.end))) }
         ensures four { OnOk result (vec_len out.old + 1 + length self.old.end.ids.active.id + 4 ≤ vec_len out.new) }
         ensures within { OnOk result (vec_len out.new + 16 ≤ vec_len out.old + 1200) }
         ensures capacity { vec_capacity out.old ≤ vec_capacity out.new }
-        ensures end { OnOk result (self.new ≡ with_end self.old (tracked_if (asking (composed self.old.end).frames) (composed self.old.end))) }
+        ensures end { OnOk result (self.new ≡ with_end self.old (tracked (composed self.old.end))) }
         ensures numbers { OnOk result (self.new.end.numbers ≡ self.old.end.numbers) }
+        ensures filter { OnOk result (self.new.end.filter ≡ self.old.end.filter) }
         ensures ids { OnOk result (self.new.end.ids ≡ self.old.end.ids) }
         ensures keys { self.new.keys ≡ self.old.keys }
         ensures front { take (vec_len out.old) out.new.items ≡ out.old.items }
         ensures grows { vec_len out.old ≤ vec_len out.new }
         ensures others { self.new ≡ with_end self.old self.new.end }
     {
+        let start = out.len();
         let sent = self.put_plain(out)?;
-        self.track(sent)
+        let size = (out.len() - start + TAG_LEN) as u16;
+        self.track(size, sent)
     }
 
-    /// The next datagram has these frames: where they ask for an acknowledgement, it is tracked,
-    /// and the loss timer set anew. An error is want of memory, and nothing has changed.
-    fn track(&mut self, sent: SentFrames) -> Result<(), AllocError>
-        ensures ok { OnOk result (self.new ≡ with_end self.old (tracked_as sent.asks sent.carried self.old.end)) }
+    /// The next datagram has so many bytes and these frames: it is tracked. It counts against the
+    /// congestion window where it asks for an acknowledgement (RFC 9002, section 2). An error is
+    /// want of memory, and nothing has changed.
+    fn track(&mut self, size: u16, sent: SentFrames) -> Result<(), AllocError>
+        ensures ok { OnOk result (self.new ≡ with_end self.old (tracked_as sent.asks size sent.carried self.old.end)) }
         ensures err { OnErr result (self.new ≡ self.old) }
     {
-        if !sent.asks {
-            return Ok(());
-        }
+        let number = self.number();
+        let SentFrames { asks, carried } = sent;
         let packet = SentPacket {
             // There is one path, the first.
-            generation: 0,
+            path_generation: 0,
             time_sent: self.closing.clock(),
-            carried: sent.carried,
+            size: if asks { size } else { 0 },
+            ack_eliciting: asks,
+            largest_acked: carried.largest_acked,
+            retransmits: carried.retransmits,
+            stream_frames: carried.stream_frames,
         };
-        self.tracking.insert(self.numbers.next(), packet)?;
-        self.set_loss_timer();
+        let _forgotten = self.space.tracking.sent(number, packet)?;
+        self.count_sent(size);
         Ok(())
     }
 
@@ -199,12 +282,14 @@ impl<H: HeaderKey + Drop, K: PacketKey + Drop, R: Rng + Drop> Connection<H, K, R
     fn put_plain(&mut self, out: &mut Vec<u8>) -> Result<SentFrames, AllocError>
         requires number { can_number self.old.end.numbers ≡ true }
         requires room { vec_len out.old + 1200 ≤ vec_capacity out.old }
-        ensures items { OnOk result (out.new.items ≡ out.old.items ++ (header_bytes self.old.end.ids.active.id (truncated self.old.end.numbers.next (cut_against self.old.end.numbers)) ++ payload_of (composed self.old.end))) }
+        ensures items { OnOk result (out.new.items ≡ out.old.items ++ (header_bytes self.old.end.ids.active.id (truncated (number_of self.old.end) (cut_against self.old.end.numbers)) ++ payload_of (composed self.old.end))) }
         ensures four { OnOk result (vec_len out.old + 1 + length self.old.end.ids.active.id + 4 ≤ vec_len out.new) }
         ensures within { OnOk result (vec_len out.new + 16 ≤ vec_len out.old + 1200) }
         ensures capacity { vec_capacity out.old ≤ vec_capacity out.new }
         ensures end { OnOk result (self.new ≡ with_end self.old (composed self.old.end).end) }
+        ensures size { OnOk result (vec_len out.new + 16 ≡ vec_len out.old + datagram_size (composed self.old.end)) }
         ensures numbers { OnOk result (self.new.end.numbers ≡ self.old.end.numbers) }
+        ensures filter { OnOk result (self.new.end.filter ≡ self.old.end.filter) }
         ensures ids { OnOk result (self.new.end.ids ≡ self.old.end.ids) }
         ensures keys { self.new.keys ≡ self.old.keys }
         ensures asks { IfOk result (λ sent. sent.asks ≡ asking (composed self.old.end).frames) }
@@ -216,6 +301,7 @@ impl<H: HeaderKey + Drop, K: PacketKey + Drop, R: Rng + Drop> Connection<H, K, R
         let width = self.put_header(out);
         let body = out.len();
         let sent = self.put_frames(out)?;
+        self.count_frames(&out[body..]);
         pad(out, width, body);
         Ok(sent)
     }
@@ -225,6 +311,7 @@ impl<H: HeaderKey + Drop, K: PacketKey + Drop, R: Rng + Drop> Connection<H, K, R
     /// no room from what waits. This answers what went. An error is want of memory; the end is of
     /// no more use then, and some of the frames may stand in `out`.
     fn put_frames(&mut self, out: &mut Vec<u8>) -> Result<SentFrames, AllocError>
+        requires number { can_number self.old.end.numbers ≡ true }
         requires some { 1159 ≤ frame_room self.old.end }
         requires room { vec_len out.old + frame_room self.old.end ≤ vec_capacity out.old }
         ensures items { OnOk result (out.new.items ≡ out.old.items ++ (composed self.old.end).bytes) }
@@ -253,13 +340,14 @@ impl<H: HeaderKey + Drop, K: PacketKey + Drop, R: Rng + Drop> Connection<H, K, R
     fn is_ack_due(&self) -> bool
         ensures { result ≡ can_send self.now.end.acknowledging }
     {
-        self.acknowledging.is_due()
+        self.space.acknowledging.is_due()
     }
 
     /// Appends an ACK where there is a number to acknowledge and its frame fits behind the frames
     /// of the packet whose payload begins at `body`; there is room for the whole payload. This
     /// answers the greatest number that it names.
     fn put_late_ack(&mut self, body: usize, out: &mut Vec<u8>) -> Option<u64>
+        requires number { can_number self.old.end.numbers ≡ true }
         requires body { body ≤ vec_len out.old }
         requires within { vec_len out.old ≤ body + frame_room self.old.end }
         requires room { body + frame_room self.old.end ≤ vec_capacity out.old }
@@ -280,11 +368,13 @@ impl<H: HeaderKey + Drop, K: PacketKey + Drop, R: Rng + Drop> Connection<H, K, R
     /// Whether there is a number to acknowledge, and its frame fits behind so many bytes of a
     /// payload.
     fn ack_fits(&self, used: usize) -> bool
-        requires { used ≤ frame_room self.now.end }
+        requires number { can_number self.now.end.numbers ≡ true }
+        requires used { used ≤ frame_room self.now.end }
         ensures { result ≡ fits_behind self.now.end used }
     {
         let room = self.frame_room() - used;
-        self.acknowledging.is_filled() && self.acknowledging.size(self.closing.clock()) <= room
+        self.space.acknowledging.is_filled()
+            && self.space.acknowledging.size(self.closing.clock()) <= room
     }
 
     /// Appends an ACK, for which there is room, and stops its timer: the greatest number that it
@@ -299,16 +389,18 @@ impl<H: HeaderKey + Drop, K: PacketKey + Drop, R: Rng + Drop> Connection<H, K, R
         ensures end { self.new ≡ with_end self.old (after_ack self.old.end) }
         ensures largest { result ≡ greatest (ranges_of_set self.old.end.acknowledging.runs) }
     {
-        let largest = self.acknowledging.largest();
-        self.acknowledging.put(self.closing.clock(), out);
+        let largest = self.space.acknowledging.largest();
+        self.space.acknowledging.put(self.closing.clock(), out);
         self.timers.stop(Timer::MaxAckDelay);
         largest
     }
 
-    /// Appends what asks for an acknowledgement, PING and frames about streams, behind the frames
-    /// of the packet whose payload begins at `body`: none, or an ACK. There is room for the whole
-    /// payload. This answers what went. An error is want of memory; the end is of no more use then.
+    /// Appends what asks for an acknowledgement, PING, messages and frames about streams, behind
+    /// the frames of the packet whose payload begins at `body`: none, or an ACK. There is room for
+    /// the whole payload. This answers what went. An error is want of memory; the end is of no more
+    /// use then.
     fn put_asking(&mut self, body: usize, out: &mut Vec<u8>) -> Result<SentFrames, AllocError>
+        requires number { can_number self.old.end.numbers ≡ true }
         requires body { body ≤ vec_len out.old }
         requires few { vec_len out.old ≤ body + most_ack_bytes }
         requires some { 1159 ≤ frame_room self.old.end }
@@ -325,7 +417,7 @@ impl<H: HeaderKey + Drop, K: PacketKey + Drop, R: Rng + Drop> Connection<H, K, R
     {
         let before = out.len();
         self.put_ping(out);
-        let carried = self.put_streams(body, out)?;
+        let carried = self.put_content(body, out)?;
         Ok(SentFrames {
             asks: before < out.len(),
             carried,
@@ -346,42 +438,76 @@ impl<H: HeaderKey + Drop, K: PacketKey + Drop, R: Rng + Drop> Connection<H, K, R
         }
     }
 
-    /// Appends frames about streams behind the frames of the packet whose payload begins at `body`;
-    /// there is room for the whole payload. This answers what they carry. An error is want of
-    /// memory; the end is of no more use then.
-    fn put_streams(&mut self, body: usize, out: &mut Vec<u8>) -> Result<Carried, AllocError>
+    /// Appends messages and frames about streams behind the frames of the packet whose payload
+    /// begins at `body`; there is room for the whole payload. This answers what they carry. An
+    /// error is want of memory; the end is of no more use then.
+    fn put_content(&mut self, body: usize, out: &mut Vec<u8>) -> Result<Carried, AllocError>
+        requires number { can_number self.old.end.numbers ≡ true }
         requires body { body ≤ vec_len out.old }
         requires within { vec_len out.old ≤ body + frame_room self.old.end }
         requires room { body + frame_room self.old.end ≤ vec_capacity out.old }
-        ensures items { OnOk result (out.new.items ≡ out.old.items ++ (about_streams_at self.old.end (vec_len out.old - body)).bytes) }
+        ensures items { OnOk result (out.new.items ≡ out.old.items ++ (content_at self.old.end (vec_len out.old - body)).bytes) }
         ensures within { vec_len out.new ≤ body + frame_room self.old.end }
         ensures grows { vec_len out.old ≤ vec_len out.new }
         ensures capacity { vec_capacity out.old ≤ vec_capacity out.new }
-        ensures end { OnOk result (self.new ≡ with_end self.old (with_streams self.old.end (about_streams_at self.old.end (vec_len out.old - body)).streams)) }
-        ensures carried { IfOk result (λ carried. carried ≡ carried_in (about_streams_at self.old.end (vec_len out.old - body)).frames) }
+        ensures end { OnOk result (self.new ≡ with_end self.old (with_content self.old.end (content_at self.old.end (vec_len out.old - body)))) }
+        ensures carried { IfOk result (λ carried. carried ≡ carried_in (content_at self.old.end (vec_len out.old - body)).frames) }
         ensures front { take (vec_len out.old) out.new.items ≡ out.old.items }
         ensures others { self.new ≡ with_end self.old self.new.end }
     {
         let most = self.frame_room();
-        put_about_streams(&mut self.streams, self.fair, self.alloc, body, most, out)
+        let fair = self.transport.get_send_fairness();
+        put_content(
+            &mut self.streams,
+            &mut self.datagrams,
+            fair,
+            self.alloc,
+            body,
+            most,
+            out,
+        )
+    }
+
+    /// The number of the next datagram.
+    fn number(&self) -> u64
+        ensures value { result ≡ number_of self.now.end }
+        ensures above { self.now.end.numbers.next ≤ result }
+        ensures most { result ≤ self.now.end.numbers.next + 1 }
+    {
+        self.filter.peek(&self.space.numbers)
+    }
+
+    /// That number as it is written, cut against the greatest that was acknowledged.
+    fn packet_number(&self) -> PacketNumber
+        requires { can_number self.now.end.numbers ≡ true }
+        ensures value { result ≡ truncated (number_of self.now.end) (cut_against self.now.end.numbers) }
+        ensures some { 1 ≤ result.width }
+        ensures four { result.width ≤ 4 }
+    {
+        let numbers = &self.space.numbers;
+        // The proof reads that the number lies above it.
+        let _reference = numbers.reference();
+        numbers.packet_number(self.number())
     }
 
     /// How many bytes are left for frames in the next datagram.
     fn frame_room(&self) -> usize
+        requires number { can_number self.now.end.numbers ≡ true }
         ensures room { result ≡ frame_room self.now.end }
         ensures some { 1159 ≤ result }
-        ensures whole { 1 + length self.now.end.ids.active.id + (truncated self.now.end.numbers.next (cut_against self.now.end.numbers)).width + result + 16 ≡ 1200 }
+        ensures whole { 1 + length self.now.end.ids.active.id + (truncated (number_of self.now.end) (cut_against self.now.end.numbers)).width + result + 16 ≡ 1200 }
     {
-        let header = 1 + self.ids.destination().len() + self.numbers.packet_number().len();
+        let header = 1 + self.ids.destination().len() + self.packet_number().len();
         CURRENT_MTU - (header + TAG_LEN)
     }
 
     /// Appends the header of the next datagram, for which there is room: how many bytes its number
     /// takes.
     fn put_header(&self, out: &mut Vec<u8>) -> usize
-        requires { vec_len out.old + 25 ≤ vec_capacity out.old }
-        ensures items { out.new.items ≡ out.old.items ++ header_bytes self.now.end.ids.active.id (truncated self.now.end.numbers.next (cut_against self.now.end.numbers)) }
-        ensures width { result ≡ (truncated self.now.end.numbers.next (cut_against self.now.end.numbers)).width }
+        requires number { can_number self.now.end.numbers ≡ true }
+        requires room { vec_len out.old + 25 ≤ vec_capacity out.old }
+        ensures items { out.new.items ≡ out.old.items ++ header_bytes self.now.end.ids.active.id (truncated (number_of self.now.end) (cut_against self.now.end.numbers)) }
+        ensures width { result ≡ (truncated (number_of self.now.end) (cut_against self.now.end.numbers)).width }
         ensures four { result ≤ 4 }
         ensures short { 1 + length self.now.end.ids.active.id + result ≤ 25 }
         ensures len { vec_len out.new ≡ vec_len out.old + (1 + length self.now.end.ids.active.id + result) }
@@ -389,7 +515,7 @@ impl<H: HeaderKey + Drop, K: PacketKey + Drop, R: Rng + Drop> Connection<H, K, R
     {
         let header = ShortHeader {
             destination: self.ids.destination(),
-            number: self.numbers.packet_number(),
+            number: self.packet_number(),
         };
         header.put(out);
         header.number.len()
@@ -400,7 +526,7 @@ impl<H: HeaderKey + Drop, K: PacketKey + Drop, R: Rng + Drop> Connection<H, K, R
         requires start { start + 1 + length self.now.end.ids.active.id + 4 ≤ vec_len out.old }
         requires room { vec_len out.old + 16 ≤ vec_capacity out.old }
         requires number { can_number self.now.end.numbers ≡ true }
-        ensures items { out.new.items ≡ take start out.old.items ++ protected (H.protection self.now.keys.header.local) (K.aead self.now.keys.packet.local) (length self.now.end.ids.active.id + 1) self.now.end.numbers.next (drop start out.old.items) }
+        ensures items { out.new.items ≡ take start out.old.items ++ protected (H.protection self.now.keys.header.local) (K.aead self.now.keys.packet.local) (length self.now.end.ids.active.id + 1) (number_of self.now.end) (drop start out.old.items) }
         ensures len { vec_len out.new ≡ vec_len out.old + 16 }
     {
         let number_at = self.ids.destination().len() + 1;
@@ -408,27 +534,34 @@ impl<H: HeaderKey + Drop, K: PacketKey + Drop, R: Rng + Drop> Connection<H, K, R
             out,
             start,
             number_at,
-            self.numbers.next(),
+            self.number(),
             &self.keys.header.local,
             &self.keys.packet.local,
         );
     }
 
-    /// The next number is given.
+    /// The number of the next datagram is given. Where one is left out before it, a word of the
+    /// random source says which is left out next.
+    #[tactic(auto, unfolding(rand_core::specs::Stream::next_u64))]
     fn count_given(&mut self)
         requires { can_number self.old.end.numbers ≡ true }
-        ensures { self.new ≡ with_end self.old (with_numbers self.old.end (number_given self.old.end.numbers)) }
+        ensures end { self.new.end ≡ with_number_given (words_of R.stream self.old.random 0) self.old.end }
+        ensures keys { self.new.keys ≡ self.old.keys }
+        ensures random { R.stream self.new.random ≡ after_words (self.new.end.filter.drawn - self.old.end.filter.drawn) (R.stream self.old.random) }
     {
-        self.numbers.give();
+        let _number = self
+            .filter
+            .allocate(&mut self.random, &mut self.space.numbers);
     }
 }
 
-/// Appends frames about streams behind the frames of a packet whose payload begins at `body` and
-/// may have `most` bytes, for which there is room: frames of control, and STREAM frames behind
-/// them. This answers what they carry. An error is want of memory; the streams are of no more use
-/// then.
-fn put_about_streams(
+/// Appends messages and frames about streams behind the frames of a packet whose payload begins at
+/// `body` and may have `most` bytes, for which there is room: frames of control, DATAGRAM frames
+/// behind them, and STREAM frames behind these. This answers what they carry. An error is want of
+/// memory; the streams are of no more use then.
+fn put_content(
     streams: &mut EndStreams,
+    datagrams: &mut DatagramState,
     fair: bool,
     alloc: Global,
     body: usize,
@@ -438,15 +571,18 @@ fn put_about_streams(
     requires body { body ≤ vec_len out.old }
     requires within { vec_len out.old ≤ body + most }
     requires room { body + most ≤ vec_capacity out.old }
-    ensures items { OnOk result (out.new.items ≡ out.old.items ++ (about_streams fair most (vec_len out.old - body) streams.old.state streams.old.pending).bytes) }
+    requires few { most < 2 ^ 62 }
+    ensures items { OnOk result (out.new.items ≡ out.old.items ++ (content fair most (vec_len out.old - body) streams.old.state streams.old.pending datagrams.old.outgoing).bytes) }
     ensures within { vec_len out.new ≤ body + most }
     ensures grows { vec_len out.old ≤ vec_len out.new }
     ensures capacity { vec_capacity out.old ≤ vec_capacity out.new }
-    ensures streams { OnOk result (streams_of streams.new.state streams.new.pending ≡ (about_streams fair most (vec_len out.old - body) streams.old.state streams.old.pending).streams) }
-    ensures carried { IfOk result (λ carried. carried ≡ carried_in (about_streams fair most (vec_len out.old - body) streams.old.state streams.old.pending).frames) }
+    ensures streams { OnOk result (streams_of streams.new.state streams.new.pending ≡ (content fair most (vec_len out.old - body) streams.old.state streams.old.pending datagrams.old.outgoing).streams) }
+    ensures messages { OnOk result (datagrams.new ≡ record datagrams.old { outgoing = (content fair most (vec_len out.old - body) streams.old.state streams.old.pending datagrams.old.outgoing).outgoing }) }
+    ensures carried { IfOk result (λ carried. carried ≡ carried_in (content fair most (vec_len out.old - body) streams.old.state streams.old.pending datagrams.old.outgoing).frames) }
     ensures front { take (vec_len out.old) out.new.items ≡ out.old.items }
 {
     let retransmits = put_control_frames(streams, alloc, body, most, out)?;
+    put_messages(datagrams, body, most, out);
     let mut stream_frames = Vec::new(alloc);
     streams
         .state

@@ -13,8 +13,8 @@ use quic_streams_parts::Breach;
 use quic_wire::frame::{Frame, ResetStream, StopSending, Stream};
 use quic_wire_core::{Dir, Reason, Side, StreamId, VarInt};
 
-/// Takes a frame that isn't an ACK frame: one for streams changes these, one that only servers send
-/// is refused by a server, and one of another kind does nothing yet.
+/// Takes a frame that is neither ACK nor DATAGRAM: one for streams changes these, one that only
+/// servers send is refused by a server, and one of another kind does nothing yet.
 pub(crate) fn take_other(streams: &mut EndStreams, frame: &Frame<'_>) -> Result<(), Trouble>
     requires other { IsOther (frame_view frame.now) }
     requires form { HasForm (frame_view frame.now) }

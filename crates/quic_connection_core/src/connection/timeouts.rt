@@ -1,28 +1,35 @@
 //! Timers of an end, and what the application is told.
-ghost use Rattle.std.specs.Prelude.{◌≡◌, OnErr};
-ghost use Rattle.quic_time.specs.Timers.{timer_at, next_timer, has_come};
+ghost use Rattle.std.specs.Prelude.{◌≡◌, ◌≢◌, OnOk, OnErr};
+ghost use Rattle.quic_time.specs.Timers.{timer_at, next_timer, has_come, no_timers};
 ghost use Rattle.quic_machine.specs.End.{with_end, HasFailed};
 ghost use Rattle.quic_machine.specs.Calls.{end_tells, end_after_event};
-ghost use Rattle.quic_machine.specs.Timeouts.{timed_out, loss_expired, acks_expired};
+ghost use Rattle.quic_machine.specs.Lacking.{LosesOrHasFailed};
+ghost use Rattle.quic_machine.specs.Timeouts.{timed_out, expired, loss_expired, acks_expired};
+ghost use Rattle.quic_connection_core.specs.Tracked.{LosesByTime};
 
 use crate::connection::Connection;
 use quic_machine::{Event, Failed, Instant, State, Timer};
 use quic_packet::crypto::{HeaderKey, PacketKey};
 use rand_core::Rng;
+use std::alloc::AllocError;
 
 impl<H: HeaderKey + Drop, K: PacketKey + Drop, R: Rng + Drop> Connection<H, K, R> {
-    /// Lets the timers expire that are set to this moment or one before it. Where the loss timer expires, two probes go, and it
-    /// is set anew, perhaps to a moment that has come already (RFC 9002, section 6.2). Where the timer of acknowledgements
-    /// expires, one is due (RFC 9000, section 13.2.1). An end that is closing or drained has no timer, and takes no moment over.
+    /// Lets the timers expire that are set to this moment or one before it. Where the loss timer
+    /// expires, packets are lost by time if it was set for one, and else two probes go (RFC 9002,
+    /// section 6.2). Where the timer of acknowledgements expires, one is due (RFC 9000, section
+    /// 13.2.1). The loss timer is set anew, perhaps to a moment that has come already. An end that
+    /// is closing or drained has no timer, and takes no moment over.
     ///
     /// # Errors
     ///
-    /// [`Failed`] where the end has failed before; nothing changes.
+    /// [`Failed`] where memory lacks now, which it may only where packets are lost, and the end
+    /// fails for good and has no timer; or where it had failed before, and nothing changes.
     pub fn handle_timeout(&mut self, now: Instant) -> Result<(), Failed>
-        ensures answer { result ≡ (timed_out self.old.end now).answer }
-        ensures end { self.new ≡ with_end self.old (timed_out self.old.end now).end }
+        ensures answer { OnOk result (result ≡ (timed_out self.old.end now).answer) }
+        ensures end { OnOk result (self.new ≡ with_end self.old (timed_out self.old.end now).end) }
         ensures failed { OnErr result (HasFailed self.old self.new) }
-        ensures before { OnErr result (self.old.end.closing.state ≡ State.Failed) }
+        ensures stopped { self.old.end.closing.state ≢ State.Failed → OnErr result (self.new.end.timers ≡ no_timers) }
+        ensures lacking { OnErr result (LosesOrHasFailed self.old.end now) }
         ensures still { self.old.end.closing.state ≡ State.Failed → self.new ≡ self.old }
     {
         match self.state() {
@@ -31,21 +38,45 @@ impl<H: HeaderKey + Drop, K: PacketKey + Drop, R: Rng + Drop> Connection<H, K, R
             State::Open => {}
         }
         self.tick(now);
-        self.expire_loss_timer();
-        self.expire_ack_timer();
+        if self.expire_timers().is_err() {
+            self.fail();
+            return Err(Failed);
+        }
         Ok(())
     }
 
-    /// Where the loss timer expired, two probes go, and it is set anew.
-    fn expire_loss_timer(&mut self)
-        ensures { self.new ≡ with_end self.old (loss_expired (has_come self.old.end.timers.loss_detection self.old.end.closing.clock) self.old.end) }
+    /// Lets the timers expire that have come. An error is want of memory; the end is of no more use
+    /// then.
+    fn expire_timers(&mut self) -> Result<(), AllocError>
+        ensures ok { OnOk result (self.new ≡ with_end self.old (expired self.old.end)) }
+        ensures others { self.new ≡ with_end self.old self.new.end }
+        ensures lacking { OnErr result (LosesByTime self.old.end) }
     {
-        if self
+        self.expire_loss_timer()?;
+        self.expire_ack_timer();
+        self.set_loss_timer();
+        Ok(())
+    }
+
+    /// Where the loss timer expired, packets are lost by time, if it was set for one, and else two
+    /// probes go. An error is want of memory; the end is of no more use then.
+    fn expire_loss_timer(&mut self) -> Result<(), AllocError>
+        ensures ok { OnOk result (self.new ≡ with_end self.old (loss_expired (has_come self.old.end.timers.loss_detection self.old.end.closing.clock) self.old.end)) }
+        ensures others { self.new ≡ with_end self.old self.new.end }
+        ensures lacking { OnErr result (LosesByTime self.old.end) }
+    {
+        if !self
             .timers
             .is_expired(Timer::LossDetection, self.closing.clock())
         {
-            self.tracking.expire();
-            self.set_loss_timer();
+            return Ok(());
+        }
+        match self.space.tracking.loss_time() {
+            Some(_) => self.detect_lost_packets(),
+            None => {
+                self.space.tracking.expire();
+                Ok(())
+            }
         }
     }
 
@@ -58,7 +89,7 @@ impl<H: HeaderKey + Drop, K: PacketKey + Drop, R: Rng + Drop> Connection<H, K, R
             .is_expired(Timer::MaxAckDelay, self.closing.clock())
         {
             self.timers.stop(Timer::MaxAckDelay);
-            self.acknowledging.expire();
+            self.space.acknowledging.expire();
         }
     }
 
@@ -69,19 +100,23 @@ impl<H: HeaderKey + Drop, K: PacketKey + Drop, R: Rng + Drop> Connection<H, K, R
         self.timers.get(timer)
     }
 
-    /// The earliest moment at which a timer expires, if one is set: when [`handle_timeout`](Self::handle_timeout) is to be
-    /// called next.
+    /// The earliest moment at which a timer expires, if one is set: when
+    /// [`handle_timeout`](Self::handle_timeout) is to be called next.
     pub fn poll_timeout(&self) -> Option<Instant>
         ensures { result ≡ next_timer self.now.end.timers }
     {
         self.timers.next_timeout()
     }
 
-    /// What the application is to be told next: what happened to streams, and then that the end is lost, once, and why.
+    /// What the application is to be told next: that a message came while none was unread, once for
+    /// each that did; then what happened to streams; and then that the end is lost, once, and why.
     pub fn poll(&mut self) -> Option<Event>
         ensures answer { result ≡ end_tells self.old.end }
         ensures end { self.new ≡ with_end self.old (end_after_event self.old.end) }
     {
+        if self.tell_message() {
+            return Some(Event::Message);
+        }
         match self.streams.state.poll() {
             Some(event) => Some(Event::Stream(event)),
             None => self.closing.poll().map(Event::Lost),

@@ -1,15 +1,26 @@
-use Rattle.std.proofs.Common.{rules, ◌≡◌, length, Some, arith, refl, ◌∙◌}
-use Rattle.std.specs.Prelude.{slice_get}
+use Rattle.std.proofs.Common.{rules, ◌≡◌, length, Some, arith, refl, sym, ◌∙◌}
+use Rattle.std.specs.Prelude.{slice_get, vec_len, vec_capacity}
 use Rattle.std.proofs.lemmas.Option.{slice_get_read}
 use Rattle.std.proofs.lemmas.Grind.{common_steps}
-use Rattle.quic_connection.specs.Ends.{world_of}
-use Rattle.quic_connection.proofs.Runs.{follows_goes_on}
+use Rattle.quic_connection.specs.Ends.{world_of, policies_of}
+use Rattle.quic_connection.proofs.Runs.{follows_goes_on, reserved}
+use Rattle.quic_connection.specs.GoingOn.{go_same, go_then, are_own, are_on}
 use Rattle.quic_connection.proofs.running.run_events.Goals as goal
 use Rattle.quic_connection.proofs.running.run_events.Goals.{else-loop-event-test, then-loop-event-test+then-is_err, then-loop-event-test+else-is_err+else-is_err-2+in_default}
+
+pub loop-event-init : goal.loop-event-init
+loop-event-init g c = record {
+  follows = rw (c.new-answers.ensures.items, c.new-views.ensures.items, c.new-given.ensures.client, c.new-given.ensures.server) refl;
+  count = rw c.new-answers.ensures.items refl;
+  is_whole = refl;
+  goes_on = go_same _ _;
+}
 
 pub loop-event-preserved : goal.loop-event-preserved
 loop-event-preserved g c =
     let inv = c.loop-event.invariant in
+    let stream = g.R.Rng.stream in
+    let own = policies_of g.H.HeaderKey.protection g.K.PacketKey.aead stream c.args.ends in
     let at : slice_get c.args.events.now (length c.loop-event.answers.items) ≡ Some c.event-item.result =
     rw inv.count (slice_get_read c.args.events.now (length c.args.events.now) c.loop-event.event-index c.event-item.result refl c.loop-event-test.true c.event-item.is) in
     record {
@@ -17,20 +28,39 @@ loop-event-preserved g c =
           follows_goes_on _ _ _ c.loop-event.answers.items c.loop-event.views.items (world_of c.loop-event.ends c.loop-event.given)
           c.event-item.result c.in-Ok.answer (world_of c.step.new.ends c.step.new.given) _ _
           inv.follows at
-          (rw inv.keys at c.in-Ok.ensures.step)
+          (c.in-Ok.ensures.step own
+          (are_on g.H.HeaderKey.protection g.K.PacketKey.aead stream own c.args.ends c.loop-event.ends (are_own g.H.HeaderKey.protection g.K.PacketKey.aead stream c.args.ends) inv.goes_on))
           (search rules)
           (let seen = c.view.ensures c.step.new.given in cc (seen, c.push_reserved-in-loop-event.ensures.items));
       count = grind (arith, common_steps);
-      goes_on = inv.goes_on;
-      keys = search rules;
-      held = c.step.ensures.held ∙ inv.held;
+      is_whole = inv.is_whole;
+      goes_on = go_then stream c.args.ends c.loop-event.ends c.step.new.ends inv.goes_on c.step.ensures.goes_on;
     }
+
+pub push_reserved-requires : goal.push_reserved-requires
+push_reserved-requires g c =
+    let v = c.reserve.new.self in
+    reserved c.reserve.result (vec_len v) (vec_capacity v) (sym c.is_err.ensures.value ∙ c.if-is_err.false) c.reserve.ensures.ok
+
+pub push_reserved-requires-in-loop-event : goal.push_reserved-requires-in-loop-event
+push_reserved-requires-in-loop-event g c =
+    let v = c.reserve-else-is_err.new.self in
+    reserved c.reserve-else-is_err.result (vec_len v) (vec_capacity v) (sym c.is_err-else-is_err.ensures.value ∙ c.if-is_err-2.false) c.reserve-else-is_err.ensures.ok
 
 pub returns-clause-stopped : goal.returns-clause-stopped
 returns-clause-stopped g c = λ short.
     let inv = c.loop-event.invariant in
     elim c.loop-event-test.branch [
-      | else-loop-event-test w ↦ let is = w.cut_short-is in let going = inv.goes_on in cc
+      | else-loop-event-test w ↦ let is = w.cut_short-is in let going = inv.is_whole in cc
       | then-loop-event-test+then-is_err w ↦ rw (w.answers-is, w.reserve.ensures.items, inv.count) w.loop-event-test.true
       | then-loop-event-test+else-is_err+else-is_err-2+in_default w ↦ rw (w.answers-is, w.reserve.ensures.items, inv.count) w.loop-event-test.true
+    ]
+
+pub returns-clause-goes_on : goal.returns-clause-goes_on
+returns-clause-goes_on g c =
+    let inv = c.loop-event.invariant in
+    elim c.loop-event-test.branch [
+      | else-loop-event-test w ↦ rw w.ends-is inv.goes_on
+      | then-loop-event-test+then-is_err w ↦ rw w.ends-is inv.goes_on
+      | then-loop-event-test+else-is_err+else-is_err-2+in_default w ↦ rw w.ends-is (go_then _ _ _ _ inv.goes_on w.step.ensures.goes_on)
     ]

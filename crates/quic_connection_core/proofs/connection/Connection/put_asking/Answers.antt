@@ -1,7 +1,7 @@
 use Rattle.std.proofs.Common.{◌≡◌, ◌+◌, ◌-◌, length, ap, ◌∙◌, arith}
 use Rattle.std.specs.Prelude.{vec_len}
-use Rattle.quic_machine.specs.End.{End, with_end, with_streams}
-use Rattle.quic_connection_core.specs.Frames.{about_streams_at, ping_bytes}
+use Rattle.quic_machine.specs.End.{End, with_end}
+use Rattle.quic_connection_core.specs.Frames.{content_at, with_content, ping_bytes}
 use Rattle.quic_connection_core.proofs.Asking.{asked_written, asked_left, asked_kept, asked_asks}
 use Rattle.quic_connection_core.proofs.connection.Connection.put_asking.Goals as goal
 
@@ -11,7 +11,7 @@ returns-clause-items g c =
     let len = c.put_ping.ensures.len in
     let body = c.requires.body in
     let grown : vec_len c.put_ping.new.out - c.args.body ≡ vec_len c.args.out.now - c.args.body + length (ping_bytes e.waiting.ping) = omega (arith, len, body) in
-    asked_written e c.put_ping.new.self.end (vec_len c.args.out.now - c.args.body) (vec_len c.put_ping.new.out - c.args.body) (ap (λ w. w.end) c.put_ping.ensures.end) grown c.args.out.now.items c.put_ping.new.out.items c.put_streams.new.out.items
+    asked_written e c.put_ping.new.self.end (vec_len c.args.out.now - c.args.body) (vec_len c.put_ping.new.out - c.args.body) (ap (λ w. w.end) c.put_ping.ensures.end) grown c.args.out.now.items c.put_ping.new.out.items c.put_content.new.out.items
     c.put_ping.ensures.items c.in_ok-carried.ensures.items
 
 pub returns-clause-end : goal.returns-clause-end
@@ -22,7 +22,7 @@ returns-clause-end g c =
     let body = c.requires.body in
     let grown : vec_len c.put_ping.new.out - c.args.body ≡ vec_len c.args.out.now - c.args.body + length (ping_bytes e.waiting.ping) = omega (arith, len, body) in
     c.in_ok-carried.ensures.end
-    ∙ ap (λ w. with_end w (with_streams x (about_streams_at x (vec_len c.put_ping.new.out - c.args.body)).streams)) c.put_ping.ensures.end
+    ∙ ap (λ w. with_end w (with_content x (content_at x (vec_len c.put_ping.new.out - c.args.body)))) c.put_ping.ensures.end
     ∙ ap (λ (y : End). with_end c.args.self.now y) (asked_left e x (vec_len c.args.out.now - c.args.body) (vec_len c.put_ping.new.out - c.args.body) (ap (λ w. w.end) c.put_ping.ensures.end) grown)
 
 pub returns-clause-asks : goal.returns-clause-asks
@@ -31,8 +31,8 @@ returns-clause-asks g c =
     let len = c.put_ping.ensures.len in
     let body = c.requires.body in
     let grown : vec_len c.put_ping.new.out - c.args.body ≡ vec_len c.args.out.now - c.args.body + length (ping_bytes e.waiting.ping) = omega (arith, len, body) in
-    asked_asks e (vec_len c.args.out.now - c.args.body) c.len-before.result c.len.result c.args.out.now.items c.put_streams.new.out.items (c.len-before.ensures ∙ c.args.out.now.ok.0) (c.len.ensures ∙ c.put_streams.new.out.ok.0) (
-    asked_written e c.put_ping.new.self.end (vec_len c.args.out.now - c.args.body) (vec_len c.put_ping.new.out - c.args.body) (ap (λ w. w.end) c.put_ping.ensures.end) grown c.args.out.now.items c.put_ping.new.out.items c.put_streams.new.out.items
+    asked_asks e (vec_len c.args.out.now - c.args.body) c.len-before.result c.len.result c.args.out.now.items c.put_content.new.out.items (c.len-before.ensures ∙ c.args.out.now.ok.0) (c.len.ensures ∙ c.put_content.new.out.ok.0) (
+    asked_written e c.put_ping.new.self.end (vec_len c.args.out.now - c.args.body) (vec_len c.put_ping.new.out - c.args.body) (ap (λ w. w.end) c.put_ping.ensures.end) grown c.args.out.now.items c.put_ping.new.out.items c.put_content.new.out.items
     c.put_ping.ensures.items c.in_ok-carried.ensures.items)
 
 pub returns-clause-carried : goal.returns-clause-carried

@@ -3,14 +3,15 @@ use Rattle.std.specs.Prelude.{vec_len}
 use Rattle.quic_wire.specs.Value.{ack}
 use Rattle.quic_wire.specs.Writing.{spelling}
 use Rattle.quic_recovery_core.specs.PendingAcks.{can_send}
-use Rattle.quic_machine.specs.Acknowledging.{delay_at}
+use Rattle.quic_spaces.specs.Numbers.{can_number}
+use Rattle.quic_spaces.specs.Acknowledging.{delay_at}
 use Rattle.quic_machine.specs.Tracking.{Carried, carried_in}
 use Rattle.quic_machine.specs.End.{End, with_end}
 use Rattle.quic_machine.specs.Poll.{ack_of, frame_room, asking}
 use Rattle.quic_connection_core.specs.Frames.{asked, fits_behind, end_after_ack_if}
-use Rattle.quic_connection_core.proofs.AckSize.{few_runs}
+use Rattle.quic_spaces.proofs.AckSize.{few_runs}
 use Rattle.quic_connection_core.proofs.Plain.{front_of}
-use Rattle.quic_connection_core.proofs.Asking.{asked_room}
+use Rattle.quic_connection_core.proofs.Asking.{asked_room, asked_numbers}
 use Rattle.quic_connection_core.proofs.Composed.{due_bytes, due_end, due_says, late_bytes, late_end, late_is}
 use Rattle.quic_connection_core.proofs.connection.Connection.put_frames.Goals as goal
 
@@ -21,6 +22,10 @@ put_ack-largest-requires-clause-room g c few =
     let some = c.requires.some in
     let room = c.requires.room in
     omega (arith, most, some, room)
+
+pub put_late_ack-largest-requires-clause-number : goal.put_late_ack-largest-requires-clause-number
+put_late_ack-largest-requires-clause-number g c =
+    ap (λ w. can_number w.end.numbers) c.in_ok-sent-2.ensures.end ∙ ap can_number (asked_numbers c.args.self.now.end (vec_len c.args.out.now - c.len-body.result)) ∙ c.requires.number
 
 pub put_late_ack-largest-requires-clause-within : goal.put_late_ack-largest-requires-clause-within
 put_late_ack-largest-requires-clause-within g c =

@@ -1,10 +1,12 @@
-use Rattle.std.proofs.Common.{rules, ◌++◌, ℕ, List, ap, sym, ◌∙◌, arith}
+use Rattle.std.proofs.Common.{rules, ◌≡◌, ◌+◌, ◌++◌, ℕ, List, length, ap, sym, ◌∙◌, arith}
 use Rattle.std.specs.Prelude.{vec_len}
 use Rattle.quic_packet.specs.Number.{truncated}
 use Rattle.quic_packet.specs.Header.{header_bytes}
-use Rattle.quic_machine.specs.Numbers.{cut_against}
-use Rattle.quic_machine.specs.Poll.{composed}
-use Rattle.quic_connection_core.proofs.Plain.{front_of, same_numbers, same_ids, payload_is, plain_of}
+use Rattle.quic_spaces.specs.Numbers.{cut_against}
+use Rattle.quic_machine.specs.End.{number_of}
+use Rattle.std.proofs.lemmas.List.{length-append}
+use Rattle.quic_machine.specs.Poll.{composed, payload_of, datagram_size}
+use Rattle.quic_connection_core.proofs.Plain.{front_of, same_numbers, same_filter, same_ids, payload_is, payload_long, size_is, size_of, plain_of}
 use Rattle.quic_connection_core.proofs.connection.Connection.put_plain.Goals as goal
 
 pub put_frames-requires-clause-some : goal.put_frames-requires-clause-some
@@ -38,7 +40,7 @@ pad-requires-clause-room g c =
 pub returns-clause-items : goal.returns-clause-items
 returns-clause-items g c =
     let e = c.args.self.now.end in
-    let t = truncated e.numbers.next (cut_against e.numbers) in
+    let t = truncated (number_of e) (cut_against e.numbers) in
     let before : List ℕ = c.put_header-width.new.out.items in
     let whole : List ℕ = c.put_frames.new.out.items in
     plain_of c.args.out.now.items before (header_bytes e.ids.active.id t) whole c.pad.new.out.items (composed e).bytes t.width c.put_header-width.result (vec_len c.put_frames.new.out) c.len-body.result
@@ -56,11 +58,24 @@ returns-clause-within g c =
     let padded = c.pad.ensures.len in
     omega arith
 
+pub returns-clause-size : goal.returns-clause-size
+returns-clause-size g c =
+    let e = c.args.self.now.end in
+    let before : List ℕ = c.put_header-width.new.out.items in
+    let grown : vec_len c.put_frames.new.out ≡ vec_len c.put_header-width.new.out + length (composed e).bytes =
+    c.put_frames.new.out.ok.0 ∙ ap length c.in_ok-sent.ensures.items ∙ length-append before (composed e).bytes ∙ ap (λ (k : ℕ). k + length (composed e).bytes) (sym c.put_header-width.new.out.ok.0) in
+    size_of (datagram_size (composed e)) (length e.ids.active.id) (truncated (number_of e) (cut_against e.numbers)).width c.put_header-width.result (length (payload_of (composed e))) (length (composed e).bytes)
+    (vec_len c.args.out.now) (vec_len c.put_header-width.new.out) (vec_len c.put_frames.new.out) (vec_len c.pad.new.out) c.len-body.result
+    (size_is e) (payload_long e) c.put_header-width.ensures.width c.put_header-width.ensures.len c.len-body.ensures grown c.pad.ensures.len
+
+pub returns-clause-filter : goal.returns-clause-filter
+returns-clause-filter g c = ap (λ w. w.end.filter) c.count_frames.ensures ∙ ap (λ w. w.end.filter) c.in_ok-sent.ensures.end ∙ same_filter c.args.self.now.end
+
 pub returns-clause-numbers : goal.returns-clause-numbers
-returns-clause-numbers g c = ap (λ w. w.end.numbers) c.in_ok-sent.ensures.end ∙ same_numbers c.args.self.now.end
+returns-clause-numbers g c = ap (λ w. w.end.numbers) c.count_frames.ensures ∙ ap (λ w. w.end.numbers) c.in_ok-sent.ensures.end ∙ same_numbers c.args.self.now.end
 
 pub returns-clause-ids : goal.returns-clause-ids
-returns-clause-ids g c = ap (λ w. w.end.ids) c.in_ok-sent.ensures.end ∙ same_ids c.args.self.now.end
+returns-clause-ids g c = ap (λ w. w.end.ids) c.count_frames.ensures ∙ ap (λ w. w.end.ids) c.in_ok-sent.ensures.end ∙ same_ids c.args.self.now.end
 
 pub returns-in_err-sent-clause-front : goal.returns-in_err-sent-clause-front
 returns-in_err-sent-clause-front g c =

@@ -5,7 +5,7 @@ use Rattle.quic_wire.specs.Writing.{spelled_all}
 use Rattle.quic_streams_state.specs.Control.{Draft}
 use Rattle.quic_connection_core.specs.Frames.{control_part}
 use Rattle.quic_connection_core.proofs.Shifted.{control_is}
-use Rattle.quic_connection_core.proofs.AboutStreams.{control_carried, kept_carried, on_ok, none_carried}
+use Rattle.quic_connection_core.proofs.Content.{control_carried, kept_carried, on_ok, none_carried}
 use Rattle.quic_connection_core.proofs.connection.sending.put_control_frames.Goals as goal
 
 pub returns-then-len-before-clause-items : goal.returns-then-len-before-clause-items

@@ -1,0 +1,80 @@
+-- What a probe makes of the only packet number space is what it makes of the end.
+use Rattle.std.proofs.Common.{◌≡◌, ℕ, Bool, true, false, Option, Some, None, Result, Ok, Err, OnOk, OnErr, refl, ap}
+use Rattle.std.specs.Prelude.{not, ◌||◌, nat_lt}
+use Rattle.quic_retransmits.specs.Retransmits.{Retransmits}
+use Rattle.quic_streams_state.specs.declared.state.StreamsState.{StreamsState}
+use Rattle.quic_streams_state.specs.Waiting.{is_empty}
+use Rattle.quic_spaces.specs.Records.{first_record}
+use Rattle.quic_spaces.specs.declared.space.PacketSpace.{PacketSpace}
+use Rattle.quic_spaces.specs.Space.{Probed, after_probe_queued, probe_queued}
+use Rattle.quic_spaces.specs.Space as space
+use Rattle.quic_machine.specs.Tracking.{TrackedPacket}
+use Rattle.quic_machine.specs.End.{End}
+use Rattle.quic_machine.specs.Poll.{record_moved, probe_filled, probe_if, probed}
+
+-- the end whose space this is, and beside whose bytes of streams this waits
+abbrev pub with_space : End → Probed → End
+with_space e q = record e { numbers = q.space.numbers; acknowledging = q.space.acknowledging; tracking = q.space.tracking; waiting = record { ping = q.space.ping_pending; frames = q.pending } }
+
+-- both as they are
+abbrev pub as_is : PacketSpace → Retransmits → Probed
+as_is s p = record { space = s; pending = p }
+
+-- what a probe makes of an end, and that IMMEDIATE_ACK isn't asked for
+pub record Fills (e : End) (s : PacketSpace) (p : Retransmits) (q : Probed) : Type 0 where
+  pub end : with_space e q ≡ probed (with_space e (as_is s p))
+  pub plain : q.space.immediate_ack_pending ≡ false
+
+fills : (e : End) (s : PacketSpace) (p : Retransmits) → s.immediate_ack_pending ≡ false → Fills e s p (after_probe_queued false s p e.streams)
+fills e s p plain = record { end = go (nat_lt 0 s.tracking.probes); plain = none (nat_lt 0 s.tracking.probes) }
+  where
+    -- PING waits, since nothing asks for IMMEDIATE_ACK
+    waits : (a b : Bool) → b ≡ false → a || not (b || false) ≡ true
+    waits true b is = refl
+    waits false false is = refl
+    waits false true is = absurd cc
+
+    asks : (b : Bool) → b ≡ false → b || false ≡ false
+    asks false is = refl
+    asks true is = is
+
+    marked : PacketSpace
+    marked = record s { immediate_ack_pending = s.immediate_ack_pending || false }
+
+    record_case : (o : Option (ℕ × TrackedPacket)) → with_space e (space.record_moved o marked p) ≡ record_moved o (with_space e (as_is s p))
+    record_case None = ap (λ (ping : Bool). record e { numbers = s.numbers; acknowledging = s.acknowledging; tracking = s.tracking; waiting = record { ping = ping; frames = p } }) (waits s.ping_pending s.immediate_ack_pending plain)
+    record_case (Some r) = refl
+
+    empty_case : (b : Bool) → with_space e (space.probe_filled b marked p e.streams) ≡ probe_filled b (with_space e (as_is s p))
+    empty_case true = record_case (first_record e.streams s.tracking.packets)
+    empty_case false = refl
+
+    go : (b : Bool) → with_space e (probe_queued b false s p e.streams) ≡ probe_if b (with_space e (as_is s p))
+    go true = empty_case (is_empty p e.streams)
+    go false = refl
+
+    none_moved : (o : Option (ℕ × TrackedPacket)) → (space.record_moved o marked p).space.immediate_ack_pending ≡ false
+    none_moved None = asks s.immediate_ack_pending plain
+    none_moved (Some r) = asks s.immediate_ack_pending plain
+
+    none_filled : (b : Bool) → (space.probe_filled b marked p e.streams).space.immediate_ack_pending ≡ false
+    none_filled true = none_moved (first_record e.streams s.tracking.packets)
+    none_filled false = asks s.immediate_ack_pending plain
+
+    none : (b : Bool) → (probe_queued b false s p e.streams).space.immediate_ack_pending ≡ false
+    none true = none_filled (is_empty p e.streams)
+    none false = plain
+
+-- the same of streams that are the end's
+pub probe_fills : (e : End) (s : PacketSpace) (p : Retransmits) (t : StreamsState) → t ≡ e.streams → s.immediate_ack_pending ≡ false → Fills e s p (after_probe_queued false s p t)
+probe_fills e s p t same plain = rw same (fills e s p plain)
+
+-- what follows where a call was served
+pub where_ok : {A E : Type 0} (r : Result A E) (P Q : Type 0) → (P → Q) → OnOk r P → OnOk r Q
+where_ok (Ok x) P Q f p = f p
+where_ok (Err x) P Q f p = tt
+
+-- what holds in both cases
+pub either_way : {A E : Type 0} (r : Result A E) (P Q R : Type 0) → (P → R) → (Q → R) → OnOk r P → OnErr r Q → R
+either_way (Ok x) P Q R f g p q = f p
+either_way (Err x) P Q R f g p q = g q

@@ -1,0 +1,26 @@
+use Rattle.std.proofs.Common.{sym, ap, ◌∙◌}
+use Rattle.quic_spaces.specs.Space.{Probed}
+use Rattle.quic_machine.specs.End.{End, with_end}
+use Rattle.quic_machine.specs.Poll.{probed}
+use Rattle.quic_connection_core.proofs.Probing.{with_space, as_is, probe_fills, where_ok, either_way}
+use Rattle.quic_connection_core.proofs.connection.Connection.fill_probe.Goals as goal
+
+pub invariant_of-self : goal.invariant_of-self
+invariant_of-self g c =
+    let e : End = c.args.self.now.end in
+    let plain = c.self.invariant.0 in
+    let fills = probe_fills e c.self.inside.space c.self.inside.streams.pending c.self.inside.streams.state (ap (λ w. w.end.streams) c.self.view_is) plain in
+    let queued = c.maybe_queue_probe.ensures in
+    (either_way c.maybe_queue_probe.result _ _ _ (λ is. ap (λ (q : Probed). q.space.immediate_ack_pending) is ∙ fills.plain) (λ is. ap (λ s. s.immediate_ack_pending) is ∙ plain) queued.ok queued.err, c.self.invariant.1)
+
+pub returns-clause-ok : goal.returns-clause-ok
+returns-clause-ok g c =
+    let now = c.args.self.now in
+    let s = c.self.inside.space in
+    let p = c.self.inside.streams.pending in
+    let fills = probe_fills now.end s p c.self.inside.streams.state (ap (λ w. w.end.streams) c.self.view_is) c.self.invariant.0 in
+    let left : Probed = record { space = c.maybe_queue_probe.new.self; pending = c.maybe_queue_probe.new.pending } in
+    let whole = sym (ap (λ w. with_space w.end (as_is s p)) c.self.view_is) ∙ ap (λ w. w.end) c.self.view_is in
+    where_ok c.maybe_queue_probe.result _ _
+    (λ is. ap (λ w. with_end w (with_space w.end left)) c.self.view_is ∙ ap (λ (q : Probed). with_end now (with_space now.end q)) is ∙ ap (λ (x : End). with_end now x) (fills.end ∙ ap probed whole))
+    c.maybe_queue_probe.ensures.ok

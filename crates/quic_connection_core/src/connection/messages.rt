@@ -1,0 +1,144 @@
+//! Messages that may be lost, and aren't sent again (RFC 9221).
+ghost use Rattle.std.specs.Prelude.{◌≡◌, ◌-◌, ◌+◌, ◌≤◌, ◌<◌, ◌^◌, ◌++◌, map, take, if◌then◌else◌, vec_len, vec_capacity};
+ghost use Rattle.quic_wire.specs.Value.{datagram};
+ghost use Rattle.quic_wire.specs.Writing.{Fits, spelling, spelled_all, frame_size};
+ghost use Rattle.quic_machine.specs.End.{with_end, with_messages};
+ghost use Rattle.quic_machine.specs.Receive.{take_message};
+ghost use Rattle.quic_machine.specs.Poll.{message_waits, least_room};
+ghost use Rattle.quic_machine.specs.MessageCalls.{limits_of};
+ghost use Rattle.quic_machine.specs.Calls.{tells_message, message_told};
+ghost use Rattle.quic_connection_core.specs.Faults.{TakesAs};
+ghost use Rattle.quic_connection_core.specs.Frames.{message_part, messages_left};
+
+use crate::connection::Connection;
+use crate::connection::receiving::{Trouble, violation};
+use crate::connection::sending::CURRENT_MTU;
+use quic_messages::{DatagramLimits, DatagramState, Datagrams, ReceivedError, max_size};
+use quic_packet::crypto::{HeaderKey, PacketKey, TAG_LEN};
+use quic_wire::frame::{Frame, put_frame};
+use quic_wire_core::Reason;
+use rand_core::Rng;
+
+/// The most bytes that a packet number takes.
+const MAX_NUMBER_LENGTH: usize = 4;
+
+impl<H: HeaderKey + Drop, K: PacketKey + Drop, R: Rng + Drop> Connection<H, K, R> {
+    /// Takes a message: it waits to be read, for which the oldest unread may go. One that this end
+    /// told that it doesn't take breaks a rule (RFC 9221, section 3).
+    pub(crate) fn take_message(&mut self, message: &[u8]) -> Result<(), Trouble>
+        ensures takes { TakesAs result (take_message message.now self.old.end) self.new.end }
+        ensures others { self.new ≡ with_end self.old self.new.end }
+    {
+        let window = self.transport.get_datagram_receive_buffer_size();
+        match self.datagrams.received(message, window) {
+            Ok(first) => {
+                if first {
+                    self.messages_to_tell = self.messages_to_tell.saturating_add(1);
+                }
+                Ok(())
+            }
+            Err(ReceivedError::Breach) => Err(violation(Reason::TooManyBytes)),
+            Err(ReceivedError::Memory) => Err(Trouble::Memory),
+        }
+    }
+
+    /// The application is told that a message came, where it is to be told so: whether it was.
+    pub(crate) fn tell_message(&mut self) -> bool
+        ensures told { result ≡ tells_message self.old.end }
+        ensures end { self.new ≡ with_end self.old (if tells_message self.old.end then message_told self.old.end else self.old.end) }
+    {
+        if self.messages_to_tell == 0 {
+            return false;
+        }
+        self.messages_to_tell -= 1;
+        true
+    }
+
+    /// Whether a message waits that a datagram takes, whichever number it has.
+    pub(crate) fn message_waits(&self) -> bool
+        ensures { result ≡ message_waits self.now.end }
+    {
+        let header = 1 + self.ids.destination().len() + MAX_NUMBER_LENGTH;
+        self.datagrams.can_send(CURRENT_MTU - (header + TAG_LEN))
+    }
+}
+
+impl<H, K, R> Connection<H, K, R> {
+    ghost use Rattle.std.specs.Borrow.{sem};
+    ghost use denote.Follow.{follows};
+    ghost use Rattle.quic_connection_core.specs.contracts.connection.Connection.{the_row as connection_row};
+    ghost use Rattle.quic_messages.specs.contracts.state.DatagramState.{the_row as datagrams_row};
+    ghost use Rattle.quic_connection_core.specs.Handed.{messages_back};
+
+    /// What bounds the messages of the end: its settings, what the peer takes, and the size of
+    /// datagrams.
+    pub fn datagram_limits(&self) -> DatagramLimits
+        ensures { result ≡ limits_of self.now.end }
+    {
+        DatagramLimits {
+            is_open: self.is_open(),
+            receive_buffer_size: self.transport.get_datagram_receive_buffer_size(),
+            send_buffer_size: self.transport.get_datagram_send_buffer_size(),
+            max_size: max_size(
+                self.peer_params.max_datagram_frame_size,
+                CURRENT_MTU as u16,
+                self.ids.destination().len(),
+            ),
+        }
+    }
+
+    /// The messages of the end that wait to be sent, and those that came and weren't read: what
+    /// [`Datagrams`] borrows.
+    pub fn datagrams_mut(&mut self) -> &mut DatagramState
+        ensures* writes_back { sem 𝓛 (follows (connection_row H.row K.row R.row) datagrams_row self.entry.ghost_name result.ghost_name (messages_back self.old)) }
+        ensures state { result.now ≡ self.old.end.messages.queues }
+    {
+        &mut self.datagrams
+    }
+
+    /// The messages of the end (quinn-proto's `Connection::datagrams`).
+    pub fn datagrams(&mut self) -> Datagrams<'_>
+        ensures* writes_back { sem 𝓛 (follows (connection_row H.row K.row R.row) datagrams_row self.entry.ghost_name result.datagrams.ghost_name (messages_back self.old)) }
+        ensures state { result.datagrams.now ≡ self.old.end.messages.queues }
+        ensures limits { result.limits ≡ limits_of self.old.end }
+    {
+        let limits = self.datagram_limits();
+        Datagrams::new(&mut self.datagrams, limits)
+    }
+}
+
+/// Appends messages that wait, the oldest first, up to the first that doesn't fit, behind the
+/// frames of a packet whose payload begins at `body` and may have `most` bytes, for which there is
+/// room.
+pub(crate) fn put_messages(
+    datagrams: &mut DatagramState,
+    body: usize,
+    most: usize,
+    out: &mut Vec<u8>,
+)
+    requires body { body ≤ vec_len out.old }
+    requires within { vec_len out.old ≤ body + most }
+    requires room { body + most ≤ vec_capacity out.old }
+    requires few { most < 2 ^ 62 }
+    ensures items { out.new.items ≡ out.old.items ++ spelled_all (map datagram (message_part most (vec_len out.old - body) datagrams.old.outgoing)) }
+    ensures left { datagrams.new ≡ record datagrams.old { outgoing = messages_left most (vec_len out.old - body) datagrams.old.outgoing } }
+    ensures within { vec_len out.new ≤ body + most }
+    ensures grows { vec_len out.old ≤ vec_len out.new }
+    ensures capacity { vec_capacity out.old ≤ vec_capacity out.new }
+    ensures front { take (vec_len out.old) out.new.items ≡ out.old.items }
+{
+    while let Some(message) = datagrams.next_frame(body + most - out.len()) {
+        put_message(out, &message);
+    }
+}
+
+/// Appends the frame of a message, for which there is room.
+fn put_message(out: &mut Vec<u8>, message: &[u8])
+    requires form { Fits (datagram message.now) }
+    requires room { vec_len out.old + frame_size (datagram message.now) ≤ vec_capacity out.old }
+    ensures items { out.new.items ≡ out.old.items ++ spelling (datagram message.now) }
+    ensures len { vec_len out.new ≡ vec_len out.old + frame_size (datagram message.now) }
+    ensures capacity { vec_capacity out.old ≤ vec_capacity out.new }
+{
+    put_frame(out, &Frame::Datagram { data: message });
+}

@@ -1,0 +1,55 @@
+//! What is counted of a connection.
+ghost use Rattle.std.specs.Prelude.{◌≡◌};
+ghost use Rattle.quic_time.specs.Rtt.{best_rtt};
+
+use crate::connection::Connection;
+use crate::connection::sending::CURRENT_MTU;
+use quic_stats::ConnectionStats;
+use quic_wire::frame::Iter;
+
+impl<H, K, R> Connection<H, K, R> {
+    /// What was counted of the end since it was made, and what it knows of its path (quinn-proto's
+    /// `Connection::stats`). Each count stays at the greatest number of its type. There is no
+    /// congestion window yet: it reads 0.
+    pub fn stats(&self) -> ConnectionStats
+        ensures rtt { result.path.rtt ≡ best_rtt self.now.end.path.rtt }
+        ensures min_rtt { result.path.min_rtt ≡ self.now.end.path.rtt.least }
+        ensures size { result.path.current_mtu ≡ self.now.end.path.size }
+        ensures window { result.path.cwnd ≡ 0 }
+    {
+        let mut stats = self.stats;
+        stats.path.rtt = self.rtt.get();
+        stats.path.min_rtt = self.rtt.min();
+        stats.path.cwnd = 0;
+        stats.path.current_mtu = CURRENT_MTU as u16;
+        stats
+    }
+
+    /// The frames of a payload go.
+    pub(crate) fn count_frames(&mut self, payload: &[u8])
+        ensures { self.new ≡ self.old }
+    {
+        for item in Iter::new(payload) {
+            if let Ok(frame) = item {
+                self.stats.frame_tx.record(&frame);
+            }
+        }
+    }
+
+    /// A packet of so many bytes goes.
+    pub(crate) fn count_sent(&mut self, size: u16)
+        ensures { self.new ≡ self.old }
+    {
+        self.stats.udp_tx.on_datagram(usize::from(size));
+        self.stats.path.sent_packets = self.stats.path.sent_packets.saturating_add(1);
+    }
+
+    /// A packet is lost that counted as so many bytes in flight.
+    pub(crate) fn count_lost(&mut self, size: u16)
+        ensures { self.new ≡ self.old }
+    {
+        let path = &mut self.stats.path;
+        path.lost_packets = path.lost_packets.saturating_add(1);
+        path.lost_bytes = path.lost_bytes.saturating_add(u64::from(size));
+    }
+}
