@@ -1,5 +1,5 @@
 -- A script, by the bytes that its reader gives and by those that are left to read at first.
-use Rattle.std.proofs.Common.{◌≡◌, ℕ, List, Option, Some, None, Result, Ok, Err, OnOk, IfErr, subst}
+use Rattle.std.proofs.Common.{ℕ, List, Option, Some, None, Result, Ok, Err, OnOk, IfErr, subst}
 use Rattle.std.specs.Io.KnownBytes.{Keeps}
 use Rattle.quic_run_core.specs.declared.error.ScriptError.{ScriptError}
 use Rattle.quic_run_core.specs.declared.error.ScriptError.TheVariants.{BadCommand, ReadFault, WriteFault, OutOfMemory}

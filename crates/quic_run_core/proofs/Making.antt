@@ -1,5 +1,6 @@
 -- The two ends of a script, as they are made and as they go on.
-use Rattle.std.proofs.Common.{◌≡◌, ℕ, true, List, ◌++◌, [], length, Some, None, Result, Ok, Err, IfOk, OnErr, refl, sym, ap, ◌∙◌, append-nil}
+use Rattle.std.proofs.Common.{◌≡◌, ◌-◌, ℕ, suc, Bool, true, false, cond, List, ◌++◌, [], length, Option, Some, None, Result, Ok, Err, IfOk, OnErr, refl, sym, ap, ◌∙◌, subst, append-nil, append_assoc, arith}
+use Rattle.std.specs.Prelude.{replicate, codes, is_some, IfSome, OnOk}
 use Rattle.std.specs.declared.alloc.AllocError.{AllocError}
 use Rattle.quic_wire_core.specs.declared.stream_id.Side.{Side}
 use Rattle.quic_wire_core.specs.declared.stream_id.Side.TheVariants.{Client, Server}
@@ -9,17 +10,37 @@ use Rattle.quic_parameters.specs.ParametersRead.{parameters_at}
 use Rattle.quic_machine.specs.declared.answers.ConfigError.{ConfigError}
 use Rattle.quic_machine.specs.declared.run.RunEvent.{RunEvent}
 use Rattle.quic_machine.specs.declared.run.Answer.{Answer}
-use Rattle.quic_config.specs.Transport.{Settings, settings_with, parameters_of}
-use Rattle.quic_machine.specs.End.{End, MadeFrom, refusal_of}
+use Rattle.quic_config.specs.Transport.{Settings, parameters_of}
+use Rattle.quic_machine.specs.declared.answers.ConfigError.TheVariants as config_errors
+use Rattle.quic_machine.specs.Policy.{keys_policy}
+use Rattle.quic_machine.specs.End.{End, ConnectionValue, MadeFrom, are_sizes_wrong, refusal_of, policy_of}
+use Rattle.quic_connection_core.specs.Drawn.{words_of, after_words}
+use Rattle.quic_connection.specs.Ends.{Serves}
+use Rattle.rand_core.specs.Stream.{Stream, u64_call}
 use Rattle.quic_machine.specs.Machine.{World, Policies, IsStep, given_by, end_at, changed, gives, policy_at}
 use Rattle.quic_run_core.specs.declared.options.Options.{Options}
 use Rattle.quic_machine.specs.Start.{IsMaking, AreStarted}
-use Rattle.quic_run_core.specs.Scripts.{first_id, first_end, first_world, making}
+use Rattle.quic_run_core.specs.declared.key.PlainHeaderKey.{PlainHeaderKey}
+use Rattle.quic_run_core.specs.declared.key.PlainKey.{PlainKey}
+use Rattle.quic_run_core.specs.Plain.{plain_protection, plain_aead}
+use Rattle.quic_run_core.specs.KeysOf.{keys_of}
+use Rattle.quic_run_core.specs.declared.words.Source.{Source}
+use Rattle.quic_run_core.specs.declared.words.Words.{Words}
+use Rattle.quic_run_core.specs.Words.{stream_from, source_stream, words_from}
+use Rattle.quic_run_core.proofs.Constant.{words_are}
+use Rattle.quic_run_core.specs.Policies.{plain_policy}
+use Rattle.quic_run_core.specs.Scripts.{first_id, settings_of, first_end, first_world, making, Made, Stage, made_or_first, made_at, with_made, IsSettled, TellsRest, IsSettling, line_feed}
+use Rattle.quic_run_core.specs.declared.session.Session.{Session}
+use Rattle.quic_run_core.specs.Stages.{made_in}
+use Rattle.quic_connection.specs.Ends.{world_of}
 
--- the ids of both ends are lawful
-lawful : (E : Type 0) (side : Side) (theirs : ParameterValues) → refusal_of {E = E} (Ok theirs) (first_id side) (first_id (other_side side)) ≡ None
-lawful E Client theirs = refl
-lawful E Server theirs = refl
+-- the ids of both ends are lawful, and so are sizes that are the default ones
+lawful : (E : Type 0) (side : Side) (settings : Settings) (theirs : ParameterValues) → are_sizes_wrong settings theirs ≡ false → refusal_of {E = E} settings (Ok theirs) (first_id side) (first_id (other_side side)) ≡ None
+lawful E Client settings theirs fits = ap (λ (b : Bool). cond b (Some config_errors.Size) None) fits
+lawful E Server settings theirs fits = ap (λ (b : Bool). cond b (Some config_errors.Size) None) fits
+
+sizes_fit : (own peer : Options) → are_sizes_wrong (settings_of own) (parameters_of (settings_of peer)) ≡ false
+sizes_fit own peer = refl
 
 -- an id has eight bytes
 pub eight : (side : Side) → length (first_id side) ≡ 8
@@ -29,6 +50,10 @@ eight Server = refl
 -- these ends, which gave these datagrams
 abbrev pub the_world : End → End → List (List ℕ) → List (List ℕ) → World
 the_world a b x y = record { client = a; server = b; from_client = x; from_server = y }
+
+-- a stage
+abbrev pub the_stage : Options → Options → Option Made → Stage
+the_stage client server made = record { client = client; server = server; made = made }
 
 -- two ends that are made so meet the premises on ends
 pub are_started : (client server : Options) → IsMaking (making Client client) → IsMaking (making Server server) → AreStarted (first_world client server)
@@ -43,8 +68,8 @@ are_started client server client_is server_is = record {
   server_gave = refl;
 }
   where
-    made : (side : Side) (own peer : Options) → parameters_at (making (other_side side) peer).parameters ≡ Ok (parameters_of (settings_with peer.transport true))
-        → MadeFrom side (making side own).settings (making (other_side side) peer).parameters (first_id side) (first_id (other_side side)) 0 true (first_end side own peer)
+    made : (side : Side) (own peer : Options) → parameters_at (making (other_side side) peer).parameters ≡ Ok (parameters_of (settings_of peer))
+        → MadeFrom side (making side own).settings (making (other_side side) peer).parameters (first_id side) (first_id (other_side side)) 0 true (words_from own.source 0) (first_end side own peer)
     made side own peer says = rw says refl
 
 -- two such ends that gave nothing are the first ones
@@ -52,28 +77,82 @@ pub first_ends : (client server : Options) (a b : End) (x y : List (List ℕ)) �
 first_ends client server a b x y is_client is_server no_client no_server = rw (is_client, is_server, no_client, no_server) refl
 
 -- an end is never refused
-pub never_refused : {E : Type 0} (side other : Side) (e : ConfigError) (read : Result ParameterValues E) (theirs : ParameterValues) (own_id peer_id : List ℕ) → read ≡ Ok theirs → own_id ≡ first_id side → other ≡ other_side side → peer_id ≡ first_id other → Some e ≡ refusal_of read own_id peer_id → ⊥
-never_refused {E} side other e read theirs own_id peer_id is own turned peer refusal =
-    let refused : Some e ≡ refusal_of {E = E} (Ok theirs) (first_id side) (first_id (other_side side)) = rw (is, own, peer, turned) at refusal in
-    let never : Some e ≡ None = refused ∙ lawful E side theirs in
+pub never_refused : {E : Type 0} (side other : Side) (e : ConfigError) (own peer : Options) (settings told : Settings) (read : Result ParameterValues E) (own_id peer_id : List ℕ)
+    → settings ≡ settings_of own → told ≡ settings_of peer → read ≡ Ok (parameters_of told) → own_id ≡ first_id side → other ≡ other_side side → peer_id ≡ first_id other
+    → Some e ≡ refusal_of settings read own_id peer_id → ⊥
+never_refused {E} side other e own peer settings told read own_id peer_id set said is own_is turned peer_is refusal =
+    let theirs : ParameterValues = parameters_of (settings_of peer) in
+    let refused : Some e ≡ refusal_of {E = E} (settings_of own) (Ok theirs) (first_id side) (first_id (other_side side)) =
+    refusal
+    ∙ ap (λ (s : Settings). refusal_of s read own_id peer_id) set
+    ∙ ap (λ (r : Result ParameterValues E). refusal_of (settings_of own) r own_id peer_id) (is ∙ ap (λ (s : Settings). Ok (parameters_of s)) said)
+    ∙ ap (λ (id : List ℕ). refusal_of {E = E} (settings_of own) (Ok theirs) id peer_id) own_is
+    ∙ ap (λ (id : List ℕ). refusal_of {E = E} (settings_of own) (Ok theirs) (first_id side) id) (peer_is ∙ ap first_id turned) in
+    let never : Some e ≡ None = refused ∙ lawful E side (settings_of own) theirs (sizes_fit own peer) in
     cc
 
 -- what is made of the options is the first end
-pub made_first : (side other : Side) (own peer : Options) (settings told : Settings) (bytes items own_id peer_id : List ℕ) (now : ℕ) (end : End) → settings ≡ settings_with own.transport true → told ≡ settings_with peer.transport true → bytes ≡ items → parameters_at items ≡ Ok (parameters_of told) → own_id ≡ first_id side → other ≡ other_side side → peer_id ≡ first_id other → now ≡ 0 → MadeFrom side settings bytes own_id peer_id now true end → end ≡ first_end side own peer
-made_first side other own peer settings told bytes items own_id peer_id now end set said same read own_is turned peer_is zero made =
-    rw (same, read, said, set, own_is, peer_is, turned, zero) at made
+pub made_first : (side other : Side) (own peer : Options) (settings told : Settings) (bytes items own_id peer_id : List ℕ) (now word : ℕ) (end : End) → settings ≡ settings_of own → told ≡ settings_of peer → bytes ≡ items → parameters_at items ≡ Ok (parameters_of told) → own_id ≡ first_id side → other ≡ other_side side → peer_id ≡ first_id other → now ≡ 0 → word ≡ words_from own.source 0 → MadeFrom side settings bytes own_id peer_id now true word end → end ≡ first_end side own peer
+made_first side other own peer settings told bytes items own_id peer_id now word end set said same read own_is turned peer_is zero first made =
+    rw (same, read, said, set, own_is, peer_is, turned, zero, first) at made
+
+-- an end with the stand-in keys, whose random source answered its first word
+pub plain_at : (side : Side) (source : Source) (w : ConnectionValue PlainHeaderKey PlainKey Words) → w.keys ≡ keys_of side → w.end.filter.drawn ≡ 1 → stream_from w.random ≡ after_words 1 (source_stream source)
+    → Serves (plain_policy side (words_from source)) (policy_of (λ _. plain_protection) (λ k. plain_aead k.mark) (words_of stream_from) w) w.end
+plain_at side source w keys drawn random = record {
+  keys = ap (λ ks. keys_policy (λ _. plain_protection) (λ k. plain_aead k.mark) ks (words_from source)) (sym keys);
+  words = λ o n h.
+      let rest : ℕ = n - w.end.filter.drawn in
+      let next : n ≡ suc rest = omega (arith, h, drawn) in
+      words_are source n
+      ∙ ap (λ (m : ℕ). (source_stream source).u64_after (replicate m u64_call)) next
+      ∙ ap (λ (s : Stream). s.u64_after (replicate rest u64_call)) (sym random);
+}
 
 -- an end has given what it had given, and more
-pub given_more : (k : Policies) (w next : World) (event : RunEvent) (r : Result Answer AllocError) (side : Side) → IfOk r (λ a. IsStep k w event a next) → OnErr r (next ≡ w) → (more : List (List ℕ)) × (given_by side next ≡ given_by side w ++ more)
-given_more k w next event (Err e) side ok err = ([], ap (λ (v : World). given_by side v) err ∙ sym (append-nil (given_by side w)))
-given_more k w next event (Ok a) side ok err =
+pub given_more : (P : Policies → Type 0) (k : Policies) (w next : World) (event : RunEvent) (r : Result Answer AllocError) (side : Side) → P k → IfOk r (λ a. (k : Policies) → P k → IsStep k w event a next) → OnErr r (next ≡ w) → (more : List (List ℕ)) × (given_by side next ≡ given_by side w ++ more)
+given_more P k w next event (Err e) side is ok err = ([], ap (λ (v : World). given_by side v) err ∙ sym (append-nil (given_by side w)))
+given_more P k w next event (Ok a) side is ok err =
     let e = end_at event.side next in
     let ds = gives (policy_at event.side k) (end_at event.side w) event.call a in
     let here = go event.side side e ds in
-    (here.0, ap (λ (v : World). given_by side v) ok.others ∙ here.1)
+    (here.0, ap (λ (v : World). given_by side v) (ok k is).others ∙ here.1)
   where
     go : (at side : Side) (e : End) (ds : List (List ℕ)) → (more : List (List ℕ)) × (given_by side (changed at w e ds) ≡ given_by side w ++ more)
     go Client Client e ds = (ds, refl)
     go Client Server e ds = ([], sym (append-nil w.from_server))
     go Server Client e ds = ([], sym (append-nil w.from_client))
     go Server Server e ds = (ds, refl)
+
+-- a fact of each success
+pub on_ok_then : {A E : Type 0} {X Y : Type 0} (r : Result A E) → (X → Y) → OnOk r X → OnOk r Y
+on_ok_then (Ok a) f x = f x
+on_ok_then (Err e) f x = tt
+
+-- of a moment that there is, a fact under any policies of the ends is one under these
+pub if_some_at : (P : Policies → Type 0) (Q : Policies → ℕ → Type 0) (o : Option ℕ) (k : Policies) → P k → IfSome o (λ m. (k : Policies) → P k → Q k m) → IfSome o (λ m. Q k m)
+if_some_at P Q (Some m) k is f = f k is
+if_some_at P Q None k is f = tt
+
+-- the ends are made where they weren't
+pub begun : (o : Option Session) (client server : Options) (s : Session) → is_some o ≡ false → world_of s.ends s.given ≡ first_world client server → s.client_source ≡ client.source → s.server_source ≡ server.source
+    → the_stage client server (made_in (Some s)) ≡ with_made (made_or_first (made_in o) client server) (the_stage client server (made_in o))
+begun (Some x) client server s none world client_source server_source = cc
+begun None client server s none world client_source server_source = rw (world, client_source, server_source) refl
+
+-- both ends settle
+pub is_settling : (now : ℕ) (s : Stage) (client server : Options) (m : Made) (next : World) (policies : Policies) (before behind text : List ℕ) → the_stage client server (Some m) ≡ with_made (made_at s) s → TellsRest m.policies m.world now before behind next
+    → policies ≡ m.policies → before ≡ codes "settle " → text ≡ behind ++ line_feed → IsSettling now s text (the_stage client server (Some (record { world = next; policies = policies })))
+is_settling now s client server m next policies before behind text begins tells same head line =
+    let made : Some m ≡ Some (made_at s) = ap (λ (t : Stage). t.made) begins in
+    let is : m ≡ made_at s = cc in
+    record {
+      answer = tells.0;
+      next = next;
+      settled = subst (λ (x : Made). IsSettled x.policies x.world now tells.0 next) is tells.1;
+      line = line ∙ ap (λ (t : List ℕ). t ++ line_feed) (tells.2 ∙ ap (λ (t : List ℕ). t ++ tells.0) head) ∙ append_assoc (codes "settle ") tells.0 line_feed;
+      after =
+          ap (λ (c : Options). the_stage c server (Some (record { world = next; policies = policies }))) (ap (λ (t : Stage). t.client) begins)
+          ∙ ap (λ (c : Options). the_stage s.client c (Some (record { world = next; policies = policies }))) (ap (λ (t : Stage). t.server) begins)
+          ∙ ap (λ (p : Policies). the_stage s.client s.server (Some (record { world = next; policies = p }))) (same ∙ ap (λ (x : Made). x.policies) is);
+    }

@@ -14,7 +14,7 @@ use Rattle.quic_wire_core.specs.declared.stream_id.Side.TheVariants.{Client, Ser
 use Rattle.quic_wire_core.specs.StreamId.{other_side}
 use Rattle.quic_machine.specs.Policy.{CanOpen}
 use Rattle.quic_run_core.specs.KeysOf.{keys_of}
-use Rattle.quic_run_core.specs.Plain.{xored, mask_first, mask_number, tag, plain_sealed, plain_opened, plain_protection, plain_aead}
+use Rattle.quic_run_core.specs.Plain.{xored, tag, plain_sealed, plain_opened, plain_protection, plain_aead}
 use Rattle.quic_run_core.specs.PlainLaw.{number_length, adds_tag}
 use Rattle.quic_run_core.specs.Policies.{plain_policy}
 
@@ -72,6 +72,6 @@ keys_mate Client = record { header = header_mate; packet = plain_mate 0x63 _ _ }
 keys_mate Server = record { header = header_mate; packet = plain_mate 0x73 _ _ }
 
 -- what either end gives, the other one can open
-pub policies_mate : (side : Side) → CanOpen (plain_policy side) (plain_policy (other_side side))
-policies_mate Client = record { header = header_mate; packet = plain_mate 0x63 _ _ }
-policies_mate Server = record { header = header_mate; packet = plain_mate 0x73 _ _ }
+pub policies_mate : (side : Side) (own peer : ℕ → ℕ) → CanOpen (plain_policy side own) (plain_policy (other_side side) peer)
+policies_mate Client own peer = record { header = header_mate; packet = plain_mate 0x63 _ _ }
+policies_mate Server own peer = record { header = header_mate; packet = plain_mate 0x73 _ _ }

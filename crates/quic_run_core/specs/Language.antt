@@ -17,7 +17,7 @@ use Rattle.quic_run_core.specs.declared.script.Line.TheVariants as lines
 use Rattle.quic_run_core.specs.declared.script.LineError.{LineError}
 use Rattle.quic_run_core.specs.declared.script.LineError.TheVariants.{BadCommand, OutOfMemory}
 use Rattle.quic_run_core.specs.declared.script.Setting.{Setting}
-use Rattle.quic_run_core.specs.declared.script.Setting.TheVariants.{ReceiveWindow, StreamWindow, SendWindow, Bidi, Uni, Word}
+use Rattle.quic_run_core.specs.declared.script.Setting.TheVariants.{ReceiveWindow, StreamWindow, SendWindow, Bidi, Uni, Messages, Word, Pcg}
 use Rattle.quic_run_core.specs.Named.{side_named, dir_named, mark_named, timer_named, bytes_named}
 
 -- ---- what may be asked for
@@ -34,6 +34,9 @@ pub data Asked : Type 0 where
   reads : ℕ → ℕ → Asked
   picks : ℕ → ℕ → Asked
   stops : ℕ → ℕ → Asked
+  -- a message, for which no older one goes
+  sends : List ℕ → Asked
+  reads_message : Asked
   pings : Asked
   polls : ℕ → Asked
   times_out : ℕ → Asked
@@ -153,8 +156,10 @@ setting_said name args =
     else (if is_word name (codes "send_window") then one SendWindow number_named args
     else (if is_word name (codes "bidi") then one Bidi count_named args
     else (if is_word name (codes "uni") then one Uni count_named args
+    else (if is_word name (codes "messages") then one Messages number_named args
     else (if is_word name (codes "word") then one Word number_named args
-    else None)))))
+    else (if is_word name (codes "pcg") then one Pcg number_named args
+    else None)))))))
 
 -- the same, where there is a name
 abbrev pub settings_said : List (List ℕ) → Option Setting
@@ -178,6 +183,8 @@ call_said name args =
     else (if is_word name (codes "read") then two (reading true) varint_named number_named args
     else (if is_word name (codes "pick") then two (reading false) varint_named number_named args
     else (if is_word name (codes "stop") then two stops varint_named varint_named args
+    else (if is_word name (codes "send") then one sends bytes_named args
+    else (if is_word name (codes "recv") then ends args (Some reads_message)
     else (if is_word name (codes "ping") then ends args (Some pings)
     else (if is_word name (codes "poll") then one polls number_named args
     else (if is_word name (codes "timeout") then one times_out number_named args
@@ -186,7 +193,7 @@ call_said name args =
     else (if is_word name (codes "event") then ends args (Some asks_event)
     else (if is_word name (codes "timer") then one asks_timer timer_named args
     else (if is_word name (codes "next") then ends args (Some asks_next)
-    else None))))))))))))))))
+    else None))))))))))))))))))
 
 -- what the words behind an end's ask for
 abbrev pub command_said : Side → List ℕ → List (List ℕ) → Option Command
@@ -229,6 +236,11 @@ asked_read id ordered (most ∷ []) true = reading ordered id most
 asked_read id ordered (most ∷ []) false = others
 asked_read id ordered (most ∷ next ∷ mosts) done = others
 
+-- a message, by whether older ones go for it
+abbrev pub asked_send : List ℕ → Bool → Asked
+asked_send message true = others
+asked_send message false = sends message
+
 -- what a call asks for
 abbrev pub asked_of : Call → Asked
 asked_of (calls.Open dir) = opens dir
@@ -241,6 +253,8 @@ asked_of (calls.Read read) = asked_read read.id read.ordered read.nexts.items re
 asked_of (calls.Stop id code) = stops id code
 asked_of (calls.WriteChunks id chunks) = others
 asked_of (calls.ReceivedReset id) = others
+asked_of (calls.Send message makes_room) = asked_send message makes_room
+asked_of calls.Recv = reads_message
 asked_of calls.Ping = pings
 asked_of (calls.Poll now) = polls now
 asked_of (calls.Timeout now) = times_out now

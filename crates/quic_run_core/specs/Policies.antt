@@ -1,18 +1,22 @@
--- What the stand-in keys of two ends do, as the machine sees it.
+-- What the stand-in keys and random sources of two ends do, as the machine sees it.
+use Rattle.std.specs.Prelude.{ℕ}
 use Rattle.quic_wire_core.specs.declared.stream_id.Side.{Side}
 use Rattle.quic_wire_core.specs.declared.stream_id.Side.TheVariants.{Client, Server}
 use Rattle.quic_machine.specs.Policy.{Policy}
 use Rattle.quic_machine.specs.Machine.{Policies}
-use Rattle.quic_connection.specs.Ends.{policies_of}
+use Rattle.quic_connection.specs.Ends.{AreOf}
 use Rattle.quic_connection.specs.declared.running.Ends.{Ends}
 use Rattle.quic_run_core.specs.declared.key.PlainHeaderKey.{PlainHeaderKey}
 use Rattle.quic_run_core.specs.declared.key.PlainKey.{PlainKey}
 use Rattle.quic_run_core.specs.Plain.{plain_sealed, plain_opened, plain_protection, plain_aead}
 use Rattle.quic_run_core.specs.KeysOf.{keys_of}
+use Rattle.quic_run_core.specs.declared.words.Words.{Words}
+use Rattle.quic_run_core.specs.Words.{stream_from}
 
--- what the keys of an end do
-abbrev pub plain_policy : Side → Policy
-plain_policy side = record {
+-- what the keys of an end do, and its random source, which answers these words one after another
+abbrev pub plain_policy : Side → (ℕ → ℕ) → Policy
+plain_policy side words = record {
+  words = words;
   header = plain_protection;
   packet = record {
     seal = plain_sealed (keys_of side).packet.local.mark;
@@ -20,10 +24,10 @@ plain_policy side = record {
   };
 }
 
--- what the keys of both do
-abbrev pub plain_policies : Policies
-plain_policies = record { client = plain_policy Client; server = plain_policy Server }
+-- what the keys of both do, and their random sources, of which the client's answers the first words and the server's the second
+abbrev pub plain_policies : (ℕ → ℕ) → (ℕ → ℕ) → Policies
+plain_policies client server = record { client = plain_policy Client client; server = plain_policy Server server }
 
--- what the keys of these two ends do
-abbrev pub policies_in : {R : Type 0} → Ends PlainHeaderKey PlainKey R → Policies
-policies_in ends = policies_of (λ _. plain_protection) (λ k. plain_aead k.mark) ends
+-- these policies do what the keys and the random sources of these two ends do
+abbrev pub ArePlain : Policies → Ends PlainHeaderKey PlainKey Words → Type 0
+ArePlain k ends = AreOf k (λ _. plain_protection) (λ k. plain_aead k.mark) stream_from ends

@@ -20,6 +20,8 @@ use Rattle.quic_wire_core.specs.declared.stream_id.Dir.{Dir}
 use Rattle.quic_wire_core.specs.declared.stream_id.Dir.TheVariants.{Bi, Uni}
 use Rattle.quic_streams_parts.specs.declared.answers.ReadableError.{ReadableError}
 use Rattle.quic_streams_parts.specs.declared.answers.ReadableError.TheVariants as readables
+use Rattle.quic_messages.specs.declared.errors.SendDatagramError.{SendDatagramError}
+use Rattle.quic_messages.specs.declared.errors.SendDatagramError.TheVariants as sends
 use Rattle.quic_machine.specs.declared.answers.DropReason.{DropReason}
 use Rattle.quic_machine.specs.declared.answers.DropReason.TheVariants as drops
 use Rattle.quic_machine.specs.declared.answers.Received.{Received}
@@ -117,6 +119,20 @@ abbrev pub first_next_text : List (Result (Option Chunk) ReadError) → List ℕ
 first_next_text [] = []
 first_next_text (next ∷ nexts) = next_text next
 
+-- whether a message waits to go, or why not
+abbrev pub send_text : Result (Unit {0}) SendDatagramError → List ℕ
+send_text (Ok done) = codes "ok"
+send_text (Err sends.UnsupportedByPeer) = codes "unsupported"
+send_text (Err sends.Disabled) = codes "disabled"
+send_text (Err sends.TooLarge) = codes "toolarge"
+send_text (Err sends.Blocked) = codes "blocked"
+send_text (Err sends.Memory) = codes "memory"
+
+-- a message that was read, if there is one
+abbrev pub message_text : Option (List ℕ) → List ℕ
+message_text (Some message) = bytes_text message
+message_text None = codes "none"
+
 -- which datagram of its end was given, its size and its mark
 abbrev pub transmit_text : ℕ → Transmit → List ℕ
 transmit_text index transmit = decimal index ++ (codes " " ++ (decimal transmit.size ++ (codes " " ++ mark_text transmit.ecn)))
@@ -172,6 +188,7 @@ stream_event_text (happenings.Available dir) = codes "available " ++ dir_text di
 -- what the application is told, if anything
 abbrev pub event_text : Option Event → List ℕ
 event_text (Some (events.Stream event)) = stream_event_text event
+event_text (Some events.Message) = codes "message"
 event_text (Some (events.Lost reason)) = codes "lost " ++ loss_text reason
 event_text None = codes "none"
 
@@ -195,6 +212,8 @@ answer_text given (answers.Stop done) = update_text done
 answer_text given (answers.ReceivedReset code) = reset_text code
 answer_text given (answers.Read (Ok nexts)) = first_next_text nexts
 answer_text given (answers.Read (Err error)) = unreadable_text error
+answer_text given (answers.Send sent) = send_text sent
+answer_text given (answers.Recv message) = message_text message
 answer_text given answers.Ping = codes "ok"
 answer_text given (answers.Poll (Ok (Some transmit))) = transmit_text (given - 1) transmit
 answer_text given (answers.Poll (Ok None)) = codes "none"
@@ -227,6 +246,8 @@ call_text (calls.SetPriority id priority) = codes "priority"
 call_text (calls.Read read) = read_name read.ordered
 call_text (calls.Stop id code) = codes "stop"
 call_text (calls.ReceivedReset id) = codes "received_reset"
+call_text (calls.Send message makes_room) = codes "send"
+call_text calls.Recv = codes "recv"
 call_text calls.Ping = codes "ping"
 call_text (calls.Poll now) = codes "poll"
 call_text (calls.Timeout now) = codes "timeout"

@@ -1,22 +1,24 @@
 -- What a script does: its lines in turn, each with what it prints.
-use Rattle.std.specs.Prelude.{min, ◌^◌, ◌≡◌, ◌≤◌, ◌==◌, ℕ, true, List, [], ◌∷◌, ◌++◌, length, replicate, codes, Option, Some, None, IsSome, IfSome, Ok}
+use Rattle.std.specs.Prelude.{min, ◌^◌, ◌≡◌, ◌≤◌, ◌==◌, ℕ, true, if◌then◌else◌, List, [], ◌∷◌, ◌++◌, length, replicate, codes, Option, Some, None, IsSome, IfSome, Ok}
 use Rattle.std.specs.declared.alloc.AllocError.{AllocError}
 use Rattle.std.specs.List.{slice_split}
 use Rattle.quic_wire_core.specs.declared.stream_id.Side.{Side}
 use Rattle.quic_wire_core.specs.declared.stream_id.Side.TheVariants.{Client, Server}
 use Rattle.quic_wire_core.specs.StreamId.{other_side}
-use Rattle.quic_config.specs.Transport.{settings_with, default_transport, parameters_of}
+use Rattle.quic_config.specs.Transport.{Settings, settings_with, default_transport, parameters_of}
 use Rattle.quic_parameters.specs.ParametersWritten.{written_parameters}
 use Rattle.quic_machine.specs.End.{End, new_end}
 use Rattle.quic_machine.specs.Start.{Making}
 use Rattle.quic_connection.specs.Ends.{in_order}
-use Rattle.quic_machine.specs.Machine.{World, IsStep, given_by}
+use Rattle.quic_machine.specs.Machine.{World, Policies, IsStep, given_by}
 use Rattle.quic_machine.specs.declared.run.RunEvent.{RunEvent}
 use Rattle.quic_machine.specs.declared.run.Answer.{Answer}
 use Rattle.quic_connection.specs.Settled.{AreAtRest, Settles}
 use Rattle.quic_run_core.specs.declared.options.Options.{Options}
 use Rattle.quic_run_core.specs.declared.script.Setting.{Setting}
-use Rattle.quic_run_core.specs.declared.script.Setting.TheVariants.{ReceiveWindow, StreamWindow, SendWindow, Bidi, Uni, Word}
+use Rattle.quic_run_core.specs.declared.script.Setting.TheVariants.{ReceiveWindow, StreamWindow, SendWindow, Bidi, Uni, Messages, Word, Pcg}
+use Rattle.quic_run_core.specs.declared.words.Source.TheVariants as sources
+use Rattle.quic_run_core.specs.Words.{words_from}
 use Rattle.quic_run_core.specs.Policies.{plain_policies}
 use Rattle.quic_run_core.specs.Printed.{call_text, rest_text, answer_text}
 use Rattle.quic_run_core.specs.Shown.{shown_text}
@@ -26,16 +28,26 @@ use Rattle.quic_run_core.specs.Language.{Command, Asked, nothing, sets, asks, sh
 
 -- the options of an end for which none is set
 abbrev pub first_options : Options
-first_options = record { transport = default_transport; word = 63 }
+first_options = record { transport = default_transport; source = sources.Word 63 }
+
+-- the settings of an end with these options; none sets a size of datagrams
+abbrev pub settings_of : Options → Settings
+settings_of o = settings_with (record o.transport { initial_mtu = 1200; min_mtu = 1200 }) true
+
+-- how many bytes of messages an end keeps unread: none, where it takes no messages, for 0
+abbrev pub kept_size : ℕ → Option ℕ
+kept_size bytes = if bytes == 0 then None else Some bytes
 
 -- the options with one of them set
 abbrev pub with_setting : Setting → Options → Options
-with_setting (ReceiveWindow value) o = record { transport = record o.transport { receive_window = value }; word = o.word }
-with_setting (StreamWindow value) o = record { transport = record o.transport { stream_receive_window = value }; word = o.word }
-with_setting (SendWindow value) o = record { transport = record o.transport { send_window = value }; word = o.word }
-with_setting (Bidi count) o = record { transport = record o.transport { max_bidi = min count (2 ^ 60) }; word = o.word }
-with_setting (Uni count) o = record { transport = record o.transport { max_uni = min count (2 ^ 60) }; word = o.word }
-with_setting (Word word) o = record { transport = o.transport; word = word }
+with_setting (ReceiveWindow value) o = record { transport = record o.transport { receive_window = value }; source = o.source }
+with_setting (StreamWindow value) o = record { transport = record o.transport { stream_receive_window = value }; source = o.source }
+with_setting (SendWindow value) o = record { transport = record o.transport { send_window = value }; source = o.source }
+with_setting (Bidi count) o = record { transport = record o.transport { max_bidi = min count (2 ^ 60) }; source = o.source }
+with_setting (Uni count) o = record { transport = record o.transport { max_uni = min count (2 ^ 60) }; source = o.source }
+with_setting (Messages bytes) o = record { transport = record o.transport { datagram_receive_buffer_size = kept_size bytes }; source = o.source }
+with_setting (Word word) o = record { transport = o.transport; source = sources.Word word }
+with_setting (Pcg seed) o = record { transport = o.transport; source = sources.Pcg seed }
 
 -- ---- the ends
 
@@ -46,7 +58,7 @@ first_id Server = replicate 8 0x50
 
 -- an end as it is made at moment 0: the other end's options are its limits
 abbrev pub first_end : Side → Options → Options → End
-first_end side own peer = new_end side (settings_with own.transport true) (parameters_of (settings_with peer.transport true)) (first_id side) (first_id (other_side side)) 0 true
+first_end side own peer = new_end side (settings_of own) (parameters_of (settings_of peer)) (first_id side) (first_id (other_side side)) 0 true (words_from own.source 0)
 
 -- both ends as they are made, of the client's options and the server's
 abbrev pub first_world : Options → Options → World
@@ -55,61 +67,74 @@ first_world client server = record { client = first_end Client client server; se
 -- how an end is made, as the premises of every promise on runs name it (its parameters are written in the order of their ids)
 abbrev pub making : Side → Options → Making
 making side own =
-    let settings = settings_with own.transport true in
-    record { settings = settings; parameters = written_parameters (parameters_of settings) in_order; id = first_id side; moment = 0; validated = true }
+    let settings = settings_of own in
+    record { settings = settings; parameters = written_parameters (parameters_of settings) in_order; id = first_id side; moment = 0; validated = true; word = words_from own.source 0 }
 
 -- What is printed of an event in a world, and the world behind it: the machine answers so, and leaves it so.
-pub record IsTold (w : World) (event : RunEvent) (text : List ℕ) (next : World) : Type 0 where
+pub record IsTold (k : Policies) (w : World) (event : RunEvent) (text : List ℕ) (next : World) : Type 0 where
   pub answer : Answer
-  pub step : IsStep plain_policies w event answer next
+  pub step : IsStep k w event answer next
   pub is : text ≡ answer_text (length (given_by event.side next)) answer
 
 -- an event's answer is appended to a text
-abbrev pub Tells : World → RunEvent → List ℕ → List ℕ → World → Type 0
-Tells w event old new next = (text : List ℕ) × IsTold w event text next × (new ≡ old ++ text)
+abbrev pub Tells : Policies → World → RunEvent → List ℕ → List ℕ → World → Type 0
+Tells k w event old new next = (text : List ℕ) × IsTold k w event text next × (new ≡ old ++ text)
 
 -- What is printed where two ends talk from a moment on, turn by turn, and the world behind it: a moment, not before that one, at which both
 -- rest, or that they were given up.
-pub record IsSettled (w : World) (now : ℕ) (text : List ℕ) (next : World) : Type 0 where
+pub record IsSettled (k : Policies) (w : World) (now : ℕ) (text : List ℕ) (next : World) : Type 0 where
   pub answer : Option ℕ
-  pub talk : Settles {E = AllocError} plain_policies now w (Ok answer) next
-  pub rest : IfSome answer (λ moment. AreAtRest plain_policies now w moment next)
+  pub talk : Settles {E = AllocError} k now w (Ok answer) next
+  pub rest : IfSome answer (λ moment. AreAtRest k now w moment next)
   pub later : IfSome answer (λ moment. now ≤ moment)
   pub is : text ≡ rest_text answer
 
 -- what comes of a talk is appended to a text
-abbrev pub TellsRest : World → ℕ → List ℕ → List ℕ → World → Type 0
-TellsRest w now old new next = (text : List ℕ) × IsSettled w now text next × (new ≡ old ++ text)
+abbrev pub TellsRest : Policies → World → ℕ → List ℕ → List ℕ → World → Type 0
+TellsRest k w now old new next = (text : List ℕ) × IsSettled k w now text next × (new ≡ old ++ text)
 
 -- ---- a line
+
+-- Two ends as they are made and go on: the world that they make, and what their keys and random sources do.
+pub record Made : Type 0 where
+  pub world : World
+  pub policies : Policies
+
+-- those that are made of the client's options and the server's
+abbrev pub first_made : Options → Options → Made
+first_made client server = record { world = first_world client server; policies = plain_policies (words_from client.source) (words_from server.source) }
 
 -- how far a script is: the options of both ends, and the ends once they are made
 pub record Stage : Type 0 where
   pub client : Options
   pub server : Options
-  pub world : Option World
+  pub made : Option Made
 
 -- nothing was done
 abbrev pub first_stage : Stage
-first_stage = record { client = first_options; server = first_options; world = None }
+first_stage = record { client = first_options; server = first_options; made = None }
 
 -- a stage with an option of an end set
 abbrev pub with_option : Side → Setting → Stage → Stage
-with_option Client setting s = record { client = with_setting setting s.client; server = s.server; world = s.world }
-with_option Server setting s = record { client = s.client; server = with_setting setting s.server; world = s.world }
+with_option Client setting s = record { client = with_setting setting s.client; server = s.server; made = s.made }
+with_option Server setting s = record { client = s.client; server = with_setting setting s.server; made = s.made }
 
 -- a stage with these ends
-abbrev pub with_world : World → Stage → Stage
-with_world w s = record { client = s.client; server = s.server; world = Some w }
+abbrev pub with_made : Made → Stage → Stage
+with_made m s = record { client = s.client; server = s.server; made = Some m }
 
 -- these ends, or those that are made of the options
-abbrev pub world_or_first : Option World → Options → Options → World
-world_or_first None client server = first_world client server
-world_or_first (Some w) client server = w
+abbrev pub made_or_first : Option Made → Options → Options → Made
+made_or_first None client server = first_made client server
+made_or_first (Some m) client server = m
 
 -- the ends at a stage, which are made now if they aren't yet
-abbrev pub world_at : Stage → World
-world_at s = world_or_first s.world s.client s.server
+abbrev pub made_at : Stage → Made
+made_at s = made_or_first s.made s.client s.server
+
+-- a stage whose ends went on to this world
+abbrev pub with_world : World → Stage → Stage
+with_world w s = with_made (record { world = w; policies = (made_at s).policies }) s
 
 -- how an end is named
 abbrev pub side_text : Side → List ℕ
@@ -135,7 +160,7 @@ pub record IsCall (side : Side) (asked : Asked) (s : Stage) (text : List ℕ) (t
   pub of_call : asked_of event.call ≡ asked
   pub answer : List ℕ
   pub next : World
-  pub told : IsTold (world_at s) event answer next
+  pub told : IsTold (made_at s).policies (made_at s).world event answer next
   pub line : text ≡ line_text side (call_text event.call) answer
   pub after : t ≡ with_world next s
 
@@ -143,16 +168,16 @@ pub record IsCall (side : Side) (asked : Asked) (s : Stage) (text : List ℕ) (t
 pub record IsSettling (now : ℕ) (s : Stage) (text : List ℕ) (t : Stage) : Type 0 where
   pub answer : List ℕ
   pub next : World
-  pub settled : IsSettled (world_at s) now answer next
+  pub settled : IsSettled (made_at s).policies (made_at s).world now answer next
   pub line : text ≡ codes "settle " ++ (answer ++ line_feed)
   pub after : t ≡ with_world next s
 
 -- What a command prints, and the stage behind it. An option is set before the ends are made.
 abbrev pub IsDone : Command → Stage → List ℕ → Stage → Type 0
 IsDone nothing s text t = (text ≡ []) × (t ≡ s)
-IsDone (sets side setting) s text t = (s.world ≡ None) × (text ≡ line_text side (codes "set") (codes "ok")) × (t ≡ with_option side setting s)
+IsDone (sets side setting) s text t = (s.made ≡ None) × (text ≡ line_text side (codes "set") (codes "ok")) × (t ≡ with_option side setting s)
 IsDone (asks side asked) s text t = IsCall side asked s text t
-IsDone (shows side index) s text t = (text ≡ line_text side (codes "show") (shown_text side (given_by side (world_at s)) index)) × (t ≡ with_world (world_at s) s)
+IsDone (shows side index) s text t = (text ≡ line_text side (codes "show") (shown_text side (given_by side (made_at s).world) index)) × (t ≡ with_made (made_at s) s)
 IsDone (settles now) s text t = IsSettling now s text t
 
 -- what a line prints, and the stage behind it, by what it asks for
@@ -164,7 +189,7 @@ Does (Some command) s text t = IsDone command s text t
 abbrev pub IsRefused : Option Command → Stage → Type 0
 IsRefused None s = Unit {0}
 IsRefused (Some nothing) s = ⊥
-IsRefused (Some (sets side setting)) s = IsSome s.world
+IsRefused (Some (sets side setting)) s = IsSome s.made
 IsRefused (Some (asks side asked)) s = ⊥
 IsRefused (Some (shows side index)) s = ⊥
 IsRefused (Some (settles now)) s = ⊥

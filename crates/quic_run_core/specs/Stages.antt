@@ -1,16 +1,17 @@
 -- The stage that a runner is at.
 use Rattle.std.specs.Prelude.{Option, Some, None}
-use Rattle.quic_machine.specs.Machine.{World}
 use Rattle.quic_connection.specs.Ends.{world_of}
 use Rattle.quic_run_core.specs.declared.session.Session.{Session}
 use Rattle.quic_run_core.specs.declared.runner.Runner.{Runner}
-use Rattle.quic_run_core.specs.Scripts.{Stage}
+use Rattle.quic_run_core.specs.Words.{words_from}
+use Rattle.quic_run_core.specs.Policies.{plain_policies}
+use Rattle.quic_run_core.specs.Scripts.{Made, Stage}
 
 -- the ends of a session, if there is one
-abbrev pub world_in : Option Session → Option World
-world_in None = None
-world_in (Some session) = Some (world_of session.ends session.given)
+abbrev pub made_in : Option Session → Option Made
+made_in None = None
+made_in (Some session) = Some (record { world = world_of session.ends session.given; policies = plain_policies (words_from session.client_source) (words_from session.server_source) })
 
 -- how far a runner is
 abbrev pub stage_of : Runner → Stage
-stage_of runner = record { client = runner.client; server = runner.server; world = world_in runner.session }
+stage_of runner = record { client = runner.client; server = runner.server; made = made_in runner.session }

@@ -1,10 +1,12 @@
 //! What is printed of an answer.
 ghost use Rattle.std.specs.Prelude.{◌≡◌, ◌++◌, OnOk, string_bytes};
-ghost use Rattle.quic_run_core.specs.Printed.{bytes_text, coded_text, id_text, moment_text, mark_text, write_text, chunks_text, finish_text, update_text, reset_text, dir_text, stream_event_text, unreadable_text, next_text, transmit_text, reason_text, received_text, timeout_text, loss_text, event_text, rest_text, answer_text, call_text};
+ghost use Rattle.quic_run_core.specs.Printed.{bytes_text, coded_text, id_text, moment_text, mark_text, write_text, chunks_text, finish_text, update_text, reset_text, dir_text, stream_event_text, unreadable_text, next_text, send_text, message_text, transmit_text, reason_text, received_text, timeout_text, loss_text, event_text, rest_text, answer_text, call_text};
 
+use bytes::Bytes;
 use quic_connection::{
     Answer, Call, Chunk, ClosedStream, DropReason, Event, Failed, FinishError, Instant, LostReason,
-    ReadError, ReadableError, Received, StreamEvent, Transmit, UpdateError, WriteError, Written,
+    ReadError, ReadableError, Received, SendDatagramError, StreamEvent, Transmit, UpdateError,
+    WriteError, Written,
 };
 use quic_wire_core::{Dir, EcnCodepoint, StreamId, VarInt};
 use std::alloc::{AllocError, Global};
@@ -149,6 +151,30 @@ fn unreadable_name(error: ReadableError) -> &'static str
     }
 }
 
+/// How it is printed whether a message waits to go, or why not.
+fn send_name(sent: &Result<(), SendDatagramError>) -> &'static str
+    ensures { result.now ≡ send_text sent.now }
+{
+    match sent {
+        Ok(()) => "ok",
+        Err(SendDatagramError::UnsupportedByPeer) => "unsupported",
+        Err(SendDatagramError::Disabled) => "disabled",
+        Err(SendDatagramError::TooLarge) => "toolarge",
+        Err(SendDatagramError::Blocked) => "blocked",
+        Err(SendDatagramError::Memory) => "memory",
+    }
+}
+
+/// Appends a message that was read, if there is one.
+fn put_message(alloc: Global, out: &mut String, message: &Option<Bytes>) -> Result<(), AllocError>
+    ensures { OnOk result (string_bytes out.new ≡ string_bytes out.old ++ message_text message.now) }
+{
+    match message {
+        Some(bytes) => put_bytes(alloc, out, bytes),
+        None => out.push_str("none"),
+    }
+}
+
 /// How a mark is printed, where `-` stands for none.
 fn mark_name(ecn: Option<EcnCodepoint>) -> &'static str
     ensures { result.now ≡ mark_text ecn }
@@ -267,6 +293,7 @@ fn put_event(out: &mut String, event: &Option<Event>) -> Result<(), AllocError>
 {
     match event {
         Some(Event::Stream(event)) => put_stream_event(out, event),
+        Some(Event::Message) => out.push_str("message"),
         Some(Event::Lost(reason)) => {
             let name = loss_name(reason);
             write!(out, "lost {name}")
@@ -311,6 +338,8 @@ pub(crate) fn put_answer(
             [next, ..] => put_next(alloc, out, next),
             [] => Ok(()),
         },
+        Answer::Send(sent) => out.push_str(send_name(sent)),
+        Answer::Recv(message) => put_message(alloc, out, message),
         Answer::Ping => out.push_str("ok"),
         Answer::Poll(Ok(Some(transmit))) => put_transmit(out, transmit, given.saturating_sub(1)),
         Answer::Poll(Ok(None)) => out.push_str("none"),
@@ -340,6 +369,8 @@ pub(crate) fn call_name(call: &Call) -> &'static str
         Call::Read(_) => "pick",
         Call::Stop(_, _) => "stop",
         Call::ReceivedReset(_) => "received_reset",
+        Call::Send(_, _) => "send",
+        Call::Recv => "recv",
         Call::Ping => "ping",
         Call::Poll(_) => "poll",
         Call::Timeout(_) => "timeout",

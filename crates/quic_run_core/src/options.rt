@@ -1,18 +1,32 @@
 //! What is set of an end before it is made.
 ghost use Rattle.std.specs.Prelude.{◌≡◌};
-ghost use Rattle.quic_run_core.specs.Scripts.{first_options, with_setting};
+ghost use Rattle.quic_run_core.specs.Scripts.{first_options, settings_of, kept_size, with_setting};
 
 use crate::script::Setting;
-use quic_connection::TransportConfig;
+use crate::words::Source;
+use quic_connection::{Config, TransportConfig};
 
-/// The random word of an end that is given no other.
-const WORD: u64 = 63;
+/// The most bytes of a datagram, and the least that each path carries (RFC 9000, section 14).
+const MTU: u16 = 1200;
+
+/// Where the random words of an end come from that is given no other source.
+const SOURCE: Source = Source::Word(63);
+
+/// How many bytes of messages an end keeps unread: `None`, where it takes no messages, for 0.
+fn kept_size(bytes: usize) -> Option<usize>
+    ensures { result ≡ kept_size bytes }
+{
+    match bytes {
+        0 => None,
+        _ => Some(bytes),
+    }
+}
 
 /// The options of an end.
 #[derive(Clone, Copy, Debug)]
 pub(crate) struct Options {
     pub(crate) transport: TransportConfig,
-    pub(crate) word: u64,
+    pub(crate) source: Source,
 }
 
 impl Options {
@@ -22,8 +36,19 @@ impl Options {
     {
         Options {
             transport: TransportConfig::default(),
-            word: WORD,
+            source: SOURCE,
         }
+    }
+
+    /// The configuration of an end with these options. None sets a size of datagrams: it is the
+    /// default one.
+    pub(crate) fn config(&self) -> Config
+        ensures { result ≡ settings_of self.now }
+    {
+        let mut transport = self.transport;
+        transport.initial_mtu(MTU);
+        transport.min_mtu(MTU);
+        Config::new(transport)
     }
 
     /// Sets one option, in place of what it was.
@@ -46,7 +71,12 @@ impl Options {
             Setting::Uni(count) => {
                 self.transport.max_concurrent_uni_streams(count);
             }
-            Setting::Word(word) => self.word = word,
+            Setting::Messages(bytes) => {
+                self.transport
+                    .datagram_receive_buffer_size(kept_size(bytes));
+            }
+            Setting::Word(word) => self.source = Source::Word(word),
+            Setting::Pcg(seed) => self.source = Source::Pcg(seed),
         }
     }
 }

@@ -2,7 +2,7 @@
 ghost use Rattle.std.specs.Prelude.{◌≡◌, ◌⊎◌, MatchResult, IfErr, IfOk, OnOk, IsSome, string_bytes};
 ghost use Rattle.std.specs.Io.KnownBytes.{Appends};
 ghost use Rattle.quic_run_core.specs.Language.{sets, asks, shows, settles, asked_of, said};
-ghost use Rattle.quic_run_core.specs.Scripts.{first_stage, with_world, world_at, IsDone, Does, IsRefused, heading as heading_of};
+ghost use Rattle.quic_run_core.specs.Scripts.{first_stage, with_made, made_at, IsDone, Does, IsRefused, heading as heading_of};
 ghost use Rattle.quic_run_core.specs.Stages.{stage_of};
 ghost use Rattle.quic_run_core.specs.Reading.{left_of, KnowsEnd};
 ghost use Rattle.quic_run_core.specs.Outcomes.{RanAll, Stopped};
@@ -88,7 +88,7 @@ impl Runner {
     fn set(&mut self, side: Side, setting: Setting) -> Result<String, LineError>
         ensures { MatchResult result
             (λ text. IsDone (sets side setting) (stage_of self.old) (string_bytes text) (stage_of self.new))
-            (λ e. (e ≡ LineError.OutOfMemory) ⊎ ((e ≡ LineError.BadCommand) × IsSome (stage_of self.old).world)) }
+            (λ e. (e ≡ LineError.OutOfMemory) ⊎ ((e ≡ LineError.BadCommand) × IsSome (stage_of self.old).made)) }
     {
         if self.session.is_some() {
             return Err(LineError::BadCommand);
@@ -153,7 +153,7 @@ impl Runner {
 
     /// Makes the ends, unless they are made.
     fn begin(&mut self) -> Result<(), LineError>
-        ensures stage { OnOk result (stage_of self.new ≡ with_world (world_at (stage_of self.old)) (stage_of self.old)) }
+        ensures stage { OnOk result (stage_of self.new ≡ with_made (made_at (stage_of self.old)) (stage_of self.old)) }
         ensures memory { IfErr result (λ e. e ≡ LineError.OutOfMemory) }
     {
         if self.session.is_none() {

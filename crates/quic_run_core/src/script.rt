@@ -45,8 +45,12 @@ pub enum Setting {
     Bidi(VarInt),
     /// How many one-way streams the peer may have open at a time, 2^60 at most.
     Uni(VarInt),
+    /// How many bytes of messages are kept unread: 0 where the end takes none.
+    Messages(usize),
     /// The random word that the end is given each time.
     Word(u64),
+    /// The seed of the generator whose words the end is given.
+    Pcg(u64),
 }
 
 /// Why a line can't be run.
@@ -326,7 +330,9 @@ fn setting_of(name: &str, words: &mut LineWords) -> Result<Setting, LineError>
         "send_window" => Ok(Setting::SendWindow(words.number()?)),
         "bidi" => Ok(Setting::Bidi(words.count()?)),
         "uni" => Ok(Setting::Uni(words.count()?)),
+        "messages" => Ok(Setting::Messages(words.index()?)),
         "word" => Ok(Setting::Word(words.number()?)),
+        "pcg" => Ok(Setting::Pcg(words.number()?)),
         _ => Err(LineError::BadCommand),
     }
 }
@@ -357,6 +363,8 @@ fn call_of(alloc: Global, name: &str, words: &mut LineWords) -> Result<Call, Lin
             let id = words.stream_id()?;
             Ok(Call::Stop(id, words.varint()?))
         }
+        "send" => Ok(Call::Send(words.bytes(alloc)?, false)),
+        "recv" => Ok(Call::Recv),
         "ping" => Ok(Call::Ping),
         "poll" => Ok(Call::Poll(words.moment()?)),
         "timeout" => Ok(Call::Timeout(words.moment()?)),

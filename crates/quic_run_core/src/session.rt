@@ -4,10 +4,12 @@ ghost use Rattle.quic_wire_core.specs.declared.stream_id.Side.TheVariants.{Clien
 ghost use Rattle.quic_wire_core.specs.StreamId.{other_side};
 ghost use Rattle.quic_machine.specs.Machine.{given_by};
 ghost use Rattle.quic_machine.specs.Start.{IsMaking, AreStarted};
+ghost use Rattle.quic_connection_core.specs.Drawn.{after_words};
 ghost use Rattle.quic_connection.specs.Ends.{world_of};
 ghost use Rattle.quic_run_core.specs.KeysOf.{keys_of};
-ghost use Rattle.quic_run_core.specs.Policies.{plain_policies, policies_in};
+ghost use Rattle.quic_run_core.specs.Policies.{plain_policies, ArePlain};
 ghost use Rattle.quic_run_core.specs.Shown.{AreNumbers, shown_text};
+ghost use Rattle.quic_run_core.specs.Words.{source_stream, words_from};
 ghost use Rattle.quic_run_core.specs.Refusals.{line_error};
 ghost use Rattle.quic_run_core.specs.Scripts.{first_id, first_end, first_world, making, Tells, TellsRest};
 
@@ -16,12 +18,11 @@ use crate::key::{PlainHeaderKey, PlainKey, keys_for};
 use crate::options::Options;
 use crate::script::LineError;
 use crate::show::put_datagram;
-use crate::words::Words;
-use quic_connection::{
-    Config, ConfigError, Connection, Ends, Given, Instant, RunEvent, settle, step,
-};
+use crate::words::{Source, Words};
+use quic_connection::{ConfigError, Connection, Ends, Given, Instant, RunEvent, settle, step};
 use quic_parameters::TransportParameters;
 use quic_wire_core::{ConnectionId, Side};
+use rand_core::Rng;
 use std::alloc::{AllocError, Global};
 
 type End = Connection<PlainHeaderKey, PlainKey, Words>;
@@ -43,7 +44,9 @@ impl From<ConfigError> for LineError {
     fn from(error: ConfigError) -> LineError {
         match error {
             ConfigError::Memory => LineError::OutOfMemory,
-            ConfigError::Parameters | ConfigError::IdLength => LineError::BadCommand,
+            ConfigError::Parameters | ConfigError::IdLength | ConfigError::Size => {
+                LineError::BadCommand
+            }
         }
     }
 }
@@ -52,23 +55,23 @@ impl From<ConfigError> for LineError {
 fn make_end(alloc: Global, side: Side, own: &Options, peer: &Options) -> Result<End, LineError>
     ensures end { IfOk result (λ made. made.end ≡ first_end side own.now peer.now) }
     ensures keys { IfOk result (λ made. made.keys ≡ keys_of side) }
+    ensures words { IfOk result (λ made. ⟦<Words as Rng>⟧.stream made.random ≡ after_words 1 (source_stream own.now.source)) }
     ensures making { OnOk result (IsMaking (making (other_side side) peer.now)) }
     ensures memory { IfErr result (λ e. e ≡ LineError.OutOfMemory) }
 {
-    let parameters = Config::new(peer.transport).write_parameters(
-        alloc,
-        &TransportParameters::ORDER,
-    )?;
+    let parameters = peer
+        .config()
+        .write_parameters(alloc, &TransportParameters::ORDER)?;
     let end = Connection::new(
         alloc,
         side,
-        &Config::new(own.transport),
+        &own.config(),
         &parameters,
         first_id(side),
         first_id(!side),
         keys_for(side),
         Instant::from_nanos(0),
-        Words::word(own.word),
+        Words::of(own.source),
         true,
     )?;
     Ok(end)
@@ -83,7 +86,10 @@ pub(crate) struct Session {
     // The numbers of each end's first datagrams, as far as they were shown.
     client_numbers: Vec<u64>,
     server_numbers: Vec<u64>,
-    ghost plain: { policies_in ends ≡ plain_policies },
+    // Where their random words come from.
+    client_source: Source,
+    server_source: Source,
+    ghost plain: { ArePlain (plain_policies (words_from client_source) (words_from server_source)) ends },
     ghost client_known: { AreNumbers Client given.client.items client_numbers.items },
     ghost server_known: { AreNumbers Server given.server.items server_numbers.items },
 }
@@ -93,6 +99,8 @@ impl Session {
     pub(crate) fn new(alloc: Global, client: &Options, server: &Options) -> Result<Self, LineError>
         ensures world { IfOk result (λ session. world_of session.ends session.given ≡ first_world client.now server.now) }
         ensures started { OnOk result (AreStarted (first_world client.now server.now)) }
+        ensures client_source { IfOk result (λ session. session.client_source ≡ client.now.source) }
+        ensures server_source { IfOk result (λ session. session.server_source ≡ server.now.source) }
         ensures memory { IfErr result (λ e. e ≡ LineError.OutOfMemory) }
     {
         Ok(Session {
@@ -104,12 +112,15 @@ impl Session {
             given: Given::new(alloc),
             client_numbers: Vec::new(alloc),
             server_numbers: Vec::new(alloc),
+            client_source: client.source,
+            server_source: server.source,
         })
     }
 
     /// Makes a call, and appends what it answers.
     pub(crate) fn call(&mut self, event: &RunEvent, out: &mut String) -> Result<(), AllocError>
-        ensures { OnOk result (Tells (world_of self.old.ends self.old.given) event.now (string_bytes out.old) (string_bytes out.new) (world_of self.new.ends self.new.given)) }
+        ensures same_sources { (self.new.client_source ≡ self.old.client_source) × (self.new.server_source ≡ self.old.server_source) }
+        ensures tells { OnOk result (Tells (plain_policies (words_from self.old.client_source) (words_from self.old.server_source)) (world_of self.old.ends self.old.given) event.now (string_bytes out.old) (string_bytes out.new) (world_of self.new.ends self.new.given)) }
     {
         let answer = step(self.alloc, &mut self.ends, &mut self.given, event)?;
         let given = match event.side {
@@ -121,7 +132,8 @@ impl Session {
 
     /// Lets both ends talk from this moment on until they rest, and appends when they do.
     pub(crate) fn settle(&mut self, now: Instant, out: &mut String) -> Result<(), AllocError>
-        ensures { OnOk result (TellsRest (world_of self.old.ends self.old.given) now (string_bytes out.old) (string_bytes out.new) (world_of self.new.ends self.new.given)) }
+        ensures same_sources { (self.new.client_source ≡ self.old.client_source) × (self.new.server_source ≡ self.old.server_source) }
+        ensures tells { OnOk result (TellsRest (plain_policies (words_from self.old.client_source) (words_from self.old.server_source)) (world_of self.old.ends self.old.given) now (string_bytes out.old) (string_bytes out.new) (world_of self.new.ends self.new.given)) }
     {
         let moment = settle(self.alloc, &mut self.ends, &mut self.given, now)?;
         put_rest(out, moment)
@@ -134,6 +146,7 @@ impl Session {
         index: usize,
         out: &mut String,
     ) -> Result<(), AllocError>
+        ensures same_sources { (self.new.client_source ≡ self.old.client_source) × (self.new.server_source ≡ self.old.server_source) }
         ensures same { world_of self.new.ends self.new.given ≡ world_of self.old.ends self.old.given }
         ensures text { OnOk result (string_bytes out.new ≡ string_bytes out.old ++ shown_text side (given_by side (world_of self.old.ends self.old.given)) index) }
     {

@@ -1,6 +1,6 @@
 //! Datagrams that arrive in the other order, again and again, or not as they were given.
 use crate::ends::{delivery, event, hello, is_hello, is_served, ran, read_call, stream};
-use crate::frames::{End, new_end};
+use crate::frames::{End, with_end};
 use crate::runs::SEALED;
 use bytes::Bytes;
 use quic_connection::{
@@ -136,26 +136,30 @@ const CHANGED: [(usize, u8, DropReason); 8] = [
 ];
 
 /// Each of these is dropped, and the datagram as it was given is taken behind them.
-fn drops<R: Abort>(rt: &R, mut end: End) {
+fn drops<R: Abort>(rt: &R, end: &mut End) -> Result<(), Fail> {
     for (index, byte, reason) in CHANGED {
         let mut datagram = SEALED;
         if let Some(place) = datagram.get_mut(index) {
             *place = byte;
         }
-        assert_eq!(rt; refusal(rt, &mut end, &mut datagram), Some(reason));
+        assert_eq!(rt; refusal(rt, end, &mut datagram), Some(reason));
     }
     for (len, reason) in [(28usize, DropReason::TooShort), (33, DropReason::NotOpened)] {
         let mut datagram = SEALED;
         let (cut, _) = datagram.split_at_mut(len);
-        assert_eq!(rt; refusal(rt, &mut end, cut), Some(reason));
+        assert_eq!(rt; refusal(rt, end, cut), Some(reason));
     }
     let mut whole = SEALED;
-    assert_eq!(rt; refusal(rt, &mut end, &mut whole), None);
+    assert_eq!(rt; refusal(rt, end, &mut whole), None);
+    Ok(())
 }
 
 #[test]
 fn other_datagrams_are_dropped_by_name(rt: HostRuntime) -> Result<(), Fail> {
-    let end = new_end(rt.alloc(), Side::Server, TransportConfig::default())?;
-    drops(&rt, end);
-    Ok(())
+    with_end(
+        rt.alloc(),
+        Side::Server,
+        TransportConfig::default(),
+        |end| drops(&rt, end),
+    )
 }

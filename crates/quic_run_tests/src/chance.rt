@@ -2,7 +2,7 @@
 //! read in order or not, and ask to be told, while datagrams are lost, come late, and come again,
 //! and moments step on and back. Whatever comes of it, each byte that is read is the one written at
 //! its offset, none comes twice, and once nothing is lost any more all of them arrive.
-use crate::ends::{Pair, limited_ends};
+use crate::ends::{Pair, limited, with_pair};
 use bytes::Bytes;
 use quic_connection::{
     Answer, Call, Chunk, Delivery, Event, Instant, Nexts, ReadCall, RunEvent, StreamEvent,
@@ -130,9 +130,9 @@ fn finished_of(told: &Answer) -> Option<StreamId> {
 
 /// Two ends in mid-run.
 #[derive(Drop)]
-struct World {
+struct World<'a> {
     alloc: Global,
-    pair: Pair,
+    pair: &'a mut Pair,
     dice: Dice,
     // The greatest moment so far, in nanoseconds.
     now: u64,
@@ -141,16 +141,16 @@ struct World {
     is_wrong: bool,
 }
 
-impl World {
-    fn new(alloc: Global, seed: u64) -> Result<World, Fail> {
-        Ok(World {
+impl World<'_> {
+    fn new(alloc: Global, pair: &mut Pair, seed: u64) -> World<'_> {
+        World {
             alloc,
-            pair: Pair::of(alloc, limited_ends(alloc)?),
+            pair,
             dice: Dice { state: seed },
             now: 0,
             ways: Vec::new(alloc),
             is_wrong: false,
-        })
+        }
     }
 
     fn call(&mut self, side: Side, call: Call) -> Result<Answer, Fail> {
@@ -404,15 +404,16 @@ impl World {
 }
 
 /// Whether all of a run by chance is as it should be.
-fn arrives(alloc: Global, seed: u64) -> Result<bool, Fail> {
-    let mut world = World::new(alloc, seed)?;
+fn arrives(alloc: Global, pair: &mut Pair, seed: u64) -> Result<bool, Fail> {
+    let mut world = World::new(alloc, pair, seed);
     world.live()
 }
 
 #[test]
 fn random_scripts_arrive(rt: HostRuntime) -> Result<(), Fail> {
     for seed in 1..101 {
-        assert!(rt; arrives(rt.alloc(), seed)?, "seed {seed}");
+        let act = |pair: &mut Pair| arrives(rt.alloc(), pair, seed);
+        assert!(rt; with_pair(rt.alloc(), limited(), act)?, "seed {seed}");
     }
     Ok(())
 }

@@ -1,10 +1,11 @@
 //! Two ends with the keys of scripts, and events of theirs. Few functions own ends, since each that
-//! does is proved to let them go wherever it ends.
+//! does is proved to let them go wherever it ends: the others act on ends that they borrow.
 ghost use Rattle.std.specs.Prelude.{◌≡◌, IfOk};
 ghost use Rattle.quic_machine.specs.Start.{AreStarted, AreKeys};
-ghost use Rattle.quic_connection.specs.Ends.{first_world};
+ghost use Rattle.quic_connection.specs.Ends.{first_world, policies_of};
 ghost use Rattle.quic_run_core.specs.KeysOf.{keys_of};
-ghost use Rattle.quic_run_core.specs.Policies.{policies_in};
+ghost use Rattle.quic_run_core.specs.Plain.{plain_protection, plain_aead};
+ghost use Rattle.quic_run_core.specs.Words.{stream_from};
 
 use bytes::Bytes;
 use quic_connection::{
@@ -16,6 +17,7 @@ use quic_run_core::key::{PlainHeaderKey, PlainKey, keys_for};
 use quic_run_core::laws::keys_meet_the_premises;
 use quic_wire_core::{ConnectionId, Dir, EcnCodepoint, Side, StreamId, VarInt};
 use std::alloc::{AllocError, Global};
+use std::test::Fail;
 
 type BothEnds = Ends<PlainHeaderKey, PlainKey, Words>;
 
@@ -43,7 +45,7 @@ fn making(side: Side, transport: TransportConfig) -> Making<PlainHeaderKey, Plai
 /// on runs ask.
 fn ends_with(alloc: Global, transport: TransportConfig) -> Result<BothEnds, ConfigError>
     ensures started { IfOk result (λ ends. AreStarted (first_world ends)) }
-    ensures keys { IfOk result (λ ends. AreKeys (policies_in ends)) }
+    ensures keys { IfOk result (λ ends. AreKeys (policies_of (λ _. plain_protection) (λ k. plain_aead k.mark) stream_from ends)) }
 {
     keys_meet_the_premises();
     let now = Instant::from_nanos(0);
@@ -55,24 +57,21 @@ fn ends_with(alloc: Global, transport: TransportConfig) -> Result<BothEnds, Conf
 /// Two such ends where nothing is set.
 pub(crate) fn new_ends(alloc: Global) -> Result<BothEnds, ConfigError>
     ensures started { IfOk result (λ ends. AreStarted (first_world ends)) }
-    ensures keys { IfOk result (λ ends. AreKeys (policies_in ends)) }
+    ensures keys { IfOk result (λ ends. AreKeys (policies_of (λ _. plain_protection) (λ k. plain_aead k.mark) stream_from ends)) }
 {
     ends_with(alloc, TransportConfig::default())
 }
 
-/// Two such ends under small limits: 48 bytes on all streams, 16 on each, 40 that aren't acknowledged, two streams of
+/// Small limits: 48 bytes on all streams, 16 on each, 40 that aren't acknowledged, two streams of
 /// either kind at once.
-pub(crate) fn limited_ends(alloc: Global) -> Result<BothEnds, ConfigError>
-    ensures started { IfOk result (λ ends. AreStarted (first_world ends)) }
-    ensures keys { IfOk result (λ ends. AreKeys (policies_in ends)) }
-{
+pub(crate) fn limited() -> TransportConfig {
     let mut transport = TransportConfig::default();
     transport.receive_window(VarInt::from_u32(48));
     transport.stream_receive_window(VarInt::from_u32(16));
     transport.send_window(40);
     transport.max_concurrent_bidi_streams(VarInt::from_u32(2));
     transport.max_concurrent_uni_streams(VarInt::from_u32(2));
-    ends_with(alloc, transport)
+    transport
 }
 
 /// Two ends, and the datagrams that they gave.
@@ -84,22 +83,26 @@ pub(crate) struct Pair {
 }
 
 impl Pair {
-    pub(crate) fn new(alloc: Global) -> Result<Pair, ConfigError> {
-        Ok(Pair::of(alloc, new_ends(alloc)?))
-    }
-
-    pub(crate) fn of(alloc: Global, ends: BothEnds) -> Pair {
-        Pair {
-            alloc,
-            ends,
-            given: Given::new(alloc),
-        }
-    }
-
     /// Makes the call of one event.
     pub(crate) fn make(&mut self, event: &RunEvent) -> Result<Answer, AllocError> {
         step(self.alloc, &mut self.ends, &mut self.given, event)
     }
+}
+
+/// What comes of an act with two ends where this is set: here alone they are let go.
+pub(crate) fn with_pair<T, F: FnOnce(&mut Pair) -> Result<T, Fail>>(
+    alloc: Global,
+    transport: TransportConfig,
+    act: F,
+) -> Result<T, Fail>
+    requires { F.IsAlwaysCallable act }
+{
+    let mut pair = Pair {
+        alloc,
+        ends: ends_with(alloc, transport)?,
+        given: Given::new(alloc),
+    };
+    act(&mut pair)
 }
 
 /// What a run of new ends answers, and whether it was cut short.

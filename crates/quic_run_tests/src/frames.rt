@@ -19,7 +19,12 @@ fn id_of(side: Side) -> [u8; 8] {
 }
 
 /// A datagram for this end with this first byte under the number 0, which has four bytes, as its peer seals it.
-fn sealed_for(alloc: Global, side: Side, first: u8, payload: &[u8]) -> Result<Vec<u8>, AllocError> {
+pub(crate) fn sealed_for(
+    alloc: Global,
+    side: Side,
+    first: u8,
+    payload: &[u8],
+) -> Result<Vec<u8>, AllocError> {
     let mut out = Vec::new(alloc);
     out.push(first)?;
     out.extend_from_slice(&id_of(side))?;
@@ -31,11 +36,7 @@ fn sealed_for(alloc: Global, side: Side, first: u8, payload: &[u8]) -> Result<Ve
 }
 
 /// An end of this side, whose peer has the default parameters.
-pub(crate) fn new_end(
-    alloc: Global,
-    side: Side,
-    transport: TransportConfig,
-) -> Result<End, ConfigError> {
+fn new_end(alloc: Global, side: Side, transport: TransportConfig) -> Result<End, ConfigError> {
     Connection::new(
         alloc,
         side,
@@ -50,21 +51,24 @@ pub(crate) fn new_end(
     )
 }
 
-/// What an end answers to a payload: none where it is taken, else the code and the reason that it closes with.
-fn answered<R: Abort + AllocGlobal>(
-    rt: &R,
+/// What comes of an act with such an end: here alone it is let go.
+pub(crate) fn with_end<T, F: FnOnce(&mut End) -> Result<T, Fail>>(
+    alloc: Global,
     side: Side,
-    payload: &[u8],
-) -> Result<Option<(Code, Reason)>, Fail> {
-    let mut datagram = sealed_for(rt.alloc(), side, 0x43, payload)?;
-    let end = new_end(rt.alloc(), side, TransportConfig::default())?;
-    answered_by(rt, end, &mut datagram)
+    transport: TransportConfig,
+    act: F,
+) -> Result<T, Fail>
+    requires { F.IsAlwaysCallable act }
+{
+    let mut end = new_end(alloc, side, transport)?;
+    act(&mut end)
 }
 
-/// The same of this end and a datagram for it.
+/// What an end answers to a datagram: none where it is taken, else the code and the reason that it
+/// closes with.
 fn answered_by<R: Abort>(
     rt: &R,
-    mut end: End,
+    end: &mut End,
     datagram: &mut [u8],
 ) -> Result<Option<(Code, Reason)>, Fail> {
     match end.receive(Instant::from_nanos(0), None, datagram) {
@@ -73,6 +77,32 @@ fn answered_by<R: Abort>(
         Received::Dropped(reason) => panic!(rt; "dropped: {reason:?}"),
         Received::Failed => panic!(rt; "failed"),
     }
+}
+
+/// The same of an end where this is set and a payload behind this first byte.
+fn answered_with<R: Abort + AllocGlobal>(
+    rt: &R,
+    side: Side,
+    transport: TransportConfig,
+    first: u8,
+    payload: &[u8],
+) -> Result<Option<(Code, Reason)>, Fail> {
+    let mut datagram = sealed_for(rt.alloc(), side, first, payload)?;
+    with_end(
+        rt.alloc(),
+        side,
+        transport,
+        |end| answered_by(rt, end, &mut datagram),
+    )
+}
+
+/// The same where nothing is set.
+fn answered<R: Abort + AllocGlobal>(
+    rt: &R,
+    side: Side,
+    payload: &[u8],
+) -> Result<Option<(Code, Reason)>, Fail> {
+    answered_with(rt, side, TransportConfig::default(), 0x43, payload)
 }
 
 // RFC 9000, section 13.1: an ACK of the number 0 at an end that gave none.
@@ -139,20 +169,42 @@ fn streams_keep_to_their_limits(rt: HostRuntime) -> Result<(), Fail> {
 fn counts_and_reserved_bits_are_kept(rt: HostRuntime) -> Result<(), Fail> {
     let mut no_streams = TransportConfig::default();
     no_streams.max_concurrent_bidi_streams(VarInt::from_u32(0));
-    let mut first = sealed_for(rt.alloc(), Side::Server, 0x43, &[0x0a, 0x00, 0x01, 0x78])?;
-    let end = new_end(rt.alloc(), Side::Server, no_streams)?;
-    let beyond = answered_by(&rt, end, &mut first)?;
+    let opens = [0x0a, 0x00, 0x01, 0x78];
+    let beyond = answered_with(&rt, Side::Server, no_streams, 0x43, &opens)?;
     assert_eq!(rt;
         beyond,
         Some((Code::STREAM_LIMIT_ERROR, Reason::TooManyStreams))
     );
-    let mut reserved = sealed_for(rt.alloc(), Side::Server, 0x4b, &[0x01])?;
-    let end = new_end(rt.alloc(), Side::Server, TransportConfig::default())?;
-    let refused = answered_by(&rt, end, &mut reserved)?;
+    let refused = answered_with(&rt, Side::Server, TransportConfig::default(), 0x4b, &[0x01])?;
     assert_eq!(rt;
         refused,
         Some((Code::PROTOCOL_VIOLATION, Reason::ReservedBits))
     );
+    Ok(())
+}
+
+/// What a client that keeps so many bytes of messages unread answers to a payload.
+fn answered_within<R: Abort + AllocGlobal>(
+    rt: &R,
+    size: Option<usize>,
+    payload: &[u8],
+) -> Result<Option<(Code, Reason)>, Fail> {
+    let mut transport = TransportConfig::default();
+    transport.datagram_receive_buffer_size(size);
+    answered_with(rt, Side::Client, transport, 0x43, payload)
+}
+
+// RFC 9221, section 3: messages of two bytes, one of either type, at an end that keeps as many
+// unread, fewer, or none.
+#[test]
+fn messages_keep_to_what_an_end_takes(rt: HostRuntime) -> Result<(), Fail> {
+    let refused = Some((Code::PROTOCOL_VIOLATION, Reason::TooManyBytes));
+    let payloads: [&[u8]; 2] = [&[0x31, 0x02, 0x68, 0x69], &[0x30, 0x68, 0x69]];
+    for payload in payloads {
+        assert_eq!(rt; answered_within(&rt, Some(2), payload)?, None);
+        assert_eq!(rt; answered_within(&rt, Some(1), payload)?, refused);
+        assert_eq!(rt; answered_within(&rt, None, payload)?, refused);
+    }
     Ok(())
 }
 

@@ -1,7 +1,7 @@
 //! Calls that take memory and that no script makes by themselves, made again and again where one
 //! allocation fails, or none: one of them lacks memory then, at most, and says so.
 use crate::config::DEFAULTS;
-use crate::ends::{Pair, hello, is_served, new_ends, ran};
+use crate::ends::{Pair, hello, is_served, new_ends, ran, with_pair};
 use quic_connection::{
     Answer, Call, Config, ConfigError, FinishError, Instant, ReadableError, Received, RunEvent,
     TransportConfig, WriteError,
@@ -62,7 +62,7 @@ fn ping_goes<R: Abort>(rt: &R, pair: &mut Pair, poll: &RunEvent) -> bool {
     !is_failed
 }
 
-fn pings_go<R: Abort>(rt: &R, pair: &mut Pair) {
+fn pings_go<R: Abort>(rt: &R, pair: &mut Pair) -> Result<(), Fail> {
     let poll = RunEvent {
         side: Side::Client,
         call: Call::Poll(Instant::from_nanos(0)),
@@ -72,13 +72,16 @@ fn pings_go<R: Abort>(rt: &R, pair: &mut Pair) {
             break;
         }
     }
+    Ok(())
 }
 
 #[test]
 fn a_step(rt: HostRuntime) -> Result<(), Fail> {
-    let mut pair = Pair::new(rt.alloc())?;
-    pings_go(&rt, &mut pair);
-    Ok(())
+    with_pair(
+        rt.alloc(),
+        TransportConfig::default(),
+        |pair| pings_go(&rt, pair),
+    )
 }
 
 /// Whether a call lacked memory.

@@ -17,6 +17,12 @@ mod frames;
 mod lacking;
 pub mod laws;
 #[cfg(test)]
+mod messages;
+#[cfg(test)]
+mod numbers;
+#[cfg(test)]
 mod runs;
 #[cfg(test)]
 mod scripts;
+#[cfg(test)]
+mod statistics;

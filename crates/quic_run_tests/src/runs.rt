@@ -1,6 +1,6 @@
 //! The worked example as a list of events, and step by step.
-use crate::ends::{Pair, hello, is_served, ran};
-use quic_connection::RunEvent;
+use crate::ends::{Pair, hello, is_served, ran, with_pair};
+use quic_connection::{RunEvent, TransportConfig};
 use std::process::Abort;
 use std::test::Fail;
 
@@ -36,6 +36,7 @@ fn assert_served<R: Abort>(rt: &R, pair: &mut Pair, events: &[RunEvent]) -> Resu
 #[test]
 fn five_bytes_arrive_step_by_step(rt: HostRuntime) -> Result<(), Fail> {
     let events = hello(rt.alloc())?;
-    let mut pair = Pair::new(rt.alloc())?;
-    assert_served(&rt, &mut pair, &events)
+    with_pair(rt.alloc(), TransportConfig::default(), |pair| {
+        assert_served(&rt, pair, &events)
+    })
 }

@@ -1,3 +1,4 @@
+use Rattle.std.specs.Prelude.{ℕ}
 use Rattle.quic_wire_core.specs.declared.stream_id.Side.{Side}
 use Rattle.quic_wire_core.specs.declared.stream_id.Side.TheVariants.{Client, Server}
 use Rattle.quic_machine.specs.Start.{IsLawful}
@@ -7,8 +8,8 @@ use Rattle.quic_run_core.specs.Policies.{plain_policy}
 use Rattle.quic_run_core.proofs.Mates.{policies_mate}
 use Rattle.quic_run_core.proofs.laws.keys_meet_the_premises.Goals as goal
 
-lawful : (side : Side) → IsLawful (plain_policy side)
-lawful side = record { form = first_form; width = number_length; tag = adds_tag (keys_of side).packet.local.mark }
+lawful : (side : Side) (words : ℕ → ℕ) → IsLawful (plain_policy side words)
+lawful side words = record { form = first_form; width = number_length; tag = adds_tag (keys_of side).packet.local.mark }
 
 pub returns : goal.returns
-returns c = record { client = lawful Client; server = lawful Server; to_server = policies_mate Client; to_client = policies_mate Server }
+returns c = λ client server. record { client = lawful Client client; server = lawful Server server; to_server = policies_mate Client client server; to_client = policies_mate Server server client }

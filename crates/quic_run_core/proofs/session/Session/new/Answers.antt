@@ -1,6 +1,8 @@
-use Rattle.std.proofs.Common.{refl}
+use Rattle.std.proofs.Common.{refl, ap}
+use Rattle.quic_wire_core.specs.declared.stream_id.Side.TheVariants.{Client, Server}
 use Rattle.std.proofs.lemmas.Result.{err_from_is_err_and}
-use Rattle.quic_run_core.proofs.Making.{first_ends, are_started}
+use Rattle.quic_machine.specs.End.{End}
+use Rattle.quic_run_core.proofs.Making.{first_ends, are_started, plain_at}
 use Rattle.quic_run_core.proofs.session.Session.new.Goals as goal
 
 pub returns-clause-started : goal.returns-clause-started
@@ -13,7 +15,10 @@ returns-in_err-make_end-2-clause-memory c =
 
 pub invariant_of-result : goal.invariant_of-result
 invariant_of-result c = record {
-  plain = rw (c.in_ok-make_end.ensures.keys, c.in_ok-make_end-2.ensures.keys) refl;
+  plain = record {
+    client = plain_at Client _ _ c.in_ok-make_end.ensures.keys (ap (λ (e : End). e.filter.drawn) c.in_ok-make_end.ensures.end) c.in_ok-make_end.ensures.words;
+    server = plain_at Server _ _ c.in_ok-make_end-2.ensures.keys (ap (λ (e : End). e.filter.drawn) c.in_ok-make_end-2.ensures.end) c.in_ok-make_end-2.ensures.words;
+  };
   client_known = rw (c.new.ensures.client, c.new-2.ensures.items) refl;
   server_known = rw (c.new.ensures.server, c.new-3.ensures.items) refl;
 }

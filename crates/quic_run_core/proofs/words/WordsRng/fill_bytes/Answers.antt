@@ -1,6 +1,5 @@
-use Rattle.std.proofs.Common.{rules}
-use Rattle.rand_core.proofs.StepsLemmas.{meets_fill_bytes}
+use Rattle.quic_run_core.proofs.Constant.{bytes_stay}
 use Rattle.quic_run_core.proofs.words.WordsRng.fill_bytes.Goals as goal
 
-pub returns : goal.returns
-returns c = meets_fill_bytes _ _ _ _ _ (search rules)
+pub returns-in-Constant : goal.returns-in-Constant
+returns-in-Constant c = rw c.in-Constant.is (bytes_stay c.in-Constant.word _ _ _ c.fill_bytes_via_u64.ensures)
