@@ -16,9 +16,6 @@ mod settling;
 pub use pair::Making;
 pub use quic_assembler::Chunk;
 pub use quic_config::{AckFrequencyConfig, MtuDiscoveryConfig};
-pub use quic_congestion::{
-    Controller, ControllerFactory, ControllerMetrics, NewReno, NewRenoConfig,
-};
 pub use quic_connection_core::{Config, Connection};
 pub use quic_machine::{
     Answer, Call, ConfigError, Datagram, Delivery, DropReason, EndView, Event, Failed, IdleTimeout,

@@ -2,7 +2,7 @@
 ghost use Rattle.std.specs.Prelude.{◌≡◌, ◌++◌, [], length, ◌≤◌, ◌<◌, vec_len, vec_capacity, slice_get, IsSome, IfOk, OnErr, true, false};
 ghost use Rattle.quic_wire_core.specs.StreamId.{other_side};
 ghost use Rattle.quic_machine.specs.End.{policy_of, with_end};
-ghost use Rattle.quic_machine.specs.Machine.{Policies, IsAnswer, reads_window, IsLeft, IsTold, fails, gives, given_by, IsStep, view_of, end_view, Follows};
+ghost use Rattle.quic_machine.specs.Machine.{Policies, IsAnswer, IsLeft, fails, gives, given_by, IsStep, view_of, end_view, Follows};
 ghost use Rattle.quic_machine.specs.CallCases.{is_poll};
 ghost use Rattle.quic_machine.specs.Lacking.{LacksWhere, TakesOfItsOwn};
 ghost use Rattle.quic_machine.specs.Start.{AreStarted};
@@ -15,14 +15,12 @@ ghost use Rattle.quic_headline.specs.Grown.{GrownLimitsWait};
 ghost use Rattle.quic_headline.specs.Messages.{MessagesAtMostOnce};
 ghost use Rattle.quic_headline.specs.InFlight.{TracksInFlight};
 ghost use Rattle.quic_headline.specs.Moments.{LossMoments, LossTimerQuiet, AckMoments};
-ghost use Rattle.quic_connection_core.specs.Telling.{windows_of, KeepsKeys};
 ghost use Rattle.quic_connection.specs.Ends.{world_of, first_world, world_left, policies_of, kept, AreOf, GoesOn, GoOn, OnHonest, AtEachPlace};
 ghost use Rattle.quic_connection_core.specs.Drawn.{words_of};
 ghost use Rattle.quic_connection.specs.declared.running.Given.{Given};
 
 use crate::{on_messages, on_streams};
 use bytes::Bytes;
-use quic_congestion::Controller;
 use quic_connection_core::Connection;
 use quic_headline::headline;
 use quic_machine::{
@@ -36,11 +34,11 @@ use std::alloc::{AllocError, Global};
 
 /// Two ends of a connection.
 #[derive(Drop)]
-pub struct Ends<H, K, R, C: Controller> {
+pub struct Ends<H, K, R> {
     /// The client.
-    pub client: Connection<H, K, R, C>,
+    pub client: Connection<H, K, R>,
     /// The server.
-    pub server: Connection<H, K, R, C>,
+    pub server: Connection<H, K, R>,
 }
 
 /// The datagrams that each end gave out, in their order.
@@ -67,7 +65,7 @@ impl Given {
 
 /// What comes of a run.
 #[derive(Drop)]
-pub struct Outcome<H, K, R, C: Controller> {
+pub struct Outcome<H, K, R> {
     /// The answer to each event.
     pub answers: Vec<Answer>,
     /// What was seen of both ends after each event.
@@ -75,7 +73,7 @@ pub struct Outcome<H, K, R, C: Controller> {
     /// The datagrams that the ends gave out.
     pub given: Given,
     /// The ends.
-    pub ends: Ends<H, K, R, C>,
+    pub ends: Ends<H, K, R>,
     /// Whether memory lacked in the run itself: the next event then has no answer and no view, and
     /// no call was made.
     pub cut_short: bool,
@@ -86,42 +84,42 @@ pub struct Outcome<H, K, R, C: Controller> {
 /// The call answers want of memory only where it takes some. An error is want of memory of its own,
 /// with no call made and nothing changed: it takes some at each poll, whether that gives a datagram
 /// or not, where it keeps the answers of a read, and where it copies what comes.
-pub fn step<H: HeaderKey + Drop, K: PacketKey + Drop, R: Rng + Drop, C: Controller>(
+pub fn step<H: HeaderKey + Drop, K: PacketKey + Drop, R: Rng + Drop>(
     alloc: Global,
-    ends: &mut Ends<H, K, R, C>,
+    ends: &mut Ends<H, K, R>,
     given: &mut Given,
     event: &RunEvent,
 ) -> Result<Answer, AllocError>
     ensures step { IfOk result (λ a.
         (k : Policies) → AreOf k H.protection K.aead R.stream ends.old
-        → IsStep k (world_of (windows_of C.steps C.window_of) ends.old given.old) event.now a (world_of (windows_of C.steps C.window_of) ends.new given.new)) }
+        → IsStep k (world_of ends.old given.old) event.now a (world_of ends.new given.new)) }
     ensures goes_on { GoOn R.stream ends.old ends.new }
     ensures err { OnErr result (ends.new ≡ ends.old) }
     ensures err_given { OnErr result (
-        world_of (windows_of C.steps C.window_of) ends.new given.new ≡ world_of (windows_of C.steps C.window_of) ends.old given.old) }
+        world_of ends.new given.new ≡ world_of ends.old given.old) }
     ensures own { OnErr result (
-        TakesOfItsOwn (given_by (other_side event.now.side) (world_of (windows_of C.steps C.window_of) ends.old given.old))
+        TakesOfItsOwn (given_by (other_side event.now.side) (world_of ends.old given.old))
         event.now.call) }
 {
     make(alloc, ends, given, event)
 }
 
 /// The same, as the keys and the random sources of the ends have it.
-fn make<H: HeaderKey + Drop, K: PacketKey + Drop, R: Rng + Drop, C: Controller>(
+fn make<H: HeaderKey + Drop, K: PacketKey + Drop, R: Rng + Drop>(
     alloc: Global,
-    ends: &mut Ends<H, K, R, C>,
+    ends: &mut Ends<H, K, R>,
     given: &mut Given,
     event: &RunEvent,
 ) -> Result<Answer, AllocError>
     ensures step { IfOk result (λ a.
-        IsStep (policies_of H.protection K.aead R.stream ends.old) (world_of (windows_of C.steps C.window_of) ends.old given.old)
-        event.now a (world_of (windows_of C.steps C.window_of) ends.new given.new)) }
+        IsStep (policies_of H.protection K.aead R.stream ends.old) (world_of ends.old given.old)
+        event.now a (world_of ends.new given.new)) }
     ensures goes_on { GoOn R.stream ends.old ends.new }
     ensures err { OnErr result (ends.new ≡ ends.old) }
     ensures err_given { OnErr result (
-        world_of (windows_of C.steps C.window_of) ends.new given.new ≡ world_of (windows_of C.steps C.window_of) ends.old given.old) }
+        world_of ends.new given.new ≡ world_of ends.old given.old) }
     ensures own { OnErr result (
-        TakesOfItsOwn (given_by (other_side event.now.side) (world_of (windows_of C.steps C.window_of) ends.old given.old))
+        TakesOfItsOwn (given_by (other_side event.now.side) (world_of ends.old given.old))
         event.now.call) }
 {
     match event.side {
@@ -143,31 +141,28 @@ fn make<H: HeaderKey + Drop, K: PacketKey + Drop, R: Rng + Drop, C: Controller>(
 }
 
 /// Makes one call at one end; `theirs` are the datagrams of the other one.
-fn at_end<H: HeaderKey + Drop, K: PacketKey + Drop, R: Rng + Drop, C: Controller>(
+fn at_end<H: HeaderKey + Drop, K: PacketKey + Drop, R: Rng + Drop>(
     alloc: Global,
-    end: &mut Connection<H, K, R, C>,
+    end: &mut Connection<H, K, R>,
     mine: &mut Vec<Datagram>,
     theirs: &[Datagram],
     call: &Call,
 ) -> Result<Answer, AllocError>
     ensures answer { IfOk result (λ a.
-        IsAnswer (policy_of H.protection K.aead (words_of R.stream) end.old)
-        (reads_window (windows_of C.steps C.window_of end.old.control) call.now end.old.end) theirs.now call.now a) }
+        IsAnswer (policy_of H.protection K.aead (words_of R.stream) end.old) end.old.end theirs.now
+        call.now a) }
     ensures lacking { IfOk result (λ a.
-        LacksWhere (policy_of H.protection K.aead (words_of R.stream) end.old)
-        (reads_window (windows_of C.steps C.window_of end.old.control) call.now end.old.end) theirs.now call.now a) }
+        LacksWhere (policy_of H.protection K.aead (words_of R.stream) end.old) end.old.end
+        theirs.now call.now a) }
     ensures end { IfOk result (λ a.
-        IsLeft (fails a) (policy_of H.protection K.aead (words_of R.stream) end.old)
-        (windows_of C.steps C.window_of end.old.control) end.old.end theirs.now call.now a end.new.end) }
-    ensures control { IfOk result (λ a.
-        IsTold (fails a) (policy_of H.protection K.aead (words_of R.stream) end.old)
-        (windows_of C.steps C.window_of end.old.control) end.old.end theirs.now call.now
-        (windows_of C.steps C.window_of end.new.control)) }
+        IsLeft (fails a) (policy_of H.protection K.aead (words_of R.stream) end.old) end.old.end
+        theirs.now call.now a
+        end.new.end) }
     ensures given { IfOk result (λ a.
         mine.new.items
         ≡ mine.old.items ++ gives (policy_of H.protection K.aead (words_of R.stream) end.old)
-        (reads_window (windows_of C.steps C.window_of end.old.control) call.now end.old.end) call.now a) }
-    ensures keys { is_poll call.now ≡ false → KeepsKeys end.old end.new }
+        end.old.end call.now a) }
+    ensures keys { is_poll call.now ≡ false → end.new ≡ with_end end.old end.new.end }
     ensures polled { is_poll call.now ≡ true → GoesOn R.stream end.old end.new }
     ensures err { OnErr result (end.new ≡ end.old) }
     ensures err_given { OnErr result (mine.new.items ≡ mine.old.items) }
@@ -208,29 +203,25 @@ fn at_end<H: HeaderKey + Drop, K: PacketKey + Drop, R: Rng + Drop, C: Controller
 }
 
 /// A copy of a message is sent.
-fn send_at<H: HeaderKey + Drop, K: PacketKey + Drop, R: Rng + Drop, C: Controller>(
+fn send_at<H: HeaderKey + Drop, K: PacketKey + Drop, R: Rng + Drop>(
     alloc: Global,
-    end: &mut Connection<H, K, R, C>,
+    end: &mut Connection<H, K, R>,
     message: &[u8],
     makes_room: bool,
 ) -> Result<Answer, AllocError>
     ensures answer { IfOk result (λ a.
-        IsAnswer (policy_of H.protection K.aead (words_of R.stream) end.old)
-        (reads_window (windows_of C.steps C.window_of end.old.control) (Call.Send message.now makes_room) end.old.end) [] (Call.Send message.now makes_room) a) }
+        IsAnswer (policy_of H.protection K.aead (words_of R.stream) end.old) end.old.end []
+        (Call.Send message.now makes_room) a) }
     ensures lacking { IfOk result (λ a.
-        LacksWhere (policy_of H.protection K.aead (words_of R.stream) end.old)
-        (reads_window (windows_of C.steps C.window_of end.old.control) (Call.Send message.now makes_room) end.old.end) [] (Call.Send message.now makes_room) a) }
+        LacksWhere (policy_of H.protection K.aead (words_of R.stream) end.old) end.old.end []
+        (Call.Send message.now makes_room) a) }
     ensures end { IfOk result (λ a.
-        IsLeft (fails a) (policy_of H.protection K.aead (words_of R.stream) end.old)
-        (windows_of C.steps C.window_of end.old.control) end.old.end [] (Call.Send message.now makes_room) a end.new.end) }
-    ensures control { IfOk result (λ a.
-        IsTold (fails a) (policy_of H.protection K.aead (words_of R.stream) end.old)
-        (windows_of C.steps C.window_of end.old.control) end.old.end [] (Call.Send message.now makes_room)
-        (windows_of C.steps C.window_of end.new.control)) }
+        IsLeft (fails a) (policy_of H.protection K.aead (words_of R.stream) end.old) end.old.end []
+        (Call.Send message.now makes_room) a end.new.end) }
     ensures given { IfOk result (λ a.
-        gives (policy_of H.protection K.aead (words_of R.stream) end.old)
-        (reads_window (windows_of C.steps C.window_of end.old.control) (Call.Send message.now makes_room) end.old.end) (Call.Send message.now makes_room) a ≡ []) }
-    ensures keys { KeepsKeys end.old end.new }
+        gives (policy_of H.protection K.aead (words_of R.stream) end.old) end.old.end
+        (Call.Send message.now makes_room) a ≡ []) }
+    ensures keys { end.new ≡ with_end end.old end.new.end }
     ensures err { OnErr result (end.new ≡ end.old) }
 {
     let copy = Bytes::copy_from_slice(alloc, message)?;
@@ -239,77 +230,71 @@ fn send_at<H: HeaderKey + Drop, K: PacketKey + Drop, R: Rng + Drop, C: Controlle
 }
 
 /// A message is read.
-fn recv_at<H: HeaderKey + Drop, K: PacketKey + Drop, R: Rng + Drop, C: Controller>(
-    end: &mut Connection<H, K, R, C>,
+fn recv_at<H: HeaderKey + Drop, K: PacketKey + Drop, R: Rng + Drop>(
+    end: &mut Connection<H, K, R>,
 ) -> Answer
     ensures answer { IsAnswer (policy_of H.protection K.aead (words_of R.stream) end.old)
-        (reads_window (windows_of C.steps C.window_of end.old.control) Call.Recv end.old.end) [] Call.Recv
+        end.old.end [] Call.Recv
         result }
     ensures lacking { LacksWhere (policy_of H.protection K.aead (words_of R.stream) end.old)
-        (reads_window (windows_of C.steps C.window_of end.old.control) Call.Recv end.old.end) [] Call.Recv
+        end.old.end [] Call.Recv
         result }
     ensures end { IsLeft (fails result) (policy_of H.protection K.aead (words_of R.stream) end.old)
-        (windows_of C.steps C.window_of end.old.control) end.old.end [] Call.Recv result end.new.end }
-    ensures control { IsTold (fails result) (policy_of H.protection K.aead (words_of R.stream) end.old)
-        (windows_of C.steps C.window_of end.old.control) end.old.end [] Call.Recv
-        (windows_of C.steps C.window_of end.new.control) }
-    ensures given { gives (policy_of H.protection K.aead (words_of R.stream) end.old)
-        (reads_window (windows_of C.steps C.window_of end.old.control) Call.Recv end.old.end) Call.Recv result
+        end.old.end []
+        Call.Recv result end.new.end }
+    ensures given { gives (policy_of H.protection K.aead (words_of R.stream) end.old) end.old.end
+        Call.Recv result
         ≡ [] }
-    ensures keys { KeepsKeys end.old end.new }
+    ensures keys { end.new ≡ with_end end.old end.new.end }
 {
     let limits = end.datagram_limits();
     on_messages::recv(end.datagrams_mut(), limits)
 }
 
 /// A PING is asked for.
-fn ping_at<H: HeaderKey + Drop, K: PacketKey + Drop, R: Rng + Drop, C: Controller>(
-    end: &mut Connection<H, K, R, C>,
+fn ping_at<H: HeaderKey + Drop, K: PacketKey + Drop, R: Rng + Drop>(
+    end: &mut Connection<H, K, R>,
 ) -> Answer
     ensures answer { IsAnswer (policy_of H.protection K.aead (words_of R.stream) end.old)
-        (reads_window (windows_of C.steps C.window_of end.old.control) Call.Ping end.old.end) [] Call.Ping
+        end.old.end [] Call.Ping
         result }
     ensures lacking { LacksWhere (policy_of H.protection K.aead (words_of R.stream) end.old)
-        (reads_window (windows_of C.steps C.window_of end.old.control) Call.Ping end.old.end) [] Call.Ping
+        end.old.end [] Call.Ping
         result }
     ensures end { IsLeft (fails result) (policy_of H.protection K.aead (words_of R.stream) end.old)
-        (windows_of C.steps C.window_of end.old.control) end.old.end [] Call.Ping result end.new.end }
-    ensures control { IsTold (fails result) (policy_of H.protection K.aead (words_of R.stream) end.old)
-        (windows_of C.steps C.window_of end.old.control) end.old.end [] Call.Ping
-        (windows_of C.steps C.window_of end.new.control) }
-    ensures given { gives (policy_of H.protection K.aead (words_of R.stream) end.old)
-        (reads_window (windows_of C.steps C.window_of end.old.control) Call.Ping end.old.end) Call.Ping result
+        end.old.end []
+        Call.Ping result end.new.end }
+    ensures given { gives (policy_of H.protection K.aead (words_of R.stream) end.old) end.old.end
+        Call.Ping result
         ≡ [] }
-    ensures keys { KeepsKeys end.old end.new }
+    ensures keys { end.new ≡ with_end end.old end.new.end }
 {
     end.ping();
     Answer::Ping
 }
 
 /// A poll, whose datagram is kept.
-fn poll_at<H: HeaderKey + Drop, K: PacketKey + Drop, R: Rng + Drop, C: Controller>(
+fn poll_at<H: HeaderKey + Drop, K: PacketKey + Drop, R: Rng + Drop>(
     alloc: Global,
-    end: &mut Connection<H, K, R, C>,
+    end: &mut Connection<H, K, R>,
     mine: &mut Vec<Datagram>,
     now: Instant,
 ) -> Result<Answer, AllocError>
     ensures answer { IfOk result (λ a.
-        IsAnswer (policy_of H.protection K.aead (words_of R.stream) end.old)
-        (reads_window (windows_of C.steps C.window_of end.old.control) (Call.Poll now) end.old.end) [] (Call.Poll now) a) }
+        IsAnswer (policy_of H.protection K.aead (words_of R.stream) end.old) end.old.end []
+        (Call.Poll now) a) }
     ensures lacking { IfOk result (λ a.
-        LacksWhere (policy_of H.protection K.aead (words_of R.stream) end.old)
-        (reads_window (windows_of C.steps C.window_of end.old.control) (Call.Poll now) end.old.end) [] (Call.Poll now) a) }
+        LacksWhere (policy_of H.protection K.aead (words_of R.stream) end.old) end.old.end []
+        (Call.Poll now) a) }
     ensures end { IfOk result (λ a.
-        IsLeft (fails a) (policy_of H.protection K.aead (words_of R.stream) end.old)
-        (windows_of C.steps C.window_of end.old.control) end.old.end [] (Call.Poll now) a end.new.end) }
-    ensures control { IfOk result (λ a.
-        IsTold (fails a) (policy_of H.protection K.aead (words_of R.stream) end.old)
-        (windows_of C.steps C.window_of end.old.control) end.old.end [] (Call.Poll now)
-        (windows_of C.steps C.window_of end.new.control)) }
+        IsLeft (fails a) (policy_of H.protection K.aead (words_of R.stream) end.old) end.old.end []
+        (Call.Poll now) a
+        end.new.end) }
     ensures given { IfOk result (λ a.
         mine.new.items
         ≡ mine.old.items ++ gives (policy_of H.protection K.aead (words_of R.stream) end.old)
-        (reads_window (windows_of C.steps C.window_of end.old.control) (Call.Poll now) end.old.end) (Call.Poll now) a) }
+        end.old.end
+        (Call.Poll now) a) }
     ensures goes_on { GoesOn R.stream end.old end.new }
     ensures err { OnErr result (end.new ≡ end.old) }
     ensures err_given { OnErr result (mine.new.items ≡ mine.old.items) }
@@ -333,48 +318,45 @@ fn keep(mine: &mut Vec<Datagram>, polled: &Result<Option<Transmit>, Failed>, byt
 }
 
 /// The timers up to a moment expire.
-fn timeout_at<H: HeaderKey + Drop, K: PacketKey + Drop, R: Rng + Drop, C: Controller>(
-    end: &mut Connection<H, K, R, C>,
+fn timeout_at<H: HeaderKey + Drop, K: PacketKey + Drop, R: Rng + Drop>(
+    end: &mut Connection<H, K, R>,
     now: Instant,
 ) -> Answer
     ensures answer { IsAnswer (policy_of H.protection K.aead (words_of R.stream) end.old)
-        (reads_window (windows_of C.steps C.window_of end.old.control) (Call.Timeout now) end.old.end) [] (Call.Timeout now) result }
+        end.old.end
+        [] (Call.Timeout now) result }
     ensures lacking { LacksWhere (policy_of H.protection K.aead (words_of R.stream) end.old)
-        (reads_window (windows_of C.steps C.window_of end.old.control) (Call.Timeout now) end.old.end) [] (Call.Timeout now) result }
-    ensures end { IsLeft (fails result) (policy_of H.protection K.aead (words_of R.stream) end.old)
-        (windows_of C.steps C.window_of end.old.control) end.old.end [] (Call.Timeout now) result end.new.end }
-    ensures control { IsTold (fails result) (policy_of H.protection K.aead (words_of R.stream) end.old)
-        (windows_of C.steps C.window_of end.old.control) end.old.end [] (Call.Timeout now)
-        (windows_of C.steps C.window_of end.new.control) }
-    ensures given { gives (policy_of H.protection K.aead (words_of R.stream) end.old)
-        (reads_window (windows_of C.steps C.window_of end.old.control) (Call.Timeout now) end.old.end) (Call.Timeout now) result
+        end.old.end [] (Call.Timeout now) result }
+    ensures end { IsLeft (fails result)
+        (policy_of H.protection K.aead (words_of R.stream) end.old) end.old.end []
+        (Call.Timeout now) result end.new.end }
+    ensures given { gives (policy_of H.protection K.aead (words_of R.stream) end.old) end.old.end
+        (Call.Timeout now) result
         ≡ [] }
-    ensures keys { KeepsKeys end.old end.new }
+    ensures keys { end.new ≡ with_end end.old end.new.end }
 {
     Answer::Timeout(end.handle_timeout(now))
 }
 
 /// The arrival of a datagram of the other end.
-fn deliver_at<H: HeaderKey + Drop, K: PacketKey + Drop, R: Rng + Drop, C: Controller>(
+fn deliver_at<H: HeaderKey + Drop, K: PacketKey + Drop, R: Rng + Drop>(
     alloc: Global,
-    end: &mut Connection<H, K, R, C>,
+    end: &mut Connection<H, K, R>,
     theirs: &[Datagram],
     delivery: &Delivery,
 ) -> Result<Answer, AllocError>
     ensures answer { IfOk result (λ a.
-        IsAnswer (policy_of H.protection K.aead (words_of R.stream) end.old)
-        (reads_window (windows_of C.steps C.window_of end.old.control) (Call.Deliver delivery.entry.now) end.old.end) theirs.now (Call.Deliver delivery.entry.now) a) }
+        IsAnswer (policy_of H.protection K.aead (words_of R.stream) end.old) end.old.end theirs.now
+        (Call.Deliver delivery.entry.now) a) }
     ensures lacking { IfOk result (λ a.
-        LacksWhere (policy_of H.protection K.aead (words_of R.stream) end.old)
-        (reads_window (windows_of C.steps C.window_of end.old.control) (Call.Deliver delivery.entry.now) end.old.end) theirs.now (Call.Deliver delivery.entry.now) a) }
+        LacksWhere (policy_of H.protection K.aead (words_of R.stream) end.old) end.old.end
+        theirs.now
+        (Call.Deliver delivery.entry.now) a) }
     ensures end { IfOk result (λ a.
-        IsLeft (fails a) (policy_of H.protection K.aead (words_of R.stream) end.old)
-        (windows_of C.steps C.window_of end.old.control) end.old.end theirs.now (Call.Deliver delivery.entry.now) a end.new.end) }
-    ensures control { IfOk result (λ a.
-        IsTold (fails a) (policy_of H.protection K.aead (words_of R.stream) end.old)
-        (windows_of C.steps C.window_of end.old.control) end.old.end theirs.now (Call.Deliver delivery.entry.now)
-        (windows_of C.steps C.window_of end.new.control)) }
-    ensures keys { KeepsKeys end.old end.new }
+        IsLeft (fails a) (policy_of H.protection K.aead (words_of R.stream) end.old) end.old.end
+        theirs.now
+        (Call.Deliver delivery.entry.now) a end.new.end) }
+    ensures keys { end.new ≡ with_end end.old end.new.end }
     ensures err { OnErr result (end.new ≡ end.old) }
     ensures own { OnErr result (IsSome (slice_get theirs.now delivery.entry.now.index)) }
 {
@@ -388,22 +370,18 @@ fn deliver_at<H: HeaderKey + Drop, K: PacketKey + Drop, R: Rng + Drop, C: Contro
 }
 
 /// The arrival of any bytes. Where they would open, no call is made.
-fn inject_at<H: HeaderKey + Drop, K: PacketKey + Drop, R: Rng + Drop, C: Controller>(
+fn inject_at<H: HeaderKey + Drop, K: PacketKey + Drop, R: Rng + Drop>(
     alloc: Global,
-    end: &mut Connection<H, K, R, C>,
+    end: &mut Connection<H, K, R>,
     injection: &Injection,
 ) -> Result<Answer, AllocError>
     ensures answer { IfOk result (λ a.
-        IsAnswer (policy_of H.protection K.aead (words_of R.stream) end.old)
-        (reads_window (windows_of C.steps C.window_of end.old.control) (Call.Inject injection.entry.now) end.old.end) [] (Call.Inject injection.entry.now) a) }
+        IsAnswer (policy_of H.protection K.aead (words_of R.stream) end.old) end.old.end []
+        (Call.Inject injection.entry.now) a) }
     ensures end { IfOk result (λ a.
-        IsLeft (fails a) (policy_of H.protection K.aead (words_of R.stream) end.old)
-        (windows_of C.steps C.window_of end.old.control) end.old.end [] (Call.Inject injection.entry.now) a end.new.end) }
-    ensures control { IfOk result (λ a.
-        IsTold (fails a) (policy_of H.protection K.aead (words_of R.stream) end.old)
-        (windows_of C.steps C.window_of end.old.control) end.old.end [] (Call.Inject injection.entry.now)
-        (windows_of C.steps C.window_of end.new.control)) }
-    ensures keys { KeepsKeys end.old end.new }
+        IsLeft (fails a) (policy_of H.protection K.aead (words_of R.stream) end.old) end.old.end []
+        (Call.Inject injection.entry.now) a end.new.end) }
+    ensures keys { end.new ≡ with_end end.old end.new.end }
     ensures err { OnErr result (end.new ≡ end.old) }
 {
     let mut scratch = Vec::from_slice(alloc, injection.bytes.as_slice())?;
@@ -415,8 +393,8 @@ fn inject_at<H: HeaderKey + Drop, K: PacketKey + Drop, R: Rng + Drop, C: Control
 }
 
 /// When each timer of an end expires, if it is set.
-fn timers<H: HeaderKey + Drop, K: PacketKey + Drop, R: Rng + Drop, C: Controller>(
-    end: &Connection<H, K, R, C>,
+fn timers<H: HeaderKey + Drop, K: PacketKey + Drop, R: Rng + Drop>(
+    end: &Connection<H, K, R>,
 ) -> [Option<Instant>; 9]
     ensures { result ≡ each_timer end.now.end.timers }
 {
@@ -434,26 +412,24 @@ fn timers<H: HeaderKey + Drop, K: PacketKey + Drop, R: Rng + Drop, C: Controller
 }
 
 /// What is seen of an end.
-fn end_view<H: HeaderKey + Drop, K: PacketKey + Drop, R: Rng + Drop, C: Controller>(
-    end: &Connection<H, K, R, C>,
+fn end_view<H: HeaderKey + Drop, K: PacketKey + Drop, R: Rng + Drop>(
+    end: &Connection<H, K, R>,
 ) -> EndView
-    ensures { result ≡ end_view (windows_of C.steps C.window_of end.now.control) end.now.end }
+    ensures { result ≡ end_view end.now.end }
 {
     EndView {
         state: end.state(),
         reason: end.lost().map(LostReason::copied),
         validated: end.is_validated(),
         timers: timers(end),
-        window: Some(end.window()),
+        window: None,
         current_mtu: None,
     }
 }
 
 /// What is seen of both ends, whatever they gave.
-fn view<H: HeaderKey + Drop, K: PacketKey + Drop, R: Rng + Drop, C: Controller>(
-    ends: &Ends<H, K, R, C>,
-) -> View
-    ensures { (given : Given) → result ≡ view_of (world_of (windows_of C.steps C.window_of) ends.now given) }
+fn view<H: HeaderKey + Drop, K: PacketKey + Drop, R: Rng + Drop>(ends: &Ends<H, K, R>) -> View
+    ensures { (given : Given) → result ≡ view_of (world_of ends.now given) }
 {
     View {
         client: end_view(&ends.client),
@@ -489,61 +465,61 @@ fn view<H: HeaderKey + Drop, K: PacketKey + Drop, R: Rng + Drop, C: Controller>(
 /// one another has its loss timer set exactly where it tracks a datagram that asks; and one that
 /// began so has its timer of acknowledgements set only where a packet that asks came since the last
 /// acknowledgement went.
-pub fn run<H: HeaderKey + Drop, K: PacketKey + Drop, R: Rng + Drop, C: Controller>(
+pub fn run<H: HeaderKey + Drop, K: PacketKey + Drop, R: Rng + Drop>(
     alloc: Global,
-    ends: Ends<H, K, R, C>,
+    ends: Ends<H, K, R>,
     events: &[RunEvent],
-) -> Outcome<H, K, R, C>
-    ensures follows { Follows (policies_of H.protection K.aead R.stream ends) (first_world (windows_of C.steps C.window_of) ends)
+) -> Outcome<H, K, R>
+    ensures follows { Follows (policies_of H.protection K.aead R.stream ends) (first_world ends)
         events.now
-        result.answers.items result.views.items (world_left (windows_of C.steps C.window_of) result) }
+        result.answers.items result.views.items (world_left result) }
     ensures whole { result.cut_short ≡ false → length result.answers.items ≡ length events.now }
     ensures stopped { result.cut_short ≡ true → length result.answers.items < length events.now }
     ensures goes_on { GoOn R.stream ends result.ends }
-    ensures ordered_prefix { OnHonest H.protection K.aead R.stream (windows_of C.steps C.window_of) ends events.now result
+    ensures ordered_prefix { OnHonest H.protection K.aead R.stream ends events.now result
         OrderedPrefix }
-    ensures slices { OnHonest H.protection K.aead R.stream (windows_of C.steps C.window_of) ends events.now result Slices }
-    ensures once { OnHonest H.protection K.aead R.stream (windows_of C.steps C.window_of) ends events.now result Once }
-    ensures end_after_all { OnHonest H.protection K.aead R.stream (windows_of C.steps C.window_of) ends events.now result EndAfterAll }
-    ensures blocked_only_without_bytes { OnHonest H.protection K.aead R.stream (windows_of C.steps C.window_of) ends events.now
+    ensures slices { OnHonest H.protection K.aead R.stream ends events.now result Slices }
+    ensures once { OnHonest H.protection K.aead R.stream ends events.now result Once }
+    ensures end_after_all { OnHonest H.protection K.aead R.stream ends events.now result EndAfterAll }
+    ensures blocked_only_without_bytes { OnHonest H.protection K.aead R.stream ends events.now
         result
         BlockedOnlyWithoutBytes }
-    ensures accepts_all { OnHonest H.protection K.aead R.stream (windows_of C.steps C.window_of) ends events.now result AcceptsAll }
-    ensures finished_means_arrived { OnHonest H.protection K.aead R.stream (windows_of C.steps C.window_of) ends events.now result
+    ensures accepts_all { OnHonest H.protection K.aead R.stream ends events.now result AcceptsAll }
+    ensures finished_means_arrived { OnHonest H.protection K.aead R.stream ends events.now result
         FinishedMeansArrived }
-    ensures finished_is_told { OnHonest H.protection K.aead R.stream (windows_of C.steps C.window_of) ends events.now result
+    ensures finished_is_told { OnHonest H.protection K.aead R.stream ends events.now result
         FinishedIsTold }
-    ensures duties_stand { OnHonest H.protection K.aead R.stream (windows_of C.steps C.window_of) ends events.now result DutiesStand }
-    ensures grown_limits_wait { OnHonest H.protection K.aead R.stream (windows_of C.steps C.window_of) ends events.now result
+    ensures duties_stand { OnHonest H.protection K.aead R.stream ends events.now result DutiesStand }
+    ensures grown_limits_wait { OnHonest H.protection K.aead R.stream ends events.now result
         GrownLimitsWait }
-    ensures messages_at_most_once { OnHonest H.protection K.aead R.stream (windows_of C.steps C.window_of) ends events.now result
+    ensures messages_at_most_once { OnHonest H.protection K.aead R.stream ends events.now result
         MessagesAtMostOnce }
-    ensures writes_take_what_limits_allow { OnHonest H.protection K.aead R.stream (windows_of C.steps C.window_of) ends events.now
+    ensures writes_take_what_limits_allow { OnHonest H.protection K.aead R.stream ends events.now
         result
         WritesTakeWhatLimitsAllow }
-    ensures tracks_in_flight { OnHonest H.protection K.aead R.stream (windows_of C.steps C.window_of) ends events.now result
+    ensures tracks_in_flight { OnHonest H.protection K.aead R.stream ends events.now result
         TracksInFlight }
-    ensures loss_moments { OnHonest H.protection K.aead R.stream (windows_of C.steps C.window_of) ends events.now result LossMoments }
-    ensures ack_moments { OnHonest H.protection K.aead R.stream (windows_of C.steps C.window_of) ends events.now result AckMoments }
-    ensures acknowledged_were_taken { OnHonest H.protection K.aead R.stream (windows_of C.steps C.window_of) ends events.now result
+    ensures loss_moments { OnHonest H.protection K.aead R.stream ends events.now result LossMoments }
+    ensures ack_moments { OnHonest H.protection K.aead R.stream ends events.now result AckMoments }
+    ensures acknowledged_were_taken { OnHonest H.protection K.aead R.stream ends events.now result
         AcknowledgedWereTaken }
-    ensures names_were_taken { OnHonest H.protection K.aead R.stream (windows_of C.steps C.window_of) ends events.now result
+    ensures names_were_taken { OnHonest H.protection K.aead R.stream ends events.now result
         NamesWereTaken }
-    ensures opens_exactly { OnHonest H.protection K.aead R.stream (windows_of C.steps C.window_of) ends events.now result
+    ensures opens_exactly { OnHonest H.protection K.aead R.stream ends events.now result
         OpensExactly }
-    ensures newest_opens { OnHonest H.protection K.aead R.stream (windows_of C.steps C.window_of) ends events.now result NewestOpens }
-    ensures loss_timer_quiet { OnHonest H.protection K.aead R.stream (windows_of C.steps C.window_of) ends events.now result
+    ensures newest_opens { OnHonest H.protection K.aead R.stream ends events.now result NewestOpens }
+    ensures loss_timer_quiet { OnHonest H.protection K.aead R.stream ends events.now result
         LossTimerQuiet }
-    ensures loss_timers_follow { AtEachPlace H.protection K.aead R.stream (windows_of C.steps C.window_of) ends events.now result
+    ensures loss_timers_follow { AtEachPlace H.protection K.aead R.stream ends events.now result
         AreStarted LossTimersFollow }
-    ensures ack_timers_follow { AtEachPlace H.protection K.aead R.stream (windows_of C.steps C.window_of) ends events.now result
+    ensures ack_timers_follow { AtEachPlace H.protection K.aead R.stream ends events.now result
         AckTimersFollow AckTimersFollow }
-    ensures numbers_rise { OnHonest H.protection K.aead R.stream (windows_of C.steps C.window_of) ends events.now result NumbersRise }
-    ensures no_blame { OnHonest H.protection K.aead R.stream (windows_of C.steps C.window_of) ends events.now result NoBlame }
-    ensures too_many_pieces { OnHonest H.protection K.aead R.stream (windows_of C.steps C.window_of) ends events.now result
+    ensures numbers_rise { OnHonest H.protection K.aead R.stream ends events.now result NumbersRise }
+    ensures no_blame { OnHonest H.protection K.aead R.stream ends events.now result NoBlame }
+    ensures too_many_pieces { OnHonest H.protection K.aead R.stream ends events.now result
         TooManyPieces }
-    ensures number_limit { OnHonest H.protection K.aead R.stream (windows_of C.steps C.window_of) ends events.now result NumberLimit }
-    ensures taken_or_too_many { OnHonest H.protection K.aead R.stream (windows_of C.steps C.window_of) ends events.now result
+    ensures number_limit { OnHonest H.protection K.aead R.stream ends events.now result NumberLimit }
+    ensures taken_or_too_many { OnHonest H.protection K.aead R.stream ends events.now result
         TakenOrTooMany }
 {
     // What every run of the machine keeps: laws, which do nothing.
@@ -597,14 +573,14 @@ fn show_code(call: &Call)
 }
 
 /// Makes each event's call in turn.
-fn run_events<H: HeaderKey + Drop, K: PacketKey + Drop, R: Rng + Drop, C: Controller>(
+fn run_events<H: HeaderKey + Drop, K: PacketKey + Drop, R: Rng + Drop>(
     alloc: Global,
-    mut ends: Ends<H, K, R, C>,
+    mut ends: Ends<H, K, R>,
     events: &[RunEvent],
-) -> Outcome<H, K, R, C>
-    ensures follows { Follows (policies_of H.protection K.aead R.stream ends) (first_world (windows_of C.steps C.window_of) ends)
+) -> Outcome<H, K, R>
+    ensures follows { Follows (policies_of H.protection K.aead R.stream ends) (first_world ends)
         events.now
-        result.answers.items result.views.items (world_left (windows_of C.steps C.window_of) result) }
+        result.answers.items result.views.items (world_left result) }
     ensures whole { result.cut_short ≡ false → length result.answers.items ≡ length events.now }
     ensures stopped { result.cut_short ≡ true → length result.answers.items < length events.now }
     ensures goes_on { GoOn R.stream ends result.ends }

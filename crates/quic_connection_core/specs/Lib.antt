@@ -1,7 +1,3 @@
-pub mod Configured
-pub mod Telling
-pub mod Flying
-pub mod Losses
 pub mod Frames
 pub mod Faults
 pub mod Given

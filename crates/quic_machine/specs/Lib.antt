@@ -1,6 +1,5 @@
 pub mod Policy
 pub mod Closing
-pub mod Control
 pub mod Ids
 pub mod Parts
 pub mod Tracking

@@ -128,9 +128,6 @@ pub enum ConfigError {
     /// A size of datagrams is above 65527 bytes, or the least is above what the peer takes.
     #[error("a size of datagrams out of range")]
     Size,
-    /// The controller's window doesn't hold two datagrams of the size that the path begins with.
-    #[error("a window below two datagrams")]
-    Window,
     /// Memory lacked.
     #[error("out of memory")]
     Memory,

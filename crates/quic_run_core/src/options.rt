@@ -1,11 +1,10 @@
 //! What is set of an end before it is made.
 ghost use Rattle.std.specs.Prelude.{◌≡◌};
-ghost use Rattle.quic_congestion.specs.NewReno.{default_reno};
 ghost use Rattle.quic_run_core.specs.Scripts.{first_options, settings_of, kept_size, with_setting};
 
 use crate::script::Setting;
 use crate::words::Source;
-use quic_connection::{Config, NewRenoConfig, TransportConfig};
+use quic_connection::{Config, TransportConfig};
 
 /// The most bytes of a datagram, and the least that each path carries (RFC 9000, section 14).
 const MTU: u16 = 1200;
@@ -41,15 +40,15 @@ impl Options {
         }
     }
 
-    /// The configuration of an end with these options, with NewReno as its congestion controller.
-    /// None sets a size of datagrams: it is the default one.
-    pub(crate) fn config(&self) -> Config<NewRenoConfig>
-        ensures { result ≡ record { settings = settings_of self.now; factory = default_reno } }
+    /// The configuration of an end with these options. None sets a size of datagrams: it is the
+    /// default one.
+    pub(crate) fn config(&self) -> Config
+        ensures { result ≡ settings_of self.now }
     {
         let mut transport = self.transport;
         transport.initial_mtu(MTU);
         transport.min_mtu(MTU);
-        Config::new(transport, NewRenoConfig::default())
+        Config::new(transport)
     }
 
     /// Sets one option, in place of what it was.

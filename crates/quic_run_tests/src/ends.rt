@@ -9,8 +9,8 @@ ghost use Rattle.quic_run_core.specs.Words.{stream_from};
 
 use bytes::Bytes;
 use quic_connection::{
-    Answer, Call, Config, ConfigError, Delivery, Ends, Given, Instant, Making, NewReno,
-    NewRenoConfig, ReadCall, Received, RunEvent, TransportConfig, run, step,
+    Answer, Call, Config, ConfigError, Delivery, Ends, Given, Instant, Making, ReadCall, Received,
+    RunEvent, TransportConfig, run, step,
 };
 use quic_run_core::Words;
 use quic_run_core::key::{PlainHeaderKey, PlainKey, keys_for};
@@ -19,7 +19,7 @@ use quic_wire_core::{ConnectionId, Dir, EcnCodepoint, Side, StreamId, VarInt};
 use std::alloc::{AllocError, Global};
 use std::test::Fail;
 
-type BothEnds = Ends<PlainHeaderKey, PlainKey, Words, NewReno>;
+type BothEnds = Ends<PlainHeaderKey, PlainKey, Words>;
 
 /// The first id of an end.
 fn id_of(side: Side) -> ConnectionId {
@@ -29,14 +29,11 @@ fn id_of(side: Side) -> ConnectionId {
     }
 }
 
-fn making(
-    side: Side,
-    transport: TransportConfig,
-) -> Making<NewRenoConfig, PlainHeaderKey, PlainKey, Words>
+fn making(side: Side, transport: TransportConfig) -> Making<PlainHeaderKey, PlainKey, Words>
     ensures { result.keys ≡ keys_of side }
 {
     Making {
-        config: Config::new(transport, NewRenoConfig::default()),
+        config: Config::new(transport),
         id: id_of(side),
         keys: keys_for(side),
         random: Words::word(63),

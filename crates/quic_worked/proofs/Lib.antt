@@ -1,5 +1,4 @@
 pub mod Codes
-mod Steps
 mod Waited
 pub mod Unread
 pub mod WorkedRun
@@ -29,7 +28,6 @@ pub mod TimedRun
 mod MeasuredRun
 mod SkippedRun
 mod ProbedRun
-mod HeldRun
 mod LimitedRun
 mod UsedUpRun
 mod MessageRuns

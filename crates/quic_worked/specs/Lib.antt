@@ -16,4 +16,3 @@ pub mod Limited
 pub mod Measured
 pub mod Probed
 pub mod Messages
-pub mod Held

@@ -13,7 +13,6 @@ ghost use Rattle.quic_connection_core.specs.Frames.{message_part, messages_left}
 use crate::connection::Connection;
 use crate::connection::receiving::{Trouble, violation};
 use crate::connection::sending::CURRENT_MTU;
-use quic_congestion::Controller;
 use quic_messages::{DatagramLimits, DatagramState, Datagrams, ReceivedError, max_size};
 use quic_packet::crypto::{HeaderKey, PacketKey, TAG_LEN};
 use quic_wire::frame::{Frame, put_frame};
@@ -23,12 +22,7 @@ use rand_core::Rng;
 /// The most bytes that a packet number takes.
 const MAX_NUMBER_LENGTH: usize = 4;
 
-impl<H: HeaderKey + Drop, K: PacketKey + Drop, R: Rng + Drop, C: Controller> Connection<
-    H,
-    K,
-    R,
-    C,
-> {
+impl<H: HeaderKey + Drop, K: PacketKey + Drop, R: Rng + Drop> Connection<H, K, R> {
     /// Takes a message: it waits to be read, for which the oldest unread may go. One that this end
     /// told that it doesn't take breaks a rule (RFC 9221, section 3).
     pub(crate) fn take_message(&mut self, message: &[u8]) -> Result<(), Trouble>
@@ -69,7 +63,7 @@ impl<H: HeaderKey + Drop, K: PacketKey + Drop, R: Rng + Drop, C: Controller> Con
     }
 }
 
-impl<H, K, R, C: Controller> Connection<H, K, R, C> {
+impl<H, K, R> Connection<H, K, R> {
     ghost use Rattle.std.specs.Borrow.{sem};
     ghost use denote.Follow.{follows};
     ghost use Rattle.quic_connection_core.specs.contracts.connection.Connection.{the_row as connection_row};
@@ -96,7 +90,7 @@ impl<H, K, R, C: Controller> Connection<H, K, R, C> {
     /// The messages of the end that wait to be sent, and those that came and weren't read: what
     /// [`Datagrams`] borrows.
     pub fn datagrams_mut(&mut self) -> &mut DatagramState
-        ensures* writes_back { sem 𝓛 (follows (connection_row H.row K.row R.row C.row C.Controller) datagrams_row self.entry.ghost_name result.ghost_name (messages_back self.old)) }
+        ensures* writes_back { sem 𝓛 (follows (connection_row H.row K.row R.row) datagrams_row self.entry.ghost_name result.ghost_name (messages_back self.old)) }
         ensures state { result.now ≡ self.old.end.messages.queues }
     {
         &mut self.datagrams
@@ -104,7 +98,7 @@ impl<H, K, R, C: Controller> Connection<H, K, R, C> {
 
     /// The messages of the end (quinn-proto's `Connection::datagrams`).
     pub fn datagrams(&mut self) -> Datagrams<'_>
-        ensures* writes_back { sem 𝓛 (follows (connection_row H.row K.row R.row C.row C.Controller) datagrams_row self.entry.ghost_name result.datagrams.ghost_name (messages_back self.old)) }
+        ensures* writes_back { sem 𝓛 (follows (connection_row H.row K.row R.row) datagrams_row self.entry.ghost_name result.datagrams.ghost_name (messages_back self.old)) }
         ensures state { result.datagrams.now ≡ self.old.end.messages.queues }
         ensures limits { result.limits ≡ limits_of self.old.end }
     {

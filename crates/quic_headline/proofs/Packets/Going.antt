@@ -29,17 +29,14 @@ use Rattle.quic_streams_state.specs.Frames.{Sent, frame_sent, frame_if, frame_an
 use Rattle.quic_streams_laws.specs.ControlWalk.{others_wait}
 use Rattle.quic_messages.specs.Messages.{fitting, frame_bytes}
 use Rattle.quic_spaces.specs.Numbers.{cut_against}
-use Rattle.quic_machine.specs.Ids.{Ids}
 use Rattle.quic_machine.specs.End.{End, number_of, streams_at}
-use Rattle.quic_machine.specs.Poll.{Draft, current_mtu, no_frames, frame_room, least_room, fits, left, no_stream_frames, ping_if, with_control_frames, with_message, with_messages_of, with_message_frames, with_stream_frames, with_asking, ack_of, with_ack, ack_fits, ack_if, composed_if, composed, lazied, message_waits, asks_to_go, waits, draft_if, goes}
-use Rattle.quic_machine.specs.Control.{Gated}
-use Rattle.quic_machine.specs.PollCases.{ready_at, ready_leaves}
-use Rattle.quic_machine.specs.DraftLaws.{Writing, room_most, without_entry, by_entries, by_messages, by_streams, by_asking, due_alone}
+use Rattle.quic_machine.specs.Poll.{Draft, current_mtu, no_frames, frame_room, least_room, fits, left, no_stream_frames, ping_if, with_control_frames, with_message, with_messages_of, with_message_frames, with_stream_frames, with_asking, ack_of, with_ack, ack_fits, ack_if, composed_if, composed, lazied, message_waits, asks_to_go, waits}
+use Rattle.quic_machine.specs.PollCases.{at_moment, ready_at, ready_leaves}
+use Rattle.quic_machine.specs.DraftLaws.{Writing, room_most, without_entry, by_entries, by_messages, by_streams, by_asking}
 use Rattle.quic_headline.specs.Runs.{In}
 use Rattle.quic_headline.proofs.Packets.Invariant.{Acks}
 use Rattle.quic_headline.proofs.Packets.Entries.{entry_control, control_short}
-use Rattle.quic_headline.proofs.Packets.Composed.{Spelling, IsSpellable, waits_lazied, draft_spells}
-use Rattle.quic_headline.proofs.Packets.Probes.{ready_acks}
+use Rattle.quic_headline.proofs.Packets.Composed.{Spelling, IsSpellable, composed_spells}
 
 -- ---- what is known of streams
 
@@ -490,16 +487,13 @@ module _ (K : Streams → Type 0) (k : Spelling K) (c : Bringing K) where
       go true on = by_asking HasFrames frames_stay (with_ack (no_frames e)) (omega arith)
       go false on = late (ack_fits (with_asking (no_frames e))) (asking_goes e (room_most e short) i on)
 
-  -- so what goes of an end that is ready has a form, and a frame
-  spellable : (g : Gated) → goes g ≡ true → Acks g.end.acknowledging → length g.end.ids.active.id ≤ 20 → K (streams_at g.end) → IsSpellable g
-  spellable g waits acks short i = record { spells = draft_spells K k g.held (lazied g.end) (due_alone g waits) (record { runs = acks.runs; small = acks.small }) i; some = go g.held waits }
-    where
-      go : (held : Bool) → goes (record { held = held; end = g.end }) ≡ true → HasFrames (draft_if held (lazied g.end))
-      go true on = omega arith
-      go false on = composed_some (lazied g.end) short i (waits_lazied g.end on)
+  -- so what an end composes has a form, and a frame where something waits
+  spellable : (e : End) → Acks e.acknowledging → length e.ids.active.id ≤ 20 → K (streams_at e) → IsSpellable e
+  spellable e acks short i = record { spells = composed_spells K k e acks i; some = composed_some e short i }
 
   -- at any moment
-  pub spellable_next : (e : End) → Acks e.acknowledging → length e.ids.active.id ≤ 20 → ((now : ℕ) → K (streams_at (ready_at e now).end)) → (now : ℕ) → goes (ready_at e now) ≡ true → IsSpellable (ready_at e now)
-  spellable_next e acks short i now waits =
-      let ids : (ready_at e now).end.ids ≡ e.ids = ap (λ (x : End). x.ids) (ready_leaves e now) in
-      spellable (ready_at e now) waits (subst Acks (sym (ready_acks e now)) acks) (subst (λ (x : Ids). length x.active.id ≤ 20) (sym ids) short) (i now)
+  pub spellable_next : (e : End) → Acks e.acknowledging → length e.ids.active.id ≤ 20 → ((now : ℕ) → K (streams_at (ready_at e now))) → (now : ℕ) → IsSpellable (lazied (ready_at e now))
+  spellable_next e acks short i now =
+      let is = ready_leaves e now in
+      let there : End = at_moment e now (ready_at e now).tracking (ready_at e now).waiting in
+      subst (λ (x : End). IsSpellable (lazied x)) (sym is) (spellable (lazied there) (record { runs = acks.runs; small = acks.small }) short (subst (λ (x : End). K (streams_at x)) is (i now)))

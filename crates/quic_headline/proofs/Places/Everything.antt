@@ -40,7 +40,7 @@ use Rattle.quic_headline.proofs.Grown.Clause as grown
 -- what waits to go of streams, as a group over the packets and what is written
 pub record IsReadying (Ready : Way) : Type 1 where
   pub group : Group (And PacketsHold WritesHold) Ready
-  pub probes : (x y : Party) → PacketsHold x y → Ready x y → (now : ℕ) → AreReady (ready_at x.end now).end.streams.sending.halves.live (ready_at x.end now).end.waiting.frames
+  pub probes : (x y : Party) → PacketsHold x y → Ready x y → (now : ℕ) → AreReady (ready_at x.end now).streams.sending.halves.live (ready_at x.end now).waiting.frames
 
 module _ (Ready : Way) (ready : IsReadying Ready) where
   -- ---- the groups
@@ -52,7 +52,7 @@ module _ (Ready : Way) (ready : IsReadying Ready) where
   rest : Group (And PacketsHold WritesHold) Rest
   rest = beside (And PacketsHold WritesHold) KnowsLimit Ready (over PacketsHold (And PacketsHold WritesHold) KnowsLimit (λ x y h. h.0) (early_group PacketsHold KnowsLimit limit_group)) ready.group
 
-  goes : (x y : Party) → PacketsHold x y → Rest x y → (now : ℕ) → GoesWell (ready_at x.end now).end
+  goes : (x y : Party) → PacketsHold x y → Rest x y → (now : ℕ) → GoesWell (ready_at x.end now)
   goes x y p h now = record { limit = subst HasSmallLimit (sym (ready_state x.end now)) h.0.small; waits = ready.probes x y p h.1 now }
 
   -- the streams of an end that writes
