@@ -1,6 +1,6 @@
 //! How many bytes may be in flight: controllers, and what makes them (RFC 9002, section 7).
 ghost use Rattle.std.specs.Prelude.{◌≡◌, ℕ, Bool, Option, None, IfOk};
-ghost use Rattle.quic_congestion.specs.Congestion.{KeepsRoom, TakesSize};
+ghost use Rattle.quic_congestion.specs.Congestion.{KeepsRoom, TakesSize, Steps, steps_of};
 ghost use Rattle.quic_time.specs.Rtt.{Rtt};
 
 pub(crate) mod new_reno;
@@ -47,6 +47,9 @@ pub trait Controller: Drop {
 
     ghost after_mtu_update: { Self → ℕ → Self };
 
+    // All of these.
+    ghost steps: { Steps Self };
+
     /// So many bytes were just sent in packets that ask for an acknowledgement, up to this packet number. A controller that
     /// has no use of it does nothing here.
     fn on_sent(&mut self, now: Instant, bytes: u64, last_packet_number: u64)
@@ -56,7 +59,7 @@ pub trait Controller: Drop {
     /// here.
     ///
     /// `app_limited`: what there was to send, and not the window, bounded what was in flight. `rtt`: the estimate of the
-    /// round-trip time, this acknowledgement's sample taken in.
+    /// round-trip time, this acknowledgement's sample not taken in yet.
     fn on_ack(
         &mut self,
         now: Instant,
@@ -108,6 +111,9 @@ pub trait Controller: Drop {
     /// An `Err` is want of memory.
     fn try_clone(&self) -> Result<Self, AllocError>
         ensures same { IfOk result (λ twin. twin ≡ self.now) };
+
+    // The steps are these.
+    ghost steps_are: { steps ≡ steps_of after_sent after_ack after_end_acks after_congestion_event after_mtu_update };
 
     // Each call keeps the size, or takes the one that is handed in, and the room for two datagrams of it.
     ghost sent_keeps_room: { (c : Self) (now bytes last : ℕ)

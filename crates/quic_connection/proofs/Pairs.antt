@@ -1,12 +1,17 @@
 -- What it takes to make an end of a peer's parameters.
-use Rattle.std.proofs.Common.{◌≡◌, ◌==◌, ℕ, List, length, Bool, true, false, cond, not, ◌||◌, Option, Some, None, refl, sym}
+use Rattle.std.proofs.Common.{◌≡◌, ◌==◌, ℕ, List, length, Bool, true, false, cond, not, ◌||◌, Option, Some, None, refl, sym, ap, subst}
 use Rattle.std.specs.Prelude.{Result, Ok, Err, OnOk, IfOk, IfErr}
 use Rattle.std.proofs.lemmas.Bool.{eqb-true}
+use Rattle.quic_wire_core.specs.declared.stream_id.Side.{Side}
 use Rattle.quic_parameters.specs.Parameters.{ParameterValues}
+use Rattle.quic_congestion.specs.Congestion.{Told, Steps, HasRoom, AreSized, last_size, after_calls}
 use Rattle.quic_machine.specs.declared.answers.ConfigError.{ConfigError}
 use Rattle.quic_machine.specs.declared.answers.ConfigError.TheVariants as config_errors
 use Rattle.quic_config.specs.Transport.{Settings, parameters_of}
-use Rattle.quic_machine.specs.End.{are_sizes_wrong, refusal_of}
+use Rattle.quic_machine.specs.End.{End, IsMade, are_sizes_wrong, is_window_small, refusal_of}
+use Rattle.quic_machine.specs.Parts.{Windows}
+use Rattle.quic_machine.specs.Start.{IsController}
+use Rattle.quic_connection_core.specs.Telling.{IsRoomy, windows_of}
 use Rattle.quic_connection.specs.Ends.{refusal_for}
 
 -- a fact of each success
@@ -28,13 +33,28 @@ if_err_then (Ok a) f p = tt
 if_err_then (Err e) f p = f e p
 
 -- an own id that isn't refused has eight bytes
-pub id_length : {E : Type 0} (settings : Settings) (r : Result ParameterValues E) (theirs : ParameterValues) (own peer : List ℕ) → r ≡ Ok theirs → refusal_of settings r own peer ≡ None → length own ≡ 8
-id_length settings r theirs own peer is none = go (length own == 8) (length peer == 0) refl (rw is at none)
+pub id_length : {E : Type 0} (settings : Settings) (window : ℕ) (r : Result ParameterValues E) (theirs : ParameterValues) (own peer : List ℕ) → r ≡ Ok theirs → refusal_of settings window r own peer ≡ None → length own ≡ 8
+id_length settings window r theirs own peer is none = go (length own == 8) (length peer == 0) refl (rw is at none)
   where
-    go : (a b : Bool) → (length own == 8) ≡ a → cond (not a || b) (Some config_errors.IdLength) (cond (are_sizes_wrong settings theirs) (Some config_errors.Size) None) ≡ None → length own ≡ 8
+    go : (a b : Bool) → (length own == 8) ≡ a → cond (not a || b) (Some config_errors.IdLength) (cond (are_sizes_wrong settings theirs) (Some config_errors.Size) (cond (is_window_small settings window) (Some config_errors.Window) None)) ≡ None → length own ≡ 8
     go true b q h = eqb-true (length own) 8 q
     go false b q h = cc
 
 -- a refusal behind parameters that can be read
-pub refused_for : {E : Type 0} (own_settings peer_settings : Settings) (r : Result ParameterValues E) (own peer : List ℕ) (o : Option ConfigError) → r ≡ Ok (parameters_of peer_settings) → o ≡ refusal_of own_settings r own peer → refusal_for own_settings peer_settings own peer ≡ o
-refused_for own_settings peer_settings r own peer o is refusal = sym (rw is at refusal)
+pub refused_for : {E : Type 0} (own_settings : Settings) (window : ℕ) (peer_settings : Settings) (r : Result ParameterValues E) (own peer : List ℕ) (o : Option ConfigError) → r ≡ Ok (parameters_of peer_settings) → o ≡ refusal_of own_settings window r own peer → refusal_for own_settings window peer_settings own peer ≡ o
+refused_for own_settings window peer_settings r own peer o is refusal = sym (rw is at refusal)
+
+-- an end that was made shows the window that its controller did
+pub made_window : {E : Type 0} (side : Side) (settings : Settings) (windows : Windows) (r : Result ParameterValues E) (theirs : ParameterValues) (own peer : List ℕ) (now : ℕ) (validated : Bool) (word : ℕ) (e : End)
+    → r ≡ Ok theirs → IsMade side settings windows r own peer now validated word e → e.path.window ≡ windows.present
+made_window side settings windows r theirs own peer now validated word e is made = ap (λ (x : End). x.path.window) (rw is at made)
+
+-- a controller that has room for two datagrams keeps it
+pub is_controller : {C : Type 0} (steps : Steps C) (size_of window_of : C → ℕ) (c : C) (size present : ℕ) → IsRoomy size_of window_of c size → present ≡ window_of c
+    → ((d : C) (calls : List Told) → AreSized calls → HasRoom (size_of d) (window_of d) → HasRoom (last_size (size_of d) calls) (window_of (after_calls steps d calls)))
+    → IsController (windows_of steps window_of c) size present
+is_controller steps size_of window_of c size present roomy shown keeps = record {
+  first = sym shown;
+  room = λ told sized room. subst (λ (n : ℕ). HasRoom (last_size n told) (windows_of steps window_of c told)) roomy.size
+      (keeps c told sized (subst (λ (n : ℕ). HasRoom n (window_of c)) (sym roomy.size) roomy.room));
+}

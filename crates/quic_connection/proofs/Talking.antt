@@ -16,7 +16,8 @@ use Rattle.quic_machine.specs.declared.run.Answer.TheVariants as answers
 use Rattle.quic_machine.specs.Policy.{Policy}
 use Rattle.quic_machine.specs.End.{End}
 use Rattle.quic_machine.specs.Poll.{polled}
-use Rattle.quic_machine.specs.Machine.{gave, end_at, given_by, policy_at, changed, gives, World, Policies, IsAnswer, IsLeft, IsStep, fails}
+use Rattle.quic_machine.specs.Control.{Control}
+use Rattle.quic_machine.specs.Machine.{gave, end_at, given_by, policy_at, control_at, end_met, changed, gives, World, Policies, IsAnswer, IsLeft, IsStep, fails}
 use Rattle.quic_connection.specs.Settled.{Round, asks, quiet, polled_on, Turn, polls, awaits, polls_in, poll_event, delivery_event, timeout_event, IsPassedOn, IsPolled, IsHandled, IsWaited, IsTalk, Talks, Leads, IsHalfHandled, IsCut, IsCutOff, EndsAs, IsStill, AreStill, no_datagram, AreAtRest, AreOpen, HasClosed, Settles, most_polls, end_wakes, wakes}
 
 -- ---- turns
@@ -133,18 +134,18 @@ more_behind old mid new first rest =
     (first.0 ++ rest.0, rest.1 ∙ ap (λ (ds : List (List ℕ)). ds ++ rest.0) first.1 ∙ append_assoc old first.0 rest.0)
 
 -- one end has given more, or none has
-changed_more : (at_side side : Side) (w : World) (e : End) (ds : List (List ℕ)) → HasMore (given_by side w) (given_by side (changed at_side w e ds))
-changed_more Client Client w e ds = (ds, refl)
-changed_more Client Server w e ds = ([], sym (append-nil w.from_server))
-changed_more Server Client w e ds = ([], sym (append-nil w.from_client))
-changed_more Server Server w e ds = (ds, refl)
+changed_more : (at_side side : Side) (w : World) (e : End) (ds : List (List ℕ)) (control : Control) → HasMore (given_by side w) (given_by side (changed at_side w e ds control))
+changed_more Client Client w e ds control = (ds, refl)
+changed_more Client Server w e ds control = ([], sym (append-nil w.from_server))
+changed_more Server Client w e ds control = ([], sym (append-nil w.from_client))
+changed_more Server Server w e ds control = (ds, refl)
 
 -- a step leaves what was given
 step_more : (k : Policies) (w : World) (event : RunEvent) (a : Answer) (next : World) (side : Side) → IsStep k w event a next → HasMore (given_by side w) (given_by side next)
 step_more k w event a next side step =
     let e = end_at event.side next in
-    let ds = gives (policy_at event.side k) (end_at event.side w) event.call a in
-    let here = changed_more event.side side w e ds in
+    let ds = gives (policy_at event.side k) (end_met w event) event.call a in
+    let here = changed_more event.side side w e ds (control_at event.side next) in
     (here.0, ap (λ (v : World). given_by side v) step.others ∙ here.1)
 
 -- so does a delivery, where one is made
@@ -257,9 +258,9 @@ answered_none (Ok (Some transmit)) none kept = cc
 answered_none (Err failed) none kept = cc
 
 -- an end that is open didn't fail
-kept_open : (b : Bool) (p : Policy) (e : End) (theirs : List (List ℕ)) (call : Call) (a : Answer) (next : End) → IsLeft b p e theirs call a next → next.closing.state ≡ states.Open → b ≡ false
-kept_open false p e theirs call a next left opened = refl
-kept_open true p e theirs call a next left opened = let failed = left.0 in cc
+kept_open : (b : Bool) (p : Policy) (control : Control) (e : End) (theirs : List (List ℕ)) (call : Call) (a : Answer) (next : End) → IsLeft b p control e theirs call a next → next.closing.state ≡ states.Open → b ≡ false
+kept_open false p control e theirs call a next left opened = refl
+kept_open true p control e theirs call a next left opened = let failed = left.0 in cc
 
 -- so at an open end
 none_at : (p : Policy) (e : End) (theirs : List (List ℕ)) (now : ℕ) (a : Answer) → IsAnswer p e theirs (calls.Poll now) a → gave a ≡ false → fails a ≡ false → a ≡ no_datagram
@@ -275,8 +276,8 @@ none_by : (k : Policies) (side : Side) (now : ℕ) (w to : World) → IsPolled k
 none_by k side now w to p opened =
     let same = passed_none (gave p.answer) k side now (length (given_by side w)) p.next to p.gives p.delivered in
     let step : IsStep k w (poll_event side now) p.answer to = rw same p.poll in
-    let kept = kept_open (fails p.answer) (policy_at side k) (end_at side w) (given_by (other_side side) w) (calls.Poll now) p.answer (end_at side to) step.end opened in
-    let is = none_at (policy_at side k) (end_at side w) (given_by (other_side side) w) now p.answer step.answer p.gives kept in
+    let kept = kept_open (fails p.answer) (policy_at side k) (control_at side w) (end_at side w) (given_by (other_side side) w) (calls.Poll now) p.answer (end_at side to) step.end opened in
+    let is = none_at (policy_at side k) (end_met w (poll_event side now)) (given_by (other_side side) w) now p.answer step.answer p.gives kept in
     rw is at step
 
 -- ---- both ends rest

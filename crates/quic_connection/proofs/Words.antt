@@ -26,18 +26,22 @@ use Rattle.quic_machine.specs.declared.run.RunEvent.{RunEvent}
 use Rattle.quic_machine.specs.Closing.{ticked}
 use Rattle.quic_machine.specs.Policy.{Policy}
 use Rattle.quic_machine.specs.Ids.{known}
-use Rattle.quic_machine.specs.End.{End, ConnectionValue, HasFailed, with_end, with_closing, with_number_given, with_loss_timer}
-use Rattle.quic_machine.specs.Receive.{Outcome, is_above, names_ungiven, take_frame, headed, received_in, received}
+use Rattle.quic_machine.specs.End.{End, ConnectionValue, HasFailed, with_window, with_closing, with_number_given, with_loss_timer}
+use Rattle.quic_machine.specs.Receive.{Outcome, is_above, names_ungiven, take_frame, headed, received_in, received, told_headed, told_received_in, told_received}
 use Rattle.quic_machine.specs.Opens.{opens_behind, would_open, own_id_length}
-use Rattle.quic_machine.specs.Poll.{Polled, gives_datagram, datagram_of, tracked, lazied, waits, sends, polled_if, polled_in, polled}
+use Rattle.quic_machine.specs.Control.{with_app_limited}
+use Rattle.quic_machine.specs.Poll.{Polled, gives_datagram, datagram_of, datagram_size, asking, paid_if, tracked, lazied, goes, sends, polled_if, polled_in, polled}
+use Rattle.quic_machine.specs.Control.{Control, after_told}
+use Rattle.quic_machine.specs.DraftLaws.{due_alone}
 use Rattle.quic_machine.specs.FrameCases.{Settling, losses_keep, named, ack_taken, acked_keeps, message_leaves, by_received}
 use Rattle.quic_machine.specs.LeaveCases.{by_expired}
 use Rattle.quic_machine.specs.PollCases.{ready_at, ready_leaves, draft_at, composes, by_poll_to}
 use Rattle.quic_machine.specs.CallCases.{is_poll, by_plain_call}
-use Rattle.quic_machine.specs.Machine.{World, Policies, IsAnswer, IsDelivered, injected_if, IsLeft, IsStep, after_call, after_delivered, after_injected_if, gives, fails, changed, policy_at, end_at, given_by}
+use Rattle.quic_machine.specs.Machine.{World, Policies, IsAnswer, IsDelivered, injected_if, IsLeft, IsTold, IsStep, after_call, after_delivered, after_injected_if, tells, told_delivered, gives, fails, changed, policy_at, end_at, end_met, reads_window, control_at, given_by}
 use Rattle.quic_machine.specs.Lacking.{GivesOrHasFailed, TakesFrames, MovesRecord, DeliveryTakes, LacksWhere}
 use Rattle.quic_connection_core.specs.Drawn.{after_words}
 use Rattle.quic_connection_core.specs.Given.{given_bytes}
+use Rattle.quic_connection_core.specs.Telling.{KeepsKeys}
 use Rattle.quic_connection.specs.declared.running.Ends.{Ends}
 use Rattle.quic_connection.specs.Ends.{kept, GoesOn, Serves, AreOf, policies_of}
 use Rattle.quic_connection.specs.GoingOn.{goes_same}
@@ -49,10 +53,10 @@ abbrev Quiet : End → End → Type 0
 Quiet e f = (f.filter ≡ e.filter) × (f.closing.state ≢ states.Failed → e.closing.state ≢ states.Failed)
 
 settling : (e : End) → Settling (Quiet e)
-settling e = record { known = λ n x q. q; reset = λ id x q. q; acked = λ m x q. q; lost = λ m x q. q; again = λ c x q. q; tracked = λ t x q. q; measured = λ r x q. q }
+settling e = record { known = λ n x q. q; reset = λ id x q. q; acked = λ m x q. q; lost = λ m x q. q; again = λ c x q. q; tracked = λ t x q. q; measured = λ r first x q. q }
 
 filter_settling : (e : End) → Settling (λ (f : End). f.filter ≡ e.filter)
-filter_settling e = record { known = λ n x q. q; reset = λ id x q. q; acked = λ m x q. q; lost = λ m x q. q; again = λ c x q. q; tracked = λ t x q. q; measured = λ r x q. q }
+filter_settling e = record { known = λ n x q. q; reset = λ id x q. q; acked = λ m x q. q; lost = λ m x q. q; again = λ c x q. q; tracked = λ t x q. q; measured = λ r first x q. q }
 
 filter_ack : (b : Bool) (a : AckValue) (e x : End) → x.filter ≡ e.filter → (ack_taken b a x).end.filter ≡ e.filter
 filter_ack true a e x q = q
@@ -88,7 +92,7 @@ quiet_call p e theirs call a other = by_plain_call p e theirs (Quiet e) call a (
   on_messages = λ m. same;
   pings = same;
   heard = λ path is. same;
-  times = λ now acks loss is. by_expired e now (Quiet e) (λ pending tracking timers runs packets. same) (λ pending timers runs. losses_keep (Quiet e) (settling e) (with_closing e (ticked e.closing now)) same) acks loss;
+  times = λ now acks loss pacing is. by_expired e now (Quiet e) (λ pending tracking timers runs packets. same) (λ pending timers runs. losses_keep (Quiet e) (settling e) (with_closing e (ticked e.closing now)) same) acks loss pacing;
   polls = λ now is. cc;
   hears = λ now d is. (filter_received p e now d, failed_received p e now d);
   tells = λ told. same;
@@ -97,11 +101,16 @@ quiet_call p e theirs call a other = by_plain_call p e theirs (Quiet e) call a (
     same : Quiet e e
     same = (refl, λ kept. kept)
 
+-- nor does it read the window
+reads_no_window : (control : Control) (call : Call) (e : End) → is_poll call ≡ false → reads_window control call e ≡ e
+reads_no_window control (calls.Poll now) e other = cc
+reads_no_window control call e other = refl
+
 -- ---- an end goes on
 
 -- at a call but a poll
-pub quiet_goes : {H K R : Type 0} (stream : R → Stream) (p : Policy) (old new : ConnectionValue H K R) (theirs : List (List ℕ)) (call : Call) (a : Answer) → is_poll call ≡ false → new ≡ with_end old new.end → IsLeft (fails a) p old.end theirs call a new.end → GoesOn stream old new
-quiet_goes stream p old new theirs call a other is left = go (fails a) left
+pub quiet_goes : {H K R C : Type 0} (stream : R → Stream) (p : Policy) (control : Control) (old new : ConnectionValue H K R C) (theirs : List (List ℕ)) (call : Call) (a : Answer) → is_poll call ≡ false → KeepsKeys old new → IsLeft (fails a) p control old.end theirs call a new.end → GoesOn stream old new
+quiet_goes stream p control old new theirs call a other is left = go (fails a) left
   where
     quiet : Quiet old.end new.end → GoesOn stream old new
     quiet q = record {
@@ -113,29 +122,36 @@ quiet_goes stream p old new theirs call a other is left = go (fails a) left
           ap (λ w. stream w.random) is ∙ ap (λ (k : ℕ). after_words k (stream old.random)) none);
     }
 
-    go : (b : Bool) → IsLeft b p old.end theirs call a new.end → GoesOn stream old new
+    go : (b : Bool) → IsLeft b p control old.end theirs call a new.end → GoesOn stream old new
     go true stops = record { keys = ap (λ w. w.keys) is; served = λ o. absurd (o stops.0); drawn = λ o. absurd (o stops.0); random = λ o. absurd (o stops.0) }
-    go false same = quiet (subst (λ (e : End). Quiet old.end e) (sym same) (quiet_call p old.end theirs call a other))
+    go false same = quiet (subst (λ (e : End). Quiet old.end e) (sym (same ∙ ap (λ (e : End). after_call p e theirs call a) (reads_no_window control call old.end other))) (quiet_call p old.end theirs call a other))
 
 -- at a poll: no word fewer is drawn behind it, and an end that is open behind it was open
 given_drawn : (b : Bool) (f : Filter) (word : ℕ) → f.drawn ≤ (if b then after_skipped f word else f).drawn
 given_drawn true f word = omega arith
 given_drawn false f word = omega arith
 
-ready_filter : (e : End) (now : ℕ) → (ready_at e now).filter ≡ e.filter
+ready_filter : (e : End) (now : ℕ) → (ready_at e now).end.filter ≡ e.filter
 ready_filter e now = ap (λ (x : End). x.filter) (ready_leaves e now)
 
-draft_filter : (e : End) (now : ℕ) → (draft_at e now).end.filter ≡ e.filter
-draft_filter e now = (composes (lazied (ready_at e now))).filter ∙ ready_filter e now
+draft_filter : (e : End) (now : ℕ) → goes (ready_at e now) ≡ true → (draft_at e now).end.filter ≡ e.filter
+draft_filter e now some =
+    let g = ready_at e now in
+    (composes g.held (lazied g.end) (due_alone g some)).filter ∙ ready_filter e now
+
+paid_filter : (b : Bool) (x : End) (size : ℕ) → (paid_if b x size).filter ≡ x.filter
+paid_filter true x size = refl
+paid_filter false x size = refl
 
 pub poll_draws : (p : Policy) (e : End) (now : ℕ) → e.filter.drawn ≤ (polled p e now).end.filter.drawn
 poll_draws p e now = by_poll_to p e now (λ x. e.filter.drawn ≤ x.end.filter.drawn) (record {
   silent = omega arith;
   failed = omega arith;
-  idle = let same = ap (λ (f : Filter). f.drawn) (ready_filter e now) in omega arith;
+  nothing = λ is_open none. (let same = ap (λ (f : Filter). f.drawn) (ready_filter e now) in omega arith);
   used_up = let same = ap (λ (f : Filter). f.drawn) (ready_filter e now) in omega arith;
-  gives = λ is_open can goes. (let d = draft_at e now in
-      let same = ap (λ (f : Filter). f.drawn) (draft_filter e now) in
+  gives = λ is_open can some. (let d = draft_at e now in
+      let same = ap (λ (f : Filter). f.drawn) (draft_filter e now some) in
+      let paid = ap (λ (f : Filter). f.drawn) (paid_filter (asking d.frames) (with_number_given (p.words d.end.filter.drawn) (tracked d)) (datagram_size d)) in
       let more = given_drawn (is_skipped d.end.filter d.end.numbers.next) d.end.filter (p.words d.end.filter.drawn) in omega arith);
 })
 
@@ -150,17 +166,17 @@ poll_serves p e now = go e.closing.state refl
     go states.Drained is kept = λ failed. (let no : states.Drained ≡ states.Failed = sym is ∙ failed in cc)
 
 -- what a poll leaves goes on, where memory served
-pub poll_goes : {H K R : Type 0} (stream : R → Stream) (p : Policy) (old new : ConnectionValue H K R) (now : ℕ) → new.keys ≡ old.keys → new.end ≡ (polled p old.end now).end
+pub poll_goes : {H K R C : Type 0} (stream : R → Stream) (p : Policy) (window : ℕ) (old new : ConnectionValue H K R C) (now : ℕ) → new.keys ≡ old.keys → new.end ≡ (polled p (with_window old.end window) now).end
     → stream new.random ≡ after_words (new.end.filter.drawn - old.end.filter.drawn) (stream old.random) → GoesOn stream old new
-poll_goes stream p old new now keys end random = record {
+poll_goes stream p window old new now keys end random = record {
   keys = keys;
-  served = λ kept. poll_serves p old.end now (λ failed. kept (ap (λ (e : End). e.closing.state) end ∙ failed));
-  drawn = λ kept. subst (λ (e : End). old.end.filter.drawn ≤ e.filter.drawn) (sym end) (poll_draws p old.end now);
+  served = λ kept. poll_serves p (with_window old.end window) now (λ failed. kept (ap (λ (e : End). e.closing.state) end ∙ failed));
+  drawn = λ kept. subst (λ (e : End). old.end.filter.drawn ≤ e.filter.drawn) (sym end) (poll_draws p (with_window old.end window) now);
   random = λ kept. random;
 }
 
 -- nor where it lacked
-pub failed_goes : {H K R : Type 0} (stream : R → Stream) (old new : ConnectionValue H K R) → HasFailed old new → GoesOn stream old new
+pub failed_goes : {H K R C : Type 0} (stream : R → Stream) (old new : ConnectionValue H K R C) → HasFailed old new → GoesOn stream old new
 failed_goes stream old new f = record {
   keys = ap (λ w. w.keys) f.keys;
   served = λ kept. absurd (kept f.state);
@@ -169,19 +185,19 @@ failed_goes stream old new f = record {
 }
 
 -- either way
-pub polled_goes : {H K R : Type 0} (stream : R → Stream) (p : Policy) (old new : ConnectionValue H K R) (now : ℕ) (r : Result (Option Transmit) Failed) → new.keys ≡ old.keys → OnOk r (new.end ≡ (polled p old.end now).end)
+pub polled_goes : {H K R C : Type 0} (stream : R → Stream) (p : Policy) (window : ℕ) (old new : ConnectionValue H K R C) (now : ℕ) (r : Result (Option Transmit) Failed) → new.keys ≡ old.keys → OnOk r (new.end ≡ (polled p (with_window old.end window) now).end)
     → OnOk r (stream new.random ≡ after_words (new.end.filter.drawn - old.end.filter.drawn) (stream old.random)) → OnErr r (HasFailed old new) → GoesOn stream old new
-polled_goes stream p old new now (Ok x) keys end random failed = poll_goes stream p old new now keys end random
-polled_goes stream p old new now (Err x) keys end random failed = failed_goes stream old new failed
+polled_goes stream p window old new now (Ok x) keys end random failed = poll_goes stream p window old new now keys end random
+polled_goes stream p window old new now (Err x) keys end random failed = failed_goes stream old new failed
 
 -- what a poll gave is what its answer gives
 one_given : (p : Policy) (e : End) (now : ℕ) (t : Transmit) → (polled p e now).answer ≡ Ok (Some t) → given_bytes (polled p e now).datagram ∷ [] ≡ option_to_list (polled p e now).datagram
 one_given p e now t is = by_poll_to p e now (λ (x : Polled). x.answer ≡ Ok (Some t) → given_bytes x.datagram ∷ [] ≡ option_to_list x.datagram) (record {
   silent = λ i. cc;
   failed = λ i. cc;
-  idle = λ i. cc;
+  nothing = λ is_open none i. cc;
   used_up = λ i. cc;
-  gives = λ is_open can goes i. refl;
+  gives = λ is_open can some i. refl;
 }) is
 
 pub kept_gives : (p : Policy) (e : End) (now : ℕ) (r : Result (Option Transmit) Failed) (old new : List ℕ) → old ≡ [] → OnOk r (r ≡ (polled p e now).answer) → OnOk r (new ≡ old ++ given_bytes (polled p e now).datagram)
@@ -193,13 +209,13 @@ kept_gives p e now (Err x) old new none answer bytes = refl
 -- ---- any call
 
 -- at a call, whether it is a poll or not
-pub call_goes : {H K R : Type 0} (stream : R → Stream) (p : Policy) (old new : ConnectionValue H K R) (theirs : List (List ℕ)) (call : Call) (r : Result Answer AllocError) → (is_poll call ≡ false → new ≡ with_end old new.end) → (is_poll call ≡ true → GoesOn stream old new)
-    → IfOk r (λ a. IsLeft (fails a) p old.end theirs call a new.end) → OnErr r (new ≡ old) → GoesOn stream old new
-call_goes stream p old new theirs call r keys polls left same = go (is_poll call) refl r left same
+pub call_goes : {H K R C : Type 0} (stream : R → Stream) (p : Policy) (control : Control) (old new : ConnectionValue H K R C) (theirs : List (List ℕ)) (call : Call) (r : Result Answer AllocError) → (is_poll call ≡ false → KeepsKeys old new) → (is_poll call ≡ true → GoesOn stream old new)
+    → IfOk r (λ a. IsLeft (fails a) p control old.end theirs call a new.end) → OnErr r (new ≡ old) → GoesOn stream old new
+call_goes stream p control old new theirs call r keys polls left same = go (is_poll call) refl r left same
   where
-    go : (b : Bool) → is_poll call ≡ b → (r : Result Answer AllocError) → IfOk r (λ a. IsLeft (fails a) p old.end theirs call a new.end) → OnErr r (new ≡ old) → GoesOn stream old new
+    go : (b : Bool) → is_poll call ≡ b → (r : Result Answer AllocError) → IfOk r (λ a. IsLeft (fails a) p control old.end theirs call a new.end) → OnErr r (new ≡ old) → GoesOn stream old new
     go true is r left same = polls is
-    go false is (Ok a) left same = quiet_goes stream p old new theirs call a is (keys is) left
+    go false is (Ok a) left same = quiet_goes stream p control old new theirs call a is (keys is) left
     go false is (Err x) left same = subst (λ w. GoesOn stream old w) (sym same) (goes_same stream old)
 
 -- ---- a policy that does the same at an end
@@ -218,6 +234,19 @@ received_with p words e now d = go e.closing.state
     go states.Drained = refl
     go states.Failed = refl
 
+told_headed_with : (r : Result (List ℕ) HeaderError) (p : Policy) (words : ℕ → ℕ) (e : End) (now : ℕ) (d : List ℕ) → told_headed r (record p { words = words }) e now d ≡ told_headed r p e now d
+told_headed_with (Err x) p words e now d = refl
+told_headed_with (Ok id) p words e now d = refl
+
+told_received_with : (p : Policy) (words : ℕ → ℕ) (e : End) (now : ℕ) (d : List ℕ) → told_received (record p { words = words }) e now d ≡ told_received p e now d
+told_received_with p words e now d = go e.closing.state
+  where
+    go : (s : State) → told_received_in s (record p { words = words }) e now d ≡ told_received_in s p e now d
+    go states.Open = told_headed_with (decoded (fixed_length_id own_id_length) (known e.ids) d) p words e now d
+    go states.Closing = told_headed_with (decoded (fixed_length_id own_id_length) (known e.ids) d) p words e now d
+    go states.Drained = refl
+    go states.Failed = refl
+
 opens_with : (p : Policy) (words : ℕ → ℕ) (e : End) (d : List ℕ) → would_open (record p { words = words }) e d ≡ would_open p e d
 opens_with p words e d = go (decoded (fixed_length_id own_id_length) (known e.ids) d)
   where
@@ -232,19 +261,21 @@ polled_with p words e now same = state e.closing.state refl
     q : Policy
     q = record p { words = words }
 
-    word : e.closing.state ≡ states.Open → words (draft_at e now).end.filter.drawn ≡ p.words (draft_at e now).end.filter.drawn
-    word o = ap (λ (f : Filter). words f.drawn) (draft_filter e now) ∙ same (λ failed. (let no : states.Open ≡ states.Failed = sym o ∙ failed in cc)) ∙ sym (ap (λ (f : Filter). p.words f.drawn) (draft_filter e now))
+    word : e.closing.state ≡ states.Open → goes (ready_at e now) ≡ true → words (draft_at e now).end.filter.drawn ≡ p.words (draft_at e now).end.filter.drawn
+    word o some = ap (λ (f : Filter). words f.drawn) (draft_filter e now some) ∙ same (λ failed. (let no : states.Open ≡ states.Failed = sym o ∙ failed in cc)) ∙ sym (ap (λ (f : Filter). p.words f.drawn) (draft_filter e now some))
 
-    number : e.closing.state ≡ states.Open → (b : Bool) → sends b q (ready_at e now) ≡ sends b p (ready_at e now)
-    number o true = ap (λ (w : ℕ). gives_datagram (datagram_of p (draft_at e now)) (with_loss_timer (with_number_given w (tracked (draft_at e now))))) (word o)
-    number o false = refl
+    number : e.closing.state ≡ states.Open → goes (ready_at e now) ≡ true → (b : Bool) → sends b q (ready_at e now) ≡ sends b p (ready_at e now)
+    number o some true =
+        let d = draft_at e now in
+        ap (λ (w : ℕ). gives_datagram (datagram_of p d) (with_loss_timer (with_app_limited (paid_if (asking d.frames) (with_number_given w (tracked d)) (datagram_size d)) false))) (word o some)
+    number o some false = refl
 
-    waiting : e.closing.state ≡ states.Open → (b : Bool) → polled_if b q (ready_at e now) ≡ polled_if b p (ready_at e now)
-    waiting o true = number o (can_number (ready_at e now).numbers)
-    waiting o false = refl
+    waiting : e.closing.state ≡ states.Open → (b : Bool) → goes (ready_at e now) ≡ b → polled_if b q (ready_at e now) ≡ polled_if b p (ready_at e now)
+    waiting o true some = number o some (can_number (ready_at e now).end.numbers)
+    waiting o false some = refl
 
     state : (s : State) → e.closing.state ≡ s → polled_in s q e now ≡ polled_in s p e now
-    state states.Open o = waiting o (waits (ready_at e now))
+    state states.Open o = waiting o (goes (ready_at e now)) refl
     state states.Closing o = refl
     state states.Drained o = refl
     state states.Failed o = refl
@@ -296,9 +327,14 @@ module _ (p : Policy) (words : ℕ → ℕ) (e : End) (same : e.closing.state �
       ∙ after_injected_with (would_open p e injection.bytes) injection.now injection.bytes
   after_with theirs call a = refl
 
-  left_with : (b : Bool) (theirs : List (List ℕ)) (call : Call) (a : Answer) (next : End) → IsLeft b p e theirs call a next → IsLeft b other e theirs call a next
-  left_with true theirs call a next h = h
-  left_with false theirs call a next h = h ∙ sym (after_with theirs call a)
+  -- what the controller is told
+  told_with : (now : ℕ) (o : Option (List ℕ)) → told_delivered other e now o ≡ told_delivered p e now o
+  told_with now None = refl
+  told_with now (Some d) = told_received_with p words e now d
+
+  tells_with : (theirs : List (List ℕ)) (call : Call) → tells other e theirs call ≡ tells p e theirs call
+  tells_with theirs (calls.Deliver delivery) = told_with delivery.now (slice_get theirs delivery.index)
+  tells_with theirs call = refl
 
   gives_with : (call : Call) (a : Answer) → gives other e call a ≡ gives p e call a
   gives_with (calls.Poll now) (answers.Poll (Ok (Some transmit))) = ap (λ (x : Polled). option_to_list x.datagram) (polled_with p words e now same)
@@ -309,13 +345,33 @@ module _ (p : Policy) (words : ℕ → ℕ) (e : End) (same : e.closing.state �
   lacks_with theirs (calls.Deliver delivery) (answers.Deliver receives.Failed) h = takes_with delivery.now (slice_get theirs delivery.index) h
   lacks_with theirs call a h = h
 
+-- which words are drawn isn't changed by reading the window
+reads_closing : (control : Control) (call : Call) (e : End) → (reads_window control call e).closing ≡ e.closing
+reads_closing control (calls.Poll now) e = refl
+reads_closing control call e = refl
+
+reads_filter : (control : Control) (call : Call) (e : End) → (reads_window control call e).filter ≡ e.filter
+reads_filter control (calls.Poll now) e = refl
+reads_filter control call e = refl
+
+-- the end that a call leaves, and its controller
+module _ (p : Policy) (words : ℕ → ℕ) (control : Control) (e : End) (theirs : List (List ℕ)) (call : Call) (same : (reads_window control call e).closing.state ≢ states.Failed → words (reads_window control call e).filter.drawn ≡ p.words (reads_window control call e).filter.drawn) where
+  left_with : (b : Bool) (a : Answer) (next : End) → IsLeft b p control e theirs call a next → IsLeft b (record p { words = words }) control e theirs call a next
+  left_with true a next h = h
+  left_with false a next h = h ∙ sym (after_with p words (reads_window control call e) same theirs call a)
+
+  control_with : (b : Bool) (next : Control) → IsTold b p control e theirs call next → IsTold b (record p { words = words }) control e theirs call next
+  control_with true next h = h
+  control_with false next h = h ∙ ap (after_told control) (sym (tells_with p words (reads_window control call e) same theirs call))
+
 -- a step is one by such a policy
 pub step_as : (k p : Policies) (w : World) (event : RunEvent) (a : Answer) (next : World) → Serves (policy_at event.side k) (policy_at event.side p) (end_at event.side w) → IsStep p w event a next → IsStep k w event a next
 step_as k p w event a next s step = record {
-  answer = subst (λ (q : Policy). IsAnswer q e theirs event.call a) (sym s.keys) (answer_with one words e same theirs event.call a step.answer);
-  end = subst (λ (q : Policy). IsLeft (fails a) q e theirs event.call a (end_at event.side next)) (sym s.keys) (left_with one words e same (fails a) theirs event.call a (end_at event.side next) step.end);
-  others = step.others ∙ ap (λ (ds : List (List ℕ)). changed event.side w (end_at event.side next) ds) (sym (ap (λ (q : Policy). gives q e event.call a) s.keys ∙ gives_with one words e same event.call a));
-  lacking = subst (λ (q : Policy). LacksWhere q e theirs event.call a) (sym s.keys) (lacks_with one words e same theirs event.call a step.lacking);
+  answer = subst (λ (q : Policy). IsAnswer q met theirs event.call a) (sym s.keys) (answer_with one words met same theirs event.call a step.answer);
+  end = subst (λ (q : Policy). IsLeft (fails a) q control e theirs event.call a (end_at event.side next)) (sym s.keys) (left_with one words control e theirs event.call same (fails a) a (end_at event.side next) step.end);
+  control = subst (λ (q : Policy). IsTold (fails a) q control e theirs event.call (control_at event.side next)) (sym s.keys) (control_with one words control e theirs event.call same (fails a) (control_at event.side next) step.control);
+  others = step.others ∙ ap (λ (ds : List (List ℕ)). changed event.side w (end_at event.side next) ds (control_at event.side next)) (sym (ap (λ (q : Policy). gives q met event.call a) s.keys ∙ gives_with one words met same event.call a));
+  lacking = subst (λ (q : Policy). LacksWhere q met theirs event.call a) (sym s.keys) (lacks_with one words met same theirs event.call a step.lacking);
 }
   where
     one : Policy
@@ -327,14 +383,23 @@ step_as k p w event a next s step = record {
     e : End
     e = end_at event.side w
 
+    control : Control
+    control = control_at event.side w
+
+    met : End
+    met = end_met w event
+
     theirs : List (List ℕ)
     theirs = given_by (other_side event.side) w
 
-    same : e.closing.state ≢ states.Failed → words e.filter.drawn ≡ one.words e.filter.drawn
-    same o = s.words o e.filter.drawn (omega arith)
+    same : met.closing.state ≢ states.Failed → words met.filter.drawn ≡ one.words met.filter.drawn
+    same o =
+        let drawn = reads_filter control event.call e in
+        let kept : e.closing.state ≢ states.Failed = λ failed. o (ap (λ c. c.state) (reads_closing control event.call e) ∙ failed) in
+        ap (λ (f : Filter). words f.drawn) drawn ∙ s.words kept e.filter.drawn (omega arith) ∙ sym (ap (λ (f : Filter). one.words f.drawn) drawn)
 
 -- a step by the ends' own policies is one by policies that do the same
-pub step_of : {H K R : Type 0} (protection : H → Protection) (aead : K → Aead) (stream : R → Stream) (k : Policies) (ends : Ends H K R) (w : World) (event : RunEvent) (a : Answer) (next : World)
+pub step_of : {H K R C : Type 0} (protection : H → Protection) (aead : K → Aead) (stream : R → Stream) (k : Policies) (ends : Ends H K R C) (w : World) (event : RunEvent) (a : Answer) (next : World)
     → w.client ≡ ends.client.end → w.server ≡ ends.server.end → IsStep (policies_of protection aead stream ends) w event a next → AreOf k protection aead stream ends → IsStep k w event a next
 step_of protection aead stream k ends w event a next client server step are = step_as k (policies_of protection aead stream ends) w event a next (at event.side) step
   where

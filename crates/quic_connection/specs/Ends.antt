@@ -1,7 +1,7 @@
 -- What the machine sees of two ends with their keys and random sources, and of the datagrams that they gave.
 use Rattle.std.specs.Prelude.{ℕ, ◌≡◌, ◌≢◌, ◌≤◌, ◌-◌, ◌⊎◌, List, [], ◌∷◌, Option, Some, None, Result, Ok, Err}
 use Rattle.rand_core.specs.Stream.{Stream}
-use Rattle.quic_config.specs.Transport.{Settings, parameters_of}
+use Rattle.quic_config.specs.Transport.{Settings, parameters_of, transport_of, first_mtu}
 use Rattle.quic_packet.specs.Keys.{Protection, Aead}
 use Rattle.quic_machine.specs.declared.answers.Failed.{Failed}
 use Rattle.quic_machine.specs.declared.answers.Transmit.{Transmit}
@@ -12,6 +12,8 @@ use Rattle.quic_machine.specs.declared.answers.ConfigError.{ConfigError}
 use Rattle.quic_machine.specs.declared.answers.State.TheVariants as states
 use Rattle.quic_machine.specs.Policy.{Policy}
 use Rattle.quic_machine.specs.End.{End, ConnectionValue, policy_of, refusal_of}
+use Rattle.quic_machine.specs.Control.{Control}
+use Rattle.quic_connection_core.specs.Configured.{Configured}
 use Rattle.quic_connection_core.specs.Drawn.{words_of, after_words}
 use Rattle.quic_headline.specs.Runs.{Run, LeadsTo}
 use Rattle.quic_headline.specs.Headline.{IsHonest}
@@ -20,16 +22,30 @@ use Rattle.quic_connection.specs.declared.running.Ends.{Ends}
 use Rattle.quic_connection.specs.declared.running.Given.{Given}
 use Rattle.quic_connection.specs.declared.running.Outcome.{Outcome}
 
--- both ends, and what each has given
-abbrev pub world_of : {H K R : Type 0} → Ends H K R → Given → World
-world_of ends given = record { client = ends.client.end; server = ends.server.end; from_client = given.client.items; from_server = given.server.items }
+-- both ends, whose controllers show these windows, and what each has given
+abbrev pub world_of : {H K R C : Type 0} → (C → Control) → Ends H K R C → Given → World
+world_of windows ends given = record {
+  client = ends.client.end;
+  server = ends.server.end;
+  from_client = given.client.items;
+  from_server = given.server.items;
+  client_control = windows ends.client.control;
+  server_control = windows ends.server.control;
+}
 
 -- both ends, of which neither has given anything
-abbrev pub first_world : {H K R : Type 0} → Ends H K R → World
-first_world ends = record { client = ends.client.end; server = ends.server.end; from_client = []; from_server = [] }
+abbrev pub first_world : {H K R C : Type 0} → (C → Control) → Ends H K R C → World
+first_world windows ends = record {
+  client = ends.client.end;
+  server = ends.server.end;
+  from_client = [];
+  from_server = [];
+  client_control = windows ends.client.control;
+  server_control = windows ends.server.control;
+}
 
 -- what the keys of both ends do, and which words their random sources answer
-abbrev pub policies_of : {H K R : Type 0} → (H → Protection) → (K → Aead) → (R → Stream) → Ends H K R → Policies
+abbrev pub policies_of : {H K R C : Type 0} → (H → Protection) → (K → Aead) → (R → Stream) → Ends H K R C → Policies
 policies_of protection aead stream ends = record {
   client = policy_of protection aead (words_of stream) ends.client;
   server = policy_of protection aead (words_of stream) ends.server;
@@ -44,14 +60,14 @@ kept (Err failed) bytes = []
 -- ---- keys and random sources as ends go on
 
 -- An end goes on from one value to another: its keys stay, and unless it has failed, its random source answers what is left behind the words that were drawn.
-pub record GoesOn {H K R : Type 0} (stream : R → Stream) (old new : ConnectionValue H K R) : Type 0 where
+pub record GoesOn {H K R C : Type 0} (stream : R → Stream) (old new : ConnectionValue H K R C) : Type 0 where
   pub keys : new.keys ≡ old.keys
   pub served : new.end.closing.state ≢ states.Failed → old.end.closing.state ≢ states.Failed
   pub drawn : new.end.closing.state ≢ states.Failed → old.end.filter.drawn ≤ new.end.filter.drawn
   pub random : new.end.closing.state ≢ states.Failed → stream new.random ≡ after_words (new.end.filter.drawn - old.end.filter.drawn) (stream old.random)
 
 -- so do both ends
-pub record GoOn {H K R : Type 0} (stream : R → Stream) (old new : Ends H K R) : Type 0 where
+pub record GoOn {H K R C : Type 0} (stream : R → Stream) (old new : Ends H K R C) : Type 0 where
   pub client : GoesOn stream old.client new.client
   pub server : GoesOn stream old.server new.server
 
@@ -61,7 +77,7 @@ pub record Serves (k p : Policy) (e : End) : Type 0 where
   pub words : e.closing.state ≢ states.Failed → (n : ℕ) → e.filter.drawn ≤ n → k.words n ≡ p.words n
 
 -- policies do at two ends what their keys and random sources do from here on
-pub record AreOf {H K R : Type 0} (k : Policies) (protection : H → Protection) (aead : K → Aead) (stream : R → Stream) (ends : Ends H K R) : Type 0 where
+pub record AreOf {H K R C : Type 0} (k : Policies) (protection : H → Protection) (aead : K → Aead) (stream : R → Stream) (ends : Ends H K R C) : Type 0 where
   pub client : Serves k.client (policy_of protection aead (words_of stream) ends.client) ends.client.end
   pub server : Serves k.server (policy_of protection aead (words_of stream) ends.server) ends.server.end
 
@@ -70,10 +86,10 @@ abbrev pub in_order : List ℕ
 in_order = 0 ∷ 1 ∷ 2 ∷ 3 ∷ 4 ∷ 5 ∷ 6 ∷ 7 ∷ 8 ∷ 9 ∷ 10 ∷ 11 ∷ 12 ∷ []
 
 -- a run that began with these ends
-abbrev pub run_of : {H K R : Type 0} → Policies → Ends H K R → List RunEvent → List Answer → List View → Given → Run
-run_of keys ends events answers views given = record {
+abbrev pub run_of : {H K R C : Type 0} → Policies → (C → Control) → Ends H K R C → List RunEvent → List Answer → List View → Given → Run
+run_of keys windows ends events answers views given = record {
   keys = keys;
-  start = first_world ends;
+  start = first_world windows ends;
   events = events;
   answers = answers;
   views = views;
@@ -82,29 +98,33 @@ run_of keys ends events answers views given = record {
 }
 
 -- the ends that a run leaves, and what they gave
-abbrev pub world_left : {H K R : Type 0} → Outcome H K R → World
-world_left o = world_of o.ends o.given
+abbrev pub world_left : {H K R C : Type 0} → (C → Control) → Outcome H K R C → World
+world_left windows o = world_of windows o.ends o.given
 
 -- a fact of the run of these ends over these events that came out so, where the run is honest
-abbrev pub OnHonest : {H K R : Type 0} → (H → Protection) → (K → Aead) → (R → Stream) → Ends H K R → List RunEvent → Outcome H K R → (Run → Type 0) → Type 0
-OnHonest protection aead stream ends events o P =
-    let r = run_of (policies_of protection aead stream ends) ends events o.answers.items o.views.items o.given in
+abbrev pub OnHonest : {H K R C : Type 0} → (H → Protection) → (K → Aead) → (R → Stream) → (C → Control) → Ends H K R C → List RunEvent → Outcome H K R C → (Run → Type 0) → Type 0
+OnHonest protection aead stream windows ends events o P =
+    let r = run_of (policies_of protection aead stream ends) windows ends events o.answers.items o.views.items o.given in
     IsHonest r → P r
 
 -- a fact of both ends at each place of the run, where this one holds of the first ends
-abbrev pub AtEachPlace : {H K R : Type 0} → (H → Protection) → (K → Aead) → (R → Stream) → Ends H K R → List RunEvent → Outcome H K R → (World → Type 0) → (World → Type 0) → Type 0
-AtEachPlace protection aead stream ends events o Begins P =
-    let r = run_of (policies_of protection aead stream ends) ends events o.answers.items o.views.items o.given in
+abbrev pub AtEachPlace : {H K R C : Type 0} → (H → Protection) → (K → Aead) → (R → Stream) → (C → Control) → Ends H K R C → List RunEvent → Outcome H K R C → (World → Type 0) → (World → Type 0) → Type 0
+AtEachPlace protection aead stream windows ends events o Begins P =
+    let r = run_of (policies_of protection aead stream ends) windows ends events o.answers.items o.views.items o.given in
     Begins r.start → (i : ℕ) (w : World) → LeadsTo r i w → P w
 
 -- ---- making two ends
 
--- why an end isn't made for a peer with these settings and this id, want of memory aside
-abbrev pub refusal_for : Settings → Settings → List ℕ → List ℕ → Option ConfigError
-refusal_for own peer own_id peer_id = refusal_of {E = Unit {0}} own (Ok (parameters_of peer)) own_id peer_id
+-- the controller of a configuration, as it is made at a moment
+abbrev pub controller_for : {F C : Type 0} → (F → ℕ → ℕ → C) → Configured F → ℕ → C
+controller_for built config now = built config.factory now (first_mtu (transport_of config.settings))
 
--- two ends are refused: the client is, or else the server
-abbrev pub IsRefused : ConfigError → Settings → Settings → List ℕ → List ℕ → Type 0
-IsRefused e client server client_id server_id =
-    (refusal_for client server client_id server_id ≡ Some e)
-    ⊎ ((refusal_for client server client_id server_id ≡ None) × (refusal_for server client server_id client_id ≡ Some e))
+-- why an end isn't made for a peer with these settings and this id, whose controller shows this window, want of memory aside
+abbrev pub refusal_for : Settings → ℕ → Settings → List ℕ → List ℕ → Option ConfigError
+refusal_for own window peer own_id peer_id = refusal_of {E = Unit {0}} own window (Ok (parameters_of peer)) own_id peer_id
+
+-- two ends with these settings are refused, whose controllers show these windows: the client is, or else the server
+abbrev pub IsRefused : ConfigError → Settings → Settings → ℕ → ℕ → List ℕ → List ℕ → Type 0
+IsRefused e client server client_window server_window client_id server_id =
+    (refusal_for client client_window server client_id server_id ≡ Some e)
+    ⊎ ((refusal_for client client_window server client_id server_id ≡ None) × (refusal_for server server_window client server_id client_id ≡ Some e))

@@ -23,7 +23,7 @@ after_both (suc k) m s = after_both k m (after u64_call s) ∙ ap (λ (n : ℕ).
 
 -- ---- an end goes on
 
-pub goes_same : {H K R : Type 0} (stream : R → Stream) (w : ConnectionValue H K R) → GoesOn stream w w
+pub goes_same : {H K R C : Type 0} (stream : R → Stream) (w : ConnectionValue H K R C) → GoesOn stream w w
 goes_same stream w = record {
   keys = refl;
   served = λ o. o;
@@ -32,7 +32,7 @@ goes_same stream w = record {
 }
 
 -- and further
-pub goes_then : {H K R : Type 0} (stream : R → Stream) (a b c : ConnectionValue H K R) → GoesOn stream a b → GoesOn stream b c → GoesOn stream a c
+pub goes_then : {H K R C : Type 0} (stream : R → Stream) (a b c : ConnectionValue H K R C) → GoesOn stream a b → GoesOn stream b c → GoesOn stream a c
 goes_then stream a b c first next = record {
   keys = next.keys ∙ first.keys;
   served = λ o. first.served (next.served o);
@@ -47,17 +47,17 @@ goes_then stream a b c first next = record {
       ∙ ap (λ (k : ℕ). after_words k (stream a.random)) sum;
 }
 
-pub go_same : {H K R : Type 0} (stream : R → Stream) (ends : Ends H K R) → GoOn stream ends ends
+pub go_same : {H K R C : Type 0} (stream : R → Stream) (ends : Ends H K R C) → GoOn stream ends ends
 go_same stream ends = record { client = goes_same stream ends.client; server = goes_same stream ends.server }
 
-pub go_then : {H K R : Type 0} (stream : R → Stream) (a b c : Ends H K R) → GoOn stream a b → GoOn stream b c → GoOn stream a c
+pub go_then : {H K R C : Type 0} (stream : R → Stream) (a b c : Ends H K R C) → GoOn stream a b → GoOn stream b c → GoOn stream a c
 go_then stream a b c first next = record { client = goes_then stream a.client b.client c.client first.client next.client; server = goes_then stream a.server b.server c.server first.server next.server }
 
 -- ---- policies of two ends
 
-module _ {H K R : Type 0} (protection : H → Protection) (aead : K → Aead) (stream : R → Stream) where
+module _ {H K R C : Type 0} (protection : H → Protection) (aead : K → Aead) (stream : R → Stream) where
   -- what an end's own policy says goes on
-  pub serve_on : (k : Policy) (old new : ConnectionValue H K R) → Serves k (policy_of protection aead (words_of stream) old) old.end → GoesOn stream old new → Serves k (policy_of protection aead (words_of stream) new) new.end
+  pub serve_on : (k : Policy) (old new : ConnectionValue H K R C) → Serves k (policy_of protection aead (words_of stream) old) old.end → GoesOn stream old new → Serves k (policy_of protection aead (words_of stream) new) new.end
   serve_on k old new s g = record {
     keys = s.keys ∙ ap (λ ks. keys_policy protection aead ks k.words) (sym g.keys);
     words = λ o n high.
@@ -71,9 +71,9 @@ module _ {H K R : Type 0} (protection : H → Protection) (aead : K → Aead) (s
   }
 
   -- the ends' own policies
-  pub are_own : (ends : Ends H K R) → AreOf (policies_of protection aead stream ends) protection aead stream ends
+  pub are_own : (ends : Ends H K R C) → AreOf (policies_of protection aead stream ends) protection aead stream ends
   are_own ends = record { client = record { keys = refl; words = λ o n h. refl }; server = record { keys = refl; words = λ o n h. refl } }
 
   -- they go on
-  pub are_on : (k : Policies) (old new : Ends H K R) → AreOf k protection aead stream old → GoOn stream old new → AreOf k protection aead stream new
+  pub are_on : (k : Policies) (old new : Ends H K R C) → AreOf k protection aead stream old → GoOn stream old new → AreOf k protection aead stream new
   are_on k old new s g = record { client = serve_on k.client old.client new.client s.client g.client; server = serve_on k.server old.server new.server s.server g.server }

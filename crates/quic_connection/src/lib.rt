@@ -1,6 +1,7 @@
 //! Two endpoints (*ends*) of a QUIC connection over a network: runs of them, a call at a time, a
 //! list of calls, or until both rest. Beside them stands what an application names of one end: the
-//! end, its handles, what its calls take, and what they answer.
+//! end, its handles, what its calls take, and what they answer; and one call at an end whose peer
+//! is elsewhere.
 //!
 //! Whenever a datagram, a moment or a call of the application was handed to a [`Connection`], its
 //! `poll_transmit` is called until it gives no datagram, its `poll` until it tells no event, and
@@ -13,9 +14,13 @@ mod pair;
 mod running;
 mod settling;
 
+pub use bytes::Bytes;
 pub use pair::Making;
 pub use quic_assembler::Chunk;
 pub use quic_config::{AckFrequencyConfig, MtuDiscoveryConfig};
+pub use quic_congestion::{
+    Controller, ControllerFactory, ControllerMetrics, NewReno, NewRenoConfig,
+};
 pub use quic_connection_core::{Config, Connection};
 pub use quic_machine::{
     Answer, Call, ConfigError, Datagram, Delivery, DropReason, EndView, Event, Failed, IdleTimeout,
@@ -23,7 +28,11 @@ pub use quic_machine::{
     TransportConfig, View,
 };
 pub use quic_messages::{DatagramLimits, DatagramState, Datagrams, SendDatagramError};
-pub use quic_packet::crypto::{HeaderKey, KeyPair, Keys, NotOpened, PacketKey};
+pub use quic_packet::crypto::{
+    HeaderKey, KeyPair, Keys, NotOpened, PacketKey, SAMPLE_SIZE, TAG_LEN,
+};
+pub use quic_packet::width_in;
+pub use quic_parameters::{TransportParameters, TransportParametersError};
 pub use quic_send_buffer::{BytesSource, ShouldTransmit};
 pub use quic_stats::{ConnectionStats, FrameStats, PathStats, UdpStats};
 pub use quic_streams_handles::{Chunks, EndStreams, RecvStream, SendStream, Streams};
@@ -31,10 +40,10 @@ pub use quic_streams_parts::{
     ClosedStream, FinishError, ReadError, ReadableError, StreamEvent, UpdateError, WriteError,
     Written,
 };
-pub use quic_time::Duration;
+pub use quic_time::{Duration, RttEstimator};
 pub use quic_wire_core::{
     Code, ConnectionId, Dir, EcnCodepoint, FrameType, Reason, Side, StreamId, TransportError,
-    VarInt,
+    VarInt, VarIntBoundsExceeded,
 };
-pub use running::{Ends, Given, Outcome, run, step};
+pub use running::{Ends, Given, Outcome, call_at, run, step};
 pub use settling::settle;

@@ -4,13 +4,16 @@ ghost use Rattle.quic_parameters.specs.ParametersWritten.{written_parameters};
 ghost use Rattle.quic_parameters.specs.ParametersRead.{parameters_at};
 ghost use Rattle.quic_config.specs.Transport.{parameters_of, IsInRange};
 ghost use Rattle.quic_machine.specs.Policy.{KeysCanOpen};
-ghost use Rattle.quic_machine.specs.End.{MadeFrom};
-ghost use Rattle.quic_machine.specs.Start.{AreStarted, AreKeys};
+ghost use Rattle.quic_machine.specs.End.{MadeFrom, refusal_of};
+ghost use Rattle.quic_machine.specs.Start.{AreStarted, AreControlled, AreKeys};
 ghost use Rattle.quic_machine.specs.declared.answers.ConfigError.TheVariants as config_errors;
 ghost use Rattle.quic_connection_core.specs.Drawn.{words_of, after_words};
-ghost use Rattle.quic_connection.specs.Ends.{first_world, policies_of, in_order, refusal_for, IsRefused};
+ghost use Rattle.quic_connection_core.specs.Telling.{windows_of, windows_at, IsRoomy};
+ghost use Rattle.quic_connection.specs.Ends.{first_world, policies_of, in_order, controller_for, refusal_for, IsRefused};
 
 use crate::running::Ends;
+use quic_congestion::laws::congestion::two_datagrams_have_room;
+use quic_congestion::{Controller, ControllerFactory};
 use quic_connection_core::{Config, Connection};
 use quic_machine::{ConfigError, Instant};
 use quic_packet::crypto::{HeaderKey, Keys, PacketKey};
@@ -21,9 +24,9 @@ use std::alloc::{AllocError, Global};
 
 /// What an end of a pair is made of.
 #[derive(Drop)]
-pub struct Making<H, K, R> {
-    /// The configuration, which the peer is told.
-    pub config: Config,
+pub struct Making<F, H, K, R> {
+    /// The configuration, which the peer is told but for what makes the congestion controller.
+    pub config: Config<F>,
     /// The first id of the end, of eight bytes.
     pub id: ConnectionId,
     /// Its keys: what the `local` ones seal, the other end's `remote` ones open, and the other way
@@ -36,11 +39,11 @@ pub struct Making<H, K, R> {
 }
 
 /// The parameter bytes that a configuration comes to.
-fn parameters(alloc: Global, config: &Config) -> Result<Vec<u8>, ConfigError>
+fn parameters<F>(alloc: Global, config: &Config<F>) -> Result<Vec<u8>, ConfigError>
     ensures bytes { IfOk result (λ v.
-        v.items ≡ written_parameters (parameters_of config.now) in_order) }
-    ensures read_back { IfOk result (λ v. parameters_at v.items ≡ Ok (parameters_of config.now)) }
-    ensures range { OnOk result (IsInRange config.now) }
+        v.items ≡ written_parameters (parameters_of config.now.settings) in_order) }
+    ensures read_back { IfOk result (λ v. parameters_at v.items ≡ Ok (parameters_of config.now.settings)) }
+    ensures range { OnOk result (IsInRange config.now.settings) }
     ensures memory { IfErr result (λ e. e ≡ config_errors.Memory) }
 {
     match config.write_parameters(alloc, &TransportParameters::ORDER) {
@@ -49,47 +52,55 @@ fn parameters(alloc: Global, config: &Config) -> Result<Vec<u8>, ConfigError>
     }
 }
 
-/// An end that is made at this moment for a peer with this configuration and first id.
-fn end_for<H: HeaderKey + Drop, K: PacketKey + Drop, R: Rng + Drop>(
+/// An end that is made at this moment for a peer with these parameter bytes and this first id.
+fn end_for<
+    F: ControllerFactory<Controller = C> + Drop,
+    H: HeaderKey + Drop,
+    K: PacketKey + Drop,
+    R: Rng + Drop,
+    C: Controller,
+>(
     alloc: Global,
     side: Side,
     now: Instant,
-    own: Making<H, K, R>,
-    peer: &Config,
+    own: Making<F, H, K, R>,
+    peer_parameters: &[u8],
     peer_id: ConnectionId,
-) -> Result<Connection<H, K, R>, ConfigError>
+) -> Result<Connection<H, K, R, C>, ConfigError>
     ensures made { IfOk result (λ c.
-        MadeFrom side own.config (written_parameters (parameters_of peer.entry.now) in_order) own.id
-        peer_id now own.validated (words_of R.stream own.random 0) c.end) }
+        MadeFrom side own.config.settings (windows_at C.initial_of C.window_of c.control)
+        peer_parameters.entry.now own.id peer_id now own.validated (words_of R.stream own.random 0) c.end) }
+    ensures control { IfOk result (λ c. c.control ≡ controller_for F.built own.config now) }
+    ensures roomy { IfOk result (λ c. IsRoomy C.size_of C.window_of c.control c.end.path.size) }
     ensures keys { IfOk result (λ c. c.keys ≡ own.keys) }
     ensures random { IfOk result (λ c. R.stream c.random ≡ after_words 1 (R.stream own.random)) }
-    ensures id { OnOk result (length own.id ≡ 8) }
-    ensures read_back { OnOk result (
-        parameters_at (written_parameters (parameters_of peer.entry.now) in_order)
-        ≡ Ok (parameters_of peer.entry.now)) }
-    ensures range { OnOk result (IsInRange peer.entry.now) }
     ensures refusal { IfErr result (λ e.
-        e ≢ config_errors.Memory
-        → refusal_for own.config peer.entry.now own.id peer_id ≡ Some e) }
-    ensures lawful { OnOk result (refusal_for own.config peer.entry.now own.id peer_id ≡ None) }
+        Some e ≡ refusal_of own.config.settings (C.window_of (controller_for F.built own.config now)) (parameters_at peer_parameters.entry.now) own.id peer_id) }
+    ensures lawful { OnOk result (
+        refusal_of own.config.settings (C.window_of (controller_for F.built own.config now)) (parameters_at peer_parameters.entry.now) own.id peer_id ≡ None) }
 {
-    let config = own.config;
-    let parameters = parameters(alloc, peer)?;
+    let Making {
+        config,
+        id,
+        keys,
+        random,
+        validated,
+    } = own;
     Connection::new(
         alloc,
         side,
         &config,
-        &parameters,
-        own.id,
+        peer_parameters,
+        id,
         peer_id,
-        own.keys,
+        keys,
         now,
-        own.random,
-        own.validated,
+        random,
+        validated,
     )
 }
 
-impl<H: HeaderKey + Drop, K: PacketKey + Drop, R: Rng + Drop> Ends<H, K, R> {
+impl<H: HeaderKey + Drop, K: PacketKey + Drop, R: Rng + Drop, C: Controller> Ends<H, K, R, C> {
     /// A client and a server that are made at this moment, each from the other's parameters and
     /// first id. They meet what the promises on runs ask of the ends; where the keys of both are
     /// mates in both directions, of keys too.
@@ -98,21 +109,28 @@ impl<H: HeaderKey + Drop, K: PacketKey + Drop, R: Rng + Drop> Ends<H, K, R> {
     ///
     /// [`ConfigError`], the client's before the server's: `IdLength` where an id hasn't eight bytes,
     /// `Size` where a size of datagrams is above what a UDP payload may have or the least is above
-    /// what the other end takes, `Memory` where memory lacks.
-    pub fn new(
+    /// what the other end takes, `Window` where the congestion controller's window doesn't hold two
+    /// datagrams of the size that the path begins with, `Memory` where memory lacks.
+    pub fn new<F: ControllerFactory<Controller = C> + Drop>(
         alloc: Global,
         now: Instant,
-        client: Making<H, K, R>,
-        server: Making<H, K, R>,
+        client: Making<F, H, K, R>,
+        server: Making<F, H, K, R>,
     ) -> Result<Self, ConfigError>
         ensures client { IfOk result (λ ends.
-            MadeFrom Side.Client client.config
-            (written_parameters (parameters_of server.config) in_order) client.id server.id now
+            MadeFrom Side.Client client.config.settings
+            (windows_at C.initial_of C.window_of ends.client.control)
+            (written_parameters (parameters_of server.config.settings) in_order) client.id server.id now
             client.validated (words_of R.stream client.random 0) ends.client.end) }
         ensures server { IfOk result (λ ends.
-            MadeFrom Side.Server server.config
-            (written_parameters (parameters_of client.config) in_order) server.id client.id now
+            MadeFrom Side.Server server.config.settings
+            (windows_at C.initial_of C.window_of ends.server.control)
+            (written_parameters (parameters_of client.config.settings) in_order) server.id client.id now
             server.validated (words_of R.stream server.random 0) ends.server.end) }
+        ensures client_control { IfOk result (λ ends.
+            ends.client.control ≡ controller_for F.built client.config now) }
+        ensures server_control { IfOk result (λ ends.
+            ends.server.control ≡ controller_for F.built server.config now) }
         ensures client_keys { IfOk result (λ ends. ends.client.keys ≡ client.keys) }
         ensures server_keys { IfOk result (λ ends. ends.server.keys ≡ server.keys) }
         ensures client_random { IfOk result (λ ends.
@@ -121,22 +139,33 @@ impl<H: HeaderKey + Drop, K: PacketKey + Drop, R: Rng + Drop> Ends<H, K, R> {
             R.stream ends.server.random ≡ after_words 1 (R.stream server.random)) }
         ensures refusal { IfErr result (λ e.
             e ≢ config_errors.Memory
-            → IsRefused e client.config server.config client.id server.id) }
+            → IsRefused e client.config.settings server.config.settings
+            (C.window_of (controller_for F.built client.config now))
+            (C.window_of (controller_for F.built server.config now)) client.id server.id) }
         ensures lawful { OnOk result (
-            refusal_for client.config server.config client.id server.id ≡ None) }
+            refusal_for client.config.settings
+            (C.window_of (controller_for F.built client.config now)) server.config.settings
+            client.id server.id ≡ None) }
         ensures lawful_server { OnOk result (
-            refusal_for server.config client.config server.id client.id ≡ None) }
-        ensures started { IfOk result (λ ends. AreStarted (first_world ends)) }
+            refusal_for server.config.settings
+            (C.window_of (controller_for F.built server.config now)) client.config.settings
+            server.id client.id ≡ None) }
+        ensures controlled { IfOk result (λ ends.
+            AreControlled (first_world (windows_of C.steps C.window_of) ends)) }
+        ensures started { IfOk result (λ ends. AreStarted (first_world (windows_of C.steps C.window_of) ends)) }
         ensures keys { IfOk result (λ ends.
             KeysCanOpen H.protection K.aead client.keys server.keys
             → KeysCanOpen H.protection K.aead server.keys client.keys
             → AreKeys (policies_of H.protection K.aead R.stream ends)) }
     {
-        let (client_config, server_config) = (client.config, server.config);
+        // A controller keeps room for two datagrams: a law, which does nothing.
+        two_datagrams_have_room::<C>();
+        let told_by_client = parameters(alloc, &client.config)?;
+        let told_by_server = parameters(alloc, &server.config)?;
         let (client_id, server_id) = (client.id, server.id);
         Ok(Ends {
-            client: end_for(alloc, Side::Client, now, client, &server_config, server_id)?,
-            server: end_for(alloc, Side::Server, now, server, &client_config, client_id)?,
+            client: end_for(alloc, Side::Client, now, client, &told_by_server, server_id)?,
+            server: end_for(alloc, Side::Server, now, server, &told_by_client, client_id)?,
         })
     }
 }

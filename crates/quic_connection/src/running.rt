@@ -2,7 +2,7 @@
 ghost use Rattle.std.specs.Prelude.{◌≡◌, ◌++◌, [], length, ◌≤◌, ◌<◌, vec_len, vec_capacity, slice_get, IsSome, IfOk, OnErr, true, false};
 ghost use Rattle.quic_wire_core.specs.StreamId.{other_side};
 ghost use Rattle.quic_machine.specs.End.{policy_of, with_end};
-ghost use Rattle.quic_machine.specs.Machine.{Policies, IsAnswer, IsLeft, fails, gives, given_by, IsStep, view_of, end_view, Follows};
+ghost use Rattle.quic_machine.specs.Machine.{Policies, IsAnswer, reads_window, IsLeft, IsTold, fails, gives, given_by, IsStep, view_of, end_view, Follows};
 ghost use Rattle.quic_machine.specs.CallCases.{is_poll};
 ghost use Rattle.quic_machine.specs.Lacking.{LacksWhere, TakesOfItsOwn};
 ghost use Rattle.quic_machine.specs.Start.{AreStarted};
@@ -15,12 +15,15 @@ ghost use Rattle.quic_headline.specs.Grown.{GrownLimitsWait};
 ghost use Rattle.quic_headline.specs.Messages.{MessagesAtMostOnce};
 ghost use Rattle.quic_headline.specs.InFlight.{TracksInFlight};
 ghost use Rattle.quic_headline.specs.Moments.{LossMoments, LossTimerQuiet, AckMoments};
+ghost use Rattle.quic_headline.specs.Polls.{PollsSendWhatWaits, PollsSendMessages, PacerSetsItsTimer, AskingGoesWhereLet, ProbesPass, WindowIsOfHistory};
+ghost use Rattle.quic_connection_core.specs.Telling.{windows_of, KeepsKeys};
 ghost use Rattle.quic_connection.specs.Ends.{world_of, first_world, world_left, policies_of, kept, AreOf, GoesOn, GoOn, OnHonest, AtEachPlace};
 ghost use Rattle.quic_connection_core.specs.Drawn.{words_of};
 ghost use Rattle.quic_connection.specs.declared.running.Given.{Given};
 
 use crate::{on_messages, on_streams};
 use bytes::Bytes;
+use quic_congestion::Controller;
 use quic_connection_core::Connection;
 use quic_headline::headline;
 use quic_machine::{
@@ -34,11 +37,11 @@ use std::alloc::{AllocError, Global};
 
 /// Two ends of a connection.
 #[derive(Drop)]
-pub struct Ends<H, K, R> {
+pub struct Ends<H, K, R, C: Controller> {
     /// The client.
-    pub client: Connection<H, K, R>,
+    pub client: Connection<H, K, R, C>,
     /// The server.
-    pub server: Connection<H, K, R>,
+    pub server: Connection<H, K, R, C>,
 }
 
 /// The datagrams that each end gave out, in their order.
@@ -65,7 +68,7 @@ impl Given {
 
 /// What comes of a run.
 #[derive(Drop)]
-pub struct Outcome<H, K, R> {
+pub struct Outcome<H, K, R, C: Controller> {
     /// The answer to each event.
     pub answers: Vec<Answer>,
     /// What was seen of both ends after each event.
@@ -73,7 +76,7 @@ pub struct Outcome<H, K, R> {
     /// The datagrams that the ends gave out.
     pub given: Given,
     /// The ends.
-    pub ends: Ends<H, K, R>,
+    pub ends: Ends<H, K, R, C>,
     /// Whether memory lacked in the run itself: the next event then has no answer and no view, and
     /// no call was made.
     pub cut_short: bool,
@@ -84,42 +87,42 @@ pub struct Outcome<H, K, R> {
 /// The call answers want of memory only where it takes some. An error is want of memory of its own,
 /// with no call made and nothing changed: it takes some at each poll, whether that gives a datagram
 /// or not, where it keeps the answers of a read, and where it copies what comes.
-pub fn step<H: HeaderKey + Drop, K: PacketKey + Drop, R: Rng + Drop>(
+pub fn step<H: HeaderKey + Drop, K: PacketKey + Drop, R: Rng + Drop, C: Controller>(
     alloc: Global,
-    ends: &mut Ends<H, K, R>,
+    ends: &mut Ends<H, K, R, C>,
     given: &mut Given,
     event: &RunEvent,
 ) -> Result<Answer, AllocError>
     ensures step { IfOk result (λ a.
         (k : Policies) → AreOf k H.protection K.aead R.stream ends.old
-        → IsStep k (world_of ends.old given.old) event.now a (world_of ends.new given.new)) }
+        → IsStep k (world_of (windows_of C.steps C.window_of) ends.old given.old) event.now a (world_of (windows_of C.steps C.window_of) ends.new given.new)) }
     ensures goes_on { GoOn R.stream ends.old ends.new }
     ensures err { OnErr result (ends.new ≡ ends.old) }
     ensures err_given { OnErr result (
-        world_of ends.new given.new ≡ world_of ends.old given.old) }
+        world_of (windows_of C.steps C.window_of) ends.new given.new ≡ world_of (windows_of C.steps C.window_of) ends.old given.old) }
     ensures own { OnErr result (
-        TakesOfItsOwn (given_by (other_side event.now.side) (world_of ends.old given.old))
+        TakesOfItsOwn (given_by (other_side event.now.side) (world_of (windows_of C.steps C.window_of) ends.old given.old))
         event.now.call) }
 {
     make(alloc, ends, given, event)
 }
 
 /// The same, as the keys and the random sources of the ends have it.
-fn make<H: HeaderKey + Drop, K: PacketKey + Drop, R: Rng + Drop>(
+fn make<H: HeaderKey + Drop, K: PacketKey + Drop, R: Rng + Drop, C: Controller>(
     alloc: Global,
-    ends: &mut Ends<H, K, R>,
+    ends: &mut Ends<H, K, R, C>,
     given: &mut Given,
     event: &RunEvent,
 ) -> Result<Answer, AllocError>
     ensures step { IfOk result (λ a.
-        IsStep (policies_of H.protection K.aead R.stream ends.old) (world_of ends.old given.old)
-        event.now a (world_of ends.new given.new)) }
+        IsStep (policies_of H.protection K.aead R.stream ends.old) (world_of (windows_of C.steps C.window_of) ends.old given.old)
+        event.now a (world_of (windows_of C.steps C.window_of) ends.new given.new)) }
     ensures goes_on { GoOn R.stream ends.old ends.new }
     ensures err { OnErr result (ends.new ≡ ends.old) }
     ensures err_given { OnErr result (
-        world_of ends.new given.new ≡ world_of ends.old given.old) }
+        world_of (windows_of C.steps C.window_of) ends.new given.new ≡ world_of (windows_of C.steps C.window_of) ends.old given.old) }
     ensures own { OnErr result (
-        TakesOfItsOwn (given_by (other_side event.now.side) (world_of ends.old given.old))
+        TakesOfItsOwn (given_by (other_side event.now.side) (world_of (windows_of C.steps C.window_of) ends.old given.old))
         event.now.call) }
 {
     match event.side {
@@ -140,29 +143,71 @@ fn make<H: HeaderKey + Drop, K: PacketKey + Drop, R: Rng + Drop>(
     }
 }
 
-/// Makes one call at one end; `theirs` are the datagrams of the other one.
-fn at_end<H: HeaderKey + Drop, K: PacketKey + Drop, R: Rng + Drop>(
+/// Makes one call at one end whose peer is elsewhere, and appends a datagram that it gives. The end
+/// keeps its keys, and draws words of its random source only at a poll. A datagram of the peer is
+/// handed in by [`Connection::receive`]: [`Call::Deliver`] finds none here.
+///
+/// The call answers want of memory only where it takes some. An error is want of memory of its own,
+/// with no call made and nothing changed: it takes some at each poll, whether that gives a datagram
+/// or not, where it keeps the answers of a read, and where it copies what comes.
+pub fn call_at<H: HeaderKey + Drop, K: PacketKey + Drop, R: Rng + Drop, C: Controller>(
     alloc: Global,
-    end: &mut Connection<H, K, R>,
+    end: &mut Connection<H, K, R, C>,
+    given: &mut Vec<Datagram>,
+    call: &Call,
+) -> Result<Answer, AllocError>
+    ensures answer { IfOk result (λ a.
+        IsAnswer (policy_of H.protection K.aead (words_of R.stream) end.old)
+        (reads_window (windows_of C.steps C.window_of end.old.control) call.now end.old.end) [] call.now a) }
+    ensures lacking { IfOk result (λ a.
+        LacksWhere (policy_of H.protection K.aead (words_of R.stream) end.old)
+        (reads_window (windows_of C.steps C.window_of end.old.control) call.now end.old.end) [] call.now a) }
+    ensures end { IfOk result (λ a.
+        IsLeft (fails a) (policy_of H.protection K.aead (words_of R.stream) end.old)
+        (windows_of C.steps C.window_of end.old.control) end.old.end [] call.now a end.new.end) }
+    ensures control { IfOk result (λ a.
+        IsTold (fails a) (policy_of H.protection K.aead (words_of R.stream) end.old)
+        (windows_of C.steps C.window_of end.old.control) end.old.end [] call.now
+        (windows_of C.steps C.window_of end.new.control)) }
+    ensures appended { IfOk result (λ a.
+        given.new.items
+        ≡ given.old.items ++ gives (policy_of H.protection K.aead (words_of R.stream) end.old)
+        (reads_window (windows_of C.steps C.window_of end.old.control) call.now end.old.end) call.now a) }
+    ensures keys { is_poll call.now ≡ false → KeepsKeys end.old end.new }
+    ensures polled { is_poll call.now ≡ true → GoesOn R.stream end.old end.new }
+    ensures err { OnErr result (end.new ≡ end.old) }
+    ensures err_given { OnErr result (given.new.items ≡ given.old.items) }
+    ensures own { OnErr result (TakesOfItsOwn [] call.now) }
+{
+    at_end(alloc, end, given, &[], call)
+}
+
+/// Makes one call at one end; `theirs` are the datagrams of the other one.
+fn at_end<H: HeaderKey + Drop, K: PacketKey + Drop, R: Rng + Drop, C: Controller>(
+    alloc: Global,
+    end: &mut Connection<H, K, R, C>,
     mine: &mut Vec<Datagram>,
     theirs: &[Datagram],
     call: &Call,
 ) -> Result<Answer, AllocError>
     ensures answer { IfOk result (λ a.
-        IsAnswer (policy_of H.protection K.aead (words_of R.stream) end.old) end.old.end theirs.now
-        call.now a) }
+        IsAnswer (policy_of H.protection K.aead (words_of R.stream) end.old)
+        (reads_window (windows_of C.steps C.window_of end.old.control) call.now end.old.end) theirs.now call.now a) }
     ensures lacking { IfOk result (λ a.
-        LacksWhere (policy_of H.protection K.aead (words_of R.stream) end.old) end.old.end
-        theirs.now call.now a) }
+        LacksWhere (policy_of H.protection K.aead (words_of R.stream) end.old)
+        (reads_window (windows_of C.steps C.window_of end.old.control) call.now end.old.end) theirs.now call.now a) }
     ensures end { IfOk result (λ a.
-        IsLeft (fails a) (policy_of H.protection K.aead (words_of R.stream) end.old) end.old.end
-        theirs.now call.now a
-        end.new.end) }
+        IsLeft (fails a) (policy_of H.protection K.aead (words_of R.stream) end.old)
+        (windows_of C.steps C.window_of end.old.control) end.old.end theirs.now call.now a end.new.end) }
+    ensures control { IfOk result (λ a.
+        IsTold (fails a) (policy_of H.protection K.aead (words_of R.stream) end.old)
+        (windows_of C.steps C.window_of end.old.control) end.old.end theirs.now call.now
+        (windows_of C.steps C.window_of end.new.control)) }
     ensures given { IfOk result (λ a.
         mine.new.items
         ≡ mine.old.items ++ gives (policy_of H.protection K.aead (words_of R.stream) end.old)
-        end.old.end call.now a) }
-    ensures keys { is_poll call.now ≡ false → end.new ≡ with_end end.old end.new.end }
+        (reads_window (windows_of C.steps C.window_of end.old.control) call.now end.old.end) call.now a) }
+    ensures keys { is_poll call.now ≡ false → KeepsKeys end.old end.new }
     ensures polled { is_poll call.now ≡ true → GoesOn R.stream end.old end.new }
     ensures err { OnErr result (end.new ≡ end.old) }
     ensures err_given { OnErr result (mine.new.items ≡ mine.old.items) }
@@ -203,25 +248,29 @@ fn at_end<H: HeaderKey + Drop, K: PacketKey + Drop, R: Rng + Drop>(
 }
 
 /// A copy of a message is sent.
-fn send_at<H: HeaderKey + Drop, K: PacketKey + Drop, R: Rng + Drop>(
+fn send_at<H: HeaderKey + Drop, K: PacketKey + Drop, R: Rng + Drop, C: Controller>(
     alloc: Global,
-    end: &mut Connection<H, K, R>,
+    end: &mut Connection<H, K, R, C>,
     message: &[u8],
     makes_room: bool,
 ) -> Result<Answer, AllocError>
     ensures answer { IfOk result (λ a.
-        IsAnswer (policy_of H.protection K.aead (words_of R.stream) end.old) end.old.end []
-        (Call.Send message.now makes_room) a) }
+        IsAnswer (policy_of H.protection K.aead (words_of R.stream) end.old)
+        (reads_window (windows_of C.steps C.window_of end.old.control) (Call.Send message.now makes_room) end.old.end) [] (Call.Send message.now makes_room) a) }
     ensures lacking { IfOk result (λ a.
-        LacksWhere (policy_of H.protection K.aead (words_of R.stream) end.old) end.old.end []
-        (Call.Send message.now makes_room) a) }
+        LacksWhere (policy_of H.protection K.aead (words_of R.stream) end.old)
+        (reads_window (windows_of C.steps C.window_of end.old.control) (Call.Send message.now makes_room) end.old.end) [] (Call.Send message.now makes_room) a) }
     ensures end { IfOk result (λ a.
-        IsLeft (fails a) (policy_of H.protection K.aead (words_of R.stream) end.old) end.old.end []
-        (Call.Send message.now makes_room) a end.new.end) }
+        IsLeft (fails a) (policy_of H.protection K.aead (words_of R.stream) end.old)
+        (windows_of C.steps C.window_of end.old.control) end.old.end [] (Call.Send message.now makes_room) a end.new.end) }
+    ensures control { IfOk result (λ a.
+        IsTold (fails a) (policy_of H.protection K.aead (words_of R.stream) end.old)
+        (windows_of C.steps C.window_of end.old.control) end.old.end [] (Call.Send message.now makes_room)
+        (windows_of C.steps C.window_of end.new.control)) }
     ensures given { IfOk result (λ a.
-        gives (policy_of H.protection K.aead (words_of R.stream) end.old) end.old.end
-        (Call.Send message.now makes_room) a ≡ []) }
-    ensures keys { end.new ≡ with_end end.old end.new.end }
+        gives (policy_of H.protection K.aead (words_of R.stream) end.old)
+        (reads_window (windows_of C.steps C.window_of end.old.control) (Call.Send message.now makes_room) end.old.end) (Call.Send message.now makes_room) a ≡ []) }
+    ensures keys { KeepsKeys end.old end.new }
     ensures err { OnErr result (end.new ≡ end.old) }
 {
     let copy = Bytes::copy_from_slice(alloc, message)?;
@@ -230,71 +279,77 @@ fn send_at<H: HeaderKey + Drop, K: PacketKey + Drop, R: Rng + Drop>(
 }
 
 /// A message is read.
-fn recv_at<H: HeaderKey + Drop, K: PacketKey + Drop, R: Rng + Drop>(
-    end: &mut Connection<H, K, R>,
+fn recv_at<H: HeaderKey + Drop, K: PacketKey + Drop, R: Rng + Drop, C: Controller>(
+    end: &mut Connection<H, K, R, C>,
 ) -> Answer
     ensures answer { IsAnswer (policy_of H.protection K.aead (words_of R.stream) end.old)
-        end.old.end [] Call.Recv
+        (reads_window (windows_of C.steps C.window_of end.old.control) Call.Recv end.old.end) [] Call.Recv
         result }
     ensures lacking { LacksWhere (policy_of H.protection K.aead (words_of R.stream) end.old)
-        end.old.end [] Call.Recv
+        (reads_window (windows_of C.steps C.window_of end.old.control) Call.Recv end.old.end) [] Call.Recv
         result }
     ensures end { IsLeft (fails result) (policy_of H.protection K.aead (words_of R.stream) end.old)
-        end.old.end []
-        Call.Recv result end.new.end }
-    ensures given { gives (policy_of H.protection K.aead (words_of R.stream) end.old) end.old.end
-        Call.Recv result
+        (windows_of C.steps C.window_of end.old.control) end.old.end [] Call.Recv result end.new.end }
+    ensures control { IsTold (fails result) (policy_of H.protection K.aead (words_of R.stream) end.old)
+        (windows_of C.steps C.window_of end.old.control) end.old.end [] Call.Recv
+        (windows_of C.steps C.window_of end.new.control) }
+    ensures given { gives (policy_of H.protection K.aead (words_of R.stream) end.old)
+        (reads_window (windows_of C.steps C.window_of end.old.control) Call.Recv end.old.end) Call.Recv result
         ≡ [] }
-    ensures keys { end.new ≡ with_end end.old end.new.end }
+    ensures keys { KeepsKeys end.old end.new }
 {
     let limits = end.datagram_limits();
     on_messages::recv(end.datagrams_mut(), limits)
 }
 
 /// A PING is asked for.
-fn ping_at<H: HeaderKey + Drop, K: PacketKey + Drop, R: Rng + Drop>(
-    end: &mut Connection<H, K, R>,
+fn ping_at<H: HeaderKey + Drop, K: PacketKey + Drop, R: Rng + Drop, C: Controller>(
+    end: &mut Connection<H, K, R, C>,
 ) -> Answer
     ensures answer { IsAnswer (policy_of H.protection K.aead (words_of R.stream) end.old)
-        end.old.end [] Call.Ping
+        (reads_window (windows_of C.steps C.window_of end.old.control) Call.Ping end.old.end) [] Call.Ping
         result }
     ensures lacking { LacksWhere (policy_of H.protection K.aead (words_of R.stream) end.old)
-        end.old.end [] Call.Ping
+        (reads_window (windows_of C.steps C.window_of end.old.control) Call.Ping end.old.end) [] Call.Ping
         result }
     ensures end { IsLeft (fails result) (policy_of H.protection K.aead (words_of R.stream) end.old)
-        end.old.end []
-        Call.Ping result end.new.end }
-    ensures given { gives (policy_of H.protection K.aead (words_of R.stream) end.old) end.old.end
-        Call.Ping result
+        (windows_of C.steps C.window_of end.old.control) end.old.end [] Call.Ping result end.new.end }
+    ensures control { IsTold (fails result) (policy_of H.protection K.aead (words_of R.stream) end.old)
+        (windows_of C.steps C.window_of end.old.control) end.old.end [] Call.Ping
+        (windows_of C.steps C.window_of end.new.control) }
+    ensures given { gives (policy_of H.protection K.aead (words_of R.stream) end.old)
+        (reads_window (windows_of C.steps C.window_of end.old.control) Call.Ping end.old.end) Call.Ping result
         ≡ [] }
-    ensures keys { end.new ≡ with_end end.old end.new.end }
+    ensures keys { KeepsKeys end.old end.new }
 {
     end.ping();
     Answer::Ping
 }
 
 /// A poll, whose datagram is kept.
-fn poll_at<H: HeaderKey + Drop, K: PacketKey + Drop, R: Rng + Drop>(
+fn poll_at<H: HeaderKey + Drop, K: PacketKey + Drop, R: Rng + Drop, C: Controller>(
     alloc: Global,
-    end: &mut Connection<H, K, R>,
+    end: &mut Connection<H, K, R, C>,
     mine: &mut Vec<Datagram>,
     now: Instant,
 ) -> Result<Answer, AllocError>
     ensures answer { IfOk result (λ a.
-        IsAnswer (policy_of H.protection K.aead (words_of R.stream) end.old) end.old.end []
-        (Call.Poll now) a) }
+        IsAnswer (policy_of H.protection K.aead (words_of R.stream) end.old)
+        (reads_window (windows_of C.steps C.window_of end.old.control) (Call.Poll now) end.old.end) [] (Call.Poll now) a) }
     ensures lacking { IfOk result (λ a.
-        LacksWhere (policy_of H.protection K.aead (words_of R.stream) end.old) end.old.end []
-        (Call.Poll now) a) }
+        LacksWhere (policy_of H.protection K.aead (words_of R.stream) end.old)
+        (reads_window (windows_of C.steps C.window_of end.old.control) (Call.Poll now) end.old.end) [] (Call.Poll now) a) }
     ensures end { IfOk result (λ a.
-        IsLeft (fails a) (policy_of H.protection K.aead (words_of R.stream) end.old) end.old.end []
-        (Call.Poll now) a
-        end.new.end) }
+        IsLeft (fails a) (policy_of H.protection K.aead (words_of R.stream) end.old)
+        (windows_of C.steps C.window_of end.old.control) end.old.end [] (Call.Poll now) a end.new.end) }
+    ensures control { IfOk result (λ a.
+        IsTold (fails a) (policy_of H.protection K.aead (words_of R.stream) end.old)
+        (windows_of C.steps C.window_of end.old.control) end.old.end [] (Call.Poll now)
+        (windows_of C.steps C.window_of end.new.control)) }
     ensures given { IfOk result (λ a.
         mine.new.items
         ≡ mine.old.items ++ gives (policy_of H.protection K.aead (words_of R.stream) end.old)
-        end.old.end
-        (Call.Poll now) a) }
+        (reads_window (windows_of C.steps C.window_of end.old.control) (Call.Poll now) end.old.end) (Call.Poll now) a) }
     ensures goes_on { GoesOn R.stream end.old end.new }
     ensures err { OnErr result (end.new ≡ end.old) }
     ensures err_given { OnErr result (mine.new.items ≡ mine.old.items) }
@@ -318,45 +373,48 @@ fn keep(mine: &mut Vec<Datagram>, polled: &Result<Option<Transmit>, Failed>, byt
 }
 
 /// The timers up to a moment expire.
-fn timeout_at<H: HeaderKey + Drop, K: PacketKey + Drop, R: Rng + Drop>(
-    end: &mut Connection<H, K, R>,
+fn timeout_at<H: HeaderKey + Drop, K: PacketKey + Drop, R: Rng + Drop, C: Controller>(
+    end: &mut Connection<H, K, R, C>,
     now: Instant,
 ) -> Answer
     ensures answer { IsAnswer (policy_of H.protection K.aead (words_of R.stream) end.old)
-        end.old.end
-        [] (Call.Timeout now) result }
+        (reads_window (windows_of C.steps C.window_of end.old.control) (Call.Timeout now) end.old.end) [] (Call.Timeout now) result }
     ensures lacking { LacksWhere (policy_of H.protection K.aead (words_of R.stream) end.old)
-        end.old.end [] (Call.Timeout now) result }
-    ensures end { IsLeft (fails result)
-        (policy_of H.protection K.aead (words_of R.stream) end.old) end.old.end []
-        (Call.Timeout now) result end.new.end }
-    ensures given { gives (policy_of H.protection K.aead (words_of R.stream) end.old) end.old.end
-        (Call.Timeout now) result
+        (reads_window (windows_of C.steps C.window_of end.old.control) (Call.Timeout now) end.old.end) [] (Call.Timeout now) result }
+    ensures end { IsLeft (fails result) (policy_of H.protection K.aead (words_of R.stream) end.old)
+        (windows_of C.steps C.window_of end.old.control) end.old.end [] (Call.Timeout now) result end.new.end }
+    ensures control { IsTold (fails result) (policy_of H.protection K.aead (words_of R.stream) end.old)
+        (windows_of C.steps C.window_of end.old.control) end.old.end [] (Call.Timeout now)
+        (windows_of C.steps C.window_of end.new.control) }
+    ensures given { gives (policy_of H.protection K.aead (words_of R.stream) end.old)
+        (reads_window (windows_of C.steps C.window_of end.old.control) (Call.Timeout now) end.old.end) (Call.Timeout now) result
         ≡ [] }
-    ensures keys { end.new ≡ with_end end.old end.new.end }
+    ensures keys { KeepsKeys end.old end.new }
 {
     Answer::Timeout(end.handle_timeout(now))
 }
 
 /// The arrival of a datagram of the other end.
-fn deliver_at<H: HeaderKey + Drop, K: PacketKey + Drop, R: Rng + Drop>(
+fn deliver_at<H: HeaderKey + Drop, K: PacketKey + Drop, R: Rng + Drop, C: Controller>(
     alloc: Global,
-    end: &mut Connection<H, K, R>,
+    end: &mut Connection<H, K, R, C>,
     theirs: &[Datagram],
     delivery: &Delivery,
 ) -> Result<Answer, AllocError>
     ensures answer { IfOk result (λ a.
-        IsAnswer (policy_of H.protection K.aead (words_of R.stream) end.old) end.old.end theirs.now
-        (Call.Deliver delivery.entry.now) a) }
+        IsAnswer (policy_of H.protection K.aead (words_of R.stream) end.old)
+        (reads_window (windows_of C.steps C.window_of end.old.control) (Call.Deliver delivery.entry.now) end.old.end) theirs.now (Call.Deliver delivery.entry.now) a) }
     ensures lacking { IfOk result (λ a.
-        LacksWhere (policy_of H.protection K.aead (words_of R.stream) end.old) end.old.end
-        theirs.now
-        (Call.Deliver delivery.entry.now) a) }
+        LacksWhere (policy_of H.protection K.aead (words_of R.stream) end.old)
+        (reads_window (windows_of C.steps C.window_of end.old.control) (Call.Deliver delivery.entry.now) end.old.end) theirs.now (Call.Deliver delivery.entry.now) a) }
     ensures end { IfOk result (λ a.
-        IsLeft (fails a) (policy_of H.protection K.aead (words_of R.stream) end.old) end.old.end
-        theirs.now
-        (Call.Deliver delivery.entry.now) a end.new.end) }
-    ensures keys { end.new ≡ with_end end.old end.new.end }
+        IsLeft (fails a) (policy_of H.protection K.aead (words_of R.stream) end.old)
+        (windows_of C.steps C.window_of end.old.control) end.old.end theirs.now (Call.Deliver delivery.entry.now) a end.new.end) }
+    ensures control { IfOk result (λ a.
+        IsTold (fails a) (policy_of H.protection K.aead (words_of R.stream) end.old)
+        (windows_of C.steps C.window_of end.old.control) end.old.end theirs.now (Call.Deliver delivery.entry.now)
+        (windows_of C.steps C.window_of end.new.control)) }
+    ensures keys { KeepsKeys end.old end.new }
     ensures err { OnErr result (end.new ≡ end.old) }
     ensures own { OnErr result (IsSome (slice_get theirs.now delivery.entry.now.index)) }
 {
@@ -370,18 +428,22 @@ fn deliver_at<H: HeaderKey + Drop, K: PacketKey + Drop, R: Rng + Drop>(
 }
 
 /// The arrival of any bytes. Where they would open, no call is made.
-fn inject_at<H: HeaderKey + Drop, K: PacketKey + Drop, R: Rng + Drop>(
+fn inject_at<H: HeaderKey + Drop, K: PacketKey + Drop, R: Rng + Drop, C: Controller>(
     alloc: Global,
-    end: &mut Connection<H, K, R>,
+    end: &mut Connection<H, K, R, C>,
     injection: &Injection,
 ) -> Result<Answer, AllocError>
     ensures answer { IfOk result (λ a.
-        IsAnswer (policy_of H.protection K.aead (words_of R.stream) end.old) end.old.end []
-        (Call.Inject injection.entry.now) a) }
+        IsAnswer (policy_of H.protection K.aead (words_of R.stream) end.old)
+        (reads_window (windows_of C.steps C.window_of end.old.control) (Call.Inject injection.entry.now) end.old.end) [] (Call.Inject injection.entry.now) a) }
     ensures end { IfOk result (λ a.
-        IsLeft (fails a) (policy_of H.protection K.aead (words_of R.stream) end.old) end.old.end []
-        (Call.Inject injection.entry.now) a end.new.end) }
-    ensures keys { end.new ≡ with_end end.old end.new.end }
+        IsLeft (fails a) (policy_of H.protection K.aead (words_of R.stream) end.old)
+        (windows_of C.steps C.window_of end.old.control) end.old.end [] (Call.Inject injection.entry.now) a end.new.end) }
+    ensures control { IfOk result (λ a.
+        IsTold (fails a) (policy_of H.protection K.aead (words_of R.stream) end.old)
+        (windows_of C.steps C.window_of end.old.control) end.old.end [] (Call.Inject injection.entry.now)
+        (windows_of C.steps C.window_of end.new.control)) }
+    ensures keys { KeepsKeys end.old end.new }
     ensures err { OnErr result (end.new ≡ end.old) }
 {
     let mut scratch = Vec::from_slice(alloc, injection.bytes.as_slice())?;
@@ -393,8 +455,8 @@ fn inject_at<H: HeaderKey + Drop, K: PacketKey + Drop, R: Rng + Drop>(
 }
 
 /// When each timer of an end expires, if it is set.
-fn timers<H: HeaderKey + Drop, K: PacketKey + Drop, R: Rng + Drop>(
-    end: &Connection<H, K, R>,
+fn timers<H: HeaderKey + Drop, K: PacketKey + Drop, R: Rng + Drop, C: Controller>(
+    end: &Connection<H, K, R, C>,
 ) -> [Option<Instant>; 9]
     ensures { result ≡ each_timer end.now.end.timers }
 {
@@ -412,24 +474,26 @@ fn timers<H: HeaderKey + Drop, K: PacketKey + Drop, R: Rng + Drop>(
 }
 
 /// What is seen of an end.
-fn end_view<H: HeaderKey + Drop, K: PacketKey + Drop, R: Rng + Drop>(
-    end: &Connection<H, K, R>,
+fn end_view<H: HeaderKey + Drop, K: PacketKey + Drop, R: Rng + Drop, C: Controller>(
+    end: &Connection<H, K, R, C>,
 ) -> EndView
-    ensures { result ≡ end_view end.now.end }
+    ensures { result ≡ end_view (windows_of C.steps C.window_of end.now.control) end.now.end }
 {
     EndView {
         state: end.state(),
         reason: end.lost().map(LostReason::copied),
         validated: end.is_validated(),
         timers: timers(end),
-        window: None,
+        window: Some(end.window()),
         current_mtu: None,
     }
 }
 
 /// What is seen of both ends, whatever they gave.
-fn view<H: HeaderKey + Drop, K: PacketKey + Drop, R: Rng + Drop>(ends: &Ends<H, K, R>) -> View
-    ensures { (given : Given) → result ≡ view_of (world_of ends.now given) }
+fn view<H: HeaderKey + Drop, K: PacketKey + Drop, R: Rng + Drop, C: Controller>(
+    ends: &Ends<H, K, R, C>,
+) -> View
+    ensures { (given : Given) → result ≡ view_of (world_of (windows_of C.steps C.window_of) ends.now given) }
 {
     View {
         client: end_view(&ends.client),
@@ -455,71 +519,86 @@ fn view<H: HeaderKey + Drop, K: PacketKey + Drop, R: Rng + Drop>(ends: &Ends<H, 
 /// acknowledged and wasn't reset, and no other; all that was written waits to go, is under way, or
 /// arrived, and so does each limit that was said; a limit that grew waits to be said; a write at an
 /// open end takes what the peer's limits and the send window leave; a message is received at most
-/// as often as the other end sent it; and an open end tracks exactly the datagrams that it gave and
-/// that are neither acknowledged, nor lost by number or by time, nor forgotten, shows its loss
-/// timer set to the moment that is due for them and its own round trips, and not set once all that
-/// ask were named, and its timer of acknowledgements to one that is due for a packet that it took
-/// and hasn't acknowledged since.
+/// as often as the other end sent it; a poll of an open end gives what waits, of streams and of
+/// messages, unless the congestion window is full or the pacer names a later moment, to which its
+/// timer is set, and gives nothing that these hold back but probes; the window that a view shows is
+/// that of the controller behind all that it was told; and an open end tracks exactly the datagrams
+/// that it gave and that are neither acknowledged, nor lost by number or by time, nor forgotten,
+/// shows its loss timer set to the moment that is due for them and its own round trips, and not set
+/// once all that ask were named, and its timer of acknowledgements to one that is due for a packet
+/// that it took and hasn't acknowledged since.
 ///
 /// At each place, also where memory lacks, and with any keys, an open end of two that were made for
 /// one another has its loss timer set exactly where it tracks a datagram that asks; and one that
 /// began so has its timer of acknowledgements set only where a packet that asks came since the last
 /// acknowledgement went.
-pub fn run<H: HeaderKey + Drop, K: PacketKey + Drop, R: Rng + Drop>(
+pub fn run<H: HeaderKey + Drop, K: PacketKey + Drop, R: Rng + Drop, C: Controller>(
     alloc: Global,
-    ends: Ends<H, K, R>,
+    ends: Ends<H, K, R, C>,
     events: &[RunEvent],
-) -> Outcome<H, K, R>
-    ensures follows { Follows (policies_of H.protection K.aead R.stream ends) (first_world ends)
+) -> Outcome<H, K, R, C>
+    ensures follows { Follows (policies_of H.protection K.aead R.stream ends) (first_world (windows_of C.steps C.window_of) ends)
         events.now
-        result.answers.items result.views.items (world_left result) }
+        result.answers.items result.views.items (world_left (windows_of C.steps C.window_of) result) }
     ensures whole { result.cut_short ≡ false → length result.answers.items ≡ length events.now }
     ensures stopped { result.cut_short ≡ true → length result.answers.items < length events.now }
     ensures goes_on { GoOn R.stream ends result.ends }
-    ensures ordered_prefix { OnHonest H.protection K.aead R.stream ends events.now result
+    ensures ordered_prefix { OnHonest H.protection K.aead R.stream (windows_of C.steps C.window_of) ends events.now result
         OrderedPrefix }
-    ensures slices { OnHonest H.protection K.aead R.stream ends events.now result Slices }
-    ensures once { OnHonest H.protection K.aead R.stream ends events.now result Once }
-    ensures end_after_all { OnHonest H.protection K.aead R.stream ends events.now result EndAfterAll }
-    ensures blocked_only_without_bytes { OnHonest H.protection K.aead R.stream ends events.now
+    ensures slices { OnHonest H.protection K.aead R.stream (windows_of C.steps C.window_of) ends events.now result Slices }
+    ensures once { OnHonest H.protection K.aead R.stream (windows_of C.steps C.window_of) ends events.now result Once }
+    ensures end_after_all { OnHonest H.protection K.aead R.stream (windows_of C.steps C.window_of) ends events.now result EndAfterAll }
+    ensures blocked_only_without_bytes { OnHonest H.protection K.aead R.stream (windows_of C.steps C.window_of) ends events.now
         result
         BlockedOnlyWithoutBytes }
-    ensures accepts_all { OnHonest H.protection K.aead R.stream ends events.now result AcceptsAll }
-    ensures finished_means_arrived { OnHonest H.protection K.aead R.stream ends events.now result
+    ensures accepts_all { OnHonest H.protection K.aead R.stream (windows_of C.steps C.window_of) ends events.now result AcceptsAll }
+    ensures finished_means_arrived { OnHonest H.protection K.aead R.stream (windows_of C.steps C.window_of) ends events.now result
         FinishedMeansArrived }
-    ensures finished_is_told { OnHonest H.protection K.aead R.stream ends events.now result
+    ensures finished_is_told { OnHonest H.protection K.aead R.stream (windows_of C.steps C.window_of) ends events.now result
         FinishedIsTold }
-    ensures duties_stand { OnHonest H.protection K.aead R.stream ends events.now result DutiesStand }
-    ensures grown_limits_wait { OnHonest H.protection K.aead R.stream ends events.now result
+    ensures duties_stand { OnHonest H.protection K.aead R.stream (windows_of C.steps C.window_of) ends events.now result DutiesStand }
+    ensures grown_limits_wait { OnHonest H.protection K.aead R.stream (windows_of C.steps C.window_of) ends events.now result
         GrownLimitsWait }
-    ensures messages_at_most_once { OnHonest H.protection K.aead R.stream ends events.now result
+    ensures messages_at_most_once { OnHonest H.protection K.aead R.stream (windows_of C.steps C.window_of) ends events.now result
         MessagesAtMostOnce }
-    ensures writes_take_what_limits_allow { OnHonest H.protection K.aead R.stream ends events.now
+    ensures writes_take_what_limits_allow { OnHonest H.protection K.aead R.stream (windows_of C.steps C.window_of) ends events.now
         result
         WritesTakeWhatLimitsAllow }
-    ensures tracks_in_flight { OnHonest H.protection K.aead R.stream ends events.now result
+    ensures polls_send_what_waits { OnHonest H.protection K.aead R.stream (windows_of C.steps C.window_of) ends events.now result
+        PollsSendWhatWaits }
+    ensures polls_send_messages { OnHonest H.protection K.aead R.stream (windows_of C.steps C.window_of) ends events.now result
+        PollsSendMessages }
+    ensures pacer_sets_its_timer { OnHonest H.protection K.aead R.stream (windows_of C.steps C.window_of) ends events.now result
+        PacerSetsItsTimer }
+    ensures asking_goes_where_let { OnHonest H.protection K.aead R.stream (windows_of C.steps C.window_of) ends events.now result
+        AskingGoesWhereLet }
+    ensures probes_pass { OnHonest H.protection K.aead R.stream (windows_of C.steps C.window_of) ends events.now result
+        ProbesPass }
+    ensures window_is_of_history { OnHonest H.protection K.aead R.stream (windows_of C.steps C.window_of) ends events.now result
+        WindowIsOfHistory }
+    ensures tracks_in_flight { OnHonest H.protection K.aead R.stream (windows_of C.steps C.window_of) ends events.now result
         TracksInFlight }
-    ensures loss_moments { OnHonest H.protection K.aead R.stream ends events.now result LossMoments }
-    ensures ack_moments { OnHonest H.protection K.aead R.stream ends events.now result AckMoments }
-    ensures acknowledged_were_taken { OnHonest H.protection K.aead R.stream ends events.now result
+    ensures loss_moments { OnHonest H.protection K.aead R.stream (windows_of C.steps C.window_of) ends events.now result LossMoments }
+    ensures ack_moments { OnHonest H.protection K.aead R.stream (windows_of C.steps C.window_of) ends events.now result AckMoments }
+    ensures acknowledged_were_taken { OnHonest H.protection K.aead R.stream (windows_of C.steps C.window_of) ends events.now result
         AcknowledgedWereTaken }
-    ensures names_were_taken { OnHonest H.protection K.aead R.stream ends events.now result
+    ensures names_were_taken { OnHonest H.protection K.aead R.stream (windows_of C.steps C.window_of) ends events.now result
         NamesWereTaken }
-    ensures opens_exactly { OnHonest H.protection K.aead R.stream ends events.now result
+    ensures opens_exactly { OnHonest H.protection K.aead R.stream (windows_of C.steps C.window_of) ends events.now result
         OpensExactly }
-    ensures newest_opens { OnHonest H.protection K.aead R.stream ends events.now result NewestOpens }
-    ensures loss_timer_quiet { OnHonest H.protection K.aead R.stream ends events.now result
+    ensures newest_opens { OnHonest H.protection K.aead R.stream (windows_of C.steps C.window_of) ends events.now result NewestOpens }
+    ensures loss_timer_quiet { OnHonest H.protection K.aead R.stream (windows_of C.steps C.window_of) ends events.now result
         LossTimerQuiet }
-    ensures loss_timers_follow { AtEachPlace H.protection K.aead R.stream ends events.now result
+    ensures loss_timers_follow { AtEachPlace H.protection K.aead R.stream (windows_of C.steps C.window_of) ends events.now result
         AreStarted LossTimersFollow }
-    ensures ack_timers_follow { AtEachPlace H.protection K.aead R.stream ends events.now result
+    ensures ack_timers_follow { AtEachPlace H.protection K.aead R.stream (windows_of C.steps C.window_of) ends events.now result
         AckTimersFollow AckTimersFollow }
-    ensures numbers_rise { OnHonest H.protection K.aead R.stream ends events.now result NumbersRise }
-    ensures no_blame { OnHonest H.protection K.aead R.stream ends events.now result NoBlame }
-    ensures too_many_pieces { OnHonest H.protection K.aead R.stream ends events.now result
+    ensures numbers_rise { OnHonest H.protection K.aead R.stream (windows_of C.steps C.window_of) ends events.now result NumbersRise }
+    ensures no_blame { OnHonest H.protection K.aead R.stream (windows_of C.steps C.window_of) ends events.now result NoBlame }
+    ensures too_many_pieces { OnHonest H.protection K.aead R.stream (windows_of C.steps C.window_of) ends events.now result
         TooManyPieces }
-    ensures number_limit { OnHonest H.protection K.aead R.stream ends events.now result NumberLimit }
-    ensures taken_or_too_many { OnHonest H.protection K.aead R.stream ends events.now result
+    ensures number_limit { OnHonest H.protection K.aead R.stream (windows_of C.steps C.window_of) ends events.now result NumberLimit }
+    ensures taken_or_too_many { OnHonest H.protection K.aead R.stream (windows_of C.steps C.window_of) ends events.now result
         TakenOrTooMany }
 {
     // What every run of the machine keeps: laws, which do nothing.
@@ -535,6 +614,12 @@ pub fn run<H: HeaderKey + Drop, K: PacketKey + Drop, R: Rng + Drop>(
     headline::grown_limits_wait();
     headline::messages_at_most_once();
     headline::writes_take_what_limits_allow();
+    headline::polls_send_what_waits();
+    headline::polls_send_messages();
+    headline::pacer_sets_its_timer();
+    headline::asking_goes_where_let();
+    headline::probes_pass();
+    headline::window_is_of_history();
     headline::tracks_in_flight();
     headline::loss_moments();
     headline::ack_moments();
@@ -573,14 +658,14 @@ fn show_code(call: &Call)
 }
 
 /// Makes each event's call in turn.
-fn run_events<H: HeaderKey + Drop, K: PacketKey + Drop, R: Rng + Drop>(
+fn run_events<H: HeaderKey + Drop, K: PacketKey + Drop, R: Rng + Drop, C: Controller>(
     alloc: Global,
-    mut ends: Ends<H, K, R>,
+    mut ends: Ends<H, K, R, C>,
     events: &[RunEvent],
-) -> Outcome<H, K, R>
-    ensures follows { Follows (policies_of H.protection K.aead R.stream ends) (first_world ends)
+) -> Outcome<H, K, R, C>
+    ensures follows { Follows (policies_of H.protection K.aead R.stream ends) (first_world (windows_of C.steps C.window_of) ends)
         events.now
-        result.answers.items result.views.items (world_left result) }
+        result.answers.items result.views.items (world_left (windows_of C.steps C.window_of) result) }
     ensures whole { result.cut_short ≡ false → length result.answers.items ≡ length events.now }
     ensures stopped { result.cut_short ≡ true → length result.answers.items < length events.now }
     ensures goes_on { GoOn R.stream ends result.ends }

@@ -4,11 +4,14 @@ ghost use Rattle.quic_wire_core.specs.declared.stream_id.Side.TheVariants.{Clien
 ghost use Rattle.quic_time.specs.Timers.{earlier};
 ghost use Rattle.quic_machine.specs.End.{End};
 ghost use Rattle.quic_machine.specs.Machine.{Policies, given_by, gave};
+ghost use Rattle.quic_machine.specs.Control.{Control};
+ghost use Rattle.quic_connection_core.specs.Telling.{windows_of};
 ghost use Rattle.quic_connection.specs.Ends.{world_of, AreOf, GoOn};
 ghost use Rattle.quic_connection.specs.Settled.{Talks, Leads, asks, quiet, polled_on, IsPolled, IsHandled, IsHalfHandled, IsHalfPolled, IsCutOff, AreOpen, AreAtRest, HasClosed, Settles, end_wakes, wakes};
 ghost use Rattle.quic_connection.specs.declared.running.Given.{Given};
 
 use crate::running::{Ends, Given, step};
+use quic_congestion::Controller;
 use quic_connection_core::Connection;
 use quic_machine::{Answer, Call, Delivery, Instant, RunEvent, Timer};
 use quic_packet::crypto::{HeaderKey, PacketKey};
@@ -33,18 +36,18 @@ const MOST_POLLS: u64 = 10_000;
 /// # Errors
 ///
 /// [`AllocError`] is want of memory of its own; the calls that were made before stay made.
-pub fn settle<H: HeaderKey + Drop, K: PacketKey + Drop, R: Rng + Drop>(
+pub fn settle<H: HeaderKey + Drop, K: PacketKey + Drop, R: Rng + Drop, C: Controller>(
     alloc: Global,
-    ends: &mut Ends<H, K, R>,
+    ends: &mut Ends<H, K, R, C>,
     given: &mut Given,
     now: Instant,
 ) -> Result<Option<Instant>, AllocError>
     ensures settles { (k : Policies) → AreOf k H.protection K.aead R.stream ends.old
-        → Settles k now (world_of ends.old given.old) result (world_of ends.new given.new) }
+        → Settles k now (world_of (windows_of C.steps C.window_of) ends.old given.old) result (world_of (windows_of C.steps C.window_of) ends.new given.new) }
     ensures goes_on { GoOn R.stream ends.old ends.new }
     ensures rest { IfOk result (λ moment. IfSome moment (λ moment.
         (k : Policies) → AreOf k H.protection K.aead R.stream ends.old
-        → AreAtRest k now (world_of ends.old given.old) moment (world_of ends.new given.new))) }
+        → AreAtRest k now (world_of (windows_of C.steps C.window_of) ends.old given.old) moment (world_of (windows_of C.steps C.window_of) ends.new given.new))) }
     ensures later { IfOk result (λ moment. IfSome moment (λ moment. now ≤ moment)) }
 {
     let mut moment = now;
@@ -63,9 +66,9 @@ pub fn settle<H: HeaderKey + Drop, K: PacketKey + Drop, R: Rng + Drop>(
 
 /// Rounds at a moment until one gives no datagram: whether both ends are open then. It is `false`
 /// too where no poll is left.
-fn talk<H: HeaderKey + Drop, K: PacketKey + Drop, R: Rng + Drop>(
+fn talk<H: HeaderKey + Drop, K: PacketKey + Drop, R: Rng + Drop, C: Controller>(
     alloc: Global,
-    ends: &mut Ends<H, K, R>,
+    ends: &mut Ends<H, K, R, C>,
     given: &mut Given,
     now: Instant,
     left: &mut u64,
@@ -73,19 +76,19 @@ fn talk<H: HeaderKey + Drop, K: PacketKey + Drop, R: Rng + Drop>(
     ensures talks { result ≡ Ok true
         → (k : Policies) → AreOf k H.protection K.aead R.stream ends.old
         → Talks k now now (asks Client false) quiet
-        left.old left.new (world_of ends.old given.old) (world_of ends.new given.new) }
+        left.old left.new (world_of (windows_of C.steps C.window_of) ends.old given.old) (world_of (windows_of C.steps C.window_of) ends.new given.new) }
     ensures stops { result ≡ Ok false
         → (k : Policies) → AreOf k H.protection K.aead R.stream ends.old
         → Leads k now now (asks Client false) left.old
-        left.new (world_of ends.old given.old) (world_of ends.new given.new) }
+        left.new (world_of (windows_of C.steps C.window_of) ends.old given.old) (world_of (windows_of C.steps C.window_of) ends.new given.new) }
     ensures cut { OnErr result (
         (k : Policies) → AreOf k H.protection K.aead R.stream ends.old
         → IsCutOff k now (asks Client false) left.old
-        (world_of ends.old given.old) (world_of ends.new given.new)) }
+        (world_of (windows_of C.steps C.window_of) ends.old given.old) (world_of (windows_of C.steps C.window_of) ends.new given.new)) }
     ensures goes_on { GoOn R.stream ends.old ends.new }
     ensures less { result ≡ Ok true → left.new < left.old }
-    ensures opened { result ≡ Ok true → AreOpen (world_of ends.new given.new) }
-    ensures gave_up { result ≡ Ok false → HasClosed (world_of ends.new given.new) ⊎ (left.new ≡ 0) }
+    ensures opened { result ≡ Ok true → AreOpen (world_of (windows_of C.steps C.window_of) ends.new given.new) }
+    ensures gave_up { result ≡ Ok false → HasClosed (world_of (windows_of C.steps C.window_of) ends.new given.new) ⊎ (left.new ≡ 0) }
 {
     loop {
         match round(alloc, ends, given, now, left)? {
@@ -98,9 +101,9 @@ fn talk<H: HeaderKey + Drop, K: PacketKey + Drop, R: Rng + Drop>(
 
 /// Polls the client until it gives nothing, and then the server: whether one gave a datagram. It is
 /// `None` where an end isn't open before a poll, or no poll is left.
-fn round<H: HeaderKey + Drop, K: PacketKey + Drop, R: Rng + Drop>(
+fn round<H: HeaderKey + Drop, K: PacketKey + Drop, R: Rng + Drop, C: Controller>(
     alloc: Global,
-    ends: &mut Ends<H, K, R>,
+    ends: &mut Ends<H, K, R, C>,
     given: &mut Given,
     now: Instant,
     left: &mut u64,
@@ -108,21 +111,21 @@ fn round<H: HeaderKey + Drop, K: PacketKey + Drop, R: Rng + Drop>(
     ensures talks { IfOk result (λ gave. IfSome gave (λ gave.
         (k : Policies) → AreOf k H.protection K.aead R.stream ends.old
         → Talks k now now (asks Client false)
-        (polled_on Server gave false) left.old left.new (world_of ends.old given.old)
-        (world_of ends.new given.new))) }
+        (polled_on Server gave false) left.old left.new (world_of (windows_of C.steps C.window_of) ends.old given.old)
+        (world_of (windows_of C.steps C.window_of) ends.new given.new))) }
     ensures stops { IfOk result (λ gave.
         IfNone gave (
         (k : Policies) → AreOf k H.protection K.aead R.stream ends.old
         → Leads k now now (asks Client false) left.old
-        left.new (world_of ends.old given.old) (world_of ends.new given.new))) }
+        left.new (world_of (windows_of C.steps C.window_of) ends.old given.old) (world_of (windows_of C.steps C.window_of) ends.new given.new))) }
     ensures cut { OnErr result (
         (k : Policies) → AreOf k H.protection K.aead R.stream ends.old
         → IsCutOff k now (asks Client false) left.old
-        (world_of ends.old given.old) (world_of ends.new given.new)) }
+        (world_of (windows_of C.steps C.window_of) ends.old given.old) (world_of (windows_of C.steps C.window_of) ends.new given.new)) }
     ensures goes_on { GoOn R.stream ends.old ends.new }
     ensures less { IfOk result (λ gave. IfSome gave (λ _. left.new < left.old)) }
     ensures gave_up { IfOk result (λ gave.
-        IfNone gave (HasClosed (world_of ends.new given.new) ⊎ (left.new ≡ 0))) }
+        IfNone gave (HasClosed (world_of (windows_of C.steps C.window_of) ends.new given.new) ⊎ (left.new ≡ 0))) }
 {
     let Some(client) = poll_all(alloc, ends, given, Side::Client, now, left)? else {
         return Ok(None);
@@ -135,9 +138,9 @@ fn round<H: HeaderKey + Drop, K: PacketKey + Drop, R: Rng + Drop>(
 
 /// Polls an end until it gives nothing: whether it gave a datagram. It is `None` where an end isn't
 /// open before a poll, or no poll is left.
-fn poll_all<H: HeaderKey + Drop, K: PacketKey + Drop, R: Rng + Drop>(
+fn poll_all<H: HeaderKey + Drop, K: PacketKey + Drop, R: Rng + Drop, C: Controller>(
     alloc: Global,
-    ends: &mut Ends<H, K, R>,
+    ends: &mut Ends<H, K, R, C>,
     given: &mut Given,
     side: Side,
     now: Instant,
@@ -147,23 +150,23 @@ fn poll_all<H: HeaderKey + Drop, K: PacketKey + Drop, R: Rng + Drop>(
         (before : Bool)
         → (k : Policies) → AreOf k H.protection K.aead R.stream ends.old
         → Talks k now now (asks side before)
-        (polled_on side (before || gave) false) left.old left.new (world_of ends.old given.old)
-        (world_of ends.new given.new))) }
+        (polled_on side (before || gave) false) left.old left.new (world_of (windows_of C.steps C.window_of) ends.old given.old)
+        (world_of (windows_of C.steps C.window_of) ends.new given.new))) }
     ensures stops { IfOk result (λ gave.
         IfNone gave (
         (before : Bool)
         → (k : Policies) → AreOf k H.protection K.aead R.stream ends.old
         → Leads k now now (asks side before) left.old
-        left.new (world_of ends.old given.old) (world_of ends.new given.new))) }
+        left.new (world_of (windows_of C.steps C.window_of) ends.old given.old) (world_of (windows_of C.steps C.window_of) ends.new given.new))) }
     ensures cut { OnErr result (
         (before : Bool)
         → (k : Policies) → AreOf k H.protection K.aead R.stream ends.old
         → IsCutOff k now (asks side before) left.old
-        (world_of ends.old given.old) (world_of ends.new given.new)) }
+        (world_of (windows_of C.steps C.window_of) ends.old given.old) (world_of (windows_of C.steps C.window_of) ends.new given.new)) }
     ensures goes_on { GoOn R.stream ends.old ends.new }
     ensures less { IfOk result (λ gave. IfSome gave (λ _. left.new < left.old)) }
     ensures gave_up { IfOk result (λ gave.
-        IfNone gave (HasClosed (world_of ends.new given.new) ⊎ (left.new ≡ 0))) }
+        IfNone gave (HasClosed (world_of (windows_of C.steps C.window_of) ends.new given.new) ⊎ (left.new ≡ 0))) }
 {
     let mut gave = false;
     while *left > 0 && are_open(ends) {
@@ -176,24 +179,24 @@ fn poll_all<H: HeaderKey + Drop, K: PacketKey + Drop, R: Rng + Drop>(
 }
 
 /// Polls an end, and delivers the datagram that it gives to the other one: whether it gave one.
-fn poll_once<H: HeaderKey + Drop, K: PacketKey + Drop, R: Rng + Drop>(
+fn poll_once<H: HeaderKey + Drop, K: PacketKey + Drop, R: Rng + Drop, C: Controller>(
     alloc: Global,
-    ends: &mut Ends<H, K, R>,
+    ends: &mut Ends<H, K, R, C>,
     given: &mut Given,
     side: Side,
     now: Instant,
     left: &mut u64,
 ) -> Result<bool, AllocError>
     requires some_left { 0 < left.old }
-    requires opened { AreOpen (world_of ends.old given.old) }
+    requires opened { AreOpen (world_of (windows_of C.steps C.window_of) ends.old given.old) }
     ensures polled { IfOk result (λ gave.
         (k : Policies) → AreOf k H.protection K.aead R.stream ends.old
         → IsPolled k side now gave
-        (world_of ends.old given.old) (world_of ends.new given.new)) }
+        (world_of (windows_of C.steps C.window_of) ends.old given.old) (world_of (windows_of C.steps C.window_of) ends.new given.new)) }
     ensures cut { OnErr result (
         (k : Policies) → AreOf k H.protection K.aead R.stream ends.old
-        → (world_of ends.new given.new ≡ world_of ends.old given.old)
-        ⊎ IsHalfPolled k side now (world_of ends.old given.old) (world_of ends.new given.new)) }
+        → (world_of (windows_of C.steps C.window_of) ends.new given.new ≡ world_of (windows_of C.steps C.window_of) ends.old given.old)
+        ⊎ IsHalfPolled k side now (world_of (windows_of C.steps C.window_of) ends.old given.old) (world_of (windows_of C.steps C.window_of) ends.new given.new)) }
     ensures goes_on { GoOn R.stream ends.old ends.new }
     ensures less { IfOk result (λ _. left.new + 1 ≡ left.old) }
 {
@@ -228,20 +231,20 @@ fn gave(answer: &Answer) -> bool
 }
 
 /// Both ends handle a moment, the client first.
-fn time_out<H: HeaderKey + Drop, K: PacketKey + Drop, R: Rng + Drop>(
+fn time_out<H: HeaderKey + Drop, K: PacketKey + Drop, R: Rng + Drop, C: Controller>(
     alloc: Global,
-    ends: &mut Ends<H, K, R>,
+    ends: &mut Ends<H, K, R, C>,
     given: &mut Given,
     now: Instant,
 ) -> Result<(), AllocError>
     ensures handled { OnOk result (
         (k : Policies) → AreOf k H.protection K.aead R.stream ends.old
-        → IsHandled k now (world_of ends.old given.old)
-        (world_of ends.new given.new)) }
+        → IsHandled k now (world_of (windows_of C.steps C.window_of) ends.old given.old)
+        (world_of (windows_of C.steps C.window_of) ends.new given.new)) }
     ensures cut { OnErr result (
         (k : Policies) → AreOf k H.protection K.aead R.stream ends.old
-        → (world_of ends.new given.new ≡ world_of ends.old given.old)
-        ⊎ IsHalfHandled k now (world_of ends.old given.old) (world_of ends.new given.new)) }
+        → (world_of (windows_of C.steps C.window_of) ends.new given.new ≡ world_of (windows_of C.steps C.window_of) ends.old given.old)
+        ⊎ IsHalfHandled k now (world_of (windows_of C.steps C.window_of) ends.old given.old) (world_of (windows_of C.steps C.window_of) ends.new given.new)) }
     ensures goes_on { GoOn R.stream ends.old ends.new }
 {
     let client = RunEvent {
@@ -259,11 +262,13 @@ fn time_out<H: HeaderKey + Drop, K: PacketKey + Drop, R: Rng + Drop>(
 
 /// How many datagrams an end gave.
 fn count_given(given: &Given, side: Side) -> usize
-    ensures { (client server : End) → result ≡ length (given_by side (record {
+    ensures { (client server : End) (of_client of_server : Control) → result ≡ length (given_by side (record {
       client = client;
       server = server;
       from_client = given.now.client.items;
       from_server = given.now.server.items;
+      client_control = of_client;
+      server_control = of_server;
     })) }
 {
     match side {
@@ -273,25 +278,27 @@ fn count_given(given: &Given, side: Side) -> usize
 }
 
 /// Whether both ends are open.
-fn are_open<H: HeaderKey + Drop, K: PacketKey + Drop, R: Rng + Drop>(ends: &Ends<H, K, R>) -> bool
-    ensures opened { result ≡ true → (given : Given) → AreOpen (world_of ends.now given) }
-    ensures closed { result ≡ false → (given : Given) → HasClosed (world_of ends.now given) }
+fn are_open<H: HeaderKey + Drop, K: PacketKey + Drop, R: Rng + Drop, C: Controller>(
+    ends: &Ends<H, K, R, C>,
+) -> bool
+    ensures opened { result ≡ true → (given : Given) → AreOpen (world_of (windows_of C.steps C.window_of) ends.now given) }
+    ensures closed { result ≡ false → (given : Given) → HasClosed (world_of (windows_of C.steps C.window_of) ends.now given) }
 {
     !ends.client.is_closed() && !ends.server.is_closed()
 }
 
 /// The earliest moment for which either end waits.
-fn wakes<H: HeaderKey + Drop, K: PacketKey + Drop, R: Rng + Drop>(
-    ends: &Ends<H, K, R>,
+fn wakes<H: HeaderKey + Drop, K: PacketKey + Drop, R: Rng + Drop, C: Controller>(
+    ends: &Ends<H, K, R, C>,
 ) -> Option<Instant>
-    ensures { (given : Given) → result ≡ wakes (world_of ends.now given) }
+    ensures { (given : Given) → result ≡ wakes (world_of (windows_of C.steps C.window_of) ends.now given) }
 {
     earlier(end_wakes(&ends.client), end_wakes(&ends.server))
 }
 
 /// The earliest moment for which an end waits.
-fn end_wakes<H: HeaderKey + Drop, K: PacketKey + Drop, R: Rng + Drop>(
-    end: &Connection<H, K, R>,
+fn end_wakes<H: HeaderKey + Drop, K: PacketKey + Drop, R: Rng + Drop, C: Controller>(
+    end: &Connection<H, K, R, C>,
 ) -> Option<Instant>
     ensures { result ≡ end_wakes end.now.end.timers }
 {

@@ -16,3 +16,9 @@ mod OnStreams
 mod Lost
 mod Ungiven
 pub mod Probing
+mod Losses
+mod Flights
+pub mod Gates
+mod Items
+mod Told
+mod Rooms

@@ -11,6 +11,7 @@ use Rattle.quic_machine.specs.Tracking.{TrackedPacket, Carried, Tracking, asks_a
 use Rattle.quic_machine.specs.End.{End, with_tracking}
 use Rattle.quic_machine.specs.Acked.{without_known, reset_acked, resets_acked, streams_acked, stream_acked, packet_acked, packets_acked, stream_lost, streams_lost, again, carried_lost, packets_lost, verdict, losses_detected, measured, sampled, answered, without_acked, after_named, after_acked}
 use Rattle.quic_machine.specs.Timeouts.{loss_judged, loss_expired}
+use Rattle.quic_connection_core.specs.Losses.{Lost, one_lost, all_lost}
 use Rattle.quic_connection_core.specs.Tracked.{TakesLost, after_losses, sampled_at}
 use Rattle.quic_connection_core.proofs.Tracked.{all_kept, none_named, moment_measured}
 
@@ -49,7 +50,7 @@ packet_acked_beside p e t =
     ∙ ap (streams_acked p.carried.stream_frames) (resets_acked_beside resets known t)
     ∙ streams_acked_beside p.carried.stream_frames (resets_acked resets known) t
 
-packets_acked_beside : (ps : Table TrackedPacket) (e : End) (t : Tracking) → packets_acked ps (with_tracking e t) ≡ with_tracking (packets_acked ps e) t
+pub packets_acked_beside : (ps : Table TrackedPacket) (e : End) (t : Tracking) → packets_acked ps (with_tracking e t) ≡ with_tracking (packets_acked ps e) t
 packets_acked_beside [] e t = refl
 packets_acked_beside (p ∷ ps) e t = ap (packets_acked ps) (packet_acked_beside p.1 e t) ∙ packets_acked_beside ps (packet_acked p.1 e) t
 
@@ -79,6 +80,14 @@ lost_smaller v p e f new takes is =
     let left : length (lost_by v f.tracking.packets) ≡ length (lost_by v new.packets) = ap (λ (t : Tracking). length (lost_by v t.packets)) (tracked_then v p e f new is) in
     let first : length (lost_by v e.tracking.packets) ≡ suc (length (lost_by v new.packets)) = ap length takes.first in
     omega (arith, left, first)
+
+-- so it is of what the losses come to
+pub losses_step : (v : Verdict) (p : ℕ × TrackedPacket) (e f : End) (new : Tracking) (g : ℕ) (l m : Lost) → TakesLost v p e.tracking new → f ≡ carried_lost p.1.carried (with_tracking e new) → m ≡ one_lost g l p
+    → all_lost g m (lost_by v f.tracking.packets) ≡ all_lost g l (lost_by v e.tracking.packets)
+losses_step v p e f new g l m takes is more =
+    ap (λ (x : Lost). all_lost g x (lost_by v f.tracking.packets)) more
+    ∙ ap (λ (t : Tracking). all_lost g (one_lost g l p) (lost_by v t.packets)) (tracked_then v p e f new is)
+    ∙ ap (all_lost g l) (sym takes.first)
 
 -- below the number behind it none is lost
 pub lost_behind : (v : Verdict) (p : ℕ × TrackedPacket) (e f : End) (new : Tracking) → TakesLost v p e.tracking new → f ≡ carried_lost p.1.carried (with_tracking e new) → lost_by v (from p.0 f.tracking.packets) ≡ lost_by v f.tracking.packets
@@ -126,7 +135,7 @@ loss_expired_keeps true e = judged e.tracking.loss_time
 
 -- ---- an ACK frame
 
-reversed_none : {A : Type 0} (xs : List A) → reverse xs ≡ [] → xs ≡ []
+pub reversed_none : {A : Type 0} (xs : List A) → reverse xs ≡ [] → xs ≡ []
 reversed_none xs none = sym (reverse-reverse xs) ∙ ap reverse none
 
 -- an ACK frame that names no tracked packet changes nothing
@@ -137,7 +146,7 @@ named_none rises a e acked is none =
     ∙ ap (λ (ps : Table TrackedPacket). after_named ps rises a e) (sym empty)
 
 -- the sample of a packet is that of the moment at which it went
-sample_of : (o : Option TrackedPacket) (a : AckValue) (e : End) → sampled_at (option_map (λ (p : TrackedPacket). p.time_sent) o) a e ≡ sampled o a e
+pub sample_of : (o : Option TrackedPacket) (a : AckValue) (e : End) → sampled_at (option_map (λ (p : TrackedPacket). p.time_sent) o) a e ≡ sampled o a e
 sample_of None a e = refl
 sample_of (Some p) a e = refl
 

@@ -8,59 +8,65 @@ use Rattle.quic_packet.specs.Header.{header_bytes}
 use Rattle.quic_packet.specs.Keys.{Protection, Aead, KeepsLength}
 use Rattle.quic_packet.specs.Datagram.{protected, sent}
 use Rattle.quic_packet.proofs.Opening.{sealed_is_sent}
+use Rattle.quic_recovery_core.specs.PendingAcks.{can_send}
 use Rattle.quic_machine.specs.Ids.{Ids}
 use Rattle.quic_spaces.specs.Numbers.{Numbers, cut_against, can_number}
 use Rattle.quic_spaces.specs.Filter.{Filter, allocated, is_skipped}
 use Rattle.quic_machine.specs.Policy.{Policy}
 use Rattle.quic_machine.specs.End.{End, number_of}
 use Rattle.quic_machine.specs.Tracking.{Carried, carried_in}
-use Rattle.quic_machine.specs.Poll.{Draft, composed, payload_of, datagram_of, datagram_size, asking, tracked}
+use Rattle.quic_machine.specs.Poll.{Draft, draft_if, payload_of, datagram_of, datagram_size, asking, tracked}
 use Rattle.quic_connection_core.specs.Frames.{tracked_as}
 use Rattle.quic_machine.specs.PollCases.{composes}
 
--- what is composed leaves numbers, those that are left out, and ids
-pub same_numbers : (e : End) → (composed e).end.numbers ≡ e.numbers
-same_numbers e = (composes e).numbers
+module _ (held : Bool) (e : End) (due : held ≡ true → can_send e.acknowledging ≡ true) where
+  -- what goes
+  abbrev went : Draft
+  went = draft_if held e
 
-pub same_filter : (e : End) → (composed e).end.filter ≡ e.filter
-same_filter e = (composes e).filter
+  -- it leaves numbers, those that are left out, and ids
+  pub same_numbers : went.end.numbers ≡ e.numbers
+  same_numbers = (composes held e due).numbers
 
-pub same_ids : (e : End) → (composed e).end.ids ≡ e.ids
-same_ids e = (composes e).ids
+  pub same_filter : went.end.filter ≡ e.filter
+  same_filter = (composes held e due).filter
 
--- its number is that of the end
-pub same_number : (e : End) → number_of (composed e).end ≡ number_of e
-same_number e = ap (λ (f : Filter). allocated f (composed e).end.numbers.next) (same_filter e) ∙ ap (λ (n : Numbers). allocated e.filter n.next) (same_numbers e)
+  pub same_ids : went.end.ids ≡ e.ids
+  same_ids = (composes held e due).ids
 
--- and is cut as that is
-pub same_width : (e : End) → (truncated (number_of (composed e).end) (cut_against (composed e).end.numbers)).width ≡ (truncated (number_of e) (cut_against e.numbers)).width
-same_width e =
-    ap (λ (k : ℕ). (truncated k (cut_against (composed e).end.numbers)).width) (same_number e)
-    ∙ ap (λ (n : Numbers). (truncated (number_of e) (cut_against n)).width) (same_numbers e)
+  -- its number is that of the end
+  pub same_number : number_of went.end ≡ number_of e
+  same_number = ap (λ (f : Filter). allocated f went.end.numbers.next) same_filter ∙ ap (λ (n : Numbers). allocated e.filter n.next) same_numbers
 
--- its datagram has the number and the id of the end
-pub sent_of : (p : Policy) (e : End) → sent p.header p.packet (number_of e) (cut_against e.numbers) e.ids.active.id (payload_of (composed e)) ≡ datagram_of p (composed e)
-sent_of p e =
-    let payload : List ℕ = payload_of (composed e) in
-    ap (λ (k : ℕ). sent p.header p.packet k (cut_against e.numbers) e.ids.active.id payload) (sym (same_number e))
-    ∙ ap (λ (n : Numbers). sent p.header p.packet (number_of (composed e).end) (cut_against n) e.ids.active.id payload) (sym (same_numbers e))
-    ∙ ap (λ (i : Ids). sent p.header p.packet (number_of (composed e).end) (cut_against (composed e).end.numbers) i.active.id payload) (sym (same_ids e))
+  -- and is cut as that is
+  pub same_width : (truncated (number_of went.end) (cut_against went.end.numbers)).width ≡ (truncated (number_of e) (cut_against e.numbers)).width
+  same_width =
+      ap (λ (k : ℕ). (truncated k (cut_against went.end.numbers)).width) same_number
+      ∙ ap (λ (n : Numbers). (truncated (number_of e) (cut_against n)).width) same_numbers
 
--- its payload is padded for the number of the end
-pub payload_is : (e : End) → payload_of (composed e) ≡ (composed e).bytes ++ replicate (4 - ((truncated (number_of e) (cut_against e.numbers)).width + length (composed e).bytes)) 0
-payload_is e = ap (λ (k : ℕ). (composed e).bytes ++ replicate (4 - (k + length (composed e).bytes)) 0) (same_width e)
+  -- its datagram has the number and the id of the end
+  pub sent_of : (p : Policy) → sent p.header p.packet (number_of e) (cut_against e.numbers) e.ids.active.id (payload_of went) ≡ datagram_of p went
+  sent_of p =
+      let payload : List ℕ = payload_of went in
+      ap (λ (k : ℕ). sent p.header p.packet k (cut_against e.numbers) e.ids.active.id payload) (sym same_number)
+      ∙ ap (λ (n : Numbers). sent p.header p.packet (number_of went.end) (cut_against n) e.ids.active.id payload) (sym same_numbers)
+      ∙ ap (λ (i : Ids). sent p.header p.packet (number_of went.end) (cut_against went.end.numbers) i.active.id payload) (sym same_ids)
 
--- how many bytes it has
-pub size_is : (e : End) → datagram_size (composed e) ≡ 1 + length e.ids.active.id + (truncated (number_of e) (cut_against e.numbers)).width + length (payload_of (composed e)) + 16
-size_is e =
-    ap (λ (i : Ids). 1 + length i.active.id + (truncated (number_of (composed e).end) (cut_against (composed e).end.numbers)).width + length (payload_of (composed e)) + 16) (same_ids e)
-    ∙ ap (λ (k : ℕ). 1 + length e.ids.active.id + k + length (payload_of (composed e)) + 16) (same_width e)
+  -- its payload is padded for the number of the end
+  pub payload_is : payload_of went ≡ went.bytes ++ replicate (4 - ((truncated (number_of e) (cut_against e.numbers)).width + length went.bytes)) 0
+  payload_is = ap (λ (k : ℕ). went.bytes ++ replicate (4 - (k + length went.bytes)) 0) same_width
 
--- how many bytes its payload has
-pub payload_long : (e : End) → length (payload_of (composed e)) ≡ length (composed e).bytes + (4 - ((truncated (number_of e) (cut_against e.numbers)).width + length (composed e).bytes))
-payload_long e =
-    let pad : ℕ = 4 - ((truncated (number_of e) (cut_against e.numbers)).width + length (composed e).bytes) in
-    ap length (payload_is e) ∙ length-append (composed e).bytes (replicate pad 0) ∙ ap (λ (k : ℕ). length (composed e).bytes + k) (length-replicate pad 0)
+  -- how many bytes it has
+  pub size_is : datagram_size went ≡ 1 + length e.ids.active.id + (truncated (number_of e) (cut_against e.numbers)).width + length (payload_of went) + 16
+  size_is =
+      ap (λ (i : Ids). 1 + length i.active.id + (truncated (number_of went.end) (cut_against went.end.numbers)).width + length (payload_of went) + 16) same_ids
+      ∙ ap (λ (k : ℕ). 1 + length e.ids.active.id + k + length (payload_of went) + 16) same_width
+
+  -- how many bytes its payload has
+  pub payload_long : length (payload_of went) ≡ length went.bytes + (4 - ((truncated (number_of e) (cut_against e.numbers)).width + length went.bytes))
+  payload_long =
+      let pad : ℕ = 4 - ((truncated (number_of e) (cut_against e.numbers)).width + length went.bytes) in
+      ap length payload_is ∙ length-append went.bytes (replicate pad 0) ∙ ap (λ (k : ℕ). length went.bytes + k) (length-replicate pad 0)
 
 -- it is tracked as its parts say
 pub tracked_is : (d : Draft) (asks : Bool) (size : ℕ) (carried : Carried) → asks ≡ asking d.frames → size ≡ datagram_size d → carried ≡ carried_in d.frames → tracked_as asks size carried d.end ≡ tracked d

@@ -1,6 +1,16 @@
 -- What a probe makes of the only packet number space is what it makes of the end.
-use Rattle.std.proofs.Common.{◌≡◌, ℕ, Bool, true, false, Option, Some, None, Result, Ok, Err, OnOk, OnErr, refl, ap}
-use Rattle.std.specs.Prelude.{not, ◌||◌, nat_lt}
+use Rattle.std.proofs.Common.{◌≡◌, ℕ, Bool, true, false, [], ◌∷◌, Option, Some, None, Result, Ok, Err, OnOk, OnErr, refl, ap, subst}
+use Rattle.std.specs.Prelude.{not, ◌||◌, nat_lt, if◌then◌else◌}
+use Rattle.std.specs.Map.{keys_of}
+use Rattle.std.specs.BTreeMap.{is_at}
+use Rattle.std.specs.Ordering.{nat_cmp}
+use Rattle.std.proofs.lemmas.Map.Keys.{sorted_head, sorted_tail}
+use Rattle.quic_paths.specs.InFlight.{Flight}
+use Rattle.quic_streams_parts.specs.Table.{Table, at}
+use Rattle.quic_sent_packets.specs.Packets.{Ascends}
+use Rattle.quic_spaces.proofs.Tails.{other_behind}
+use Rattle.quic_connection_core.specs.Flying.{IsInFlight}
+use Rattle.quic_connection_core.proofs.Flights.{same_place, moved_flies}
 use Rattle.quic_retransmits.specs.Retransmits.{Retransmits}
 use Rattle.quic_streams_state.specs.declared.state.StreamsState.{StreamsState}
 use Rattle.quic_streams_state.specs.Waiting.{is_empty}
@@ -78,3 +88,38 @@ where_ok (Err x) P Q f p = tt
 pub either_way : {A E : Type 0} (r : Result A E) (P Q R : Type 0) → (P → R) → (Q → R) → OnOk r P → OnErr r Q → R
 either_way (Ok x) P Q R f g p q = f p
 either_way (Err x) P Q R f g p q = g q
+
+-- ---- what is in flight stays so
+
+-- the packet whose record moves is there
+record_there : (t : StreamsState) (es : Table TrackedPacket) (r : ℕ × TrackedPacket) → Ascends es → first_record t es ≡ Some r → at es r.0 ≡ Some r.1
+record_there t [] r up is = absurd cc
+record_there t (x ∷ es) r up is = go (is_empty x.1.carried.retransmits t) is (record_there t es r (sorted_tail nat_cmp x.0 (keys_of es) up))
+  where
+    go : (b : Bool) → (if b then first_record t es else Some x) ≡ Some r → (first_record t es ≡ Some r → at es r.0 ≡ Some r.1) → at (x ∷ es) r.0 ≡ Some r.1
+    go true found others =
+        let there = others found in
+        let apart : is_at (nat_cmp r.0) x.0 ≡ false = other_behind es x.0 r.0 r.1 (sorted_head nat_cmp x.0 (keys_of es) up) there in
+        rw apart there
+    go false found others =
+        let same : x ≡ r = cc in
+        subst (λ (y : ℕ × TrackedPacket). at (x ∷ es) y.0 ≡ Some y.1) same (rw (same_place x.0) refl)
+
+pub probe_flies : (g : ℕ) (f : Flight) (s : PacketSpace) (p : Retransmits) (t : StreamsState) → Ascends s.tracking.packets → IsInFlight g s.numbers.next s.tracking.packets f
+    → IsInFlight g (after_probe_queued false s p t).space.numbers.next (after_probe_queued false s p t).space.tracking.packets f
+probe_flies g f s p t up i = go (nat_lt 0 s.tracking.probes)
+  where
+    marked : PacketSpace
+    marked = record s { immediate_ack_pending = s.immediate_ack_pending || false }
+
+    record_case : (o : Option (ℕ × TrackedPacket)) → first_record t s.tracking.packets ≡ o → IsInFlight g (space.record_moved o marked p).space.numbers.next (space.record_moved o marked p).space.tracking.packets f
+    record_case None is = i
+    record_case (Some r) is = moved_flies g s.numbers.next s.tracking.packets f r i (record_there t s.tracking.packets r up is)
+
+    empty_case : (b : Bool) → IsInFlight g (space.probe_filled b marked p t).space.numbers.next (space.probe_filled b marked p t).space.tracking.packets f
+    empty_case true = record_case (first_record t s.tracking.packets) refl
+    empty_case false = i
+
+    go : (b : Bool) → IsInFlight g (probe_queued b false s p t).space.numbers.next (probe_queued b false s p t).space.tracking.packets f
+    go true = empty_case (is_empty p t)
+    go false = i

@@ -1,3 +1,7 @@
+pub mod Configured
+pub mod Telling
+pub mod Flying
+pub mod Losses
 pub mod Frames
 pub mod Faults
 pub mod Given

@@ -11,7 +11,7 @@ use Rattle.quic_time.specs.Rtt.{with_sample}
 use Rattle.quic_time.specs.Timers.{has_come}
 use Rattle.quic_machine.specs.Tracking.{TrackedPacket, Carried, Tracking, Verdict, lost_by, kept_by}
 use Rattle.quic_machine.specs.End.{End, with_tracking, with_rtt}
-use Rattle.quic_machine.specs.Acked.{verdict, packets_lost, told_delay}
+use Rattle.quic_machine.specs.Acked.{verdict, packets_lost, told_delay, first_measured}
 
 -- ---- packets that are lost
 
@@ -37,7 +37,7 @@ pub record LosesByTime (e : End) : Type 0 where
 -- the end with the round trip of a packet that went at a moment as one more sample, if there is one
 abbrev pub sampled_at : Option ℕ → AckValue → End → End
 sampled_at None a e = e
-sampled_at (Some sent) a e = with_rtt e (with_sample e.path.rtt (told_delay e a) (e.closing.clock - sent))
+sampled_at (Some sent) a e = with_rtt e (with_sample e.path.rtt (told_delay e a) (e.closing.clock - sent)) (first_measured e.path.first_after_rtt e.numbers.next)
 
 -- ---- what an ACK frame makes of streams alone
 

@@ -10,56 +10,75 @@ use quic_parameters::TransportParameters;
 use std::alloc::{AllocError, Global};
 use std::marker::Model;
 
-/// The configuration of an end. Contracts see its settings.
+/// The configuration of an end. Contracts see its settings, and what makes its congestion
+/// controller.
 ///
 /// An end acts on the windows for what it receives, on the send window, on the counts of streams
 /// that the peer may have open at once, on whether streams of one priority take turns, on how many
 /// bytes of messages may wait to be read and to be sent, on the thresholds by which packets count
-/// as lost, and on the round trip that is assumed at first. Of the sizes of datagrams it only judges
-/// whether they can be. It tells the peer of the other settings that have a transport parameter, and
-/// doesn't act on them: it has no idle timeout, and an ACK_FREQUENCY frame changes nothing.
-#[derive(Clone, Copy, Debug)]
-pub struct Config {
+/// as lost, on the round trip that is assumed at first, and on how many probe timeouts of losses
+/// are persistent congestion. The size that a path begins with is the one for which window and
+/// pacer reckon; datagrams themselves have at most 1200 bytes yet. It tells the peer of the other
+/// settings that have a transport parameter, and doesn't act on them: it has no idle timeout, and
+/// an ACK_FREQUENCY frame changes nothing.
+#[derive(Clone, Copy, Debug, Drop)]
+pub struct Config<F> {
     transport: TransportConfig,
     ack_frequency_support: bool,
+    // Makes the congestion controller.
+    factory: F,
 }
 
-impl Model for Config {
-    ghost use Rattle.quic_config.specs.Transport.{Settings, settings_with, transport_of};
+impl<F> Model for Config<F> {
+    ghost use Rattle.quic_config.specs.Transport.{settings_with, transport_of};
+    ghost use Rattle.quic_connection_core.specs.Configured.{Configured};
 
-    ghost Value = { Settings };
+    ghost Value = { Configured F };
 
-    ghost view = { λ c. settings_with c.transport c.ack_frequency_support };
+    ghost view = { λ c. record {
+      settings = settings_with c.transport c.ack_frequency_support;
+      factory = c.factory;
+    } };
 
-    ghost inverse = { λ s. record {
-      transport = transport_of s;
-      ack_frequency_support = s.ack_frequency_support;
+    ghost inverse = { λ v. record {
+      transport = transport_of v.settings;
+      ack_frequency_support = v.settings.ack_frequency_support;
+      factory = v.factory;
     } };
 }
 
-impl Config {
-    /// A configuration with these settings, of an end that can be asked when to acknowledge.
-    pub fn new(transport: TransportConfig) -> Self
-        ensures { result ≡ settings_with transport true }
+impl<F> Config<F> {
+    /// A configuration with these settings, of an end that can be asked when to acknowledge, whose
+    /// congestion controller this makes.
+    pub fn new(transport: TransportConfig, factory: F) -> Self
+        ensures { result ≡ record { settings = settings_with transport true; factory = factory } }
     {
         Config {
             transport,
             ack_frequency_support: true,
+            factory,
         }
     }
 
     /// The settings of the transport.
     pub fn transport(&self) -> TransportConfig
-        ensures { result ≡ transport_of self.now }
+        ensures { result ≡ transport_of self.now.settings }
     {
         self.transport
+    }
+
+    /// What makes the congestion controller of each path.
+    pub fn factory(&self) -> &F
+        ensures { result.now ≡ self.now.factory }
+    {
+        &self.factory
     }
 
     /// Whether the peer is told that it can ask when to acknowledge, with 1000 microseconds as the
     /// least delay (QUIC Acknowledgement Frequency, section 3).
     pub fn ack_frequency_support(&mut self, value: bool) -> &mut Self
         ensures same_reference { result.ghost_name ≡ self.entry.ghost_name }
-        ensures value { result.now ≡ record self.old { ack_frequency_support = value } }
+        ensures value { result.now ≡ record self.old { settings = record self.old.settings { ack_frequency_support = value } } }
     {
         self.ack_frequency_support = value;
         self
@@ -67,8 +86,8 @@ impl Config {
 
     /// What the peer is told of the settings (RFC 9000, section 18.2).
     fn parameters(&self) -> TransportParameters
-        ensures value { result ≡ parameters_of self.now }
-        ensures in_range { AreInRange (parameters_of self.now) }
+        ensures value { result ≡ parameters_of self.now.settings }
+        ensures in_range { AreInRange (parameters_of self.now.settings) }
     {
         let told = self.transport.transport_parameters();
         if self.ack_frequency_support {
@@ -86,9 +105,9 @@ impl Config {
     /// the peer reads of them are these settings. An error is want of memory.
     pub fn write_parameters(&self, alloc: Global, order: &[u8; 13]) -> Result<Vec<u8>, AllocError>
         requires { IsWriteOrder order.now }
-        ensures bytes { IfOk result (λ v. v.items ≡ written_parameters (parameters_of self.now) order.now) }
-        ensures read_back { IfOk result (λ v. parameters_at v.items ≡ Ok (parameters_of self.now)) }
-        ensures range { IsInRange self.now }
+        ensures bytes { IfOk result (λ v. v.items ≡ written_parameters (parameters_of self.now.settings) order.now) }
+        ensures read_back { IfOk result (λ v. parameters_at v.items ≡ Ok (parameters_of self.now.settings)) }
+        ensures range { IsInRange self.now.settings }
     {
         self.parameters().write(alloc, order)
     }

@@ -1,14 +1,17 @@
 //! One end of a connection (RFC 9000).
-ghost use Rattle.std.specs.Prelude.{◌≡◌, ◌≢◌, ◌*◌, ◌<◌, ◌^◌, ◌↔◌, false, IfOk, OnOk, OnErr, IfErr, IsTrue, Some, None, option_copied, if◌then◌else◌};
+ghost use Rattle.std.specs.Prelude.{◌≡◌, ◌≢◌, ◌*◌, ◌<◌, ◌^◌, ◌↔◌, ◌||◌, not, false, IfOk, OnOk, OnErr, IfErr, IsTrue, Some, None, option_copied, if◌then◌else◌};
 ghost use Rattle.quic_parameters.specs.Parameters.{AreInRange};
 ghost use Rattle.quic_parameters.specs.ParametersRead.{parameters_at};
+ghost use Rattle.quic_config.specs.Transport.{Settings, transport_of, first_mtu};
 ghost use Rattle.quic_machine.specs.declared.answers.State.TheVariants as states;
 ghost use Rattle.quic_machine.specs.End.{MadeFrom, refusal_of, with_end, with_closing, closed_by, with_numbers, with_loss_timer, with_ping, side_of, first_streams, are_sizes_wrong, peer_delay, probe_timeout, HasFailed};
 ghost use Rattle.quic_spaces.specs.Filter.{first_filter};
 ghost use Rattle.quic_connection_core.specs.Drawn.{words_of, after_words};
+ghost use Rattle.quic_connection_core.specs.Telling.{IsRoomy, reading, windows_at};
 ghost use Rattle.quic_retransmits.specs.Retransmits.{nothing_waits};
 ghost use Rattle.quic_machine.specs.Closing.{ticked};
-ghost use Rattle.quic_machine.specs.Poll.{waits};
+ghost use Rattle.quic_machine.specs.Poll.{asks_to_go, message_waits};
+ghost use Rattle.quic_streams_state.specs.Waiting.{is_empty, can_send_stream_data};
 ghost use Rattle.quic_machine.specs.Receive.{after_taken};
 ghost use Rattle.quic_machine.specs.Calls.{is_open, end_after_ping};
 ghost use Rattle.quic_spaces.specs.Numbers.{can_number, number_opened};
@@ -18,27 +21,31 @@ ghost use Rattle.quic_time.specs.Timers.{no_timers};
 mod acked;
 mod closing;
 mod ids;
+mod losses;
 mod messages;
 mod receiving;
 mod sending;
 mod statistics;
 mod stream_frames;
+mod telling;
 mod timeouts;
 
 use crate::config::Config;
 use crate::connection::closing::Closing;
 use crate::connection::ids::{Ids, OWN_ID_LENGTH};
 use quic_config::MAX_UDP_PAYLOAD;
+use quic_congestion::{Controller, ControllerFactory};
 use quic_machine::{ConfigError, Instant, LostReason, State, TransportConfig};
 use quic_messages::DatagramState;
 use quic_packet::crypto::{HeaderKey, Keys, PacketKey};
 use quic_parameters::TransportParameters;
+use quic_paths::PathData;
 use quic_retransmits::Retransmits;
 use quic_spaces::{PacketNumberFilter, PacketSpace, ack_due};
 use quic_stats::ConnectionStats;
 use quic_streams_handles::{EndStreams, RecvStream, SendStream, Streams};
 use quic_streams_state::StreamsState;
-use quic_time::{Duration, RttEstimator, Timer, TimerTable};
+use quic_time::{Duration, Timer, TimerTable};
 use quic_wire_core::{ConnectionId, Side, StreamId};
 use rand_core::Rng;
 use std::alloc::{AllocError, Global};
@@ -49,14 +56,13 @@ use std::marker::Model;
 fn first_streams(
     alloc: Global,
     side: Side,
-    config: &Config,
+    transport: &TransportConfig,
     theirs: &TransportParameters,
 ) -> EndStreams
     requires { AreInRange theirs.now }
-    ensures state { result.state ≡ first_streams side config.now theirs.now }
+    ensures state { (settings : Settings) → transport_of settings ≡ transport.now → result.state ≡ first_streams side settings theirs.now }
     ensures pending { result.pending ≡ nothing_waits }
 {
-    let transport = config.transport();
     let mut state = StreamsState::new(
         alloc,
         side,
@@ -75,10 +81,9 @@ fn first_streams(
 
 /// Whether the sizes of datagrams can't be: more than a UDP payload may have, or more on each path
 /// than the peer takes (RFC 9000, section 18.2).
-fn are_sizes_wrong(config: &Config, theirs: &TransportParameters) -> bool
-    ensures { result ≡ are_sizes_wrong config.now theirs.now }
+fn are_sizes_wrong(transport: &TransportConfig, theirs: &TransportParameters) -> bool
+    ensures { (settings : Settings) → transport_of settings ≡ transport.now → result ≡ are_sizes_wrong settings theirs.now }
 {
-    let transport = config.transport();
     let least = transport.get_min_mtu();
     transport.get_initial_mtu() > MAX_UDP_PAYLOAD
         || u64::from(least) > theirs.max_udp_payload_size.into_inner()
@@ -104,9 +109,10 @@ fn first_filter<R: Rng>(random: &mut R) -> PacketNumberFilter
 /// One end of a connection: a deterministic state machine of datagrams, moments and application
 /// calls (quinn-proto's `Connection`, without handshake and sockets).
 ///
-/// Contracts see its keys, its random source, and the record of its state.
+/// Contracts see its keys, its random source, its congestion controller, and the record of its
+/// state.
 #[derive(Drop)]
-pub struct Connection<H, K, R> {
+pub struct Connection<H, K, R, C: Controller> {
     closing: Closing,
     ids: Ids,
     // The only packet number space there is: that of short headers.
@@ -114,9 +120,12 @@ pub struct Connection<H, K, R> {
     // Which packet numbers are left out.
     filter: PacketNumberFilter,
     timers: TimerTable,
-    validated: bool,
-    // How long a round trip takes on the path.
-    rtt: RttEstimator,
+    // The path to the peer, with its controller, its pacer and what is in flight.
+    path: PathData<C>,
+    // What the controller showed at the last poll.
+    window: u64,
+    // Whether the last poll gave nothing though neither window nor pacer held anything back.
+    app_limited: bool,
     transport: TransportConfig,
     // What the peer told of itself.
     peer_params: TransportParameters,
@@ -132,17 +141,20 @@ pub struct Connection<H, K, R> {
     alloc: Global,
 }
 
-impl<H, K, R> Model for Connection<H, K, R> {
-    ghost use Rattle.std.specs.Prelude.{◌≡◌, false};
+impl<H, K, R, C: Controller> Model for Connection<H, K, R, C> {
+    ghost use Rattle.std.specs.Prelude.{◌≡◌, ◌≤◌, false};
     ghost use Rattle.quic_parameters.specs.Parameters.{AreInRange};
     ghost use Rattle.quic_machine.specs.End.{ConnectionValue};
-    ghost use Rattle.quic_machine.specs.Parts.{least_path_size};
+    ghost use Rattle.quic_congestion.specs.Congestion.{HasRoom};
+    ghost use Rattle.quic_connection_core.specs.Telling.{IsRoomy};
+    ghost use Rattle.quic_connection_core.specs.Flying.{IsInFlight};
 
-    ghost Value = { ConnectionValue H K R };
+    ghost Value = { ConnectionValue H K R C };
 
     ghost view = { λ c. record {
       keys = c.keys;
       random = c.random;
+      control = c.path.congestion;
       end = record {
         closing = c.closing;
         ids = c.ids;
@@ -151,7 +163,16 @@ impl<H, K, R> Model for Connection<H, K, R> {
         acknowledging = c.space.acknowledging;
         timers = c.timers;
         tracking = c.space.tracking;
-        path = record { validated = c.validated; generation = 0; size = least_path_size; rtt = c.rtt };
+        path = record {
+          validated = c.path.validated;
+          generation = c.path.generation;
+          size = c.path.size;
+          rtt = c.path.rtt;
+          first_after_rtt = c.path.first_after_rtt;
+          window = c.window;
+          pacing = c.path.pacing;
+          app_limited = c.app_limited;
+        };
         transport = c.transport;
         peer_params = c.peer_params;
         streams = c.streams.state;
@@ -160,11 +181,22 @@ impl<H, K, R> Model for Connection<H, K, R> {
       };
     } };
 
-    // Nothing asks for IMMEDIATE_ACK yet.
-    ghost invariant = { λ c. (c.space.immediate_ack_pending ≡ false) × AreInRange c.peer_params };
+    // Nothing asks for IMMEDIATE_ACK yet. Two datagrams fit the window. In flight is what is
+    // tracked, asks, and went on the path.
+    ghost invariant = { λ c. (c.space.immediate_ack_pending ≡ false)
+        × AreInRange c.peer_params
+        × (1200 ≤ c.path.size)
+        × IsRoomy C.size_of C.window_of c.path.congestion c.path.size
+        × HasRoom c.path.size c.window
+        × IsInFlight c.path.generation c.space.numbers.next c.space.tracking.packets c.path.in_flight };
 }
 
-impl<H: HeaderKey + Drop, K: PacketKey + Drop, R: Rng + Drop> Connection<H, K, R> {
+impl<H: HeaderKey + Drop, K: PacketKey + Drop, R: Rng + Drop, C: Controller> Connection<
+    H,
+    K,
+    R,
+    C,
+> {
     /// An end that was made at a moment: its limits are the peer's transport parameters, as the
     /// peer's `Config::write_parameters` wrote them. Both ids were exchanged before. What
     /// `keys.header.local` and `keys.packet.local` seal, the peer's `remote` ones open, and the
@@ -173,12 +205,15 @@ impl<H: HeaderKey + Drop, K: PacketKey + Drop, R: Rng + Drop> Connection<H, K, R
     /// is the end's random source: a word of it says which packet number is left out first, and
     /// each time that one is left out, another word says which is next (RFC 9000, section 21.4).
     ///
+    /// The factory of the configuration makes the congestion controller, for the size of datagrams
+    /// that the path begins with.
+    ///
     /// The errors are tested in the order in which [`ConfigError`] lists them. Memory never lacks:
     /// none is taken.
-    pub fn new(
+    pub fn new<F: ControllerFactory<Controller = C>>(
         alloc: Global,
         side: Side,
-        config: &Config,
+        config: &Config<F>,
         peer_parameters: &[u8],
         own_id: ConnectionId,
         peer_id: ConnectionId,
@@ -186,12 +221,14 @@ impl<H: HeaderKey + Drop, K: PacketKey + Drop, R: Rng + Drop> Connection<H, K, R
         now: Instant,
         random: R,
         validated: bool,
-    ) -> Result<Connection<H, K, R>, ConfigError>
-        ensures made { IfOk result (λ c. MadeFrom side config.now peer_parameters.now own_id peer_id now validated (words_of R.stream random 0) c.end) }
+    ) -> Result<Connection<H, K, R, C>, ConfigError>
+        ensures made { IfOk result (λ c. MadeFrom side config.now.settings (windows_at C.initial_of C.window_of c.control) peer_parameters.now own_id peer_id now validated (words_of R.stream random 0) c.end) }
+        ensures control { IfOk result (λ c. c.control ≡ F.built config.now.factory now (first_mtu (transport_of config.now.settings))) }
+        ensures roomy { IfOk result (λ c. IsRoomy C.size_of C.window_of c.control c.end.path.size) }
         ensures keys { IfOk result (λ c. c.keys ≡ keys) }
         ensures random { IfOk result (λ c. R.stream c.random ≡ after_words 1 (R.stream random)) }
-        ensures refusal { IfErr result (λ e. Some e ≡ refusal_of config.now (parameters_at peer_parameters.now) own_id peer_id) }
-        ensures lawful { OnOk result (refusal_of config.now (parameters_at peer_parameters.now) own_id peer_id ≡ None) }
+        ensures refusal { IfErr result (λ e. Some e ≡ refusal_of config.now.settings (C.window_of (F.built config.now.factory now (first_mtu (transport_of config.now.settings)))) (parameters_at peer_parameters.now) own_id peer_id) }
+        ensures lawful { OnOk result (refusal_of config.now.settings (C.window_of (F.built config.now.factory now (first_mtu (transport_of config.now.settings)))) (parameters_at peer_parameters.now) own_id peer_id ≡ None) }
     {
         let Ok(theirs) = TransportParameters::read(side, peer_parameters) else {
             return Err(ConfigError::Parameters);
@@ -199,10 +236,17 @@ impl<H: HeaderKey + Drop, K: PacketKey + Drop, R: Rng + Drop> Connection<H, K, R
         if own_id.as_slice().len() != OWN_ID_LENGTH || peer_id.as_slice().is_empty() {
             return Err(ConfigError::IdLength);
         }
-        if are_sizes_wrong(config, &theirs) {
+        let transport = config.transport();
+        if are_sizes_wrong(&transport, &theirs) {
             return Err(ConfigError::Size);
         }
-        let transport = config.transport();
+        let mut path = PathData::new(0, now, &transport, config.factory());
+        let window = path.congestion.window();
+        let mtu = transport.get_initial_mtu();
+        if window < 2 * u64::from(mtu) {
+            return Err(ConfigError::Window);
+        }
+        path.validated = validated;
         let mut random = random;
         let filter = first_filter(&mut random);
         Ok(Connection {
@@ -211,11 +255,12 @@ impl<H: HeaderKey + Drop, K: PacketKey + Drop, R: Rng + Drop> Connection<H, K, R
             space: PacketSpace::new(alloc, now),
             filter,
             timers: TimerTable::default(),
-            validated,
-            rtt: RttEstimator::new(transport.get_initial_rtt()),
+            path,
+            window,
+            app_limited: false,
             transport,
             peer_params: theirs,
-            streams: first_streams(alloc, side, config, &theirs),
+            streams: first_streams(alloc, side, &transport, &theirs),
             datagrams: DatagramState::new(alloc),
             messages_to_tell: 0,
             stats: ConnectionStats::default(),
@@ -251,7 +296,14 @@ impl<H: HeaderKey + Drop, K: PacketKey + Drop, R: Rng + Drop> Connection<H, K, R
     pub fn is_validated(&self) -> bool
         ensures { result ≡ self.now.end.path.validated }
     {
-        self.validated
+        self.path.validated
+    }
+
+    /// How many bytes may be in flight, as the congestion controller says (RFC 9002, section 7).
+    pub fn window(&self) -> u64
+        ensures { result ≡ C.window_of self.now.control }
+    {
+        self.path.congestion.window()
     }
 
     /// Why the end isn't open: what closed it, or none where nothing did. A failed end has no
@@ -318,7 +370,7 @@ impl<H: HeaderKey + Drop, K: PacketKey + Drop, R: Rng + Drop> Connection<H, K, R
     fn probe_timeout(&self) -> Duration
         ensures { result ≡ probe_timeout self.now.end }
     {
-        self.rtt.pto_base() + self.peer_delay()
+        self.path.rtt.pto_base() + self.peer_delay()
     }
 
     /// Sets the loss timer to where what is tracked puts it, or stops it.
@@ -329,6 +381,13 @@ impl<H: HeaderKey + Drop, K: PacketKey + Drop, R: Rng + Drop> Connection<H, K, R
             Some(moment) => self.timers.set(Timer::LossDetection, moment),
             None => self.timers.stop(Timer::LossDetection),
         }
+    }
+
+    /// A poll reads which window the congestion controller shows.
+    fn read_window(&mut self)
+        ensures { self.new ≡ with_end self.old (reading C.window_of self.old) }
+    {
+        self.window = self.path.congestion.window();
     }
 
     /// Asks for a PING, so that the peer acknowledges (RFC 9000, section 19.2). Two before it goes
@@ -377,15 +436,25 @@ impl<H: HeaderKey + Drop, K: PacketKey + Drop, R: Rng + Drop> Connection<H, K, R
         self.space.numbers.can_number()
     }
 
-    /// Whether anything waits to be sent.
-    fn has_waiting(&self) -> bool
-        ensures { result ≡ waits self.now.end }
+    /// Whether something waits beside acknowledgements.
+    fn asks_to_go(&self) -> bool
+        ensures { result ≡ asks_to_go self.now.end }
     {
-        self.space.acknowledging.is_due()
-            || self.space.ping_pending
-            || !self.streams.pending.is_empty(&self.streams.state)
-            || self.message_waits()
-            || self.streams.state.can_send_stream_data()
+        self.space.ping_pending || self.frames_wait()
+    }
+
+    /// The same beside PING.
+    fn frames_wait(&self) -> bool
+        ensures { result ≡ (not (is_empty self.now.end.waiting.frames self.now.end.streams) || (message_waits self.now.end || can_send_stream_data self.now.end.streams)) }
+    {
+        !self.streams.pending.is_empty(&self.streams.state) || self.bytes_wait()
+    }
+
+    /// Whether a message waits that a datagram takes, or bytes of streams.
+    fn bytes_wait(&self) -> bool
+        ensures { result ≡ (message_waits self.now.end || can_send_stream_data self.now.end.streams) }
+    {
+        self.message_waits() || self.streams.state.can_send_stream_data()
     }
 
     /// A PING that waits is taken: whether one did.
@@ -399,7 +468,7 @@ impl<H: HeaderKey + Drop, K: PacketKey + Drop, R: Rng + Drop> Connection<H, K, R
     }
 }
 
-impl<H, K, R> Connection<H, K, R> {
+impl<H, K, R, C: Controller> Connection<H, K, R, C> {
     ghost use Rattle.std.specs.Borrow.{sem};
     ghost use denote.Follow.{follows};
     ghost use Rattle.quic_connection_core.specs.contracts.connection.Connection.{the_row as connection_row};
@@ -419,7 +488,7 @@ impl<H, K, R> Connection<H, K, R> {
     /// All streams of the end, and what waits to be sent beside their bytes: what its handles
     /// borrow.
     pub fn streams_mut(&mut self) -> &mut EndStreams
-        ensures* writes_back { sem 𝓛 (follows (connection_row H.row K.row R.row) streams_row self.entry.ghost_name result.ghost_name (handed_back self.old)) }
+        ensures* writes_back { sem 𝓛 (follows (connection_row H.row K.row R.row C.row C.Controller) streams_row self.entry.ghost_name result.ghost_name (handed_back self.old)) }
         ensures state { result.now.state ≡ self.old.end.streams }
         ensures pending { result.now.pending ≡ self.old.end.waiting.frames }
     {
@@ -428,7 +497,7 @@ impl<H, K, R> Connection<H, K, R> {
 
     /// The streams of the end (quinn-proto's `Connection::streams`).
     pub fn streams(&mut self) -> Streams<'_>
-        ensures* writes_back { sem 𝓛 (follows (connection_row H.row K.row R.row) streams_row self.entry.ghost_name result.streams.ghost_name (handed_back self.old)) }
+        ensures* writes_back { sem 𝓛 (follows (connection_row H.row K.row R.row C.row C.Controller) streams_row self.entry.ghost_name result.streams.ghost_name (handed_back self.old)) }
         ensures state { result.streams.now.state ≡ self.old.end.streams }
         ensures pending { result.streams.now.pending ≡ self.old.end.waiting.frames }
         ensures open { result.is_open ≡ is_open self.old.end.closing.state }
@@ -440,7 +509,7 @@ impl<H, K, R> Connection<H, K, R> {
     /// The sending half of a stream (quinn-proto's `Connection::send_stream`), which may be one
     /// that there is not.
     pub fn send_stream(&mut self, id: StreamId) -> SendStream<'_>
-        ensures* writes_back { sem 𝓛 (follows (connection_row H.row K.row R.row) streams_row self.entry.ghost_name result.streams.ghost_name (handed_back self.old)) }
+        ensures* writes_back { sem 𝓛 (follows (connection_row H.row K.row R.row C.row C.Controller) streams_row self.entry.ghost_name result.streams.ghost_name (handed_back self.old)) }
         ensures state { result.streams.now.state ≡ self.old.end.streams }
         ensures pending { result.streams.now.pending ≡ self.old.end.waiting.frames }
         ensures open { result.is_open ≡ is_open self.old.end.closing.state }
@@ -453,7 +522,7 @@ impl<H, K, R> Connection<H, K, R> {
     /// The receiving half of a stream (quinn-proto's `Connection::recv_stream`), which may be one
     /// that there is not.
     pub fn recv_stream(&mut self, id: StreamId) -> RecvStream<'_>
-        ensures* writes_back { sem 𝓛 (follows (connection_row H.row K.row R.row) streams_row self.entry.ghost_name result.streams.ghost_name (handed_back self.old)) }
+        ensures* writes_back { sem 𝓛 (follows (connection_row H.row K.row R.row C.row C.Controller) streams_row self.entry.ghost_name result.streams.ghost_name (handed_back self.old)) }
         ensures state { result.streams.now.state ≡ self.old.end.streams }
         ensures pending { result.streams.now.pending ≡ self.old.end.waiting.frames }
         ensures stream { result.id ≡ id }

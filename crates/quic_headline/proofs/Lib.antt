@@ -9,3 +9,5 @@ pub mod Channel
 pub mod Amounts
 pub mod Grown
 pub mod Messages
+pub mod Held
+pub mod Steps

@@ -8,3 +8,4 @@ pub mod Causes
 pub mod Moments
 pub mod Grown
 pub mod Messages
+pub mod Polls

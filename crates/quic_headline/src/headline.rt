@@ -13,6 +13,7 @@ ghost use Rattle.quic_headline.specs.Messages.{MessagesAtMostOnce};
 ghost use Rattle.quic_headline.specs.InFlight.{TracksInFlight};
 ghost use Rattle.quic_headline.specs.Causes.{NoBlame, NumberLimit, TooManyPieces, TakenOrTooMany};
 ghost use Rattle.quic_headline.specs.Moments.{LossMoments, LossTimerQuiet, AckMoments};
+ghost use Rattle.quic_headline.specs.Polls.{PollsSendWhatWaits, PollsSendMessages, PacerSetsItsTimer, AskingGoesWhereLet, ProbesPass, WindowIsOfHistory};
 ghost use Rattle.quic_machine.specs.Start.{AreStarted};
 ghost use Rattle.quic_headline.specs.Headline.{IsHonest, IsRun, OrderedPrefix, Slices, Once, EndAfterAll, BlockedOnlyWithoutBytes, AcceptsAll, FinishedMeansArrived, FinishedIsTold, AcknowledgedWereTaken, NamesWereTaken, OpensExactly, NewestOpens, LossTimersFollow, AckTimersFollow, NumbersRise};
 
@@ -201,4 +202,40 @@ pub fn number_limit()
 /// section 4.1).
 pub fn writes_take_what_limits_allow()
     ensures { (r : Run) (end : World) → IsHonest r → IsRun r end → WritesTakeWhatLimitsAllow r }
+{}
+
+/// Where a poll of an open end gives nothing though a byte that was written on a stream, or its end,
+/// is in no datagram that is in flight or was acknowledged, and the stream wasn't reset, either the
+/// congestion window that the view shows has no room for one more datagram beside those in flight,
+/// or the view shows the timer of the pacer set to a later moment (RFC 9002, sections 7 and 7.7).
+pub fn polls_send_what_waits()
+    ensures { (r : Run) (end : World) → IsHonest r → IsRun r end → PollsSendWhatWaits r }
+{}
+
+/// So it is where a message waits (RFC 9221, section 5.4).
+pub fn polls_send_messages()
+    ensures { (r : Run) (end : World) → IsHonest r → IsRun r end → PollsSendMessages r }
+{}
+
+/// The timer of an open end's pacer is set only to the moment that the pacer named in the last poll.
+pub fn pacer_sets_its_timer()
+    ensures { (r : Run) (end : World) → IsHonest r → IsRun r end → PacerSetsItsTimer r }
+{}
+
+/// An ack-eliciting datagram that is no probe goes only where the congestion window has room for it
+/// beside those in flight, and the pacer names no later moment (RFC 9002, sections 7 and 7.7).
+pub fn asking_goes_where_let()
+    ensures { (r : Run) (end : World) → IsHonest r → IsRun r end → AskingGoesWhereLet r }
+{}
+
+/// Where a probe waits at an open end, a poll that leaves it open gives an ack-eliciting datagram,
+/// whatever window and pacer say, and one probe fewer waits (RFC 9002, sections 6.2.4 and 7.5).
+pub fn probes_pass()
+    ensures { (r : Run) (end : World) → IsHonest r → IsRun r end → ProbesPass r }
+{}
+
+/// The window that a view shows is that which the end's controller, as it was when the run began,
+/// shows once it was told what the calls up to there tell (RFC 9002, section 7).
+pub fn window_is_of_history()
+    ensures { (r : Run) (end : World) → IsHonest r → IsRun r end → WindowIsOfHistory r }
 {}

@@ -1,7 +1,8 @@
 -- What an ACK frame makes of an end, and loss detection (RFC 9000, section 13.1; RFC 9002, sections 5 and 6.1).
-use Rattle.std.specs.Prelude.{ℕ, ◌-◌, ◌*◌, ◌^◌, min, Bool, ◌&&◌, if◌then◌else◌, List, [], ◌∷◌, Option, Some, None}
+use Rattle.std.specs.Prelude.{ℕ, ◌-◌, ◌*◌, ◌^◌, min, Bool, true, ◌&&◌, if◌then◌else◌, List, [], ◌∷◌, ◌++◌, Option, Some, None}
 use Rattle.quic_send_buffer.specs.declared.stream_meta.StreamMeta.{StreamMeta}
 use Rattle.quic_wire.specs.Value.{AckValue}
+use Rattle.quic_congestion.specs.Congestion.{Told}
 use Rattle.quic_recovery_core.specs.PendingAcks.{after_subtract}
 use Rattle.quic_time.specs.Clocks.{saturated}
 use Rattle.quic_time.specs.Rtt.{with_sample}
@@ -12,6 +13,7 @@ use Rattle.quic_streams_state.specs.Acked.{after_stream_acked, after_stream_lost
 use Rattle.quic_spaces.specs.Numbers.{cut_against}
 use Rattle.quic_machine.specs.Tracking.{TrackedPacket, Carried, asks_any, acked_by, not_acked_by, loss_delay, Verdict, verdict_at, lost_by, after_detection, after_answered}
 use Rattle.quic_machine.specs.End.{End, with_acknowledging, with_tracking, with_rtt, with_streams, peer_delay}
+use Rattle.quic_machine.specs.Control.{told_packets, told_acks_ended, told_losses}
 
 -- ---- a packet that is acknowledged
 
@@ -99,10 +101,15 @@ told_delay e a = min (saturated (a.delay * 2 ^ e.peer_params.ack_delay_exponent 
 abbrev pub measured : Bool → AckValue → Table TrackedPacket → Option TrackedPacket
 measured rises a acked = if rises && asks_any acked then at acked a.largest else None
 
+-- the number that was next when a round trip was first measured, where one is measured now
+abbrev pub first_measured : Option ℕ → ℕ → Option ℕ
+first_measured None next = Some next
+first_measured (Some first) next = Some first
+
 -- the end with the round trip of a packet as one more sample, if there is one
 abbrev pub sampled : Option TrackedPacket → AckValue → End → End
 sampled None a e = e
-sampled (Some p) a e = with_rtt e (with_sample e.path.rtt (told_delay e a) (e.closing.clock - p.time_sent))
+sampled (Some p) a e = with_rtt e (with_sample e.path.rtt (told_delay e a) (e.closing.clock - p.time_sent)) (first_measured e.path.first_after_rtt e.numbers.next)
 
 -- ---- an ACK frame
 
@@ -123,3 +130,20 @@ after_named (p ∷ ps) rises a e = answered (losses_detected (sampled (measured 
 -- the end after an ACK frame, whose greatest number is counted already
 abbrev pub after_acked : Bool → AckValue → End → End
 after_acked rises a e = after_named (acked_by a e.tracking.packets) rises a e
+
+-- ---- what the controller is told of it (RFC 9002, section 7)
+
+-- of the packets that loss detection finds, by an ACK or by time
+abbrev pub told_detected : Bool → End → List Told
+told_detected by_ack e = told_losses by_ack e (lost_by (verdict e) e.tracking.packets)
+
+-- of an ACK frame that names tracked packets, which are these, or names none: they are acknowledged, this ends, and others are lost
+abbrev pub told_named : Table TrackedPacket → Bool → AckValue → End → List Told
+told_named [] rises a e = []
+told_named (p ∷ ps) rises a e =
+    let acked = without_acked (p ∷ ps) a e in
+    told_packets e (p ∷ ps) ++ told_acks_ended acked ++ told_detected true (sampled (measured rises a (p ∷ ps)) a acked)
+
+-- of an ACK frame, whose greatest number is counted already
+abbrev pub told_acked : Bool → AckValue → End → List Told
+told_acked rises a e = told_named (acked_by a e.tracking.packets) rises a e

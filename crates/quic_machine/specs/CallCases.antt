@@ -1,5 +1,5 @@
 -- What a call leaves, as cases over the parts of an end that it may change.
-use Rattle.std.proofs.Common.{◌≡◌, ℕ, Bool, true, false, List, Option, Some, None, refl}
+use Rattle.std.proofs.Common.{◌≡◌, ℕ, Bool, true, false, List, [], Option, Some, None, refl}
 use Rattle.std.specs.Prelude.{slice_get}
 use Rattle.quic_streams_state.specs.State.{Streams}
 use Rattle.quic_machine.specs.declared.run.Call.{Call}
@@ -7,13 +7,14 @@ use Rattle.quic_machine.specs.declared.run.Call.TheVariants as calls
 use Rattle.quic_machine.specs.declared.run.Answer.{Answer}
 use Rattle.quic_machine.specs.Parts.{Path, IsSamePath, Messaging}
 use Rattle.quic_machine.specs.Policy.{Policy}
-use Rattle.quic_machine.specs.End.{End, with_ping, with_streams, with_messages}
+use Rattle.quic_machine.specs.End.{End, with_ping, with_streams, with_messages, with_window}
+use Rattle.quic_machine.specs.Control.{Control}
 use Rattle.quic_machine.specs.Receive.{received}
 use Rattle.quic_machine.specs.Poll.{polled}
 use Rattle.quic_machine.specs.Calls.{message_told, end_after_event}
 use Rattle.quic_machine.specs.StreamCalls.{is_on_streams}
 use Rattle.quic_machine.specs.MessageCalls.{is_on_messages, IsMessageAnswer, end_on_messages}
-use Rattle.quic_machine.specs.Machine.{IsAnswer, AnswersOnStreams, end_on_streams, after_delivered, after_call}
+use Rattle.quic_machine.specs.Machine.{IsAnswer, AnswersOnStreams, end_on_streams, after_delivered, after_call, end_left}
 use Rattle.quic_machine.specs.InjectionCases.{by_injection}
 use Rattle.quic_machine.specs.LeaveCases.{at_expiry, by_expiry, at_event, by_event}
 
@@ -54,7 +55,7 @@ pub record CallsTo (p : Policy) (e : End) (theirs : List (List ℕ)) (call : Cal
   -- bytes that don't open are handed in: no more than what the path counts changes
   pub heard : (path : Path) → IsSamePath e.path path → P (record e { path = path })
   -- a moment at which timers expire, a poll, a delivery, and what is told
-  pub times : (now : ℕ) (acks loss : Bool) → is_timeout call ≡ true → P (at_expiry e now acks loss)
+  pub times : (now : ℕ) (acks loss pacing : Bool) → is_timeout call ≡ true → P (at_expiry e now acks loss pacing)
   pub polls : (now : ℕ) → is_poll call ≡ true → P (polled p e now).end
   pub hears : (now : ℕ) (d : List ℕ) → is_delivery call ≡ true → P (received p e now d).end
   pub tells : asks_event call ≡ true → P (end_after_event e)
@@ -66,7 +67,7 @@ pub record Plain (p : Policy) (e : End) (call : Call) (P : End → Type 0) : Typ
   pub on_messages : (m : Messaging) → P (with_messages e m)
   pub pings : P (with_ping e true)
   pub heard : (path : Path) → IsSamePath e.path path → P (record e { path = path })
-  pub times : (now : ℕ) (acks loss : Bool) → is_timeout call ≡ true → P (at_expiry e now acks loss)
+  pub times : (now : ℕ) (acks loss pacing : Bool) → is_timeout call ≡ true → P (at_expiry e now acks loss pacing)
   pub polls : (now : ℕ) → is_poll call ≡ true → P (polled p e now).end
   pub hears : (now : ℕ) (d : List ℕ) → is_delivery call ≡ true → P (received p e now d).end
   pub tells : (told : Bool) → P (at_event e told)
@@ -85,7 +86,7 @@ module _ (p : Policy) (e : End) (theirs : List (List ℕ)) (P : End → Type 0) 
   by_call calls.Recv a c = c.on_messages refl (λ is. is)
   by_call calls.Ping a c = c.pings
   by_call (calls.Poll now) a c = c.polls now refl
-  by_call (calls.Timeout now) a c = by_expiry e now P c.same (λ acks loss. c.times now acks loss refl)
+  by_call (calls.Timeout now) a c = by_expiry e now P c.same (λ acks loss pacing. c.times now acks loss pacing refl)
   by_call (calls.Deliver delivery) a c = delivered_case (slice_get theirs delivery.index) delivery.now c.same (λ d. c.hears delivery.now d refl)
   by_call (calls.Inject injection) a c = by_injection p e injection.now injection.bytes P c.same c.heard
   by_call calls.Event a c = c.tells refl
@@ -106,3 +107,8 @@ module _ (p : Policy) (e : End) (theirs : List (List ℕ)) (P : End → Type 0) 
     hears = c.hears;
     tells = λ asks. by_event e P (c.on_messages (message_told e).messages) c.tells;
   })
+
+  -- what holds of an end, whichever window a poll reads, and then in each case, holds of the end that a call leaves
+  pub by_left : P e → ((window : ℕ) → P e → P (with_window e window)) → (control : Control) (call : Call) (a : Answer) → ((x : End) → P x → P (after_call p x theirs call a)) → P (end_left p control e theirs call a)
+  by_left here reads control (calls.Poll now) a step = step (with_window e (control [])) (reads (control []) here)
+  by_left here reads control call a step = step e here

@@ -1,5 +1,5 @@
 -- What holds of a draft, whichever frames go; and that a datagram has a frame.
-use Rattle.std.proofs.Common.{◌≡◌, ℕ, ◌+◌, ◌-◌, ◌≤◌, List, [], ◌∷◌, ◌++◌, Bool, true, false, length, Some, refl, sym, ap, ◌∙◌, subst, arith, nat_lt, ◌⊎◌, inl, inr}
+use Rattle.std.proofs.Common.{◌≡◌, ℕ, ◌+◌, ◌-◌, ◌≤◌, List, [], ◌∷◌, ◌++◌, Bool, true, false, ◌&&◌, ◌||◌, not, length, Some, refl, sym, ap, ◌∙◌, subst, arith, nat_lt, ◌⊎◌, inl, inr}
 use Rattle.std.specs.Prelude.{if◌then◌else◌, map, ◌*◌}
 use Rattle.std.specs.List.{fold}
 use Rattle.std.proofs.lemmas.Bool.{and_parts}
@@ -19,9 +19,11 @@ use Rattle.quic_streams_state.specs.Control as control
 use Rattle.quic_streams_state.specs.Frames as of_streams
 use Rattle.quic_streams_laws.specs.ControlWalk.{GoesOn, by_control, by_stream_frames}
 use Rattle.quic_recovery_core.specs.PendingAcks.{can_send, is_filled}
+use Rattle.quic_recovery_core.specs.declared.spaces.pending_acks.TheConstants.{LAZY_ACK_THRESHOLD}
 use Rattle.quic_spaces.specs.Numbers.{cut_against}
 use Rattle.quic_machine.specs.End.{End, number_of, with_streams, with_ping}
-use Rattle.quic_machine.specs.Poll.{Draft, frame_room, fits, with_frame, left, ping_if, with_ping_frame, behind_control, with_control_frames, with_message, with_messages_of, with_message_frames, behind_stream, no_stream_frames, with_stream_frames, Kind, order, put, with_asking, no_frames, ack_of, with_ack, ack_fits, ack_if, composed_if, composed}
+use Rattle.quic_machine.specs.Control.{Gated}
+use Rattle.quic_machine.specs.Poll.{Draft, frame_room, fits, with_frame, left, ping_if, with_ping_frame, behind_control, with_control_frames, with_message, with_messages_of, with_message_frames, behind_stream, no_stream_frames, with_stream_frames, Kind, order, put, with_asking, no_frames, ack_of, with_ack, ack_fits, ack_if, composed_if, composed, asks_to_go, lazied, goes, draft_if}
 use Rattle.quic_machine.specs.Poll as poll
 
 -- a number takes four bytes at most
@@ -193,3 +195,19 @@ by_writing P w e p = go (can_send e.acknowledging) refl
     go : (b : Bool) → can_send e.acknowledging ≡ b → P (composed_if b e)
     go true due = by_asking P w (with_ack (no_frames e)) (w.ack (no_frames e) (and_parts e.acknowledging.due (is_filled e.acknowledging.runs) due).1 (inl refl) p)
     go false due = late_keeps P w (ack_fits (with_asking (no_frames e))) (with_asking (no_frames e)) refl (by_asking P w (no_frames e) p)
+
+-- what goes where something goes: what is composed, or a due ACK alone
+pub by_leave : (P : Draft → Type 0) → Writing P → (held : Bool) (e : End) → (held ≡ true → can_send e.acknowledging ≡ true) → P (no_frames e) → P (draft_if held e)
+by_leave P w true e due p = w.ack (no_frames e) (and_parts e.acknowledging.due (is_filled e.acknowledging.runs) (due refl)).1 (inl refl) p
+by_leave P w false e due p = by_writing P w e p
+
+-- where what asks is held back, something goes only where an ACK is due
+pub due_alone : (g : Gated) → goes g ≡ true → g.held ≡ true → can_send (lazied g.end).acknowledging ≡ true
+due_alone g is held = go g.end.acknowledging.due (is_filled g.end.acknowledging.runs) g.held held is
+  where
+    go : (due filled held : Bool) → held ≡ true → (due && filled) || (not held && asks_to_go g.end) ≡ true → (due || nat_lt LAZY_ACK_THRESHOLD g.end.acknowledging.silent) && filled ≡ true
+    go true true true h is = refl
+    go true false true h is = absurd cc
+    go false true true h is = absurd cc
+    go false false true h is = absurd cc
+    go due filled false h is = absurd cc

@@ -1,4 +1,5 @@
--- One end of a connection (RFC 9000, section 5): a record of parts, one for each concern, and beside it the keys and the random source.
+-- One end of a connection (RFC 9000, section 5): a record of parts, one for each concern, and beside it the keys, the random source and the congestion
+-- controller.
 use Rattle.std.specs.Prelude.{◌≡◌, ℕ, ◌+◌, ◌-◌, ◌*◌, Bool, ◌==◌, ◌||◌, not, nat_lt, if◌then◌else◌, List, length, false, Option, Some, None, Result, Ok, Err}
 use Rattle.quic_wire_core.specs.declared.stream_id.Side.{Side}
 use Rattle.quic_packet.specs.Keys.{Protection, Aead}
@@ -8,7 +9,7 @@ use Rattle.quic_parameters.specs.ParametersRead.{parameters_at}
 use Rattle.quic_machine.specs.declared.answers.State.TheVariants as states
 use Rattle.quic_machine.specs.declared.answers.ConfigError.{ConfigError}
 use Rattle.quic_machine.specs.declared.answers.ConfigError.TheVariants as config_errors
-use Rattle.quic_config.specs.Transport.{Settings, TransportSettings, transport_of}
+use Rattle.quic_config.specs.Transport.{Settings, TransportSettings, transport_of, first_mtu}
 use Rattle.quic_recovery_core.specs.PendingAcks.{Pending, none_pending}
 use Rattle.quic_time.specs.Clocks.{saturated}
 use Rattle.quic_time.specs.Rtt as rtt
@@ -21,7 +22,7 @@ use Rattle.quic_spaces.specs.Filter.{Filter, first_filter, allocated, after_allo
 use Rattle.quic_machine.specs.Tracking.{Tracking, nothing_tracked, loss_moment}
 use Rattle.quic_streams_state.specs.declared.state.StreamsState.{StreamsState}
 use Rattle.quic_streams_state.specs.State.{Streams, streams_of, new_streams, after_set_params}
-use Rattle.quic_machine.specs.Parts.{Path, first_path, Messaging, no_messaging, with_queues, Waiting, nothing_waits}
+use Rattle.quic_machine.specs.Parts.{Path, Windows, first_path, Messaging, no_messaging, with_queues, Waiting, nothing_waits}
 use Rattle.quic_messages.specs.Messages.{Messages}
 use Rattle.quic_machine.specs.Policy.{Policy, keys_policy}
 
@@ -48,28 +49,29 @@ pub record End : Type 0 where
   pub messages : Messaging
   pub waiting : Waiting
 
--- an end with its keys and its random source
-pub record ConnectionValue (H K R : Type 0) : Type 0 where
+-- an end with its keys, its random source and its controller
+pub record ConnectionValue (H K R C : Type 0) : Type 0 where
   pub keys : Keys H K
   pub random : R
+  pub control : C
   pub end : End
 
--- the same keys and random source, and another end
-abbrev pub with_end : {H K R : Type 0} → ConnectionValue H K R → End → ConnectionValue H K R
+-- the same keys, random source and controller, and another end
+abbrev pub with_end : {H K R C : Type 0} → ConnectionValue H K R C → End → ConnectionValue H K R C
 with_end w e = record w { end = e }
 
 -- what the keys of an end do: it protects with the local ones, and opens with the remote ones; and which words its random source answers from here on, by how many
 -- it answered before
-abbrev pub policy_of : {H K R : Type 0} → (H → Protection) → (K → Aead) → (R → ℕ → ℕ) → ConnectionValue H K R → Policy
+abbrev pub policy_of : {H K R C : Type 0} → (H → Protection) → (K → Aead) → (R → ℕ → ℕ) → ConnectionValue H K R C → Policy
 policy_of protection aead words w = keys_policy protection aead w.keys (λ n. words w.random (n - w.end.filter.drawn))
 
 -- no stream is opened: the peer's parameters are the limits on what is sent, the own settings those on what comes
 abbrev pub first_streams : Side → Settings → ParameterValues → StreamsState
 first_streams side settings theirs = after_set_params (new_streams side settings.max_uni settings.max_bidi settings.send_window settings.receive_window settings.stream_receive_window) theirs
 
--- an end as it is made at a moment, whose random source answers this word first
-abbrev pub new_end : Side → Settings → ParameterValues → List ℕ → List ℕ → ℕ → Bool → ℕ → End
-new_end side settings theirs own_id peer_id now validated word = record {
+-- an end as it is made at a moment, whose random source answers this word first, and whose controller shows these windows
+abbrev pub new_end : Side → Settings → Windows → ParameterValues → List ℕ → List ℕ → ℕ → Bool → ℕ → End
+new_end side settings windows theirs own_id peer_id now validated word = record {
   closing = record { clock = now; state = states.Open; reason = None; told = false };
   ids = first_ids own_id peer_id;
   numbers = no_numbers;
@@ -77,7 +79,7 @@ new_end side settings theirs own_id peer_id now validated word = record {
   acknowledging = none_pending;
   timers = no_timers;
   tracking = nothing_tracked now;
-  path = first_path validated settings.initial_rtt;
+  path = first_path validated (transport_of settings) windows now;
   transport = transport_of settings;
   peer_params = theirs;
   streams = first_streams side settings theirs;
@@ -125,9 +127,13 @@ with_ack_timer_at e moment = record e { timers = with_ack_timer e.timers moment 
 abbrev pub with_tracking : End → Tracking → End
 with_tracking e t = record e { tracking = t }
 
--- the end with another estimate of the round trip
-abbrev pub with_rtt : End → rtt.Rtt → End
-with_rtt e r = record e { path = record e.path { rtt = r } }
+-- the end with another estimate of the round trip, and the number that was next when one was first measured
+abbrev pub with_rtt : End → rtt.Rtt → Option ℕ → End
+with_rtt e r first = record e { path = record e.path { rtt = r; first_after_rtt = first } }
+
+-- the end that reads this window of its controller
+abbrev pub with_window : End → ℕ → End
+with_window e window = record e { path = record e.path { window = window } }
 
 -- ---- the loss timer (RFC 9002, section 6.2)
 
@@ -169,10 +175,10 @@ with_ping e waits = with_waiting e (record e.waiting { ping = waits })
 
 -- an end that met want of memory where a datagram was taken or given, or packets were lost at a timeout: it is failed for good, for no reason, and
 -- keeps its keys and its random source. What else stands in it isn't said
-pub record HasFailed {H K R : Type 0} (old new : ConnectionValue H K R) : Type 0 where
+pub record HasFailed {H K R C : Type 0} (old new : ConnectionValue H K R C) : Type 0 where
   pub state : new.end.closing.state ≡ states.Failed
   pub reason : new.end.closing.reason ≡ None
-  pub keys : new ≡ with_end old new.end
+  pub keys : new ≡ record old { end = new.end; control = new.control }
 
 -- ---- making an end
 
@@ -184,19 +190,24 @@ most_payload = 65527
 abbrev pub are_sizes_wrong : Settings → ParameterValues → Bool
 are_sizes_wrong settings theirs = nat_lt most_payload settings.initial_mtu || nat_lt most_payload settings.min_mtu || nat_lt theirs.max_udp_payload_size settings.min_mtu
 
--- why no end is made, want of memory aside, the first in this order: the peer's parameters can't be read; the own id hasn't eight bytes, or the peer's has none; or
--- the sizes of datagrams can't be
-abbrev pub refusal_of : {E : Type 0} → Settings → Result ParameterValues E → List ℕ → List ℕ → Option ConfigError
-refusal_of settings (Err e) own_id peer_id = Some config_errors.Parameters
-refusal_of settings (Ok theirs) own_id peer_id =
+-- whether two datagrams of the size that a path begins with don't fit the window (RFC 9002, section 7.2)
+abbrev pub is_window_small : Settings → ℕ → Bool
+is_window_small settings window = nat_lt window (2 * first_mtu (transport_of settings))
+
+-- why no end is made, want of memory aside, the first in this order: the peer's parameters can't be read; the own id hasn't eight bytes, or the peer's has none;
+-- the sizes of datagrams can't be; or the controller's window is too small
+abbrev pub refusal_of : {E : Type 0} → Settings → ℕ → Result ParameterValues E → List ℕ → List ℕ → Option ConfigError
+refusal_of settings window (Err e) own_id peer_id = Some config_errors.Parameters
+refusal_of settings window (Ok theirs) own_id peer_id =
     if not (length own_id == 8) || (length peer_id == 0) then Some config_errors.IdLength
-    else (if are_sizes_wrong settings theirs then Some config_errors.Size else None)
+    else (if are_sizes_wrong settings theirs then Some config_errors.Size
+    else (if is_window_small settings window then Some config_errors.Window else None))
 
 -- an end is made of what was read of the peer's parameters
-abbrev pub IsMade : {E : Type 0} → Side → Settings → Result ParameterValues E → List ℕ → List ℕ → ℕ → Bool → ℕ → End → Type 0
-IsMade side settings (Ok theirs) own_id peer_id now validated word e = e ≡ new_end side settings theirs own_id peer_id now validated word
-IsMade side settings (Err error) own_id peer_id now validated word e = ⊥
+abbrev pub IsMade : {E : Type 0} → Side → Settings → Windows → Result ParameterValues E → List ℕ → List ℕ → ℕ → Bool → ℕ → End → Type 0
+IsMade side settings windows (Ok theirs) own_id peer_id now validated word e = e ≡ new_end side settings windows theirs own_id peer_id now validated word
+IsMade side settings windows (Err error) own_id peer_id now validated word e = ⊥
 
 -- an end is made of the peer's parameters as bytes
-abbrev pub MadeFrom : Side → Settings → List ℕ → List ℕ → List ℕ → ℕ → Bool → ℕ → End → Type 0
-MadeFrom side settings bytes own_id peer_id now validated word e = IsMade side settings (parameters_at bytes) own_id peer_id now validated word e
+abbrev pub MadeFrom : Side → Settings → Windows → List ℕ → List ℕ → List ℕ → ℕ → Bool → ℕ → End → Type 0
+MadeFrom side settings windows bytes own_id peer_id now validated word e = IsMade side settings windows (parameters_at bytes) own_id peer_id now validated word e

@@ -68,7 +68,7 @@ pub record Settling (P : End → Type 0) : Type 0 where
   -- fewer packets are tracked
   pub tracked : (t : Tracking) (e : End) → P e → P (with_tracking e t)
   -- the round trip is measured
-  pub measured : (r : Rtt) (e : End) → P e → P (with_rtt e r)
+  pub measured : (r : Rtt) (first : Option ℕ) (e : End) → P e → P (with_rtt e r first)
 
 module _ (P : End → Type 0) (c : Settling P) where
   -- what the peer knows of, if anything
@@ -95,7 +95,7 @@ module _ (P : End → Type 0) (c : Settling P) where
   -- a round trip is measured, if one is
   sampled_keeps : (o : Option TrackedPacket) (a : AckValue) (e : End) → P e → P (sampled o a e)
   sampled_keeps None a e i = i
-  sampled_keeps (Some p) a e i = c.measured (sampled (Some p) a e).path.rtt e i
+  sampled_keeps (Some p) a e i = c.measured (sampled (Some p) a e).path.rtt (sampled (Some p) a e).path.first_after_rtt e i
 
   -- an ACK frame that names these packets
   named_keeps : (ps : Table TrackedPacket) (rises : Bool) (a : AckValue) (e : End) → P e → P (after_named ps rises a e)

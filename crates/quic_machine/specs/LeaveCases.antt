@@ -12,7 +12,7 @@ use Rattle.quic_machine.specs.Tracking.{Tracking, lost_by}
 use Rattle.quic_machine.specs.End.{End, with_closing, with_loss_timer}
 use Rattle.quic_machine.specs.Acked.{losses_detected, verdict}
 use Rattle.quic_machine.specs.FrameCases.{packets_lost_keep}
-use Rattle.quic_machine.specs.Timeouts.{acks_expired, loss_judged, loss_expired, timed_out_in, timed_out}
+use Rattle.quic_machine.specs.Timeouts.{acks_expired, loss_judged, loss_expired, pacing_expired, timed_out_in, timed_out}
 use Rattle.quic_machine.specs.Calls.{streams_told, closing_told, tells_message, message_told, others_told, end_after_event}
 
 -- ---- a timeout
@@ -25,9 +25,9 @@ at_timeout e now acks tracking timers = record e { closing = ticked e.closing no
 abbrev pub at_losses : End → ℕ → Pending → Timers → End
 at_losses e now acks timers = record (losses_detected (with_closing e (ticked e.closing now))) { acknowledging = acks; timers = timers }
 
--- an end that took a moment over, at which each of two timers expired or didn't
-abbrev pub at_expiry : End → ℕ → Bool → Bool → End
-at_expiry e now acks loss = with_loss_timer (acks_expired acks (loss_expired loss (with_closing e (ticked e.closing now))))
+-- an end that took a moment over, at which each of three timers expired or didn't
+abbrev pub at_expiry : End → ℕ → Bool → Bool → Bool → End
+at_expiry e now acks loss pacing = with_loss_timer (pacing_expired pacing (acks_expired acks (loss_expired loss (with_closing e (ticked e.closing now)))))
 
 -- losses change none of the packets to acknowledge
 losses_leave : (e : End) → (losses_detected e).acknowledging ≡ e.acknowledging
@@ -37,8 +37,8 @@ losses_leave e = packets_lost_keep (λ (x : End). x.acknowledging ≡ e.acknowle
 pub by_expired : (e : End) (now : ℕ) (P : End → Type 0)
     → ((acks : Pending) (tracking : Tracking) (timers : Timers) → acks.runs ≡ e.acknowledging.runs → tracking.packets ≡ e.tracking.packets → P (at_timeout e now acks tracking timers))
     → ((acks : Pending) (timers : Timers) → acks.runs ≡ e.acknowledging.runs → P (at_losses e now acks timers))
-    → (acks loss : Bool) → P (at_expiry e now acks loss)
-by_expired e now P changes loses acks loss = go acks loss e.tracking.loss_time refl
+    → (acks loss pacing : Bool) → P (at_expiry e now acks loss pacing)
+by_expired e now P changes loses acks loss pacing = go acks loss pacing e.tracking.loss_time refl
   where
     begun : End
     begun = with_closing e (ticked e.closing now)
@@ -49,23 +49,33 @@ by_expired e now P changes loses acks loss = go acks loss e.tracking.loss_time r
     runs : lost.acknowledging.runs ≡ e.acknowledging.runs
     runs = ap (λ (a : Pending). a.runs) (losses_leave begun)
 
-    judged : (acks : Bool) (o : Option ℕ) → P (with_loss_timer (acks_expired acks (loss_judged o begun)))
-    judged true None = let f = with_loss_timer (acks_expired true (loss_judged None begun)) in changes f.acknowledging f.tracking f.timers refl refl
-    judged false None = let f = with_loss_timer (loss_judged None begun) in changes e.acknowledging f.tracking f.timers refl refl
-    judged true (Some moment) = let f = with_loss_timer (acks_expired true lost) in loses f.acknowledging f.timers runs
-    judged false (Some moment) = let f = with_loss_timer lost in loses f.acknowledging f.timers runs
+    -- the end behind its timers
+    after : Bool → End → End
+    after pacing x = with_loss_timer (pacing_expired pacing x)
 
-    go : (acks loss : Bool) (o : Option ℕ) → e.tracking.loss_time ≡ o → P (with_loss_timer (acks_expired acks (loss_expired loss begun)))
-    go acks true o is = judged acks e.tracking.loss_time
-    go true false o is = let f = with_loss_timer (acks_expired true begun) in changes f.acknowledging e.tracking f.timers refl refl
-    go false false o is = let f = with_loss_timer begun in changes e.acknowledging e.tracking f.timers refl refl
+    judged : (acks pacing : Bool) (o : Option ℕ) → P (after pacing (acks_expired acks (loss_judged o begun)))
+    judged true true None = let f = after true (acks_expired true (loss_judged None begun)) in changes f.acknowledging f.tracking f.timers refl refl
+    judged true false None = let f = after false (acks_expired true (loss_judged None begun)) in changes f.acknowledging f.tracking f.timers refl refl
+    judged false true None = let f = after true (loss_judged None begun) in changes e.acknowledging f.tracking f.timers refl refl
+    judged false false None = let f = after false (loss_judged None begun) in changes e.acknowledging f.tracking f.timers refl refl
+    judged true true (Some moment) = let f = after true (acks_expired true lost) in loses f.acknowledging f.timers runs
+    judged true false (Some moment) = let f = after false (acks_expired true lost) in loses f.acknowledging f.timers runs
+    judged false true (Some moment) = let f = after true lost in loses f.acknowledging f.timers runs
+    judged false false (Some moment) = let f = after false lost in loses f.acknowledging f.timers runs
+
+    go : (acks loss pacing : Bool) (o : Option ℕ) → e.tracking.loss_time ≡ o → P (after pacing (acks_expired acks (loss_expired loss begun)))
+    go acks true pacing o is = judged acks pacing e.tracking.loss_time
+    go true false true o is = let f = after true (acks_expired true begun) in changes f.acknowledging e.tracking f.timers refl refl
+    go true false false o is = let f = after false (acks_expired true begun) in changes f.acknowledging e.tracking f.timers refl refl
+    go false false true o is = let f = after true begun in changes e.acknowledging e.tracking f.timers refl refl
+    go false false false o is = let f = after false begun in changes e.acknowledging e.tracking f.timers refl refl
 
 -- an end that isn't open has no timer
-pub by_expiry : (e : End) (now : ℕ) (P : End → Type 0) → P e → ((acks loss : Bool) → P (at_expiry e now acks loss)) → P (timed_out e now).end
+pub by_expiry : (e : End) (now : ℕ) (P : End → Type 0) → P e → ((acks loss pacing : Bool) → P (at_expiry e now acks loss pacing)) → P (timed_out e now).end
 by_expiry e now P same expires = go e.closing.state
   where
     go : (state : State) → P (timed_out_in state e now).end
-    go states.Open = expires (has_come e.timers.max_ack_delay (ticked e.closing now).clock) (has_come e.timers.loss_detection (ticked e.closing now).clock)
+    go states.Open = let clock = (ticked e.closing now).clock in expires (has_come e.timers.max_ack_delay clock) (has_come e.timers.loss_detection clock) (has_come e.timers.pacing clock)
     go states.Closing = same
     go states.Drained = same
     go states.Failed = same

@@ -1,5 +1,6 @@
 pub mod Policy
 pub mod Closing
+pub mod Control
 pub mod Ids
 pub mod Parts
 pub mod Tracking

@@ -13,16 +13,18 @@ use Rattle.quic_machine.specs.declared.run.Answer.{Answer}
 use Rattle.quic_machine.specs.declared.run.Answer.TheVariants as answers
 use Rattle.quic_machine.specs.declared.run.EndView.{EndView}
 use Rattle.quic_machine.specs.declared.run.View.{View}
+use Rattle.quic_congestion.specs.Congestion.{Told}
 use Rattle.quic_machine.specs.Policy.{Policy}
-use Rattle.quic_machine.specs.End.{End, streams_at, with_streams}
+use Rattle.quic_machine.specs.End.{End, streams_at, with_streams, with_window}
+use Rattle.quic_machine.specs.Control.{Control, after_told}
 use Rattle.quic_time.specs.Timers.{no_timers, timer_at, each_timer, next_timer}
 use Rattle.quic_machine.specs.Opens.{would_open}
-use Rattle.quic_machine.specs.Timeouts.{timed_out}
+use Rattle.quic_machine.specs.Timeouts.{timed_out, told_timed_out}
 use Rattle.quic_machine.specs.Calls.{is_open, end_tells, end_after_event, end_after_ping}
 use Rattle.quic_machine.specs.StreamCalls.{IsStreamAnswer, after_on_streams}
 use Rattle.quic_machine.specs.MessageCalls.{IsMessageAnswer, end_on_messages}
-use Rattle.quic_machine.specs.Receive.{received}
-use Rattle.quic_machine.specs.Poll.{polled}
+use Rattle.quic_machine.specs.Receive.{received, told_received}
+use Rattle.quic_machine.specs.Poll.{polled, told_polled}
 use Rattle.quic_machine.specs.Lacking.{LacksWhere}
 
 -- ---- one call at one end; `theirs` are the datagrams that the other end gave
@@ -82,6 +84,18 @@ after_call p e theirs (calls.Timer timer) a = e
 after_call p e theirs calls.NextTimeout a = e
 after_call p e theirs call a = end_on_streams e call a
 
+-- what the controller is told of a delivery
+abbrev pub told_delivered : Policy → End → ℕ → Option (List ℕ) → List Told
+told_delivered p e now None = []
+told_delivered p e now (Some d) = told_received p e now d
+
+-- what the controller is told of a call, where memory served (RFC 9002, section 7): an injection that is made tells nothing, since it doesn't open
+abbrev pub tells : Policy → End → List (List ℕ) → Call → List Told
+tells p e theirs (calls.Poll now) = told_polled e now
+tells p e theirs (calls.Timeout now) = told_timed_out e now
+tells p e theirs (calls.Deliver delivery) = told_delivered p e delivery.now (slice_get theirs delivery.index)
+tells p e theirs call = []
+
 -- the datagrams that a call gives
 abbrev pub gives : Policy → End → Call → Answer → List (List ℕ)
 gives p e (calls.Poll now) (answers.Poll (Ok (Some transmit))) = option_to_list (polled p e now).datagram
@@ -98,26 +112,41 @@ fails a = false
 abbrev pub HasStopped : End → End → Type 0
 HasStopped e next = (next.closing.state ≡ states.Failed) × (next.closing.reason ≡ None) × (e.closing.state ≡ states.Failed → next ≡ e) × (e.closing.state ≢ states.Failed → next.timers ≡ no_timers)
 
+-- an end to which a call comes: a poll reads which window its controller shows
+abbrev pub reads_window : Control → Call → End → End
+reads_window control (calls.Poll now) e = with_window e (control [])
+reads_window control call e = e
+
 -- the end that a call leaves
-abbrev pub IsLeft : Bool → Policy → End → List (List ℕ) → Call → Answer → End → Type 0
-IsLeft true p e theirs call a next = HasStopped e next
-IsLeft false p e theirs call a next = next ≡ after_call p e theirs call a
+abbrev pub end_left : Policy → Control → End → List (List ℕ) → Call → Answer → End
+end_left p control e theirs call a = after_call p (reads_window control call e) theirs call a
+
+abbrev pub IsLeft : Bool → Policy → Control → End → List (List ℕ) → Call → Answer → End → Type 0
+IsLeft true p control e theirs call a next = HasStopped e next
+IsLeft false p control e theirs call a next = next ≡ end_left p control e theirs call a
+
+-- the controller that a call leaves: of an end that fails nothing is said
+abbrev pub IsTold : Bool → Policy → Control → End → List (List ℕ) → Call → Control → Type 0
+IsTold true p control e theirs call next = Unit {0}
+IsTold false p control e theirs call next = next ≡ after_told control (tells p (reads_window control call e) theirs call)
 
 -- ---- two ends
 
--- both ends, and the datagrams that each has given, in their order
+-- both ends, the datagrams that each has given, in their order, and the controller of each
 pub record World : Type 0 where
   pub client : End
   pub server : End
   pub from_client : List (List ℕ)
   pub from_server : List (List ℕ)
+  pub client_control : Control
+  pub server_control : Control
 
--- what the keys of both ends do
+-- what the keys and the random sources of both ends do
 pub record Policies : Type 0 where
   pub client : Policy
   pub server : Policy
 
--- what the keys of one of the ends do
+-- those of one of the ends
 abbrev pub policy_at : Side → Policies → Policy
 policy_at Client k = k.client
 policy_at Server k = k.server
@@ -132,32 +161,42 @@ abbrev pub given_by : Side → World → List (List ℕ)
 given_by Client w = w.from_client
 given_by Server w = w.from_server
 
--- that end changes, and gives these datagrams
-abbrev pub changed : Side → World → End → List (List ℕ) → World
-changed Client w e ds = record w { client = e; from_client = w.from_client ++ ds }
-changed Server w e ds = record w { server = e; from_server = w.from_server ++ ds }
+-- the controller of one of the ends
+abbrev pub control_at : Side → World → Control
+control_at Client w = w.client_control
+control_at Server w = w.server_control
+
+-- that end changes, gives these datagrams, and has this controller
+abbrev pub changed : Side → World → End → List (List ℕ) → Control → World
+changed Client w e ds control = record w { client = e; from_client = w.from_client ++ ds; client_control = control }
+changed Server w e ds control = record w { server = e; from_server = w.from_server ++ ds; server_control = control }
+
+-- the end to which an event comes
+abbrev pub end_met : World → RunEvent → End
+end_met w event = reads_window (control_at event.side w) event.call (end_at event.side w)
 
 -- an event may be answered so, lacking memory only where its call takes some, and leave the world so
 pub record IsStep (k : Policies) (w : World) (event : RunEvent) (a : Answer) (next : World) : Type 0 where
-  pub answer : IsAnswer (policy_at event.side k) (end_at event.side w) (given_by (other_side event.side) w) event.call a
-  pub end : IsLeft (fails a) (policy_at event.side k) (end_at event.side w) (given_by (other_side event.side) w) event.call a (end_at event.side next)
-  pub others : next ≡ changed event.side w (end_at event.side next) (gives (policy_at event.side k) (end_at event.side w) event.call a)
-  pub lacking : LacksWhere (policy_at event.side k) (end_at event.side w) (given_by (other_side event.side) w) event.call a
+  pub answer : IsAnswer (policy_at event.side k) (end_met w event) (given_by (other_side event.side) w) event.call a
+  pub end : IsLeft (fails a) (policy_at event.side k) (control_at event.side w) (end_at event.side w) (given_by (other_side event.side) w) event.call a (end_at event.side next)
+  pub control : IsTold (fails a) (policy_at event.side k) (control_at event.side w) (end_at event.side w) (given_by (other_side event.side) w) event.call (control_at event.side next)
+  pub others : next ≡ changed event.side w (end_at event.side next) (gives (policy_at event.side k) (end_met w event) event.call a) (control_at event.side next)
+  pub lacking : LacksWhere (policy_at event.side k) (end_met w event) (given_by (other_side event.side) w) event.call a
 
--- what is seen of an end; what this stage has no call for is not there
-abbrev pub end_view : End → EndView
-end_view e = record {
+-- what is seen of an end and its controller; what this stage has no call for is not there
+abbrev pub end_view : Control → End → EndView
+end_view control e = record {
   state = e.closing.state;
   reason = e.closing.reason;
   validated = e.path.validated;
   timers = each_timer e.timers;
-  window = None;
+  window = Some (control []);
   current_mtu = None;
 }
 
 -- what is seen of both ends
 abbrev pub view_of : World → View
-view_of w = record { client = end_view w.client; server = end_view w.server }
+view_of w = record { client = end_view w.client_control w.client; server = end_view w.server_control w.server }
 
 -- These answers and views may come of the first of these events, one of each for each event in turn, and leave the world so.
 abbrev pub Follows : Policies → World → List RunEvent → List Answer → List View → World → Type 0

@@ -1,30 +1,54 @@
 -- Parts of an end of which this stage uses little: each has its place, so that what comes adds fields and moves none.
-use Rattle.std.specs.Prelude.{◌≡◌, ℕ, Bool, false}
+use Rattle.std.specs.Prelude.{◌≡◌, ℕ, Bool, false, Option, None}
 use Rattle.quic_time.specs.Rtt.{Rtt, assumed_rtt}
+use Rattle.quic_config.specs.Transport.{TransportSettings, first_mtu}
+use Rattle.quic_congestion.specs.Pacer.{Pacing, new_pacing}
 use Rattle.quic_retransmits.specs.Retransmits as retransmits
 use Rattle.quic_messages.specs.Messages.{Messages, no_messages}
 
--- the path to the peer (RFC 9000, section 8), how many bytes a datagram has at most that it takes (section 14), and how long a round trip takes (RFC 9002,
--- section 5)
+-- the path to the peer
 pub record Path : Type 0 where
+  -- whether the peer's address is validated (RFC 9000, section 8), which path of the connection it is (section 9), and how many bytes a datagram has at most
+  -- that it takes (section 14)
   pub validated : Bool
   pub generation : ℕ
   pub size : ℕ
+  -- how long a round trip takes (RFC 9002, section 5), and which number was next when one was first measured (section 7.6.2)
   pub rtt : Rtt
+  pub first_after_rtt : Option ℕ
+  -- how many bytes may be in flight, as its controller showed at the last poll (section 7), and how sending is spread (section 7.7)
+  pub window : ℕ
+  pub pacing : Pacing
+  -- whether the last poll gave nothing though neither window nor pacer held anything back (section 7.8)
+  pub app_limited : Bool
 
--- how many bytes each path takes (section 14.1)
-abbrev pub least_path_size : ℕ
-least_path_size = 1200
+-- the window with which a controller begins, and the one that it shows when it is made
+pub record Windows : Type 0 where
+  pub initial : ℕ
+  pub present : ℕ
 
--- the first path, validated or not, on which a round trip is taken to last so long
-abbrev pub first_path : Bool → ℕ → Path
-first_path validated initial_rtt = record { validated = validated; generation = 0; size = least_path_size; rtt = assumed_rtt initial_rtt }
+-- the first path, validated or not, made at a moment by these settings, with a controller that shows these windows
+abbrev pub first_path : Bool → TransportSettings → Windows → ℕ → Path
+first_path validated settings windows now = record {
+  validated = validated;
+  generation = 0;
+  size = first_mtu settings;
+  rtt = assumed_rtt settings.initial_rtt;
+  first_after_rtt = None;
+  window = windows.present;
+  pacing = new_pacing settings.initial_rtt windows.initial (first_mtu settings) now;
+  app_limited = false;
+}
 
 -- the same path, whatever came on it
 pub record IsSamePath (p q : Path) : Type 0 where
   pub generation : q.generation ≡ p.generation
   pub size : q.size ≡ p.size
   pub rtt : q.rtt ≡ p.rtt
+  pub first_after_rtt : q.first_after_rtt ≡ p.first_after_rtt
+  pub window : q.window ≡ p.window
+  pub pacing : q.pacing ≡ p.pacing
+  pub app_limited : q.app_limited ≡ p.app_limited
 
 -- messages that wait to be sent and those that came and weren't read (RFC 9221), and how often the application has still to be told that one came while none
 -- was unread

@@ -1,5 +1,5 @@
 -- What an end gives when it is polled (RFC 9000, sections 12.2, 13.3 and 14.1).
-use Rattle.std.specs.Prelude.{ℕ, ◌+◌, ◌-◌, ◌≡◌, Bool, true, false, ◌&&◌, ◌||◌, not, nat_le, nat_lt, if◌then◌else◌, List, [], ◌∷◌, ◌++◌, map, length, replicate, Option, Some, None, Result, Ok, Err}
+use Rattle.std.specs.Prelude.{ℕ, ◌+◌, ◌-◌, ◌≡◌, Bool, true, false, ◌&&◌, ◌||◌, ◌==◌, not, nat_le, nat_lt, if◌then◌else◌, List, [], ◌∷◌, ◌++◌, map, length, replicate, ◌⊎◌, Option, Some, None, IsSome, Result, Ok, Err}
 use Rattle.std.specs.List.{list_any, fold}
 use Rattle.std.specs.Option.{is_some}
 use Rattle.quic_wire_core.specs.declared.shared.EcnCodepoint.TheVariants.{Ect0}
@@ -21,6 +21,7 @@ use Rattle.quic_machine.specs.declared.answers.Failed.{Failed}
 use Rattle.quic_machine.specs.declared.answers.Transmit.{Transmit}
 use Rattle.quic_machine.specs.declared.answers.State.TheVariants as states
 use Rattle.quic_machine.specs.declared.answers.LostReason.TheVariants as reasons
+use Rattle.quic_congestion.specs.Congestion.{Told}
 use Rattle.quic_recovery_core.specs.PendingAcks.{can_send, is_filled, after_acks_sent, after_lazy}
 use Rattle.quic_spaces.specs.Acknowledging.{delay_at}
 use Rattle.quic_machine.specs.Tracking.{TrackedPacket, carried_in, after_sent, without_record}
@@ -29,6 +30,7 @@ use Rattle.quic_spaces.specs.Numbers.{can_number, cut_against}
 use Rattle.quic_spaces.specs.Records.{first_record}
 use Rattle.quic_machine.specs.Policy.{Policy}
 use Rattle.quic_machine.specs.End.{End, with_closing, closed_by, number_of, with_number_given, with_acknowledging, with_ack_timer_at, with_tracking, with_loss_timer, with_streams, with_queued, with_waiting, with_ping}
+use Rattle.quic_machine.specs.Control.{is_window_full, Gated, gated_if, paid, with_pacing_timer, with_app_limited, told_sent}
 
 -- the most bytes of a datagram (RFC 9000, section 14.1)
 abbrev pub current_mtu : ℕ
@@ -203,7 +205,7 @@ asking frames = list_any asks frames
 abbrev pub datagram_size : Draft → ℕ
 datagram_size d = 1 + length d.end.ids.active.id + (truncated (number_of d.end) (cut_against d.end.numbers)).width + length (payload_of d) + 16
 
--- the packet as it is tracked: it counts against the congestion window where it asks for an acknowledgement (RFC 9002, section 2)
+-- the packet as it is tracked: it is in flight where it asks for an acknowledgement (RFC 9002, section 2)
 abbrev pub packet_of : Draft → TrackedPacket
 packet_of d = record {
   generation = d.end.path.generation;
@@ -217,9 +219,14 @@ packet_of d = record {
 abbrev pub tracked : Draft → End
 tracked d = with_tracking d.end (after_sent d.end.tracking (number_of d.end) (packet_of d))
 
+-- the datagram takes tokens of the pacer where it asks (RFC 9002, section 7.7)
+abbrev pub paid_if : Bool → End → ℕ → End
+paid_if true e size = paid e size
+paid_if false e size = e
+
 -- the end after it went
 abbrev pub after_given : Policy → Draft → End
-after_given p d = with_loss_timer (with_number_given (p.words d.end.filter.drawn) (tracked d))
+after_given p d = with_loss_timer (with_app_limited (paid_if (asking d.frames) (with_number_given (p.words d.end.filter.drawn) (tracked d)) (datagram_size d)) false)
 
 -- ---- what waits
 
@@ -264,24 +271,56 @@ asks_to_go e = e.waiting.ping || (not (is_empty e.waiting.frames e.streams) || (
 abbrev pub waits : End → Bool
 waits e = can_send e.acknowledging || asks_to_go e
 
--- An end has nothing to send, and no probe waits.
+-- ---- what window and pacer hold back (RFC 9002, sections 7 and 7.7)
+
+-- whether they may hold something back: something waits that asks, and no probe, which passes both (section 7.5)
+abbrev pub is_gated : End → Bool
+is_gated e = asks_to_go e && (e.tracking.probes == 0)
+
+-- what becomes of what asks
+abbrev pub gated : End → Gated
+gated e = gated_if (is_gated e) e
+
+-- an end is ready to give: the timer of its pacer is stopped, what a probe carries waits, and window and pacer were asked
+abbrev pub ready : End → Gated
+ready e = gated (probed (with_pacing_timer e None))
+
+-- whether a datagram goes: what asks does unless it is held back, and a due ACK in any case
+abbrev pub goes : Gated → Bool
+goes g = can_send g.end.acknowledging || (not g.held && asks_to_go g.end)
+
+-- An end has nothing to send but what window or pacer hold back, the pacer until its timer expires; and no probe waits.
 pub record IsSilent (e : End) : Type 0 where
-  pub nothing_waits : waits e ≡ false
+  pub no_ack : can_send e.acknowledging ≡ false
   pub no_probe : e.tracking.probes ≡ 0
+  pub held : asks_to_go e ≡ true → (is_window_full e ≡ true) ⊎ IsSome e.timers.pacing
 
--- something waits: where the numbers are used up, the end closes and gives nothing
-abbrev pub sends : Bool → Policy → End → Polled
-sends true p e = gives_datagram (datagram_of p (composed (lazied e))) (after_given p (composed (lazied e)))
-sends false p e = gives_nothing (closed_by reasons.NumberLimit e)
+-- what goes: where what asks is held back, a due ACK alone
+abbrev pub draft_if : Bool → End → Draft
+draft_if true e = with_ack (no_frames e)
+draft_if false e = composed e
 
--- what waits goes, if anything does
-abbrev pub polled_if : Bool → Policy → End → Polled
-polled_if true p e = sends (can_number e.numbers) p e
-polled_if false p e = gives_nothing e
+-- what goes of an end that is ready
+abbrev pub draft_of : Gated → Draft
+draft_of g = draft_if g.held (lazied g.end)
 
--- what an open end gives, a probe where one waits
+-- something goes: where the numbers are used up, the end closes and gives nothing
+abbrev pub sends : Bool → Policy → Gated → Polled
+sends true p g = gives_datagram (datagram_of p (draft_of g)) (after_given p (draft_of g))
+sends false p g = gives_nothing (closed_by reasons.NumberLimit g.end)
+
+-- nothing goes: for want of anything to send, or since it is held back
+abbrev pub rests : Gated → End
+rests g = with_app_limited g.end (not g.held)
+
+-- what goes does, if anything
+abbrev pub polled_if : Bool → Policy → Gated → Polled
+polled_if true p g = sends (can_number g.end.numbers) p g
+polled_if false p g = gives_nothing (rests g)
+
+-- what an open end gives
 abbrev pub polled_open : Policy → End → Polled
-polled_open p e = polled_if (waits (probed e)) p (probed e)
+polled_open p e = polled_if (goes (ready e)) p (ready e)
 
 -- what an end gives by its state
 abbrev pub polled_in : State → Policy → End → ℕ → Polled
@@ -293,3 +332,25 @@ polled_in states.Failed p e now = record { answer = Err (record {}); datagram = 
 -- what an end gives at a moment
 abbrev pub polled : Policy → End → ℕ → Polled
 polled p e now = polled_in e.closing.state p e now
+
+-- ---- what the controller is told (RFC 9002, section 7)
+
+-- of a datagram with these frames
+abbrev pub told_draft : Draft → List Told
+told_draft d = told_sent (asking d.frames) d.end (datagram_size d) (number_of d.end)
+
+-- of what goes of an end that is ready, if anything does
+abbrev pub told_if : Bool → Gated → List Told
+told_if true g = told_draft (draft_of g)
+told_if false g = []
+
+-- of a poll of an end in a state
+abbrev pub told_polled_in : State → End → ℕ → List Told
+told_polled_in states.Open e now =
+    let g = ready (with_closing e (ticked e.closing now)) in
+    told_if (goes g && can_number g.end.numbers) g
+told_polled_in state e now = []
+
+-- of a poll at a moment
+abbrev pub told_polled : End → ℕ → List Told
+told_polled e now = told_polled_in e.closing.state e now

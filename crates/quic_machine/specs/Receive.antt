@@ -1,5 +1,5 @@
 -- What an end makes of a datagram that comes (RFC 9000, sections 5.2, 12 and 13.1).
-use Rattle.std.specs.Prelude.{ℕ, ◌+◌, Bool, true, false, ◌==◌, ◌||◌, not, nat_le, nat_lt, if◌then◌else◌, List, [], ◌∷◌, Option, Some, None, Result, Ok, Err}
+use Rattle.std.specs.Prelude.{ℕ, ◌+◌, Bool, true, false, ◌==◌, ◌||◌, not, nat_le, nat_lt, if◌then◌else◌, List, [], ◌∷◌, ◌++◌, Option, Some, None, Result, Ok, Err}
 use Rattle.std.specs.List.{list_any}
 use Rattle.quic_wire_core.specs.TransportError.{ErrorValue}
 use Rattle.quic_wire_core.specs.declared.stream_id.Side.{Side}
@@ -26,6 +26,7 @@ use Rattle.quic_machine.specs.Closing.{ticked}
 use Rattle.quic_machine.specs.Ids.{known}
 use Rattle.quic_spaces.specs.Numbers.{expected, number_opened, number_taken, number_named}
 use Rattle.quic_spaces.specs.Filter.{names_skipped}
+use Rattle.quic_congestion.specs.Congestion.{Told}
 use Rattle.quic_recovery_core.specs.Duplicates.{Seen, is_duplicate}
 use Rattle.quic_recovery_core.specs.PendingAcks.{Pending, after_insert, after_packet, packet_starts_wait}
 use Rattle.quic_time.specs.Timers.{Timers}
@@ -42,7 +43,7 @@ use Rattle.quic_machine.specs.Policy.{Policy}
 use Rattle.quic_machine.specs.End.{End, side_of, with_closing, closed_by, with_numbers, with_streams, with_messages, with_ack_timer, with_loss_timer}
 use Rattle.quic_machine.specs.Opens.{own_id_length}
 use Rattle.quic_machine.specs.Tracking.{dir_named}
-use Rattle.quic_machine.specs.Acked.{after_acked}
+use Rattle.quic_machine.specs.Acked.{after_acked, told_acked}
 
 -- ---- what is wrong with a packet that opened
 
@@ -117,6 +118,10 @@ abbrev pub take_ack : AckValue → End → Progress
 take_ack a e = if names_ungiven a e then record { end = e; fault = Some violation }
     else goes_on (after_acked (is_above e.numbers.largest_acked a.largest) a (with_numbers e (number_named e.numbers a.largest)))
 
+-- what the controller is told of it: nothing where it breaks a rule
+abbrev pub told_ack : AckValue → End → List Told
+told_ack a e = if names_ungiven a e then [] else told_acked (is_above e.numbers.largest_acked a.largest) a (with_numbers e (number_named e.numbers a.largest))
+
 -- what a frame on streams makes of them: a rule that it broke, if it broke one, and the streams that it leaves
 abbrev pub on_streams : Option Breach → Streams → End → Progress
 on_streams breach t e = record { end = with_streams e t; fault = fault_of breach }
@@ -163,6 +168,11 @@ abbrev pub take_item : Result FrameValue InvalidFrame → End → Progress
 take_item (Ok f) e = take_frame f e
 take_item (Err x) e = record { end = e; fault = Some (fault_of_frame x) }
 
+-- what the controller is told of an item: only ACK frames tell it something
+abbrev pub told_item : Result FrameValue InvalidFrame → End → List Told
+told_item (Ok (ack a)) e = told_ack a e
+told_item i e = []
+
 -- the next step, unless something was wrong
 abbrev pub unless_fault : Option Fault → Progress → (End → Progress) → Progress
 unless_fault None p next = next p.end
@@ -177,6 +187,20 @@ abbrev pub take_items : List (Result FrameValue InvalidFrame) → End → Progre
 take_items [] e = goes_on e
 take_items (i ∷ is) e = behind (take_item i e) (take_items is)
 
+-- what is told where nothing is wrong
+abbrev pub told_unless : Option Fault → List Told → List Told
+told_unless None told = told
+told_unless (Some fault) told = []
+
+-- what the controller is told behind an item that leaves this, unless something was wrong with it
+abbrev pub told_behind : Progress → (End → List Told) → List Told
+told_behind p next = told_unless p.fault (next p.end)
+
+-- what the controller is told of the items of a payload, up to the first fault
+abbrev pub told_items : List (Result FrameValue InvalidFrame) → End → List Told
+told_items [] e = []
+told_items (i ∷ is) e = told_item i e ++ told_behind (take_item i e) (told_items is)
+
 -- whether a payload has no frame at all (RFC 9000, section 12.4)
 abbrev pub is_empty : List (Result FrameValue InvalidFrame) → Bool
 is_empty [] = true
@@ -186,6 +210,10 @@ is_empty (i ∷ is) = false
 abbrev pub take_payload : ℕ → List (Result FrameValue InvalidFrame) → End → Progress
 take_payload first is e =
     if not (reserved_bits first == 0) || is_empty is then record { end = e; fault = Some violation } else take_items is e
+
+-- what the controller is told of a payload
+abbrev pub told_payload : ℕ → List (Result FrameValue InvalidFrame) → End → List Told
+told_payload first is e = if not (reserved_bits first == 0) || is_empty is then [] else told_items is e
 
 -- ---- the answer, and the end that is left
 
@@ -283,3 +311,41 @@ received_in states.Closing p e now d = headed (decoded (fixed_length_id own_id_l
 -- what an end makes of a datagram at a moment
 abbrev pub received : Policy → End → ℕ → List ℕ → Outcome
 received p e now d = received_in e.closing.state p e now d
+
+-- ---- what the controller is told (RFC 9002, section 7)
+
+-- of a packet that opened at an open end, under a number that didn't come before
+abbrev pub told_processed : Opening → ℕ → End → List Told
+told_processed o now e = told_payload o.first (items o.payload) (with_closing e (ticked e.closing now))
+
+-- only an open end reads what is in a packet
+abbrev pub told_by_state : State → Opening → ℕ → End → List Told
+told_by_state states.Open o now e = told_processed o now e
+told_by_state state o now e = []
+
+-- of a packet that opened
+abbrev pub told_opened : Opening → ℕ → End → List Told
+told_opened o now e =
+    if key_phase o.first || is_duplicate e.numbers.opened o.number then []
+    else told_by_state e.closing.state o now (with_numbers e (number_opened e.numbers o.number))
+
+-- of a packet, where it opened
+abbrev pub told_opened_as : Option Opening → ℕ → End → List Told
+told_opened_as None now e = []
+told_opened_as (Some o) now e = told_opened o now e
+
+-- of a datagram, by what its header says
+abbrev pub told_headed : Result (List ℕ) HeaderError → Policy → End → ℕ → List ℕ → List Told
+told_headed (Err error) p e now d = []
+told_headed (Ok id) p e now d = told_opened_as (opening p e d) now e
+
+-- an end that is drained or has failed drops all
+abbrev pub told_received_in : State → Policy → End → ℕ → List ℕ → List Told
+told_received_in states.Failed p e now d = []
+told_received_in states.Drained p e now d = []
+told_received_in states.Open p e now d = told_headed (decoded (fixed_length_id own_id_length) (known e.ids) d) p e now d
+told_received_in states.Closing p e now d = told_headed (decoded (fixed_length_id own_id_length) (known e.ids) d) p e now d
+
+-- of a datagram that comes at a moment
+abbrev pub told_received : Policy → End → ℕ → List ℕ → List Told
+told_received p e now d = told_received_in e.closing.state p e now d

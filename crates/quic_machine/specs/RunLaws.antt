@@ -1,5 +1,5 @@
 -- Where memory served, the answers of a run tell all that it leaves; and how many answers and views there are.
-use Rattle.std.proofs.Common.{◌≡◌, ◌≤◌, suc, List, [], ◌∷◌, length, Bool, true, false, refl, sym, ap, ◌∙◌, subst, arith}
+use Rattle.std.proofs.Common.{◌≡◌, ℕ, ◌≤◌, suc, List, [], ◌∷◌, length, Bool, true, false, refl, sym, ap, ◌∙◌, subst, arith}
 use Rattle.std.specs.Prelude.{◌||◌}
 use Rattle.std.specs.List.{list_any}
 use Rattle.quic_wire_core.specs.StreamId.{other_side}
@@ -7,20 +7,31 @@ use Rattle.quic_machine.specs.declared.run.RunEvent.{RunEvent}
 use Rattle.quic_machine.specs.declared.run.Answer.{Answer}
 use Rattle.quic_machine.specs.declared.run.View.{View}
 use Rattle.quic_machine.specs.End.{End}
-use Rattle.quic_machine.specs.Machine.{IsLeft, IsStep, Follows, World, Policies, policy_at, end_at, given_by, changed, after_call, gives, fails, view_of}
+use Rattle.quic_machine.specs.Control.{Control, after_told}
+use Rattle.quic_machine.specs.Machine.{IsLeft, IsStep, Follows, World, Policies, policy_at, end_at, given_by, control_at, changed, IsTold, tells, end_left, end_met, gives, fails, view_of}
 
 -- the end that a call leaves
 left : (k : Policies) (w : World) (event : RunEvent) (a : Answer) (x : World) → fails a ≡ false → IsStep k w event a x
-    → end_at event.side x ≡ after_call (policy_at event.side k) (end_at event.side w) (given_by (other_side event.side) w) event.call a
+    → end_at event.side x ≡ end_left (policy_at event.side k) (control_at event.side w) (end_at event.side w) (given_by (other_side event.side) w) event.call a
 left k w event a x served s =
-    subst (λ (b : Bool). IsLeft b (policy_at event.side k) (end_at event.side w) (given_by (other_side event.side) w) event.call a (end_at event.side x)) served s.end
+    subst (λ (b : Bool). IsLeft b (policy_at event.side k) (control_at event.side w) (end_at event.side w) (given_by (other_side event.side) w) event.call a (end_at event.side x)) served s.end
+
+-- the controller that it leaves
+left_control : (k : Policies) (w : World) (event : RunEvent) (a : Answer) (x : World) → fails a ≡ false → IsStep k w event a x
+    → control_at event.side x ≡ after_told (control_at event.side w) (tells (policy_at event.side k) (end_met w event) (given_by (other_side event.side) w) event.call)
+left_control k w event a x served s =
+    subst (λ (b : Bool). IsTold b (policy_at event.side k) (control_at event.side w) (end_at event.side w) (given_by (other_side event.side) w) event.call (control_at event.side x)) served s.control
 
 -- a step leaves one world
 pub one_world : (k : Policies) (w : World) (event : RunEvent) (a : Answer) (x y : World) → fails a ≡ false → IsStep k w event a x → IsStep k w event a y → x ≡ y
 one_world k w event a x y served s t =
     s.others
-    ∙ ap (λ (e : End). changed event.side w e (gives (policy_at event.side k) (end_at event.side w) event.call a)) (left k w event a x served s ∙ sym (left k w event a y served t))
+    ∙ ap (λ (e : End). changed event.side w e ds (control_at event.side x)) (left k w event a x served s ∙ sym (left k w event a y served t))
+    ∙ ap (λ (control : Control). changed event.side w (end_at event.side y) ds control) (left_control k w event a x served s ∙ sym (left_control k w event a y served t))
     ∙ sym t.others
+  where
+    ds : List (List ℕ)
+    ds = gives (policy_at event.side k) (end_met w event) event.call a
 
 neither : (b c : Bool) → b || c ≡ false → (b ≡ false) × (c ≡ false)
 neither true c e = absurd cc

@@ -1,18 +1,22 @@
 -- Two ends that were made for one another, and keys that are lawful.
 use Rattle.std.specs.Prelude.{ℕ, ◌≡◌, Bool, List, [], length, Ok}
 use Rattle.quic_packet.specs.Keys.{KeepsForm, KeepsLength, AddsTag}
+use Rattle.quic_congestion.specs.Congestion.{Told, AreSized, last_size, HasRoom}
 use Rattle.quic_wire_core.specs.declared.stream_id.Side.TheVariants.{Client, Server}
 use Rattle.quic_parameters.specs.ParametersRead.{parameters_at}
-use Rattle.quic_config.specs.Transport.{Settings, IsInRange, parameters_of}
+use Rattle.quic_config.specs.Transport.{Settings, IsInRange, parameters_of, transport_of, first_mtu}
+use Rattle.quic_machine.specs.Parts.{Windows}
 use Rattle.quic_machine.specs.Policy.{Policy, CanOpen}
 use Rattle.quic_machine.specs.End.{MadeFrom}
 use Rattle.quic_machine.specs.Opens.{own_id_length}
+use Rattle.quic_machine.specs.Control.{Control}
 use Rattle.quic_machine.specs.Machine.{World, Policies}
 
--- how one end was made: its settings, the parameter bytes that they come to, its first id, the moment, whether the path was validated, and the first word
--- that its random source answered
+-- how one end was made: its settings, the windows that its controller showed, the parameter bytes that the settings come to, its first id, the moment, whether
+-- the path was validated, and the first word that its random source answered
 pub record Making : Type 0 where
   pub settings : Settings
+  pub windows : Windows
   pub parameters : List ℕ
   pub id : List ℕ
   pub moment : ℕ
@@ -31,8 +35,8 @@ pub record AreStarted (w : World) : Type 0 where
   pub server_making : Making
   pub client_is : IsMaking client_making
   pub server_is : IsMaking server_making
-  pub client : MadeFrom Client client_making.settings server_making.parameters client_making.id server_making.id client_making.moment client_making.validated client_making.word w.client
-  pub server : MadeFrom Server server_making.settings client_making.parameters server_making.id client_making.id server_making.moment server_making.validated server_making.word w.server
+  pub client : MadeFrom Client client_making.settings client_making.windows server_making.parameters client_making.id server_making.id client_making.moment client_making.validated client_making.word w.client
+  pub server : MadeFrom Server server_making.settings server_making.windows client_making.parameters server_making.id client_making.id server_making.moment server_making.validated server_making.word w.server
   pub client_gave : w.from_client ≡ []
   pub server_gave : w.from_server ≡ []
 
@@ -48,3 +52,13 @@ pub record AreKeys (k : Policies) : Type 0 where
   pub server : IsLawful k.server
   pub to_server : CanOpen k.client k.server
   pub to_client : CanOpen k.server k.client
+
+-- a controller shows the window of an end as it was made, and keeps room for two datagrams of the size that it was told last, whatever it is told
+pub record IsController (control : Control) (size present : ℕ) : Type 0 where
+  pub first : control [] ≡ present
+  pub room : (told : List Told) → AreSized told → HasRoom size present → HasRoom (last_size size told) (control told)
+
+-- so do the controllers of two ends
+pub record AreControlled (w : World) : Type 0 where
+  pub client : IsController w.client_control w.client.path.size w.client.path.window
+  pub server : IsController w.server_control w.server.path.size w.server.path.window

@@ -1,5 +1,6 @@
 -- What an end makes of a moment at which timers expire (RFC 9000, section 13.2.1; RFC 9002, section 6.2).
-use Rattle.std.specs.Prelude.{ℕ, Bool, true, false, Option, Some, None, Result, Ok, Err}
+use Rattle.std.specs.Prelude.{ℕ, Bool, true, false, List, [], Option, Some, None, Result, Ok, Err}
+use Rattle.quic_congestion.specs.Congestion.{Told}
 use Rattle.quic_recovery_core.specs.PendingAcks.{after_timeout}
 use Rattle.quic_time.specs.Timers.{has_come}
 use Rattle.quic_machine.specs.declared.answers.State.{State}
@@ -8,7 +9,8 @@ use Rattle.quic_machine.specs.declared.answers.Failed.{Failed}
 use Rattle.quic_machine.specs.Closing.{ticked}
 use Rattle.quic_machine.specs.Tracking.{after_loss_timeout}
 use Rattle.quic_machine.specs.End.{End, with_closing, with_acknowledging, with_ack_timer_at, with_tracking, with_loss_timer}
-use Rattle.quic_machine.specs.Acked.{losses_detected}
+use Rattle.quic_machine.specs.Control.{with_pacing_timer}
+use Rattle.quic_machine.specs.Acked.{losses_detected, told_detected}
 
 -- the answer, and the end that is left
 pub record TimedOut : Type 0 where
@@ -30,9 +32,16 @@ abbrev pub loss_expired : Bool → End → End
 loss_expired true e = loss_judged e.tracking.loss_time e
 loss_expired false e = e
 
+-- the timer of the pacer expired or not: it is stopped then
+abbrev pub pacing_expired : Bool → End → End
+pacing_expired true e = with_pacing_timer e None
+pacing_expired false e = e
+
 -- the timers of an open end that expired up to its moment; the loss timer is set anew
 abbrev pub expired : End → End
-expired e = with_loss_timer (acks_expired (has_come e.timers.max_ack_delay e.closing.clock) (loss_expired (has_come e.timers.loss_detection e.closing.clock) e))
+expired e =
+    let now = e.closing.clock in
+    with_loss_timer (pacing_expired (has_come e.timers.pacing now) (acks_expired (has_come e.timers.max_ack_delay now) (loss_expired (has_come e.timers.loss_detection now) e)))
 
 -- an end that isn't open has no timer
 abbrev pub timed_out_in : State → End → ℕ → TimedOut
@@ -44,3 +53,24 @@ timed_out_in states.Failed e now = record { answer = Err (record {}); end = e }
 -- what an end makes of a moment
 abbrev pub timed_out : End → ℕ → TimedOut
 timed_out e now = timed_out_in e.closing.state e now
+
+-- ---- what the controller is told (RFC 9002, section 7)
+
+-- where the loss timer was set for a packet that may be lost by time, what is lost
+abbrev pub told_judged : Option ℕ → End → List Told
+told_judged None e = []
+told_judged (Some moment) e = told_detected false e
+
+-- the loss timer expired or not
+abbrev pub told_expired : Bool → End → List Told
+told_expired true e = told_judged e.tracking.loss_time e
+told_expired false e = []
+
+-- an end that isn't open has no timer
+abbrev pub told_timed_out_in : State → End → ℕ → List Told
+told_timed_out_in states.Open e now = told_expired (has_come e.timers.loss_detection (ticked e.closing now).clock) (with_closing e (ticked e.closing now))
+told_timed_out_in state e now = []
+
+-- of a moment
+abbrev pub told_timed_out : End → ℕ → List Told
+told_timed_out e now = told_timed_out_in e.closing.state e now

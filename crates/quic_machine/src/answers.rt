@@ -3,6 +3,7 @@ ghost use Rattle.std.specs.Prelude.{◌≡◌};
 
 use quic_streams_parts::StreamEvent;
 use quic_wire_core::{EcnCodepoint, TransportError};
+use std::fmt;
 use thiserror::Error;
 
 /// Whether an end is open (RFC 9000, section 10).
@@ -17,6 +18,17 @@ pub enum State {
     /// It met want of memory where a datagram was taken or given, or packets were lost at a
     /// timeout, and is of no more use.
     Failed,
+}
+
+impl fmt::Display for State {
+    fn fmt<W: fmt::Write>(&self, f: &mut fmt::Formatter<W>) -> fmt::Result {
+        f.write_str(match self {
+            State::Open => "open",
+            State::Closing => "closing",
+            State::Drained => "drained",
+            State::Failed => "failed",
+        })
+    }
 }
 
 /// Why an end is no longer open (quinn-proto's `ConnectionError`).
@@ -52,6 +64,19 @@ impl LostReason {
     }
 }
 
+impl fmt::Display for LostReason {
+    fn fmt<W: fmt::Write>(&self, f: &mut fmt::Formatter<W>) -> fmt::Result {
+        match self {
+            LostReason::Application => f.write_str("closed by the application"),
+            LostReason::Pieces => f.write_str("more than 2048 pieces of a stream waited"),
+            LostReason::Idle => f.write_str("timed out"),
+            LostReason::KeyLimit => f.write_str("the limit of the key was reached"),
+            LostReason::NumberLimit => f.write_str("the packet numbers were used up"),
+            LostReason::Transport(error) => write!(f, "the peer broke a rule: {error}"),
+        }
+    }
+}
+
 /// What the application is told (quinn-proto's `Event`).
 #[derive(Debug, Drop)]
 pub enum Event {
@@ -61,6 +86,16 @@ pub enum Event {
     Message,
     /// The end is lost. It is told once, and never of an end that has failed.
     Lost(LostReason),
+}
+
+impl fmt::Display for Event {
+    fn fmt<W: fmt::Write>(&self, f: &mut fmt::Formatter<W>) -> fmt::Result {
+        match self {
+            Event::Stream(event) => write!(f, "{event}"),
+            Event::Message => f.write_str("a message came"),
+            Event::Lost(reason) => write!(f, "connection lost: {reason}"),
+        }
+    }
 }
 
 /// Why a datagram was dropped. Nothing in the end has changed, but that the new number of one that a closing end opened counts
@@ -89,6 +124,23 @@ pub enum DropReason {
     Failed,
 }
 
+impl fmt::Display for DropReason {
+    fn fmt<W: fmt::Write>(&self, f: &mut fmt::Formatter<W>) -> fmt::Result {
+        f.write_str(match self {
+            DropReason::TooShort => "too short",
+            DropReason::NotShort => "a long header",
+            DropReason::FixedBit => "the fixed bit is 0",
+            DropReason::UnknownId => "an id that isn't in use",
+            DropReason::NotOpened => "the key refused it",
+            DropReason::KeyPhase => "another key phase",
+            DropReason::Duplicate => "a duplicate",
+            DropReason::Closing => "the end is closing",
+            DropReason::Drained => "the end is drained",
+            DropReason::Failed => "the end has failed",
+        })
+    }
+}
+
 /// What a received datagram comes to.
 #[derive(Debug, Drop)]
 pub enum Received {
@@ -100,6 +152,17 @@ pub enum Received {
     Closed(TransportError),
     /// Memory lacked: the end has failed for good.
     Failed,
+}
+
+impl fmt::Display for Received {
+    fn fmt<W: fmt::Write>(&self, f: &mut fmt::Formatter<W>) -> fmt::Result {
+        match self {
+            Received::Taken => f.write_str("taken"),
+            Received::Dropped(reason) => write!(f, "dropped: {reason}"),
+            Received::Closed(error) => write!(f, "closed: {error}"),
+            Received::Failed => f.write_str("out of memory: the end has failed"),
+        }
+    }
 }
 
 /// The end has failed: memory lacked now or before.
@@ -128,6 +191,9 @@ pub enum ConfigError {
     /// A size of datagrams is above 65527 bytes, or the least is above what the peer takes.
     #[error("a size of datagrams out of range")]
     Size,
+    /// The controller's window doesn't hold two datagrams of the size that the path begins with.
+    #[error("a window below two datagrams")]
+    Window,
     /// Memory lacked.
     #[error("out of memory")]
     Memory,

@@ -10,14 +10,18 @@ use Rattle.quic_parameters.specs.ParametersRead.{parameters_at}
 use Rattle.quic_machine.specs.declared.answers.ConfigError.{ConfigError}
 use Rattle.quic_machine.specs.declared.run.RunEvent.{RunEvent}
 use Rattle.quic_machine.specs.declared.run.Answer.{Answer}
-use Rattle.quic_config.specs.Transport.{Settings, parameters_of}
+use Rattle.quic_config.specs.Transport.{Settings, parameters_of, transport_of, first_mtu}
 use Rattle.quic_machine.specs.declared.answers.ConfigError.TheVariants as config_errors
+use Rattle.quic_congestion.specs.NewReno.{Reno, RenoSettings, default_reno, reno_made, window_after}
+use Rattle.quic_machine.specs.Control.{Control}
+use Rattle.quic_machine.specs.Parts.{Windows}
 use Rattle.quic_machine.specs.Policy.{keys_policy}
-use Rattle.quic_machine.specs.End.{End, ConnectionValue, MadeFrom, are_sizes_wrong, refusal_of, policy_of}
+use Rattle.quic_machine.specs.End.{End, ConnectionValue, MadeFrom, are_sizes_wrong, is_window_small, refusal_of, policy_of}
+use Rattle.quic_connection_core.specs.Configured.{Configured}
 use Rattle.quic_connection_core.specs.Drawn.{words_of, after_words}
 use Rattle.quic_connection.specs.Ends.{Serves}
 use Rattle.rand_core.specs.Stream.{Stream, u64_call}
-use Rattle.quic_machine.specs.Machine.{World, Policies, IsStep, given_by, end_at, changed, gives, policy_at}
+use Rattle.quic_machine.specs.Machine.{World, Policies, IsStep, given_by, end_at, end_met, control_at, changed, gives, policy_at}
 use Rattle.quic_run_core.specs.declared.options.Options.{Options}
 use Rattle.quic_machine.specs.Start.{IsMaking, AreStarted}
 use Rattle.quic_run_core.specs.declared.key.PlainHeaderKey.{PlainHeaderKey}
@@ -29,15 +33,20 @@ use Rattle.quic_run_core.specs.declared.words.Words.{Words}
 use Rattle.quic_run_core.specs.Words.{stream_from, source_stream, words_from}
 use Rattle.quic_run_core.proofs.Constant.{words_are}
 use Rattle.quic_run_core.specs.Policies.{plain_policy}
-use Rattle.quic_run_core.specs.Scripts.{first_id, settings_of, first_end, first_world, making, Made, Stage, made_or_first, made_at, with_made, IsSettled, TellsRest, IsSettling, line_feed}
+use Rattle.quic_run_core.specs.Scripts.{first_id, settings_of, first_controller, first_windows, first_end, first_world, making, Made, Stage, made_or_first, made_at, with_made, IsSettled, TellsRest, IsSettling, line_feed}
 use Rattle.quic_run_core.specs.declared.session.Session.{Session}
 use Rattle.quic_run_core.specs.Stages.{made_in}
 use Rattle.quic_connection.specs.Ends.{world_of}
 
 -- the ids of both ends are lawful, and so are sizes that are the default ones
-lawful : (E : Type 0) (side : Side) (settings : Settings) (theirs : ParameterValues) → are_sizes_wrong settings theirs ≡ false → refusal_of {E = E} settings (Ok theirs) (first_id side) (first_id (other_side side)) ≡ None
-lawful E Client settings theirs fits = ap (λ (b : Bool). cond b (Some config_errors.Size) None) fits
-lawful E Server settings theirs fits = ap (λ (b : Bool). cond b (Some config_errors.Size) None) fits
+lawful : (E : Type 0) (side : Side) (settings : Settings) (theirs : ParameterValues) → are_sizes_wrong settings theirs ≡ false → is_window_small settings default_reno.initial ≡ false
+    → refusal_of {E = E} settings default_reno.initial (Ok theirs) (first_id side) (first_id (other_side side)) ≡ None
+lawful E Client settings theirs fits roomy = rw (fits, roomy) refl
+lawful E Server settings theirs fits roomy = rw (fits, roomy) refl
+
+-- the window holds two datagrams of the default size
+window_fits : (own : Options) → is_window_small (settings_of own) default_reno.initial ≡ false
+window_fits own = refl
 
 sizes_fit : (own peer : Options) → are_sizes_wrong (settings_of own) (parameters_of (settings_of peer)) ≡ false
 sizes_fit own peer = refl
@@ -47,9 +56,9 @@ pub eight : (side : Side) → length (first_id side) ≡ 8
 eight Client = refl
 eight Server = refl
 
--- these ends, which gave these datagrams
-abbrev pub the_world : End → End → List (List ℕ) → List (List ℕ) → World
-the_world a b x y = record { client = a; server = b; from_client = x; from_server = y }
+-- these ends, which gave these datagrams, with their controllers
+abbrev pub the_world : End → End → List (List ℕ) → List (List ℕ) → Reno → Reno → World
+the_world a b x y c d = record { client = a; server = b; from_client = x; from_server = y; client_control = window_after c; server_control = window_after d }
 
 -- a stage
 abbrev pub the_stage : Options → Options → Option Made → Stage
@@ -69,35 +78,41 @@ are_started client server client_is server_is = record {
 }
   where
     made : (side : Side) (own peer : Options) → parameters_at (making (other_side side) peer).parameters ≡ Ok (parameters_of (settings_of peer))
-        → MadeFrom side (making side own).settings (making (other_side side) peer).parameters (first_id side) (first_id (other_side side)) 0 true (words_from own.source 0) (first_end side own peer)
+        → MadeFrom side (making side own).settings first_windows (making (other_side side) peer).parameters (first_id side) (first_id (other_side side)) 0 true (words_from own.source 0) (first_end side own peer)
     made side own peer says = rw says refl
 
+-- the controller that is made of a configuration of these options at moment 0
+pub first_control : (own : Options) (config : Configured RenoSettings) (now : ℕ) → config ≡ record { settings = settings_of own; factory = default_reno } → now ≡ 0 → reno_made config.factory now (first_mtu (transport_of config.settings)) ≡ first_controller
+first_control own config now is zero = rw (is, zero) refl
+
 -- two such ends that gave nothing are the first ones
-pub first_ends : (client server : Options) (a b : End) (x y : List (List ℕ)) → a ≡ first_end Client client server → b ≡ first_end Server server client → x ≡ [] → y ≡ [] → the_world a b x y ≡ first_world client server
-first_ends client server a b x y is_client is_server no_client no_server = rw (is_client, is_server, no_client, no_server) refl
+pub first_ends : (client server : Options) (a b : End) (x y : List (List ℕ)) (c d : Reno) → a ≡ first_end Client client server → b ≡ first_end Server server client → x ≡ [] → y ≡ [] → c ≡ first_controller → d ≡ first_controller
+    → the_world a b x y c d ≡ first_world client server
+first_ends client server a b x y c d is_client is_server no_client no_server client_control server_control = rw (is_client, is_server, no_client, no_server, client_control, server_control) refl
 
 -- an end is never refused
-pub never_refused : {E : Type 0} (side other : Side) (e : ConfigError) (own peer : Options) (settings told : Settings) (read : Result ParameterValues E) (own_id peer_id : List ℕ)
-    → settings ≡ settings_of own → told ≡ settings_of peer → read ≡ Ok (parameters_of told) → own_id ≡ first_id side → other ≡ other_side side → peer_id ≡ first_id other
-    → Some e ≡ refusal_of settings read own_id peer_id → ⊥
-never_refused {E} side other e own peer settings told read own_id peer_id set said is own_is turned peer_is refusal =
+pub never_refused : {E : Type 0} (side other : Side) (e : ConfigError) (own peer : Options) (settings told : Settings) (window : ℕ) (read : Result ParameterValues E) (own_id peer_id : List ℕ)
+    → settings ≡ settings_of own → told ≡ settings_of peer → window ≡ default_reno.initial → read ≡ Ok (parameters_of told) → own_id ≡ first_id side → other ≡ other_side side → peer_id ≡ first_id other
+    → Some e ≡ refusal_of settings window read own_id peer_id → ⊥
+never_refused {E} side other e own peer settings told window read own_id peer_id set said shows is own_is turned peer_is refusal =
     let theirs : ParameterValues = parameters_of (settings_of peer) in
-    let refused : Some e ≡ refusal_of {E = E} (settings_of own) (Ok theirs) (first_id side) (first_id (other_side side)) =
+    let refused : Some e ≡ refusal_of {E = E} (settings_of own) default_reno.initial (Ok theirs) (first_id side) (first_id (other_side side)) =
     refusal
-    ∙ ap (λ (s : Settings). refusal_of s read own_id peer_id) set
-    ∙ ap (λ (r : Result ParameterValues E). refusal_of (settings_of own) r own_id peer_id) (is ∙ ap (λ (s : Settings). Ok (parameters_of s)) said)
-    ∙ ap (λ (id : List ℕ). refusal_of {E = E} (settings_of own) (Ok theirs) id peer_id) own_is
-    ∙ ap (λ (id : List ℕ). refusal_of {E = E} (settings_of own) (Ok theirs) (first_id side) id) (peer_is ∙ ap first_id turned) in
-    let never : Some e ≡ None = refused ∙ lawful E side (settings_of own) theirs (sizes_fit own peer) in
+    ∙ ap (λ (s : Settings). refusal_of s window read own_id peer_id) set
+    ∙ ap (λ (n : ℕ). refusal_of (settings_of own) n read own_id peer_id) shows
+    ∙ ap (λ (r : Result ParameterValues E). refusal_of (settings_of own) default_reno.initial r own_id peer_id) (is ∙ ap (λ (s : Settings). Ok (parameters_of s)) said)
+    ∙ ap (λ (id : List ℕ). refusal_of {E = E} (settings_of own) default_reno.initial (Ok theirs) id peer_id) own_is
+    ∙ ap (λ (id : List ℕ). refusal_of {E = E} (settings_of own) default_reno.initial (Ok theirs) (first_id side) id) (peer_is ∙ ap first_id turned) in
+    let never : Some e ≡ None = refused ∙ lawful E side (settings_of own) theirs (sizes_fit own peer) (window_fits own) in
     cc
 
 -- what is made of the options is the first end
-pub made_first : (side other : Side) (own peer : Options) (settings told : Settings) (bytes items own_id peer_id : List ℕ) (now word : ℕ) (end : End) → settings ≡ settings_of own → told ≡ settings_of peer → bytes ≡ items → parameters_at items ≡ Ok (parameters_of told) → own_id ≡ first_id side → other ≡ other_side side → peer_id ≡ first_id other → now ≡ 0 → word ≡ words_from own.source 0 → MadeFrom side settings bytes own_id peer_id now true word end → end ≡ first_end side own peer
-made_first side other own peer settings told bytes items own_id peer_id now word end set said same read own_is turned peer_is zero first made =
-    rw (same, read, said, set, own_is, peer_is, turned, zero, first) at made
+pub made_first : (side other : Side) (own peer : Options) (settings told : Settings) (windows : Windows) (bytes items own_id peer_id : List ℕ) (now word : ℕ) (end : End) → settings ≡ settings_of own → told ≡ settings_of peer → windows ≡ first_windows → bytes ≡ items → parameters_at items ≡ Ok (parameters_of told) → own_id ≡ first_id side → other ≡ other_side side → peer_id ≡ first_id other → now ≡ 0 → word ≡ words_from own.source 0 → MadeFrom side settings windows bytes own_id peer_id now true word end → end ≡ first_end side own peer
+made_first side other own peer settings told windows bytes items own_id peer_id now word end set said shows same read own_is turned peer_is zero first made =
+    rw (same, read, said, set, shows, own_is, peer_is, turned, zero, first) at made
 
 -- an end with the stand-in keys, whose random source answered its first word
-pub plain_at : (side : Side) (source : Source) (w : ConnectionValue PlainHeaderKey PlainKey Words) → w.keys ≡ keys_of side → w.end.filter.drawn ≡ 1 → stream_from w.random ≡ after_words 1 (source_stream source)
+pub plain_at : (side : Side) (source : Source) (w : ConnectionValue PlainHeaderKey PlainKey Words Reno) → w.keys ≡ keys_of side → w.end.filter.drawn ≡ 1 → stream_from w.random ≡ after_words 1 (source_stream source)
     → Serves (plain_policy side (words_from source)) (policy_of (λ _. plain_protection) (λ k. plain_aead k.mark) (words_of stream_from) w) w.end
 plain_at side source w keys drawn random = record {
   keys = ap (λ ks. keys_policy (λ _. plain_protection) (λ k. plain_aead k.mark) ks (words_from source)) (sym keys);
@@ -114,15 +129,15 @@ pub given_more : (P : Policies → Type 0) (k : Policies) (w next : World) (even
 given_more P k w next event (Err e) side is ok err = ([], ap (λ (v : World). given_by side v) err ∙ sym (append-nil (given_by side w)))
 given_more P k w next event (Ok a) side is ok err =
     let e = end_at event.side next in
-    let ds = gives (policy_at event.side k) (end_at event.side w) event.call a in
-    let here = go event.side side e ds in
+    let ds = gives (policy_at event.side k) (end_met w event) event.call a in
+    let here = go event.side side e ds (control_at event.side next) in
     (here.0, ap (λ (v : World). given_by side v) (ok k is).others ∙ here.1)
   where
-    go : (at side : Side) (e : End) (ds : List (List ℕ)) → (more : List (List ℕ)) × (given_by side (changed at w e ds) ≡ given_by side w ++ more)
-    go Client Client e ds = (ds, refl)
-    go Client Server e ds = ([], sym (append-nil w.from_server))
-    go Server Client e ds = ([], sym (append-nil w.from_client))
-    go Server Server e ds = (ds, refl)
+    go : (at side : Side) (e : End) (ds : List (List ℕ)) (c : Control) → (more : List (List ℕ)) × (given_by side (changed at w e ds c) ≡ given_by side w ++ more)
+    go Client Client e ds c = (ds, refl)
+    go Client Server e ds c = ([], sym (append-nil w.from_server))
+    go Server Client e ds c = ([], sym (append-nil w.from_client))
+    go Server Server e ds c = (ds, refl)
 
 -- a fact of each success
 pub on_ok_then : {A E : Type 0} {X Y : Type 0} (r : Result A E) → (X → Y) → OnOk r X → OnOk r Y
@@ -135,7 +150,7 @@ if_some_at P Q (Some m) k is f = f k is
 if_some_at P Q None k is f = tt
 
 -- the ends are made where they weren't
-pub begun : (o : Option Session) (client server : Options) (s : Session) → is_some o ≡ false → world_of s.ends s.given ≡ first_world client server → s.client_source ≡ client.source → s.server_source ≡ server.source
+pub begun : (o : Option Session) (client server : Options) (s : Session) → is_some o ≡ false → world_of window_after s.ends s.given ≡ first_world client server → s.client_source ≡ client.source → s.server_source ≡ server.source
     → the_stage client server (made_in (Some s)) ≡ with_made (made_or_first (made_in o) client server) (the_stage client server (made_in o))
 begun (Some x) client server s none world client_source server_source = cc
 begun None client server s none world client_source server_source = rw (world, client_source, server_source) refl

@@ -2,6 +2,7 @@
 use Rattle.std.specs.Prelude.{ℕ}
 use Rattle.quic_wire_core.specs.declared.stream_id.Side.{Side}
 use Rattle.quic_wire_core.specs.declared.stream_id.Side.TheVariants.{Client, Server}
+use Rattle.quic_congestion.specs.NewReno.{Reno}
 use Rattle.quic_machine.specs.Policy.{Policy}
 use Rattle.quic_machine.specs.Machine.{Policies}
 use Rattle.quic_connection.specs.Ends.{AreOf}
@@ -29,5 +30,5 @@ abbrev pub plain_policies : (ℕ → ℕ) → (ℕ → ℕ) → Policies
 plain_policies client server = record { client = plain_policy Client client; server = plain_policy Server server }
 
 -- these policies do what the keys and the random sources of these two ends do
-abbrev pub ArePlain : Policies → Ends PlainHeaderKey PlainKey Words → Type 0
+abbrev pub ArePlain : Policies → Ends PlainHeaderKey PlainKey Words Reno → Type 0
 ArePlain k ends = AreOf k (λ _. plain_protection) (λ k. plain_aead k.mark) stream_from ends

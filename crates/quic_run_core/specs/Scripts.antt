@@ -7,6 +7,8 @@ use Rattle.quic_wire_core.specs.declared.stream_id.Side.TheVariants.{Client, Ser
 use Rattle.quic_wire_core.specs.StreamId.{other_side}
 use Rattle.quic_config.specs.Transport.{Settings, settings_with, default_transport, parameters_of}
 use Rattle.quic_parameters.specs.ParametersWritten.{written_parameters}
+use Rattle.quic_congestion.specs.NewReno.{Reno, default_reno, reno_made, window_after}
+use Rattle.quic_machine.specs.Parts.{Windows}
 use Rattle.quic_machine.specs.End.{End, new_end}
 use Rattle.quic_machine.specs.Start.{Making}
 use Rattle.quic_connection.specs.Ends.{in_order}
@@ -56,19 +58,34 @@ abbrev pub first_id : Side → List ℕ
 first_id Client = replicate 8 0xc0
 first_id Server = replicate 8 0x50
 
+-- the controller of an end as it is made at moment 0: NewReno as nothing is set of it, for datagrams of 1200 bytes
+abbrev pub first_controller : Reno
+first_controller = reno_made default_reno 0 1200
+
+-- the windows that it shows
+abbrev pub first_windows : Windows
+first_windows = record { initial = default_reno.initial; present = default_reno.initial }
+
 -- an end as it is made at moment 0: the other end's options are its limits
 abbrev pub first_end : Side → Options → Options → End
-first_end side own peer = new_end side (settings_of own) (parameters_of (settings_of peer)) (first_id side) (first_id (other_side side)) 0 true (words_from own.source 0)
+first_end side own peer = new_end side (settings_of own) first_windows (parameters_of (settings_of peer)) (first_id side) (first_id (other_side side)) 0 true (words_from own.source 0)
 
 -- both ends as they are made, of the client's options and the server's
 abbrev pub first_world : Options → Options → World
-first_world client server = record { client = first_end Client client server; server = first_end Server server client; from_client = []; from_server = [] }
+first_world client server = record {
+  client = first_end Client client server;
+  server = first_end Server server client;
+  from_client = [];
+  from_server = [];
+  client_control = window_after first_controller;
+  server_control = window_after first_controller;
+}
 
 -- how an end is made, as the premises of every promise on runs name it (its parameters are written in the order of their ids)
 abbrev pub making : Side → Options → Making
 making side own =
     let settings = settings_of own in
-    record { settings = settings; parameters = written_parameters (parameters_of settings) in_order; id = first_id side; moment = 0; validated = true; word = words_from own.source 0 }
+    record { settings = settings; windows = first_windows; parameters = written_parameters (parameters_of settings) in_order; id = first_id side; moment = 0; validated = true; word = words_from own.source 0 }
 
 -- What is printed of an event in a world, and the world behind it: the machine answers so, and leaves it so.
 pub record IsTold (k : Policies) (w : World) (event : RunEvent) (text : List ℕ) (next : World) : Type 0 where

@@ -20,7 +20,7 @@ fn put_code(out: &mut String, word: &str, code: VarInt) -> Result<(), AllocError
 }
 
 /// Appends bytes in hexadecimal, where `-` stands for none.
-pub(crate) fn put_bytes(alloc: Global, out: &mut String, bytes: &[u8]) -> Result<(), AllocError>
+pub fn put_bytes(alloc: Global, out: &mut String, bytes: &[u8]) -> Result<(), AllocError>
     ensures { OnOk result (string_bytes out.new ≡ string_bytes out.old ++ bytes_text bytes.now) }
 {
     if bytes.is_empty() {
@@ -176,7 +176,7 @@ fn put_message(alloc: Global, out: &mut String, message: &Option<Bytes>) -> Resu
 }
 
 /// How a mark is printed, where `-` stands for none.
-fn mark_name(ecn: Option<EcnCodepoint>) -> &'static str
+pub fn mark_name(ecn: Option<EcnCodepoint>) -> &'static str
     ensures { result.now ≡ mark_text ecn }
 {
     match ecn {
@@ -215,7 +215,7 @@ fn reason_name(reason: DropReason) -> &'static str
 }
 
 /// Appends what came of a datagram.
-fn put_received(out: &mut String, received: &Received) -> Result<(), AllocError>
+pub fn put_received(out: &mut String, received: &Received) -> Result<(), AllocError>
     ensures { OnOk result (string_bytes out.new ≡ string_bytes out.old ++ received_text received.now) }
 {
     match received {
@@ -316,7 +316,7 @@ pub(crate) fn put_rest(out: &mut String, moment: Option<Instant>) -> Result<(), 
 }
 
 /// Appends an answer. A datagram that was given out is the last of the `given` datagrams of its end.
-pub(crate) fn put_answer(
+pub fn put_answer(
     alloc: Global,
     out: &mut String,
     answer: &Answer,
@@ -354,7 +354,7 @@ pub(crate) fn put_answer(
 }
 
 /// How a call is named in a script.
-pub(crate) fn call_name(call: &Call) -> &'static str
+pub fn call_name(call: &Call) -> &'static str
     ensures { result.now ≡ call_text call.now }
 {
     match call {

@@ -4,6 +4,7 @@
 mod answer;
 mod error;
 pub mod key;
+pub mod language;
 pub mod laws;
 mod lines;
 mod options;

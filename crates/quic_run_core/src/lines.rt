@@ -11,7 +11,7 @@ const CHUNK: usize = 4096;
 
 /// Reads lines, each ended by a line feed, which the last may lack.
 #[derive(Drop)]
-pub(crate) struct Lines<R: Drop> {
+pub struct Lines<R: Drop> {
     reader: R,
     chunk: Vec<u8>,
     start: usize,
@@ -30,7 +30,7 @@ impl<R: Read + Drop> Lines<R> {
     ghost use Rattle.quic_run_core.specs.Reading.{unread_of, left_of, KnowsEnd, Moves, IsNextLine, IsOver, IsUnread};
 
     /// The lines that a reader gives in so many calls.
-    pub(crate) fn new(alloc: Global, reader: R, turns: u64) -> Result<Self, AllocError>
+    pub fn new(alloc: Global, reader: R, turns: u64) -> Result<Self, AllocError>
         ensures left { IfOk result (λ lines. Keeps (R.remaining reader) (left_of R.remaining lines)) }
         ensures known { IfOk result (λ lines. KnowsEnd R.remaining lines) }
         ensures turns { IfOk result (λ lines. lines.turns ≡ turns) }
@@ -50,7 +50,7 @@ impl<R: Read + Drop> Lines<R> {
     ///
     /// `ReadFault`: the reader failed, or was called too often. `OutOfMemory`: memory lacked. Nothing is said of the
     /// lines then.
-    pub(crate) fn next(&mut self, line: &mut Vec<u8>) -> Result<bool, ScriptError>
+    pub fn next(&mut self, line: &mut Vec<u8>) -> Result<bool, ScriptError>
         requires { KnowsEnd R.remaining self.old }
         ensures known { KnowsEnd R.remaining self.new }
         ensures line { IfOk result (λ more. MatchBool more (IsNextLine (left_of R.remaining self.old) line.new.items (left_of R.remaining self.new)) (IsOver (left_of R.remaining self.old))) }

@@ -1,10 +1,11 @@
 //! What is set of an end before it is made.
 ghost use Rattle.std.specs.Prelude.{◌≡◌};
+ghost use Rattle.quic_congestion.specs.NewReno.{default_reno};
 ghost use Rattle.quic_run_core.specs.Scripts.{first_options, settings_of, kept_size, with_setting};
 
 use crate::script::Setting;
 use crate::words::Source;
-use quic_connection::{Config, TransportConfig};
+use quic_connection::{Config, NewRenoConfig, TransportConfig};
 
 /// The most bytes of a datagram, and the least that each path carries (RFC 9000, section 14).
 const MTU: u16 = 1200;
@@ -24,14 +25,16 @@ fn kept_size(bytes: usize) -> Option<usize>
 
 /// The options of an end.
 #[derive(Clone, Copy, Debug)]
-pub(crate) struct Options {
-    pub(crate) transport: TransportConfig,
-    pub(crate) source: Source,
+pub struct Options {
+    /// The settings of the transport, but for its sizes of datagrams.
+    pub transport: TransportConfig,
+    /// Where its random words come from.
+    pub source: Source,
 }
 
 impl Options {
     /// The options of an end for which none is set.
-    pub(crate) fn new() -> Self
+    pub fn new() -> Self
         ensures { result ≡ first_options }
     {
         Options {
@@ -40,19 +43,19 @@ impl Options {
         }
     }
 
-    /// The configuration of an end with these options. None sets a size of datagrams: it is the
-    /// default one.
-    pub(crate) fn config(&self) -> Config
-        ensures { result ≡ settings_of self.now }
+    /// The configuration of an end with these options, with NewReno as its congestion controller.
+    /// None sets a size of datagrams: it is the default one.
+    pub fn config(&self) -> Config<NewRenoConfig>
+        ensures { result ≡ record { settings = settings_of self.now; factory = default_reno } }
     {
         let mut transport = self.transport;
         transport.initial_mtu(MTU);
         transport.min_mtu(MTU);
-        Config::new(transport)
+        Config::new(transport, NewRenoConfig::default())
     }
 
     /// Sets one option, in place of what it was.
-    pub(crate) fn set(&mut self, setting: Setting)
+    pub fn set(&mut self, setting: Setting)
         ensures { self.new ≡ with_setting setting self.old }
     {
         match setting {

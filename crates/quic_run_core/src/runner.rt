@@ -19,7 +19,7 @@ use std::alloc::{AllocError, Global};
 use std::io::{Read, Write};
 
 /// How often the reader of a script is called at most.
-const MOST_TURNS: u64 = 1 << 32;
+pub const MOST_TURNS: u64 = 1 << 32;
 
 /// A script as far as it was run.
 #[derive(Drop)]
@@ -207,7 +207,7 @@ pub fn run_script_within<R: Read + Drop, W: Write>(
 }
 
 /// Prints an answer, where there is one.
-fn print<W: Write>(writer: &mut W, answer: &str) -> Result<(), ScriptError>
+pub fn print<W: Write>(writer: &mut W, answer: &str) -> Result<(), ScriptError>
     ensures printed { OnOk result (Appends (W.contents writer.old) (W.contents writer.new) answer.now) }
     ensures fault { IfErr result (λ e. e ≡ ScriptError.WriteFault) }
 {

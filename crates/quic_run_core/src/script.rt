@@ -74,13 +74,14 @@ impl From<AllocError> for LineError {
 
 /// The words of a line that are still to be read, with one space between two.
 #[derive(Drop)]
-struct LineWords<'a> {
-    rest: Option<&'a str>,
+pub struct LineWords<'a> {
+    /// The text that is left, if any is.
+    pub rest: Option<&'a str>,
 }
 
 impl<'a> LineWords<'a> {
     /// The next word.
-    fn next(&mut self) -> Result<&'a str, LineError>
+    pub fn next(&mut self) -> Result<&'a str, LineError>
         ensures word { MatchResult result (λ w. words_left self.old.rest ≡ w.now ∷ words_left self.new.rest) (λ e. (e ≡ LineError.BadCommand) × (words_left self.old.rest ≡ [])) }
         ensures rest { words_left self.new.rest ≡ drop 1 (words_left self.old.rest) }
     {
@@ -134,7 +135,8 @@ impl<'a> LineWords<'a> {
         Ok(StreamId::from(self.varint()?))
     }
 
-    fn moment(&mut self) -> Result<Instant, LineError>
+    /// The moment that the next word names, in nanoseconds.
+    pub fn moment(&mut self) -> Result<Instant, LineError>
         ensures answer { result ≡ ok_or (first number_named (words_left self.old.rest)) LineError.BadCommand }
         ensures rest { words_left self.new.rest ≡ drop 1 (words_left self.old.rest) }
     {
@@ -169,7 +171,8 @@ impl<'a> LineWords<'a> {
         timer(self.next()?).ok_or(LineError::BadCommand)
     }
 
-    fn bytes(&mut self, alloc: Global) -> Result<Bytes, LineError>
+    /// The bytes that the next word names.
+    pub fn bytes(&mut self, alloc: Global) -> Result<Bytes, LineError>
         ensures answer { MatchResult result
             (λ bytes. first bytes_named (words_left self.old.rest) ≡ Some bytes)
             (λ e. (e ≡ LineError.OutOfMemory) ⊎ ((e ≡ LineError.BadCommand) × (first bytes_named (words_left self.old.rest) ≡ None))) }
@@ -179,7 +182,8 @@ impl<'a> LineWords<'a> {
         Ok(Bytes::copy_from_slice(alloc, &bytes)?)
     }
 
-    fn setting(&mut self) -> Result<Setting, LineError>
+    /// The option that the next word names, and the value behind it.
+    pub fn setting(&mut self) -> Result<Setting, LineError>
         ensures { Reads result (λ setting. setting) (settings_said (words_left self.old.rest)) (words_left self.new.rest) }
     {
         let name = self.next()?;
@@ -209,7 +213,8 @@ impl<'a> LineWords<'a> {
         })
     }
 
-    fn injection(&mut self, alloc: Global) -> Result<Injection, LineError>
+    /// A moment, a mark and bytes.
+    pub fn injection(&mut self, alloc: Global) -> Result<Injection, LineError>
         ensures { Reads result (λ injection. injects injection.now injection.ecn injection.bytes) (three injects number_named mark_named bytes_named (words_left self.old.rest)) (words_left self.new.rest) }
     {
         Ok(Injection {
@@ -242,7 +247,7 @@ fn count_of(number: u64) -> Option<VarInt>
 }
 
 /// An end: `c` for the client, `s` for the server.
-fn side(word: &str) -> Option<Side>
+pub fn side(word: &str) -> Option<Side>
     ensures { result ≡ side_named word.now }
 {
     match word {
@@ -338,7 +343,7 @@ fn setting_of(name: &str, words: &mut LineWords) -> Result<Setting, LineError>
 }
 
 /// The call that these words name.
-fn call_of(alloc: Global, name: &str, words: &mut LineWords) -> Result<Call, LineError>
+pub fn call_of(alloc: Global, name: &str, words: &mut LineWords) -> Result<Call, LineError>
     ensures { Reads result asked_of (call_said name.now (words_left words.old.rest)) (words_left words.new.rest) }
 {
     match name {
@@ -425,7 +430,7 @@ fn parse_text(alloc: Global, text: &str) -> Result<Line, LineError>
 }
 
 /// Whether a line is empty or a comment.
-fn is_skipped(line: &[u8]) -> bool
+pub fn is_skipped(line: &[u8]) -> bool
     ensures { result ≡ is_skipped line.now }
 {
     line.is_empty() || line[0] == b'#'

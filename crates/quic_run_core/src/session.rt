@@ -5,13 +5,14 @@ ghost use Rattle.quic_wire_core.specs.StreamId.{other_side};
 ghost use Rattle.quic_machine.specs.Machine.{given_by};
 ghost use Rattle.quic_machine.specs.Start.{IsMaking, AreStarted};
 ghost use Rattle.quic_connection_core.specs.Drawn.{after_words};
+ghost use Rattle.quic_congestion.specs.NewReno.{window_after};
 ghost use Rattle.quic_connection.specs.Ends.{world_of};
 ghost use Rattle.quic_run_core.specs.KeysOf.{keys_of};
 ghost use Rattle.quic_run_core.specs.Policies.{plain_policies, ArePlain};
 ghost use Rattle.quic_run_core.specs.Shown.{AreNumbers, shown_text};
 ghost use Rattle.quic_run_core.specs.Words.{source_stream, words_from};
 ghost use Rattle.quic_run_core.specs.Refusals.{line_error};
-ghost use Rattle.quic_run_core.specs.Scripts.{first_id, first_end, first_world, making, Tells, TellsRest};
+ghost use Rattle.quic_run_core.specs.Scripts.{first_id, first_controller, first_end, first_world, making, Tells, TellsRest};
 
 use crate::answer::{put_answer, put_rest};
 use crate::key::{PlainHeaderKey, PlainKey, keys_for};
@@ -19,13 +20,15 @@ use crate::options::Options;
 use crate::script::LineError;
 use crate::show::put_datagram;
 use crate::words::{Source, Words};
-use quic_connection::{ConfigError, Connection, Ends, Given, Instant, RunEvent, settle, step};
+use quic_connection::{
+    ConfigError, Connection, Ends, Given, Instant, NewReno, RunEvent, settle, step,
+};
 use quic_parameters::TransportParameters;
 use quic_wire_core::{ConnectionId, Side};
 use rand_core::Rng;
 use std::alloc::{AllocError, Global};
 
-type End = Connection<PlainHeaderKey, PlainKey, Words>;
+type End = Connection<PlainHeaderKey, PlainKey, Words, NewReno>;
 
 /// The first id of an end.
 fn first_id(side: Side) -> ConnectionId
@@ -44,9 +47,10 @@ impl From<ConfigError> for LineError {
     fn from(error: ConfigError) -> LineError {
         match error {
             ConfigError::Memory => LineError::OutOfMemory,
-            ConfigError::Parameters | ConfigError::IdLength | ConfigError::Size => {
-                LineError::BadCommand
-            }
+            ConfigError::Parameters
+            | ConfigError::IdLength
+            | ConfigError::Size
+            | ConfigError::Window => { LineError::BadCommand }
         }
     }
 }
@@ -54,6 +58,7 @@ impl From<ConfigError> for LineError {
 /// An end that is made at moment 0. Its options and those of the peer are always lawful: an error is want of memory.
 fn make_end(alloc: Global, side: Side, own: &Options, peer: &Options) -> Result<End, LineError>
     ensures end { IfOk result (λ made. made.end ≡ first_end side own.now peer.now) }
+    ensures control { IfOk result (λ made. made.control ≡ first_controller) }
     ensures keys { IfOk result (λ made. made.keys ≡ keys_of side) }
     ensures words { IfOk result (λ made. ⟦<Words as Rng>⟧.stream made.random ≡ after_words 1 (source_stream own.now.source)) }
     ensures making { OnOk result (IsMaking (making (other_side side) peer.now)) }
@@ -81,7 +86,7 @@ fn make_end(alloc: Global, side: Side, own: &Options, peer: &Options) -> Result<
 #[derive(Drop)]
 pub(crate) struct Session {
     alloc: Global,
-    ends: Ends<PlainHeaderKey, PlainKey, Words>,
+    ends: Ends<PlainHeaderKey, PlainKey, Words, NewReno>,
     given: Given,
     // The numbers of each end's first datagrams, as far as they were shown.
     client_numbers: Vec<u64>,
@@ -97,7 +102,7 @@ pub(crate) struct Session {
 impl Session {
     /// Two ends with these options, which meet what the promises on runs ask of ends. An error is want of memory.
     pub(crate) fn new(alloc: Global, client: &Options, server: &Options) -> Result<Self, LineError>
-        ensures world { IfOk result (λ session. world_of session.ends session.given ≡ first_world client.now server.now) }
+        ensures world { IfOk result (λ session. world_of window_after session.ends session.given ≡ first_world client.now server.now) }
         ensures started { OnOk result (AreStarted (first_world client.now server.now)) }
         ensures client_source { IfOk result (λ session. session.client_source ≡ client.now.source) }
         ensures server_source { IfOk result (λ session. session.server_source ≡ server.now.source) }
@@ -120,7 +125,7 @@ impl Session {
     /// Makes a call, and appends what it answers.
     pub(crate) fn call(&mut self, event: &RunEvent, out: &mut String) -> Result<(), AllocError>
         ensures same_sources { (self.new.client_source ≡ self.old.client_source) × (self.new.server_source ≡ self.old.server_source) }
-        ensures tells { OnOk result (Tells (plain_policies (words_from self.old.client_source) (words_from self.old.server_source)) (world_of self.old.ends self.old.given) event.now (string_bytes out.old) (string_bytes out.new) (world_of self.new.ends self.new.given)) }
+        ensures tells { OnOk result (Tells (plain_policies (words_from self.old.client_source) (words_from self.old.server_source)) (world_of window_after self.old.ends self.old.given) event.now (string_bytes out.old) (string_bytes out.new) (world_of window_after self.new.ends self.new.given)) }
     {
         let answer = step(self.alloc, &mut self.ends, &mut self.given, event)?;
         let given = match event.side {
@@ -133,7 +138,7 @@ impl Session {
     /// Lets both ends talk from this moment on until they rest, and appends when they do.
     pub(crate) fn settle(&mut self, now: Instant, out: &mut String) -> Result<(), AllocError>
         ensures same_sources { (self.new.client_source ≡ self.old.client_source) × (self.new.server_source ≡ self.old.server_source) }
-        ensures tells { OnOk result (TellsRest (plain_policies (words_from self.old.client_source) (words_from self.old.server_source)) (world_of self.old.ends self.old.given) now (string_bytes out.old) (string_bytes out.new) (world_of self.new.ends self.new.given)) }
+        ensures tells { OnOk result (TellsRest (plain_policies (words_from self.old.client_source) (words_from self.old.server_source)) (world_of window_after self.old.ends self.old.given) now (string_bytes out.old) (string_bytes out.new) (world_of window_after self.new.ends self.new.given)) }
     {
         let moment = settle(self.alloc, &mut self.ends, &mut self.given, now)?;
         put_rest(out, moment)
@@ -147,8 +152,8 @@ impl Session {
         out: &mut String,
     ) -> Result<(), AllocError>
         ensures same_sources { (self.new.client_source ≡ self.old.client_source) × (self.new.server_source ≡ self.old.server_source) }
-        ensures same { world_of self.new.ends self.new.given ≡ world_of self.old.ends self.old.given }
-        ensures text { OnOk result (string_bytes out.new ≡ string_bytes out.old ++ shown_text side (given_by side (world_of self.old.ends self.old.given)) index) }
+        ensures same { world_of window_after self.new.ends self.new.given ≡ world_of window_after self.old.ends self.old.given }
+        ensures text { OnOk result (string_bytes out.new ≡ string_bytes out.old ++ shown_text side (given_by side (world_of window_after self.old.ends self.old.given)) index) }
     {
         match side {
             Side::Client => {

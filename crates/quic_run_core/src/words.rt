@@ -9,7 +9,7 @@ use std::marker::Model;
 
 /// Where an end's random words come from.
 #[derive(Clone, Copy, Debug)]
-pub(crate) enum Source {
+pub enum Source {
     /// Each is this word.
     Word(u64),
     /// They are those of the generator that is seeded by this number.
@@ -42,7 +42,7 @@ impl Words {
     }
 
     /// The random source that gives the words of this one, from the first on.
-    pub(crate) fn of(source: Source) -> Self
+    pub fn of(source: Source) -> Self
         ensures { ⟦<Words as Rng>⟧.stream result ≡ source_stream source }
     {
         match source {

@@ -19,13 +19,13 @@ const STREAMS: u64 = 3;
 
 /// A source of numbers by chance.
 #[derive(Drop)]
-struct Dice {
-    state: u64,
+pub(crate) struct Dice {
+    pub(crate) state: u64,
 }
 
 impl Dice {
     /// A number below this one.
-    fn below(&mut self, bound: u64) -> u64 {
+    pub(crate) fn below(&mut self, bound: u64) -> u64 {
         self.state = self
             .state
             .wrapping_mul(6364136223846793005)
@@ -121,7 +121,7 @@ impl Way {
 }
 
 /// The stream that was told to be finished, if one was.
-fn finished_of(told: &Answer) -> Option<StreamId> {
+pub(crate) fn finished_of(told: &Answer) -> Option<StreamId> {
     match told {
         Answer::Event(Some(Event::Stream(StreamEvent::Finished { id }))) => Some(*id),
         _ => None,

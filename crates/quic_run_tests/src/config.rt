@@ -1,5 +1,6 @@
 //! What an end tells its peer of its configuration.
-use quic_connection::{Config, TransportConfig};
+use crate::frames::refusal_of_window;
+use quic_connection::{Config, ConfigError, NewRenoConfig, TransportConfig};
 use quic_parameters::TransportParameters;
 use std::test::Fail;
 
@@ -20,8 +21,16 @@ pub(crate) const DEFAULTS: [u8; 62] = [
 
 #[test]
 fn defaults_are_written(rt: HostRuntime) -> Result<(), Fail> {
-    let config = Config::new(TransportConfig::default());
+    let config = Config::new(TransportConfig::default(), NewRenoConfig::default());
     let bytes = config.write_parameters(rt.alloc(), &TransportParameters::ORDER)?;
     assert!(rt; bytes.as_slice() == DEFAULTS.as_slice());
     Ok(())
+}
+
+// RFC 9002, section 7.2: two datagrams of 1200 bytes.
+#[test]
+fn small_windows_are_refused(rt: HostRuntime) {
+    let refused = refusal_of_window(rt.alloc(), 2399);
+    assert_eq!(rt; refused, Some(ConfigError::Window));
+    assert_eq!(rt; refusal_of_window(rt.alloc(), 2400), None);
 }

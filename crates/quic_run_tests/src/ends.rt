@@ -2,6 +2,7 @@
 //! does is proved to let them go wherever it ends: the others act on ends that they borrow.
 ghost use Rattle.std.specs.Prelude.{◌≡◌, IfOk};
 ghost use Rattle.quic_machine.specs.Start.{AreStarted, AreKeys};
+ghost use Rattle.quic_congestion.specs.NewReno.{window_after};
 ghost use Rattle.quic_connection.specs.Ends.{first_world, policies_of};
 ghost use Rattle.quic_run_core.specs.KeysOf.{keys_of};
 ghost use Rattle.quic_run_core.specs.Plain.{plain_protection, plain_aead};
@@ -9,8 +10,8 @@ ghost use Rattle.quic_run_core.specs.Words.{stream_from};
 
 use bytes::Bytes;
 use quic_connection::{
-    Answer, Call, Config, ConfigError, Delivery, Ends, Given, Instant, Making, ReadCall, Received,
-    RunEvent, TransportConfig, run, step,
+    Answer, Call, Config, ConfigError, Delivery, Ends, Given, Instant, Making, NewReno,
+    NewRenoConfig, ReadCall, Received, RunEvent, TransportConfig, run, step,
 };
 use quic_run_core::Words;
 use quic_run_core::key::{PlainHeaderKey, PlainKey, keys_for};
@@ -19,7 +20,7 @@ use quic_wire_core::{ConnectionId, Dir, EcnCodepoint, Side, StreamId, VarInt};
 use std::alloc::{AllocError, Global};
 use std::test::Fail;
 
-type BothEnds = Ends<PlainHeaderKey, PlainKey, Words>;
+type BothEnds = Ends<PlainHeaderKey, PlainKey, Words, NewReno>;
 
 /// The first id of an end.
 fn id_of(side: Side) -> ConnectionId {
@@ -29,11 +30,14 @@ fn id_of(side: Side) -> ConnectionId {
     }
 }
 
-fn making(side: Side, transport: TransportConfig) -> Making<PlainHeaderKey, PlainKey, Words>
+fn making(
+    side: Side,
+    transport: TransportConfig,
+) -> Making<NewRenoConfig, PlainHeaderKey, PlainKey, Words>
     ensures { result.keys ≡ keys_of side }
 {
     Making {
-        config: Config::new(transport),
+        config: Config::new(transport, NewRenoConfig::default()),
         id: id_of(side),
         keys: keys_for(side),
         random: Words::word(63),
@@ -44,7 +48,7 @@ fn making(side: Side, transport: TransportConfig) -> Making<PlainHeaderKey, Plai
 /// Two ends that are made for one another at the moment 0: they and their keys meet what the promises
 /// on runs ask.
 fn ends_with(alloc: Global, transport: TransportConfig) -> Result<BothEnds, ConfigError>
-    ensures started { IfOk result (λ ends. AreStarted (first_world ends)) }
+    ensures started { IfOk result (λ ends. AreStarted (first_world window_after ends)) }
     ensures keys { IfOk result (λ ends. AreKeys (policies_of (λ _. plain_protection) (λ k. plain_aead k.mark) stream_from ends)) }
 {
     keys_meet_the_premises();
@@ -56,7 +60,7 @@ fn ends_with(alloc: Global, transport: TransportConfig) -> Result<BothEnds, Conf
 
 /// Two such ends where nothing is set.
 pub(crate) fn new_ends(alloc: Global) -> Result<BothEnds, ConfigError>
-    ensures started { IfOk result (λ ends. AreStarted (first_world ends)) }
+    ensures started { IfOk result (λ ends. AreStarted (first_world window_after ends)) }
     ensures keys { IfOk result (λ ends. AreKeys (policies_of (λ _. plain_protection) (λ k. plain_aead k.mark) stream_from ends)) }
 {
     ends_with(alloc, TransportConfig::default())

@@ -1,5 +1,7 @@
 //! What an end makes of a payload that its peer sealed and that an honest peer doesn't send.
-use quic_connection::{Config, ConfigError, Connection, Instant, Received, TransportConfig};
+use quic_connection::{
+    Config, ConfigError, Connection, Instant, NewReno, NewRenoConfig, Received, TransportConfig,
+};
 use quic_packet::seal_packet;
 use quic_run_core::Words;
 use quic_run_core::key::{PlainHeaderKey, PlainKey, keys_for};
@@ -8,7 +10,7 @@ use std::alloc::{AllocError, Global};
 use std::process::Abort;
 use std::test::Fail;
 
-pub(crate) type End = Connection<PlainHeaderKey, PlainKey, Words>;
+pub(crate) type End = Connection<PlainHeaderKey, PlainKey, Words, NewReno>;
 
 /// The first id of an end.
 fn id_of(side: Side) -> [u8; 8] {
@@ -35,12 +37,12 @@ pub(crate) fn sealed_for(
     Ok(out)
 }
 
-/// An end of this side, whose peer has the default parameters.
-fn new_end(alloc: Global, side: Side, transport: TransportConfig) -> Result<End, ConfigError> {
+/// An end of this side and this configuration, whose peer has the default parameters.
+fn end_of(alloc: Global, side: Side, config: &Config<NewRenoConfig>) -> Result<End, ConfigError> {
     Connection::new(
         alloc,
         side,
-        &Config::new(transport),
+        config,
         &[],
         ConnectionId::new(&id_of(side)),
         ConnectionId::new(&id_of(!side)),
@@ -49,6 +51,14 @@ fn new_end(alloc: Global, side: Side, transport: TransportConfig) -> Result<End,
         Words::word(63),
         true,
     )
+}
+
+/// Why no end is made whose congestion controller begins with this window, if none is.
+pub(crate) fn refusal_of_window(alloc: Global, window: u64) -> Option<ConfigError> {
+    let mut factory = NewRenoConfig::default();
+    factory.initial_window(window);
+    let config = Config::new(TransportConfig::default(), factory);
+    end_of(alloc, Side::Client, &config).err()
 }
 
 /// What comes of an act with such an end: here alone it is let go.
@@ -60,7 +70,8 @@ pub(crate) fn with_end<T, F: FnOnce(&mut End) -> Result<T, Fail>>(
 ) -> Result<T, Fail>
     requires { F.IsAlwaysCallable act }
 {
-    let mut end = new_end(alloc, side, transport)?;
+    let config = Config::new(transport, NewRenoConfig::default());
+    let mut end = end_of(alloc, side, &config)?;
     act(&mut end)
 }
 

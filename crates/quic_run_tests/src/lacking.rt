@@ -3,8 +3,8 @@
 use crate::config::DEFAULTS;
 use crate::ends::{Pair, hello, is_served, new_ends, ran, with_pair};
 use quic_connection::{
-    Answer, Call, Config, ConfigError, FinishError, Instant, ReadableError, Received, RunEvent,
-    TransportConfig, WriteError,
+    Answer, Call, Config, ConfigError, FinishError, Instant, NewRenoConfig, ReadableError,
+    Received, RunEvent, TransportConfig, WriteError,
 };
 use quic_parameters::TransportParameters;
 use quic_wire_core::Side;
@@ -17,7 +17,7 @@ const TIMES: u8 = 12;
 
 #[test]
 fn parameters(rt: HostRuntime) {
-    let config = Config::new(TransportConfig::default());
+    let config = Config::new(TransportConfig::default(), NewRenoConfig::default());
     let mut lacked = false;
     for _ in 0..TIMES {
         match config.write_parameters(rt.alloc(), &TransportParameters::ORDER) {

@@ -2,6 +2,7 @@
 //! contract is the law.
 ghost use Rattle.std.specs.Prelude.{◌≡◌};
 ghost use Rattle.quic_wire_core.specs.declared.stream_id.Side.TheVariants.{Client, Server};
+ghost use Rattle.quic_congestion.specs.NewReno.{Reno};
 ghost use Rattle.quic_machine.specs.End.{ConnectionValue, policy_of};
 ghost use Rattle.quic_connection_core.specs.Drawn.{words_of};
 ghost use Rattle.quic_connection.specs.Ends.{Serves};
@@ -20,12 +21,12 @@ use rand_core::Rng;
 /// In the worked run each end's keys do what the keys of scripts do, and its random source answers
 /// 63 for ever.
 pub fn worked_run_has_these_keys()
-    ensures client { (w : ConnectionValue PlainHeaderKey PlainKey Words) → w.keys ≡ keys_of Client
+    ensures client { (w : ConnectionValue PlainHeaderKey PlainKey Words Reno) → w.keys ≡ keys_of Client
         → GivesForEver 63 (⟦<Words as Rng>⟧.stream w.random)
         → Serves worked_policies.client
         (policy_of ⟦<PlainHeaderKey as HeaderKey>⟧.protection ⟦<PlainKey as PacketKey>⟧.aead
         (words_of ⟦<Words as Rng>⟧.stream) w) w.end }
-    ensures server { (w : ConnectionValue PlainHeaderKey PlainKey Words) → w.keys ≡ keys_of Server
+    ensures server { (w : ConnectionValue PlainHeaderKey PlainKey Words Reno) → w.keys ≡ keys_of Server
         → GivesForEver 63 (⟦<Words as Rng>⟧.stream w.random)
         → Serves worked_policies.server
         (policy_of ⟦<PlainHeaderKey as HeaderKey>⟧.protection ⟦<PlainKey as PacketKey>⟧.aead

@@ -24,11 +24,12 @@ fn one_stream_frame() -> FrameStats {
 }
 
 /// A path on which so many packets went, and no round trip was measured: one is taken to last 333
-/// ms (RFC 9002, section 6.2.2).
+/// ms (RFC 9002, section 6.2.2), with the window that NewReno begins with.
 fn fresh_path(sent_packets: u64) -> PathStats {
     let mut path = PathStats::default();
     path.rtt = Duration::from_millis(333);
     path.min_rtt = Duration::from_millis(333);
+    path.cwnd = 12000;
     path.current_mtu = 1200;
     path.sent_packets = sent_packets;
     path

@@ -1,6 +1,7 @@
 //! What calls on streams answer.
 
 use quic_wire_core::{Dir, StreamId, VarInt};
+use std::fmt;
 use thiserror::Error;
 
 /// What happened to a stream (quinn-proto's `StreamEvent`).
@@ -18,6 +19,21 @@ pub enum StreamEvent {
     Stopped { id: StreamId, error_code: VarInt },
     /// More streams of a kind may be opened (RFC 9000, section 4.6).
     Available { dir: Dir },
+}
+
+impl fmt::Display for StreamEvent {
+    fn fmt<W: fmt::Write>(&self, f: &mut fmt::Formatter<W>) -> fmt::Result {
+        match self {
+            StreamEvent::Opened { dir } => write!(f, "{dir} streams may be accepted"),
+            StreamEvent::Readable { id } => write!(f, "{id} is readable"),
+            StreamEvent::Writable { id } => write!(f, "{id} is writable"),
+            StreamEvent::Finished { id } => write!(f, "{id} is finished"),
+            StreamEvent::Stopped { id, error_code } => {
+                write!(f, "{id} is stopped with code {error_code}")
+            }
+            StreamEvent::Available { dir } => write!(f, "{dir} streams may be opened"),
+        }
+    }
 }
 
 /// Why nothing was written (quinn-proto's `WriteError`).

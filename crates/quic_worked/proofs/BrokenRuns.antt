@@ -16,7 +16,7 @@ use Rattle.quic_machine.specs.declared.run.View.{View}
 use Rattle.quic_streams_state.specs.declared.state.StreamsState.{StreamsState}
 use Rattle.quic_machine.specs.Calls.{end_tells}
 use Rattle.quic_machine.specs.StreamCalls.{IsRead}
-use Rattle.quic_machine.specs.Machine.{IsAnswer, IsStep, Follows, World, policy_at, end_at, given_by, fails}
+use Rattle.quic_machine.specs.Machine.{IsAnswer, IsStep, Follows, World, policy_at, end_met, given_by, fails}
 use Rattle.quic_headline.specs.Runs.{Next}
 use Rattle.quic_headline.specs.Headline.{AckTimersFollow}
 use Rattle.quic_worked.specs.Acknowledged.{client_acked}
@@ -49,7 +49,7 @@ behind {w} {y} {event} {a} {events} {told} served step not_so =
 -- an event isn't answered so
 abbrev pub IsRefused : World → RunEvent → Answer → Type 0
 IsRefused w event a =
-    IsAnswer (policy_at event.side worked_policies) (end_at event.side w) (given_by (other_side event.side) w) event.call a → ⊥
+    IsAnswer (policy_at event.side worked_policies) (end_met w event) (given_by (other_side event.side) w) event.call a → ⊥
 
 never_first : (views : List View) (w end : World) (event : RunEvent) (a : Answer) (events : List RunEvent) (told : List Answer)
     → IsRefused w event a → Follows worked_policies w (event ∷ events) (a ∷ told) views end → ⊥
@@ -197,7 +197,7 @@ nothing_more is = cc
 
 -- the stream is told to be finished once
 tells_first : IsStep worked_policies all_acked asks_event tells_finished all_told
-tells_first = record { answer = told_once; end = refl; others = refl; lacking = tt }
+tells_first = record { answer = told_once; end = refl; control = refl; others = refl; lacking = tt }
 
 pub never_twice : IsNoRun told_twice
 never_twice = behind refl tells_first (stops _ _ _ _ _ nothing_more)

@@ -1,15 +1,14 @@
 -- Runs in which limits are raised, event by event, and machines that raise them wrongly.
 use Rattle.std.proofs.Common.{◌≡◌, ℕ, List, [], ◌∷◌, ◌++◌, take, Some, None, Ok, true, refl, inl, inr, sym, ap, ◌∙◌, arith}
-use Rattle.quic_wire_core.specs.declared.stream_id.Side.TheVariants.{Server}
 use Rattle.quic_machine.specs.declared.answers.Received.TheVariants as receives
 use Rattle.quic_machine.specs.declared.run.ReadCall.{ReadCall}
 use Rattle.quic_machine.specs.declared.run.RunEvent.{RunEvent}
 use Rattle.quic_machine.specs.declared.run.Answer.{Answer}
 use Rattle.quic_machine.specs.declared.run.Answer.TheVariants as answers
 use Rattle.quic_machine.specs.declared.run.View.{View}
-use Rattle.quic_machine.specs.Machine.{IsStep, Follows, changed, view_of}
+use Rattle.quic_machine.specs.Machine.{IsStep, Follows, view_of}
 use Rattle.quic_headline.specs.Headline.{IsRun}
-use Rattle.quic_worked.specs.Worked.{worked_policies, hello, opens_stream, asks_datagram, delivers, accepts_stream, reads_stream, all_nexts, two_chunks, gives_bytes, sent_view, waiting_view, open_view}
+use Rattle.quic_worked.specs.Worked.{with_server, worked_policies, hello, opens_stream, asks_datagram, delivers, accepts_stream, reads_stream, all_nexts, two_chunks, gives_bytes, sent_view, waiting_view, open_view}
 use Rattle.quic_worked.specs.Acknowledged.{client_datagram, from_server}
 use Rattle.quic_worked.specs.Paired.{writes_on, asks_server, client_hears}
 use Rattle.quic_worked.specs.Broken.{NeverAnswers, IsNoRun}
@@ -41,29 +40,28 @@ one_heard = record { client = waiting_view; server = sent_view }
 -- ---- bytes
 
 pub opens : IsStep worked_policies narrow_bytes opens_stream (answers.Open (Some 0)) credit_opened
-opens = record { answer = refl; end = refl; others = refl; lacking = tt }
+opens = record { answer = refl; end = refl; control = refl; others = refl; lacking = tt }
 
 pub writes : IsStep worked_policies credit_opened (writes_on 0 (eight ++ eight)) (answers.Write (Ok 8)) credit_written
-writes = record { answer = inl refl; end = refl; others = refl; lacking = λ lacks. cc }
+writes = record { answer = inl refl; end = refl; control = refl; others = refl; lacking = λ lacks. cc }
 
 pub gives : IsStep worked_policies credit_written asks_datagram (gives_bytes 37) credit_sent
 unfolding credit_sent
-gives = record { answer = inl refl; end = refl; others = refl; lacking = tt }
+gives = record { answer = inl refl; end = refl; control = refl; others = refl; lacking = tt }
 
 pub takes : IsStep worked_policies credit_sent delivers (answers.Deliver receives.Taken) credit_taken
 unfolding credit_taken
-takes = record { answer = inl refl; end = refl; others = refl; lacking = tt }
+takes = record { answer = inl refl; end = refl; control = refl; others = refl; lacking = tt }
 
 pub accepts : IsStep worked_policies credit_taken accepts_stream (answers.Accept (Some 0)) credit_accepted
 unfolding credit_taken
-accepts = record { answer = refl; end = refl; others = refl; lacking = tt }
+accepts = record { answer = refl; end = refl; control = refl; others = refl; lacking = tt }
 
-reads_so : ReadsSo credit_accepted.server 0 true eight_bounds eight_nexts credit_read.server
+reads_so : ReadsSo credit_accepted 0 true eight_bounds eight_nexts credit_read.server
 unfolding credit_taken
 reads_so = record { answer = (refl, (inl refl, tt)); lacking = (λ lacks. cc, tt); end = refl }
 
-reads_only : credit_read ≡ changed Server credit_accepted credit_read.server []
-unfolding credit_taken
+reads_only : credit_read ≡ with_server credit_accepted credit_read.server
 reads_only = refl
 
 pub reads : (read : ReadCall) → ReadsEight read → IsStep worked_policies credit_accepted (reads_stream read) (answers.Read (Ok eight_nexts)) credit_read
@@ -71,15 +69,15 @@ reads = reads_at credit_accepted credit_read 0 true eight_bounds eight_nexts rea
 
 pub raises : IsStep worked_policies credit_read asks_server (gives_bytes 33) credit_given
 unfolding credit_given
-raises = record { answer = inl refl; end = refl; others = refl; lacking = tt }
+raises = record { answer = inl refl; end = refl; control = refl; others = refl; lacking = tt }
 
 hears : IsStep worked_policies credit_given client_hears (answers.Deliver receives.Taken) credit_heard
 unfolding credit_heard
-hears = record { answer = inl refl; end = refl; others = refl; lacking = tt }
+hears = record { answer = inl refl; end = refl; control = refl; others = refl; lacking = tt }
 
 writes_on_more : IsStep worked_policies credit_heard (writes_on 0 eight) (answers.Write (Ok 8)) credit_used
 unfolding credit_heard
-writes_on_more = record { answer = inl refl; end = refl; others = refl; lacking = λ lacks. cc }
+writes_on_more = record { answer = inl refl; end = refl; control = refl; others = refl; lacking = λ lacks. cc }
 
 sent_seen : one_sent ≡ view_of credit_sent
 unfolding credit_sent
@@ -180,35 +178,34 @@ no_one_below read by views end is = (not_below read by).never views end is.follo
 -- ---- a count
 
 counts_open : IsStep worked_policies narrow_count opens_one_way (answers.Open (Some 2)) count_opened
-counts_open = record { answer = refl; end = refl; others = refl; lacking = tt }
+counts_open = record { answer = refl; end = refl; control = refl; others = refl; lacking = tt }
 
 refuses_second : IsStep worked_policies count_opened opens_one_way (answers.Open None) count_refused
-refuses_second = record { answer = refl; end = refl; others = refl; lacking = tt }
+refuses_second = record { answer = refl; end = refl; control = refl; others = refl; lacking = tt }
 
 counts_write : IsStep worked_policies count_refused (writes_on 2 hello) (answers.Write (Ok 5)) count_written
-counts_write = record { answer = inl refl; end = refl; others = refl; lacking = λ lacks. cc }
+counts_write = record { answer = inl refl; end = refl; control = refl; others = refl; lacking = λ lacks. cc }
 
 counts_end : IsStep worked_policies count_written ends_one_way (answers.Finish (Ok tt)) count_ended
-counts_end = record { answer = inl refl; end = refl; others = refl; lacking = λ lacks. cc }
+counts_end = record { answer = inl refl; end = refl; control = refl; others = refl; lacking = λ lacks. cc }
 
 counts_give : IsStep worked_policies count_ended asks_datagram (gives_bytes 34) count_sent
 unfolding count_sent
-counts_give = record { answer = inl refl; end = refl; others = refl; lacking = tt }
+counts_give = record { answer = inl refl; end = refl; control = refl; others = refl; lacking = tt }
 
 counts_take : IsStep worked_policies count_sent delivers (answers.Deliver receives.Taken) count_taken
 unfolding count_taken
-counts_take = record { answer = inl refl; end = refl; others = refl; lacking = tt }
+counts_take = record { answer = inl refl; end = refl; control = refl; others = refl; lacking = tt }
 
 counts_accept : IsStep worked_policies count_taken accepts_one_way (answers.Accept (Some 2)) count_accepted
 unfolding count_taken
-counts_accept = record { answer = refl; end = refl; others = refl; lacking = tt }
+counts_accept = record { answer = refl; end = refl; control = refl; others = refl; lacking = tt }
 
-counts_read_so : ReadsSo count_accepted.server 2 true two_chunks all_nexts count_read.server
+counts_read_so : ReadsSo count_accepted 2 true two_chunks all_nexts count_read.server
 unfolding count_taken
 counts_read_so = record { answer = (refl, (inl refl, (inl refl, tt))); lacking = (λ lacks. cc, (λ lacks. cc, tt)); end = refl }
 
-counts_read_only : count_read ≡ changed Server count_accepted count_read.server []
-unfolding count_taken
+counts_read_only : count_read ≡ with_server count_accepted count_read.server
 counts_read_only = refl
 
 counts_read : (read : ReadCall) → ReadsOneWay read → IsStep worked_policies count_accepted (reads_stream read) (answers.Read (Ok all_nexts)) count_read
@@ -216,15 +213,15 @@ counts_read = reads_at count_accepted count_read 2 true two_chunks all_nexts cou
 
 gives_back : IsStep worked_policies count_read asks_server (gives_bytes 33) count_given
 unfolding count_given
-gives_back = record { answer = inl refl; end = refl; others = refl; lacking = tt }
+gives_back = record { answer = inl refl; end = refl; control = refl; others = refl; lacking = tt }
 
 counts_hear : IsStep worked_policies count_given client_hears (answers.Deliver receives.Taken) count_heard
 unfolding count_heard
-counts_hear = record { answer = inl refl; end = refl; others = refl; lacking = tt }
+counts_hear = record { answer = inl refl; end = refl; control = refl; others = refl; lacking = tt }
 
 opens_next : IsStep worked_policies count_heard opens_one_way (answers.Open (Some 6)) count_used
 unfolding count_heard
-opens_next = record { answer = refl; end = refl; others = refl; lacking = tt }
+opens_next = record { answer = refl; end = refl; control = refl; others = refl; lacking = tt }
 
 count_sent_seen : one_sent ≡ view_of count_sent
 unfolding count_sent

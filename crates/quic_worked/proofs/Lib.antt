@@ -1,4 +1,5 @@
 pub mod Codes
+mod Steps
 mod Waited
 pub mod Unread
 pub mod WorkedRun
@@ -28,6 +29,7 @@ pub mod TimedRun
 mod MeasuredRun
 mod SkippedRun
 mod ProbedRun
+mod HeldRun
 mod LimitedRun
 mod UsedUpRun
 mod MessageRuns

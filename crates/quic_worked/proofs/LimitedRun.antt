@@ -14,11 +14,11 @@ use Rattle.quic_machine.specs.declared.run.Answer.TheVariants as answers
 use Rattle.quic_machine.specs.declared.run.View.{View}
 use Rattle.quic_machine.specs.End.{IsMade}
 use Rattle.quic_machine.specs.Start.{AreStarted}
-use Rattle.quic_machine.specs.Machine.{IsStep, Follows, changed, view_of}
+use Rattle.quic_machine.specs.Machine.{IsStep, Follows, view_of}
 use Rattle.quic_headline.specs.Headline.{IsHonest, IsRun}
 use Rattle.quic_headline.specs.Observer.{took}
 use Rattle.quic_headline.specs.Amounts.{was_stopped, taken_of, left_for, WritesTakeWhatLimitsAllow}
-use Rattle.quic_worked.specs.Worked.{worked_policies, worked_parameters, client_id, server_id, once_opened, opens_stream, writes_hello, asks_datagram, delivers, accepts_stream, reads_stream, gives_bytes, sent_view, waiting_view, open_view}
+use Rattle.quic_worked.specs.Worked.{with_server, steady, worked_policies, worked_parameters, client_id, server_id, once_opened, opens_stream, writes_hello, asks_datagram, delivers, accepts_stream, reads_stream, gives_bytes, sent_view, waiting_view, open_view}
 use Rattle.quic_worked.specs.Acknowledged.{client_datagram, from_server}
 use Rattle.quic_worked.specs.Paired.{writes_on, asks_server, client_hears}
 use Rattle.quic_worked.specs.Broken.{IsNoRun}
@@ -39,12 +39,12 @@ narrow_say = refl
 
 unfoldable pub limited_started : AreStarted limited_start
 limited_started = record {
-  client_making = record { settings = keeps_seven; parameters = worked_parameters; id = client_id; moment = 0; validated = true; word = 63 };
-  server_making = record { settings = takes_eight; parameters = narrow_parameters; id = server_id; moment = 0; validated = true; word = 63 };
+  client_making = record { settings = keeps_seven; windows = steady; parameters = worked_parameters; id = client_id; moment = 0; validated = true; word = 63 };
+  server_making = record { settings = takes_eight; windows = steady; parameters = narrow_parameters; id = server_id; moment = 0; validated = true; word = 63 };
   client_is = record { range = record { receive_window = lit< tt; stream_receive_window = lit< tt }; says = parameters_say; id = refl };
   server_is = record { range = record { receive_window = lit< tt; stream_receive_window = lit< tt }; says = narrow_say; id = refl };
-  client = subst (λ read. IsMade Client keeps_seven read client_id server_id 0 true 63 limited_start.client) (sym narrow_say) refl;
-  server = subst (λ read. IsMade Server takes_eight read server_id client_id 0 true 63 limited_start.server) (sym parameters_say) refl;
+  client = subst (λ read. IsMade Client keeps_seven steady read client_id server_id 0 true 63 limited_start.client) (sym narrow_say) refl;
+  server = subst (λ read. IsMade Server takes_eight steady read server_id client_id 0 true 63 limited_start.server) (sym parameters_say) refl;
   client_gave = refl;
   server_gave = refl;
 }
@@ -67,40 +67,39 @@ abbrev one_heard : View
 one_heard = record { client = waiting_view; server = sent_view }
 
 opens : IsStep worked_policies limited_start opens_stream (answers.Open (Some 0)) limited_opened
-opens = record { answer = refl; end = refl; others = refl; lacking = tt }
+opens = record { answer = refl; end = refl; control = refl; others = refl; lacking = tt }
 
 opens_both : IsStep worked_policies limited_opened opens_stream (answers.Open (Some 4)) limited_both
-opens_both = record { answer = refl; end = refl; others = refl; lacking = tt }
+opens_both = record { answer = refl; end = refl; control = refl; others = refl; lacking = tt }
 
 writes_first : IsStep worked_policies limited_both (writes_on 0 sixteen) (answers.Write (Ok 5)) limited_first
-writes_first = record { answer = inl refl; end = refl; others = refl; lacking = λ lacks. cc }
+writes_first = record { answer = inl refl; end = refl; control = refl; others = refl; lacking = λ lacks. cc }
 
 writes_second : IsStep worked_policies limited_first (writes_on 4 sixteen) (answers.Write (Ok 2)) limited_second
 unfolding with_offsets with_range joining
-writes_second = record { answer = inl refl; end = refl; others = refl; lacking = λ lacks. cc }
+writes_second = record { answer = inl refl; end = refl; control = refl; others = refl; lacking = λ lacks. cc }
 
 blocks : IsStep worked_policies limited_second (writes_on 4 sixteen) (answers.Write (Err write_errors.Blocked)) limited_blocked
 unfolding with_offsets with_range joining
-blocks = record { answer = inl refl; end = refl; others = refl; lacking = λ lacks. cc }
+blocks = record { answer = inl refl; end = refl; control = refl; others = refl; lacking = λ lacks. cc }
 
 gives : IsStep worked_policies limited_blocked asks_datagram (gives_bytes 39) limited_sent
 unfolding limited_sent
-gives = record { answer = inl refl; end = refl; others = refl; lacking = tt }
+gives = record { answer = inl refl; end = refl; control = refl; others = refl; lacking = tt }
 
 takes : IsStep worked_policies limited_sent delivers (answers.Deliver receives.Taken) limited_taken
 unfolding limited_taken
-takes = record { answer = inl refl; end = refl; others = refl; lacking = tt }
+takes = record { answer = inl refl; end = refl; control = refl; others = refl; lacking = tt }
 
 accepts : IsStep worked_policies limited_taken accepts_stream (answers.Accept (Some 0)) limited_accepted
 unfolding limited_taken
-accepts = record { answer = refl; end = refl; others = refl; lacking = tt }
+accepts = record { answer = refl; end = refl; control = refl; others = refl; lacking = tt }
 
-reads_so : ReadsSo limited_accepted.server 0 true eight_bounds hello_nexts limited_read.server
+reads_so : ReadsSo limited_accepted 0 true eight_bounds hello_nexts limited_read.server
 unfolding limited_taken
 reads_so = record { answer = (refl, (inl refl, tt)); lacking = (λ lacks. cc, tt); end = refl }
 
-reads_only : limited_read ≡ changed Server limited_accepted limited_read.server []
-unfolding limited_taken
+reads_only : limited_read ≡ with_server limited_accepted limited_read.server
 reads_only = refl
 
 reads : (read : ReadCall) → ReadsEight read → IsStep worked_policies limited_accepted (reads_stream read) (answers.Read (Ok hello_nexts)) limited_read
@@ -108,23 +107,23 @@ reads = reads_at limited_accepted limited_read 0 true eight_bounds hello_nexts r
 
 raises : IsStep worked_policies limited_read asks_server (gives_bytes 36) limited_given
 unfolding limited_given
-raises = record { answer = inl refl; end = refl; others = refl; lacking = tt }
+raises = record { answer = inl refl; end = refl; control = refl; others = refl; lacking = tt }
 
 hears : IsStep worked_policies limited_given client_hears (answers.Deliver receives.Taken) limited_heard
 unfolding limited_heard
-hears = record { answer = inl refl; end = refl; others = refl; lacking = tt }
+hears = record { answer = inl refl; end = refl; control = refl; others = refl; lacking = tt }
 
 writes_third : IsStep worked_policies limited_heard (writes_on 0 sixteen) (answers.Write (Ok 5)) limited_third
 unfolding limited_heard
-writes_third = record { answer = inl refl; end = refl; others = refl; lacking = λ lacks. cc }
+writes_third = record { answer = inl refl; end = refl; control = refl; others = refl; lacking = λ lacks. cc }
 
 writes_fourth : IsStep worked_policies limited_third (writes_on 4 sixteen) (answers.Write (Ok 1)) limited_fourth
 unfolding limited_heard
-writes_fourth = record { answer = inl refl; end = refl; others = refl; lacking = λ lacks. cc }
+writes_fourth = record { answer = inl refl; end = refl; control = refl; others = refl; lacking = λ lacks. cc }
 
 blocks_again : IsStep worked_policies limited_fourth (writes_on 4 sixteen) (answers.Write (Err write_errors.Blocked)) limited_end
 unfolding limited_heard
-blocks_again = record { answer = inl refl; end = refl; others = refl; lacking = λ lacks. cc }
+blocks_again = record { answer = inl refl; end = refl; control = refl; others = refl; lacking = λ lacks. cc }
 
 sent_seen : one_sent ≡ view_of limited_sent
 unfolding limited_sent

@@ -13,11 +13,11 @@ use Rattle.quic_machine.specs.declared.run.Answer.{Answer}
 use Rattle.quic_machine.specs.declared.run.Answer.TheVariants as answers
 use Rattle.quic_machine.specs.declared.run.View.{View}
 use Rattle.quic_machine.specs.StreamCalls.{IsRead}
-use Rattle.quic_machine.specs.Machine.{IsStep, Follows, changed, view_of}
+use Rattle.quic_machine.specs.Machine.{IsStep, Follows, view_of}
 use Rattle.quic_headline.specs.Runs.{Packet, Next, until, nexts, chunks_of, reads, offsets_of, only_in_order, HasArrived}
 use Rattle.quic_headline.specs.Observer.{took}
 use Rattle.quic_headline.specs.Headline.{NoneToGive, Once, BlockedOnlyWithoutBytes, IsHonest, IsRun}
-use Rattle.quic_worked.specs.Worked.{NextAnswers, worked_policies, started, once_taken, reads_stream, sent_view, waiting_view}
+use Rattle.quic_worked.specs.Worked.{with_server, NextAnswers, worked_policies, started, once_taken, reads_stream, sent_view, waiting_view}
 use Rattle.quic_worked.specs.Reordered.{abc, def, abc_datagram, def_datagram, second_taken, second_accepted, delivers_at, blocked_nexts, reordered_events, reordered_views, stream_packet}
 use Rattle.quic_worked.specs.Broken.{NeverAnswers, IsNoRun}
 use Rattle.quic_worked.specs.Picked.{picked_bounds, Picks, picks_at, picked_with, picked_as, picked_run, picked_once, picked_taken, picked_twice, again_nexts, picked_again, never_picked}
@@ -30,12 +30,11 @@ use Rattle.quic_worked.proofs.BrokenRuns.{stops, behind, read_of, not_next}
 -- ---- the reads
 
 -- what came first is given, and then nothing
-first_so : ReadsSo second_accepted.server 0 false picked_bounds (picks_at 3 def) picked_once.server
+first_so : ReadsSo second_accepted 0 false picked_bounds (picks_at 3 def) picked_once.server
 unfolding second_taken
 first_so = record { answer = (refl, (inl refl, (inl refl, tt))); lacking = (λ lacks. cc, (λ lacks. cc, tt)); end = refl }
 
-first_only : picked_once ≡ changed Server second_accepted picked_once.server []
-unfolding second_taken
+first_only : picked_once ≡ with_server second_accepted picked_once.server
 first_only = refl
 
 reads_first : (read : ReadCall) → Picks read → IsStep worked_policies second_accepted (reads_stream read) (answers.Read (Ok (picks_at 3 def))) picked_once
@@ -43,15 +42,14 @@ reads_first = reads_at second_accepted picked_once 0 false picked_bounds (picks_
 
 takes_abc : IsStep worked_policies picked_once (delivers_at 0) (answers.Deliver receives.Taken) picked_taken
 unfolding picked_taken
-takes_abc = record { answer = inl refl; end = refl; others = refl; lacking = tt }
+takes_abc = record { answer = inl refl; end = refl; control = refl; others = refl; lacking = tt }
 
 -- then what lacked
-second_so : ReadsSo picked_taken.server 0 false picked_bounds (picks_at 0 abc) picked_twice.server
+second_so : ReadsSo picked_taken 0 false picked_bounds (picks_at 0 abc) picked_twice.server
 unfolding picked_taken
 second_so = record { answer = (refl, (inl refl, (inl refl, tt))); lacking = (λ lacks. cc, (λ lacks. cc, tt)); end = refl }
 
-second_only : picked_twice ≡ changed Server picked_taken picked_twice.server []
-unfolding picked_taken
+second_only : picked_twice ≡ with_server picked_taken picked_twice.server
 second_only = refl
 
 reads_second : (read : ReadCall) → Picks read → IsStep worked_policies picked_taken (reads_stream read) (answers.Read (Ok (picks_at 0 abc))) picked_twice

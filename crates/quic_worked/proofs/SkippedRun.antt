@@ -14,7 +14,7 @@ use Rattle.quic_machine.specs.End.{IsMade}
 use Rattle.quic_machine.specs.Machine.{IsStep, Follows, view_of}
 use Rattle.quic_headline.specs.Causes.{Shows, NoBlame}
 use Rattle.quic_headline.specs.Headline.{IsHonest, IsRun}
-use Rattle.quic_worked.specs.Worked.{worked_policies, client_id, server_id, delivers, asks_datagram, gives_bytes, open_view, sent_view, waiting_view}
+use Rattle.quic_worked.specs.Worked.{steady, worked_policies, client_id, server_id, delivers, asks_datagram, gives_bytes, open_view, sent_view, waiting_view}
 use Rattle.quic_worked.specs.Broken.{IsNoRun}
 use Rattle.quic_worked.specs.Closed.{closed_view}
 use Rattle.quic_worked.specs.Acknowledged.{client_takes}
@@ -37,7 +37,7 @@ skipping_started = record {
   server_making = making server_id;
   client_is = record { range = record { receive_window = lit< tt; stream_receive_window = lit< tt }; says = parameters_say; id = refl };
   server_is = record { range = record { receive_window = lit< tt; stream_receive_window = lit< tt }; says = parameters_say; id = refl };
-  client = subst (λ read. IsMade Client default_settings read client_id server_id 0 true 0 leaving_out.client) (sym parameters_say) refl;
+  client = subst (λ read. IsMade Client default_settings steady read client_id server_id 0 true 0 leaving_out.client) (sym parameters_say) refl;
   server = server_is_made;
   client_gave = refl;
   server_gave = refl;
@@ -61,7 +61,7 @@ given_is_honest = record { start = skipping_started; keys = are_keys; ids = own_
 
 step_0 : IsStep worked_policies leaving_out asks_ping answers.Ping (once_skipped 1)
 unfolding once_skipped
-step_0 = record { answer = refl; end = refl; others = refl; lacking = tt }
+step_0 = record { answer = refl; end = refl; control = refl; others = refl; lacking = tt }
 
 seen_0 : ◌≡◌ {A = View} (record { client = open_view; server = open_view }) (view_of (once_skipped 1))
 unfolding once_skipped
@@ -69,7 +69,7 @@ seen_0 = refl
 
 step_1 : IsStep worked_policies (once_skipped 1) asks_datagram (gives_bytes 29) (once_skipped 2)
 unfolding once_skipped
-step_1 = record { answer = inl refl; end = refl; others = refl; lacking = tt }
+step_1 = record { answer = inl refl; end = refl; control = refl; others = refl; lacking = tt }
 
 seen_1 : ◌≡◌ {A = View} (record { client = sent_view; server = open_view }) (view_of (once_skipped 2))
 unfolding once_skipped
@@ -77,7 +77,7 @@ seen_1 = refl
 
 step_2 : IsStep worked_policies (once_skipped 2) delivers (answers.Deliver receives.Taken) (once_skipped 3)
 unfolding once_skipped
-step_2 = record { answer = inl refl; end = refl; others = refl; lacking = tt }
+step_2 = record { answer = inl refl; end = refl; control = refl; others = refl; lacking = tt }
 
 seen_2 : ◌≡◌ {A = View} (record { client = sent_view; server = waiting_view }) (view_of (once_skipped 3))
 unfolding once_skipped
@@ -85,7 +85,7 @@ seen_2 = refl
 
 step_3 : IsStep worked_policies (once_skipped 3) server_waits (answers.Timeout (Ok tt)) (once_skipped 4)
 unfolding once_skipped
-step_3 = record { answer = inl refl; end = refl; others = refl; lacking = tt }
+step_3 = record { answer = inl refl; end = refl; control = refl; others = refl; lacking = tt }
 
 seen_3 : ◌≡◌ {A = View} (record { client = sent_view; server = open_view }) (view_of (once_skipped 4))
 unfolding once_skipped
@@ -93,7 +93,7 @@ seen_3 = refl
 
 step_4 : IsStep worked_policies (once_skipped 4) server_polled (gives_bytes 32) (once_skipped 5)
 unfolding once_skipped
-step_4 = record { answer = inl refl; end = refl; others = refl; lacking = tt }
+step_4 = record { answer = inl refl; end = refl; control = refl; others = refl; lacking = tt }
 
 seen_4 : ◌≡◌ {A = View} (record { client = sent_view; server = open_view }) (view_of (once_skipped 5))
 unfolding once_skipped
@@ -101,7 +101,7 @@ seen_4 = refl
 
 step_5 : IsStep worked_policies (once_skipped 5) client_delivered (answers.Deliver receives.Taken) (once_skipped 6)
 unfolding once_skipped
-step_5 = record { answer = inl refl; end = refl; others = refl; lacking = tt }
+step_5 = record { answer = inl refl; end = refl; control = refl; others = refl; lacking = tt }
 
 seen_5 : ◌≡◌ {A = View} (record { client = open_view; server = open_view }) (view_of (once_skipped 6))
 unfolding once_skipped

@@ -8,14 +8,14 @@ use Rattle.quic_config.specs.Transport.{default_settings, IsInRange}
 use Rattle.quic_headline.specs.Runs.{In, until, ids_of}
 use Rattle.quic_machine.specs.Start.{Making, AreStarted}
 use Rattle.quic_headline.specs.Headline.{UsesOwnIds, used, IsHonest, IsRun}
-use Rattle.quic_worked.specs.Worked.{ReadsBy, two_chunks, worked_parameters, client_id, server_id, started, once_read, opens_stream, writes_hello, finishes_stream, asks_datagram, delivers, accepts_stream, reads_stream, worked_run}
+use Rattle.quic_worked.specs.Worked.{steady, ReadsBy, two_chunks, worked_parameters, client_id, server_id, started, once_read, opens_stream, writes_hello, finishes_stream, asks_datagram, delivers, accepts_stream, reads_stream, worked_run}
 use Rattle.quic_worked.proofs.WorkedRun.{parameters_say, client_is_made, server_is_made, follows, gave_hello, gave_none}
 use Rattle.quic_worked.proofs.WorkedKeys.{are_keys}
 use Rattle.quic_worked.proofs.Codes.{no_codes}
 
 -- an end with default settings and this id, at moment 0 on a validated path
 abbrev pub making : List ℕ → Making
-making id = record { settings = default_settings; parameters = worked_parameters; id = id; moment = 0; validated = true; word = 63 }
+making id = record { settings = default_settings; windows = steady; parameters = worked_parameters; id = id; moment = 0; validated = true; word = 63 }
 
 pub in_range : IsInRange default_settings
 in_range = record { receive_window = lit< tt; stream_receive_window = lit< tt }

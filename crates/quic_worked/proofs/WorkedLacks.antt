@@ -2,30 +2,30 @@
 use Rattle.std.proofs.Common.{◌≡◌, ◌<◌, ℕ, List, [], ◌∷◌, Ok, Err, Bool, true, false, refl, inl, inr, subst, sym, ◌∙◌, arith}
 use Rattle.quic_sets.specs.Offsets.{with_offsets}
 use Rattle.quic_sets.specs.Pieces.{with_range, joining}
-use Rattle.quic_wire_core.specs.declared.stream_id.Side.TheVariants.{Server}
 use Rattle.quic_streams_parts.specs.declared.answers.ReadableError.TheVariants as readable_errors
 use Rattle.quic_streams_parts.specs.declared.answers.ReadError.TheVariants as read_errors
 use Rattle.quic_machine.specs.declared.answers.Received.TheVariants as receives
 use Rattle.quic_machine.specs.declared.run.ReadCall.{ReadCall}
 use Rattle.quic_machine.specs.declared.run.Answer.TheVariants as answers
 use Rattle.quic_streams_state.specs.Reading.{told_bytes, after_read_begun, read_answer}
-use Rattle.quic_machine.specs.Machine.{World, IsStep, changed}
+use Rattle.quic_machine.specs.Machine.{World, IsStep}
 use Rattle.quic_machine.specs.Lacking.{NextsLack, ReadLacks}
 use Rattle.quic_worked.specs.Broken.{IsNever, writes_nothing, once_full, once_blocked, once_failed, lets_expire}
 use Rattle.quic_worked.specs.Worked.{write_lacks, finish_lacks, read_lacks, next_lacks, poll_lacks, ReadsBy, two_chunks, with_server, once_opened, once_written, once_ended, once_sent, once_taken, once_read, writes_hello, finishes_stream, asks_datagram, delivers, reads_stream, failed_end, worked_policies}
+use Rattle.quic_worked.proofs.Steps.{same_server, server_alone}
 use Rattle.quic_worked.proofs.WorkedRun.{ReadsSo, reads_at}
 use Rattle.quic_worked.proofs.Unread.{NothingGrew, stays, lacks}
 
 -- ---- where it may
 
 pub writes : IsStep worked_policies once_opened writes_hello write_lacks once_opened
-writes = record { answer = inr refl; end = refl; others = refl; lacking = λ lacks. (refl, omega arith) }
+writes = record { answer = inr refl; end = refl; control = refl; others = refl; lacking = λ lacks. (refl, omega arith) }
 
 pub notes : IsStep worked_policies once_full writes_hello write_lacks once_full
-notes = record { answer = inr refl; end = refl; others = refl; lacking = λ lacks. (refl, refl) }
+notes = record { answer = inr refl; end = refl; control = refl; others = refl; lacking = λ lacks. (refl, refl) }
 
 pub finishes : IsStep worked_policies once_written finishes_stream finish_lacks once_written
-finishes = record { answer = inr refl; end = refl; others = refl; lacking = λ lacks. refl }
+finishes = record { answer = inr refl; end = refl; control = refl; others = refl; lacking = λ lacks. refl }
 
 -- a read that is allowed, and whose limit has no place among those that wait
 begins_first : ReadLacks once_taken.server.streams once_taken.server.waiting.frames 0 true
@@ -37,13 +37,13 @@ begins_by read id ordered =
     let in_order = subst (λ (b : Bool). ReadLacks once_taken.server.streams once_taken.server.waiting.frames 0 b) (sym ordered) begins_first in
     subst (λ (n : ℕ). ReadLacks once_taken.server.streams once_taken.server.waiting.frames n read.ordered) (sym id) in_order
 
--- nothing is given
-took_only : once_taken ≡ changed Server once_taken once_taken.server []
-unfolding once_taken
-took_only = refl
+-- both ends are as they were
+took_only : once_taken ≡ with_server once_taken once_taken.server
+took_only = same_server once_taken
 
 pub begins : (read : ReadCall) → ReadsBy two_chunks read → IsStep worked_policies once_taken (reads_stream read) read_lacks once_taken
-begins read by = record { answer = inr refl; end = refl; others = took_only; lacking = λ lacks. begins_by read by.id by.ordered }
+unfolding once_taken
+begins read by = record { answer = inr refl; end = refl; control = refl; others = took_only ∙ server_alone once_taken once_taken.server; lacking = λ lacks. begins_by read by.id by.ordered }
 
 -- no limit grew there
 nothing_grew : NothingGrew once_taken.server.streams 0
@@ -51,7 +51,7 @@ unfolding once_taken
 nothing_grew = record { bytes = refl; two_way = refl; one_way = refl; stream = refl }
 
 -- a read whose one `next` lacks memory, and which leaves the end as it was
-cuts_two : ReadsSo once_taken.server 0 true (2 ∷ []) (Err read_errors.Memory ∷ []) once_taken.server
+cuts_two : ReadsSo once_taken 0 true (2 ∷ []) (Err read_errors.Memory ∷ []) once_taken.server
 unfolding once_taken
 cuts_two = record { answer = (refl, (inr refl, tt)); end = stays once_taken.server 0 2 (Err read_errors.Memory) (λ o s. lacks o s 0 2) nothing_grew; lacking = (λ lacks. (refl, refl), tt) }
 
@@ -61,12 +61,12 @@ reads = reads_at once_taken once_taken 0 true (2 ∷ []) (Err read_errors.Memory
 
 pub gives : IsStep worked_policies once_ended asks_datagram poll_lacks once_failed
 unfolding once_sent
-gives = record { answer = inr refl; end = (refl, refl, λ failed. cc, λ served. refl); others = refl; lacking = inl tt }
+gives = record { answer = inr refl; end = (refl, refl, λ failed. cc, λ served. refl); control = tt; others = refl; lacking = inl tt }
 
 pub takes : IsStep worked_policies once_sent delivers (answers.Deliver receives.Failed)
     (with_server once_sent (failed_end once_sent.server))
 unfolding once_taken
-takes = record { answer = inr refl; end = (refl, refl, λ failed. cc, λ served. refl); others = refl; lacking = tt }
+takes = record { answer = inr refl; end = (refl, refl, λ failed. cc, λ served. refl); control = tt; others = refl; lacking = tt }
 
 -- ---- where it may not
 

@@ -1,5 +1,5 @@
 -- The worked run, event by event: what each is answered, and what it leaves.
-use Rattle.std.proofs.Common.{◌≡◌, ◌<◌, ℕ, List, [], ◌∷◌, Some, Ok, Bool, true, false, refl, inl, subst, sym, lit<, arith}
+use Rattle.std.proofs.Common.{◌≡◌, ◌<◌, ℕ, List, [], ◌∷◌, Some, Ok, Bool, true, false, refl, inl, ap, subst, sym, ◌∙◌, lit<, arith}
 use Rattle.quic_wire_core.specs.declared.stream_id.Side.TheVariants.{Client, Server}
 use Rattle.quic_wire.specs.Value.{stream}
 use Rattle.quic_wire.specs.Grammar.{Numbers, Payload}
@@ -11,6 +11,7 @@ use Rattle.quic_machine.specs.declared.run.Answer.TheVariants as answers
 use Rattle.quic_config.specs.Transport.{default_settings, parameters_of}
 use Rattle.quic_streams_state.specs.Reading.{told_bytes, after_read_begun}
 use Rattle.quic_machine.specs.End.{End, MadeFrom, IsMade, streams_at, with_streams}
+use Rattle.quic_machine.specs.Control.{Control}
 use Rattle.quic_machine.specs.Machine.{World, IsStep, Follows, changed, view_of}
 use Rattle.quic_machine.specs.StreamCalls.{IsRead}
 use Rattle.quic_machine.specs.Calls.{after_reads}
@@ -18,78 +19,85 @@ use Rattle.quic_machine.specs.Lacking.{NextsLack}
 use Rattle.quic_machine.specs.Poll.{IsDatagram}
 use Rattle.quic_headline.specs.Runs.{Packet, WasTaken, HasArrived, EndHasArrived}
 use Rattle.quic_headline.specs.Observer.{took}
-use Rattle.quic_worked.specs.Worked.{NextAnswers, ReadsAs, ReadsBy, two_chunks, worked_parameters, client_id, server_id, client_made, server_made, started, once_opened, once_written, once_ended, once_sent, once_taken, once_accepted, once_read, hello_frame, hello_payload, hello_datagram, opens_stream, writes_hello, finishes_stream, asks_datagram, delivers, accepts_stream, reads_stream, all_nexts, gives_bytes, worked_policies, worked_events, worked_answers, open_view, sent_view, waiting_view, worked_views, worked_run}
+use Rattle.quic_worked.specs.Worked.{with_server, steady, NextAnswers, ReadsAs, ReadsBy, two_chunks, worked_parameters, client_id, server_id, client_made, server_made, started, once_opened, once_written, once_ended, once_sent, once_taken, once_accepted, once_read, hello_frame, hello_payload, hello_datagram, opens_stream, writes_hello, finishes_stream, asks_datagram, delivers, accepts_stream, reads_stream, all_nexts, gives_bytes, worked_policies, worked_events, worked_answers, open_view, sent_view, waiting_view, worked_views, worked_run}
+use Rattle.quic_worked.proofs.Steps.{server_alone}
 
 pub parameters_say : parameters_at worked_parameters ≡ Ok (parameters_of default_settings)
 unfolding parameters_at judged values_met met_in met_within met_after whole_at entry_at
 parameters_say = refl
 
-pub client_is_made : MadeFrom Client default_settings worked_parameters client_id server_id 0 true 63
+pub client_is_made : MadeFrom Client default_settings steady worked_parameters client_id server_id 0 true 63
     client_made
 client_is_made =
-    subst (λ read. IsMade Client default_settings read client_id server_id 0 true 63 client_made)
+    subst (λ read. IsMade Client default_settings steady read client_id server_id 0 true 63 client_made)
     (sym parameters_say) refl
 
-pub server_is_made : MadeFrom Server default_settings worked_parameters server_id client_id 0 true 63
+pub server_is_made : MadeFrom Server default_settings steady worked_parameters server_id client_id 0 true 63
     server_made
 server_is_made =
-    subst (λ read. IsMade Server default_settings read server_id client_id 0 true 63 server_made)
+    subst (λ read. IsMade Server default_settings steady read server_id client_id 0 true 63 server_made)
     (sym parameters_say) refl
 
 pub opens : IsStep worked_policies started opens_stream (answers.Open (Some 0)) once_opened
-opens = record { answer = refl; end = refl; others = refl; lacking = tt }
+opens = record { answer = refl; end = refl; control = refl; others = refl; lacking = tt }
 
 pub writes : IsStep worked_policies once_opened writes_hello (answers.Write (Ok 5)) once_written
-writes = record { answer = inl refl; end = refl; others = refl; lacking = λ lacks. cc }
+writes = record { answer = inl refl; end = refl; control = refl; others = refl; lacking = λ lacks. cc }
 
 pub finishes : IsStep worked_policies once_written finishes_stream (answers.Finish (Ok tt)) once_ended
-finishes = record { answer = inl refl; end = refl; others = refl; lacking = λ lacks. cc }
+finishes = record { answer = inl refl; end = refl; control = refl; others = refl; lacking = λ lacks. cc }
 
 pub gives : IsStep worked_policies once_ended asks_datagram (gives_bytes 34) once_sent
 unfolding once_sent
-gives = record { answer = inl refl; end = refl; others = refl; lacking = tt }
+gives = record { answer = inl refl; end = refl; control = refl; others = refl; lacking = tt }
 
 pub takes : IsStep worked_policies once_sent delivers (answers.Deliver receives.Taken) once_taken
 unfolding once_taken
-takes = record { answer = inl refl; end = refl; others = refl; lacking = tt }
+takes = record { answer = inl refl; end = refl; control = refl; others = refl; lacking = tt }
 
 pub drops_duplicate : IsStep worked_policies once_taken delivers
     (answers.Deliver (receives.Dropped drops.Duplicate)) once_taken
 unfolding once_taken
-drops_duplicate = record { answer = inl refl; end = refl; others = refl; lacking = tt }
+drops_duplicate = record { answer = inl refl; end = refl; control = refl; others = refl; lacking = tt }
 
 pub accepts : IsStep worked_policies once_taken accepts_stream (answers.Accept (Some 0)) once_accepted
 unfolding once_taken
-accepts = record { answer = refl; end = refl; others = refl; lacking = tt }
+accepts = record { answer = refl; end = refl; control = refl; others = refl; lacking = tt }
 
--- a read at one end of this stream, in order or not, by these bounds, is answered so, and leaves this end
-pub record ReadsSo (e : End) (id : ℕ) (ordered : Bool) (mosts : List ℕ) (nexts : NextAnswers) (next : End) : Type 0 where
-  pub answer : IsRead e.streams id ordered mosts (answers.Read (Ok nexts))
-  pub lacking : NextsLack told_bytes (after_read_begun e.streams id ordered) id mosts nexts
-  pub end : next ≡ with_streams e (after_reads (streams_at e) id ordered mosts nexts)
+-- a read of this stream at the server, in order or not, by these bounds, is answered so, and leaves this end
+pub record ReadsSo (w : World) (id : ℕ) (ordered : Bool) (mosts : List ℕ) (nexts : NextAnswers) (next : End) : Type 0 where
+  pub answer : IsRead w.server.streams id ordered mosts (answers.Read (Ok nexts))
+  pub lacking : NextsLack told_bytes (after_read_begun w.server.streams id ordered) id mosts nexts
+  pub end : next ≡ with_streams w.server (after_reads (streams_at w.server) id ordered mosts nexts)
 
 -- so it is of any read of that stream, in that order, by these bounds
-pub reads_by : (e : End) (id : ℕ) (ordered : Bool) (mosts : List ℕ) (nexts : NextAnswers) (next : End) → ReadsSo e id ordered mosts nexts next
-    → (read : ReadCall) → ReadsAs id ordered mosts read → ReadsSo e read.id read.ordered read.nexts.items nexts next
-reads_by e id ordered mosts nexts next so read by =
-    let by_mosts : ReadsSo e id ordered read.nexts.items nexts next = subst (λ (ms : List ℕ). ReadsSo e id ordered ms nexts next) (sym by.bounds) so in
-    let by_order : ReadsSo e id read.ordered read.nexts.items nexts next = subst (λ (b : Bool). ReadsSo e id b read.nexts.items nexts next) (sym by.ordered) by_mosts in
-    subst (λ (n : ℕ). ReadsSo e n read.ordered read.nexts.items nexts next) (sym by.id) by_order
+pub reads_by : (w : World) (id : ℕ) (ordered : Bool) (mosts : List ℕ) (nexts : NextAnswers) (next : End) → ReadsSo w id ordered mosts nexts next
+    → (read : ReadCall) → ReadsAs id ordered mosts read → ReadsSo w read.id read.ordered read.nexts.items nexts next
+reads_by w id ordered mosts nexts next so read by =
+    let by_mosts : ReadsSo w id ordered read.nexts.items nexts next = subst (λ (ms : List ℕ). ReadsSo w id ordered ms nexts next) (sym by.bounds) so in
+    let by_order : ReadsSo w id read.ordered read.nexts.items nexts next = subst (λ (b : Bool). ReadsSo w id b read.nexts.items nexts next) (sym by.ordered) by_mosts in
+    subst (λ (n : ℕ). ReadsSo w n read.ordered read.nexts.items nexts next) (sym by.id) by_order
 
--- it is a step of the server, which gives no datagram
-pub reads_at : (w next : World) (id : ℕ) (ordered : Bool) (mosts : List ℕ) (nexts : NextAnswers) → ReadsSo w.server id ordered mosts nexts next.server → next ≡ changed Server w next.server []
+-- it is a step of the server, which gives no datagram, and whose controller is told nothing
+pub reads_at : (w next : World) (id : ℕ) (ordered : Bool) (mosts : List ℕ) (nexts : NextAnswers) → ReadsSo w id ordered mosts nexts next.server → next ≡ with_server w next.server
     → (read : ReadCall) → ReadsAs id ordered mosts read → IsStep worked_policies w (reads_stream read) (answers.Read (Ok nexts)) next
-reads_at w next id ordered mosts nexts so others read by =
-    let all = reads_by w.server id ordered mosts nexts next.server so read by in
-    record { answer = all.answer; end = all.end; others = others; lacking = all.lacking }
+reads_at w next id ordered mosts nexts so alone read by =
+    let all = reads_by w id ordered mosts nexts next.server so read by in
+    let control : next.server_control ≡ w.server_control = ap (λ (x : World). x.server_control) alone in
+    record {
+      answer = all.answer;
+      end = all.end;
+      control = control;
+      others = alone ∙ server_alone w next.server ∙ ap (λ (c : Control). changed Server w next.server [] c) (sym control);
+      lacking = all.lacking;
+    }
 
-reads_two : ReadsSo once_accepted.server 0 true two_chunks all_nexts once_read.server
+reads_two : ReadsSo once_accepted 0 true two_chunks all_nexts once_read.server
 unfolding once_taken
 reads_two = record { answer = (refl, (inl refl, (inl refl, tt))); lacking = (λ lacks. cc, (λ lacks. cc, tt)); end = refl }
 
--- a read gives no datagram
-reads_only : once_read ≡ changed Server once_accepted once_read.server []
-unfolding once_taken
+-- a read changes the server alone
+reads_only : once_read ≡ with_server once_accepted once_read.server
 reads_only = refl
 
 reads : (read : ReadCall) → ReadsBy two_chunks read

@@ -12,7 +12,7 @@ use Rattle.quic_machine.specs.declared.run.EndView.{EndView}
 use Rattle.quic_machine.specs.Receive.{plain_error}
 use Rattle.quic_machine.specs.Machine.{World}
 use Rattle.quic_headline.specs.Runs.{Run}
-use Rattle.quic_worked.specs.Worked.{worked_policies, started, hello_datagram, sending_events, delivers, gives_bytes, open_view, sent_view, with_client, numbered_from, once_sent, hello_payload, from_client, asks_datagram, after_event, ran}
+use Rattle.quic_worked.specs.Worked.{steady_window, worked_policies, started, hello_datagram, sending_events, delivers, gives_bytes, open_view, sent_view, with_client, numbered_from, once_sent, hello_payload, from_client, asks_datagram, after_event, ran}
 use Rattle.quic_worked.specs.Losses.{asks_ping}
 
 -- what is seen of an end that closed for a reason: no timer is set any more
@@ -22,7 +22,7 @@ closed_view reason = record {
   reason = Some reason;
   validated = true;
   timers = replicate 9 None;
-  window = None;
+  window = Some steady_window;
   current_mtu = None;
 }
 

@@ -17,7 +17,7 @@ use Rattle.quic_machine.specs.End.{new_end}
 use Rattle.quic_machine.specs.Machine.{World}
 use Rattle.quic_headline.specs.Runs.{Run}
 use Rattle.quic_worked.specs.Exchange.{with_window, with_uni}
-use Rattle.quic_worked.specs.Worked.{ReadsAs, NextAnswers, worked_policies, client_id, server_id, with_server, after_event, end_after_reads, once_sent, once_taken, hello, opens_stream, asks_datagram, delivers, accepts_stream, reads_stream, gives_chunk, all_nexts, two_chunks, gives_bytes, open_view, sent_view, waiting_view}
+use Rattle.quic_worked.specs.Worked.{steady, steady_control, ReadsAs, NextAnswers, worked_policies, client_id, server_id, with_server, after_event, end_after_reads, once_sent, once_taken, hello, opens_stream, asks_datagram, delivers, accepts_stream, reads_stream, gives_chunk, all_nexts, two_chunks, gives_bytes, open_view, sent_view, waiting_view}
 use Rattle.quic_worked.specs.Acknowledged.{client_acked, client_datagram, from_server, ack_at_once}
 use Rattle.quic_worked.specs.Reordered.{abc}
 use Rattle.quic_worked.specs.Paired.{writes_on, asks_server, client_hears}
@@ -27,10 +27,12 @@ use Rattle.quic_worked.specs.Paired.{writes_on, asks_server, client_hears}
 -- both ends, where the server has these settings, before anything was given
 abbrev pub ends_of : Settings → World
 ends_of narrow = record {
-  client = new_end Client default_settings (parameters_of narrow) client_id server_id 0 true 63;
-  server = new_end Server narrow (parameters_of default_settings) server_id client_id 0 true 63;
+  client = new_end Client default_settings steady (parameters_of narrow) client_id server_id 0 true 63;
+  server = new_end Server narrow steady (parameters_of default_settings) server_id client_id 0 true 63;
   from_client = [];
   from_server = [];
+  client_control = steady_control;
+  server_control = steady_control;
 }
 
 -- the server takes eight bytes at a time, or one one-way stream

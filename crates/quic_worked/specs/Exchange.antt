@@ -26,9 +26,9 @@ use Rattle.quic_machine.specs.End.{End, new_end, side_of, number_of, streams_at,
 use Rattle.quic_machine.specs.Calls.{after_reads, end_tells, end_after_event}
 use Rattle.quic_machine.specs.Receive.{Outcome, judged}
 use Rattle.quic_machine.specs.FrameCases.{passed, begun}
-use Rattle.quic_machine.specs.Poll.{waits, after_given}
+use Rattle.quic_machine.specs.Poll.{goes, after_given}
 use Rattle.quic_machine.specs.PollCases.{ready_at, draft_at}
-use Rattle.quic_worked.specs.Worked.{worked_policies}
+use Rattle.quic_worked.specs.Worked.{steady, worked_policies}
 
 -- what an application asks of an end, or what comes to it; the number is that of a stream
 pub data Act : Type 0 where
@@ -126,7 +126,7 @@ acted w (ranks side s priority) = let e = end_of side w in on_streams side (upda
 acted w (reads side ordered s most) = reads_if (read_answer (end_of side w).streams s ordered) side ordered s most w
 acted w (stops side s code) = let e = end_of side w in on_streams side (updated (stop_answer e.streams s)) (after_stop e.streams e.waiting.frames s code) w
 acted w (tells side) = let e = end_of side w in record { said = event (end_tells e); ends = with_end_of side (end_after_event e) w }
-acted w (gives side now) = gives_if (waits (ready_at (end_of side w) now)) side now w
+acted w (gives side now) = gives_if (goes (ready_at (end_of side w) now)) side now w
 acted w (loses side now) = let e = end_of side w in record { said = lost (frames_given e now); ends = with_end_of side (end_given e now) w }
 acted w (hears side n frames) = let out = taken 0 n frames (end_of side w) in record { said = heard out.answer; ends = with_end_of side out.end w }
 
@@ -138,8 +138,8 @@ played w (act ∷ acts) = let done = acted w act in done.said ∷ played done.en
 -- two ends with these settings, made at moment 0 on a validated path; of the numbers of each 63 is the first that is left out
 abbrev pub ends_with : Settings → Settings → Ends
 ends_with client server = record {
-  client = new_end Client client (parameters_of server) [] [] 0 true 63;
-  server = new_end Server server (parameters_of client) [] [] 0 true 63;
+  client = new_end Client client steady (parameters_of server) [] [] 0 true 63;
+  server = new_end Server server steady (parameters_of client) [] [] 0 true 63;
 }
 
 -- what one says of itself that lets come so many bytes on all streams

@@ -16,3 +16,4 @@ pub mod Limited
 pub mod Measured
 pub mod Probed
 pub mod Messages
+pub mod Held

@@ -18,7 +18,7 @@ use Rattle.quic_machine.specs.Machine.{World}
 use Rattle.quic_machine.specs.Start.{AreStarted}
 use Rattle.quic_headline.specs.Runs.{Run}
 use Rattle.quic_headline.specs.Amounts.{data_left, stream_left, window_left}
-use Rattle.quic_worked.specs.Worked.{NextAnswers, worked_policies, client_id, server_id, started, with_server, after_event, end_after_reads, once_sent, once_taken, hello, opens_stream, writes_hello, asks_datagram, delivers, accepts_stream, reads_stream, gives_chunk, gives_bytes, sent_view, waiting_view, worked_views}
+use Rattle.quic_worked.specs.Worked.{steady, steady_control, NextAnswers, worked_policies, client_id, server_id, started, with_server, after_event, end_after_reads, once_sent, once_taken, hello, opens_stream, writes_hello, asks_datagram, delivers, accepts_stream, reads_stream, gives_chunk, gives_bytes, sent_view, waiting_view, worked_views}
 use Rattle.quic_worked.specs.Acknowledged.{client_acked, client_datagram, from_server, ack_at_once}
 use Rattle.quic_worked.specs.Paired.{writes_on, asks_server, client_hears}
 use Rattle.quic_worked.specs.Credit.{eight, eight_bounds, views_of_credit}
@@ -50,10 +50,12 @@ narrow_parameters =
 -- both, before anything was given
 abbrev pub limited_start : World
 limited_start = record {
-  client = new_end Client keeps_seven (parameters_of takes_eight) client_id server_id 0 true 63;
-  server = new_end Server takes_eight (parameters_of keeps_seven) server_id client_id 0 true 63;
+  client = new_end Client keeps_seven steady (parameters_of takes_eight) client_id server_id 0 true 63;
+  server = new_end Server takes_eight steady (parameters_of keeps_seven) server_id client_id 0 true 63;
   from_client = [];
   from_server = [];
+  client_control = steady_control;
+  server_control = steady_control;
 }
 
 -- ---- events and answers

@@ -15,7 +15,7 @@ use Rattle.quic_time.specs.Timers.{no_timers}
 use Rattle.quic_machine.specs.End.{new_end}
 use Rattle.quic_machine.specs.Machine.{World}
 use Rattle.quic_headline.specs.Runs.{Run}
-use Rattle.quic_worked.specs.Worked.{ran, worked_policies, client_id, server_id, started, with_client, delivers, gives_bytes, open_view, sent_view, waiting_view}
+use Rattle.quic_worked.specs.Worked.{steady, ran, worked_policies, client_id, server_id, started, with_client, delivers, gives_bytes, open_view, sent_view, waiting_view}
 use Rattle.quic_worked.specs.Acknowledged.{ack_of_third, ack_payload, client_datagram, client_acked, from_server}
 use Rattle.quic_worked.specs.Reordered.{delivers_at}
 use Rattle.quic_worked.specs.Losses.{ping_events, ping_answers, ping_payload, server_waits, server_polled, client_delivered}
@@ -109,7 +109,7 @@ cleared = with_client (once_measured 11) (record (once_measured 11).client { tim
 
 -- both ends, of which the client leaves out number 0: that was the first word of its random source
 abbrev pub leaving_out : World
-leaving_out = with_client started (new_end Client default_settings (parameters_of default_settings) client_id server_id 0 true 0)
+leaving_out = with_client started (new_end Client default_settings steady (parameters_of default_settings) client_id server_id 0 true 0)
 
 -- a datagram goes, and is acknowledged
 abbrev pub skipping_events : List RunEvent

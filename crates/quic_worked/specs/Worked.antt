@@ -5,6 +5,7 @@ use Rattle.std.specs.Prelude.{ℕ, ◌≡◌, ◌-◌, ◌%◌, Bool, true, fals
 use Rattle.std.specs.Int.{w64, to_be_bytes}
 use Rattle.std.specs.Cmp.Lexicographic.{pointwise}
 use Rattle.quic_wire_core.specs.StreamId.{other_side}
+use Rattle.quic_wire_core.specs.declared.stream_id.Side.{Side}
 use Rattle.quic_wire_core.specs.declared.stream_id.Side.TheVariants.{Client, Server}
 use Rattle.quic_wire_core.specs.declared.stream_id.Dir.{Dir}
 use Rattle.quic_wire_core.specs.declared.stream_id.Dir.TheVariants.{Bi}
@@ -32,15 +33,18 @@ use Rattle.quic_machine.specs.declared.run.Answer.{Answer}
 use Rattle.quic_machine.specs.declared.run.Answer.TheVariants as answers
 use Rattle.quic_machine.specs.declared.run.EndView.{EndView}
 use Rattle.quic_machine.specs.declared.run.View.{View}
+use Rattle.quic_congestion.specs.Congestion.{Told}
 use Rattle.quic_machine.specs.Policy.{Policy}
+use Rattle.quic_machine.specs.Control.{Control, after_told}
 use Rattle.quic_machine.specs.Closing.{failed}
 use Rattle.quic_machine.specs.Tracking.{TrackedPacket}
 use Rattle.quic_machine.specs.End.{End, new_end, with_closing, streams_at, with_streams}
 use Rattle.quic_machine.specs.Calls.{is_open, after_reads}
 use Rattle.quic_machine.specs.Poll.{Polled, polled}
 use Rattle.quic_machine.specs.Receive.{received}
-use Rattle.quic_machine.specs.Machine.{World, Policies, policy_at, end_at, given_by, changed, after_call, gives}
-use Rattle.quic_headline.specs.Runs.{Run}
+use Rattle.quic_machine.specs.Parts.{Windows}
+use Rattle.quic_machine.specs.Machine.{World, Policies, policy_at, given_by, control_at, changed, end_met, after_call, gives, tells}
+use Rattle.quic_headline.specs.Runs.{Run, same_side}
 use Rattle.quic_assembler.specs.declared.assembler.Chunk.{Chunk}
 use Rattle.quic_streams_parts.specs.declared.answers.WriteError.{WriteError}
 use Rattle.quic_streams_parts.specs.declared.answers.WriteError.TheVariants as write_errors
@@ -55,18 +59,29 @@ use Rattle.quic_streams_state.specs.Reading.{told_bytes, next_answer}
 
 -- ---- what events leave
 
--- what one event leaves, by its answer, where memory served
+-- what one event leaves, by its answer, where memory served: a poll reads the window of its
+-- controller first, and the controller is told of the event
 abbrev pub after_event : Policies → World → RunEvent → Answer → World
 after_event k w event a =
     let p = policy_at event.side k in
-    let e = end_at event.side w in
+    let met = end_met w event in
     let theirs = given_by (other_side event.side) w in
-    changed event.side w (after_call p e theirs event.call a) (gives p e event.call a)
+    let told = tells p met theirs event.call in
+    let control = after_told (control_at event.side w) told in
+    changed event.side w (after_call p met theirs event.call a) (gives p met event.call a) control
 
 -- what events leave, one behind another
 abbrev pub ran : Policies → World → List RunEvent → List Answer → World
 ran k w (event ∷ events) (a ∷ told) = ran k (after_event k w event a) events told
 ran k w events told = w
+
+-- what the controller of one of the ends is told of events, one behind another
+abbrev pub told_in : Side → Policies → World → List RunEvent → List Answer → List Told
+told_in side k w (event ∷ events) (a ∷ answers) =
+    let theirs = given_by (other_side event.side) w in
+    let told = tells (policy_at event.side k) (end_met w event) theirs event.call in
+    (if same_side event.side side then told else []) ++ told_in side k (after_event k w event a) events answers
+told_in side k w events answers = []
 
 -- ---- keys that protect nothing
 
@@ -107,6 +122,18 @@ masking =
       unmask = masked_first;
       reveal = masked_number;
     }
+
+-- the window of each controller: ten datagrams (RFC 9002, section 7.2)
+abbrev pub steady_window : ℕ
+steady_window = 12000
+
+-- a controller that shows it whatever it is told
+abbrev pub steady_control : Control
+steady_control = λ (told : List Told). steady_window
+
+-- it shows that when it is made, and begins with it
+abbrev pub steady : Windows
+steady = record { initial = steady_window; present = steady_window }
 
 -- an end that marks what it gives by one byte, and opens what is marked by another; its random source
 -- answers 63 for ever
@@ -152,16 +179,23 @@ worked_parameters =
 -- first that is left out
 abbrev pub client_made : End
 client_made =
-    new_end Client default_settings (parameters_of default_settings) client_id server_id 0 true 63
+    new_end Client default_settings steady (parameters_of default_settings) client_id server_id 0 true 63
 
 -- the server before the first event
 abbrev pub server_made : End
 server_made =
-    new_end Server default_settings (parameters_of default_settings) server_id client_id 0 true 63
+    new_end Server default_settings steady (parameters_of default_settings) server_id client_id 0 true 63
 
 -- both ends, before anything was given
 abbrev pub started : World
-started = record { client = client_made; server = server_made; from_client = []; from_server = [] }
+started = record {
+  client = client_made;
+  server = server_made;
+  from_client = [];
+  from_server = [];
+  client_control = steady_control;
+  server_control = steady_control;
+}
 
 -- two ends, of which the client is this one
 abbrev pub with_client : World → End → World
@@ -443,7 +477,7 @@ view_with loss moment = record {
   reason = None;
   validated = true;
   timers = loss ∷ replicate 7 None ++ moment ∷ [];
-  window = None;
+  window = Some steady_window;
   current_mtu = None;
 }
 

@@ -8,6 +8,7 @@ pub mod chunked;
 pub mod closed;
 pub mod credit;
 pub mod exchange;
+pub mod held;
 pub mod limited;
 pub mod machines;
 pub mod measured;

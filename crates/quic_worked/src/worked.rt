@@ -14,7 +14,7 @@ ghost use Rattle.quic_parameters.specs.ParametersRead.{parameters_at};
 ghost use Rattle.quic_wire.specs.Writing.{spelling};
 ghost use Rattle.quic_wire.specs.Items.{items};
 ghost use Rattle.quic_machine.specs.declared.answers.LostReason.TheVariants.{NumberLimit};
-ghost use Rattle.quic_machine.specs.declared.answers.ConfigError.TheVariants.{Parameters, IdLength, Size};
+ghost use Rattle.quic_machine.specs.declared.answers.ConfigError.TheVariants.{Parameters, IdLength, Size, Window};
 ghost use Rattle.quic_streams_parts.specs.declared.answers.ReadableError.TheVariants as readable_errors;
 ghost use Rattle.quic_streams_parts.specs.declared.answers.ReadError.TheVariants as read_errors;
 ghost use Rattle.quic_streams_parts.specs.declared.answers.WriteError.TheVariants as write_errors;
@@ -38,14 +38,14 @@ ghost use Rattle.quic_headline.specs.Observer.{took, references_until};
 ghost use Rattle.quic_machine.specs.Start.{AreStarted, AreKeys};
 ghost use Rattle.quic_headline.specs.Headline.{IsHonest, IsRun};
 ghost use Rattle.quic_worked.specs.Broken.{once_full, once_failed};
-ghost use Rattle.quic_worked.specs.Worked.{unprotected_hello, hello_opening, client_gives, no_two_way, end_opens, end_accepts, end_writes, end_after_write, end_next, write_lacks, finish_lacks, read_lacks, next_lacks, poll_lacks, ReadsBy, two_chunks, worked_parameters, client_id, server_id, client_made, server_made, started, with_server, once_opened, once_written, once_ended, once_sent, once_taken, once_read, hello, hello_frame, hello_payload, hello_datagram, writes_hello, finishes_stream, asks_datagram, delivers, reads_stream, failed_end, numbered_from, from_client, client_packet, at_server, within, worked_policies, worked_events, worked_answers, worked_views, worked_run};
+ghost use Rattle.quic_worked.specs.Worked.{steady_window, steady, unprotected_hello, hello_opening, client_gives, no_two_way, end_opens, end_accepts, end_writes, end_after_write, end_next, write_lacks, finish_lacks, read_lacks, next_lacks, poll_lacks, ReadsBy, two_chunks, worked_parameters, client_id, server_id, client_made, server_made, started, with_server, once_opened, once_written, once_ended, once_sent, once_taken, once_read, hello, hello_frame, hello_payload, hello_datagram, writes_hello, finishes_stream, asks_datagram, delivers, reads_stream, failed_end, numbered_from, from_client, client_packet, at_server, within, worked_policies, worked_events, worked_answers, worked_views, worked_run};
 
 /// Each end is made of the other's parameters and first id, at moment 0 on a validated path.
 pub fn ends_are_made()
-    ensures client { MadeFrom Client default_settings worked_parameters client_id server_id 0 true
-        63 client_made }
-    ensures server { MadeFrom Server default_settings worked_parameters server_id client_id 0 true
-        63 server_made }
+    ensures client { MadeFrom Client default_settings steady worked_parameters client_id server_id 0
+        true 63 client_made }
+    ensures server { MadeFrom Server default_settings steady worked_parameters server_id client_id 0
+        true 63 server_made }
 {}
 
 /// The frame with the five bytes and the end, under number 0 and the server's first id, is the
@@ -189,7 +189,8 @@ pub fn broken_rules_are_found()
     ensures other_end { at_server once_taken.server (from_client 1 (0x09 ∷ 0x00 ∷ 0x61 ∷ []))
         ≡ Closed (plain_error 6) }
     ensures beyond_count { at_server
-        (new_end Server no_two_way (parameters_of default_settings) server_id client_id 0 true 63)
+        (new_end Server no_two_way steady (parameters_of default_settings) server_id client_id 0
+        true 63)
         hello_datagram ≡ Closed (plain_error 4) }
     ensures none { at_server server_made (from_client 0 (0x40 ∷ 0x00 ∷ 0x01 ∷ [])) ≡ Taken }
 {}
@@ -201,7 +202,8 @@ pub fn calls_are_bounded()
     ensures second_open { end_opens Bi once_opened.client ≡ Some 4 }
     ensures one_way { end_opens Uni once_opened.client ≡ Some 2 }
     ensures no_count { end_opens Bi
-        (new_end Client default_settings (parameters_of no_two_way) client_id server_id 0 true 63)
+        (new_end Client default_settings steady (parameters_of no_two_way) client_id server_id 0
+        true 63)
         ≡ None }
     ensures server_open { end_opens Bi server_made ≡ Some 1 }
     ensures drained_open { end_opens Bi (closed_by NumberLimit client_made) ≡ None }
@@ -232,16 +234,18 @@ pub fn calls_are_bounded()
         ≡ Ok None }
     ensures last_number { (client_gives (numbered_from (2 ^ 31 - 17) once_ended.client) 0).answer
         ≡ Ok (Some (record { size = 37; ecn = Some Ect0 })) }
-    ensures bad_parameters { refusal_of default_settings (parameters_at (0x04 ∷ 0x01 ∷ []))
-        client_id server_id ≡ Some Parameters }
-    ensures short_id { refusal_of default_settings (parameters_at worked_parameters)
+    ensures bad_parameters { refusal_of default_settings steady_window
+        (parameters_at (0x04 ∷ 0x01 ∷ [])) client_id server_id ≡ Some Parameters }
+    ensures short_id { refusal_of default_settings steady_window (parameters_at worked_parameters)
         (take 7 client_id) server_id ≡ Some IdLength }
-    ensures no_peer_id { refusal_of default_settings (parameters_at worked_parameters) client_id []
-        ≡ Some IdLength }
+    ensures no_peer_id { refusal_of default_settings steady_window
+        (parameters_at worked_parameters) client_id [] ≡ Some IdLength }
     ensures big_datagrams { refusal_of (record default_settings { initial_mtu = 65528 })
-        (parameters_at worked_parameters) client_id server_id ≡ Some Size }
-    ensures no_refusal { refusal_of default_settings (parameters_at worked_parameters) client_id
-        server_id ≡ None }
+        steady_window (parameters_at worked_parameters) client_id server_id ≡ Some Size }
+    ensures small_window { refusal_of default_settings 2399 (parameters_at worked_parameters)
+        client_id server_id ≡ Some Window }
+    ensures no_refusal { refusal_of default_settings steady_window
+        (parameters_at worked_parameters) client_id server_id ≡ None }
 {}
 
 /// Where memory lacks, an application's call leaves all as it was, and an end that is polled or

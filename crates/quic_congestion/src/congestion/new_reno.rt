@@ -207,9 +207,12 @@ impl NewReno {
 }
 
 impl Controller for NewReno {
+    ghost use Rattle.quic_congestion.specs.NewReno.{reno_steps};
     ghost use Rattle.quic_congestion.specs.NewRenoLaw.{stays, acked_keeps_room, congested_keeps_room, resized_takes_size};
 
     ghost window_of = { λ r. r.window };
+
+    ghost steps = { reno_steps };
 
     ghost initial_of = { λ r. r.settings.initial };
 
@@ -302,6 +305,8 @@ impl Controller for NewReno {
     {
         Ok(*self)
     }
+
+    ghost steps_are = { refl };
 
     ghost sent_keeps_room = { λ r now bytes last. stays r };
 

@@ -1,21 +1,31 @@
 //! What an ACK frame makes of an end: packets are acknowledged, a round trip is measured, and other
 //! packets are lost (RFC 9000, section 13.1; RFC 9002, sections 5 and 6.1).
-ghost use Rattle.std.specs.Prelude.{◌≡◌, ◌≢◌, [], reverse, ◌&&◌, None, if◌then◌else◌, IfSome, IfNone, OnOk, OnErr};
+ghost use Rattle.std.specs.Prelude.{ℕ, ◌≡◌, ◌≢◌, true, [], reverse, ◌&&◌, None, if◌then◌else◌, IfSome, IfNone, IfOk, OnOk, OnErr};
 ghost use Rattle.std.specs.Option.{option_map};
+ghost use Rattle.quic_time.specs.Clocks.{saturated};
 ghost use Rattle.quic_retransmits.specs.Kept.{made};
 ghost use Rattle.quic_retransmits.specs.Retransmits.{merged};
 ghost use Rattle.quic_streams_state.specs.State.{streams_of};
 ghost use Rattle.quic_streams_state.specs.Acked.{after_stream_acked};
 ghost use Rattle.quic_streams_parts.specs.Table.{at};
 ghost use Rattle.quic_sent_packets.specs.Packets.{asks_any, from};
-ghost use Rattle.quic_machine.specs.End.{with_end};
-ghost use Rattle.quic_machine.specs.Tracking.{lost_by, kept_by};
-ghost use Rattle.quic_machine.specs.Acked.{without_known, carried_acked, carried_lost, packets_acked, packets_lost, verdict, losses_detected, told_delay, after_acked};
+ghost use Rattle.quic_paths.specs.InFlight.{CanLeave, no_flight, flight_of};
+ghost use Rattle.quic_machine.specs.End.{with_end, with_tracking, with_rtt};
+ghost use Rattle.quic_machine.specs.Control.{bytes_in_flight, persistent_period, told_packet, told_packets, told_acks_ended};
+ghost use Rattle.quic_machine.specs.Tracking.{lost_by, kept_by, acked_by, not_acked_by};
+ghost use Rattle.quic_machine.specs.Acked.{without_known, carried_acked, carried_lost, packets_acked, packets_lost, verdict, losses_detected, told_delay, first_measured, after_acked, told_detected, told_acked};
+ghost use Rattle.quic_connection_core.specs.Flying.{flying_packets, is_flying, flight_left, less, HasAll};
+ghost use Rattle.quic_connection_core.specs.Losses.{none_lost, all_lost, told_lost};
+ghost use Rattle.quic_connection_core.specs.Telling.{telling, KeepsKeys};
 ghost use Rattle.quic_connection_core.specs.Tracked.{TakesLost, sampled_at, after_losses, with_resets_acked, with_frames_acked, with_carried_acked, with_frames_lost, with_carried_lost};
 
 use crate::connection::Connection;
+use crate::connection::losses::Losses;
+use crate::connection::telling::{tell_ack, tell_acks_ended, tell_congested};
+use quic_congestion::Controller;
 use quic_machine::Instant;
 use quic_packet::crypto::{HeaderKey, PacketKey};
+use quic_paths::{InFlight, PathData};
 use quic_retransmits::{Retransmits, ThinRetransmits};
 use quic_send_buffer::StreamMeta;
 use quic_sent_packets::SentPacket;
@@ -118,6 +128,16 @@ fn if_measured(rises: bool, sent: Option<Instant>, acked: &[(u64, SentPacket)]) 
     if rises && asks_any(acked) { sent } else { None }
 }
 
+/// So many bytes, as far as 64 bits hold them.
+fn saturated(bytes: u128) -> u64
+    ensures { result ≡ saturated bytes }
+{
+    match u64::try_from(bytes) {
+        Ok(bytes) => bytes,
+        Err(_) => u64::MAX,
+    }
+}
+
 /// Takes out the first lost packet, where none below `low` is lost: there may be one from there on.
 fn take_lost(tracking: &mut Tracking, low: u64, verdict: &Verdict) -> Option<(u64, SentPacket)>
     requires { lost_by verdict.now (from low tracking.old.packets) ≡ lost_by verdict.now tracking.old.packets }
@@ -132,28 +152,78 @@ fn take_lost(tracking: &mut Tracking, low: u64, verdict: &Verdict) -> Option<(u6
     Some((number, packet))
 }
 
-impl<H: HeaderKey + Drop, K: PacketKey + Drop, R: Rng + Drop> Connection<H, K, R> {
+/// A packet is no longer in flight, if it was.
+pub(crate) fn leave_flight<C>(path: &mut PathData<C>, packet: &SentPacket)
+    requires { is_flying path.old.generation packet.now ≡ true → CanLeave path.old.in_flight packet.now.size true }
+    ensures { path.new ≡ record path.old { in_flight = flight_left path.old.generation path.old.in_flight packet.now } }
+{
+    if packet.ack_eliciting {
+        path.remove_in_flight(packet.path_generation, packet.size, true);
+    }
+}
+
+/// Nothing is in flight on a path any more.
+fn clear_flight<C>(path: &mut PathData<C>)
+    ensures { path.new ≡ record path.old { in_flight = no_flight } }
+{
+    path.in_flight = InFlight::new();
+}
+
+/// None of these packets is in flight any more.
+fn leave_all<C>(path: &mut PathData<C>, acked: &[(u64, SentPacket)])
+    requires { HasAll path.old.in_flight (flight_of (flying_packets path.old.generation acked.now)) }
+    ensures { path.new ≡ record path.old { in_flight = less path.old.in_flight (flight_of (flying_packets path.old.generation acked.now)) } }
+{
+    for (_, packet) in acked {
+        leave_flight(path, packet);
+    }
+}
+
+impl<H: HeaderKey + Drop, K: PacketKey + Drop, R: Rng + Drop, C: Controller> Connection<
+    H,
+    K,
+    R,
+    C,
+> {
     /// Takes an ACK frame whose greatest number is counted already, and lies above all that were
     /// named before or doesn't. The tracked packets that it names are acknowledged, the round trip
     /// is measured where it can be, and packets that are late by number or by time are lost. One
     /// that names no tracked packet changes nothing. An error is want of memory; the end is of no
     /// more use then.
     pub(crate) fn on_ack_received(&mut self, frame: &Ack<'_>, rises: bool) -> Result<(), AllocError>
-        ensures ok { OnOk result (self.new ≡ with_end self.old (after_acked rises frame.now self.old.end)) }
-        ensures others { self.new ≡ with_end self.old self.new.end }
+        ensures ok { OnOk result (self.new ≡ telling C.steps self.old (told_acked rises frame.now self.old.end) (after_acked rises frame.now self.old.end)) }
+        ensures others { KeepsKeys self.old self.new }
     {
         let sent = self.sent_at(frame.largest());
-        let mut acked = Vec::new(self.alloc);
-        self.space.tracking.take_named(frame, &mut acked)?;
+        let acked = self.take_named(frame)?;
         if acked.is_empty() {
             return Ok(());
         }
         let sent = if_measured(rises, sent, &acked);
         self.on_packets_acked(acked)?;
+        self.end_acks();
         self.update_rtt(frame, sent);
-        self.detect_lost_packets()?;
+        self.detect_lost_packets(true)?;
         self.space.tracking.answered();
         Ok(())
+    }
+
+    /// Takes out the tracked packets that an ACK frame names, the greatest number first: they are
+    /// no longer in flight. An error is want of memory; nothing is tracked then.
+    fn take_named(&mut self, frame: &Ack<'_>) -> Result<Vec<(u64, SentPacket)>, AllocError>
+        ensures acked { IfOk result (λ acked. reverse acked.items ≡ acked_by frame.now self.old.end.tracking.packets) }
+        ensures ok { OnOk result (self.new ≡ with_end self.old (with_tracking self.old.end (record self.old.end.tracking { packets = not_acked_by frame.now self.old.end.tracking.packets }))) }
+        ensures others { self.new ≡ with_end self.old self.new.end }
+    {
+        let mut acked = Vec::new(self.alloc);
+        if let Err(error) = self.space.tracking.take_named(frame, &mut acked) {
+            // Some packets are gone, it isn't known which.
+            self.space.tracking = Tracking::new(self.alloc, self.closing.clock());
+            clear_flight(&mut self.path);
+            return Err(error);
+        }
+        leave_all(&mut self.path, &acked);
+        Ok(acked)
     }
 
     /// When the tracked packet of this number went, if there is one.
@@ -166,13 +236,42 @@ impl<H: HeaderKey + Drop, K: PacketKey + Drop, R: Rng + Drop> Connection<H, K, R
     /// Packets are acknowledged, the last of the list first: they came with the greatest number
     /// first.
     fn on_packets_acked(&mut self, mut acked: Vec<(u64, SentPacket)>) -> Result<(), AllocError>
-        ensures ok { OnOk result (self.new ≡ with_end self.old (packets_acked (reverse acked.items) self.old.end)) }
-        ensures others { self.new ≡ with_end self.old self.new.end }
+        ensures ok { OnOk result (self.new ≡ telling C.steps self.old (told_packets self.old.end (reverse acked.items)) (packets_acked (reverse acked.items) self.old.end)) }
+        ensures others { KeepsKeys self.old self.new }
     {
         while let Some((_, packet)) = acked.pop() {
+            self.tell_acked(&packet);
             self.on_packet_acked(packet)?;
         }
         Ok(())
+    }
+
+    /// The congestion controller is told that a packet is acknowledged, where it asks.
+    fn tell_acked(&mut self, packet: &SentPacket)
+        ensures { (number : ℕ) → self.new ≡ telling C.steps self.old (told_packet self.old.end (number, packet.now)) self.old.end }
+    {
+        if !packet.ack_eliciting {
+            return;
+        }
+        let now = self.closing.clock();
+        tell_ack(&mut self.path, now, packet, self.app_limited);
+    }
+
+    /// The congestion controller is told that all packets are acknowledged that an ACK frame named.
+    fn end_acks(&mut self)
+        ensures { self.new ≡ telling C.steps self.old (told_acks_ended self.old.end) self.old.end }
+    {
+        let now = self.closing.clock();
+        let in_flight = saturated(self.bytes_in_flight());
+        let largest = self.space.numbers.largest_acked();
+        tell_acks_ended(&mut self.path, now, in_flight, self.app_limited, largest);
+    }
+
+    /// The bytes in flight on the path.
+    pub(crate) fn bytes_in_flight(&self) -> u128
+        ensures { result ≡ bytes_in_flight self.now.end }
+    {
+        self.path.in_flight.bytes()
     }
 
     /// The peer knows that the numbers up to one came, if a packet that came acknowledged any: they
@@ -204,7 +303,18 @@ impl<H: HeaderKey + Drop, K: PacketKey + Drop, R: Rng + Drop> Connection<H, K, R
         if let Some(sent) = sent {
             let delay = self.told_delay(frame);
             let rtt = self.closing.clock().saturating_duration_since(sent);
-            self.rtt.update(delay, rtt);
+            self.path.rtt.update(delay, rtt);
+            self.note_sampled();
+        }
+    }
+
+    /// A round trip was measured: the number that is next is the first behind it, where none was
+    /// measured before (RFC 9002, section 7.6.2).
+    fn note_sampled(&mut self)
+        ensures { self.new ≡ with_end self.old (with_rtt self.old.end self.old.end.path.rtt (first_measured self.old.end.path.first_after_rtt self.old.end.numbers.next)) }
+    {
+        if self.path.first_packet_after_rtt_sample.is_none() {
+            self.path.first_packet_after_rtt_sample = Some(self.space.numbers.next());
         }
     }
 
@@ -227,36 +337,70 @@ impl<H: HeaderKey + Drop, K: PacketKey + Drop, R: Rng + Drop> Connection<H, K, R
             self.space.numbers.reference(),
             u64::from(self.transport.get_packet_threshold()),
             (u64::from(numerator), u64::from(denominator)),
-            &self.rtt,
+            &self.path.rtt,
             self.closing.clock(),
         )
     }
 
     /// The packets that are late by number or by time are lost: what they carried goes again (RFC
-    /// 9002, section 6.1). An error is want of memory; the end is of no more use then.
-    pub(crate) fn detect_lost_packets(&mut self) -> Result<(), AllocError>
-        ensures ok { OnOk result (self.new ≡ with_end self.old (losses_detected self.old.end)) }
-        ensures others { self.new ≡ with_end self.old self.new.end }
+    /// 9002, section 6.1), and the path is congested where one was in flight. `by_ack` says whether
+    /// an ACK shows it, which alone shows that congestion persists. An error is want of memory; the
+    /// end is of no more use then.
+    pub(crate) fn detect_lost_packets(&mut self, by_ack: bool) -> Result<(), AllocError>
+        ensures ok { OnOk result (self.new ≡ telling C.steps self.old (told_detected by_ack self.old.end) (losses_detected self.old.end)) }
+        ensures others { KeepsKeys self.old self.new }
         ensures lacking { OnErr result (lost_by (verdict self.old.end) self.old.end.tracking.packets ≢ []) }
     {
         let verdict = self.verdict();
-        self.on_packets_lost(&verdict)?;
+        let mut losses = self.no_losses();
+        self.on_packets_lost(&verdict, &mut losses)?;
         self.space.tracking.detected(&verdict);
+        self.tell_lost(by_ack, &losses);
         Ok(())
     }
 
-    /// The packets that a verdict finds lost are: what they carried goes again.
-    fn on_packets_lost(&mut self, verdict: &Verdict) -> Result<(), AllocError>
+    /// No packet is lost yet.
+    fn no_losses(&self) -> Losses
+        ensures { result ≡ none_lost (persistent_period self.now.end) self.now.end.path.first_after_rtt }
+    {
+        let timeouts = self.transport.get_persistent_congestion_threshold();
+        let period = self.probe_timeout().saturating_mul(u64::from(timeouts));
+        Losses::new(period, self.path.first_packet_after_rtt_sample)
+    }
+
+    /// The packets that a verdict finds lost are: what they carried goes again, and they count
+    /// among these losses.
+    fn on_packets_lost(&mut self, verdict: &Verdict, losses: &mut Losses) -> Result<(), AllocError>
         ensures ok { OnOk result (self.new ≡ with_end self.old (after_losses verdict.now self.old.end)) }
+        ensures losses { OnOk result (losses.new ≡ all_lost self.old.end.path.generation losses.old (lost_by verdict.now self.old.end.tracking.packets)) }
         ensures others { self.new ≡ with_end self.old self.new.end }
         ensures lacking { OnErr result (lost_by verdict.now self.old.end.tracking.packets ≢ []) }
     {
         let mut low = 0;
         while let Some((number, packet)) = take_lost(&mut self.space.tracking, low, verdict) {
+            leave_flight(&mut self.path, &packet);
+            losses.add(self.path.generation(), number, &packet);
             self.on_packet_lost(&packet)?;
             low = number;
         }
         Ok(())
+    }
+
+    /// The congestion controller is told of packets that were lost, where one was in flight.
+    fn tell_lost(&mut self, by_ack: bool, losses: &Losses)
+        ensures { self.new ≡ telling C.steps self.old (told_lost by_ack self.old.end.closing.clock losses.now) self.old.end }
+    {
+        if losses.flew {
+            let now = self.closing.clock();
+            let persistent = by_ack && losses.persistent.is_persistent();
+            tell_congested(
+                &mut self.path,
+                now,
+                losses.last_sent,
+                persistent,
+                losses.bytes,
+            );
+        }
     }
 
     /// A packet is lost: what it carried goes again.

@@ -13,6 +13,7 @@ ghost use Rattle.quic_connection_core.specs.Frames.{message_part, messages_left}
 use crate::connection::Connection;
 use crate::connection::receiving::{Trouble, violation};
 use crate::connection::sending::CURRENT_MTU;
+use quic_congestion::Controller;
 use quic_messages::{DatagramLimits, DatagramState, Datagrams, ReceivedError, max_size};
 use quic_packet::crypto::{HeaderKey, PacketKey, TAG_LEN};
 use quic_wire::frame::{Frame, put_frame};
@@ -22,7 +23,12 @@ use rand_core::Rng;
 /// The most bytes that a packet number takes.
 const MAX_NUMBER_LENGTH: usize = 4;
 
-impl<H: HeaderKey + Drop, K: PacketKey + Drop, R: Rng + Drop> Connection<H, K, R> {
+impl<H: HeaderKey + Drop, K: PacketKey + Drop, R: Rng + Drop, C: Controller> Connection<
+    H,
+    K,
+    R,
+    C,
+> {
     /// Takes a message: it waits to be read, for which the oldest unread may go. One that this end
     /// told that it doesn't take breaks a rule (RFC 9221, section 3).
     pub(crate) fn take_message(&mut self, message: &[u8]) -> Result<(), Trouble>
@@ -63,7 +69,7 @@ impl<H: HeaderKey + Drop, K: PacketKey + Drop, R: Rng + Drop> Connection<H, K, R
     }
 }
 
-impl<H, K, R> Connection<H, K, R> {
+impl<H, K, R, C: Controller> Connection<H, K, R, C> {
     ghost use Rattle.std.specs.Borrow.{sem};
     ghost use denote.Follow.{follows};
     ghost use Rattle.quic_connection_core.specs.contracts.connection.Connection.{the_row as connection_row};
@@ -90,7 +96,7 @@ impl<H, K, R> Connection<H, K, R> {
     /// The messages of the end that wait to be sent, and those that came and weren't read: what
     /// [`Datagrams`] borrows.
     pub fn datagrams_mut(&mut self) -> &mut DatagramState
-        ensures* writes_back { sem 𝓛 (follows (connection_row H.row K.row R.row) datagrams_row self.entry.ghost_name result.ghost_name (messages_back self.old)) }
+        ensures* writes_back { sem 𝓛 (follows (connection_row H.row K.row R.row C.row C.Controller) datagrams_row self.entry.ghost_name result.ghost_name (messages_back self.old)) }
         ensures state { result.now ≡ self.old.end.messages.queues }
     {
         &mut self.datagrams
@@ -98,7 +104,7 @@ impl<H, K, R> Connection<H, K, R> {
 
     /// The messages of the end (quinn-proto's `Connection::datagrams`).
     pub fn datagrams(&mut self) -> Datagrams<'_>
-        ensures* writes_back { sem 𝓛 (follows (connection_row H.row K.row R.row) datagrams_row self.entry.ghost_name result.datagrams.ghost_name (messages_back self.old)) }
+        ensures* writes_back { sem 𝓛 (follows (connection_row H.row K.row R.row C.row C.Controller) datagrams_row self.entry.ghost_name result.datagrams.ghost_name (messages_back self.old)) }
         ensures state { result.datagrams.now ≡ self.old.end.messages.queues }
         ensures limits { result.limits ≡ limits_of self.old.end }
     {

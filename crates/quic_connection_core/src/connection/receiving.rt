@@ -1,5 +1,5 @@
 //! Taking a datagram (RFC 9000, sections 5.2, 12 and 13.1).
-ghost use Rattle.std.specs.Prelude.{◌≡◌, ◌≢◌, ◌+◌, ◌≤◌, ◌<◌, ◌^◌, length, slice_range, true, false, Some, None, IfSome, IfNone, IfOk, IfErr, OnOk, MatchResult};
+ghost use Rattle.std.specs.Prelude.{◌≡◌, ◌≢◌, ◌+◌, ◌≤◌, ◌<◌, ◌^◌, length, slice_range, true, false, Some, None, Ok, IfSome, IfNone, IfOk, IfErr, OnOk, MatchResult};
 ghost use Rattle.quic_wire.specs.Items.{items};
 ghost use Rattle.quic_packet.specs.Destination.{decoded, fixed_length_id};
 ghost use Rattle.quic_machine.specs.Ids.{known};
@@ -7,14 +7,16 @@ ghost use Rattle.quic_time.specs.Timers.{no_timers};
 ghost use Rattle.quic_wire.specs.FrameView.{frame_view, item_view};
 ghost use Rattle.quic_machine.specs.End.{with_end, policy_of, closed_by, HasFailed};
 ghost use Rattle.quic_machine.specs.Opens.{own_id_length, would_open};
-ghost use Rattle.quic_machine.specs.Receive.{is_above, names_ungiven, received, opened_to, processed, fault_of_breach, plain_error, take_ack, take_frame, take_item, take_items, take_payload, item_asks, asks_in, opening, error_of, reason_of, drop_of, violation};
+ghost use Rattle.quic_machine.specs.Receive.{is_above, names_ungiven, received, opened_to, processed, fault_of_breach, plain_error, take_ack, take_frame, take_item, take_items, take_payload, told_received, told_opened, told_processed, told_payload, told_items, told_item, told_ack, item_asks, asks_in, opening, error_of, reason_of, drop_of, violation};
 ghost use Rattle.quic_connection_core.specs.Drawn.{words_of};
-ghost use Rattle.quic_connection_core.specs.Faults.{fault_view, TakesAs, TakesAllAs, TakesPacketAs, HasForm, ItemHasForm};
+ghost use Rattle.quic_connection_core.specs.Telling.{telling, KeepsKeys};
+ghost use Rattle.quic_connection_core.specs.Faults.{fault_view, TellsAs, TakesAs, TakesAllAs, TakesPacketAs, HasForm, ItemHasForm};
 ghost use Rattle.quic_machine.specs.Lacking.{TakesFrames};
 
 use crate::connection::Connection;
 use crate::connection::ids::OWN_ID_LENGTH;
 use crate::connection::stream_frames::take_other;
+use quic_congestion::Controller;
 use quic_machine::{DropReason, Instant, LostReason, Received, State};
 use quic_packet::crypto::{HeaderKey, NotOpened, PacketKey};
 use quic_packet::{HeaderError, Opened, open_packet};
@@ -93,7 +95,12 @@ fn drop_reason(error: HeaderError) -> DropReason
     }
 }
 
-impl<H: HeaderKey + Drop, K: PacketKey + Drop, R: Rng + Drop> Connection<H, K, R> {
+impl<H: HeaderKey + Drop, K: PacketKey + Drop, R: Rng + Drop, C: Controller> Connection<
+    H,
+    K,
+    R,
+    C,
+> {
     /// Takes a datagram that came at this moment with this mark, opening it in place (RFC 9000,
     /// sections 5.2 and 12).
     ///
@@ -109,7 +116,9 @@ impl<H: HeaderKey + Drop, K: PacketKey + Drop, R: Rng + Drop> Connection<H, K, R
         datagram: &mut [u8],
     ) -> Received
         ensures answer { result ≢ Received.Failed → result ≡ (received (policy_of H.protection K.aead (words_of R.stream) self.old) self.old.end now datagram.old).answer }
-        ensures end { result ≢ Received.Failed → self.new ≡ with_end self.old (received (policy_of H.protection K.aead (words_of R.stream) self.old) self.old.end now datagram.old).end }
+        ensures end { result ≢ Received.Failed → self.new ≡ telling C.steps self.old
+            (told_received (policy_of H.protection K.aead (words_of R.stream) self.old) self.old.end now datagram.old)
+            (received (policy_of H.protection K.aead (words_of R.stream) self.old) self.old.end now datagram.old).end }
         ensures failed { result ≡ Received.Failed → HasFailed self.old self.new }
         ensures before { result ≡ Received.Failed → self.old.end.closing.state ≢ State.Failed }
         ensures stopped { result ≡ Received.Failed → self.new.end.timers ≡ no_timers }
@@ -117,6 +126,20 @@ impl<H: HeaderKey + Drop, K: PacketKey + Drop, R: Rng + Drop> Connection<H, K, R
     {
         let _ = ecn;
         self.stats.udp_rx.on_datagram(datagram.len());
+        self.take_datagram(now, datagram)
+    }
+
+    /// Takes a datagram that came at this moment, opening it in place.
+    fn take_datagram(&mut self, now: Instant, datagram: &mut [u8]) -> Received
+        ensures answer { result ≢ Received.Failed → result ≡ (received (policy_of H.protection K.aead (words_of R.stream) self.old) self.old.end now datagram.old).answer }
+        ensures end { result ≢ Received.Failed → self.new ≡ telling C.steps self.old
+            (told_received (policy_of H.protection K.aead (words_of R.stream) self.old) self.old.end now datagram.old)
+            (received (policy_of H.protection K.aead (words_of R.stream) self.old) self.old.end now datagram.old).end }
+        ensures failed { result ≡ Received.Failed → HasFailed self.old self.new }
+        ensures before { result ≡ Received.Failed → self.old.end.closing.state ≢ State.Failed }
+        ensures stopped { result ≡ Received.Failed → self.new.end.timers ≡ no_timers }
+        ensures lacking { result ≡ Received.Failed → TakesFrames (received (policy_of H.protection K.aead (words_of R.stream) self.old) self.old.end now datagram.old).answer }
+    {
         match self.state() {
             State::Failed => return Received::Dropped(DropReason::Failed),
             State::Drained => return Received::Dropped(DropReason::Drained),
@@ -179,7 +202,7 @@ impl<H: HeaderKey + Drop, K: PacketKey + Drop, R: Rng + Drop> Connection<H, K, R
     fn take_opened(&mut self, now: Instant, opened: &Opened, payload: &[u8]) -> Received
         requires { opened.now.number < 2 ^ 62 }
         ensures answer { result ≢ Received.Failed → result ≡ (opened_to (record { first = opened.now.first; number = opened.now.number; payload = payload.now }) now self.old.end).answer }
-        ensures end { result ≢ Received.Failed → self.new ≡ with_end self.old (opened_to (record { first = opened.now.first; number = opened.now.number; payload = payload.now }) now self.old.end).end }
+        ensures end { result ≢ Received.Failed → self.new ≡ telling C.steps self.old (told_opened (record { first = opened.now.first; number = opened.now.number; payload = payload.now }) now self.old.end) (opened_to (record { first = opened.now.first; number = opened.now.number; payload = payload.now }) now self.old.end).end }
         ensures failed { result ≡ Received.Failed → HasFailed self.old self.new }
         ensures stopped { result ≡ Received.Failed → self.new.end.timers ≡ no_timers }
         ensures lacking { result ≡ Received.Failed → TakesFrames (opened_to (record { first = opened.now.first; number = opened.now.number; payload = payload.now }) now self.old.end).answer }
@@ -202,7 +225,7 @@ impl<H: HeaderKey + Drop, K: PacketKey + Drop, R: Rng + Drop> Connection<H, K, R
     fn process(&mut self, now: Instant, opened: &Opened, payload: &[u8]) -> Received
         requires { opened.now.number < 2 ^ 62 }
         ensures answer { result ≢ Received.Failed → result ≡ (processed (record { first = opened.now.first; number = opened.now.number; payload = payload.now }) now self.old.end).answer }
-        ensures end { result ≢ Received.Failed → self.new ≡ with_end self.old (processed (record { first = opened.now.first; number = opened.now.number; payload = payload.now }) now self.old.end).end }
+        ensures end { result ≢ Received.Failed → self.new ≡ telling C.steps self.old (told_processed (record { first = opened.now.first; number = opened.now.number; payload = payload.now }) now self.old.end) (processed (record { first = opened.now.first; number = opened.now.number; payload = payload.now }) now self.old.end).end }
         ensures failed { result ≡ Received.Failed → HasFailed self.old self.new }
         ensures stopped { result ≡ Received.Failed → self.new.end.timers ≡ no_timers }
         ensures lacking { result ≡ Received.Failed → TakesFrames (processed (record { first = opened.now.first; number = opened.now.number; payload = payload.now }) now self.old.end).answer }
@@ -218,7 +241,8 @@ impl<H: HeaderKey + Drop, K: PacketKey + Drop, R: Rng + Drop> Connection<H, K, R
     fn take_packet(&mut self, opened: &Opened, payload: &[u8]) -> Result<(), Trouble>
         requires { opened.now.number < 2 ^ 62 }
         ensures takes { TakesPacketAs result (take_payload opened.now.first (items payload.now) self.old.end) (asks_in (items payload.now)) opened.now.number self.new.end }
-        ensures others { self.new ≡ with_end self.old self.new.end }
+        ensures told { TellsAs result C.steps self.old (told_payload opened.now.first (items payload.now) self.old.end) self.new }
+        ensures others { KeepsKeys self.old self.new }
     {
         let asks = self.take_payload(opened, payload)?;
         self.take_number(opened.number, asks)?;
@@ -228,7 +252,8 @@ impl<H: HeaderKey + Drop, K: PacketKey + Drop, R: Rng + Drop> Connection<H, K, R
     /// Takes the frames of a packet, one after another: whether one asks for an acknowledgement.
     fn take_payload(&mut self, opened: &Opened, payload: &[u8]) -> Result<bool, Trouble>
         ensures takes { TakesAllAs result (take_payload opened.now.first (items payload.now) self.old.end) (asks_in (items payload.now)) self.new.end }
-        ensures others { self.new ≡ with_end self.old self.new.end }
+        ensures told { TellsAs result C.steps self.old (told_payload opened.now.first (items payload.now) self.old.end) self.new }
+        ensures others { KeepsKeys self.old self.new }
     {
         if opened.reserved_bits() != 0 {
             return Err(violation(Reason::ReservedBits));
@@ -242,7 +267,8 @@ impl<H: HeaderKey + Drop, K: PacketKey + Drop, R: Rng + Drop> Connection<H, K, R
     /// Takes frames up to the first that is at fault: whether one asks for an acknowledgement.
     fn take_frames(&mut self, payload: &[u8]) -> Result<bool, Trouble>
         ensures takes { TakesAllAs result (take_items (items payload.now) self.old.end) (asks_in (items payload.now)) self.new.end }
-        ensures others { self.new ≡ with_end self.old self.new.end }
+        ensures told { TellsAs result C.steps self.old (told_items (items payload.now) self.old.end) self.new }
+        ensures others { KeepsKeys self.old self.new }
     {
         let mut asks = false;
         for item in Iter::new(payload) {
@@ -256,7 +282,8 @@ impl<H: HeaderKey + Drop, K: PacketKey + Drop, R: Rng + Drop> Connection<H, K, R
     fn take_item(&mut self, item: &Result<Frame<'_>, InvalidFrame>) -> Result<(), Trouble>
         requires { ItemHasForm (item_view item.now) }
         ensures takes { TakesAs result (take_item (item_view item.now) self.old.end) self.new.end }
-        ensures others { self.new ≡ with_end self.old self.new.end }
+        ensures told { TellsAs result C.steps self.old (told_item (item_view item.now) self.old.end) self.new }
+        ensures others { KeepsKeys self.old self.new }
     {
         match item {
             Ok(frame) => {
@@ -271,7 +298,8 @@ impl<H: HeaderKey + Drop, K: PacketKey + Drop, R: Rng + Drop> Connection<H, K, R
     fn take_frame(&mut self, frame: &Frame<'_>) -> Result<(), Trouble>
         requires { HasForm (frame_view frame.now) }
         ensures takes { TakesAs result (take_frame (frame_view frame.now) self.old.end) self.new.end }
-        ensures others { self.new ≡ with_end self.old self.new.end }
+        ensures told { TellsAs result C.steps self.old (told_item (Ok (frame_view frame.now)) self.old.end) self.new }
+        ensures others { KeepsKeys self.old self.new }
     {
         match frame {
             Frame::Ack(frame) => self.take_ack(frame),
@@ -285,7 +313,8 @@ impl<H: HeaderKey + Drop, K: PacketKey + Drop, R: Rng + Drop> Connection<H, K, R
     /// 13.1).
     fn take_ack(&mut self, frame: &Ack<'_>) -> Result<(), Trouble>
         ensures takes { TakesAs result (take_ack frame.now self.old.end) self.new.end }
-        ensures others { self.new ≡ with_end self.old self.new.end }
+        ensures told { TellsAs result C.steps self.old (told_ack frame.now self.old.end) self.new }
+        ensures others { KeepsKeys self.old self.new }
     {
         self.check_ack(frame)?;
         let largest = frame.largest();

@@ -3,25 +3,24 @@ ghost use Rattle.std.specs.Prelude.{◌≡◌};
 ghost use Rattle.quic_time.specs.Rtt.{best_rtt};
 
 use crate::connection::Connection;
-use crate::connection::sending::CURRENT_MTU;
+use quic_congestion::Controller;
 use quic_stats::ConnectionStats;
 use quic_wire::frame::Iter;
 
-impl<H, K, R> Connection<H, K, R> {
+impl<H, K, R, C: Controller> Connection<H, K, R, C> {
     /// What was counted of the end since it was made, and what it knows of its path (quinn-proto's
-    /// `Connection::stats`). Each count stays at the greatest number of its type. There is no
-    /// congestion window yet: it reads 0.
+    /// `Connection::stats`). Each count stays at the greatest number of its type.
     pub fn stats(&self) -> ConnectionStats
         ensures rtt { result.path.rtt ≡ best_rtt self.now.end.path.rtt }
         ensures min_rtt { result.path.min_rtt ≡ self.now.end.path.rtt.least }
         ensures size { result.path.current_mtu ≡ self.now.end.path.size }
-        ensures window { result.path.cwnd ≡ 0 }
+        ensures window { result.path.cwnd ≡ C.window_of self.now.control }
     {
         let mut stats = self.stats;
-        stats.path.rtt = self.rtt.get();
-        stats.path.min_rtt = self.rtt.min();
-        stats.path.cwnd = 0;
-        stats.path.current_mtu = CURRENT_MTU as u16;
+        stats.path.rtt = self.path.rtt.get();
+        stats.path.min_rtt = self.path.rtt.min();
+        stats.path.cwnd = self.path.congestion.window();
+        stats.path.current_mtu = self.path.current_mtu();
         stats
     }
 

@@ -4,21 +4,29 @@ ghost use Rattle.quic_time.specs.Timers.{timer_at, next_timer, has_come, no_time
 ghost use Rattle.quic_machine.specs.End.{with_end, HasFailed};
 ghost use Rattle.quic_machine.specs.Calls.{end_tells, end_after_event};
 ghost use Rattle.quic_machine.specs.Lacking.{LosesOrHasFailed};
-ghost use Rattle.quic_machine.specs.Timeouts.{timed_out, expired, loss_expired, acks_expired};
+ghost use Rattle.quic_machine.specs.Timeouts.{timed_out, told_timed_out, expired, loss_expired, told_expired, acks_expired, pacing_expired};
+ghost use Rattle.quic_connection_core.specs.Telling.{telling, KeepsKeys};
 ghost use Rattle.quic_connection_core.specs.Tracked.{LosesByTime};
 
 use crate::connection::Connection;
+use quic_congestion::Controller;
 use quic_machine::{Event, Failed, Instant, State, Timer};
 use quic_packet::crypto::{HeaderKey, PacketKey};
 use rand_core::Rng;
 use std::alloc::AllocError;
 
-impl<H: HeaderKey + Drop, K: PacketKey + Drop, R: Rng + Drop> Connection<H, K, R> {
+impl<H: HeaderKey + Drop, K: PacketKey + Drop, R: Rng + Drop, C: Controller> Connection<
+    H,
+    K,
+    R,
+    C,
+> {
     /// Lets the timers expire that are set to this moment or one before it. Where the loss timer
     /// expires, packets are lost by time if it was set for one, and else two probes go (RFC 9002,
     /// section 6.2). Where the timer of acknowledgements expires, one is due (RFC 9000, section
-    /// 13.2.1). The loss timer is set anew, perhaps to a moment that has come already. An end that
-    /// is closing or drained has no timer, and takes no moment over.
+    /// 13.2.1). Where the pacer's does, the next poll asks it again (RFC 9002, section 7.7). The
+    /// loss timer is set anew, perhaps to a moment that has come already. An end that is closing or
+    /// drained has no timer, and takes no moment over.
     ///
     /// # Errors
     ///
@@ -26,17 +34,28 @@ impl<H: HeaderKey + Drop, K: PacketKey + Drop, R: Rng + Drop> Connection<H, K, R
     /// fails for good and has no timer; or where it had failed before, and nothing changes.
     pub fn handle_timeout(&mut self, now: Instant) -> Result<(), Failed>
         ensures answer { OnOk result (result ≡ (timed_out self.old.end now).answer) }
-        ensures end { OnOk result (self.new ≡ with_end self.old (timed_out self.old.end now).end) }
+        ensures end { OnOk result (self.new ≡ telling C.steps self.old (told_timed_out self.old.end now) (timed_out self.old.end now).end) }
         ensures failed { OnErr result (HasFailed self.old self.new) }
         ensures stopped { self.old.end.closing.state ≢ State.Failed → OnErr result (self.new.end.timers ≡ no_timers) }
         ensures lacking { OnErr result (LosesOrHasFailed self.old.end now) }
         ensures still { self.old.end.closing.state ≡ State.Failed → self.new ≡ self.old }
     {
         match self.state() {
-            State::Failed => return Err(Failed),
-            State::Closing | State::Drained => return Ok(()),
-            State::Open => {}
+            State::Failed => Err(Failed),
+            State::Closing | State::Drained => Ok(()),
+            State::Open => self.take_timeout(now),
         }
+    }
+
+    /// Takes a moment over at an open end, and lets the timers expire that have come. Where memory
+    /// lacks, the end fails for good.
+    fn take_timeout(&mut self, now: Instant) -> Result<(), Failed>
+        requires { self.old.end.closing.state ≡ State.Open }
+        ensures end { OnOk result (self.new ≡ telling C.steps self.old (told_timed_out self.old.end now) (timed_out self.old.end now).end) }
+        ensures failed { OnErr result (HasFailed self.old self.new) }
+        ensures stopped { OnErr result (self.new.end.timers ≡ no_timers) }
+        ensures lacking { OnErr result (LosesOrHasFailed self.old.end now) }
+    {
         self.tick(now);
         if self.expire_timers().is_err() {
             self.fail();
@@ -48,12 +67,13 @@ impl<H: HeaderKey + Drop, K: PacketKey + Drop, R: Rng + Drop> Connection<H, K, R
     /// Lets the timers expire that have come. An error is want of memory; the end is of no more use
     /// then.
     fn expire_timers(&mut self) -> Result<(), AllocError>
-        ensures ok { OnOk result (self.new ≡ with_end self.old (expired self.old.end)) }
-        ensures others { self.new ≡ with_end self.old self.new.end }
+        ensures ok { OnOk result (self.new ≡ telling C.steps self.old (told_expired (has_come self.old.end.timers.loss_detection self.old.end.closing.clock) self.old.end) (expired self.old.end)) }
+        ensures others { KeepsKeys self.old self.new }
         ensures lacking { OnErr result (LosesByTime self.old.end) }
     {
         self.expire_loss_timer()?;
         self.expire_ack_timer();
+        self.expire_pacing_timer();
         self.set_loss_timer();
         Ok(())
     }
@@ -61,8 +81,8 @@ impl<H: HeaderKey + Drop, K: PacketKey + Drop, R: Rng + Drop> Connection<H, K, R
     /// Where the loss timer expired, packets are lost by time, if it was set for one, and else two
     /// probes go. An error is want of memory; the end is of no more use then.
     fn expire_loss_timer(&mut self) -> Result<(), AllocError>
-        ensures ok { OnOk result (self.new ≡ with_end self.old (loss_expired (has_come self.old.end.timers.loss_detection self.old.end.closing.clock) self.old.end)) }
-        ensures others { self.new ≡ with_end self.old self.new.end }
+        ensures ok { OnOk result (self.new ≡ telling C.steps self.old (told_expired (has_come self.old.end.timers.loss_detection self.old.end.closing.clock) self.old.end) (loss_expired (has_come self.old.end.timers.loss_detection self.old.end.closing.clock) self.old.end)) }
+        ensures others { KeepsKeys self.old self.new }
         ensures lacking { OnErr result (LosesByTime self.old.end) }
     {
         if !self
@@ -72,7 +92,7 @@ impl<H: HeaderKey + Drop, K: PacketKey + Drop, R: Rng + Drop> Connection<H, K, R
             return Ok(());
         }
         match self.space.tracking.loss_time() {
-            Some(_) => self.detect_lost_packets(),
+            Some(_) => self.detect_lost_packets(false),
             None => {
                 self.space.tracking.expire();
                 Ok(())
@@ -90,6 +110,15 @@ impl<H: HeaderKey + Drop, K: PacketKey + Drop, R: Rng + Drop> Connection<H, K, R
         {
             self.timers.stop(Timer::MaxAckDelay);
             self.space.acknowledging.expire();
+        }
+    }
+
+    /// Where the timer of the pacer expired, it is stopped: the next poll asks the pacer again.
+    fn expire_pacing_timer(&mut self)
+        ensures { self.new ≡ with_end self.old (pacing_expired (has_come self.old.end.timers.pacing self.old.end.closing.clock) self.old.end) }
+    {
+        if self.timers.is_expired(Timer::Pacing, self.closing.clock()) {
+            self.timers.stop(Timer::Pacing);
         }
     }
 

@@ -143,4 +143,5 @@ tallied_group B packets = record {
   first = λ x y m there back. tallied_first x y;
   writer = λ x y call a c i back. tallied_step B packets x y call a c i;
   reader = λ x y call a c there i. record { still = i.still };
+  shows = λ x y here there b back i j. record { still = i.still };
 }

@@ -147,4 +147,5 @@ opens_group B w = record {
   first = λ x y m there back. record { side = refl; each = λ id none. absurd none };
   writer = λ x y call a c i back. opens_step B w x y call a c i;
   reader = λ x y call a c there i. record { side = i.side; each = i.each };
+  shows = λ x y here there b back i j. record { side = i.side; each = i.each };
 }

@@ -29,9 +29,8 @@ use Rattle.quic_machine.specs.StreamCalls.{is_on_streams}
 use Rattle.quic_machine.specs.End.{End, streams_at}
 use Rattle.quic_machine.specs.Tracking.{TrackedPacket}
 use Rattle.quic_machine.specs.Acked.{stream_lost}
-use Rattle.quic_machine.specs.Poll.{Draft, Polled, composed, lazied, polled}
+use Rattle.quic_machine.specs.Poll.{Draft, composed, polled}
 use Rattle.quic_machine.specs.DraftLaws.{by_writing}
-use Rattle.quic_machine.specs.PollCases.{at_moment, by_poll}
 use Rattle.quic_machine.specs.FrameCases.{Settling}
 use Rattle.quic_machine.specs.LeaveCases.{by_expired, by_event}
 use Rattle.quic_machine.specs.CallCases.{is_delivery, by_call}
@@ -41,6 +40,7 @@ use Rattle.quic_headline.proofs.Packets.Losses.{Losing, expiry_stays}
 use Rattle.quic_headline.proofs.Halves.Words.{OtherWords, is_write, other_with}
 use Rattle.quic_headline.proofs.Halves.WordsCalls.{call_on_is}
 use Rattle.quic_headline.proofs.Amounts.Pieces.{filled, sum_both}
+use Rattle.quic_headline.proofs.Packets.Probes.{poll_state}
 
 -- ---- what is tallied
 
@@ -211,13 +211,7 @@ module _ (t : Tally) where
   }) e i
 
   poll_tallies : (p : Policy) (e : End) (now : ℕ) → Tallies t e.streams → Tallies t (polled p e now).end.streams
-  poll_tallies p e now i = by_poll p e now (λ (q : Polled). Tallies t q.end.streams) (record {
-    silent = i;
-    failed = i;
-    idle = λ tracking waiting ready. i;
-    used_up = λ tracking waiting ready. i;
-    gives = λ before waiting tracking timers is may some ready. composed_tallies (lazied (at_moment e now before waiting)) i;
-  })
+  poll_tallies p e now i = poll_state (Tallies t) p e now composed_tallies i
 
   -- a STREAM frame is lost
   lost_tallies : (m : StreamMeta) (e : End) → Tallies t e.streams → Tallies t (stream_lost m e).streams
@@ -240,7 +234,7 @@ module _ (t : Tally) where
         on_messages = λ on answer. i;
         pings = i;
         heard = λ path same. i;
-        times = λ now acks loss set. by_expired e now (λ (f : End). Tallies t f.streams) (λ pending tracking timers runs packets. i) (λ pending timers runs. expiry_stays (λ (s : Streams). Tallies t s.state) e now (losing e.tracking.packets) i pending timers) acks loss;
+        times = λ now acks loss pacing set. by_expired e now (λ (f : End). Tallies t f.streams) (λ pending tracking timers runs packets. i) (λ pending timers runs. expiry_stays (λ (s : Streams). Tallies t s.state) e now (losing e.tracking.packets) i pending timers) acks loss pacing;
         polls = λ now set. poll_tallies p e now i;
         hears = λ now d set. cc;
         tells = λ asks. by_event e (λ (f : End). Tallies t f.streams) i (λ told. by_polled (Tallies t) tallies_kept e.streams i);
@@ -256,7 +250,7 @@ module _ (t : Tally) where
     lost = lost_tallies;
     again = λ carried e i. i;
     tracked = λ u e i. i;
-    measured = λ r e i. i;
+    measured = λ r first e i. i;
   }
 
 -- ---- where as much is told

@@ -15,6 +15,7 @@ use Rattle.quic_machine.specs.Receive.{Fault, too_many_pieces, error_of, reason_
 use Rattle.quic_machine.specs.FrameCases.{begun}
 use Rattle.quic_machine.specs.Machine.{World, policy_at, after_call}
 use Rattle.quic_machine.specs.CallCases.{is_delivery}
+use Rattle.quic_machine.specs.Poll.{rests}
 use Rattle.quic_headline.specs.Runs.{Run, Told, In, handed, given_of, until, AreServed}
 use Rattle.quic_headline.specs.Observer.{Sent}
 use Rattle.quic_headline.specs.Headline.{IsHonest, IsRun}
@@ -148,6 +149,7 @@ blameless_group B rests = record {
   first = λ x y m there here. record { reason = tt; judged = λ c. absurd (none_behind c.before c.behind c.call c.split) };
   writer = λ x y call a c b back. record { reason = b.reason; judged = b.judged };
   reader = λ x y call a c there b. blameless_behind B rests x y call a c b;
+  shows = λ x y here there above below b back. record { reason = b.reason; judged = b.judged };
 }
 
 -- ---- the clauses

@@ -18,6 +18,7 @@ use Rattle.quic_machine.specs.Receive.{Fault, broke, too_many_pieces, reason_of,
 use Rattle.quic_machine.specs.Machine.{World, policy_at, end_at, after_call}
 use Rattle.quic_machine.specs.CallCases.{is_delivery}
 use Rattle.quic_machine.specs.FrameCases.{begun}
+use Rattle.quic_machine.specs.Poll.{rests}
 use Rattle.quic_headline.specs.Runs.{Run, Packet, Intake, given_of, until, AreServed, HasArrived}
 use Rattle.quic_headline.specs.Headline.{IsHonest, IsRun}
 use Rattle.quic_headline.specs.Causes.{CrowdCame, TooManyPieces}
@@ -129,6 +130,7 @@ pieces_group B rests = record {
   first = λ x y m there here. record { pieces = λ is. cc; come = λ still. begins x y };
   writer = λ x y call a c p back. record { pieces = p.pieces; come = p.come };
   reader = λ x y call a c there p. record { pieces = pieces_behind B rests x y call a c p; come = come_behind B rests x y call a c p };
+  shows = λ x y here there b back p q. record { pieces = p.pieces; come = p.come };
 }
   where
     begins : (x y : Beginning) → HasCome (came_in []) (begun_as y x).end.streams

@@ -131,6 +131,7 @@ module _ (B : Way) (packets : (x y : Party) → B x y → PacketsHold x y) where
     first = λ x y m there here. record { used = λ is. cc; drained = λ reason is. cc };
     writer = λ x y call a c s back. s;
     reader = shut_on;
+    shows = λ x y here there b back s t. record { used = s.used; drained = s.drained };
   }
 
 -- ---- the clause

@@ -133,6 +133,7 @@ all_streams_group B w = record {
   first = λ x y m there back. first x y m;
   writer = λ x y call a c i back. record { sees = sees_on B w x y call a c i; accepts = accepts_on B w x y call a c i };
   reader = λ x y call a c there i. record { sees = sees_more B w x y call a c i; accepts = i.accepts };
+  shows = λ x y here there b back i j. record { sees = i.sees; accepts = i.accepts };
 }
   where
     first : (x y : Beginning) → AreMade x y → AllStreams (begun_as x y) (begun_as y x)

@@ -44,10 +44,9 @@ use Rattle.quic_machine.specs.StreamCalls.{is_on_streams}
 use Rattle.quic_machine.specs.End.{End, with_closing, streams_at}
 use Rattle.quic_machine.specs.Closing.{ticked}
 use Rattle.quic_machine.specs.Receive.{is_above, names_ungiven, take_frame}
-use Rattle.quic_machine.specs.Poll.{Draft, Polled, composed, lazied}
+use Rattle.quic_machine.specs.Poll.{Draft, composed, tracked}
 use Rattle.quic_machine.specs.Poll as poll
 use Rattle.quic_machine.specs.DraftLaws.{by_writing}
-use Rattle.quic_machine.specs.PollCases.{at_moment, by_poll}
 use Rattle.quic_machine.specs.LeaveCases.{by_expired, by_event}
 use Rattle.quic_machine.specs.CallCases.{is_delivery, by_call}
 use Rattle.quic_machine.specs.FrameCases.{Settling, named, ack_taken, acked_keeps, losses_keep, message_leaves}
@@ -56,6 +55,7 @@ use Rattle.quic_headline.specs.Runs.{OpensStream}
 use Rattle.quic_headline.proofs.Packets.Entries.{by_first}
 use Rattle.quic_headline.proofs.Halves.Words.{CallWords, call_with}
 use Rattle.quic_headline.proofs.Halves.WordsCalls.{call_on_is}
+use Rattle.quic_headline.proofs.Packets.Probes.{poll_state}
 
 -- a fact of an end's side, of how many streams it may open, and of how many the peer opened
 module _ (K : Side → Counts → Counts → Type 0) where
@@ -214,13 +214,7 @@ module _ (K : Side → Counts → Counts → Type 0) where
   }) e i
 
   poll_counts : (p : Policy) (e : End) (now : ℕ) → Counted e.streams → Counted (poll.polled p e now).end.streams
-  poll_counts p e now i = by_poll p e now (λ (q : Polled). Counted q.end.streams) (record {
-    silent = i;
-    failed = i;
-    idle = λ t w ready. i;
-    used_up = λ t w ready. i;
-    gives = λ t w tracking timers is may some ready. composed_counts (lazied (at_moment e now t w)) i;
-  })
+  poll_counts p e now i = poll_state Counted p e now composed_counts i
 
   -- ---- what is acknowledged or lost
 
@@ -245,7 +239,7 @@ module _ (K : Side → Counts → Counts → Type 0) where
     lost = λ m e i. lost_counts (sent_half e.streams m.id) e.streams m i;
     again = λ carried e i. i;
     tracked = λ t e i. i;
-    measured = λ r e i. i;
+    measured = λ r first e i. i;
   }
 
   -- any call but a delivery
@@ -265,7 +259,7 @@ module _ (K : Side → Counts → Counts → Type 0) where
         on_messages = λ on answer. i;
         pings = i;
         heard = λ path same. i;
-        times = λ now acks loss set. by_expired e now (λ (f : End). Counted f.streams) (λ pending tracking timers runs packets. i) (λ pending timers runs. losses_keep (λ (x : End). Counted x.streams) settling (with_closing e (ticked e.closing now)) i) acks loss;
+        times = λ now acks loss pacing set. by_expired e now (λ (f : End). Counted f.streams) (λ pending tracking timers runs packets. i) (λ pending timers runs. losses_keep (λ (x : End). Counted x.streams) settling (with_closing e (ticked e.closing now)) i) acks loss pacing;
         polls = λ now set. poll_counts p e now i;
         hears = λ now d set. cc;
         tells = λ asks. by_event e (λ (f : End). Counted f.streams) i (λ told. polled_counts e.streams i);

@@ -24,11 +24,12 @@ use Rattle.quic_machine.specs.Tracking.{dir_named}
 use Rattle.quic_machine.specs.End.{End}
 use Rattle.quic_machine.specs.Receive.{take_frame}
 use Rattle.quic_machine.specs.FrameCases.{begun, passed, frames_leave}
+use Rattle.quic_machine.specs.Poll.{rests}
 use Rattle.quic_headline.specs.Runs.{Intake, In, OpensStream}
 use Rattle.quic_headline.proofs.Packets.Group.{meets}
 use Rattle.quic_headline.proofs.Places.Coming.{by_coming}
 use Rattle.quic_headline.proofs.Places.Groups.{Way, And, Calls, Group, both}
-use Rattle.quic_headline.proofs.Places.Parties.{Party, called, Beginning, begun_as, AreMade}
+use Rattle.quic_headline.proofs.Places.Parties.{Party, called, Beginning, begun_as, AreMade, showing}
 use Rattle.quic_headline.proofs.Halves.Counts.{counts_in_range}
 use Rattle.quic_headline.proofs.Channel.Passing.{IdsPass, IdsHold}
 use Rattle.quic_headline.proofs.Channel.Counted.{Counted, call_counts, frame_counts}
@@ -196,6 +197,7 @@ counts_group B rests = record {
   first = λ x y m there back. counts_first x y m;
   writer = λ x y call a c k back. counts_writer (And B NamesHold) (record { packets = λ u v h. rests.packets u v h.0; written = λ u v h. rests.written u v h.0 }) x y call a c k;
   reader = λ x y call a c there k. counts_reader B rests x y call a c k;
+  shows = λ x y here there b back k j. record { counts = k.counts };
 }
 
 -- ---- each frame passes by its id
@@ -323,6 +325,7 @@ derived B G is = record {
   first = λ x y m there back. is (begun_as x y) (begun_as y x) there back;
   writer = λ x y call a c g h. is (called x y.given call a) y c.gives_behind c.takes_behind;
   reader = λ x y call a c g h. is y (called x y.given call a) c.takes_behind c.gives_behind;
+  shows = λ x y here there b back g h. is (showing x here) (showing y there) b back;
 }
 
 -- the names and counts that x gives by, and that each frame passes by its id

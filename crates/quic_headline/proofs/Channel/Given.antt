@@ -38,7 +38,7 @@ use Rattle.quic_machine.specs.Tracking.{TrackedPacket, dir_named}
 use Rattle.quic_headline.proofs.Packets.Probes.{ready_streams, ready_state}
 use Rattle.quic_machine.specs.End.{End, number_of}
 use Rattle.quic_machine.specs.Receive.{take_frame}
-use Rattle.quic_machine.specs.Poll.{Draft, composed, lazied}
+use Rattle.quic_machine.specs.Poll.{Draft, lazied, draft_if, with_ack, no_frames}
 use Rattle.quic_machine.specs.DraftLaws.{by_writing}
 use Rattle.quic_machine.specs.PollCases.{ready_at, draft_at, frames_at}
 use Rattle.quic_machine.specs.FrameCases.{passed, frames_keep}
@@ -274,9 +274,13 @@ module _ (s : StreamsState) where
     blocked = λ id i. (g.shape, g.back, g.stops);
   }) kind e es is
 
-  composed_goes : (e : End) → Goes s (record { frames = []; bytes = []; end = e }) → Goes s (composed e)
-  composed_goes e first = by_writing (Goes s) (record {
-    ack = λ d filled may g. record { shape = g.shape; back = g.back; stops = g.stops; frames = more_given d.frames _ g.frames tt };
+  acked_goes : (d : Draft) → Goes s d → Goes s (with_ack d)
+  acked_goes d g = record { shape = g.shape; back = g.back; stops = g.stops; frames = more_given d.frames _ g.frames tt }
+
+  draft_goes : (held : Bool) (e : End) → Goes s (no_frames e) → Goes s (draft_if held e)
+  draft_goes true e first = acked_goes (no_frames e) first
+  draft_goes false e first = by_writing (Goes s) (record {
+    ack = λ d filled may g. acked_goes d g;
     ping = λ d g. record { shape = g.shape; back = g.back; stops = g.stops; frames = more_given d.frames ping g.frames tt };
     drops = λ d kind g. record { shape = g.shape; back = g.back; stops = fewer_stops d.end.streams kind d.end.waiting.frames g.stops; frames = g.frames };
     control = λ d kind entry es f is due g. (
@@ -308,21 +312,21 @@ module _ (s : StreamsState) where
 pub polled_given : (e : End) (now : ℕ) → IsShaped e.streams → StopsHold e.streams e.waiting.frames → ((n : ℕ) (t : TrackedPacket) → In (n, t) e.tracking.packets → StopsHold e.streams t.carried.retransmits) → (f : FrameValue) → In f (frames_at e now) → Given e.streams f
 polled_given e now shape stops carried =
     let d : Draft = draft_at e now in
-    padded_given e.streams d.frames (4 - ((truncated (number_of d.end) (cut_against d.end.numbers)).width + length d.bytes)) (composed_goes e.streams (lazied (ready_at e now)) ready).frames
+    padded_given e.streams d.frames (4 - ((truncated (number_of d.end) (cut_against d.end.numbers)).width + length d.bytes)) (draft_goes e.streams (ready_at e now).held (lazied (ready_at e now).end) ready).frames
   where
     -- what waits, with what a packet carried
     more : (n : ℕ) (t : TrackedPacket) → In (n, t) e.tracking.packets → StopsHold e.streams (merged e.waiting.frames t.carried.retransmits)
     more n t among r i = elim (in_append r e.waiting.frames.stop_sending t.carried.retransmits.stop_sending i) [ inl old ↦ stops r old | inr new ↦ carried n t among r new ]
 
-    held : StopsHold e.streams (ready_at e now).waiting.frames
-    held = ready_streams (λ (t : Streams). StopsHold e.streams t.pending) e now stops more
+    stopped : StopsHold e.streams (ready_at e now).end.waiting.frames
+    stopped = ready_streams (λ (t : Streams). StopsHold e.streams t.pending) e now stops more
 
-    ready : Goes e.streams (record { frames = []; bytes = []; end = lazied (ready_at e now) })
+    ready : Goes e.streams (no_frames (lazied (ready_at e now).end))
     ready =
-        let same : (ready_at e now).streams ≡ e.streams = ready_state e now in
+        let same : (ready_at e now).end.streams ≡ e.streams = ready_state e now in
         record {
           shape = subst IsShaped (sym same) shape;
           back = subst (λ (t : StreamsState). Grown t e.streams) (sym same) (grown_same e.streams);
-          stops = subst (λ (t : StreamsState). StopsHold t (ready_at e now).waiting.frames) (sym same) held;
+          stops = subst (λ (t : StreamsState). StopsHold t (ready_at e now).end.waiting.frames) (sym same) stopped;
           frames = λ f i. absurd i;
         }

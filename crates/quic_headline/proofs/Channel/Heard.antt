@@ -30,9 +30,8 @@ use Rattle.quic_machine.specs.StreamCalls.{is_on_streams}
 use Rattle.quic_machine.specs.End.{End, with_closing, streams_at}
 use Rattle.quic_machine.specs.Closing.{ticked}
 use Rattle.quic_machine.specs.Receive.{is_above, names_ungiven, take_frame}
-use Rattle.quic_machine.specs.Poll.{Draft, Polled, composed, lazied, polled}
+use Rattle.quic_machine.specs.Poll.{Draft, composed, polled}
 use Rattle.quic_machine.specs.DraftLaws.{by_writing}
-use Rattle.quic_machine.specs.PollCases.{at_moment, by_poll}
 use Rattle.quic_machine.specs.FrameCases.{Settling, acked_keeps, losses_keep, named, ack_taken, message_leaves, passed, frames_leave}
 use Rattle.quic_machine.specs.LeaveCases.{by_expired, by_event}
 use Rattle.quic_machine.specs.CallCases.{is_delivery, by_call}
@@ -44,6 +43,7 @@ use Rattle.quic_headline.proofs.Halves.Words.{CallWords, call_with}
 use Rattle.quic_headline.proofs.Halves.WordsCalls.{call_on_is}
 use Rattle.quic_headline.proofs.Channel.Received.{Allows, allows_less, Stays}
 use Rattle.quic_headline.proofs.Channel.Told.{IsTold}
+use Rattle.quic_headline.proofs.Packets.Probes.{poll_state}
 
 -- ---- limits of one end that the other holds
 
@@ -144,13 +144,7 @@ module _ (t : StreamsState) where
   }) e i
 
   poll_heard : (p : Policy) (e : End) (now : ℕ) → Heard t e.streams → Heard t (polled p e now).end.streams
-  poll_heard p e now i = by_poll p e now (λ (q : Polled). Heard t q.end.streams) (record {
-    silent = i;
-    failed = i;
-    idle = λ t w ready. i;
-    used_up = λ t w ready. i;
-    gives = λ t w tracking timers is may some ready. composed_heard (lazied (at_moment e now t w)) i;
-  })
+  poll_heard p e now i = poll_state (Heard t) p e now composed_heard i
 
   -- packets that are acknowledged or lost
   settles : Settling (λ (e : End). Heard t e.streams)
@@ -161,7 +155,7 @@ module _ (t : StreamsState) where
     lost = λ m e i. by_stream_lost (Heard t) heard_kept e.streams m (λ h is none a. a) i;
     again = λ carried e i. i;
     tracked = λ u e i. i;
-    measured = λ r e i. i;
+    measured = λ r first e i. i;
   }
 
   -- any call but a delivery
@@ -178,7 +172,7 @@ module _ (t : StreamsState) where
         on_messages = λ on answer. i;
         pings = i;
         heard = λ path same. i;
-        times = λ now acks loss set. by_expired e now (λ (f : End). Heard t f.streams) (λ pending tracking timers runs packets. i) (λ pending timers runs. losses_keep (λ (x : End). Heard t x.streams) settles (with_closing e (ticked e.closing now)) i) acks loss;
+        times = λ now acks loss pacing set. by_expired e now (λ (f : End). Heard t f.streams) (λ pending tracking timers runs packets. i) (λ pending timers runs. losses_keep (λ (x : End). Heard t x.streams) settles (with_closing e (ticked e.closing now)) i) acks loss pacing;
         polls = λ now set. poll_heard p e now i;
         hears = λ now d set. cc;
         tells = λ asks. by_event e (λ (f : End). Heard t f.streams) i (λ told. by_polled (Heard t) heard_kept e.streams i);

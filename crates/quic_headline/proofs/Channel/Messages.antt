@@ -23,14 +23,15 @@ use Rattle.quic_machine.specs.Closing.{ticked}
 use Rattle.quic_spaces.specs.Numbers.{cut_against}
 use Rattle.quic_machine.specs.End.{End, number_of, with_closing}
 use Rattle.quic_machine.specs.Receive.{is_above, names_ungiven, message_judged, take_frame}
-use Rattle.quic_machine.specs.Poll.{Draft, Polled, current_mtu, ack_of, composed, lazied, polled}
-use Rattle.quic_machine.specs.DraftLaws.{by_writing}
-use Rattle.quic_machine.specs.PollCases.{at_moment, frames_padded, frames_at, by_poll}
+use Rattle.quic_machine.specs.Poll.{Draft, Polled, current_mtu, ack_of, lazied, polled, draft_if, draft_of}
+use Rattle.quic_machine.specs.DraftLaws.{by_leave}
+use Rattle.quic_machine.specs.PollCases.{frames_padded, frames_at, by_poll, at_poll}
 use Rattle.quic_machine.specs.MessageCalls.{limits_of, after_on_messages}
 use Rattle.quic_machine.specs.FrameCases.{Settling, named, ack_taken, acked_keeps, losses_keep, by_received}
 use Rattle.quic_machine.specs.LeaveCases.{by_expired, by_event}
 use Rattle.quic_machine.specs.CallCases.{by_call}
 use Rattle.quic_machine.specs.Machine.{IsAnswer, after_call, gave}
+use Rattle.quic_machine.specs.Control.{Gated}
 use Rattle.quic_headline.specs.Runs.{In}
 use Rattle.quic_headline.specs.Observer.{Sent}
 use Rattle.quic_headline.proofs.Packets.Growth.{in_more}
@@ -40,6 +41,7 @@ use Rattle.quic_headline.proofs.Places.Told.{in_append}
 use Rattle.quic_headline.proofs.Places.Steps.{poll_answer}
 use Rattle.quic_headline.proofs.Places.Parties.{Party, called, sent_by, sent_if, sents_by}
 use Rattle.quic_headline.proofs.Places.Groups.{Way, Calls, Group}
+use Rattle.quic_headline.proofs.Packets.Probes.{MayLeave, may_leave}
 
 -- ---- what an end takes
 
@@ -62,7 +64,7 @@ IsTold window e = e.peer_params.max_datagram_frame_size ≡ told_frame_size wind
 -- ---- a call that sends one
 
 -- what isn't refused for its length isn't longer
-not_longer : (long : Bool) (r : Result (Unit {0}) SendDatagramError) → is_ok (if long then Err TooLarge else r) ≡ true → long ≡ false
+pub not_longer : (long : Bool) (r : Result (Unit {0}) SendDatagramError) → is_ok (if long then Err TooLarge else r) ≡ true → long ≡ false
 not_longer true r ok = cc
 not_longer false r ok = refl
 
@@ -96,7 +98,11 @@ left_taken window room len (m ∷ ms) t = go (nat_le (bytes_of (m ∷ ms) + len)
     go true rest = t
     go false rest = rest
 
-module _ (window : Option ℕ) (e : End) (told : IsTold window e) (i : Waits window e) where
+-- a message that an end doesn't refuse for its length is one of these
+abbrev pub TakesSized : Option ℕ → End → Type 0
+TakesSized window e = (room : Bool) (m : List ℕ) → is_ok (sized_answer (limits_of e).max_size room m) ≡ true → is_taken window m ≡ true
+
+module _ (window : Option ℕ) (e : End) (sized_one : TakesSized window e) (i : Waits window e) where
   -- a message that is sent is taken, and waits behind the others
   send_leaves : (makes_room : Bool) (m : List ℕ) → AreTaken window (after_send (limits_of e) makes_room m e.messages.queues).outgoing
   send_leaves makes_room m = go (is_ok (send_answer (limits_of e) makes_room m e.messages.queues)) refl
@@ -105,7 +111,7 @@ module _ (window : Option ℕ) (e : End) (told : IsTold window e) (i : Waits win
           → AreTaken window (if b then record e.messages.queues { outgoing = with_message (limits_of e).send_buffer_size m e.messages.queues.outgoing } else e.messages.queues).outgoing
       go true ok =
           let sized = opened_answer (limits_of e).is_open (is_none (limits_of e).receive_buffer_size) (sized_answer (limits_of e).max_size (makes_room || has_room (limits_of e).send_buffer_size m e.messages.queues) m) ok in
-          let one = sized_taken window e.peer_params.max_datagram_frame_size current_mtu (length e.ids.active.id) (makes_room || has_room (limits_of e).send_buffer_size m e.messages.queues) m told sized in
+          let one = sized_one (makes_room || has_room (limits_of e).send_buffer_size m e.messages.queues) m sized in
           all_append (λ n. is_taken window n ≡ true) (left_for (limits_of e).send_buffer_size (length m) e.messages.queues.outgoing) (m ∷ []) (left_taken window (limits_of e).send_buffer_size (length m) e.messages.queues.outgoing i) (one, tt)
       go false refused = i
 
@@ -130,8 +136,8 @@ one_more window fs f all one m i = elim (in_more (datagram m) f fs i) [ inl old 
 no_message : (f : FrameValue) (m : List ℕ) → IsControl f → datagram m ≡ f → ⊥
 no_message f m is same = subst IsControl (sym same) is
 
-composed_draws : (window : Option ℕ) (e : End) → Waits window e → Draws window (composed e)
-composed_draws window e i = by_writing (Draws window) (record {
+draft_draws : (window : Option ℕ) (held : Bool) (e : End) → MayLeave held e → Waits window e → Draws window (draft_if held e)
+draft_draws window held e alone i = by_leave (Draws window) (record {
   ack = λ d filled may g. record { waiting = g.waiting; frames = one_more window d.frames (ack (ack_of d.end)) g.frames (λ m is. cc) };
   ping = λ d g. record { waiting = g.waiting; frames = one_more window d.frames ping g.frames (λ m is. cc) };
   drops = λ d kind g. record { waiting = g.waiting; frames = g.frames };
@@ -143,7 +149,7 @@ composed_draws window e i = by_writing (Draws window) (record {
       let all : AreTaken window (m ∷ ms) = subst (AreTaken window) is g.waiting in
       record { waiting = all.1; frames = one_more window d.frames (datagram m) g.frames (λ n same. (let alike : n ≡ m = cc in rw alike all.0)) });
   stream = λ d id h room found first some is counts g. record { waiting = g.waiting; frames = one_more window d.frames (stream (frame_of id h room)) g.frames (λ m is. cc) };
-}) e (record { waiting = i; frames = λ m j. absurd j })
+}) held e alone (record { waiting = i; frames = λ m j. absurd j })
 
 -- PADDING has none
 padded_taken : (window : Option ℕ) (fs : List FrameValue) (count : ℕ) → FramesTaken window fs → FramesTaken window (fs ++ replicate count padding)
@@ -163,13 +169,14 @@ poll_takes : (window : Option ℕ) (p : Policy) (e : End) (now : ℕ) → Waits 
 poll_takes window p e now i = by_poll p e now (λ (q : Polled). Waits window q.end × AllTaken window (sent_if (gave (answers.Poll q.answer)) (sent_by e now))) (record {
   silent = (i, λ s j. absurd j);
   failed = (i, λ s j. absurd j);
-  idle = λ tracked waits ready. (i, λ s j. absurd j);
-  used_up = λ tracked waits ready. (i, λ s j. absurd j);
-  gives = λ tracked waits tracking timers is may some ready. (
-      let x : End = lazied (at_moment e now tracked waits) in
-      let d : Draft = composed x in
-      let frames_are : frames_at e now ≡ frames_padded d = ap (λ (y : End). frames_padded (composed (lazied y))) ready in
-      let draws = composed_draws window x i in
+  nothing = λ tracked waits moment pacing limited. (i, λ s j. absurd j);
+  used_up = λ tracked waits moment pacing. (i, λ s j. absurd j);
+  gives = λ held tracked waits moment pacing paid tracking timers is may ready some. (
+      let there : End = at_poll e now tracked waits moment pacing e.path.app_limited in
+      let x : End = lazied there in
+      let d : Draft = draft_if held x in
+      let frames_are : frames_at e now ≡ frames_padded d = ap (λ (g : Gated). frames_padded (draft_of g)) ready in
+      let draws = draft_draws window held x (may_leave e now held there ready some) i in
       (draws.waiting, λ s j m k. padded_taken window d.frames (4 - ((truncated (number_of d.end) (cut_against d.end.numbers)).width + length d.bytes)) draws.frames m (subst (In (datagram m)) frames_are (one s j m k))));
 })
   where
@@ -198,7 +205,7 @@ module _ (window : Option ℕ) where
     lost = λ m e i. i;
     again = λ carried e i. i;
     tracked = λ t e i. i;
-    measured = λ r e i. i;
+    measured = λ r first e i. i;
   }
 
   frame_leaves : (f : FrameValue) (e : End) → Waits window e → Waits window (take_frame f e).end
@@ -215,14 +222,14 @@ module _ (window : Option ℕ) where
   frame_leaves f e i = i
 
   -- any call leaves it so
-  call_leaves : (p : Policy) (e : End) (theirs : List (List ℕ)) (call : Call) (a : Answer) → IsTold window e → Waits window e → Waits window (after_call p e theirs call a)
-  call_leaves p e theirs call a told i = by_call p e theirs (Waits window) call a (record {
+  pub call_leaves : (p : Policy) (e : End) (theirs : List (List ℕ)) (call : Call) (a : Answer) → TakesSized window e → AreTaken window e.messages.queues.outgoing → AreTaken window (after_call p e theirs call a).messages.queues.outgoing
+  call_leaves p e theirs call a sized i = by_call p e theirs (Waits window) call a (record {
     same = i;
     on_streams = λ on answer. i;
-    on_messages = λ on answer. message_call_leaves window e told i call a;
+    on_messages = λ on answer. message_call_leaves window e sized i call a;
     pings = i;
     heard = λ path same. i;
-    times = λ now acks loss set. by_expired e now (Waits window) (λ pending tracking timers runs packets. i) (λ pending timers runs. losses_keep (Waits window) settling (with_closing e (ticked e.closing now)) i) acks loss;
+    times = λ now acks loss pacing set. by_expired e now (Waits window) (λ pending tracking timers runs packets. i) (λ pending timers runs. losses_keep (Waits window) settling (with_closing e (ticked e.closing now)) i) acks loss pacing;
     polls = λ now set. (poll_takes window p e now i).0;
     hears = λ now d set. by_received (Waits window) (record {
       notes = λ n x j. j;
@@ -250,7 +257,7 @@ MessagesFit x y = FitsAt y.end.transport.datagram_receive_buffer_size x
 fits_on : (B : Way) (x y : Party) (call : Call) (a : Answer) → Calls B x y call a → MessagesFit x y → MessagesFit (called x y.given call a) y
 fits_on B x y call a c i = record {
   told = ap (λ (theirs : ParameterValues). theirs.max_datagram_frame_size) (placed_call x.policy x.end y.given call a).peer ∙ i.told;
-  waiting = call_leaves window x.policy x.end y.given call a i.told i.waiting;
+  waiting = call_leaves window x.policy x.end y.given call a (λ room m. sized_taken window x.end.peer_params.max_datagram_frame_size current_mtu (length x.end.ids.active.id) room m i.told) i.waiting;
   sent = λ s j. elim (in_append s x.sents (sents_by x.end call a) j) [ inl old ↦ i.sent s old | inr new ↦ goes call c.answer s new ];
 }
   where
@@ -267,4 +274,5 @@ messages_group B = record {
   first = λ x y m there back. record { told = refl; waiting = tt; sent = λ s i. absurd i };
   writer = λ x y call a c i back. fits_on B x y call a c i;
   reader = λ x y call a c there i. subst (λ (t : TransportSettings). FitsAt t.datagram_receive_buffer_size y) (sym (placed_call x.policy x.end y.given call a).transport) i;
+  shows = λ x y here there b back i j. record { told = i.told; waiting = i.waiting; sent = i.sent };
 }

@@ -14,6 +14,7 @@ use Rattle.quic_machine.specs.End.{End}
 use Rattle.quic_machine.specs.Receive.{Outcome}
 use Rattle.quic_machine.specs.Machine.{gave}
 use Rattle.quic_machine.specs.FrameCases.{begun}
+use Rattle.quic_machine.specs.Poll.{rests}
 use Rattle.quic_headline.specs.Runs.{Packet, Intake, In}
 use Rattle.quic_headline.specs.Observer.{Sent}
 use Rattle.quic_headline.proofs.Packets.Growth.{in_more}
@@ -134,4 +135,5 @@ names_group B rests = record {
   first = λ x y m there back. record { given = λ s i. absurd i; stops = λ r i. absurd i };
   writer = λ x y call a c n back. names_behind B rests x y call a c n;
   reader = λ x y call a c there n. record { given = n.given; stops = n.stops };
+  shows = λ x y here there b back n m. record { given = n.given; stops = n.stops };
 }

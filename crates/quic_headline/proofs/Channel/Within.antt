@@ -157,4 +157,5 @@ within_group B w = record {
   first = λ x y m there back. record { stays = stays_first x y m; told = λ t i. absurd i; heard = heard_first x y m; wrote = λ id. allows_first x y m id 0 (omega arith) };
   writer = λ x y call a c i back. record { stays = i.stays; told = i.told; heard = heard_on B w x y call a c i; wrote = wrote_on B w x y call a c i };
   reader = λ x y call a c there i. reads_on B w x y call a c i;
+  shows = λ x y here there b back i j. record { stays = i.stays; told = i.told; heard = i.heard; wrote = i.wrote };
 }

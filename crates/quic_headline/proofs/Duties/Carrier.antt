@@ -9,6 +9,7 @@ use Rattle.quic_streams_parts.specs.Table.{Table, put, added, without}
 use Rattle.quic_machine.specs.Tracking.{Tracking, TrackedPacket, without_record, is_behind, without_packet, forgotten, after_sent}
 use Rattle.quic_machine.specs.End.{End}
 use Rattle.quic_machine.specs.PollCases.{ready_at}
+use Rattle.quic_machine.specs.Poll.{tracked}
 use Rattle.quic_headline.specs.Runs.{In}
 use Rattle.quic_headline.specs.Duties.{AnyIn}
 use Rattle.quic_headline.specs.Observer.{Sent}
@@ -106,11 +107,11 @@ number_new sents packets next below tracked n t i same =
     absurd (omega arith)
 
 -- what is new is so where something waits for each probe
-pub ready_new : (e : End) (now number : ℕ) → IsNew e.tracking.packets number → IsNew (ready_at e now).tracking.packets number
+pub ready_new : (e : End) (now number : ℕ) → IsNew e.tracking.packets number → IsNew (ready_at e now).end.tracking.packets number
 ready_new e now number new = by_ready (λ (x : End). IsNew x.tracking.packets number) e now new new (λ p among n t i. elim (in_put e.tracking.packets p.0 (without_record p.1) (n, t) i) [
   | inl old ↦ new n t old
   | inr same ↦ (λ is. new p.0 p.1 among (sym (ap (λ (x : ℕ × TrackedPacket). x.0) same) ∙ is))
-])
+]) (λ moment pacing x i. i)
 
 -- what stands in a packet that goes, or in tracked ones, stands in what is tracked then, where none of the tail has it: one of the tail may be forgotten
 pub any_sent : (P : ℕ × TrackedPacket → Type 0) (t : Tracking) (n : ℕ) (p : TrackedPacket) → IsNew t.packets n → ((q : ℕ × TrackedPacket) → In q t.packets → is_behind t.greatest_asking q.0 ≡ true → P q → ⊥) → P (n, p) ⊎ AnyIn P t.packets → AnyIn P (after_sent t n p).packets

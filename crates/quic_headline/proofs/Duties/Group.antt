@@ -62,7 +62,7 @@ pub record Flying (x y : Party) : Type 0 where
 pub record IsReadied (B : Way) : Type 1 where
   pub packets : (x y : Party) → B x y → PacketsHold x y
   pub writes : (x y : Party) → B x y → WritesHold x y
-  pub ready : (x y : Party) → B x y → (now : ℕ) → AreReady (ready_at x.end now).streams.sending.halves.live (ready_at x.end now).waiting.frames
+  pub ready : (x y : Party) → B x y → (now : ℕ) → AreReady (ready_at x.end now).end.streams.sending.halves.live (ready_at x.end now).end.waiting.frames
   pub names : (x y : Party) → B x y → NamesHold x y
   pub within : (x y : Party) → B x y → Within x y
 
@@ -244,5 +244,11 @@ flying_group B b = record {
       knows = was.knows;
       stand = limit_came_on (came_to x y).took (came_to (called x y.given call a) y).took y.sents what value y.end (took_more x.policy y.final x.told (told_of call a x.end.closing.state) (nothing_came (x.id ∷ []))) was.stand;
     });
+  };
+  shows = λ x y here there above below i j. record {
+    fly = i.fly;
+    resets = i.resets;
+    limits = λ what value said. (let was = i.limits what value said in record { knows = was.knows; stand = was.stand });
+    asked = i.asked;
   };
 }

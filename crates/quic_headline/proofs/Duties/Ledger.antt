@@ -63,7 +63,7 @@ standing_queued [] test id is = cc
 standing_queued (e ∷ entries) test id is = refl
 
 -- where a half has something to send, the queue has one
-pending_queued : (s : StreamsState) (id : ℕ) (h : SendHalf) → IsOrderly s → at s.sending.halves.live id ≡ Some h → has_pending h ≡ true → can_send_stream_data s ≡ true
+pub pending_queued : (s : StreamsState) (id : ℕ) (h : SendHalf) → IsOrderly s → at s.sending.halves.live id ≡ Some h → has_pending h ≡ true → can_send_stream_data s ≡ true
 pending_queued s id h orderly found pending = go h.place refl (orderly.queue.pending id h found ∙ pending)
   where
     go : (o : Option Place) → h.place ≡ o → is_some o ≡ true → can_send_stream_data s ≡ true
@@ -144,7 +144,7 @@ matters_still (StreamData id) e matters ends = go (at e.streams.receiving.halves
     go None m used takes none = cc
 
 -- an offset that is lost or was never sent is something to send
-waiting_pending : (h : SendHalf) (o : ℕ) → (is_lost h.buffer o || is_unsent h.buffer o) ≡ true → has_pending h ≡ true
+pub waiting_pending : (h : SendHalf) (o : ℕ) → (is_lost h.buffer o || is_unsent h.buffer o) ≡ true → has_pending h ≡ true
 waiting_pending h o is = or_left (has_unsent h.buffer) h.end_waits (elim (cases_Bool (has_unsent h.buffer)) [
   | inl some ↦ some
   | inr none ↦ absurd (both_ways (is_lost h.buffer o || is_unsent h.buffer o) (none_waits h.buffer o none) is)
@@ -153,7 +153,7 @@ waiting_pending h o is = or_left (has_unsent h.buffer) h.end_waits (elim (cases_
 -- ---- where each duty is
 
 -- a half of a stream that wasn't reset isn't
-not_reset : (w : Wrote) (h : SendHalf) → IsSendHalf w h → w.reset ≡ None → h.reset ≡ None
+pub not_reset : (w : Wrote) (h : SendHalf) → IsSendHalf w h → w.reset ≡ None → h.reset ≡ None
 not_reset w h held none = held.reset ∙ ap (option_map (λ code. length w.bytes)) none
 
 module _ (x y : Party) (writes : WritesHold x y) (packets : PacketsHold x y) (arrives : Arrives x y) (flying : Flying x y) where

@@ -17,7 +17,7 @@ use Rattle.quic_retransmits.specs.Retransmits.{Retransmits, nothing_waits, has_i
 use Rattle.quic_streams_state.specs.declared.state.StreamsState.{StreamsState}
 use Rattle.quic_streams_state.specs.declared.control.ControlKind.{ControlKind}
 use Rattle.quic_streams_state.specs.declared.control.ControlKind.TheVariants.{MaxData, MaxStreamData, MaxStreams}
-use Rattle.quic_streams_state.specs.State.{is_opened, receives_on}
+use Rattle.quic_streams_state.specs.State.{is_opened, receives_on, Streams}
 use Rattle.quic_streams_state.specs.Limits.{raised_data, raised_count, can_send_data_blocked}
 use Rattle.quic_streams_state.specs.Waiting.{stream_data_blocked_limit}
 use Rattle.quic_streams_state.specs.Control.{Entry, limit_entry, data_entry, count_entry, waiting, without_first}
@@ -42,8 +42,8 @@ use Rattle.quic_machine.specs.Closing.{ticked}
 use Rattle.quic_machine.specs.Tracking.{Tracking, TrackedPacket, is_behind, after_sent, without_record}
 use Rattle.quic_machine.specs.End.{End, with_closing, streams_at, number_of}
 use Rattle.quic_machine.specs.Calls.{is_open}
-use Rattle.quic_machine.specs.Poll.{Polled, Draft, no_frames, ack_of, with_ping_frame, ping_if, with_control_frames, with_asking, with_ack, ack_fits, ack_if, composed_if, composed, asking, frame_room, lazied, packet_of, tracked, record_moved, after_given, polled, with_message_frames}
-use Rattle.quic_machine.specs.DraftLaws.{with_half_frame, by_streams, by_writing, by_messages}
+use Rattle.quic_machine.specs.Poll.{Polled, Draft, no_frames, ack_of, with_ping_frame, ping_if, with_control_frames, with_asking, with_ack, ack_fits, ack_if, composed_if, composed, asking, frame_room, lazied, packet_of, tracked, record_moved, polled, with_message_frames, goes, draft_if}
+use Rattle.quic_machine.specs.DraftLaws.{with_half_frame, by_streams, by_messages, by_leave, due_alone}
 use Rattle.quic_machine.specs.PollCases.{ready_at, ready_leaves, draft_at, frames_padded, by_poll_to, composes}
 use Rattle.quic_machine.specs.CallCases.{is_delivery, is_poll, by_call}
 use Rattle.quic_machine.specs.LeaveCases.{by_expired, by_event}
@@ -54,8 +54,8 @@ use Rattle.quic_headline.specs.Duties.{Limited, AllData, StreamData, StreamCount
 use Rattle.quic_headline.proofs.Packets.Entries.{flag_first, by_first}
 use Rattle.quic_headline.proofs.Packets.Growth.{in_more}
 use Rattle.quic_headline.proofs.Packets.Ascending.{Ascends}
-use Rattle.quic_headline.proofs.Packets.Probes.{by_ready, ready_state}
-use Rattle.quic_headline.proofs.Packets.Given.{composed_number}
+use Rattle.quic_headline.proofs.Packets.Probes.{by_ready, ready_state, draft_streams, MayLeave, by_going}
+use Rattle.quic_headline.proofs.Packets.Given.{draft_number}
 use Rattle.quic_headline.proofs.Places.Told.{in_left, in_right, in_append}
 use Rattle.quic_headline.proofs.Places.Parties.{sent_by, sent_if}
 use Rattle.quic_headline.proofs.Halves.QuietSteps.{composed_quiet}
@@ -266,6 +266,11 @@ module _ (e : End) (what : Limited) (value : ℕ) (told : IsTold e.streams (limi
       go true = asking_moved (with_ack (no_frames e)) (record { streams = refl; waits = refl })
       go false = late (ack_fits (with_asking (no_frames e))) (with_asking (no_frames e)) (asking_moved (no_frames e) (record { streams = refl; waits = refl }))
 
+  -- or a due ACK alone
+  draft_moved : (held : Bool) → IsMoved what value (draft_if held e)
+  draft_moved true = inl was
+  draft_moved false = composed_moved
+
 -- ---- what goes is said of a half in use
 
 -- the stream of a MAX_STREAM_DATA frame
@@ -317,8 +322,8 @@ record Sees (d : Draft) : Type 0 where
   shape : IsShaped d.end.streams
   frames : (id limit : ℕ) → In (limit_frame (StreamData id) limit) d.frames → AllReceiving (Knows (StreamData id)) d.end.streams
 
-composed_sees : (e : End) → IsShaped e.streams → Sees (composed e)
-composed_sees e shape = by_writing Sees (record {
+draft_sees : (held : Bool) (e : End) → MayLeave held e → IsShaped e.streams → Sees (draft_if held e)
+draft_sees held e alone shape = by_leave Sees (record {
   ack = λ d filled may b. record { shape = b.shape; frames = λ id limit i. elim (in_more (limit_frame (StreamData id) limit) (ack (ack_of d.end)) d.frames i) [ inl old ↦ b.frames id limit old | inr new ↦ cc ] };
   ping = λ d b. record { shape = b.shape; frames = λ id limit i. elim (in_more (limit_frame (StreamData id) limit) ping d.frames i) [ inl old ↦ b.frames id limit old | inr new ↦ cc ] };
   drops = λ d kind b. record { shape = b.shape; frames = b.frames };
@@ -337,7 +342,7 @@ composed_sees e shape = by_writing Sees (record {
       | inr new ↦ cc
     ];
   };
-}) e (record { shape = shape; frames = λ id limit i. absurd i })
+}) held e alone (record { shape = shape; frames = λ id limit i. absurd i })
 
 -- what is said of a limit in a draft is known
 said_known : (what : Limited) (value : ℕ) (d : Draft) → Sees d → In (limit_frame what value) d.frames → AllReceiving (Knows what) d.end.streams
@@ -428,8 +433,8 @@ module _ (took : List Packet) (own : List Sent) (what : Limited) (value : ℕ) w
 
   module _ (p : Policy) (e : End) (now : ℕ) (ascends : Ascends e) (before : AskBefore own e.tracking.greatest_asking) (new : IsNew e.tracking.packets (number_of e)) where
     -- where something waits for each probe: what a probe carries waits
-    ready_stands : LimitStands took own what value e → LimitStands took own what value (ready_at e now)
-    ready_stands i = by_ready (LimitStands took own what value) e now i i (λ q among. moved q among i)
+    ready_stands : LimitStands took own what value e → LimitStands took own what value (ready_at e now).end
+    ready_stands i = by_ready (LimitStands took own what value) e now i i (λ q among. moved q among i) (λ moment pacing x j. j)
       where
         moved : (q : ℕ × TrackedPacket) → In q e.tracking.packets → LimitStands took own what value e → LimitStands took own what value (record_moved (Some q) (with_closing e (ticked e.closing now)))
         moved q among (inl ends) = inl ends
@@ -445,7 +450,7 @@ module _ (took : List Packet) (own : List Sent) (what : Limited) (value : ℕ) w
 
     -- the end that is ready, and its draft
     abbrev r : End
-    r = lazied (ready_at e now)
+    r = lazied (ready_at e now).end
 
     abbrev d : Draft
     d = draft_at e now
@@ -453,17 +458,24 @@ module _ (took : List Packet) (own : List Sent) (what : Limited) (value : ℕ) w
     state : e.streams ≡ r.streams
     state = sym (ready_state e now)
 
-    tracks : (ready_at e now).tracking ≡ d.end.tracking
-    tracks = sym (composes r).tracking
+    -- something goes
+    abbrev Goes : Type 0
+    Goes = goes (ready_at e now) ≡ true
 
-    number : (sent_by e now).number ≡ number_of d.end
-    number = sym (composed_number r ∙ ap (λ (x : End). number_of x) (ready_leaves e now))
+    alone : Goes → MayLeave (ready_at e now).held r
+    alone some = due_alone (ready_at e now) some
 
-    fresh_number : IsNew d.end.tracking.packets (number_of d.end)
-    fresh_number = subst (λ (n : ℕ). IsNew d.end.tracking.packets n) number (subst (λ (t : Tracking). IsNew t.packets (number_of e)) tracks (ready_new e now (number_of e) new))
+    tracks : Goes → (ready_at e now).end.tracking ≡ d.end.tracking
+    tracks some = sym (composes (ready_at e now).held r (alone some)).tracking
 
-    asked : AskBefore own d.end.tracking.greatest_asking
-    asked = subst (λ (t : Tracking). AskBefore own t.greatest_asking) tracks (ready_before own e now before)
+    number : Goes → (sent_by e now).number ≡ number_of d.end
+    number some = sym (draft_number (ready_at e now).held r (alone some) ∙ ap (λ (x : End). number_of x) (ready_leaves e now))
+
+    fresh_number : Goes → IsNew d.end.tracking.packets (number_of d.end)
+    fresh_number some = subst (λ (n : ℕ). IsNew d.end.tracking.packets n) (number some) (subst (λ (t : Tracking). IsNew t.packets (number_of e)) (tracks some) (ready_new e now (number_of e) new))
+
+    asked : Goes → AskBefore own d.end.tracking.greatest_asking
+    asked some = subst (λ (t : Tracking). AskBefore own t.greatest_asking) (tracks some) (ready_before own e now before)
 
     -- a limit that was said before
     pub polled_stands : IsTold e.streams (limit_frame what value) → Given e.streams (limit_frame what value) → Stays e.streams e.streams → AllReceiving (Knows what) e.streams → LimitStands took own what value e
@@ -471,16 +483,17 @@ module _ (took : List Packet) (own : List Sent) (what : Limited) (value : ℕ) w
     polled_stands told may stays knows i = by_poll_to p e now (λ (q : Polled). LimitStands took (own ++ sent_if (gave (answers.Poll q.answer)) (sent_by e now)) what value q.end) (record {
       silent = stands_more took own [] what value e i;
       failed = stands_more took own [] what value e i;
-      idle = stands_more took own [] what value (ready_at e now) (ready_stands i);
-      used_up = stands_more took own [] what value (ready_at e now) (ready_stands i);
-      gives = λ is_open numbered some. given_stands d (sent_by e now) number refl asked fresh_number (draft (ready_stands i));
+      nothing = λ is none. stands_more took own [] what value (ready_at e now).end (ready_stands i);
+      used_up = stands_more took own [] what value (ready_at e now).end (ready_stands i);
+      gives = λ is_open numbered some. by_going (LimitStands took (own ++ sent_by e now ∷ []) what value) p d (λ pacing. given_stands d (sent_by e now) (number some) refl (asked some) (fresh_number some) (draft some (ready_stands i)));
     })
       where
-        draft : LimitStands took own what value (ready_at e now) → IsMoved what value d ⊎ FliesFrom own d.end.tracking.packets what value ⊎ LimitHasArrived took what value
-        draft (inl ends) = inl (inr (inl (composed_quiet (AllReceiving (Ends what)) (is_quiet (AllReceiving (Ends what)) (lasting (Ends what) (ends_lasts what))) r ends)))
-        draft (inr (inl waits)) =
-            inl (composed_moved r what value (subst (λ t. IsTold t (limit_frame what value)) state told) (subst (λ t. Given t (limit_frame what value)) state may) (subst (λ t. Stays t t) state stays) (subst (AllReceiving (Knows what)) state knows) waits)
-        draft (inr (inr more)) = inr (subst (λ (x : Tracking). FliesFrom own x.packets what value ⊎ LimitHasArrived took what value) tracks more)
+        draft : Goes → LimitStands took own what value (ready_at e now).end → IsMoved what value d ⊎ FliesFrom own d.end.tracking.packets what value ⊎ LimitHasArrived took what value
+        draft some (inl ends) =
+            inl (inr (inl (draft_streams (λ (t : Streams). AllReceiving (Ends what) t.state) (ready_at e now).held r (composed_quiet (AllReceiving (Ends what)) (is_quiet (AllReceiving (Ends what)) (lasting (Ends what) (ends_lasts what))) r) ends)))
+        draft some (inr (inl waits)) =
+            inl (draft_moved r what value (subst (λ t. IsTold t (limit_frame what value)) state told) (subst (λ t. Given t (limit_frame what value)) state may) (subst (λ t. Stays t t) state stays) (subst (AllReceiving (Knows what)) state knows) waits (ready_at e now).held)
+        draft some (inr (inr more)) = inr (subst (λ (x : Tracking). FliesFrom own x.packets what value ⊎ LimitHasArrived took what value) (tracks some) more)
 
     -- one that goes
     pub polled_says : IsShaped e.streams → (t : Sent) → In t (sent_if (gave (answers.Poll (polled p e now).answer)) (sent_by e now)) → In (limit_frame what value) t.frames
@@ -489,25 +502,25 @@ module _ (took : List Packet) (own : List Sent) (what : Limited) (value : ℕ) w
         → AllReceiving (Knows what) q.end.streams × LimitStands took (own ++ sent_if (gave (answers.Poll q.answer)) (sent_by e now)) what value q.end) (record {
           silent = λ i said. absurd i;
           failed = λ i said. absurd i;
-          idle = λ i said. absurd i;
+          nothing = λ is none i said. absurd i;
           used_up = λ i said. absurd i;
-          gives = λ is_open numbered some i said. goes (among i said);
+          gives = λ is_open numbered some i said. by_going (λ (x : End). AllReceiving (Knows what) x.streams × LimitStands took (own ++ sent_by e now ∷ []) what value x) p d (λ pacing. sends some (among i said));
         })
       where
         among : In t (sent_by e now ∷ []) → In (limit_frame what value) t.frames → In (limit_frame what value) (sent_by e now).frames
         among (inl is) said = subst (λ (u : Sent). In (limit_frame what value) u.frames) is said
         among (inr none) said = absurd none
 
-        goes : In (limit_frame what value) (sent_by e now).frames → AllReceiving (Knows what) (after_given p d).streams × LimitStands took (own ++ sent_by e now ∷ []) what value (after_given p d)
-        goes said =
+        sends : Goes → In (limit_frame what value) (sent_by e now).frames → AllReceiving (Knows what) d.end.streams × LimitStands took (own ++ sent_by e now ∷ []) what value (tracked d)
+        sends some said =
             let here : In (limit_frame what value) d.frames =
             elim (in_append (limit_frame what value) d.frames (replicate (4 - ((truncated (number_of d.end) (cut_against d.end.numbers)).width + length d.bytes)) padding) said) [
               | inl front ↦ front
               | inr behind ↦ absurd (not_padding what value _ behind)
             ] in
-            let known : AllReceiving (Knows what) d.end.streams = said_known what value d (composed_sees r (subst (λ t. IsShaped t) state shape)) here in (
+            let known : AllReceiving (Knows what) d.end.streams = said_known what value d (draft_sees (ready_at e now).held r (alone some) (subst (λ t. IsShaped t) state shape)) here in (
               known,
-              given_stands d (sent_by e now) number refl asked fresh_number (inl (inr (inr (record { limit = value; said = here; enough = omega arith })))),
+              given_stands d (sent_by e now) (number some) refl (asked some) (fresh_number some) (inl (inr (inr (record { limit = value; said = here; enough = omega arith })))),
             )
 
 -- ---- any call
@@ -524,8 +537,8 @@ call_stated took own what value p e theirs call a within apart other is i = go i
       on_messages = λ on answer. inr more;
       pings = inr more;
       heard = λ path same. inr more;
-      times = λ now acks loss set. by_expired e now (λ (f : End). LimitStands took own what value f) (λ pending tracking timers runs packets.
-          inr (subst (λ (t : Table TrackedPacket). (limit_waits e.waiting.frames what ≡ true) ⊎ FliesFrom own t what value ⊎ LimitHasArrived took what value) (sym packets) more)) (λ pending timers runs. detected_more took own what value (with_closing e (ticked e.closing now)) more) acks loss;
+      times = λ now acks loss pacing set. by_expired e now (λ (f : End). LimitStands took own what value f) (λ pending tracking timers runs packets.
+          inr (subst (λ (t : Table TrackedPacket). (limit_waits e.waiting.frames what ≡ true) ⊎ FliesFrom own t what value ⊎ LimitHasArrived took what value) (sym packets) more)) (λ pending timers runs. detected_more took own what value (with_closing e (ticked e.closing now)) more) acks loss pacing;
       polls = λ now set. cc;
       hears = λ now d set. cc;
       tells = λ asks. by_event e (λ (f : End). LimitStands took own what value f) (inr more) (λ told. inr more);

@@ -34,8 +34,8 @@ use Rattle.quic_machine.specs.Calls.{after_nexts, is_open}
 use Rattle.quic_machine.specs.StreamCalls.{IsStreamAnswer, if_ok, after_on_streams}
 use Rattle.quic_machine.specs.Acked.{without_known, reset_acked, resets_acked, stream_acked, streams_acked, packet_acked, packets_acked, stream_lost, streams_lost, carried_lost, packets_lost, verdict, losses_detected, measured, sampled, without_acked, after_named}
 use Rattle.quic_machine.specs.Receive.{is_above, names_ungiven, take_frame, Outcome}
-use Rattle.quic_machine.specs.Poll.{Polled, Draft, no_frames, ack_of, with_ping_frame, ping_if, with_control_frames, with_asking, with_ack, ack_fits, ack_if, composed_if, composed, asking, frame_room, lazied, packet_of, tracked, record_moved, after_given, polled, with_message, with_message_frames}
-use Rattle.quic_machine.specs.DraftLaws.{with_half_frame, by_streams, by_messages}
+use Rattle.quic_machine.specs.Poll.{Polled, Draft, no_frames, ack_of, with_ping_frame, ping_if, with_control_frames, with_asking, with_ack, ack_fits, ack_if, composed_if, composed, asking, frame_room, lazied, packet_of, tracked, record_moved, polled, with_message, with_message_frames, goes, draft_if}
+use Rattle.quic_machine.specs.DraftLaws.{with_half_frame, by_streams, by_messages, due_alone}
 use Rattle.quic_machine.specs.PollCases.{ready_at, ready_leaves, draft_at, by_poll_to, composes}
 use Rattle.quic_machine.specs.FrameCases.{OnStreams, named, ack_taken, begun, passed, frames_leave}
 use Rattle.quic_machine.specs.CallCases.{is_delivery, by_call}
@@ -47,8 +47,8 @@ use Rattle.quic_headline.specs.InFlight.{resets_in}
 use Rattle.quic_headline.specs.Duties.{Reset, has_reset, IsCarried}
 use Rattle.quic_headline.proofs.Packets.Invariant.{IsCarriedFrom, AreTracked, carried_again}
 use Rattle.quic_headline.proofs.Packets.Ascending.{Ascends}
-use Rattle.quic_headline.proofs.Packets.Probes.{by_ready, ready_tracked}
-use Rattle.quic_headline.proofs.Packets.Given.{composed_number}
+use Rattle.quic_headline.proofs.Packets.Probes.{by_ready, ready_tracked, MayLeave, by_going}
+use Rattle.quic_headline.proofs.Packets.Given.{draft_number}
 use Rattle.quic_headline.proofs.Packets.Carried.{carried_same}
 use Rattle.quic_headline.proofs.Packets.Delivered.{Arrivals, arrived}
 use Rattle.quic_headline.proofs.Packets.MayGo.{WasReset, AreReady}
@@ -342,6 +342,11 @@ module _ (e : End) (ready : AreReady e.streams.sending.halves.live e.waiting.fra
       go true = asking_moved (with_ack (no_frames e)) (record { streams = refl; waits = refl })
       go false = late (ack_fits (with_asking (no_frames e))) (with_asking (no_frames e)) (asking_moved (no_frames e) (record { streams = refl; waits = refl }))
 
+  -- or a due ACK alone
+  draft_moved : (held : Bool) → IsMoved (draft_if held e)
+  draft_moved true = inl was
+  draft_moved false = composed_moved
+
 -- frames that don't ask reset nothing
 none_resets : (fs : List FrameValue) (id : ℕ) → asking fs ≡ false → has_reset id (resets_in fs) ≡ true → ⊥
 none_resets [] id silent is = cc
@@ -369,8 +374,8 @@ module _ (took : List Packet) (sents : List Sent) (id : ℕ) where
 
   module _ (e : End) (now : ℕ) (ascends : Ascends e) (were : AreTracked sents e.tracking.packets) (before : AskBefore sents e.tracking.greatest_asking) (new : IsNew e.tracking.packets (number_of e)) where
     -- where something waits for each probe: what a probe carries waits
-    ready_stands : ResetStands took id e → ResetStands took id (ready_at e now)
-    ready_stands i = by_ready (ResetStands took id) e now i i (λ p among. moved p among i)
+    ready_stands : ResetStands took id e → ResetStands took id (ready_at e now).end
+    ready_stands i = by_ready (ResetStands took id) e now i i (λ p among. moved p among i) (λ moment pacing x j. j)
       where
         moved : (p : ℕ × TrackedPacket) → In p e.tracking.packets → ResetStands took id e → ResetStands took id (record_moved (Some p) (with_closing e (ticked e.closing now)))
         moved p among (inl waits) = inl (has_front id (waiting_of e) p.1.carried.retransmits.reset_stream waits)
@@ -381,28 +386,30 @@ module _ (took : List Packet) (sents : List Sent) (id : ℕ) where
         moved p among (inr (inr came)) = inr (inr came)
 
     -- after a poll
-    polled_stands : (p : Policy) → AreReady (ready_at e now).streams.sending.halves.live (ready_at e now).waiting.frames → ResetStands took id e → ResetStands took id (polled p e now).end
+    polled_stands : (p : Policy) → AreReady (ready_at e now).end.streams.sending.halves.live (ready_at e now).end.waiting.frames → ResetStands took id e → ResetStands took id (polled p e now).end
     polled_stands p ready i = by_poll_to p e now (λ (q : Polled). ResetStands took id q.end) (record {
       silent = i;
       failed = i;
-      idle = ready_stands i;
+      nothing = λ is none. ready_stands i;
       used_up = ready_stands i;
-      gives = λ is may some. gives;
+      gives = λ is may some. by_going (ResetStands took id) p (draft_at e now) (λ pacing. gives some);
     })
       where
-        gives : ResetStands took id (after_given p (draft_at e now))
-        gives =
-            let r : End = ready_at e now in
+        gives : goes (ready_at e now) ≡ true → ResetStands took id (tracked (draft_at e now))
+        gives some =
+            let held : Bool = (ready_at e now).held in
+            let r : End = (ready_at e now).end in
             let d : Draft = draft_at e now in
-            let same = composes (lazied r) in
+            let alone : MayLeave held (lazied r) = due_alone (ready_at e now) some in
+            let same = composes held (lazied r) alone in
             let tracks : r.tracking ≡ d.end.tracking = sym same.tracking in
-            let number : number_of e ≡ number_of d.end = sym (composed_number (lazied r) ∙ ap (λ (x : End). number_of x) (ready_leaves e now)) in
+            let number : number_of e ≡ number_of d.end = sym (draft_number held (lazied r) alone ∙ ap (λ (x : End). number_of x) (ready_leaves e now)) in
             given_stands d
             (subst (λ (t : Tracking). AreTracked sents t.packets) tracks (ready_tracked sents e now were))
             (subst (λ (t : Tracking). AskBefore sents t.greatest_asking) tracks (ready_before sents e now before))
             (subst (λ (n : ℕ). IsNew d.end.tracking.packets n) number (subst (λ (t : Tracking). IsNew t.packets (number_of e)) tracks (ready_new e now (number_of e) new)))
             (elim (ready_stands i) [
-              | inl waits ↦ inl (composed_moved (lazied r) ready id waits)
+              | inl waits ↦ inl (draft_moved (lazied r) ready id waits held)
               | inr more ↦ inr (subst (λ (x : Tracking). IsCarried x.packets (Reset id) ⊎ ResetHasArrived took id) tracks more)
             ])
 
@@ -476,14 +483,14 @@ module _ (id : ℕ) where
 module _ (took : List Packet) (sents : List Sent) (id : ℕ) where
   -- but a delivery
   pub call_stands : (p : Policy) (e : End) (theirs : List (List ℕ)) (call : Call) (a : Answer) → is_delivery call ≡ false → Ascends e → AreTracked sents e.tracking.packets → AskBefore sents e.tracking.greatest_asking → IsNew e.tracking.packets (number_of e)
-      → ((now : ℕ) → AreReady (ready_at e now).streams.sending.halves.live (ready_at e now).waiting.frames) → ResetStands took id e → ResetStands took id (after_call p e theirs call a)
+      → ((now : ℕ) → AreReady (ready_at e now).end.streams.sending.halves.live (ready_at e now).end.waiting.frames) → ResetStands took id e → ResetStands took id (after_call p e theirs call a)
   call_stands p e theirs call a apart ascends were before new ready i = by_call p e theirs (ResetStands took id) call a (record {
     same = i;
     on_streams = λ on answer. elim i [ inl waits ↦ inl (call_waits id (is_open e.closing.state) (streams_at e) call a waits) | inr more ↦ inr more ];
     on_messages = λ on answer. i;
     pings = i;
     heard = λ path same. i;
-    times = λ now acks loss set. by_expired e now (ResetStands took id) (λ pending tracking timers runs packets. rw packets i) (λ pending timers runs. detected_stands took id (with_closing e (ticked e.closing now)) i) acks loss;
+    times = λ now acks loss pacing set. by_expired e now (ResetStands took id) (λ pending tracking timers runs packets. rw packets i) (λ pending timers runs. detected_stands took id (with_closing e (ticked e.closing now)) i) acks loss pacing;
     polls = λ now set. polled_stands took sents id e now ascends were before new p (ready now) i;
     hears = λ now d set. cc;
     tells = λ asks. by_event e (ResetStands took id) i (λ told. i);

@@ -13,19 +13,21 @@ use Rattle.quic_machine.specs.Tracking.{Tracking, TrackedPacket, is_behind, aski
 use Rattle.quic_machine.specs.End.{End, with_closing, with_loss_timer, number_of}
 use Rattle.quic_machine.specs.Acked.{measured, without_acked, after_named}
 use Rattle.quic_machine.specs.Receive.{received}
-use Rattle.quic_machine.specs.Poll.{Polled, Draft, asking, lazied, after_given, polled}
+use Rattle.quic_machine.specs.Poll.{Polled, Draft, asking, lazied, polled, goes, tracked}
 use Rattle.quic_machine.specs.PollCases.{ready_at, ready_leaves, draft_at, by_poll_to, composes}
-use Rattle.quic_machine.specs.Timeouts.{acks_expired, loss_judged, loss_expired}
+use Rattle.quic_machine.specs.Timeouts.{acks_expired, loss_judged, loss_expired, pacing_expired}
 use Rattle.quic_machine.specs.LeaveCases.{at_expiry}
 use Rattle.quic_machine.specs.FrameCases.{named, frame_keeps, frame_leaves, by_received}
 use Rattle.quic_machine.specs.CallCases.{is_poll, by_plain_call}
 use Rattle.quic_machine.specs.Machine.{IsAnswer, after_call, fails, gave}
+use Rattle.quic_machine.specs.Control.{Gated}
+use Rattle.quic_machine.specs.DraftLaws.{due_alone}
 use Rattle.quic_headline.specs.Runs.{In}
 use Rattle.quic_headline.specs.Observer.{Sent, asks_of}
 use Rattle.quic_headline.proofs.Packets.Invariant.{IsCarriedFrom, AreTracked}
 use Rattle.quic_headline.proofs.Packets.Named.{sampled_tracking}
-use Rattle.quic_headline.proofs.Packets.Probes.{by_ready}
-use Rattle.quic_headline.proofs.Packets.Given.{composed_number, allocated_near}
+use Rattle.quic_headline.proofs.Packets.Probes.{by_ready, by_going}
+use Rattle.quic_headline.proofs.Packets.Given.{allocated_near, draft_number}
 use Rattle.quic_headline.proofs.Packets.Flying.{asking_padded}
 use Rattle.quic_headline.proofs.Places.Told.{in_append}
 use Rattle.quic_headline.proofs.Places.Parties.{sent_by, sent_if, sents_by}
@@ -89,8 +91,8 @@ received_stays greatest = by_received (Stays greatest) (record {
 })
 
 -- and timers that expire
-expired_stays : (e : End) (now : ℕ) (acks loss : Bool) → Stays e.tracking.greatest_asking (at_expiry e now acks loss)
-expired_stays e now acks loss = after acks (loss_expired loss begins) (expires loss)
+expired_stays : (e : End) (now : ℕ) (acks loss pacing : Bool) → Stays e.tracking.greatest_asking (at_expiry e now acks loss pacing)
+expired_stays e now acks loss pacing = after acks pacing (loss_expired loss begins) (expires loss)
   where
     begins : End
     begins = with_closing e (ticked e.closing now)
@@ -103,9 +105,11 @@ expired_stays e now acks loss = after acks (loss_expired loss begins) (expires l
     expires true = judges e.tracking.loss_time
     expires false = refl
 
-    after : (acks : Bool) (f : End) → Stays e.tracking.greatest_asking f → Stays e.tracking.greatest_asking (with_loss_timer (acks_expired acks f))
-    after true f i = i
-    after false f i = i
+    after : (acks pacing : Bool) (f : End) → Stays e.tracking.greatest_asking f → Stays e.tracking.greatest_asking (with_loss_timer (pacing_expired pacing (acks_expired acks f)))
+    after true true f i = i
+    after true false f i = i
+    after false true f i = i
+    after false false f i = i
 
 -- another call than a poll
 other_stays : (p : Policy) (e : End) (theirs : List (List ℕ)) (call : Call) (a : Answer) → is_poll call ≡ false → Stays e.tracking.greatest_asking (after_call p e theirs call a)
@@ -115,7 +119,7 @@ other_stays p e theirs call a apart = by_plain_call p e theirs (Stays e.tracking
   on_messages = λ m. refl;
   pings = refl;
   heard = λ path same. refl;
-  times = λ now acks loss is. expired_stays e now acks loss;
+  times = λ now acks loss pacing is. expired_stays e now acks loss pacing;
   polls = λ now is. cc;
   hears = λ now d is. received_stays e.tracking.greatest_asking p e now d refl;
   tells = λ told. refl;
@@ -146,8 +150,8 @@ before_none : (sents : List Sent) (greatest : Option ℕ) → AskBefore sents gr
 before_none sents greatest before u i = elim (in_append u sents [] i) [ inl old ↦ before u old | inr none ↦ absurd none ]
 
 -- an end that is ready to give leaves the greatest that asks
-pub ready_before : (sents : List Sent) (e : End) (now : ℕ) → AskBefore sents e.tracking.greatest_asking → AskBefore sents (ready_at e now).tracking.greatest_asking
-ready_before sents e now before = by_ready (λ (x : End). AskBefore sents x.tracking.greatest_asking) e now before before (λ q i. before)
+pub ready_before : (sents : List Sent) (e : End) (now : ℕ) → AskBefore sents e.tracking.greatest_asking → AskBefore sents (ready_at e now).end.tracking.greatest_asking
+ready_before sents e now before = by_ready (λ (x : End). AskBefore sents x.tracking.greatest_asking) e now before before (λ q i. before) (λ moment pacing x i. i)
 
 -- after a poll
 before_polled : (p : Policy) (e : End) (now : ℕ) (sents : List Sent) → ((s : Sent) → In s sents → s.number < e.numbers.next) → AskBefore sents e.tracking.greatest_asking
@@ -156,20 +160,21 @@ before_polled p e now sents below before =
     by_poll_to p e now (λ (q : Polled). AskBefore (sents ++ sent_if (gave (answers.Poll q.answer)) (sent_by e now)) q.end.tracking.greatest_asking) (record {
       silent = before_none sents e.tracking.greatest_asking before;
       failed = before_none sents e.tracking.greatest_asking before;
-      idle = before_none sents (ready_at e now).tracking.greatest_asking ready;
-      used_up = before_none sents (ready_at e now).tracking.greatest_asking ready;
-      gives = λ is may some. gives;
+      nothing = λ is none. before_none sents (ready_at e now).end.tracking.greatest_asking ready;
+      used_up = before_none sents (ready_at e now).end.tracking.greatest_asking ready;
+      gives = λ is may some. by_going (λ (x : End). AskBefore (sents ++ sent_by e now ∷ []) x.tracking.greatest_asking) p (draft_at e now) (λ pacing. gives some);
     })
   where
-    ready : AskBefore sents (ready_at e now).tracking.greatest_asking
+    ready : AskBefore sents (ready_at e now).end.tracking.greatest_asking
     ready = ready_before sents e now before
 
-    gives : AskBefore (sents ++ sent_by e now ∷ []) (after_given p (draft_at e now)).tracking.greatest_asking
-    gives =
+    gives : goes (ready_at e now) ≡ true → AskBefore (sents ++ sent_by e now ∷ []) (tracked (draft_at e now)).tracking.greatest_asking
+    gives some =
+        let g : Gated = ready_at e now in
         let d : Draft = draft_at e now in
-        let number : number_of e ≡ number_of d.end = sym (composed_number (lazied (ready_at e now)) ∙ ap (λ (x : End). number_of x) (ready_leaves e now)) in
+        let number : number_of e ≡ number_of d.end = sym (draft_number g.held (lazied g.end) (due_alone g some) ∙ ap (λ (x : End). number_of x) (ready_leaves e now)) in
         let near = (allocated_near e.filter e.numbers.next).0 in
-        let here : AskBefore sents d.end.tracking.greatest_asking = subst (λ (t : Tracking). AskBefore sents t.greatest_asking) (sym (composes (lazied (ready_at e now))).tracking) ready in
+        let here : AskBefore sents d.end.tracking.greatest_asking = subst (λ (t : Tracking). AskBefore sents t.greatest_asking) (sym (composes g.held (lazied g.end) (due_alone g some)).tracking) ready in
         before_sent sents (sent_by e now) (asking d.frames) (number_of d.end) d.end.closing.clock _ number (asking_padded d.frames _) (λ u i. (let less = below u i in omega arith)) here
 
 -- any call that lacks no memory

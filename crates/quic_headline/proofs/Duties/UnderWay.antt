@@ -21,8 +21,8 @@ use Rattle.quic_machine.specs.Calls.{is_open}
 use Rattle.quic_machine.specs.StreamCalls.{is_on_streams}
 use Rattle.quic_machine.specs.Acked.{without_known, resets_acked, stream_acked, streams_acked, packet_acked, packets_acked, stream_lost, streams_lost, carried_lost, packets_lost, verdict, losses_detected, measured, sampled, without_acked, after_named}
 use Rattle.quic_machine.specs.Receive.{is_above, names_ungiven, take_frame, Outcome}
-use Rattle.quic_machine.specs.Poll.{Polled, Draft, ack_of, composed, asking, lazied, packet_of, tracked, after_given, polled}
-use Rattle.quic_machine.specs.DraftLaws.{by_writing}
+use Rattle.quic_machine.specs.Poll.{Polled, Draft, ack_of, asking, lazied, packet_of, tracked, polled, goes, draft_if}
+use Rattle.quic_machine.specs.DraftLaws.{by_leave, due_alone}
 use Rattle.quic_machine.specs.PollCases.{ready_at, ready_leaves, draft_at, by_poll_to, composes}
 use Rattle.quic_machine.specs.FrameCases.{OnStreams, named, ack_taken, begun, passed, resets_acked_keep, frames_leave}
 use Rattle.quic_machine.specs.CallCases.{is_delivery, by_call}
@@ -33,8 +33,8 @@ use Rattle.quic_headline.specs.Duties.{Duty, AnyIn, Carries}
 use Rattle.quic_headline.specs.Observer.{Sent}
 use Rattle.quic_headline.proofs.Packets.Invariant.{AreTracked, carried_streams}
 use Rattle.quic_headline.proofs.Packets.Ascending.{Ascends}
-use Rattle.quic_headline.proofs.Packets.Probes.{by_ready, ready_tracked}
-use Rattle.quic_headline.proofs.Packets.Given.{composed_number}
+use Rattle.quic_headline.proofs.Packets.Probes.{by_ready, ready_tracked, MayLeave, by_going}
+use Rattle.quic_headline.proofs.Packets.Given.{draft_number}
 use Rattle.quic_headline.proofs.Packets.Delivered.{Arrivals, arrived}
 use Rattle.quic_headline.proofs.Packets.Named.{in_filter, by_frame, frame_fewer}
 use Rattle.quic_headline.proofs.Halves.Small.{IsSmallLimit}
@@ -258,8 +258,8 @@ module _ (done : ℕ → Wrote) (F : Duty → Type 0) where
       (more_drafted d own d.end.streams i)
 
   -- whichever frames go
-  composed_drafted : (e : End) → AllFly F done e.streams → Drafted (composed e)
-  composed_drafted e i = by_writing Drafted (record {
+  draft_drafted : (held : Bool) (e : End) → MayLeave held e → AllFly F done e.streams → Drafted (draft_if held e)
+  draft_drafted held e alone i = by_leave Drafted (record {
     ack = λ d filled may b. more_drafted d (ack (ack_of d.end) ∷ []) d.end.streams b;
     ping = λ d b. more_drafted d (ping ∷ []) d.end.streams b;
     drops = λ d kind b. b;
@@ -268,7 +268,7 @@ module _ (done : ℕ → Wrote) (F : Duty → Type 0) where
         by_told (AllFly G done) (fly_kept G done) kind d.end.waiting.frames entry es d.end.streams is (more_drafted d (f ∷ []) d.end.streams b));
     message = λ d m ms is fit b. more_drafted d (datagram m ∷ []) d.end.streams b;
     stream = λ d id h room found first some is counts b. half_drafted d d.end.transport.send_fairness id room h found b;
-  }) e (all_more F (InDraft F []) done e.streams (λ u f. inr f) i)
+  }) held e alone (all_more F (InDraft F []) done e.streams (λ u f. inr f) i)
 
 -- frames that don't ask have no STREAM frame among them
 none_asks : (fs : List FrameValue) (u : Duty) → asking fs ≡ false → InMetas (streams_in fs) u → ⊥
@@ -289,32 +289,34 @@ given_fly done sents d were before new i =
 
 module _ (done : ℕ → Wrote) (sents : List Sent) (e : End) (now : ℕ) (ascends : Ascends e) (were : AreTracked sents e.tracking.packets) (before : AskBefore sents e.tracking.greatest_asking) (new : IsNew e.tracking.packets (number_of e)) where
   -- where something waits for each probe
-  ready_fly : Fly done e → Fly done (ready_at e now)
+  ready_fly : Fly done e → Fly done (ready_at e now).end
   ready_fly i = by_ready (Fly done) e now i i (λ p among. all_more (InPackets e.tracking.packets) (InPackets (put e.tracking.packets p.0 (without_record p.1))) done e.streams (λ u j.
-      elim (any_put (λ q. InPacket q u) ⊥ e.tracking.packets p (without_record p.1) ascends among (λ here. inl here) j) [ inl there ↦ there | inr none ↦ absurd none ]) i)
+      elim (any_put (λ q. InPacket q u) ⊥ e.tracking.packets p (without_record p.1) ascends among (λ here. inl here) j) [ inl there ↦ there | inr none ↦ absurd none ]) i) (λ moment pacing x j. j)
 
   -- after a poll
   polled_fly : (p : Policy) → Fly done e → Fly done (polled p e now).end
   polled_fly p i = by_poll_to p e now (λ (q : Polled). Fly done q.end) (record {
     silent = i;
     failed = i;
-    idle = ready_fly i;
+    nothing = λ is none. ready_fly i;
     used_up = ready_fly i;
-    gives = λ is may some. gives;
+    gives = λ is may some. by_going (Fly done) p (draft_at e now) (λ pacing. gives some);
   })
     where
-      gives : Fly done (after_given p (draft_at e now))
-      gives =
-          let r : End = ready_at e now in
+      gives : goes (ready_at e now) ≡ true → Fly done (tracked (draft_at e now))
+      gives some =
+          let held : Bool = (ready_at e now).held in
+          let r : End = (ready_at e now).end in
           let d : Draft = draft_at e now in
-          let same = composes (lazied r) in
+          let alone : MayLeave held (lazied r) = due_alone (ready_at e now) some in
+          let same = composes held (lazied r) alone in
           let tracks : r.tracking ≡ d.end.tracking = sym same.tracking in
-          let number : number_of e ≡ number_of d.end = sym (composed_number (lazied r) ∙ ap (λ (x : End). number_of x) (ready_leaves e now)) in
+          let number : number_of e ≡ number_of d.end = sym (draft_number held (lazied r) alone ∙ ap (λ (x : End). number_of x) (ready_leaves e now)) in
           given_fly done sents d
           (subst (λ (t : Tracking). AreTracked sents t.packets) tracks (ready_tracked sents e now were))
           (subst (λ (t : Tracking). AskBefore sents t.greatest_asking) tracks (ready_before sents e now before))
           (subst (λ (n : ℕ). IsNew d.end.tracking.packets n) number (subst (λ (t : Tracking). IsNew t.packets (number_of e)) tracks (ready_new e now (number_of e) new)))
-          (subst (λ (t : Tracking). Drafted done (InPackets t.packets) d) tracks (composed_drafted done (InPackets r.tracking.packets) (lazied r) (ready_fly i)))
+          (subst (λ (t : Tracking). Drafted done (InPackets t.packets) d) tracks (draft_drafted done (InPackets r.tracking.packets) held (lazied r) alone (ready_fly i)))
 
 -- ---- any call
 
@@ -336,7 +338,7 @@ call_fly done sents p e theirs call a apart is ascends were before new ends i = 
       on_messages = λ on answer. i;
       pings = i;
       heard = λ path same. i;
-      times = λ now acks loss set. by_expired e now (Fly done) (λ pending tracking timers runs packets. subst (λ (t : Table TrackedPacket). AllFly (InPackets t) done e.streams) (sym packets) i) (λ pending timers runs. detected_fly done (with_closing e (ticked e.closing now)) ends i) acks loss;
+      times = λ now acks loss pacing set. by_expired e now (Fly done) (λ pending tracking timers runs packets. subst (λ (t : Table TrackedPacket). AllFly (InPackets t) done e.streams) (sym packets) i) (λ pending timers runs. detected_fly done (with_closing e (ticked e.closing now)) ends i) acks loss pacing;
       polls = λ now set. polled_fly done sents e now ascends were before new p i;
       hears = λ now d set. cc;
       tells = λ asks. by_event e (Fly done) i (λ told. by_polled (AllFly F done) (fly_kept F done) e.streams i);

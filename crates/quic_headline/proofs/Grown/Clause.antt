@@ -71,6 +71,7 @@ grown_group B w = record {
   first = λ x y m there back. grown_first x y;
   writer = λ x y call a c i back. grown_call B w x y call a c i;
   reader = λ x y call a c there i. i;
+  shows = λ x y here there b back i j. i;
 }
 
 -- ---- the clause

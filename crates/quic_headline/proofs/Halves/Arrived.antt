@@ -165,6 +165,7 @@ arrives_group B b = record {
   first = λ x y m there here. arrives_first x y m.y_is.range;
   writer = λ x y call a c i back. arrives_writer B b x y call a c i;
   reader = λ x y call a c i back. arrives_reader B b x y call a back;
+  shows = λ x y here there above below i back. record { acked = i.acked; told = i.told };
 }
 
 -- ---- what it rests on

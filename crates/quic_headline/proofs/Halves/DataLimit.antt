@@ -160,7 +160,7 @@ settling = record {
   lost = λ m e i. small_words.lost ended_all e.streams m (λ fin. refl) i;
   again = λ carried e i. i;
   tracked = λ t e i. i;
-  measured = λ r e i. i;
+  measured = λ r first e i. i;
 }
 
 -- a frame with a small limit
@@ -207,4 +207,5 @@ limit_group = record {
   first = λ x y m. record { small = m.y_is.range.receive_window };
   writer = λ x y call a c i back. limit_step x y call a c i;
   reader = λ x y call a c i back. record { small = back.small };
+  shows = λ x y here there i. record { small = i.small };
 }

@@ -19,6 +19,7 @@ use Rattle.quic_machine.specs.Tracking.{Carried}
 use Rattle.quic_machine.specs.End.{End}
 use Rattle.quic_machine.specs.Receive.{Outcome}
 use Rattle.quic_machine.specs.FrameCases.{begun}
+use Rattle.quic_machine.specs.Poll.{tracked}
 use Rattle.quic_headline.specs.Runs.{Packet, Intake, In}
 use Rattle.quic_headline.specs.Observer.{Sent}
 use Rattle.quic_headline.proofs.Packets.Invariant.{AreTracked}
@@ -123,7 +124,7 @@ module _ (took : List Packet) (sents : List Sent) (stands : Stands took sents) (
     lost = λ c m e was among i. (finished_words arrived end_arrived).lost wrote e.streams m (b.ended c m was among) i;
     again = λ c e was i. i;
     tracked = λ t e i. i;
-    measured = λ r e i. i;
+    measured = λ r first e i. i;
   }
 
   -- so do all frames of a packet, taken or refused, whose ACK frames name packets that were taken

@@ -17,7 +17,7 @@ pub record GoesWell (e : End) : Type 0 where
   pub limit : e.streams.sending.limit < 2 ^ 62
   pub waits : AreReady e.streams.sending.halves.live e.waiting.frames
 
-module _ (R : Way) (goes : (x y : Party) → PacketsHold x y → R x y → (now : ℕ) → GoesWell (ready_at x.end now)) where
+module _ (R : Way) (goes : (x y : Party) → PacketsHold x y → R x y → (now : ℕ) → GoesWell (ready_at x.end now).end) where
   -- what is written, and what else is known of the streams of the end that writes
   pub streams_spell : Spells (And WritesHold R)
   streams_spell = record {
@@ -27,7 +27,7 @@ module _ (R : Way) (goes : (x y : Party) → PacketsHold x y → R x y → (now 
     holds = λ x y p h now. (
         let w = h.0 in
         let keeps = subst (Keeping (wrote x.told)) (sym (ready_state x.end now)) w.writes.keeps in
-        let g : GoesWell (ready_at x.end now) = goes x y p h.1 now in
+        let g : GoesWell (ready_at x.end now).end = goes x y p h.1 now in
         record { wrote = wrote x.told; streams = record { holds = keeps.holds; orderly = keeps.orderly; few = keeps.few; limit = g.limit }; waits = g.waits });
   }
 

@@ -17,14 +17,14 @@ use Rattle.quic_machine.specs.Tracking.{Tracking, TrackedPacket, Carried, withou
 use Rattle.quic_machine.specs.Closing.{ticked}
 use Rattle.quic_machine.specs.End.{End, with_closing, with_ping, number_of}
 use Rattle.quic_machine.specs.Acked.{again}
-use Rattle.quic_machine.specs.Poll.{Polled, Draft, ack_of, composed, packet_of, tracked, after_given, record_moved, lazied, polled}
+use Rattle.quic_machine.specs.Poll.{Polled, Draft, ack_of, packet_of, tracked, record_moved, lazied, polled, goes, draft_if}
 use Rattle.quic_machine.specs.PollCases.{ready_at, draft_at, by_poll_to, composes}
-use Rattle.quic_machine.specs.DraftLaws.{by_writing}
+use Rattle.quic_machine.specs.DraftLaws.{by_leave, due_alone}
 use Rattle.quic_headline.specs.Runs.{In}
 use Rattle.quic_headline.specs.InFlight.{resets_in, stops_in}
 use Rattle.quic_headline.proofs.Packets.Carried.{carried_same}
 use Rattle.quic_headline.proofs.Packets.TrackedSteps.{in_sent, asking_packets}
-use Rattle.quic_headline.proofs.Packets.Probes.{in_put, by_ready}
+use Rattle.quic_headline.proofs.Packets.Probes.{in_put, by_ready, MayLeave, by_going, after_going, with_pacer}
 use Rattle.quic_headline.proofs.Packets.Ascending.{Splits, put_splits, Ascends}
 use Rattle.quic_headline.proofs.Places.Told.{in_left, in_right, in_append}
 use Rattle.quic_headline.proofs.Halves.InUse.{InUse, in_use_kept}
@@ -89,8 +89,8 @@ module _ (resets : List (ℕ × ℕ)) (stops : List StopSendingValue) where
       h.pile)
 
   -- whichever frames go
-  composed_holds : (e : End) → Holds e resets stops → Drafts resets stops (composed e)
-  composed_holds e h = by_writing (Drafts resets stops) (record {
+  draft_holds : (held : Bool) (e : End) → MayLeave held e → Holds e resets stops → Drafts resets stops (draft_if held e)
+  draft_holds held e alone h = by_leave (Drafts resets stops) (record {
     ack = λ d filled may g. other_frame d (ack (ack_of d.end)) _ refl refl (record { pile = g.pile; others = g.others });
     ping = λ d g. other_frame d ping _ refl refl (record { pile = g.pile; others = g.others });
     drops = λ d kind g. (
@@ -117,7 +117,7 @@ module _ (resets : List (ℕ × ℕ)) (stops : List StopSendingValue) where
       pile = record { once = g.pile.once; reset = λ r i. by_frame (InUse r) (in_use_kept r) d.end.transport.send_fairness d.end.streams id room h found (λ was. refl) (g.pile.reset r i); small = g.pile.small };
       others = g.others;
     });
-  }) e h
+  }) held e alone h
 
 -- ---- what is tracked
 
@@ -367,33 +367,35 @@ moved_holds p e among ascends h = record {
     waits = again_step c e (resets_of left) (stops_of left) (h.carried p.0 p.1 among) part
 
 -- an end that is ready to give
-pub ready_holds : (e : End) (now : ℕ) → Ascends e → HoldsAll e → HoldsAll (ready_at e now)
+pub ready_holds : (e : End) (now : ℕ) → Ascends e → HoldsAll e → HoldsAll (ready_at e now).end
 ready_holds e now ascends h =
     let begins : End = with_closing e (ticked e.closing now) in
     let here : HoldsAll begins = again_all e begins refl refl refl h in
-    by_ready HoldsAll e now here (again_all begins (with_ping begins true) refl refl refl here) (λ p among. moved_holds p begins among ascends here)
+    by_ready HoldsAll e now here (again_all begins (with_ping begins true) refl refl refl here) (λ p among. moved_holds p begins among ascends here) (λ moment pacing x i. again_all x (with_pacer x moment pacing) refl refl refl i)
 
 -- what a poll leaves
 pub polled_holds : (p : Policy) (e : End) (now : ℕ) → Ascends e → HoldsAll e → HoldsAll (polled p e now).end
 polled_holds p e now ascends h = by_poll_to p e now (λ (q : Polled). HoldsAll q.end) (record {
   silent = h;
   failed = h;
-  idle = ready;
-  used_up = again_all (ready_at e now) _ refl refl refl ready;
-  gives = λ is may some. gives;
+  nothing = λ is none. again_all (ready_at e now).end _ refl refl refl ready;
+  used_up = again_all (ready_at e now).end _ refl refl refl ready;
+  gives = λ is may some. by_going HoldsAll p (draft_at e now) (λ pacing. again_all (tracked (draft_at e now)) (after_going p (draft_at e now) pacing) refl refl refl (gives some));
 })
   where
-    ready : HoldsAll (ready_at e now)
+    ready : HoldsAll (ready_at e now).end
     ready = ready_holds e now ascends h
 
-    gives : HoldsAll (after_given p (draft_at e now))
-    gives =
-        let there : End = lazied (ready_at e now) in
-        let d : Draft = composed there in
-        let same : d.end.tracking ≡ there.tracking = (composes there).tracking in
+    gives : goes (ready_at e now) ≡ true → HoldsAll (tracked (draft_at e now))
+    gives some =
+        let held : Bool = (ready_at e now).held in
+        let there : End = lazied (ready_at e now).end in
+        let alone : MayLeave held there = due_alone (ready_at e now) some in
+        let d : Draft = draft_at e now in
+        let same : d.end.tracking ≡ there.tracking = (composes held there alone).tracking in
         let packets : d.end.tracking.packets ≡ there.tracking.packets = ap (λ (t : Tracking). t.packets) same in
         let went : Drafts (resets_of there.tracking.packets) (stops_of there.tracking.packets) d =
-        composed_holds (resets_of there.tracking.packets) (stops_of there.tracking.packets) there (record { pile = ready.holds.pile; others = ready.holds.others }) in
+        draft_holds (resets_of there.tracking.packets) (stops_of there.tracking.packets) held there alone (record { pile = ready.holds.pile; others = ready.holds.others }) in
         let here : Drafts (resets_of d.end.tracking.packets) (stops_of d.end.tracking.packets) d = rw packets went in
         let none : CarryNothingElse d.end.tracking.packets = rw packets ready.carried in
-        again_all (tracked d) (after_given p d) refl refl refl (given_holds d here none)
+        given_holds d here none

@@ -23,13 +23,13 @@ use Rattle.quic_machine.specs.Calls.{is_open}
 use Rattle.quic_machine.specs.StreamCalls.{if_ok, after_on_streams, IsStreamAnswer}
 use Rattle.quic_machine.specs.Machine.{IsAnswer, after_call}
 use Rattle.quic_machine.specs.Receive.{is_above, names_ungiven, take_frame}
-use Rattle.quic_machine.specs.Poll.{Draft, Polled, Kind, pings, controls, messages, streams, order, put, with_asking, no_frames, with_ack, ack_if, ack_fits, ping_if, composed, composed_if, lazied, polled, frame_room, left, no_stream_frames}
+use Rattle.quic_machine.specs.Poll.{Draft, Kind, pings, controls, messages, streams, order, put, with_asking, no_frames, with_ack, ack_if, ack_fits, ping_if, composed, composed_if, polled, frame_room, left, no_stream_frames}
 use Rattle.quic_machine.specs.CallCases.{is_delivery, by_call}
 use Rattle.quic_machine.specs.DraftLaws.{by_messages}
 use Rattle.quic_machine.specs.FrameCases.{Settling, acked_keeps, losses_keep, named, ack_taken, message_leaves}
 use Rattle.quic_machine.specs.LeaveCases.{by_expired, by_event}
 use Rattle.quic_headline.proofs.Packets.Kinds.{by_kinds}
-use Rattle.quic_machine.specs.PollCases.{at_moment, by_poll}
+use Rattle.quic_headline.proofs.Packets.Probes.{poll_state}
 
 -- a half counts no byte as sent that wasn't written
 pub sent_within : (done : ℕ → Wrote) (s : StreamsState) → HoldsWritten done s → (id : ℕ) → IsSentWithin s id
@@ -111,13 +111,7 @@ module _ (P : StreamsState → Type 0) (q : IsQuiet P) where
       go false = let d : Draft = with_asking (no_frames e) in late d (ack_fits d) (asking_quiet (no_frames e) i)
 
   poll_quiet : (p : Policy) (e : End) (now : ℕ) → P e.streams → P (polled p e now).end.streams
-  poll_quiet p e now i = by_poll p e now (λ (x : Polled). P x.end.streams) (record {
-    silent = i;
-    failed = i;
-    idle = λ t w ready. i;
-    used_up = λ t w ready. i;
-    gives = λ t w tracking timers is may some ready. composed_quiet (lazied (at_moment e now t w)) i;
-  })
+  poll_quiet p e now i = poll_state P p e now composed_quiet i
 
   -- ---- packets that are acknowledged or lost
 
@@ -129,7 +123,7 @@ module _ (P : StreamsState → Type 0) (q : IsQuiet P) where
     lost = λ m e i. q.lost e.streams m i;
     again = λ carried e i. i;
     tracked = λ t e i. i;
-    measured = λ r e i. i;
+    measured = λ r first e i. i;
   }
 
   -- ---- any call by which nothing comes and nothing is read
@@ -142,7 +136,7 @@ module _ (P : StreamsState → Type 0) (q : IsQuiet P) where
     on_messages = λ on answer. i;
     pings = i;
     heard = λ path same. i;
-    times = λ now acks loss set. by_expired e now (λ (f : End). P f.streams) (λ pending tracking timers runs packets. i) (λ pending timers runs. losses_keep (λ (x : End). P x.streams) settles (with_closing e (ticked e.closing now)) i) acks loss;
+    times = λ now acks loss pacing set. by_expired e now (λ (f : End). P f.streams) (λ pending tracking timers runs packets. i) (λ pending timers runs. losses_keep (λ (x : End). P x.streams) settles (with_closing e (ticked e.closing now)) i) acks loss pacing;
     polls = λ now set. poll_quiet p e now i;
     hears = λ now d set. cc;
     tells = λ asks. by_event e (λ (f : End). P f.streams) i (λ told. q.polls e.streams i);

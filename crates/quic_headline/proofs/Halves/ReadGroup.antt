@@ -150,7 +150,12 @@ module _ (B : Way) (w : IsWriting B) where
 
   -- what is read, over what the other end's writing gives
   pub reads_group : Group B ReadsHold
-  reads_group = record { first = λ x y m there here. begins x y; writer = writer_on; reader = reader_on }
+  reads_group = record {
+    first = λ x y m there here. begins x y;
+    writer = writer_on;
+    reader = reader_on;
+    shows = λ x y here there b back p q. record { reads = p.reads; ends = p.ends; accepted = p.accepted; brought = p.brought };
+  }
     where
       begins : (x y : Beginning) → ReadsHold (begun_as x y) (begun_as y x)
       begins x y =

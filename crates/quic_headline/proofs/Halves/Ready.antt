@@ -1,6 +1,6 @@
 -- What waits to be sent beside the bytes of streams may go, at each place of a run: over what was written.
 use Rattle.std.proofs.Common.{ℕ, refl, arith}
-use Rattle.quic_machine.specs.End.{End}
+use Rattle.quic_machine.specs.End.{End, with_window}
 use Rattle.quic_machine.specs.PollCases.{ready_at}
 use Rattle.quic_headline.proofs.Packets.MayGo.{AreReady}
 use Rattle.quic_headline.proofs.Packets.Group.{PacketsHold}
@@ -10,7 +10,7 @@ use Rattle.quic_headline.proofs.Places.Groups.{And, Group}
 use Rattle.quic_headline.proofs.Halves.Wrote.{wrote}
 use Rattle.quic_headline.proofs.Halves.Writer.{WritesHold}
 use Rattle.quic_headline.proofs.Halves.Pile.{resets_of, stops_of}
-use Rattle.quic_headline.proofs.Halves.PileSteps.{HoldsAll}
+use Rattle.quic_headline.proofs.Halves.PileSteps.{HoldsAll, again_all}
 use Rattle.quic_headline.proofs.Halves.PileCalls.{step_holds}
 use Rattle.quic_headline.proofs.Halves.PilePolls.{ready_holds}
 
@@ -31,8 +31,8 @@ waits_of e all =
     }
 
 -- where something waits for each probe too
-pub ready_probes : (x y : Party) → PacketsHold x y → Ready x y → (now : ℕ) → AreReady (ready_at x.end now).streams.sending.halves.live (ready_at x.end now).waiting.frames
-ready_probes x y packets ready now = waits_of (ready_at x.end now) (ready_holds x.end now packets.ascends ready.all)
+pub ready_probes : (x y : Party) → PacketsHold x y → Ready x y → (now : ℕ) → AreReady (ready_at x.end now).end.streams.sending.halves.live (ready_at x.end now).end.waiting.frames
+ready_probes x y packets ready now = waits_of (ready_at x.end now).end (ready_holds x.end now packets.ascends ready.all)
 
 -- it is so at the start, and each call keeps it
 pub ready_group : Group (And PacketsHold WritesHold) Ready
@@ -50,4 +50,5 @@ ready_group = record {
       let w = c.gives.1.writes.keeps in
       record { all = step_holds x.policy x.end y.given call a (wrote x.told) w.holds w.few c.codes c.answer c.gives.0.ascends gives.all });
   reader = λ x y call a c gives takes. record { all = takes.all };
+  shows = λ x y here there b back ready others. record { all = again_all x.end (with_window x.end here) refl refl refl ready.all };
 }

@@ -16,7 +16,7 @@ use Rattle.quic_streams_laws.specs.WrittenResets.{TellsResets, control_frames_sa
 use Rattle.quic_recovery_core.specs.PendingAcks.{can_send}
 use Rattle.quic_spaces.specs.Numbers.{cut_against}
 use Rattle.quic_machine.specs.End.{End, number_of, streams_at}
-use Rattle.quic_machine.specs.Poll.{Draft, frame_room, left, no_frames, no_stream_frames, ping_if, with_ping_frame, with_ack, ack_if, ack_fits, with_control_frames, with_message_frames, with_stream_frames, Kind, pings, controls, messages, streams, order, put, with_asking, composed, composed_if}
+use Rattle.quic_machine.specs.Poll.{Draft, frame_room, left, no_frames, no_stream_frames, ping_if, with_ping_frame, with_ack, ack_if, ack_fits, with_control_frames, with_message_frames, with_stream_frames, Kind, pings, controls, messages, streams, order, put, with_asking, composed, composed_if, draft_if}
 use Rattle.quic_machine.specs.DraftLaws.{by_messages}
 use Rattle.quic_machine.specs.PollCases.{frames_padded}
 use Rattle.quic_headline.specs.Runs.{In}
@@ -130,6 +130,11 @@ module _ (done : ℕ → Wrote) where
       go : (b : Bool) → Draws done (composed_if b e)
       go true = asking_draws (with_ack (no_frames e)) (ack_draws (no_frames e) first)
       go false = late (with_asking (no_frames e)) (ack_fits (with_asking (no_frames e))) (asking_draws (no_frames e) first)
+
+  -- also where a due ACK goes alone
+  pub draft_draws : (held : Bool) (e : End) → Writes done (streams_at e) → Draws done (draft_if held e)
+  draft_draws true e w = ack_draws (no_frames e) (record { writes = w; says = tt })
+  draft_draws false e w = composed_draws e w
 
   -- its frames say what was written, those of PADDING too
   pub padded_say : (d : Draft) → Draws done d → AllSay done (frames_padded d)

@@ -9,11 +9,10 @@ use Rattle.quic_machine.specs.Policy.{Policy}
 use Rattle.quic_machine.specs.End.{End, streams_at}
 use Rattle.quic_machine.specs.Calls.{is_open}
 use Rattle.quic_machine.specs.StreamCalls.{is_on_streams}
-use Rattle.quic_machine.specs.Poll.{Polled, lazied, polled}
+use Rattle.quic_machine.specs.Poll.{polled}
 use Rattle.quic_machine.specs.Machine.{after_call, AnswersOnStreams, end_on_streams, IsAnswer}
 use Rattle.quic_machine.specs.CallCases.{is_delivery, by_call}
 use Rattle.quic_machine.specs.LeaveCases.{by_expired, by_event}
-use Rattle.quic_machine.specs.PollCases.{at_moment, by_poll}
 use Rattle.quic_send_buffer.specs.declared.stream_meta.StreamMeta.{StreamMeta}
 use Rattle.quic_streams_parts.specs.Table.{Table}
 use Rattle.quic_streams_state.specs.State.{Streams}
@@ -22,6 +21,7 @@ use Rattle.quic_headline.specs.Runs.{In}
 use Rattle.quic_headline.proofs.Packets.Losses.{Losing, expiry_stays}
 use Rattle.quic_headline.proofs.Halves.Wrote.{done_by}
 use Rattle.quic_headline.proofs.Halves.Words.{Words, call_on, composed_on}
+use Rattle.quic_headline.proofs.Packets.Probes.{poll_state}
 
 -- a call that is none on streams does nothing on them
 pub done_none : (call : Call) (a : Answer) (w : ℕ → Wrote) → is_on_streams call ≡ false → done_by call a w ≡ w
@@ -62,13 +62,7 @@ module _ (F : (ℕ → Wrote) → StreamsState → Type 0) (words : Words F) whe
 
   -- a poll
   poll_keeps : (p : Policy) (w : ℕ → Wrote) (e : End) (now : ℕ) → F w e.streams → F w (polled p e now).end.streams
-  poll_keeps p w e now i = by_poll p e now (λ (q : Polled). F w q.end.streams) (record {
-    silent = i;
-    failed = i;
-    idle = λ t waits ready. i;
-    used_up = λ t waits ready. i;
-    gives = λ t waits tracking timers is may some ready. composed_on F words w (lazied (at_moment e now t waits)) i;
-  })
+  poll_keeps p w e now i = poll_state (F w) p e now (composed_on F words w) i
 
   -- any call but a delivery
   pub call_keeps : (p : Policy) (w : ℕ → Wrote) (e : End) (theirs : List (List ℕ)) (call : Call) (a : Answer) → is_delivery call ≡ false → IsAnswer p e theirs call a → HaveEnds w e.tracking.packets → F w e.streams → F (done_by call a w) (after_call p e theirs call a).streams
@@ -84,7 +78,7 @@ module _ (F : (ℕ → Wrote) → StreamsState → Type 0) (words : Words F) whe
         on_messages = λ on answer. i;
         pings = i;
         heard = λ path same. i;
-        times = λ now acks loss set. by_expired e now (λ (f : End). F w f.streams) (λ pending tracking timers runs packets. i) (λ pending timers runs. expiry_stays (λ (t : Streams). F w t.state) e now (losing w e.tracking.packets ends) i pending timers) acks loss;
+        times = λ now acks loss pacing set. by_expired e now (λ (f : End). F w f.streams) (λ pending tracking timers runs packets. i) (λ pending timers runs. expiry_stays (λ (t : Streams). F w t.state) e now (losing w e.tracking.packets ends) i pending timers) acks loss pacing;
         polls = λ now set. poll_keeps p w e now i;
         hears = λ now d set. cc;
         tells = λ asks. by_event e (λ (f : End). F w f.streams) i (λ told. words.polls w e.streams i);

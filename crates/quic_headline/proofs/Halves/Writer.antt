@@ -45,7 +45,7 @@ use Rattle.quic_headline.proofs.Halves.Writes.{Writes, calls_leave, calls_grow, 
 use Rattle.quic_headline.proofs.Halves.Says.{AllSay, SentSay, says_grow, CarriedSays, sent_says, taken_says, tracked_says}
 use Rattle.quic_headline.proofs.Halves.Counts.{counts_in_range}
 use Rattle.quic_headline.proofs.Halves.Small.{IsSmallLimit, payload_small}
-use Rattle.quic_headline.proofs.Halves.Sends.{composed_draws, padded_say}
+use Rattle.quic_headline.proofs.Halves.Sends.{composed_draws, padded_say, draft_draws}
 use Rattle.quic_headline.proofs.Halves.Arrives.{frame_leaves, lost_leaves, again_leaves, settles_leave}
 use Rattle.quic_machine.specs.Tracking.{TrackedPacket}
 use Rattle.quic_headline.proofs.Packets.Losses.{Losing, expiry_stays, ready_stays}
@@ -104,12 +104,12 @@ module _ (p : Policy) (e : End) (theirs : List (List ℕ)) (done : ℕ → Wrote
   losing : Says → Losing e.tracking.packets (Writes done)
   losing says = record { lost = λ n t m x among inside v. lost_leaves done x v m ((says n t among).ends m inside); again = λ n t x among v. again_leaves done x v t.carried (says n t among) }
 
-  ready_writes : Says → (now : ℕ) → Writes done (streams_at (ready_at e now))
+  ready_writes : Says → (now : ℕ) → Writes done (streams_at (ready_at e now).end)
   ready_writes says now = ready_stays (Writes done) e now (losing says) w
 
   -- what it gives says what was written
   pub poll_says : Says → (now : ℕ) → AllSay done (frames_at e now)
-  poll_says says now = padded_say done (draft_at e now) (composed_draws done (lazied (ready_at e now)) (ready_writes says now))
+  poll_says says now = padded_say done (draft_at e now) (draft_draws done (ready_at e now).held (lazied (ready_at e now).end) (ready_writes says now))
 
   poll_writes : Says → (now : ℕ) → Writes done (streams_at (polled p e now).end)
   poll_writes says now = poll_streams (Writes done) p e now (λ x v. (composed_draws done x v).writes) w (ready_writes says now)
@@ -137,7 +137,7 @@ module _ (p : Policy) (e : End) (theirs : List (List ℕ)) (done : ℕ → Wrote
     on_messages = λ on answer. w;
     pings = w;
     heard = λ path same. w;
-    times = λ now acks loss set. by_expired e now (λ (f : End). Writes done (streams_at f)) (λ pending tracking timers runs packets. w) (λ pending timers runs. expiry_stays (Writes done) e now (losing says) w pending timers) acks loss;
+    times = λ now acks loss pacing set. by_expired e now (λ (f : End). Writes done (streams_at f)) (λ pending tracking timers runs packets. w) (λ pending timers runs. expiry_stays (Writes done) e now (losing says) w pending timers) acks loss pacing;
     polls = λ now set. poll_writes says now;
     hears = λ now d set. absurd (off_streams (is_delivery call) apart set);
     tells = λ asks. by_event e (λ (f : End). Writes done (streams_at f)) w (λ told. record { keeps = by_polled (Keeping done) (keeping_kept done) e.streams w.keeps; waits = w.waits });
@@ -280,4 +280,5 @@ writes_group B packets = record {
   first = λ x y m there back. writes_first x y m;
   writer = λ x y call a c g h. writes_on B packets x y call a c g;
   reader = λ x y call a c g h. record { writes = h.writes; says = h.says };
+  shows = λ x y here there b back g h. record { writes = g.writes; says = g.says };
 }

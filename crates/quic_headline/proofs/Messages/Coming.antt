@@ -10,12 +10,12 @@ use Rattle.quic_machine.specs.declared.run.Answer.TheVariants as answers
 use Rattle.quic_machine.specs.Policy.{Policy}
 use Rattle.quic_machine.specs.End.{End}
 use Rattle.quic_machine.specs.Receive.{Outcome, take_frame}
-use Rattle.quic_machine.specs.Poll.{Polled, Draft, composed, lazied, polled}
+use Rattle.quic_machine.specs.Poll.{Polled, Draft, lazied, polled, draft_if}
 use Rattle.quic_machine.specs.MessageCalls.{limits_of}
 use Rattle.quic_machine.specs.Machine.{IsAnswer, after_call, fails}
-use Rattle.quic_machine.specs.DraftLaws.{by_writing}
+use Rattle.quic_machine.specs.DraftLaws.{by_leave}
 use Rattle.quic_machine.specs.FrameCases.{passed, frames_leave, begun}
-use Rattle.quic_machine.specs.PollCases.{at_moment, by_poll}
+use Rattle.quic_machine.specs.PollCases.{by_poll, at_poll}
 use Rattle.quic_machine.specs.CallCases.{is_delivery}
 use Rattle.quic_headline.specs.Runs.{Told, Intake, In, is_again}
 use Rattle.quic_headline.specs.Observer.{Sent}
@@ -25,24 +25,33 @@ use Rattle.quic_headline.proofs.Places.Parties.{told_of, Party, called, came_to,
 use Rattle.quic_headline.proofs.Places.Coming.{Meets, came_same, by_coming}
 use Rattle.quic_headline.proofs.Messages.Counted.{often, often_none, often_append, often_oldest, received_more, sent_leaves, messages_in, often_first, new_number, came, came_more, came_new}
 use Rattle.quic_headline.proofs.Messages.Kept.{frame_messages, call_messages}
+use Rattle.quic_headline.proofs.Packets.Probes.{MayLeave, may_leave}
 
 -- ---- calls that leave what is unread
 
 -- whichever frames go
-drafted : (e : End) → (composed e).end.messages.queues.incoming ≡ e.messages.queues.incoming
-drafted e = by_writing (λ (d : Draft). d.end.messages.queues.incoming ≡ e.messages.queues.incoming) (record {
+drafted : (held : Bool) (e : End) → MayLeave held e → (draft_if held e).end.messages.queues.incoming ≡ e.messages.queues.incoming
+drafted held e alone = by_leave (λ (d : Draft). d.end.messages.queues.incoming ≡ e.messages.queues.incoming) (record {
   ack = λ d filled may i. i;
   ping = λ d i. i;
   drops = λ d kind i. i;
   control = λ d kind entry es f is goes i. i;
   message = λ d x xs is fit i. i;
   stream = λ d id h room found first some is counts i. i;
-}) e refl
+}) held e alone refl
 
 -- a poll
 polled_leaves : (p : Policy) (e : End) (now : ℕ) → (polled p e now).end.messages.queues.incoming ≡ e.messages.queues.incoming
 polled_leaves p e now = by_poll p e now (λ (q : Polled). q.end.messages.queues.incoming ≡ e.messages.queues.incoming)
-    (record { silent = refl; failed = refl; idle = λ t w ready. refl; used_up = λ t w ready. refl; gives = λ t w tracking timers is may some ready. drafted (lazied (at_moment e now t w)) })
+    (record {
+      silent = refl;
+      failed = refl;
+      nothing = λ t w moment pacing limited. refl;
+      used_up = λ t w moment pacing. refl;
+      gives = λ held t w moment pacing paid tracking timers is may ready some.
+          let x : End = at_poll e now t w moment pacing e.path.app_limited in
+          drafted held (lazied x) (may_leave e now held x ready some);
+    })
 
 -- whether a call reads a message
 abbrev reads : Call → Bool

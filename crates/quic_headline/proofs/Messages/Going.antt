@@ -1,5 +1,5 @@
 -- The end that sends: a message went or waits to go at most as often as it was sent.
-use Rattle.std.proofs.Common.{◌≡◌, ℕ, ◌+◌, ◌-◌, ◌≤◌, false, List, [], ◌∷◌, ◌++◌, length, replicate, Option, Some, None, Ok, refl, sym, ap, ◌∙◌, subst, arith}
+use Rattle.std.proofs.Common.{◌≡◌, ℕ, ◌+◌, ◌-◌, ◌≤◌, false, List, [], ◌∷◌, ◌++◌, length, replicate, Option, Some, None, Ok, refl, sym, ap, ◌∙◌, subst, arith, Bool, true}
 use Rattle.std.specs.Prelude.{slice_get}
 use Rattle.std.proofs.lemmas.List.{append_assoc, append-nil}
 use Rattle.quic_packet.specs.Number.{truncated}
@@ -7,6 +7,7 @@ use Rattle.quic_wire.specs.Value.{FrameValue, padding, ping, ack, stream, datagr
 use Rattle.quic_streams_parts.specs.SendHalf.{frame_of}
 use Rattle.quic_messages.specs.Messages.{Messages}
 use Rattle.quic_spaces.specs.Numbers.{cut_against}
+use Rattle.quic_congestion.specs.Pacer.{Pacing}
 use Rattle.quic_machine.specs.declared.run.Call.{Call}
 use Rattle.quic_machine.specs.declared.run.Call.TheVariants as calls
 use Rattle.quic_machine.specs.declared.run.Answer.{Answer}
@@ -15,12 +16,13 @@ use Rattle.quic_machine.specs.Parts.{Waiting}
 use Rattle.quic_machine.specs.Tracking.{Tracking}
 use Rattle.quic_machine.specs.Policy.{Policy}
 use Rattle.quic_machine.specs.End.{End, number_of}
-use Rattle.quic_machine.specs.Poll.{Polled, Draft, ack_of, composed, lazied, polled}
+use Rattle.quic_machine.specs.Poll.{Polled, Draft, ack_of, lazied, polled, goes, draft_if, draft_of}
 use Rattle.quic_machine.specs.MessageCalls.{limits_of}
 use Rattle.quic_machine.specs.Machine.{IsAnswer, after_delivered, after_call, fails, gave}
-use Rattle.quic_machine.specs.DraftLaws.{by_writing}
+use Rattle.quic_machine.specs.DraftLaws.{by_leave}
 use Rattle.quic_machine.specs.FrameCases.{by_received}
-use Rattle.quic_machine.specs.PollCases.{at_moment, ready_at, frames_padded, frames_at, by_poll}
+use Rattle.quic_machine.specs.PollCases.{ready_at, frames_padded, frames_at, by_poll, at_poll}
+use Rattle.quic_machine.specs.Control.{Gated}
 use Rattle.quic_headline.specs.Runs.{Told}
 use Rattle.quic_headline.specs.Observer.{Sent}
 use Rattle.quic_headline.specs.Messages as messages
@@ -30,6 +32,7 @@ use Rattle.quic_headline.proofs.Places.Steps.{poll_answer}
 use Rattle.quic_headline.proofs.Places.Parties.{sent_by, sent_if, sents_by, told_of}
 use Rattle.quic_headline.proofs.Messages.Counted.{often, often_none, often_append, often_more, sent_more, received_leaves, messages_in, often_last, often_padded, gone, gone_append}
 use Rattle.quic_headline.proofs.Messages.Kept.{frame_messages, call_messages}
+use Rattle.quic_headline.proofs.Packets.Probes.{MayLeave, may_leave}
 
 -- ---- what a poll gives
 
@@ -60,15 +63,15 @@ module _ (m : List ℕ) (e : End) where
       omega arith
 
 -- whichever frames go, a message goes or waits still as often as it waited
-drafted : (m : List ℕ) (e : End) → often m (messages_in (composed e).frames) + often m (composed e).end.messages.queues.outgoing ≡ often m e.messages.queues.outgoing
-drafted m e = by_writing (Same m e) (record {
+drafted : (m : List ℕ) (held : Bool) (e : End) → MayLeave held e → often m (messages_in (draft_if held e).frames) + often m (draft_if held e).end.messages.queues.outgoing ≡ often m e.messages.queues.outgoing
+drafted m held e alone = by_leave (Same m e) (record {
   ack = λ d filled may i. plain_goes m e d (ack (ack_of d.end)) refl i;
   ping = λ d i. plain_goes m e d ping refl i;
   drops = λ d kind i. i;
   control = λ d kind entry es f is goes i. plain_goes m e d f (control_none f (entry_control kind d.end.waiting.frames entry es d.end.streams f is goes)) i;
   message = λ d x xs is fit i. message_goes m e d x xs is i;
   stream = λ d id h room found first some is counts i. plain_goes m e d (stream (frame_of id h room)) refl i;
-}) e (let none = often_none m in omega arith)
+}) held e alone (let none = often_none m in omega arith)
 
 -- what comes leaves the messages that wait to go
 delivery_leaves : (p : Policy) (e : End) (now : ℕ) (o : Option (List ℕ)) → (after_delivered p e now o).messages.queues.outgoing ≡ e.messages.queues.outgoing
@@ -108,17 +111,18 @@ module _ (m : List ℕ) where
   polled_goes : (p : Policy) (e : End) (now : ℕ)
       → often m (gone (sent_if (gave (answers.Poll (polled p e now).answer)) (sent_by e now))) + often m (polled p e now).end.messages.queues.outgoing ≤ often m e.messages.queues.outgoing
   polled_goes p e now = by_poll p e now (λ (q : Polled). often m (gone (sent_if (gave (answers.Poll q.answer)) (sent_by e now))) + often m q.end.messages.queues.outgoing ≤ often m e.messages.queues.outgoing)
-      (record { silent = nothing; failed = nothing; idle = λ t w ready. nothing; used_up = λ t w ready. nothing; gives = λ t w tracking timers is may some ready. one t w ready })
+      (record { silent = nothing; failed = nothing; nothing = λ t w moment pacing limited. nothing; used_up = λ t w moment pacing. nothing; gives = λ held t w moment pacing paid tracking timers is may. one held t w moment pacing })
     where
       nothing : often m [] + often m e.messages.queues.outgoing ≤ often m e.messages.queues.outgoing
       nothing = let none = often_none m in omega arith
 
-      one : (t : Tracking) (w : Waiting) → ready_at e now ≡ at_moment e now t w
-          → often m (messages_in (frames_at e now) ++ []) + often m (composed (lazied (at_moment e now t w))).end.messages.queues.outgoing ≤ often m e.messages.queues.outgoing
-      one t w ready =
-          let d : Draft = composed (lazied (at_moment e now t w)) in
+      one : (held : Bool) (t : Tracking) (w : Waiting) (moment : Option ℕ) (pacing : Pacing) → ready_at e now ≡ record { held = held; end = at_poll e now t w moment pacing e.path.app_limited } → goes (ready_at e now) ≡ true
+          → often m (messages_in (frames_at e now) ++ []) + often m (draft_if held (lazied (at_poll e now t w moment pacing e.path.app_limited))).end.messages.queues.outgoing ≤ often m e.messages.queues.outgoing
+      one held t w moment pacing ready some =
+          let x : End = at_poll e now t w moment pacing e.path.app_limited in
+          let d : Draft = draft_if held (lazied x) in
           let count : ℕ = 4 - ((truncated (number_of d.end) (cut_against d.end.numbers)).width + length d.bytes) in
-          given_goes d.frames (frames_at e now) count d.end.messages.queues.outgoing e.messages.queues.outgoing (ap (λ (x : End). frames_padded (composed (lazied x))) ready) (drafted m (lazied (at_moment e now t w)))
+          given_goes d.frames (frames_at e now) count d.end.messages.queues.outgoing e.messages.queues.outgoing (ap (λ (g : Gated). frames_padded (draft_of g)) ready) (drafted m held (lazied x) (may_leave e now held x ready some))
 
   -- what a call gives and what waits behind it waited before, or is sent by it
   goes_call : (p : Policy) (e : End) (theirs : List (List ℕ)) (call : Call) (a : Answer) → IsAnswer p e theirs call a → fails a ≡ false

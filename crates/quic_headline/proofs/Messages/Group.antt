@@ -27,4 +27,5 @@ messages_group = record {
     goes = record { most = back.goes.most };
     comes = comes_step x y call a c.joined c.served (meets y x c.takes) c.answer back.comes;
   };
+  shows = λ x y here there b back i j. record { goes = record { most = i.goes.most }; comes = record { most = i.comes.most } };
 }

@@ -12,18 +12,19 @@ use Rattle.quic_machine.specs.Ids.{known}
 use Rattle.quic_machine.specs.End.{End}
 use Rattle.quic_machine.specs.Opens.{own_id_length}
 use Rattle.quic_machine.specs.Receive.{asks_in, received}
-use Rattle.quic_machine.specs.Poll.{Draft, composed, lazied, Polled, polled}
+use Rattle.quic_machine.specs.Poll.{Draft, lazied, Polled, polled, draft_if}
 use Rattle.quic_machine.specs.Machine.{after_call}
 use Rattle.quic_headline.specs.Runs.{Packet, Intake}
 use Rattle.quic_machine.specs.Start.{IsLawful}
-use Rattle.quic_machine.specs.DraftLaws.{by_writing}
+use Rattle.quic_machine.specs.DraftLaws.{by_leave}
 use Rattle.quic_headline.proofs.Packets.Invariant.{IsGiven, KnowsIn, AreTaken, Acks}
 use Rattle.quic_machine.specs.FrameCases.{begun}
 use Rattle.quic_headline.proofs.Packets.Delivered.{Arrivals, arrived, by_arrival}
 use Rattle.quic_headline.proofs.Packets.Stays.{Keeps, keeps_frames}
+use Rattle.quic_headline.proofs.Packets.Probes.{MayLeave, may_leave}
 use Rattle.quic_machine.specs.LeaveCases.{by_expired}
 use Rattle.quic_machine.specs.CallCases.{is_delivery, by_plain_call}
-use Rattle.quic_machine.specs.PollCases.{at_moment, by_poll}
+use Rattle.quic_machine.specs.PollCases.{by_poll, at_poll}
 
 -- nothing came yet
 pub acks_first : Acks none_pending
@@ -101,17 +102,19 @@ taken_arrivals e now n frames i acks before = record {
 -- ---- a poll
 
 -- whichever frames go, the numbers stay: an ACK that names them may be lost
-composed_runs : (e : End) → (composed e).end.acknowledging.runs ≡ e.acknowledging.runs
-composed_runs e = by_writing (λ (d : Draft). d.end.acknowledging.runs ≡ e.acknowledging.runs) (record { ack = λ d filled may same. same; ping = λ d same. same; drops = λ d kind same. same; control = λ d kind entry es f is due same. same; message = λ d m ms is fit same. same; stream = λ d id h room found first some is counts same. same }) e refl
+draft_runs : (held : Bool) (e : End) → MayLeave held e → (draft_if held e).end.acknowledging.runs ≡ e.acknowledging.runs
+draft_runs held e alone = by_leave (λ (d : Draft). d.end.acknowledging.runs ≡ e.acknowledging.runs) (record { ack = λ d filled may same. same; ping = λ d same. same; drops = λ d kind same. same; control = λ d kind entry es f is due same. same; message = λ d m ms is fit same. same; stream = λ d id h room found first some is counts same. same }) held e alone refl
 
 -- a poll leaves the numbers to acknowledge
 polled_runs : (p : Policy) (e : End) (now : ℕ) → (polled p e now).end.acknowledging.runs ≡ e.acknowledging.runs
 polled_runs p e now = by_poll p e now (λ (q : Polled). q.end.acknowledging.runs ≡ e.acknowledging.runs) (record {
   silent = refl;
   failed = refl;
-  idle = λ t w ready. refl;
-  used_up = λ t w ready. refl;
-  gives = λ t w tracking timers is may some ready. composed_runs (lazied (at_moment e now t w));
+  nothing = λ t w moment pacing limited. refl;
+  used_up = λ t w moment pacing. refl;
+  gives = λ held t w moment pacing paid tracking timers is may ready some.
+      let x : End = at_poll e now t w moment pacing e.path.app_limited in
+      draft_runs held (lazied x) (may_leave e now held x ready some);
 })
 
 -- ---- any call
@@ -124,7 +127,7 @@ runs_step q e theirs call a other = by_plain_call q e theirs (λ (f : End). f.ac
   on_messages = λ m. refl;
   pings = refl;
   heard = λ path same. refl;
-  times = λ now acks loss is. by_expired e now (λ (f : End). f.acknowledging.runs ≡ e.acknowledging.runs) (λ pending tracking timers runs packets. runs) (λ pending timers runs. runs) acks loss;
+  times = λ now acks loss pacing is. by_expired e now (λ (f : End). f.acknowledging.runs ≡ e.acknowledging.runs) (λ pending tracking timers runs packets. runs) (λ pending timers runs. runs) acks loss pacing;
   polls = λ now is. polled_runs q e now;
   hears = λ now d is. cc;
   tells = λ told. refl;

@@ -13,17 +13,19 @@ use Rattle.quic_machine.specs.Tracking.{Tracking, TrackedPacket, without_packet,
 use Rattle.quic_machine.specs.End.{End, with_closing, number_of}
 use Rattle.quic_machine.specs.Acked.{verdict, losses_detected, measured, sampled, without_acked, after_named}
 use Rattle.quic_machine.specs.Receive.{received}
-use Rattle.quic_machine.specs.Poll.{Polled, Draft, composed, packet_of, tracked, lazied, polled}
-use Rattle.quic_machine.specs.PollCases.{ready_at, by_poll_to, composes}
+use Rattle.quic_machine.specs.Poll.{Polled, Draft, packet_of, tracked, lazied, polled, goes}
+use Rattle.quic_machine.specs.PollCases.{ready_at, by_poll_to, composes, draft_at}
 use Rattle.quic_machine.specs.LeaveCases.{by_expired}
 use Rattle.quic_machine.specs.FrameCases.{named, frame_keeps, frame_leaves, by_received}
 use Rattle.quic_machine.specs.CallCases.{by_plain_call}
 use Rattle.quic_machine.specs.Machine.{after_call}
 use Rattle.quic_machine.specs.declared.run.Call.{Call}
 use Rattle.quic_machine.specs.declared.run.Answer.{Answer}
+use Rattle.quic_machine.specs.Control.{Gated}
+use Rattle.quic_machine.specs.DraftLaws.{due_alone}
 use Rattle.quic_headline.specs.Runs.{In}
 use Rattle.quic_headline.proofs.Packets.Named.{sampled_tracking}
-use Rattle.quic_headline.proofs.Packets.Probes.{by_ready}
+use Rattle.quic_headline.proofs.Packets.Probes.{by_ready, by_going}
 use Rattle.quic_headline.proofs.Packets.TrackedSteps.{asking_packets}
 
 -- ---- tables
@@ -145,8 +147,8 @@ ascends_received = by_received Ascends (record {
 })
 
 -- an end that is ready to give
-pub ascends_ready : (e : End) (now : ℕ) → Ascends e → Ascends (ready_at e now)
-ascends_ready e now a = by_ready Ascends e now a a (λ p i. ascends_put 0 e.tracking.packets p.0 (without_record p.1) a)
+pub ascends_ready : (e : End) (now : ℕ) → Ascends e → Ascends (ready_at e now).end
+ascends_ready e now a = by_ready Ascends e now a a (λ p i. ascends_put 0 e.tracking.packets p.0 (without_record p.1) a) (λ moment pacing x b. b)
 
 -- one more is sent, before which the oldest may be forgotten
 ascends_sent : (t : Tracking) (n : ℕ) (p : TrackedPacket) → Ascending 0 t.packets → Ascending 0 (after_sent t n p).packets
@@ -163,19 +165,22 @@ ascends_polled : (p : Policy) (e : End) (now : ℕ) → Ascends e → Ascends (p
 ascends_polled p e now a = by_poll_to p e now (λ (q : Polled). Ascends q.end) (record {
   silent = a;
   failed = a;
-  idle = ready;
+  nothing = λ is none. ready;
   used_up = ready;
-  gives = λ is may some. gives;
+  gives = λ is may some. by_going Ascends p d (λ pacing. gives some);
 })
   where
-    ready : Ascends (ready_at e now)
+    g : Gated
+    g = ready_at e now
+
+    ready : Ascends g.end
     ready = ascends_ready e now a
 
     d : Draft
-    d = composed (lazied (ready_at e now))
+    d = draft_at e now
 
-    gives : Ascends (tracked d)
-    gives = ascends_sent d.end.tracking (number_of d.end) (packet_of d) (subst (λ (t : Tracking). Ascending 0 t.packets) (sym (composes (lazied (ready_at e now))).tracking) ready)
+    gives : goes g ≡ true → Ascends (tracked d)
+    gives some = ascends_sent d.end.tracking (number_of d.end) (packet_of d) (subst (λ (t : Tracking). Ascending 0 t.packets) (sym (composes g.held (lazied g.end) (due_alone g some)).tracking) ready)
 
 -- any call
 pub ascends_call : (p : Policy) (e : End) (theirs : List (List ℕ)) (call : Call) (answer : Answer) → Ascends e → Ascends (after_call p e theirs call answer)
@@ -185,7 +190,7 @@ ascends_call p e theirs call answer a = by_plain_call p e theirs Ascends call an
   on_messages = λ m. a;
   pings = a;
   heard = λ path same. a;
-  times = λ now acks loss is. by_expired e now Ascends (λ pending tracking timers runs packets. subst (λ (ps : Table TrackedPacket). Ascending 0 ps) (sym packets) a) (λ pending timers runs. ascends_losses (with_closing e (ticked e.closing now)) a) acks loss;
+  times = λ now acks loss pacing is. by_expired e now Ascends (λ pending tracking timers runs packets. subst (λ (ps : Table TrackedPacket). Ascending 0 ps) (sym packets) a) (λ pending timers runs. ascends_losses (with_closing e (ticked e.closing now)) a) acks loss pacing;
   polls = λ now is. ascends_polled p e now a;
   hears = λ now d is. ascends_received p e now d a;
   tells = λ told. a;

@@ -24,10 +24,12 @@ use Rattle.quic_streams_state.specs.Frames.{after_frame_sent}
 use Rattle.quic_spaces.specs.Acknowledging.{written_delay, delay_at}
 use Rattle.quic_spaces.specs.Numbers.{cut_against}
 use Rattle.quic_machine.specs.End.{End, number_of, streams_at, with_ping}
-use Rattle.quic_machine.specs.Poll.{Draft, no_frames, with_frame, frame_room, fits, left, ping_if, with_ping_frame, with_control_frames, with_message, with_message_frames, with_asking, ack_of, with_ack, ack_fits, ack_if, composed_if, composed, payload_of, lazied, asks_to_go, waits}
+use Rattle.quic_machine.specs.Poll.{Draft, no_frames, with_frame, frame_room, fits, left, ping_if, with_ping_frame, with_control_frames, with_message, with_message_frames, with_asking, ack_of, with_ack, ack_fits, ack_if, composed_if, payload_of, lazied, asks_to_go, waits, draft_if, draft_of}
+use Rattle.quic_machine.specs.Control.{Gated}
 use Rattle.quic_machine.specs.PollCases.{frames_padded}
 use Rattle.quic_machine.specs.DraftLaws.{SendsHalf, stream_room, with_entry, with_half_frame, by_entries, by_messages, by_streams}
 use Rattle.quic_headline.proofs.Packets.Invariant.{Acks}
+use Rattle.quic_headline.proofs.Packets.Probes.{MayLeave}
 
 -- ---- what is known of streams
 
@@ -40,10 +42,10 @@ pub record Spelling (K : Streams → Type 0) : Type 0 where
   -- the frame of a half goes
   pub stream : (fair : Bool) (t : Streams) (id : ℕ) (h : SendHalf) (room : ℕ) → at t.state.sending.halves.live id ≡ Some h → frame_counts h room ≡ true → K t → (id < 2 ^ 62) × HasFrame h room × K (streams_of (after_frame_sent fair t.state id h room) t.pending)
 
--- what an end composes next has a form, and has a frame where something waits
-pub record IsSpellable (e : End) : Type 0 where
-  pub spells : Payload (frames_padded (composed e)) (payload_of (composed e))
-  pub some : waits e ≡ true → 0 < length (composed e).frames
+-- what goes of an end that is ready has a form, and a frame
+pub record IsSpellable (g : Gated) : Type 0 where
+  pub spells : Payload (frames_padded (draft_of g)) (payload_of (draft_of g))
+  pub some : 0 < length (draft_of g).frames
 
 -- what waits waits still where an acknowledgement becomes due
 pub waits_lazied : (e : End) → waits e ≡ true → waits (lazied e) ≡ true
@@ -142,7 +144,7 @@ delay_small nanos =
     omega arith
 
 -- what there is to acknowledge has an ACK frame
-ack_form : (e : End) → Acks e.acknowledging → is_filled e.acknowledging.runs ≡ true → AckFits (ack_of e)
+pub ack_form : (e : End) → Acks e.acknowledging → is_filled e.acknowledging.runs ≡ true → AckFits (ack_of e)
 ack_form e acks filled = set_fits (delay_at e.acknowledging e.closing.clock) e.acknowledging.runs None acks.runs.runs some acks.small (delay_small (delay_of e.acknowledging.newest e.closing.clock)) tt
   where
     some : e.acknowledging.runs ≡ [] → ⊥
@@ -290,17 +292,22 @@ module _ (K : Streams → Type 0) (k : Spelling K) where
       go (inr f) = let room = (ack_room d is).1 in let full = f.full in absurd (omega arith)
   late_stands d g false is = g.stands
 
-  -- whether or not an ACK is due, what is composed spells the payload
-  pub composed_spells : (e : End) → Acks e.acknowledging → K (streams_at e) → Payload (frames_padded (composed e)) (payload_of (composed e))
-  composed_spells e acks streams = fills (composed e) (go (can_send e.acknowledging) refl)
+  -- whether or not an ACK is due, and where a due one goes alone, what goes spells the payload
+  pub draft_spells : (held : Bool) (e : End) → MayLeave held e → Acks e.acknowledging → K (streams_at e) → Payload (frames_padded (draft_if held e)) (payload_of (draft_if held e))
+  draft_spells held e may acks streams = fills (draft_if held e) (go held may)
     where
       first : Goes Behind (no_frames e)
       first = record { streams = streams; acks = acks; stands = λ fs rest spells. spells }
 
-      go : (b : Bool) → can_send e.acknowledging ≡ b → Stands (composed_if b e)
-      go true due =
-          let filled = (and_parts e.acknowledging.due (is_filled e.acknowledging.runs) due).1 in
-          (asking_goes (with_ack (no_frames e)) (ack_goes (no_frames e) filled first)).stands
-      go false due =
+      acked : can_send e.acknowledging ≡ true → Goes Behind (with_ack (no_frames e))
+      acked due = ack_goes (no_frames e) (and_parts e.acknowledging.due (is_filled e.acknowledging.runs) due).1 first
+
+      composes : (b : Bool) → can_send e.acknowledging ≡ b → Stands (composed_if b e)
+      composes true due = (asking_goes (with_ack (no_frames e)) (acked due)).stands
+      composes false due =
           let asked = asking_goes (no_frames e) first in
           late_stands (with_asking (no_frames e)) asked (ack_fits (with_asking (no_frames e))) refl
+
+      go : (b : Bool) → MayLeave b e → Stands (draft_if b e)
+      go true due = inl (acked (due refl)).stands
+      go false due = composes (can_send e.acknowledging) refl

@@ -22,7 +22,7 @@ use Rattle.quic_machine.specs.Tracking.{Tracking, TrackedPacket, carried_in, wit
 use Rattle.quic_machine.specs.End.{End, number_of, with_messages, with_tracking, with_rtt, probe_timeout}
 use Rattle.quic_machine.specs.Acked.{without_known, packet_acked, packets_acked, packets_lost, verdict, losses_detected, told_delay, measured, sampled, without_acked, after_named}
 use Rattle.quic_machine.specs.Receive.{is_above, names_ungiven, take_frame}
-use Rattle.quic_machine.specs.Poll.{Draft, composed, asking, datagram_size, packet_of, after_given}
+use Rattle.quic_machine.specs.Poll.{Draft, asking, datagram_size, packet_of, after_given, draft_if}
 use Rattle.quic_machine.specs.Timeouts.{loss_judged, loss_expired}
 use Rattle.quic_machine.specs.FrameCases.{OnStreams, named, ack_taken, passed, streams_acked_keep, resets_acked_keep, packets_lost_keep, frame_leaves, frames_taken}
 use Rattle.quic_machine.specs.PollCases.{ready_at, frames_padded, Composes, composes}
@@ -31,8 +31,8 @@ use Rattle.quic_headline.specs.Observer.{Sent, Terms, terms_of, asks_of, Flight,
 use Rattle.quic_headline.proofs.Packets.Invariant.{IsGiven}
 use Rattle.quic_headline.proofs.Packets.Carried.{carried_padded}
 use Rattle.quic_headline.proofs.Packets.Named.{in_filter, IsNoAck, by_frame}
-use Rattle.quic_headline.proofs.Packets.Probes.{by_ready}
-use Rattle.quic_headline.proofs.Packets.Given.{composed_number}
+use Rattle.quic_headline.proofs.Packets.Probes.{by_ready, MayLeave, after_going, by_going}
+use Rattle.quic_headline.proofs.Packets.Given.{draft_number}
 use Rattle.quic_headline.proofs.Packets.Delivered.{shown_if, expands, opened_given, frames_of_payload}
 use Rattle.quic_headline.proofs.Packets.Numbered.{Lies, lies_remove, one_key, added_last, is_at_same}
 use Rattle.quic_headline.proofs.Packets.Waited.{IsWaited, AreWaited, waited_filter, waited_length, waited_asks, waited_put, waited_push, waited_oldest, IsFound, waited_found, waited_staying, waited_lost, waited_late}
@@ -40,18 +40,20 @@ use Rattle.quic_headline.proofs.Timers.LossTimers.{OpenStands}
 
 -- ---- what an end waits for
 
--- the parts of an end that its observer knows of: numbers, clock, how it judges losses, what the peer told, the path, and what is tracked
+-- the parts of an end that its observer knows of: numbers, clock, how it judges losses, what the peer told, of the path its place and how long a round trip takes,
+-- and what is tracked
 pub record Held : Type 0 where
   pub numbers : Numbers
   pub closing : Closing
   pub transport : TransportSettings
   pub peer : ParameterValues
-  pub path : Path
+  pub generation : ℕ
+  pub rtt : Rtt
   pub tracking : Tracking
 
 -- those of an end
 abbrev pub held : End → Held
-held e = record { numbers = e.numbers; closing = e.closing; transport = e.transport; peer = e.peer_params; path = e.path; tracking = e.tracking }
+held e = record { numbers = e.numbers; closing = e.closing; transport = e.transport; peer = e.peer_params; generation = e.path.generation; rtt = e.path.rtt; tracking = e.tracking }
 
 -- by what it judges losses
 abbrev pub terms_in : Held → Terms
@@ -70,7 +72,7 @@ pub record Tells (t : Terms) (now : ℕ) (f : Flight) (h : Held) : Type 0 where
   pub named : f.named ≡ h.numbers.largest_acked
   pub waits : AreWaited f.flying h.tracking.packets
   pub asked : IsAsked f.asked h.tracking
-  pub rtt : f.rtt ≡ h.path.rtt
+  pub rtt : f.rtt ≡ h.rtt
 
 -- An end waits for what is in flight: and when the next may be lost by time, and how often the timer of losses expired, as far as that doubles the wait.
 pub record Waits (t : Terms) (now : ℕ) (f : Flight) (h : Held) : Type 0 where
@@ -245,7 +247,7 @@ pub record Flies (frames : List FrameValue) (P : List Sent → List Sent → End
   -- of the datagrams in flight these are acknowledged, which are tracked as these packets, and others stay
   pub acks : (flying acked ss left : List Sent) (ps : Table TrackedPacket) (e : End) → ((s : Sent) → In s ss → In s flying) → ((s : Sent) → In s left → In s flying) → AreWaited ss ps → P flying acked e → P left (acked ++ ss) (packets_acked ps e)
   -- the round trip is measured
-  pub measured : (flying acked : List Sent) (r : Rtt) (e : End) → P flying acked e → P flying acked (with_rtt e r)
+  pub measured : (flying acked : List Sent) (r : Rtt) (first : Option ℕ) (e : End) → P flying acked e → P flying acked (with_rtt e r first)
   pub on_streams : (flying acked : List Sent) (f : FrameValue) (e : End) → In f frames → OnStreams f → P flying acked e → P flying acked (take_frame f e).end
   pub message : (flying acked : List Sent) (m : Messaging) (e : End) → P flying acked e → P flying acked (with_messages e m)
 
@@ -278,7 +280,7 @@ module _ (t : Terms) (now : ℕ) (frames : List FrameValue) (P : List Sent → L
   -- a round trip is measured, or none is
   sampled_flies : (flying acked : List Sent) (o : Option TrackedPacket) (a : AckValue) (e : End) → P flying acked e → P flying acked (sampled o a e)
   sampled_flies flying acked None a e i = i
-  sampled_flies flying acked (Some p) a e i = c.measured flying acked (with_sample e.path.rtt (told_delay e a) (e.closing.clock - p.time_sent)) e i
+  sampled_flies flying acked (Some p) a e i = c.measured flying acked (sampled (Some p) a e).path.rtt (sampled (Some p) a e).path.first_after_rtt e i
 
   -- an ACK frame that names these
   named_flies : (ss others : List Sent) (ps : Table TrackedPacket) (rises : Bool) (x : Flight) (a : AckValue) (e : End) → rises ≡ is_greatest x.named a.largest → ((s : Sent) → In s ss → In s x.flying) → ((s : Sent) → In s others → In s x.flying)
@@ -360,7 +362,7 @@ frames_wait t now frames x e none w = (frames_fly t now frames (λ flying acked 
   losing = record { tracked = λ flying acked u g i. tt; loses = λ flying acked gone left ps g inside stays lost i. tt };
   names = λ flying acked a g among i. tt;
   acks = λ flying acked ss left ps g inside stays all i. tt;
-  measured = λ flying acked r g i. tt;
+  measured = λ flying acked r first g i. tt;
   on_streams = λ flying acked f g among on i. tt;
   message = λ flying acked m g i. tt;
 }) x e none (record { waits = w; holds = tt })).waits
@@ -486,20 +488,21 @@ given_waits t now tr n next p s f h is lies above w numbers same tracks =
     }
 
 -- what an end gives is in flight, and waited for
-pub draft_waits : (p : Policy) (t : Terms) (now : ℕ) (e : End) (s : Sent) (f : Flight) → e.path.generation ≡ 0 → s.number ≡ number_of e → s.moment ≡ e.closing.clock → s.frames ≡ frames_padded (composed e) → s.size ≡ datagram_size (composed e)
-    → Lies 0 e.numbers.next e.tracking.packets → e.numbers.next ≤ number_of e → Waits t now f (held e) → Waits t now (and_sent s f) (held (after_given p (composed e)))
-draft_waits p t now e s f path number moment frames size lies above w =
-    given_waits t now (after_given p d).tracking (number_of d.end) e.numbers.next (packet_of d) s f (held d.end) is (subst (λ (x : Tracking). Lies 0 e.numbers.next x.packets) (sym c.tracking) lies) (subst (λ (n : ℕ). e.numbers.next ≤ n) (sym given) above)
-    (subst (λ (h : Held). Waits t now f h) same w) (after_given p d).numbers refl refl
+pub draft_waits : (p : Policy) (t : Terms) (now : ℕ) (b : Bool) (e : End) (s : Sent) (f : Flight) → MayLeave b e → e.path.generation ≡ 0 → s.number ≡ number_of e → s.moment ≡ e.closing.clock → s.frames ≡ frames_padded (draft_if b e) → s.size ≡ datagram_size (draft_if b e)
+    → Lies 0 e.numbers.next e.tracking.packets → e.numbers.next ≤ number_of e → Waits t now f (held e) → Waits t now (and_sent s f) (held (after_given p (draft_if b e)))
+draft_waits p t now b e s f may path number moment frames size lies above w = by_going (λ (x : End). Waits t now (and_sent s f) (held x)) p d (λ pacing.
+    let x : End = after_going p d pacing in
+    given_waits t now x.tracking (number_of d.end) e.numbers.next (packet_of d) s f (held d.end) is (subst (λ (x : Tracking). Lies 0 e.numbers.next x.packets) (sym c.tracking) lies) (subst (λ (n : ℕ). e.numbers.next ≤ n) (sym given) above)
+    (subst (λ (h : Held). Waits t now f h) same w) x.numbers refl refl)
   where
     d : Draft
-    d = composed e
+    d = draft_if b e
 
     c : Composes e d.end
-    c = composes e
+    c = composes b e may
 
     given : number_of d.end ≡ number_of e
-    given = composed_number e
+    given = draft_number b e may
 
     same : held e ≡ held d.end
     same = rw (c.numbers, c.closing, c.transport, c.peer, c.path, c.tracking) refl
@@ -534,7 +537,7 @@ numbers_wait t now f h numbers same w = record {
 }
 
 -- an end that is ready waits as before: a probe may take the record of a packet
-pub ready_waits : (t : Terms) (before now : ℕ) (f : Flight) (e : End) → Lies 0 e.numbers.next e.tracking.packets → Waits t before f (held e) → Waits t (max before now) f (held (ready_at e now))
+pub ready_waits : (t : Terms) (before now : ℕ) (f : Flight) (e : End) → Lies 0 e.numbers.next e.tracking.packets → Waits t before f (held e) → Waits t (max before now) f (held (ready_at e now).end)
 ready_waits t before now f e lies i = by_ready (λ (x : End). Waits t (max before now) f (held x)) e now w w (λ p among. record {
   tells = record {
     terms = w.tells.terms;
@@ -546,7 +549,7 @@ ready_waits t before now f e lies i = by_ready (λ (x : End). Waits t (max befor
   };
   loss_time = w.loss_time;
   expiries = w.expiries;
-})
+}) (λ moment pacing x j. j)
   where
     w : Waits t (max before now) f (record (held e) { closing = ticked e.closing now })
     w = ticked_waits t before now f (held e) i

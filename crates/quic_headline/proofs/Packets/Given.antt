@@ -6,7 +6,6 @@ use Rattle.std.proofs.lemmas.List.{append-nil, length-append, length-replicate}
 use Rattle.quic_packet.specs.Number.{truncated}
 use Rattle.quic_packet.specs.Datagram.{sent}
 use Rattle.quic_wire.specs.Value.{FrameValue, padding}
-use Rattle.quic_machine.specs.declared.answers.State.TheVariants as states
 use Rattle.quic_machine.specs.declared.run.Call.{Call}
 use Rattle.quic_machine.specs.declared.run.Call.TheVariants as calls
 use Rattle.quic_machine.specs.declared.run.Answer.{Answer}
@@ -19,16 +18,20 @@ use Rattle.quic_machine.specs.Tracking.{Tracking}
 use Rattle.quic_machine.specs.Policy.{Policy}
 use Rattle.quic_machine.specs.End.{End, number_of}
 use Rattle.quic_headline.specs.Runs.{In}
-use Rattle.quic_machine.specs.Poll.{Polled, Draft, padded, composed, payload_of, datagram_of, lazied, waits, polled}
+use Rattle.quic_congestion.specs.Pacer.{Pacing}
+use Rattle.quic_machine.specs.Control.{Gated}
+use Rattle.quic_machine.specs.DraftLaws.{due_alone}
+use Rattle.quic_machine.specs.Poll.{Polled, Draft, padded, payload_of, datagram_of, lazied, goes, draft_if, draft_of, polled}
 use Rattle.quic_machine.specs.Machine.{IsAnswer, after_call, gives, fails, gave}
 use Rattle.quic_machine.specs.CallCases.{is_poll}
-use Rattle.quic_machine.specs.PollCases.{at_moment, ready_at, frames_padded, frames_at, given_as, gives_as, by_poll, composes}
+use Rattle.quic_machine.specs.PollCases.{at_poll, ready_at, frames_padded, frames_at, given_as, gives_as, by_poll, composes}
 use Rattle.quic_headline.specs.Observer.{Sent}
 use Rattle.quic_headline.proofs.Packets.Invariant.{IsGiven, IsSent, IsBehind, IsLeftOut, Gives}
 use Rattle.quic_headline.proofs.Packets.Growth.{in_more, step_push}
 use Rattle.quic_headline.proofs.Packets.Rising.{rising_push, next_push}
 use Rattle.quic_headline.proofs.Packets.Stays.{stays_call}
-use Rattle.quic_headline.proofs.Packets.Composed.{IsSpellable, waits_lazied}
+use Rattle.quic_headline.proofs.Packets.Composed.{IsSpellable}
+use Rattle.quic_headline.proofs.Packets.Probes.{MayLeave}
 use Rattle.quic_headline.proofs.Places.Parties.{sent_by, sent_if, sents_by}
 use Rattle.quic_headline.proofs.Places.Steps.{poll_answer}
 
@@ -42,11 +45,11 @@ allocated_near f next = go (is_skipped f next)
     go true = (omega arith, omega arith)
     go false = (omega arith, omega arith)
 
--- what is composed goes under the number that is next
-pub composed_number : (e : End) → number_of (composed e).end ≡ number_of e
-composed_number e =
-    let c = composes e in
-    ap (λ (f : Filter). allocated f (composed e).end.numbers.next) c.filter ∙ ap (λ (x : Numbers). allocated e.filter x.next) c.numbers
+-- what goes does so under the number that is next
+pub draft_number : (held : Bool) (e : End) → MayLeave held e → number_of (draft_if held e).end ≡ number_of e
+draft_number held e may =
+    let c = composes held e may in
+    ap (λ (f : Filter). allocated f (draft_if held e).end.numbers.next) c.filter ∙ ap (λ (x : Numbers). allocated e.filter x.next) c.numbers
 
 -- number and payload have four bytes at least
 padded_four : (width : ℕ) (spelled : List ℕ) → 4 ≤ width + length (padded width spelled)
@@ -64,12 +67,14 @@ number_small f numbers may =
     let one = allocated_near f numbers.next in
     (omega arith, omega arith)
 
--- what waits goes in a datagram of its number
-pub datagram_given : (p : Policy) (e : End) → can_number e.numbers ≡ true → waits e ≡ true → IsSpellable e → IsGiven p e.ids.active.id (number_of e) (cut_against e.numbers) (frames_padded (composed e)) (datagram_of p (composed e))
-datagram_given p e may waiting spellable =
-    let c = composes e in
-    let d : Draft = composed e in
-    let some = spellable.some waiting in
+-- what goes of an end that is ready does so in a datagram of its number
+pub datagram_given : (p : Policy) (g : Gated) → can_number g.end.numbers ≡ true → goes g ≡ true → IsSpellable g → IsGiven p g.end.ids.active.id (number_of g.end) (cut_against g.end.numbers) (frames_padded (draft_of g)) (datagram_of p (draft_of g))
+datagram_given p g may waiting spellable =
+    let e : End = lazied g.end in
+    let alone : MayLeave g.held e = due_alone g waiting in
+    let c = composes g.held e alone in
+    let d : Draft = draft_of g in
+    let some = spellable.some in
     let reference : cut_against d.end.numbers ≡ cut_against e.numbers = ap (λ (x : Numbers). cut_against x) c.numbers in
     let count : ℕ = 4 - ((truncated (number_of d.end) (cut_against d.end.numbers)).width + length d.bytes) in
     let long = length-append d.frames (replicate count padding) in
@@ -79,11 +84,11 @@ datagram_given p e may waiting spellable =
       payload = payload_of d;
       spells = spellable.spells;
       some = omega arith;
-      four = subst (λ (n : ℕ). 4 ≤ (truncated n (cut_against e.numbers)).width + length (payload_of d)) (composed_number e)
+      four = subst (λ (n : ℕ). 4 ≤ (truncated n (cut_against e.numbers)).width + length (payload_of d)) (draft_number g.held e alone)
           (subst (λ (r : ℕ). 4 ≤ (truncated (number_of d.end) r).width + length (payload_of d)) reference four);
       near = small.1;
       small = small.0;
-      is = ap (λ (n : ℕ). sent p.header p.packet n (cut_against d.end.numbers) d.end.ids.active.id (payload_of d)) (composed_number e)
+      is = ap (λ (n : ℕ). sent p.header p.packet n (cut_against d.end.numbers) d.end.ids.active.id (payload_of d)) (draft_number g.held e alone)
           ∙ ap (λ (r : ℕ). sent p.header p.packet (number_of e) r d.end.ids.active.id (payload_of d)) reference
           ∙ ap (λ (x : Ids). sent p.header p.packet (number_of e) (cut_against e.numbers) x.active.id (payload_of d)) c.ids;
     }
@@ -156,32 +161,34 @@ gives_more p id f word numbers sents given s d number is g =
     }
 
 -- a poll gives one or none
-polled_gives : (p : Policy) (e : End) (now : ℕ) (id : List ℕ) (sents : List Sent) (given : List (List ℕ)) → e.ids.active.id ≡ id → IsSpellable (lazied (ready_at e now)) → Gives p id e.numbers e.filter.last sents given
+polled_gives : (p : Policy) (e : End) (now : ℕ) (id : List ℕ) (sents : List Sent) (given : List (List ℕ)) → e.ids.active.id ≡ id → (goes (ready_at e now) ≡ true → IsSpellable (ready_at e now)) → Gives p id e.numbers e.filter.last sents given
     → Gives p id (polled p e now).end.numbers (polled p e now).end.filter.last (sents ++ sent_if (gave (answers.Poll (polled p e now).answer)) (sent_by e now)) (given ++ given_as (polled p e now).answer (polled p e now).datagram)
-polled_gives p e now id sents given active spellable g =
+polled_gives p e now id sents given active spellable before =
     by_poll p e now (λ (q : Polled). Gives p id q.end.numbers q.end.filter.last (sents ++ sent_if (gave (answers.Poll q.answer)) (sent_by e now)) (given ++ given_as q.answer q.datagram))
-    (record { silent = nothing; failed = nothing; idle = λ t w ready. nothing; used_up = λ t w ready. nothing; gives = λ t w tracking timers. one t w })
+    (record { silent = nothing; failed = nothing; nothing = λ t w moment pacing limited. nothing; used_up = λ t w moment pacing. nothing; gives = λ held t w moment pacing paid tracking timers is. one held t w moment pacing })
   where
     nothing : Gives p id e.numbers e.filter.last (sents ++ []) (given ++ [])
-    nothing = gives_quiet p id e.numbers e.numbers e.filter.last sents given refl (λ b. b) g
+    nothing = gives_quiet p id e.numbers e.numbers e.filter.last sents given refl (λ b. b) before
 
     -- what is given where these are the numbers, and these are left out
     OneMore : List ℕ → Filter → Numbers → Type 0
     OneMore d f numbers = Gives p id (number_given numbers (allocated f numbers.next)) (after_allocated f numbers.next (p.words f.drawn)).last (sents ++ sent_by e now ∷ []) (given ++ d ∷ [])
 
-    one : (t : Tracking) (w : Waiting) → e.closing.state ≡ states.Open → can_number e.numbers ≡ true → waits (at_moment e now t w) ≡ true → ready_at e now ≡ at_moment e now t w
-        → OneMore (datagram_of p (composed (lazied (at_moment e now t w)))) (composed (lazied (at_moment e now t w))).end.filter (composed (lazied (at_moment e now t w))).end.numbers
-    one t w is may some ready =
-        let there : End = lazied (at_moment e now t w) in
-        let d : List ℕ = datagram_of p (composed there) in
-        let frames : List FrameValue = frames_padded (composed there) in
-        let c = composes there in
-        let frames_are : frames_at e now ≡ frames = ap (λ (x : End). frames_padded (composed (lazied x))) ready in
-        let given_now : IsGiven p e.ids.active.id (number_of e) (cut_against e.numbers) frames d = datagram_given p there may (waits_lazied (at_moment e now t w) some) (subst (λ (x : End). IsSpellable (lazied x)) ready spellable) in
+    one : (held : Bool) (t : Tracking) (w : Waiting) (moment : Option ℕ) (pacing : Pacing) → can_number e.numbers ≡ true → ready_at e now ≡ record { held = held; end = at_poll e now t w moment pacing e.path.app_limited } → goes (ready_at e now) ≡ true
+        → (let d : Draft = draft_if held (lazied (at_poll e now t w moment pacing e.path.app_limited)) in OneMore (datagram_of p d) d.end.filter d.end.numbers)
+    one held t w moment pacing may ready some =
+        let there : End = at_poll e now t w moment pacing e.path.app_limited in
+        let g : Gated = record { held = held; end = there } in
+        let d : List ℕ = datagram_of p (draft_of g) in
+        let frames : List FrameValue = frames_padded (draft_of g) in
+        let waits : goes g ≡ true = ap (λ (x : Gated). goes x) (sym ready) ∙ some in
+        let c = composes held (lazied there) (due_alone g waits) in
+        let frames_are : frames_at e now ≡ frames = ap (λ (x : Gated). frames_padded (draft_of x)) ready in
+        let given_now : IsGiven p e.ids.active.id (number_of e) (cut_against e.numbers) frames d = datagram_given p g may waits (subst IsSpellable ready (spellable some)) in
         let here : IsGiven p id (number_of e) (cut_against e.numbers) (frames_at e now) d =
         subst (λ (fs : List FrameValue). IsGiven p id (number_of e) (cut_against e.numbers) fs d) (sym frames_are) (subst (λ (i : List ℕ). IsGiven p i (number_of e) (cut_against e.numbers) frames d) active given_now) in
-        let more : OneMore d e.filter e.numbers = gives_more p id e.filter (p.words e.filter.drawn) e.numbers sents given (sent_by e now) d refl here g in
-        subst (λ (x : Numbers). OneMore d (composed there).end.filter x) (sym c.numbers) (subst (λ (f : Filter). OneMore d f e.numbers) (sym c.filter) more)
+        let more : OneMore d e.filter e.numbers = gives_more p id e.filter (p.words e.filter.drawn) e.numbers sents given (sent_by e now) d refl here before in
+        subst (λ (x : Numbers). OneMore d (draft_of g).end.filter x) (sym c.numbers) (subst (λ (f : Filter). OneMore d f e.numbers) (sym c.filter) more)
 
 -- ---- any call
 
@@ -198,7 +205,7 @@ module _ (p : Policy) (e : End) (theirs : List (List ℕ)) (a : Answer) (id : Li
       (gives_quiet p id e.numbers (after_call p e theirs call a).numbers e.filter.last sents given stays.next stays.behind g))
 
   -- after each call that lacks no memory, each datagram that was given was sent under its number, and the numbers rise
-  pub gives_step : (call : Call) → IsAnswer p e theirs call a → fails a ≡ false → e.ids.active.id ≡ id → ((now : ℕ) → IsSpellable (lazied (ready_at e now))) → Gives p id e.numbers e.filter.last sents given → GivesOn call
+  pub gives_step : (call : Call) → IsAnswer p e theirs call a → fails a ≡ false → e.ids.active.id ≡ id → ((now : ℕ) → goes (ready_at e now) ≡ true → IsSpellable (ready_at e now)) → Gives p id e.numbers e.filter.last sents given → GivesOn call
   gives_step (calls.Poll now) is ok active spellable g =
       let said = poll_answer p e now a is ok in
       let all : gives p e (calls.Poll now) a ≡ given_as (polled p e now).answer (polled p e now).datagram = ap (λ (x : Answer). gives p e (calls.Poll now) x) said ∙ gives_as p e now (polled p e now).answer in

@@ -29,14 +29,17 @@ use Rattle.quic_streams_state.specs.Frames.{Sent, frame_sent, frame_if, frame_an
 use Rattle.quic_streams_laws.specs.ControlWalk.{others_wait}
 use Rattle.quic_messages.specs.Messages.{fitting, frame_bytes}
 use Rattle.quic_spaces.specs.Numbers.{cut_against}
+use Rattle.quic_machine.specs.Ids.{Ids}
 use Rattle.quic_machine.specs.End.{End, number_of, streams_at}
-use Rattle.quic_machine.specs.Poll.{Draft, current_mtu, no_frames, frame_room, least_room, fits, left, no_stream_frames, ping_if, with_control_frames, with_message, with_messages_of, with_message_frames, with_stream_frames, with_asking, ack_of, with_ack, ack_fits, ack_if, composed_if, composed, lazied, message_waits, asks_to_go, waits}
-use Rattle.quic_machine.specs.PollCases.{at_moment, ready_at, ready_leaves}
-use Rattle.quic_machine.specs.DraftLaws.{Writing, room_most, without_entry, by_entries, by_messages, by_streams, by_asking}
+use Rattle.quic_machine.specs.Poll.{Draft, current_mtu, no_frames, frame_room, least_room, fits, left, no_stream_frames, ping_if, with_control_frames, with_message, with_messages_of, with_message_frames, with_stream_frames, with_asking, ack_of, with_ack, ack_fits, ack_if, composed_if, composed, lazied, message_waits, asks_to_go, waits, draft_if, goes}
+use Rattle.quic_machine.specs.Control.{Gated}
+use Rattle.quic_machine.specs.PollCases.{ready_at, ready_leaves}
+use Rattle.quic_machine.specs.DraftLaws.{Writing, room_most, without_entry, by_entries, by_messages, by_streams, by_asking, due_alone}
 use Rattle.quic_headline.specs.Runs.{In}
 use Rattle.quic_headline.proofs.Packets.Invariant.{Acks}
 use Rattle.quic_headline.proofs.Packets.Entries.{entry_control, control_short}
-use Rattle.quic_headline.proofs.Packets.Composed.{Spelling, IsSpellable, composed_spells}
+use Rattle.quic_headline.proofs.Packets.Composed.{Spelling, IsSpellable, waits_lazied, draft_spells}
+use Rattle.quic_headline.proofs.Packets.Probes.{ready_acks}
 
 -- ---- what is known of streams
 
@@ -439,9 +442,11 @@ module _ (K : Streams → Type 0) (k : Spelling K) (c : Bringing K) where
 
   -- ---- what is composed
 
-  -- where something waits beside the bytes of streams, a frame of control goes first
-  control_goes : (e : End) → 25 ≤ frame_room e → K (streams_at e) → is_empty e.waiting.frames e.streams ≡ false → 0 < length (with_control_frames (no_frames e)).frames
-  control_goes e room i waits = kinds_go (frame_room e) CONTROL_KINDS (control.no_frames 0 e.streams e.waiting.frames nothing_waits) kinds_apart (record { streams = i; room = room }) (any_waits (streams_at e) i waits)
+  -- where something waits beside the bytes of streams, a frame of control goes behind a draft that leaves room for one
+  pub control_goes : (d : Draft) → length d.bytes + 25 ≤ frame_room d.end → K (streams_at d.end) → is_empty d.end.waiting.frames d.end.streams ≡ false
+      → 0 < length (control.control_frames (frame_room d.end) (length d.bytes) d.end.streams d.end.waiting.frames nothing_waits).frames
+  control_goes d room i waits =
+      kinds_go (frame_room d.end) CONTROL_KINDS (control.no_frames (length d.bytes) d.end.streams d.end.waiting.frames nothing_waits) kinds_apart (record { streams = i; room = room }) (any_waits (streams_at d.end) i waits)
 
   -- where something waits that asks, a frame goes
   asking_goes : (e : End) → 1159 ≤ frame_room e → K (streams_at e) → asks_to_go e ≡ true → HasFrames (with_asking (no_frames e))
@@ -464,7 +469,7 @@ module _ (K : Streams → Type 0) (k : Spelling K) (c : Bringing K) where
 
       quiet : (not (is_empty e.waiting.frames e.streams) || (message_waits e || can_send_stream_data e.streams)) ≡ true → HasFrames (with_stream_frames (with_message_frames (with_control_frames (no_frames e))))
       quiet on = elim (or_cases (not (is_empty e.waiting.frames e.streams)) (message_waits e || can_send_stream_data e.streams) on) [
-        | inl some ↦ more (with_control_frames (no_frames e)) (control_goes e (omega arith) i (false_of (is_empty e.waiting.frames e.streams) some))
+        | inl some ↦ more (with_control_frames (no_frames e)) (control_goes (no_frames e) (omega arith) i (false_of (is_empty e.waiting.frames e.streams) some))
         | inr others ↦ elim (or_cases (message_waits e) (can_send_stream_data e.streams) others) [
           | inl some ↦ told (touched_or_not e) some
           | inr some ↦ behind (untold_or_not e) (c.queued (streams_at e) i some)
@@ -487,13 +492,16 @@ module _ (K : Streams → Type 0) (k : Spelling K) (c : Bringing K) where
       go true on = by_asking HasFrames frames_stay (with_ack (no_frames e)) (omega arith)
       go false on = late (ack_fits (with_asking (no_frames e))) (asking_goes e (room_most e short) i on)
 
-  -- so what an end composes has a form, and a frame where something waits
-  spellable : (e : End) → Acks e.acknowledging → length e.ids.active.id ≤ 20 → K (streams_at e) → IsSpellable e
-  spellable e acks short i = record { spells = composed_spells K k e acks i; some = composed_some e short i }
+  -- so what goes of an end that is ready has a form, and a frame
+  spellable : (g : Gated) → goes g ≡ true → Acks g.end.acknowledging → length g.end.ids.active.id ≤ 20 → K (streams_at g.end) → IsSpellable g
+  spellable g waits acks short i = record { spells = draft_spells K k g.held (lazied g.end) (due_alone g waits) (record { runs = acks.runs; small = acks.small }) i; some = go g.held waits }
+    where
+      go : (held : Bool) → goes (record { held = held; end = g.end }) ≡ true → HasFrames (draft_if held (lazied g.end))
+      go true on = omega arith
+      go false on = composed_some (lazied g.end) short i (waits_lazied g.end on)
 
   -- at any moment
-  pub spellable_next : (e : End) → Acks e.acknowledging → length e.ids.active.id ≤ 20 → ((now : ℕ) → K (streams_at (ready_at e now))) → (now : ℕ) → IsSpellable (lazied (ready_at e now))
-  spellable_next e acks short i now =
-      let is = ready_leaves e now in
-      let there : End = at_moment e now (ready_at e now).tracking (ready_at e now).waiting in
-      subst (λ (x : End). IsSpellable (lazied x)) (sym is) (spellable (lazied there) (record { runs = acks.runs; small = acks.small }) short (subst (λ (x : End). K (streams_at x)) is (i now)))
+  pub spellable_next : (e : End) → Acks e.acknowledging → length e.ids.active.id ≤ 20 → ((now : ℕ) → K (streams_at (ready_at e now).end)) → (now : ℕ) → goes (ready_at e now) ≡ true → IsSpellable (ready_at e now)
+  spellable_next e acks short i now waits =
+      let ids : (ready_at e now).end.ids ≡ e.ids = ap (λ (x : End). x.ids) (ready_leaves e now) in
+      spellable (ready_at e now) waits (subst Acks (sym (ready_acks e now)) acks) (subst (λ (x : Ids). length x.active.id ≤ 20) (sym ids) short) (i now)

@@ -1,5 +1,5 @@
 -- What holds of the packets between two ends, as one group: what the one gave, and what the other took of it.
-use Rattle.std.proofs.Common.{◌≡◌, ℕ, ◌<◌, ◌≤◌, ◌^◌, List, [], ◌∷◌, ◌++◌, length, false, refl, sym, ap, ◌∙◌, subst, arith}
+use Rattle.std.proofs.Common.{◌≡◌, ℕ, ◌<◌, ◌^◌, List, [], ◌∷◌, ◌++◌, length, false, refl, sym, ap, ◌∙◌, subst, arith, Bool, true}
 use Rattle.std.proofs.lemmas.List.{length-append}
 use Rattle.quic_machine.specs.declared.run.Call.{Call}
 use Rattle.quic_machine.specs.declared.run.Answer.{Answer}
@@ -9,16 +9,14 @@ use Rattle.quic_recovery_core.specs.PendingAcks.{Pending}
 use Rattle.quic_time.specs.Timers.{Timers}
 use Rattle.quic_machine.specs.declared.answers.State.{State}
 use Rattle.quic_machine.specs.Closing.{Closing, ticked}
-use Rattle.quic_machine.specs.Parts.{Waiting}
-use Rattle.quic_machine.specs.Tracking.{Tracking}
 use Rattle.quic_machine.specs.Policy.{Policy}
 use Rattle.quic_machine.specs.End.{End, with_closing, number_of}
 use Rattle.quic_machine.specs.Receive.{Outcome}
-use Rattle.quic_machine.specs.Poll.{Polled, composed, lazied, polled}
+use Rattle.quic_machine.specs.Poll.{Polled, lazied, polled, goes, draft_if}
 use Rattle.quic_machine.specs.Machine.{after_call, gives}
 use Rattle.quic_machine.specs.CallCases.{is_delivery, by_plain_call}
 use Rattle.quic_machine.specs.LeaveCases.{at_losses, by_expired}
-use Rattle.quic_machine.specs.PollCases.{at_moment, ready_at, by_poll, composes}
+use Rattle.quic_machine.specs.PollCases.{ready_at, by_poll, composes, at_poll}
 use Rattle.quic_headline.specs.Runs.{Intake, In, count_given, nothing_came}
 use Rattle.quic_headline.specs.Observer.{Sent}
 use Rattle.quic_headline.proofs.Packets.Invariant.{IsSent, Gives, KnowsIn, Acks, WereSent, NameTaken, AreTaken, AreTracked}
@@ -37,13 +35,15 @@ use Rattle.quic_headline.proofs.Places.Steps.{gives_count}
 use Rattle.quic_headline.proofs.Places.Parties.{sents_by, told_of, Party, called, came_to, AreJoined}
 use Rattle.quic_headline.proofs.Places.Groups.{Way, Before, Early}
 use Rattle.quic_headline.proofs.Places.Coming.{Meets, by_coming, came_ids}
+use Rattle.quic_headline.proofs.Packets.Probes.{MayLeave, may_leave}
 
 -- x gives, and y takes.
 pub record PacketsHold (x y : Party) : Type 0 where
   -- the datagrams that were given, as they were sent
   pub gives : Gives x.policy y.id x.end.numbers x.end.filter.last x.sents x.given
+  -- they go to the id of y, on a path that takes as many bytes as when x was made
   pub active : x.end.ids.active.id ≡ y.id
-  pub size : 1200 ≤ x.end.path.size
+  pub size : x.end.path.size ≡ x.made.path.size
   pub count : length x.given ≡ count_given x.told
   -- what x waits for was sent
   pub tracked : AreTracked x.sents x.end.tracking.packets
@@ -74,14 +74,21 @@ record Takes (sents : List Sent) (e : End) (i : Intake) : Type 0 where
 -- a poll changes neither the state nor what is known, but where the end closes
 knows_poll : (p : Policy) (e : End) (now : ℕ) (i : Intake) → KnowsIn e.closing.state e.numbers i → KnowsIn (polled p e now).end.closing.state (polled p e now).end.numbers i
 knows_poll p e now i k =
-    by_poll p e now (λ (q : Polled). KnowsIn q.end.closing.state q.end.numbers i) (record { silent = k; failed = k; idle = λ t w ready. k; used_up = λ t w ready. expects_in e.closing.state e.numbers i k; gives = λ t w tracking timers is may some ready. gives t w })
+    by_poll p e now (λ (q : Polled). KnowsIn q.end.closing.state q.end.numbers i) (record {
+      silent = k;
+      failed = k;
+      nothing = λ t w moment pacing limited. k;
+      used_up = λ t w moment pacing. expects_in e.closing.state e.numbers i k;
+      gives = λ held t w moment pacing paid tracking timers is may ready some. gives held (at_poll e now t w moment pacing e.path.app_limited) refl refl (may_leave e now held (at_poll e now t w moment pacing e.path.app_limited) ready some);
+    })
   where
-    gives : (t : Tracking) (w : Waiting) → KnowsIn (composed (lazied (at_moment e now t w))).end.closing.state (number_given (composed (lazied (at_moment e now t w))).end.numbers (number_of (composed (lazied (at_moment e now t w))).end)) i
-    gives t w =
-        let c = composes (lazied (at_moment e now t w)) in
-        let d : End = (composed (lazied (at_moment e now t w))).end in
-        subst (λ (s : State). KnowsIn s (number_given d.numbers (number_of d)) i) (sym (ap (λ (x : Closing). x.state) c.closing))
-        (subst (λ (x : Numbers). KnowsIn e.closing.state (number_given x (number_of d)) i) (sym c.numbers) (knows_given e.closing.state e.numbers (number_of d) i k))
+    gives : (held : Bool) (x : End) → x.closing.state ≡ e.closing.state → x.numbers ≡ e.numbers → MayLeave held (lazied x)
+        → (let d : End = (draft_if held (lazied x)).end in KnowsIn d.closing.state (number_given d.numbers (number_of d)) i)
+    gives held x state numbers alone =
+        let c = composes held (lazied x) alone in
+        let d : End = (draft_if held (lazied x)).end in
+        subst (λ (s : State). KnowsIn s (number_given d.numbers (number_of d)) i) (sym (ap (λ (y : Closing). y.state) c.closing ∙ state))
+        (subst (λ (y : Numbers). KnowsIn e.closing.state (number_given y (number_of d)) i) (sym (c.numbers ∙ numbers)) (knows_given e.closing.state e.numbers (number_of d) i k))
 
 -- what came is known, after a call that is no delivery
 knows_step : (q : Policy) (e : End) (theirs : List (List ℕ)) (call : Call) (a : Answer) (i : Intake) → is_delivery call ≡ false → KnowsIn e.closing.state e.numbers i → KnowsIn (after_call q e theirs call a).closing.state (after_call q e theirs call a).numbers i
@@ -91,7 +98,7 @@ knows_step q e theirs call a i other k = by_plain_call q e theirs (λ (f : End).
   on_messages = λ m. k;
   pings = k;
   heard = λ path same. k;
-  times = λ now acks loss set. by_expired e now (λ (f : End). KnowsIn f.closing.state f.numbers i) (λ pending tracking timers runs packets. k) (λ pending timers runs. losses now pending timers) acks loss;
+  times = λ now acks loss pacing set. by_expired e now (λ (f : End). KnowsIn f.closing.state f.numbers i) (λ pending tracking timers runs packets. k) (λ pending timers runs. losses now pending timers) acks loss pacing;
   polls = λ now set. knows_poll q e now i k;
   hears = λ now d set. cc;
   tells = λ told. k;
@@ -134,9 +141,9 @@ takes_step B x y call a c p = by_coming x y a c.joined c.served (meets y x p) (T
 
 -- ---- the group
 
--- what an end composes next has a form, whenever it is polled
+-- what goes of an end next has a form, whenever it is polled
 abbrev pub SpellsNext : End → Type 0
-SpellsNext e = (now : ℕ) → IsSpellable (lazied (ready_at e now))
+SpellsNext e = (now : ℕ) → goes (ready_at e now) ≡ true → IsSpellable (ready_at e now)
 
 -- x makes a call: how many datagrams it gave
 counted : (B : Way) (x y : Party) (call : Call) (a : Answer) → Before B x y call a → length x.given ≡ count_given x.told → length (called x y.given call a).given ≡ count_given (called x y.given call a).told
@@ -156,7 +163,7 @@ module _ (B : Way) (spells : (x y : Party) → AreJoined x y → B x y → B y x
       record {
         gives = gives_step x.policy x.end y.given a y.id x.given x.sents call c.answer c.served p.active (spells x y c.joined c.gives c.takes p back) p.gives;
         active = ap (λ (ids : Ids). ids.active.id) placed.ids ∙ p.active;
-        size = subst (λ (n : ℕ). 1200 ≤ n) (sym placed.size) p.size;
+        size = placed.size ∙ p.size;
         count = counted B x y call a c p.count;
         tracked = tracked_step x.policy x.end y.given call a x.sents c.answer c.served p.tracked;
         ascends = ascends_call x.policy x.end y.given call a p.ascends;
@@ -195,7 +202,7 @@ module _ (B : Way) (spells : (x y : Party) → AreJoined x y → B x y → B y x
     first = λ x y m. record {
       gives = record { rising = tt; below = λ s i. absurd i; next = refl; behind = omega arith; left_out = tt; each = tt };
       active = refl;
-      size = omega arith;
+      size = refl;
       count = refl;
       tracked = λ n t is. absurd is;
       ascends = tt;
@@ -208,4 +215,18 @@ module _ (B : Way) (spells : (x y : Party) → AreJoined x y → B x y → B y x
     };
     writer = gives_on;
     reader = takes_on;
+    shows = λ x y here there p. record {
+      gives = p.gives;
+      active = p.active;
+      size = p.size;
+      count = p.count;
+      tracked = p.tracked;
+      ascends = p.ascends;
+      named = p.named;
+      known = p.known;
+      knows = p.knows;
+      acks = p.acks;
+      taken = p.taken;
+      acking = p.acking;
+    };
   }

@@ -45,5 +45,5 @@ module _ (P : Streams → Type 0) (e : End) (now : ℕ) (l : Losing e.tracking.p
   expiry_stays acks timers = losses_stay P (with_closing e (ticked e.closing now)) l i
 
   -- where something waits for each probe
-  pub ready_stays : P (streams_at (ready_at e now))
+  pub ready_stays : P (streams_at (ready_at e now).end)
   ready_stays = ready_streams P e now i (λ n t among. l.again n t e among i)

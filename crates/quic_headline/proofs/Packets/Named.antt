@@ -148,7 +148,7 @@ pub record SettlesOn (took : List Packet) (sents : List Sent) (P : End → Type 
   -- fewer packets are tracked
   pub tracked : (t : Tracking) (e : End) → P e → P (with_tracking e t)
   -- the round trip is measured
-  pub measured : (r : Rtt) (e : End) → P e → P (with_rtt e r)
+  pub measured : (r : Rtt) (first : Option ℕ) (e : End) → P e → P (with_rtt e r first)
 
 module _ (took : List Packet) (sents : List Sent) (P : End → Type 0) (s : SettlesOn took sents P) where
   -- what the peer knows of, if anything
@@ -199,7 +199,7 @@ module _ (took : List Packet) (sents : List Sent) (P : End → Type 0) (s : Sett
   -- a round trip is measured, if one is
   sampled_on : (o : Option TrackedPacket) (a : AckValue) (e : End) → P e → P (sampled o a e)
   sampled_on None a e i = i
-  sampled_on (Some p) a e i = s.measured (sampled (Some p) a e).path.rtt e i
+  sampled_on (Some p) a e i = s.measured (sampled (Some p) a e).path.rtt (sampled (Some p) a e).path.first_after_rtt e i
 
   -- an ACK frame that names these packets
   named_on : (ps : Table TrackedPacket) (rises : Bool) (a : AckValue) (e : End) → ((n : ℕ) (t : TrackedPacket) → In (n, t) ps → WasCarried took t.carried) → AreTracked sents e.tracking.packets → P e → P (after_named ps rises a e)

@@ -16,7 +16,7 @@ use Rattle.quic_machine.specs.declared.run.Call.TheVariants as calls
 use Rattle.quic_machine.specs.declared.run.Answer.{Answer}
 use Rattle.quic_spaces.specs.Numbers.{cut_against}
 use Rattle.quic_machine.specs.End.{End, number_of}
-use Rattle.quic_machine.specs.Poll.{Draft, ack_of, composed, lazied}
+use Rattle.quic_machine.specs.Poll.{Draft, ack_of, lazied, draft_if, with_ack, no_frames}
 use Rattle.quic_streams_parts.specs.SendHalf.{frame_of}
 use Rattle.quic_headline.proofs.Packets.Entries.{IsControl, entry_control}
 use Rattle.quic_headline.specs.Runs.{Packet, Intake, In, names}
@@ -25,7 +25,7 @@ use Rattle.quic_machine.specs.Machine.{gave}
 use Rattle.quic_machine.specs.DraftLaws.{by_writing}
 use Rattle.quic_headline.proofs.Packets.Invariant.{SentAs, NameTaken, WereSent, AreTaken, Acks}
 use Rattle.quic_headline.proofs.Packets.Growth.{in_more}
-use Rattle.quic_machine.specs.PollCases.{ready_at, frames_at}
+use Rattle.quic_machine.specs.PollCases.{ready_at, frames_at, draft_at}
 use Rattle.quic_headline.proofs.Packets.Delivered.{Arrivals}
 use Rattle.quic_headline.proofs.Packets.Probes.{ready_acks}
 use Rattle.quic_headline.proofs.Places.Parties.{sent_by, sent_if, sents_by}
@@ -85,13 +85,18 @@ ack_more runs frames f before one a i = elim (in_more (ack a) f frames i) [ inl 
 no_ack : (f : FrameValue) (a : AckValue) → IsControl f → ack a ≡ f → ⊥
 no_ack f a is same = subst IsControl (sym same) is
 
+-- so has one that goes
+acked_acknowledges : (runs : List Run) (d : Draft) → Acknowledges runs d → Acknowledges runs (with_ack d)
+acked_acknowledges runs d k = record {
+  frames = ack_more runs d.frames (ack (ack_of d.end)) k.frames (λ a is. (let same : a ≡ ack_of d.end = cc in ap (λ (x : AckValue). x.ranges) same ∙ ap ranges_of_set k.same));
+  same = k.same;
+}
+
 -- whichever frames go, ACK frames have them
-composed_acknowledges : (e : End) → Acknowledges e.acknowledging.runs (composed e)
-composed_acknowledges e = by_writing (Acknowledges e.acknowledging.runs) (record {
-  ack = λ d filled may k. record {
-    frames = ack_more e.acknowledging.runs d.frames (ack (ack_of d.end)) k.frames (λ a is. (let same : a ≡ ack_of d.end = cc in ap (λ (x : AckValue). x.ranges) same ∙ ap ranges_of_set k.same));
-    same = k.same;
-  };
+draft_acknowledges : (held : Bool) (e : End) → Acknowledges e.acknowledging.runs (draft_if held e)
+draft_acknowledges true e = acked_acknowledges e.acknowledging.runs (no_frames e) (record { frames = λ a i. absurd i; same = refl })
+draft_acknowledges false e = by_writing (Acknowledges e.acknowledging.runs) (record {
+  ack = λ d filled may k. acked_acknowledges e.acknowledging.runs d k;
   ping = λ d k. record { frames = ack_more e.acknowledging.runs d.frames ping k.frames (λ a is. cc); same = k.same };
   drops = λ d kind k. record { frames = k.frames; same = k.same };
   control = λ d kind entry es f is goes k. record { frames = ack_more e.acknowledging.runs d.frames f k.frames (λ a ack_is. absurd (no_ack f a (entry_control kind d.end.waiting.frames entry es d.end.streams f is goes) ack_is)); same = k.same };
@@ -110,9 +115,9 @@ ack_zeros runs (f ∷ frames) count all a (inr i) = ack_zeros runs frames count 
 -- a number that an ACK frame names is one that its giver has to acknowledge
 pub names_kept : (e : End) (now : ℕ) (a : AckValue) (k : ℕ) → Acks e.acknowledging → In (ack a) (frames_at e now) → names a k ≡ true → Has e.acknowledging.runs k
 names_kept e now a k acks i named =
-    let ready = lazied (ready_at e now) in
-    let d = composed ready in
-    let acknowledges = composed_acknowledges ready in
+    let ready = lazied (ready_at e now).end in
+    let d = draft_at e now in
+    let acknowledges = draft_acknowledges (ready_at e now).held ready in
     let count : ℕ = 4 - ((truncated (number_of d.end) (cut_against d.end.numbers)).width + length d.bytes) in
     let ranges : a.ranges ≡ ranges_of_set ready.acknowledging.runs = ack_zeros ready.acknowledging.runs d.frames count acknowledges.frames a i in
     let same : a.ranges ≡ ranges_of_set e.acknowledging.runs = ranges ∙ ap (λ (p : Pending). ranges_of_set p.runs) (ready_acks e now) in

@@ -68,7 +68,7 @@ open_gives p e now a is served gives = opened (ap gave (sym (poll_answer p e now
   where
     opened : gave (answers.Poll (polled p e now).answer) ≡ true → e.closing.state ≡ states.Open
     opened = by_poll p e now (λ (q : Polled). gave (answers.Poll q.answer) ≡ true → e.closing.state ≡ states.Open)
-        (record { silent = λ some. cc; failed = λ some. cc; idle = λ t w ready some. cc; used_up = λ t w ready some. cc; gives = λ t w tracking timers is may waits ready some. is })
+        (record { silent = λ some. cc; failed = λ some. cc; nothing = λ t w moment pacing limited some. cc; used_up = λ t w moment pacing some. cc; gives = λ held t w moment pacing paid tracking timers is may ready goes some. is })
 
 -- ---- the group
 
@@ -123,4 +123,5 @@ refers_group = record {
         (λ packet j. taken_below (came_to (called x y.given call a) y).took packet (took_more x.policy y.final x.told (told_of call a x.end.closing.state) (nothing_came (x.id ∷ [])) packet j)) in
         omega arith);
   };
+  shows = λ x y here there b back refers others. record { behind = refers.behind };
 }

@@ -12,10 +12,10 @@ use Rattle.quic_machine.specs.Policy.{Policy}
 use Rattle.quic_spaces.specs.Numbers.{cut_against}
 use Rattle.quic_machine.specs.End.{End}
 use Rattle.quic_machine.specs.Receive.{Outcome}
-use Rattle.quic_machine.specs.Poll.{Polled, composed, datagram_of, lazied, polled}
+use Rattle.quic_machine.specs.Poll.{Polled, datagram_of, lazied, polled, draft_if}
 use Rattle.quic_machine.specs.Machine.{IsAnswer, after_call, gives, fails, gave}
 use Rattle.quic_machine.specs.CallCases.{is_delivery, is_poll, is_timeout}
-use Rattle.quic_machine.specs.PollCases.{at_moment, given_as, gives_as, by_poll}
+use Rattle.quic_machine.specs.PollCases.{given_as, gives_as, by_poll, at_poll}
 use Rattle.quic_headline.specs.Runs.{Told, Intake, acknowledged, and_told}
 use Rattle.quic_headline.specs.Observer.{Sent, terms_of, no_flight, Watch, first_watch, clock_behind, watch_told, watch_given, watch_moment}
 use Rattle.quic_headline.proofs.Packets.Invariant.{InStep, IsSent, Gives}
@@ -23,7 +23,7 @@ use Rattle.quic_headline.proofs.Packets.Intakes.{folded_more}
 use Rattle.quic_headline.proofs.Packets.Delivered.{Arrivals}
 use Rattle.quic_headline.proofs.Packets.Watching.{IsWatched, watched_intake, came_with, timed_with, untimely, none_comes, told_timed, told_quiet, told_left, told_own, with_delivery, nothing_delivered, arrivals_watched, poll_watched, timeout_watched, no_moment, leaves_call, leaves_watched, open_named}
 use Rattle.quic_headline.proofs.Packets.Flying.{Waits, held}
-use Rattle.quic_headline.proofs.Timers.LossTimers.{LossStands, call_stands}
+use Rattle.quic_headline.proofs.Timers.LossTimers.{LossStands, call_stands, stands_shown}
 use Rattle.quic_headline.proofs.Places.Steps.{gives_count, only_polls_give, poll_answer}
 use Rattle.quic_headline.proofs.Places.Parties.{sent_by, sent_if, sents_by, told_of, Party, called, came_to, lens, watch_of, AreJoined, Beginning, new_as, begun_as}
 use Rattle.quic_headline.proofs.Places.Groups.{Group}
@@ -71,9 +71,9 @@ poll_gives : (p : Policy) (e : End) (now : ℕ) (d : List ℕ) → (polled p e n
 poll_gives p e now d = by_poll p e now (λ (r : Polled). r.datagram ≡ Some d → IsGivenBy r d) (record {
   silent = λ is. cc;
   failed = λ is. cc;
-  idle = λ t w ready is. cc;
-  used_up = λ t w ready is. cc;
-  gives = λ t w tracking timers s n goes ready is. (let same : datagram_of p (composed (lazied (at_moment e now t w))) ≡ d = cc in record { gave = refl; given = ap (λ (x : List ℕ). x ∷ []) same });
+  nothing = λ t w moment pacing limited is. cc;
+  used_up = λ t w moment pacing is. cc;
+  gives = λ held t w moment pacing paid tracking timers s n ready some is. (let same : datagram_of p (draft_if held (lazied (at_poll e now t w moment pacing e.path.app_limited))) ≡ d = cc in record { gave = refl; given = ap (λ (x : List ℕ). x ∷ []) same });
 })
 
 -- ---- any call
@@ -215,4 +215,5 @@ sight_group = record {
   first = λ x y m there here. sight_first x y;
   writer = λ x y call a c sight back. sight_step x y c.joined (meets y x c.takes) c.gives.gives sight call a c.answer c.served c.gives_behind.gives.each c.joined_behind.x_more;
   reader = λ x y call a c sight back. record { left = back.left; own = back.own; watched = back.watched; stands = back.stands };
+  shows = λ x y here there b back s t. record { left = s.left; own = s.own; watched = record { path = s.watched.path; flight = s.watched.flight }; stands = stands_shown here x.end s.stands };
 }

@@ -25,10 +25,11 @@ use Rattle.quic_machine.specs.Poll.{Polled, lazied}
 use Rattle.quic_machine.specs.Machine.{after_call}
 use Rattle.quic_machine.specs.FrameCases.{Settling, losses_keep, named, ack_taken, passed, acked_keeps, message_leaves, frame_keeps, frame_leaves, frames_keep, frames_taken, by_received}
 use Rattle.quic_machine.specs.LeaveCases.{at_timeout, at_losses, at_event, by_expired}
-use Rattle.quic_machine.specs.PollCases.{at_moment, by_poll, composes}
+use Rattle.quic_machine.specs.PollCases.{at_poll, by_poll, composes}
 use Rattle.quic_machine.specs.CallCases.{is_poll, by_plain_call}
 use Rattle.quic_headline.specs.Runs.{acknowledged_in}
 use Rattle.quic_headline.proofs.Packets.Invariant.{IsBehind, Acks}
+use Rattle.quic_headline.proofs.Packets.Probes.{may_leave}
 
 -- ---- an ACK frame
 
@@ -103,7 +104,7 @@ settling e = record {
   lost = λ m x s. s;
   again = λ c x s. s;
   tracked = λ t x s. s;
-  measured = λ r x s. s;
+  measured = λ r first x s. s;
 }
 
 -- an ACK frame that was taken
@@ -285,7 +286,7 @@ stays_call p e theirs call a other = by_plain_call p e theirs (Stays e) call a (
   on_messages = λ m. stays_same e;
   pings = stays_same e;
   heard = λ path same. stays_like e e (record e { path = path }) refl same.generation same.size refl refl refl refl (stays_same e);
-  times = λ now acks loss is. by_expired e now (Stays e) (λ pending tracking timers runs packets. stays_like e e (at_timeout e now pending tracking timers) refl refl refl refl refl refl refl (stays_same e)) (λ pending timers runs. stays_losses e now pending timers) acks loss;
+  times = λ now acks loss pacing is. by_expired e now (Stays e) (λ pending tracking timers runs packets. stays_like e e (at_timeout e now pending tracking timers) refl refl refl refl refl refl refl (stays_same e)) (λ pending timers runs. stays_losses e now pending timers) acks loss pacing;
   polls = λ now is. cc;
   hears = λ now d is. stays_received p e now d;
   tells = λ told. stays_like e e (at_event e told) refl refl refl refl refl refl refl (stays_same e);
@@ -309,10 +310,11 @@ pub placed_call : (p : Policy) (e : End) (theirs : List (List ℕ)) (call : Call
 placed_call p e theirs (calls.Poll now) a = by_poll p e now (λ (q : Polled). IsPlaced e q.end) (record {
   silent = record { ids = refl; generation = refl; size = refl; transport = refl; peer = refl };
   failed = record { ids = refl; generation = refl; size = refl; transport = refl; peer = refl };
-  idle = λ t w ready. record { ids = refl; generation = refl; size = refl; transport = refl; peer = refl };
-  used_up = λ t w ready. record { ids = refl; generation = refl; size = refl; transport = refl; peer = refl };
-  gives = λ t w tracking timers is may some ready.
-      let c = composes (lazied (at_moment e now t w)) in
+  nothing = λ t w moment pacing limited. record { ids = refl; generation = refl; size = refl; transport = refl; peer = refl };
+  used_up = λ t w moment pacing. record { ids = refl; generation = refl; size = refl; transport = refl; peer = refl };
+  gives = λ held t w moment pacing paid tracking timers is may ready some.
+      let x : End = at_poll e now t w moment pacing e.path.app_limited in
+      let c = composes held (lazied x) (may_leave e now held x ready some) in
       record { ids = c.ids; generation = ap (λ (p : Path). p.generation) c.path; size = ap (λ (p : Path). p.size) c.path; transport = c.transport; peer = c.peer };
 })
 placed_call p e theirs call a = let s = stays_call p e theirs call a refl in record { ids = s.ids; generation = s.generation; size = s.size; transport = s.transport; peer = s.peer }

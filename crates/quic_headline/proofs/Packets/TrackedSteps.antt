@@ -17,18 +17,20 @@ use Rattle.quic_machine.specs.Tracking.{Tracking, TrackedPacket, without_packet,
 use Rattle.quic_machine.specs.End.{End, with_closing, number_of}
 use Rattle.quic_machine.specs.Closing.{ticked}
 use Rattle.quic_machine.specs.Receive.{received}
-use Rattle.quic_machine.specs.Poll.{Polled, Draft, composed, packet_of, tracked, after_given, lazied, polled}
+use Rattle.quic_machine.specs.Poll.{Polled, Draft, packet_of, tracked, after_given, lazied, polled, goes}
 use Rattle.quic_machine.specs.Machine.{IsAnswer, after_call, fails, gave}
 use Rattle.quic_machine.specs.PollCases.{ready_at, ready_leaves, draft_at, frames_padded, by_poll_to, composes}
 use Rattle.quic_machine.specs.LeaveCases.{by_expired}
 use Rattle.quic_machine.specs.CallCases.{is_poll, by_plain_call}
+use Rattle.quic_machine.specs.Control.{Gated}
+use Rattle.quic_machine.specs.DraftLaws.{due_alone}
 use Rattle.quic_headline.specs.Runs.{In}
 use Rattle.quic_headline.specs.Observer.{Sent}
 use Rattle.quic_headline.proofs.Packets.Invariant.{AreTracked}
 use Rattle.quic_headline.proofs.Packets.Carried.{carried_padded}
 use Rattle.quic_headline.proofs.Packets.Named.{losses_fewer, tracked_received}
-use Rattle.quic_headline.proofs.Packets.Probes.{ready_tracked}
-use Rattle.quic_headline.proofs.Packets.Given.{composed_number}
+use Rattle.quic_headline.proofs.Packets.Probes.{ready_tracked, by_going}
+use Rattle.quic_headline.proofs.Packets.Given.{draft_number}
 use Rattle.quic_headline.proofs.Places.Told.{in_left, in_last}
 use Rattle.quic_headline.proofs.Places.Parties.{sent_by, sent_if, sents_by}
 use Rattle.quic_headline.proofs.Places.Steps.{poll_answer}
@@ -101,21 +103,22 @@ tracked_polled p e now sents i =
     by_poll_to p e now (λ (q : Polled). AreTracked (sents ++ sent_if (gave (answers.Poll q.answer)) (sent_by e now)) q.end.tracking.packets) (record {
       silent = tracked_more sents [] e.tracking.packets i;
       failed = tracked_more sents [] e.tracking.packets i;
-      idle = tracked_more sents [] (ready_at e now).tracking.packets ready;
-      used_up = tracked_more sents [] (ready_at e now).tracking.packets ready;
-      gives = λ is may some. gives;
+      nothing = λ is none. tracked_more sents [] (ready_at e now).end.tracking.packets ready;
+      used_up = tracked_more sents [] (ready_at e now).end.tracking.packets ready;
+      gives = λ is may some. gives some;
     })
   where
-    ready : AreTracked sents (ready_at e now).tracking.packets
+    ready : AreTracked sents (ready_at e now).end.tracking.packets
     ready = ready_tracked sents e now i
 
-    gives : AreTracked (sents ++ sent_by e now ∷ []) (after_given p (draft_at e now)).tracking.packets
-    gives =
-        let before : End = lazied (ready_at e now) in
-        let d : Draft = composed before in
-        let number : number_of e ≡ number_of d.end = sym (composed_number before ∙ ap (λ (x : End). number_of x) (ready_leaves e now)) in
-        let packets : AreTracked sents d.end.tracking.packets = subst (λ (x : Tracking). AreTracked sents x.packets) (sym (composes before).tracking) ready in
-        tracked_given d sents (sent_by e now) number refl packets
+    gives : goes (ready_at e now) ≡ true → AreTracked (sents ++ sent_by e now ∷ []) (after_given p (draft_at e now)).tracking.packets
+    gives some =
+        let g : Gated = ready_at e now in
+        let before : End = lazied g.end in
+        let d : Draft = draft_at e now in
+        let number : number_of e ≡ number_of d.end = sym (draft_number g.held before (due_alone g some) ∙ ap (λ (x : End). number_of x) (ready_leaves e now)) in
+        let packets : AreTracked sents d.end.tracking.packets = subst (λ (x : Tracking). AreTracked sents x.packets) (sym (composes g.held before (due_alone g some)).tracking) ready in
+        by_going (λ (x : End). AreTracked (sents ++ sent_by e now ∷ []) x.tracking.packets) p d (λ pacing. tracked_given d sents (sent_by e now) number refl packets)
 
 -- another call than a poll gives nothing that is tracked
 tracked_other : (p : Policy) (e : End) (theirs : List (List ℕ)) (call : Call) (a : Answer) (sents more : List Sent) → is_poll call ≡ false → AreTracked sents e.tracking.packets → AreTracked (sents ++ more) (after_call p e theirs call a).tracking.packets
@@ -125,7 +128,7 @@ tracked_other p e theirs call a sents more silent i = by_plain_call p e theirs (
   on_messages = λ m. same;
   pings = same;
   heard = λ path is. same;
-  times = λ now acks loss is. by_expired e now (λ (f : End). AreTracked (sents ++ more) f.tracking.packets) (λ pending tracking timers runs packets. subst (λ (x : Table TrackedPacket). AreTracked (sents ++ more) x) (sym packets) same) (λ pending timers runs n t i. same n t (losses_fewer (with_closing e (ticked e.closing now)) n t i)) acks loss;
+  times = λ now acks loss pacing is. by_expired e now (λ (f : End). AreTracked (sents ++ more) f.tracking.packets) (λ pending tracking timers runs packets. subst (λ (x : Table TrackedPacket). AreTracked (sents ++ more) x) (sym packets) same) (λ pending timers runs n t i. same n t (losses_fewer (with_closing e (ticked e.closing now)) n t i)) acks loss pacing;
   polls = λ now is. cc;
   hears = λ now d is. tracked_more sents more (received p e now d).end.tracking.packets (tracked_received p e now d sents i);
   tells = λ told. same;

@@ -24,12 +24,14 @@ use Rattle.quic_spaces.specs.Numbers.{Numbers, cut_against, can_number, number_o
 use Rattle.quic_machine.specs.Parts.{Path}
 use Rattle.quic_machine.specs.Tracking.{Tracking}
 use Rattle.quic_machine.specs.End.{End, number_of, with_closing, closed_by, with_numbers, with_loss_timer}
-use Rattle.quic_machine.specs.Timeouts.{acks_expired, loss_judged, loss_expired, timed_out_in, timed_out}
+use Rattle.quic_machine.specs.Timeouts.{acks_expired, loss_judged, loss_expired, pacing_expired, timed_out_in, timed_out}
 use Rattle.quic_machine.specs.Receive.{asks_in, after_taken}
-use Rattle.quic_machine.specs.Poll.{Polled, composed, payload_of, datagram_of, datagram_size, after_given, lazied, waits, sends, polled_if, polled_in, polled}
+use Rattle.quic_machine.specs.Poll.{Polled, Draft, payload_of, datagram_of, datagram_size, after_given, lazied, goes, rests, sends, polled_if, polled_in, polled}
+use Rattle.quic_machine.specs.Control.{Gated}
+use Rattle.quic_machine.specs.DraftLaws.{due_alone}
 use Rattle.quic_machine.specs.Machine.{after_call, fails, gave}
 use Rattle.quic_machine.specs.CallCases.{is_delivery, is_poll, is_timeout, by_plain_call}
-use Rattle.quic_machine.specs.PollCases.{at_moment, ready_at, ready_leaves, frames_at, given_as, Composes, composes}
+use Rattle.quic_machine.specs.PollCases.{at_poll, ready_at, ready_leaves, draft_at, frames_at, given_as, Composes, composes}
 use Rattle.quic_machine.specs.FrameCases.{begun}
 use Rattle.quic_headline.specs.Runs.{Told, Packet, Intake, acknowledged, and_handed, and_told, folded}
 use Rattle.quic_headline.specs.Observer.{Sent, Terms, loss_due, is_past, expired_for, after_packets, and_sent, and_all_sent, Watch, news, has_opened, moment_of, clock_behind, sent_as, after_frames, watch_sent, Lens, watch_given, is_timely, watch_moment, watch_came, watch_told}
@@ -37,7 +39,8 @@ use Rattle.quic_headline.proofs.Packets.Invariant.{IsGiven, KnowsIn, IsBehind}
 use Rattle.quic_headline.proofs.Packets.Intakes.{nothing_handed, none_handed}
 use Rattle.quic_headline.proofs.Packets.Stays.{keeps_frames}
 use Rattle.quic_headline.proofs.Packets.Delivered.{Arrivals, arrived, with_taken}
-use Rattle.quic_headline.proofs.Packets.Given.{allocated_near, composed_number}
+use Rattle.quic_headline.proofs.Packets.Probes.{MayLeave, by_going}
+use Rattle.quic_headline.proofs.Packets.Given.{allocated_near, draft_number}
 use Rattle.quic_headline.proofs.Packets.Waited.{AreWaited}
 use Rattle.quic_headline.proofs.Packets.Flying.{Held, held, IsAsked, Waits, Loses, detected_held, timer_is, frames_wait, sent_read, draft_waits, ticked_waits, numbers_wait, ready_waits, expired_waits, expired_flies}
 use Rattle.quic_headline.proofs.Timers.LossTimers.{OpenStands, LossStands, ready_stands}
@@ -220,11 +223,11 @@ module _ (l : Lens) (id : List ℕ) (rest : List (List ℕ)) (lawful : IsLawful 
   GoesOn now state r = GivesAt now r → w.left ≡ given_as r.answer r.datagram ++ rest → ((behind_poll now state r).own ≡ w.own ++ sent_if (gave (answers.Poll r.answer)) (sent_by e now)) × IsWatched l.terms (behind_poll now state r) r.end
 
   -- the path of an end that is ready
-  ready_path : (now : ℕ) → (ready_at e now).path.generation ≡ 0
+  ready_path : (now : ℕ) → (ready_at e now).end.path.generation ≡ 0
   ready_path now = ap (λ (x : End). x.path.generation) (ready_leaves e now) ∙ watched_before.path
 
   -- the moment is taken over
-  moment_watched : (now : ℕ) → e.closing.state ≡ states.Open → IsWatched l.terms (record w { clock = max w.clock now }) (ready_at e now)
+  moment_watched : (now : ℕ) → e.closing.state ≡ states.Open → IsWatched l.terms (record w { clock = max w.clock now }) (ready_at e now).end
   moment_watched now opened = record { path = ready_path now; flight = λ still. ready_waits l.terms w.clock now w.flight e (stands opened).stands.lies (watched_before.flight opened) }
 
   -- a poll that gives nothing
@@ -236,17 +239,26 @@ module _ (l : Lens) (id : List ℕ) (rest : List (List ℕ)) (lawful : IsLawful 
       )
 
   -- one that gives a datagram
-  one_goes_on : (now : ℕ) → e.closing.state ≡ states.Open → GoesOn now states.Open (sends true l.own (ready_at e now))
-  one_goes_on now opened given left = (ap (λ (v : Watch). v.own) is, subst (λ (v : Watch). IsWatched l.terms v (after_given l.own (composed before))) (sym is) after)
+  one_goes_on : (now : ℕ) → e.closing.state ≡ states.Open → goes (ready_at e now) ≡ true → GoesOn now states.Open (sends true l.own (ready_at e now))
+  one_goes_on now opened some given left = (ap (λ (v : Watch). v.own) is, subst (λ (v : Watch). IsWatched l.terms v (after_given l.own draft)) (sym is) after)
     where
-      before : End
-      before = lazied (ready_at e now)
+      g : Gated
+      g = ready_at e now
 
-      ready : ready_at e now ≡ at_moment e now (ready_at e now).tracking (ready_at e now).waiting
+      before : End
+      before = lazied g.end
+
+      draft : Draft
+      draft = draft_at e now
+
+      may : MayLeave g.held before
+      may = due_alone g some
+
+      ready : g.end ≡ at_poll e now g.end.tracking g.end.waiting g.end.timers.pacing g.end.path.pacing e.path.app_limited
       ready = ready_leaves e now
 
       d : List ℕ
-      d = datagram_of l.own (composed before)
+      d = datagram_of l.own draft
 
       t : Told
       t = told_of (calls.Poll now) (answers.Poll (sends true l.own (ready_at e now)).answer) states.Open
@@ -257,27 +269,27 @@ module _ (l : Lens) (id : List ℕ) (rest : List (List ℕ)) (lawful : IsLawful 
       ticks : Watch
       ticks = record w { clock = max w.clock now }
 
-      g : IsGiven l.own id (number_of e) (cut_against e.numbers) (frames_at e now) d
-      g = given d refl
+      was : IsGiven l.own id (number_of e) (cut_against e.numbers) (frames_at e now) d
+      was = given d refl
 
       moment : max w.clock now ≡ max e.closing.clock now
       moment = ap (λ (n : ℕ). max n now) (watched_before.flight opened).tells.clock
 
-      c : Composes before (composed before).end
-      c = composes before
+      c : Composes before draft.end
+      c = composes g.held before may
 
       -- it has as many bytes as was told of it
-      number : number_of (composed before).end ≡ number_of e
-      number = composed_number before ∙ ap (λ (x : End). number_of x) ready
+      number : number_of draft.end ≡ number_of e
+      number = draft_number g.held before may ∙ ap (λ (x : End). number_of x) ready
 
-      cut : cut_against (composed before).end.numbers ≡ cut_against e.numbers
+      cut : cut_against draft.end.numbers ≡ cut_against e.numbers
       cut = ap (λ (x : Numbers). cut_against x) c.numbers ∙ ap (λ (x : End). cut_against x.numbers) ready
 
-      near : number_of (composed before).end - cut_against (composed before).end.numbers < 2 ^ 31
-      near = rw (number, cut) g.near
+      near : number_of draft.end - cut_against draft.end.numbers < 2 ^ 31
+      near = rw (number, cut) was.near
 
-      size : length d ≡ datagram_size (composed before)
-      size = sent_length l.own.header l.own.packet lawful.width lawful.tag (number_of (composed before).end) (cut_against (composed before).end.numbers) (composed before).end.ids.active.id (payload_of (composed before)) near
+      size : length d ≡ datagram_size draft
+      size = sent_length l.own.header l.own.packet lawful.width lawful.tag (number_of draft.end) (cut_against draft.end.numbers) draft.end.ids.active.id (payload_of draft) near
 
       above : cut_against e.numbers ≤ number_of e
       above = let more = (allocated_near e.filter e.numbers.next).0 in let less : cut_against e.numbers ≤ e.numbers.next = behind in omega arith
@@ -286,7 +298,7 @@ module _ (l : Lens) (id : List ℕ) (rest : List (List ℕ)) (lawful : IsLawful 
       read : sent_as (opened_packet l.taker.header l.taker.packet (own_id_length + 1) (acknowledged w.intake.took) d) (acknowledged w.intake.took) (max w.clock now) (length d) ≡ s ∷ []
       read =
           ap (λ (n : ℕ). sent_as (opened_packet l.taker.header l.taker.packet (own_id_length + 1) n d) n (max w.clock now) (length d)) (sym (knows opened))
-          ∙ sent_read l.own l.taker id (number_of e) (cut_against e.numbers) (frames_at e now) d g mates eight above (max w.clock now) (length d)
+          ∙ sent_read l.own l.taker id (number_of e) (cut_against e.numbers) (frames_at e now) d was mates eight above (max w.clock now) (length d)
           ∙ ap (λ (n : ℕ). record { number = number_of e; reference = cut_against e.numbers; frames = frames_at e now; moment = n; size = length d } ∷ []) moment
           ∙ ap (λ (n : ℕ). record { number = number_of e; reference = cut_against e.numbers; frames = frames_at e now; moment = max e.closing.clock now; size = n } ∷ []) size
 
@@ -296,27 +308,27 @@ module _ (l : Lens) (id : List ℕ) (rest : List (List ℕ)) (lawful : IsLawful 
           ∙ ap (λ (ds : List (List ℕ)). watch_sent l.taker ds ticks) left
           ∙ ap (λ (ss : List Sent). record ticks { left = rest; own = w.own ++ ss; flight = and_all_sent ss w.flight }) read
 
-      after : IsWatched l.terms (record ticks { left = rest; own = w.own ++ s ∷ []; flight = and_sent s w.flight }) (after_given l.own (composed before))
+      after : IsWatched l.terms (record ticks { left = rest; own = w.own ++ s ∷ []; flight = and_sent s w.flight }) (after_given l.own draft)
       after = record {
-        path = ap (λ (x : Path). x.generation) c.path ∙ ready_path now;
+        path = by_going (λ (x : End). x.path.generation ≡ 0) l.own draft (λ pacing. ap (λ (x : Path). x.generation) c.path ∙ ready_path now);
         flight = λ still.
-            let open_still : (ready_at e now).closing.state ≡ states.Open = ap (λ (x : End). x.closing.state) ready ∙ opened in
-            draft_waits l.own l.terms (max w.clock now) before s w.flight (ready_path now) (ap (λ (x : End). number_of x) (sym ready)) (ap (λ (x : End). x.closing.clock) (sym ready)) refl refl
+            let open_still : g.end.closing.state ≡ states.Open = ap (λ (x : End). x.closing.state) ready ∙ opened in
+            draft_waits l.own l.terms (max w.clock now) g.held before s w.flight may (ready_path now) (ap (λ (x : End). number_of x) (sym ready)) (ap (λ (x : End). x.closing.clock) (sym ready)) refl refl
             (ready_stands e now stands open_still).stands.lies (allocated_near before.filter before.numbers.next).0 ((moment_watched now opened).flight open_still);
       }
 
   -- an open end
-  open_goes_on : (now : ℕ) → e.closing.state ≡ states.Open → (b : Bool) → waits (ready_at e now) ≡ b → GoesOn now states.Open (polled_if b l.own (ready_at e now))
-  open_goes_on now opened false some = none_goes_on now states.Open (ready_at e now) (moment_watched now opened)
-  open_goes_on now opened true some = go (can_number (ready_at e now).numbers)
+  open_goes_on : (now : ℕ) → e.closing.state ≡ states.Open → (b : Bool) → goes (ready_at e now) ≡ b → GoesOn now states.Open (polled_if b l.own (ready_at e now))
+  open_goes_on now opened false none = none_goes_on now states.Open (rests (ready_at e now)) (let i = moment_watched now opened in record { path = i.path; flight = i.flight })
+  open_goes_on now opened true some = go (can_number (ready_at e now).end.numbers)
     where
       go : (c : Bool) → GoesOn now states.Open (sends c l.own (ready_at e now))
-      go true = one_goes_on now opened
-      go false = none_goes_on now states.Open (closed_by reasons.NumberLimit (ready_at e now)) (closed_watched l.terms _ _ (ready_path now) (λ still. cc))
+      go true = one_goes_on now opened some
+      go false = none_goes_on now states.Open (closed_by reasons.NumberLimit (ready_at e now).end) (closed_watched l.terms _ _ (ready_path now) (λ still. cc))
 
   -- any end that doesn't fail
   poll_goes_on : (now : ℕ) (state : State) → e.closing.state ≡ state → fails (answers.Poll (polled_in state l.own e now).answer) ≡ false → GoesOn now state (polled_in state l.own e now)
-  poll_goes_on now states.Open opened served = open_goes_on now opened (waits (ready_at e now)) refl
+  poll_goes_on now states.Open opened served = open_goes_on now opened (goes (ready_at e now)) refl
   poll_goes_on now states.Closing is served = none_goes_on now states.Closing e watched_before
   poll_goes_on now states.Drained is served = none_goes_on now states.Drained e watched_before
   poll_goes_on now states.Failed is served = cc
@@ -339,7 +351,7 @@ expired_path true e = go e.tracking.loss_time
   where
     go : (o : Option ℕ) → (loss_judged o e).path.generation ≡ e.path.generation
     go None = refl
-    go (Some moment) = ap (λ (h : Held). h.path.generation) (detected_held e)
+    go (Some moment) = ap (λ (h : Held). h.generation) (detected_held e)
 
 -- the observer says with the end whether its timer of losses expires
 timer_expires : (t : Terms) (w : Watch) (e : End) (now : ℕ) → OpenStands e → Waits t w.clock w.flight (held e) → has_come e.timers.loss_detection (max e.closing.clock now) ≡ is_past (loss_due t w.flight) (max w.clock now)
@@ -352,10 +364,12 @@ timer_expires t w e now s i =
 abbrev pub at_time : Terms → Watch → ℕ → Watch
 at_time t w now = watch_moment true t (record w { clock = max w.clock now })
 
--- the timer of acknowledgements leaves what the observer knows of
-acks_held : (acks : Bool) (e : End) → held (acks_expired acks e) ≡ held e
-acks_held true e = refl
-acks_held false e = refl
+-- the timers of acknowledgements and of the pacer leave what the observer knows of
+others_held : (acks pacing : Bool) (e : End) → held (pacing_expired pacing (acks_expired acks e)) ≡ held e
+others_held true true e = refl
+others_held true false e = refl
+others_held false true e = refl
+others_held false false e = refl
 
 -- a timeout at an open end
 open_timeout : (t : Terms) (w : Watch) (e : End) (now : ℕ) → OpenStands e → e.path.generation ≡ 0 → Waits t w.clock w.flight (held e) → IsWatched t (at_time t w now) (timed_out_in states.Open e now).end
@@ -370,15 +384,18 @@ open_timeout t w e now s path i = record { path = generation; flight = λ still.
     expires : Bool
     expires = has_come e.timers.loss_detection (max e.closing.clock now)
 
+    pacing : Bool
+    pacing = has_come e.timers.pacing (max e.closing.clock now)
+
     after : Waits t (max w.clock now) (if expires then expired_for w.flight.loss_time t (max w.clock now) w.flight else w.flight) (held (loss_expired expires begins))
     after = expired_waits t (max w.clock now) w.flight begins (ticked_waits t w.clock now w.flight (held e) i) expires
 
-    waits : Waits t (max w.clock now) (at_time t w now).flight (held (acks_expired acks (loss_expired expires begins)))
-    waits = subst (λ (h : Held). Waits t (max w.clock now) (at_time t w now).flight h) (sym (acks_held acks (loss_expired expires begins)))
+    waits : Waits t (max w.clock now) (at_time t w now).flight (held (pacing_expired pacing (acks_expired acks (loss_expired expires begins))))
+    waits = subst (λ (h : Held). Waits t (max w.clock now) (at_time t w now).flight h) (sym (others_held acks pacing (loss_expired expires begins)))
         (subst (λ (b : Bool). Waits t (max w.clock now) (if b then expired_for w.flight.loss_time t (max w.clock now) w.flight else w.flight) (held (loss_expired expires begins))) (timer_expires t w e now s i) after)
 
-    generation : (acks_expired acks (loss_expired expires begins)).path.generation ≡ 0
-    generation = ap (λ (h : Held). h.path.generation) (acks_held acks (loss_expired expires begins)) ∙ expired_path expires begins ∙ path
+    generation : (pacing_expired pacing (acks_expired acks (loss_expired expires begins))).path.generation ≡ 0
+    generation = ap (λ (h : Held). h.generation) (others_held acks pacing (loss_expired expires begins)) ∙ expired_path expires begins ∙ path
 
 -- a timeout takes the moment over, and expired timers leave what is watched
 pub timeout_watched : (t : Terms) (w : Watch) (e : End) (now : ℕ) → LossStands e → IsWatched t w e → IsWatched t (watch_moment (is_timely e.closing.state (calls.Timeout now)) t (record w { clock = clock_behind w.clock (moment_of e.closing.state false (calls.Timeout now)) })) (timed_out e now).end
@@ -394,7 +411,7 @@ timeout_watched t w e now stands i = go e.closing.state refl
 pub timeout_flies : (P : List Sent → List Sent → End → Type 0) → Loses P → ((flying acked : List Sent) (c : Closing) (pending : Pending) (timers : Timers) (e : End) → P flying acked e → P flying acked (record e { closing = c; acknowledging = pending; timers = timers }))
     → (t : Terms) (w : Watch) (e : End) (now : ℕ) → OpenStands e → Waits t w.clock w.flight (held e) → P w.flight.flying w.flight.acked e → P (at_time t w now).flight.flying (at_time t w now).flight.acked (timed_out_in states.Open e now).end
 timeout_flies P c others t w e now s i holds =
-    after acks (at_time t w now).flight.flying (at_time t w now).flight.acked (loss_expired expires begins)
+    after acks pacing (at_time t w now).flight.flying (at_time t w now).flight.acked (loss_expired expires begins)
     (subst (λ (b : Bool). P (if b then expired_for w.flight.loss_time t (max w.clock now) w.flight else w.flight).flying (if b then expired_for w.flight.loss_time t (max w.clock now) w.flight else w.flight).acked (loss_expired expires begins)) (timer_expires t w e now s i)
     (expired_flies P c t (max w.clock now) w.flight begins (ticked_waits t w.clock now w.flight (held e) i) (others w.flight.flying w.flight.acked (ticked e.closing now) e.acknowledging e.timers e holds) expires))
   where
@@ -407,9 +424,14 @@ timeout_flies P c others t w e now s i holds =
     expires : Bool
     expires = has_come e.timers.loss_detection (max e.closing.clock now)
 
-    after : (b : Bool) (flying acked : List Sent) (f : End) → P flying acked f → P flying acked (with_loss_timer (acks_expired b f))
-    after true flying acked f j = let g : End = with_loss_timer (acks_expired true f) in others flying acked f.closing g.acknowledging g.timers f j
-    after false flying acked f j = let g : End = with_loss_timer f in others flying acked f.closing f.acknowledging g.timers f j
+    pacing : Bool
+    pacing = has_come e.timers.pacing (max e.closing.clock now)
+
+    after : (b c : Bool) (flying acked : List Sent) (f : End) → P flying acked f → P flying acked (with_loss_timer (pacing_expired c (acks_expired b f)))
+    after true true flying acked f j = let g : End = with_loss_timer (pacing_expired true (acks_expired true f)) in others flying acked f.closing g.acknowledging g.timers f j
+    after true false flying acked f j = let g : End = with_loss_timer (acks_expired true f) in others flying acked f.closing g.acknowledging g.timers f j
+    after false true flying acked f j = let g : End = with_loss_timer (pacing_expired true f) in others flying acked f.closing f.acknowledging g.timers f j
+    after false false flying acked f j = let g : End = with_loss_timer f in others flying acked f.closing f.acknowledging g.timers f j
 
 -- ---- other calls
 
@@ -442,7 +464,7 @@ leaves_call p e theirs call a apart silent other = by_plain_call p e theirs (Lea
   on_messages = λ m. record { state = refl; clock = refl; numbers = refl; tracking = refl; transport = refl; peer = refl; path = refl; rtt = refl };
   pings = record { state = refl; clock = refl; numbers = refl; tracking = refl; transport = refl; peer = refl; path = refl; rtt = refl };
   heard = λ path is. record { state = refl; clock = refl; numbers = refl; tracking = refl; transport = refl; peer = refl; path = is.generation; rtt = is.rtt };
-  times = λ now acks loss is. cc;
+  times = λ now acks loss pacing is. cc;
   polls = λ now is. cc;
   hears = λ now d is. cc;
   tells = λ told. record { state = refl; clock = refl; numbers = refl; tracking = refl; transport = refl; peer = refl; path = refl; rtt = refl };

@@ -10,6 +10,7 @@ use Rattle.quic_headline.specs.Grown.{GrownLimitsWait}
 use Rattle.quic_headline.specs.Messages.{MessagesAtMostOnce}
 use Rattle.quic_headline.specs.Headline.{IsHonest, IsRun, OrderedPrefix, Slices, Once, EndAfterAll, BlockedOnlyWithoutBytes, AcceptsAll, FinishedMeansArrived, AcknowledgedWereTaken, NamesWereTaken, OpensExactly, NewestOpens, NumbersRise}
 use Rattle.quic_headline.specs.Moments.{LossMoments, LossTimerQuiet, AckMoments}
+use Rattle.quic_headline.specs.Polls.{AskingGoesWhereLet, ProbesPass}
 use Rattle.quic_machine.specs.PollCases.{ready_at}
 use Rattle.quic_headline.proofs.Packets.Probes.{ready_state}
 use Rattle.quic_headline.proofs.Packets.MayGo.{AreReady}
@@ -36,11 +37,13 @@ use Rattle.quic_headline.proofs.Duties.Group.{Flying, flying_group}
 use Rattle.quic_headline.proofs.Duties.Ledger as ledger
 use Rattle.quic_headline.proofs.Grown.Clause.{GrownWait, grown_group}
 use Rattle.quic_headline.proofs.Grown.Clause as grown
+use Rattle.quic_headline.proofs.Steps.Probes as probes
+use Rattle.quic_headline.proofs.Steps.Asking as asking
 
 -- what waits to go of streams, as a group over the packets and what is written
 pub record IsReadying (Ready : Way) : Type 1 where
   pub group : Group (And PacketsHold WritesHold) Ready
-  pub probes : (x y : Party) → PacketsHold x y → Ready x y → (now : ℕ) → AreReady (ready_at x.end now).streams.sending.halves.live (ready_at x.end now).waiting.frames
+  pub probes : (x y : Party) → PacketsHold x y → Ready x y → (now : ℕ) → AreReady (ready_at x.end now).end.streams.sending.halves.live (ready_at x.end now).end.waiting.frames
 
 module _ (Ready : Way) (ready : IsReadying Ready) where
   -- ---- the groups
@@ -52,7 +55,7 @@ module _ (Ready : Way) (ready : IsReadying Ready) where
   rest : Group (And PacketsHold WritesHold) Rest
   rest = beside (And PacketsHold WritesHold) KnowsLimit Ready (over PacketsHold (And PacketsHold WritesHold) KnowsLimit (λ x y h. h.0) (early_group PacketsHold KnowsLimit limit_group)) ready.group
 
-  goes : (x y : Party) → PacketsHold x y → Rest x y → (now : ℕ) → GoesWell (ready_at x.end now)
+  goes : (x y : Party) → PacketsHold x y → Rest x y → (now : ℕ) → GoesWell (ready_at x.end now).end
   goes x y p h now = record { limit = subst HasSmallLimit (sym (ready_state x.end now)) h.0.small; waits = ready.probes x y p h.1 now }
 
   -- the streams of an end that writes
@@ -196,3 +199,9 @@ module _ (Ready : Way) (ready : IsReadying Ready) where
 
     pub grown_limits_wait : GrownLimitsWait r
     grown_limits_wait = grown.grown_limits_wait (And (And All ReadsHold) GrownWait) (record { grown = λ x y h. h.1; reads = λ x y h. h.0.1 }) r end honest (placed (And (And All ReadsHold) GrownWait) all_grown r end honest run)
+
+    pub asking_goes_where_let : AskingGoesWhereLet r
+    asking_goes_where_let = asking.asking_goes_where_let Streams all r end honest run
+
+    pub probes_pass : ProbesPass r
+    probes_pass = probes.probes_pass Streams (streams_spell Rest goes) all r end honest run

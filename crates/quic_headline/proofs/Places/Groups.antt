@@ -5,7 +5,7 @@ use Rattle.quic_machine.specs.declared.run.Answer.{Answer}
 use Rattle.quic_machine.specs.Machine.{IsAnswer, fails}
 use Rattle.quic_headline.specs.Runs.{In, ids_of}
 use Rattle.quic_headline.specs.Headline.{used, CodeIsSmall}
-use Rattle.quic_headline.proofs.Places.Parties.{Party, called, AreJoined, turned, Beginning, begun_as, AreMade}
+use Rattle.quic_headline.proofs.Places.Parties.{Party, called, showing, AreJoined, turned, Beginning, begun_as, AreMade}
 
 -- what is said of one that gives and one that takes
 abbrev pub Way : Type 1
@@ -33,11 +33,12 @@ pub record Calls (B : Way) (x y : Party) (call : Call) (a : Answer) : Type 0 whe
   pub gives_behind : B (called x y.given call a) y
   pub takes_behind : B y (called x y.given call a)
 
--- G holds at the start and stays, over what B says: where the end that calls gives, and where it takes.
+-- G holds at the start and stays, over what B says: where the end that calls gives, where it takes, and whichever windows both ends read.
 pub record Group (B G : Way) : Type 0 where
   pub first : (x y : Beginning) → AreMade x y → B (begun_as x y) (begun_as y x) → B (begun_as y x) (begun_as x y) → G (begun_as x y) (begun_as y x)
   pub writer : (x y : Party) (call : Call) (a : Answer) → Calls B x y call a → G x y → G y x → G (called x y.given call a) y
   pub reader : (x y : Party) (call : Call) (a : Answer) → Calls B x y call a → G x y → G y x → G y (called x y.given call a)
+  pub shows : (x y : Party) (here there : ℕ) → B (showing x here) (showing y there) → B (showing y there) (showing x here) → G x y → G y x → G (showing x here) (showing y there)
 
 -- a call behind which another group holds too
 further : (B G : Way) → Group B G → (x y : Party) (call : Call) (a : Answer) → Calls B x y call a → G x y → G y x → Calls (And B G) x y call a
@@ -67,6 +68,10 @@ both B G H g h = record {
       (gives, h.first x y m (there, gives) (back, takes));
   writer = λ x y call a c gives takes. (g.writer x y call a c gives.0 takes.0, h.writer x y call a (further B G g x y call a c gives.0 takes.0) gives.1 takes.1);
   reader = λ x y call a c gives takes. (g.reader x y call a c gives.0 takes.0, h.reader x y call a (further B G g x y call a c gives.0 takes.0) gives.1 takes.1);
+  shows = λ x y here there b back gives takes.
+      let shown = g.shows x y here there b back gives.0 takes.0 in
+      let others = g.shows y x there here back b takes.0 gives.0 in
+      (shown, h.shows x y here there (b, shown) (back, others) gives.1 takes.1);
 }
 
 -- groups that say nothing of one another are one
@@ -75,6 +80,7 @@ beside B G H g h = record {
   first = λ x y m there back. (g.first x y m there back, h.first x y m there back);
   writer = λ x y call a c gives takes. (g.writer x y call a c gives.0 takes.0, h.writer x y call a c gives.1 takes.1);
   reader = λ x y call a c gives takes. (g.reader x y call a c gives.0 takes.0, h.reader x y call a c gives.1 takes.1);
+  shows = λ x y here there b back gives takes. (g.shows x y here there b back gives.0 takes.0, h.shows x y here there b back gives.1 takes.1);
 }
 
 -- a group stands over whatever says more
@@ -83,6 +89,7 @@ over B C G less g = record {
   first = λ x y m there back. g.first x y m (less (begun_as x y) (begun_as y x) there) (less (begun_as y x) (begun_as x y) back);
   writer = λ x y call a c gives takes. g.writer x y call a (weaker x y call a c) gives takes;
   reader = λ x y call a c gives takes. g.reader x y call a (weaker x y call a c) gives takes;
+  shows = λ x y here there b back gives takes. g.shows x y here there (less (showing x here) (showing y there) b) (less (showing y there) (showing x here) back) gives takes;
 }
   where
     weaker : (x y : Party) (call : Call) (a : Answer) → Calls C x y call a → Calls B x y call a
@@ -112,11 +119,12 @@ pub record Before (B : Way) (x y : Party) (call : Call) (a : Answer) : Type 0 wh
   pub gives : B x y
   pub takes : B y x
 
--- G holds at the start, whatever else does, and a call keeps it where B holds before.
+-- G holds at the start, whatever else does, a call keeps it where B holds before, and it stays whichever windows both ends read.
 pub record Early (B G : Way) : Type 0 where
   pub first : (x y : Beginning) → AreMade x y → G (begun_as x y) (begun_as y x)
   pub writer : (x y : Party) (call : Call) (a : Answer) → Before B x y call a → G x y → G y x → G (called x y.given call a) y
   pub reader : (x y : Party) (call : Call) (a : Answer) → Before B x y call a → G x y → G y x → G y (called x y.given call a)
+  pub shows : (x y : Party) (here there : ℕ) → G x y → G (showing x here) (showing y there)
 
 -- what holds before a call, said less
 less_before : (B C : Way) → ((x y : Party) → C x y → B x y) → (x y : Party) (call : Call) (a : Answer) → Before C x y call a → Before B x y call a
@@ -137,6 +145,7 @@ early_over B C G less g = record {
   first = g.first;
   writer = λ x y call a c gives takes. g.writer x y call a (less_before B C less x y call a c) gives takes;
   reader = λ x y call a c gives takes. g.reader x y call a (less_before B C less x y call a c) gives takes;
+  shows = g.shows;
 }
 
 -- two are one, each of which may rest on what the other says before a call
@@ -145,6 +154,7 @@ early_both B G H g h = record {
   first = λ x y m. (g.first x y m, h.first x y m);
   writer = λ x y call a c gives takes. (g.writer x y call a (beside_before H x y call a c gives.1 takes.1) gives.0 takes.0, h.writer x y call a (beside_before G x y call a c gives.0 takes.0) gives.1 takes.1);
   reader = λ x y call a c gives takes. (g.reader x y call a (beside_before H x y call a c gives.1 takes.1) gives.0 takes.0, h.reader x y call a (beside_before G x y call a c gives.0 takes.0) gives.1 takes.1);
+  shows = λ x y here there holds. (g.shows x y here there holds.0, h.shows x y here there holds.1);
 }
   where
     beside_before : (K : Way) (x y : Party) (call : Call) (a : Answer) → Before B x y call a → K x y → K y x → Before (And B K) x y call a
@@ -165,6 +175,7 @@ early_group B G g = record {
   first = λ x y m there back. g.first x y m;
   writer = λ x y call a c gives takes. g.writer x y call a (record { joined = c.joined; answer = c.answer; served = c.served; uses = c.uses; codes = c.codes; joined_behind = c.joined_behind; gives = c.gives; takes = c.takes }) gives takes;
   reader = λ x y call a c gives takes. g.reader x y call a (record { joined = c.joined; answer = c.answer; served = c.served; uses = c.uses; codes = c.codes; joined_behind = c.joined_behind; gives = c.gives; takes = c.takes }) gives takes;
+  shows = λ x y here there b back gives takes. g.shows x y here there gives;
 }
 
 -- such a group rests on H, and H on it: they are one
@@ -176,6 +187,10 @@ knot B G H g h = record {
       (gives, h.first x y m (there, gives) (back, takes));
   writer = λ x y call a c gives takes. (g.writer x y call a (early x y call a c gives.1 takes.1) gives.0 takes.0, h.writer x y call a (late x y call a c gives takes) gives.1 takes.1);
   reader = λ x y call a c gives takes. (g.reader x y call a (early x y call a c gives.1 takes.1) gives.0 takes.0, h.reader x y call a (late x y call a c gives takes) gives.1 takes.1);
+  shows = λ x y here there b back gives takes.
+      let shown = g.shows x y here there gives.0 in
+      let others = g.shows y x there here takes.0 in
+      (shown, h.shows x y here there (b, shown) (back, others) gives.1 takes.1);
 }
   where
     early : (x y : Party) (call : Call) (a : Answer) → Calls B x y call a → H x y → H y x → Before (And B H) x y call a

@@ -9,7 +9,7 @@ use Rattle.quic_machine.specs.declared.answers.State.{State}
 use Rattle.quic_machine.specs.declared.run.RunEvent.{RunEvent}
 use Rattle.quic_machine.specs.declared.run.Answer.{Answer}
 use Rattle.quic_machine.specs.declared.run.View.{View}
-use Rattle.quic_machine.specs.Machine.{World, Policies, IsStep, end_at, changed, gives, policy_at, fails, Follows, view_of}
+use Rattle.quic_machine.specs.Machine.{World, Policies, IsStep, end_at, end_met, control_at, changed, gives, policy_at, fails, Follows, view_of}
 use Rattle.quic_headline.specs.Runs.{Told, told_by, told_at, state_in, state_behind}
 
 -- what both ends gave, the first of all that they give
@@ -20,7 +20,7 @@ pub record Grown (w end : World) : Type 0 where
 grown_same : (w end : World) → end ≡ w → Grown w end
 grown_same w end is = record { client = ([], append-nil w.from_client ∙ sym (ap (λ t. t.from_client) is)); server = ([], append-nil w.from_server ∙ sym (ap (λ t. t.from_server) is)) }
 
-grown_by : (side : Side) (w next end : World) (ds : List (List ℕ)) → next ≡ changed side w (end_at side next) ds → Grown next end → Grown w end
+grown_by : (side : Side) (w next end : World) (ds : List (List ℕ)) → next ≡ changed side w (end_at side next) ds (control_at side next) → Grown next end → Grown w end
 grown_by Client w next end ds is g = record {
   client = (ds ++ g.client.0, sym (append_assoc w.from_client ds g.client.0) ∙ ap (λ t. t ++ g.client.0) (sym (ap (λ t. t.from_client) is)) ∙ g.client.1);
   server = (g.server.0, ap (λ t. t ++ g.server.0) (sym (ap (λ t. t.from_server) is)) ∙ g.server.1);
@@ -39,7 +39,7 @@ grown k w (e ∷ events) [] (v ∷ views) end f = absurd f
 grown k w [] (a ∷ answers) views end f = absurd f
 grown k w (e ∷ events) (a ∷ answers) [] end f = absurd f
 grown k w (e ∷ events) (a ∷ answers) (v ∷ views) end f =
-    grown_by e.side w f.0 end (gives (policy_at e.side k) (end_at e.side w) e.call a) f.1.others (grown k f.0 events answers views end f.3)
+    grown_by e.side w f.0 end (gives (policy_at e.side k) (end_met w e) e.call a) f.1.others (grown k f.0 events answers views end f.3)
 
 served_first : (a b : Bool) → (a || b) ≡ false → a ≡ false
 served_first true b q = q
@@ -49,7 +49,7 @@ served_rest : (a b : Bool) → (a || b) ≡ false → b ≡ false
 served_rest true b q = cc
 served_rest false b q = q
 
-told_none : (side : Side) (events : List RunEvent) (views : List View) (state : _) → told_at side state events [] views ≡ []
+pub told_none : (side : Side) (events : List RunEvent) (views : List View) (state : _) → told_at side state events [] views ≡ []
 told_none side [] views state = refl
 told_none side (e ∷ events) views state = refl
 
@@ -124,7 +124,7 @@ module _ (k : Policies) (end : World) (E : RunEvent → Answer → List Told →
   moment (suc i) w (e ∷ events) (a ∷ answers) (v ∷ views) client server h each f q =
       let next = f.0 in
       let left = grown k next events answers views end f.3 in
-      let behind = grown_by e.side w next end (gives (policy_at e.side k) (end_at e.side w) e.call a) f.1.others left in
+      let behind = grown_by e.side w next end (gives (policy_at e.side k) (end_met w e) e.call a) f.1.others left in
       let holds = step w next e a client server h (first_of w e a events answers (v ∷ views) client server each) f.1 (served_first (fails a) _ q) behind left in
       let m = moment i next events answers views _ _ holds (rest_of w next e a v events answers views client server f.2 each) f.3 (served_rest (fails a) _ q) in
       record {

@@ -10,7 +10,7 @@ use Rattle.quic_machine.specs.declared.run.Answer.{Answer}
 use Rattle.quic_machine.specs.Policy.{Policy, CanOpen}
 use Rattle.quic_spaces.specs.Numbers.{cut_against}
 use Rattle.quic_machine.specs.Start.{IsLawful, Making, IsMaking}
-use Rattle.quic_machine.specs.End.{End, number_of, new_end}
+use Rattle.quic_machine.specs.End.{End, number_of, new_end, with_window}
 use Rattle.quic_machine.specs.Opens.{own_id_length}
 use Rattle.quic_machine.specs.Poll.{datagram_size}
 use Rattle.quic_machine.specs.PollCases.{draft_at, frames_at}
@@ -64,6 +64,10 @@ called x theirs call a = record x {
   sents = x.sents ++ sents_by x.end call a;
   told = x.told ++ told_of call a x.end.closing.state ∷ [];
 }
+
+-- it read that its controller shows this window
+abbrev pub showing : Party → ℕ → Party
+showing x window = record x { end = with_window x.end window }
 
 -- what came to an end from the other
 abbrev pub came_to : Party → Party → Intake
@@ -119,7 +123,7 @@ pub record Beginning : Type 0 where
 
 -- the end as it is made, whose peer begins so
 abbrev pub new_as : Beginning → Beginning → End
-new_as x y = new_end x.side x.making.settings (parameters_of y.making.settings) x.making.id y.making.id x.making.moment x.making.validated x.making.word
+new_as x y = new_end x.side x.making.settings x.making.windows (parameters_of y.making.settings) x.making.id y.making.id x.making.moment x.making.validated x.making.word
 
 -- the end that begins so, whose peer begins so
 abbrev pub begun_as : Beginning → Beginning → Party

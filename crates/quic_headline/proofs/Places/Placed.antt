@@ -10,14 +10,18 @@ use Rattle.quic_parameters.specs.Parameters.{ParameterValues}
 use Rattle.quic_parameters.specs.ParametersRead.{parameters_at}
 use Rattle.quic_machine.specs.declared.run.RunEvent.{RunEvent}
 use Rattle.quic_machine.specs.declared.run.Call.{Call}
+use Rattle.quic_machine.specs.declared.run.Call.TheVariants as calls
+use Rattle.quic_machine.specs.declared.answers.State.{State}
 use Rattle.quic_machine.specs.declared.run.Answer.{Answer}
 use Rattle.quic_machine.specs.declared.run.View.{View}
 use Rattle.quic_machine.specs.Ids.{known, own_id}
 use Rattle.quic_machine.specs.Opens.{own_id_length}
 use Rattle.quic_machine.specs.Policy.{Policy}
-use Rattle.quic_machine.specs.End.{End, IsMade, new_end}
+use Rattle.quic_machine.specs.Parts.{Windows}
+use Rattle.quic_machine.specs.End.{End, IsMade, new_end, with_window}
+use Rattle.quic_machine.specs.Control.{Control}
 use Rattle.quic_machine.specs.Start.{AreStarted}
-use Rattle.quic_machine.specs.Machine.{World, Policies, IsAnswer, IsLeft, IsStep, after_call, end_at, given_by, gives, policy_at, fails, Follows, view_of}
+use Rattle.quic_machine.specs.Machine.{World, Policies, IsAnswer, IsLeft, IsStep, after_call, reads_window, end_left, end_at, end_met, control_at, given_by, gives, policy_at, fails, Follows, view_of}
 use Rattle.quic_headline.specs.Runs.{Run, Told, In, given_of, told_by, ids_of, folded, until, state_at, LeadsTo, AreServed}
 use Rattle.quic_headline.specs.Observer.{Sent, terms_of, first_watch, watch_told, lens_of, watch}
 use Rattle.quic_headline.specs.Headline.{IsHonest, IsRun, IsAt, used, CodeIsSmall}
@@ -29,15 +33,15 @@ use Rattle.quic_headline.proofs.Places.Moments.{Grown, grown, Moment, moment, la
 -- ---- how an honest run begins
 
 -- what an end is made as
-made_is : {E : Type 0} (side : Side) (settings : Settings) (r : Result ParameterValues E) (theirs : ParameterValues) (own_id peer_id : List ℕ) (now : ℕ) (validated : Bool) (word : ℕ) (e : End) → r ≡ Ok theirs → IsMade side settings r own_id peer_id now validated word e
-    → e ≡ new_end side settings theirs own_id peer_id now validated word
-made_is side settings r theirs own_id peer_id now validated word e is made = rw is at made
+made_is : {E : Type 0} (side : Side) (settings : Settings) (windows : Windows) (r : Result ParameterValues E) (theirs : ParameterValues) (own_id peer_id : List ℕ) (now : ℕ) (validated : Bool) (word : ℕ) (e : End) → r ≡ Ok theirs → IsMade side settings windows r own_id peer_id now validated word e
+    → e ≡ new_end side settings windows theirs own_id peer_id now validated word
+made_is side settings windows r theirs own_id peer_id now validated word e is made = rw is at made
 
 -- the ends as they were made
 pub start_is : (w : World) (s : AreStarted w) (side : Side)
-    → end_at side w ≡ new_end side (making_at side w s).settings (parameters_of (making_at (other_side side) w s).settings) (making_at side w s).id (making_at (other_side side) w s).id (making_at side w s).moment (making_at side w s).validated (making_at side w s).word
-start_is w s Client = made_is Client s.client_making.settings (parameters_at s.server_making.parameters) (parameters_of s.server_making.settings) s.client_making.id s.server_making.id s.client_making.moment s.client_making.validated s.client_making.word w.client s.server_is.says s.client
-start_is w s Server = made_is Server s.server_making.settings (parameters_at s.client_making.parameters) (parameters_of s.client_making.settings) s.server_making.id s.client_making.id s.server_making.moment s.server_making.validated s.server_making.word w.server s.client_is.says s.server
+    → end_at side w ≡ new_end side (making_at side w s).settings (making_at side w s).windows (parameters_of (making_at (other_side side) w s).settings) (making_at side w s).id (making_at (other_side side) w s).id (making_at side w s).moment (making_at side w s).validated (making_at side w s).word
+start_is w s Client = made_is Client s.client_making.settings s.client_making.windows (parameters_at s.server_making.parameters) (parameters_of s.server_making.settings) s.client_making.id s.server_making.id s.client_making.moment s.client_making.validated s.client_making.word w.client s.server_is.says s.client
+start_is w s Server = made_is Server s.server_making.settings s.server_making.windows (parameters_at s.client_making.parameters) (parameters_of s.client_making.settings) s.server_making.id s.client_making.id s.server_making.moment s.server_making.validated s.server_making.word w.server s.client_is.says s.server
 
 -- the id that an end is known by first
 abbrev pub first_id : Run → Side → List ℕ
@@ -86,7 +90,7 @@ pub record Placed (G : Way) (r : Run) (end : World) (side : Side) (i : ℕ) : Ty
   pub takes : G (party_at r i world (other_side side) theirs) (party_at r i world side sents)
 
 -- what stands at a place is the first of what is left from there on
-first_left : {X : Type 0} (xs : List X) (i : ℕ) (x : X) → slice_get xs i ≡ Some x → drop i xs ≡ x ∷ drop (suc i) xs
+pub first_left : {X : Type 0} (xs : List X) (i : ℕ) (x : X) → slice_get xs i ≡ Some x → drop i xs ≡ x ∷ drop (suc i) xs
 first_left [] i x q = cc
 first_left (y ∷ xs) zero x q = let same : y ≡ x = cc in ap (λ t. t ∷ xs) same
 first_left (y ∷ xs) (suc i) x q = first_left xs i x q
@@ -99,13 +103,13 @@ stands_in (y ∷ xs) (suc i) x q = inr (stands_in xs i x q)
 
 -- what the run answers next
 next_answer : (k : Policies) (w end : World) (events : List RunEvent) (answers : List Answer) (views : List View) (event : RunEvent) (a : Answer) → Follows k w (event ∷ events) (a ∷ answers) views end
-    → IsAnswer (policy_at event.side k) (end_at event.side w) (given_by (other_side event.side) w) event.call a
+    → IsAnswer (policy_at event.side k) (end_met w event) (given_by (other_side event.side) w) event.call a
 next_answer k w end events answers [] event a f = absurd f
 next_answer k w end events answers (v ∷ views) event a f = f.1.answer
 
 -- what is answered at a place
 pub answered : (r : Run) (w end : World) (i : ℕ) (side : Side) (call : Call) (a : Answer) → Follows r.keys w (drop i r.events) (drop i r.answers) (drop i r.views) end → IsAt r i side call a
-    → IsAnswer (policy_at side r.keys) (end_at side w) (given_by (other_side side) w) call a
+    → IsAnswer (policy_at side r.keys) (reads_window (control_at side w) call (end_at side w)) (given_by (other_side side) w) call a
 answered r w end i side call a f at =
     let event : RunEvent = record { side = side; call = call } in
     next_answer r.keys w end (drop (suc i) r.events) (drop (suc i) r.answers) (drop i r.views) event a (rw (first_left r.events i event at.event, first_left r.answers i a at.answer) at f)
@@ -142,8 +146,8 @@ told_there Client client server = client
 told_there Server client server = server
 
 -- what an event leaves, where memory served
-left_by : (p : Policy) (e next : End) (theirs : List (List ℕ)) (call : Call) (a : Answer) → fails a ≡ false → IsLeft (fails a) p e theirs call a next → next ≡ after_call p e theirs call a
-left_by p e next theirs call a served is = subst (λ (b : Bool). IsLeft b p e theirs call a next) served is
+left_by : (p : Policy) (control : Control) (e next : End) (theirs : List (List ℕ)) (call : Call) (a : Answer) → fails a ≡ false → IsLeft (fails a) p control e theirs call a next → next ≡ end_left p control e theirs call a
+left_by p control e next theirs call a served is = subst (λ (b : Bool). IsLeft b p control e theirs call a next) served is
 
 module _ (G : Way) (g : Group Nothing G) (r : Run) (end : World) (honest : IsHonest r) (run : IsRun r end) where
   -- how an end began
@@ -212,6 +216,13 @@ module _ (G : Way) (g : Group Nothing G) (r : Run) (end : World) (honest : IsHon
     y_more = (grows.server.0, grows.server.1 ∙ sym run.from_server);
   }
 
+  -- what was given is the same
+  same_grown : (v w : World) → w.from_client ≡ v.from_client → w.from_server ≡ v.from_server → Grown v end → Grown w end
+  same_grown v w client server g = record {
+    client = (g.client.0, ap (λ (ds : List (List ℕ)). ds ++ g.client.0) client ∙ g.client.1);
+    server = (g.server.0, ap (λ (ds : List (List ℕ)). ds ++ g.server.0) server ∙ g.server.1);
+  }
+
   -- nothing was said before
   called_bare : (x y : Party) (call : Call) (a : Answer) → AreJoined x y → AreJoined (called x y.given call a) y → IsAnswer x.policy x.end y.given call a → fails a ≡ false → ((id : ℕ) → used call ≡ Some id → In id (ids_of x.told)) × CodeIsSmall call → Calls Nothing x y call a
   called_bare x y call a before behind answer served uses = record { joined = before; answer = answer; served = served; uses = uses.0; codes = uses.1; joined_behind = behind; gives = tt; takes = tt; gives_behind = tt; takes_behind = tt }
@@ -221,41 +232,86 @@ module _ (G : Way) (g : Group Nothing G) (r : Run) (end : World) (honest : IsHon
       → Holds next (client ++ told_by Client w.client.closing.state event a) (server ++ told_by Server w.server.closing.state event a)
   event_keeps w next event a client server h uses is_step served grows grows_behind = go event.side event.call uses is_step
     where
+      -- the client makes a call, and has become this end for it
+      client_calls : (call : Call) (met : End) → met.closing.state ≡ w.client.closing.state → Uses (record { side = Client; call = call }) a client server → IsAnswer r.keys.client met w.from_server call a
+          → next ≡ record w { client = after_call r.keys.client met w.from_server call a; from_client = w.from_client ++ gives r.keys.client met call a; client_control = next.client_control }
+          → G (party r Client (record w { client = met }) h.client_sents client) (party r Server w h.server_sents server) → G (party r Server w h.server_sents server) (party r Client (record w { client = met }) h.client_sents client)
+          → Holds next (client ++ told_of call a w.client.closing.state ∷ []) (server ++ [])
+      client_calls call met same uses answer is there back =
+          let here : World = record w { client = met } in
+          let after : World = record w { client = after_call r.keys.client met w.from_server call a; from_client = w.from_client ++ gives r.keys.client met call a; client_control = next.client_control } in
+          let x : Party = party r Client here h.client_sents client in
+          let y : Party = party r Server w h.server_sents server in
+          let c : Calls Nothing x y call a =
+          called_bare x y call a (joined_at here h.client_sents h.server_sents client server (same_grown w here refl refl grows))
+          (joined_at after (h.client_sents ++ sents_by met call a) h.server_sents (client ++ told_of call a met.closing.state ∷ []) server (subst (λ (v : World). Grown v end) is grows_behind)) answer served uses in
+          subst (λ (s : State). Holds next (client ++ told_of call a s ∷ []) (server ++ [])) same
+          (subst (λ (v : World). Holds v (client ++ told_of call a met.closing.state ∷ []) (server ++ [])) (sym is)
+          (subst (λ (ts : List Told). Holds after (client ++ told_of call a met.closing.state ∷ []) ts) (sym (append-nil server)) (record {
+            client_sents = h.client_sents ++ sents_by met call a;
+            server_sents = h.server_sents;
+            to_server = g.writer x y call a c there back;
+            to_client = g.reader x y call a c there back;
+          })))
+
+      -- the client makes a call, and a poll reads a window first
+      client_meets : (call : Call) → Uses (record { side = Client; call = call }) a client server → IsStep r.keys w (record { side = Client; call = call }) a next
+          → next ≡ record w { client = end_left r.keys.client w.client_control w.client w.from_server call a; from_client = w.from_client ++ gives r.keys.client (reads_window w.client_control call w.client) call a; client_control = next.client_control }
+          → Holds next (client ++ told_of call a w.client.closing.state ∷ []) (server ++ [])
+      client_meets (calls.Poll now) uses step is =
+          let window : ℕ = w.client_control [] in
+          let x : Party = party r Client w h.client_sents client in
+          let y : Party = party r Server w h.server_sents server in
+          client_calls (calls.Poll now) (with_window w.client window) refl uses step.answer is
+          (g.shows x y window y.end.path.window tt tt h.to_server h.to_client)
+          (g.shows y x y.end.path.window window tt tt h.to_client h.to_server)
+      client_meets call uses step is = client_calls call w.client refl uses step.answer is h.to_server h.to_client
+
+      -- the server makes a call, and has become this end for it
+      server_calls : (call : Call) (met : End) → met.closing.state ≡ w.server.closing.state → Uses (record { side = Server; call = call }) a client server → IsAnswer r.keys.server met w.from_client call a
+          → next ≡ record w { server = after_call r.keys.server met w.from_client call a; from_server = w.from_server ++ gives r.keys.server met call a; server_control = next.server_control }
+          → G (party r Server (record w { server = met }) h.server_sents server) (party r Client w h.client_sents client) → G (party r Client w h.client_sents client) (party r Server (record w { server = met }) h.server_sents server)
+          → Holds next (client ++ []) (server ++ told_of call a w.server.closing.state ∷ [])
+      server_calls call met same uses answer is there back =
+          let here : World = record w { server = met } in
+          let after : World = record w { server = after_call r.keys.server met w.from_client call a; from_server = w.from_server ++ gives r.keys.server met call a; server_control = next.server_control } in
+          let x : Party = party r Server here h.server_sents server in
+          let y : Party = party r Client w h.client_sents client in
+          let c : Calls Nothing x y call a =
+          called_bare x y call a (turned y x (joined_at here h.client_sents h.server_sents client server (same_grown w here refl refl grows)))
+          (turned y (called x y.given call a) (joined_at after h.client_sents (h.server_sents ++ sents_by met call a) client (server ++ told_of call a met.closing.state ∷ []) (subst (λ (v : World). Grown v end) is grows_behind))) answer served uses in
+          subst (λ (s : State). Holds next (client ++ []) (server ++ told_of call a s ∷ [])) same
+          (subst (λ (v : World). Holds v (client ++ []) (server ++ told_of call a met.closing.state ∷ [])) (sym is)
+          (subst (λ (ts : List Told). Holds after ts (server ++ told_of call a met.closing.state ∷ [])) (sym (append-nil client)) (record {
+            client_sents = h.client_sents;
+            server_sents = h.server_sents ++ sents_by met call a;
+            to_server = g.reader x y call a c there back;
+            to_client = g.writer x y call a c there back;
+          })))
+
+      -- the server makes a call, and a poll reads a window first
+      server_meets : (call : Call) → Uses (record { side = Server; call = call }) a client server → IsStep r.keys w (record { side = Server; call = call }) a next
+          → next ≡ record w { server = end_left r.keys.server w.server_control w.server w.from_client call a; from_server = w.from_server ++ gives r.keys.server (reads_window w.server_control call w.server) call a; server_control = next.server_control }
+          → Holds next (client ++ []) (server ++ told_of call a w.server.closing.state ∷ [])
+      server_meets (calls.Poll now) uses step is =
+          let window : ℕ = w.server_control [] in
+          let x : Party = party r Server w h.server_sents server in
+          let y : Party = party r Client w h.client_sents client in
+          server_calls (calls.Poll now) (with_window w.server window) refl uses step.answer is
+          (g.shows x y window y.end.path.window tt tt h.to_client h.to_server)
+          (g.shows y x y.end.path.window window tt tt h.to_server h.to_client)
+      server_meets call uses step is = server_calls call w.server refl uses step.answer is h.to_client h.to_server
+
       go : (side : Side) (call : Call) → Uses (record { side = side; call = call }) a client server → IsStep r.keys w (record { side = side; call = call }) a next
           → Holds next (client ++ told_by Client w.client.closing.state (record { side = side; call = call }) a) (server ++ told_by Server w.server.closing.state (record { side = side; call = call }) a)
       go Client call uses step =
-          let after : World = record w { client = after_call r.keys.client w.client w.from_server call a; from_client = w.from_client ++ gives r.keys.client w.client call a } in
-          let is : next ≡ after =
-          step.others ∙ ap (λ (e : End). record w { client = e; from_client = w.from_client ++ gives r.keys.client w.client call a }) (left_by r.keys.client w.client next.client w.from_server call a served step.end) in
-          let x : Party = party r Client w h.client_sents client in
-          let y : Party = party r Server w h.server_sents server in
-          let c : Calls Nothing x y call a =
-          called_bare x y call a (joined_at w h.client_sents h.server_sents client server grows)
-          (joined_at after (h.client_sents ++ sents_by w.client call a) h.server_sents (client ++ told_of call a w.client.closing.state ∷ []) server (subst (λ (v : World). Grown v end) is grows_behind)) step.answer served uses in
-          subst (λ (v : World). Holds v (client ++ told_of call a w.client.closing.state ∷ []) (server ++ [])) (sym is)
-          (subst (λ (ts : List Told). Holds after (client ++ told_of call a w.client.closing.state ∷ []) ts) (sym (append-nil server)) (record {
-            client_sents = h.client_sents ++ sents_by w.client call a;
-            server_sents = h.server_sents;
-            to_server = g.writer x y call a c h.to_server h.to_client;
-            to_client = g.reader x y call a c h.to_server h.to_client;
-          }))
+          let control : Control = next.client_control in
+          let given : List (List ℕ) = w.from_client ++ gives r.keys.client (reads_window w.client_control call w.client) call a in
+          client_meets call uses step (step.others ∙ ap (λ (e : End). record w { client = e; from_client = given; client_control = control }) (left_by r.keys.client w.client_control w.client next.client w.from_server call a served step.end))
       go Server call uses step =
-          let after : World = record w { server = after_call r.keys.server w.server w.from_client call a; from_server = w.from_server ++ gives r.keys.server w.server call a } in
-          let is : next ≡ after =
-          step.others ∙ ap (λ (e : End). record w { server = e; from_server = w.from_server ++ gives r.keys.server w.server call a }) (left_by r.keys.server w.server next.server w.from_client call a served step.end) in
-          let x : Party = party r Server w h.server_sents server in
-          let y : Party = party r Client w h.client_sents client in
-          let c : Calls Nothing x y call a =
-          called_bare x y call a (turned (party r Client w h.client_sents client) x (joined_at w h.client_sents h.server_sents client server grows))
-          (turned (party r Client after h.client_sents client) (called x y.given call a)
-          (joined_at after h.client_sents (h.server_sents ++ sents_by w.server call a) client (server ++ told_of call a w.server.closing.state ∷ []) (subst (λ (v : World). Grown v end) is grows_behind))) step.answer served uses in
-          subst (λ (v : World). Holds v (client ++ []) (server ++ told_of call a w.server.closing.state ∷ [])) (sym is)
-          (subst (λ (ts : List Told). Holds after ts (server ++ told_of call a w.server.closing.state ∷ [])) (sym (append-nil client)) (record {
-            client_sents = h.client_sents;
-            server_sents = h.server_sents ++ sents_by w.server call a;
-            to_server = g.reader x y call a c h.to_client h.to_server;
-            to_client = g.writer x y call a c h.to_client h.to_server;
-          }))
+          let control : Control = next.server_control in
+          let given : List (List ℕ) = w.from_server ++ gives r.keys.server (reads_window w.server_control call w.server) call a in
+          server_meets call uses step (step.others ∙ ap (λ (e : End). record w { server = e; from_server = given; server_control = control }) (left_by r.keys.server w.server_control w.server next.server w.from_client call a served step.end))
 
   -- before the first event
   holds_first : Holds r.start [] []

@@ -7,9 +7,12 @@ use Rattle.quic_headline.specs.Messages.{MessagesAtMostOnce}
 use Rattle.quic_headline.specs.InFlight.{TracksInFlight}
 use Rattle.quic_headline.specs.Causes.{NumberLimit}
 use Rattle.quic_headline.specs.Moments.{LossMoments, LossTimerQuiet, AckMoments}
+use Rattle.quic_headline.specs.Polls.{PacerSetsItsTimer, AskingGoesWhereLet, ProbesPass, WindowIsOfHistory}
 use Rattle.quic_headline.specs.Headline.{IsHonest, IsRun, OrderedPrefix, Slices, Once, EndAfterAll, BlockedOnlyWithoutBytes, AcceptsAll, FinishedMeansArrived, AcknowledgedWereTaken, NamesWereTaken, OpensExactly, NewestOpens, NumbersRise}
 use Rattle.quic_headline.proofs.Halves.Ready.{Ready, ready_probes, ready_group}
 use Rattle.quic_headline.proofs.Places.Everything as everything
+use Rattle.quic_headline.proofs.Steps.Pacing as pacing
+use Rattle.quic_headline.proofs.Steps.Windows as windows
 
 -- what waits to go of streams may go
 pub ready : everything.IsReadying Ready
@@ -84,3 +87,17 @@ ack_moments = everything.ack_moments Ready ready
 
 pub number_limit : (r : Run) (end : World) → IsHonest r → IsRun r end → NumberLimit r
 number_limit = everything.number_limit Ready ready
+
+-- ---- window and pacer
+
+pub pacer_sets_its_timer : (r : Run) (end : World) → IsHonest r → IsRun r end → PacerSetsItsTimer r
+pacer_sets_its_timer r end honest run = pacing.pacer_sets_its_timer r
+
+pub window_is_of_history : (r : Run) (end : World) → IsHonest r → IsRun r end → WindowIsOfHistory r
+window_is_of_history r end honest run = windows.window_is_of_history r end run
+
+pub asking_goes_where_let : (r : Run) (end : World) → IsHonest r → IsRun r end → AskingGoesWhereLet r
+asking_goes_where_let = everything.asking_goes_where_let Ready ready
+
+pub probes_pass : (r : Run) (end : World) → IsHonest r → IsRun r end → ProbesPass r
+probes_pass = everything.probes_pass Ready ready

@@ -35,10 +35,10 @@ pub record Spells (H : Way) : Type 1 where
   pub spelling : Spelling known
   pub bringing : Bringing known
   -- also where something waits for each probe
-  pub holds : (x y : Party) → PacketsHold x y → H x y → (now : ℕ) → known (streams_at (ready_at x.end now))
+  pub holds : (x y : Party) → PacketsHold x y → H x y → (now : ℕ) → known (streams_at (ready_at x.end now).end)
 
 module _ (H : Way) (s : Spells H) where
-  -- what an end composes next has a form
+  -- what goes of an end next has a form
   spells : (x y : Party) → AreJoined x y → And Nothing H x y → And Nothing H y x → PacketsHold x y → PacketsHold y x → SpellsNext x.end
   spells x y joined there back p q =
       let long : length x.end.ids.active.id ≡ own_id_length = ap (λ (id : List ℕ). length id) p.active ∙ joined.y_long in

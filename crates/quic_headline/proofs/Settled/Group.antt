@@ -36,7 +36,7 @@ use Rattle.quic_machine.specs.Acked.{stream_lost, streams_lost, carried_lost, pa
 use Rattle.quic_machine.specs.Calls.{is_open, tells_message, tells_of, message_told, others_told}
 use Rattle.quic_machine.specs.StreamCalls.{is_on_streams}
 use Rattle.quic_machine.specs.Receive.{Outcome}
-use Rattle.quic_machine.specs.Poll.{polled}
+use Rattle.quic_machine.specs.Poll.{polled, tracked}
 use Rattle.quic_machine.specs.Machine.{IsAnswer, after_call, gave}
 use Rattle.quic_machine.specs.CallCases.{is_delivery, is_poll, asks_event, by_call}
 use Rattle.quic_machine.specs.LeaveCases.{by_expired}
@@ -118,8 +118,8 @@ module _ (arrived : ℕ → ℕ → Type 0) (end_arrived : ℕ → Type 0) (k : 
           on_messages = λ on answer. i;
           pings = i;
           heard = λ path same. i;
-          times = λ now acks loss set. by_expired e now (λ (f : End). Settling arrived end_arrived k n w f.streams) (λ pending tracking timers runs packets. i)
-              (λ pending timers runs. expiry_stays (λ (t : Streams). Settling arrived end_arrived k n w t.state) e now (losing e.tracking.packets ends) i pending timers) acks loss;
+          times = λ now acks loss pacing set. by_expired e now (λ (f : End). Settling arrived end_arrived k n w f.streams) (λ pending tracking timers runs packets. i)
+              (λ pending timers runs. expiry_stays (λ (t : Streams). Settling arrived end_arrived k n w t.state) e now (losing e.tracking.packets ends) i pending timers) acks loss pacing;
           polls = λ now set. cc;
           hears = λ now d set. cc;
           tells = λ asks. cc;
@@ -309,7 +309,7 @@ module _ (sents : List Sent) (w : ℕ → Wrote) (says : (s : Sent) → In s sen
     losing = open_loses n;
     names = λ flying acked a e among i. i;
     acks = λ flying acked ss left ps e inside stays waits i. ((λ s j. i.0 s (stays s j)), sents_settle n w sents acked ss ps waits e (meta_sent n flying acked ss i.0 inside) i.1);
-    measured = λ flying acked r e i. i;
+    measured = λ flying acked r first e i. i;
     on_streams = λ flying acked f e among on i. (i.0, settling_frame (λ id o. HoldsOffset acked id o) (λ id. HoldsEnd acked id) (known_of sents acked) n w f e on (small f among) i.1);
     message = λ flying acked m e i. i;
   }
@@ -337,7 +337,7 @@ module _ (took : List Packet) (sents : List Sent) (n : ℕ → ℕ) (w : ℕ →
     lost = λ c m e was among i. lost_holds Any AnyEnd n w nothing_known m e (sent_ended sents w says was.sent was.among m (carried_stream c was.sent.frames was.is m among)) i;
     again = λ c e was i. i;
     tracked = λ t e i. i;
-    measured = λ r e i. i;
+    measured = λ r first e i. i;
   }
     where
       carried_ended : (c : Carried) (m : StreamMeta) → WasCarried took c → In m c.stream_frames → m.fin ≡ true → (w m.id).ended ≡ true
@@ -568,4 +568,5 @@ settled_group B b = record {
   first = λ x y m there back. settled_first B b x y m there back;
   writer = λ x y call a c s back. record { always = always_on B b x y call a c s; still = still_on B b x y call a c s };
   reader = λ x y call a c there s. record { always = s.always; still = s.still };
+  shows = λ x y here there b back s t. record { always = s.always; still = s.still };
 }

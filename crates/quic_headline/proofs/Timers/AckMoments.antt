@@ -14,16 +14,16 @@ use Rattle.quic_machine.specs.declared.run.Answer.TheVariants as answers
 use Rattle.quic_spaces.specs.Acknowledging.{ack_due}
 use Rattle.quic_machine.specs.Policy.{Policy}
 use Rattle.quic_machine.specs.Closing.{ticked}
-use Rattle.quic_machine.specs.End.{End, with_closing, with_ack_timer}
+use Rattle.quic_machine.specs.End.{End, with_closing, with_ack_timer, with_loss_timer}
 use Rattle.quic_machine.specs.Receive.{asks_in, after_taken, Outcome}
-use Rattle.quic_machine.specs.Poll.{Polled, Draft, composed, lazied, polled}
-use Rattle.quic_machine.specs.Timeouts.{loss_judged}
+use Rattle.quic_machine.specs.Poll.{Polled, Draft, lazied, polled, draft_if}
+use Rattle.quic_machine.specs.Timeouts.{loss_judged, acks_expired, loss_expired, pacing_expired}
 use Rattle.quic_machine.specs.Machine.{World, IsAnswer, after_call, fails, gave, end_at}
 use Rattle.quic_machine.specs.CallCases.{is_delivery, by_plain_call}
 use Rattle.quic_machine.specs.LeaveCases.{at_expiry}
 use Rattle.quic_machine.specs.FrameCases.{Settling, named, begun, passed, acked_keeps, losses_keep, frame_keeps, frame_leaves, frames_keep}
 use Rattle.quic_machine.specs.PollCases.{ready_at, ready_leaves, draft_at, frames_at, by_poll_to}
-use Rattle.quic_machine.specs.DraftLaws.{by_writing}
+use Rattle.quic_machine.specs.DraftLaws.{by_leave, due_alone}
 use Rattle.quic_headline.specs.Runs.{Run, Told, Packet, Intake, In, given_of, until, folded, AreServed}
 use Rattle.quic_headline.specs.Observer.{Sent, Watch, first_watch, news, Lens, watch_told, lens_of}
 use Rattle.quic_headline.specs.Headline.{IsHonest}
@@ -41,6 +41,7 @@ use Rattle.quic_headline.proofs.Places.Coming.{by_coming}
 use Rattle.quic_headline.proofs.Places.Placed.{Placed, party_at, known_first}
 use Rattle.quic_headline.proofs.Timers.Still.{was_open}
 use Rattle.quic_headline.proofs.Timers.Watched.{Observed, behind_is, own_behind, watched_behind, timers_behind, open_behind}
+use Rattle.quic_headline.proofs.Packets.Probes.{MayLeave, by_going}
 
 -- ---- what goes
 
@@ -75,24 +76,24 @@ control_not f is = refl
 abbrev Stopped : Draft → Type 0
 Stopped d = list_any is_ack d.frames ≡ true → d.end.timers.max_ack_delay ≡ None
 
-composed_stopped : (e : End) → Stopped (composed e)
-composed_stopped e = by_writing Stopped (record {
+draft_stopped : (held : Bool) (e : End) → MayLeave held e → Stopped (draft_if held e)
+draft_stopped held e alone = by_leave Stopped (record {
   ack = λ d filled may i is. refl;
   ping = λ d i some. i (any_more d.frames _ refl some);
   drops = λ d kind i. i;
   control = λ d kind entry es f is goes i some. i (any_more d.frames f (control_not f (entry_control kind d.end.waiting.frames entry es d.end.streams f is goes)) some);
   message = λ d m ms is fit i acks. i (any_more d.frames (datagram m) refl acks);
   stream = λ d id h room found first some is counts i acks. i (any_more d.frames _ refl acks);
-}) e (λ is. cc)
+}) held e alone (λ is. cc)
 
 -- so it is behind a poll that gives one
 polled_stopped : (p : Policy) (e : End) (now : ℕ) → acknowledges (sent_if (gave (answers.Poll (polled p e now).answer)) (sent_by e now)) ≡ true → (polled p e now).end.timers.max_ack_delay ≡ None
 polled_stopped p e now = by_poll_to p e now (λ (q : Polled). acknowledges (sent_if (gave (answers.Poll q.answer)) (sent_by e now)) ≡ true → q.end.timers.max_ack_delay ≡ None) (record {
   silent = λ some. cc;
   failed = λ some. cc;
-  idle = λ some. cc;
+  nothing = λ is none some. cc;
   used_up = λ some. refl;
-  gives = λ is may some acks. composed_stopped (lazied (ready_at e now)) (sym (any_padded (draft_at e now).frames _) ∙ first_only (list_any is_ack (frames_at e now)) acks);
+  gives = λ is may some acks. by_going (λ (x : End). x.timers.max_ack_delay ≡ None) p (draft_at e now) (λ pacing. draft_stopped (ready_at e now).held (lazied (ready_at e now).end) (due_alone (ready_at e now) some) (sym (any_padded (draft_at e now).frames _) ∙ first_only (list_any is_ack (frames_at e now)) acks));
 })
   where
     first_only : (b : Bool) → (b || false) ≡ true → b ≡ true
@@ -107,7 +108,7 @@ HasTimer o e = e.timers.max_ack_delay ≡ o
 
 -- packets that are acknowledged or lost leave it
 timer_settles : (o : Option ℕ) → Settling (HasTimer o)
-timer_settles o = record { known = λ n y j. j; reset = λ id y j. j; acked = λ m y j. j; lost = λ m y j. j; again = λ carried y j. j; tracked = λ t y j. j; measured = λ r y j. j }
+timer_settles o = record { known = λ n y j. j; reset = λ id y j. j; acked = λ m y j. j; lost = λ m y j. j; again = λ carried y j. j; tracked = λ t y j. j; measured = λ r first y j. j }
 
 abbrev SetsNone : End → End → Type 0
 SetsNone e f = (moment : ℕ) → f.timers.max_ack_delay ≡ Some moment → e.timers.max_ack_delay ≡ Some moment
@@ -117,25 +118,33 @@ judged_none : (o : Option ℕ) (e : End) → (loss_judged o e).timers.max_ack_de
 judged_none None e = refl
 judged_none (Some moment) e = losses_keep (HasTimer e.timers.max_ack_delay) (timer_settles e.timers.max_ack_delay) e refl
 
-expired_none : (e : End) (now : ℕ) (acks loss : Bool) → SetsNone e (at_expiry e now acks loss)
-expired_none e now true loss moment set = cc
-expired_none e now false true moment set = sym (judged_none e.tracking.loss_time (with_closing e (ticked e.closing now))) ∙ set
-expired_none e now false false moment set = set
+acks_none : (e : End) (now : ℕ) (acks loss : Bool) → SetsNone e (acks_expired acks (loss_expired loss (with_closing e (ticked e.closing now))))
+acks_none e now true loss moment set = cc
+acks_none e now false true moment set = sym (judged_none e.tracking.loss_time (with_closing e (ticked e.closing now))) ∙ set
+acks_none e now false false moment set = set
 
-composed_none : (e : End) → SetsNone e (composed e).end
-composed_none e = by_writing (λ (d : Draft). SetsNone e d.end) (record { ack = λ d filled may i moment set. cc; ping = λ d i. i; drops = λ d kind i. i; control = λ d kind entry es f is goes i. i; message = λ d m ms is fit i. i; stream = λ d id h room found first some is counts i. i }) e (λ moment set. set)
+-- nor does that of the pacer
+pacing_none : (pacing : Bool) (e : End) → (with_loss_timer (pacing_expired pacing e)).timers.max_ack_delay ≡ e.timers.max_ack_delay
+pacing_none true e = refl
+pacing_none false e = refl
 
--- nor does a probe
-ready_none : (e : End) (now : ℕ) → SetsNone e (ready_at e now)
+expired_none : (e : End) (now : ℕ) (acks loss pacing : Bool) → SetsNone e (at_expiry e now acks loss pacing)
+expired_none e now acks loss pacing moment set = acks_none e now acks loss moment (sym (pacing_none pacing (acks_expired acks (loss_expired loss (with_closing e (ticked e.closing now))))) ∙ set)
+
+draft_none : (held : Bool) (e : End) → MayLeave held e → SetsNone e (draft_if held e).end
+draft_none held e alone = by_leave (λ (d : Draft). SetsNone e d.end) (record { ack = λ d filled may i moment set. cc; ping = λ d i. i; drops = λ d kind i. i; control = λ d kind entry es f is goes i. i; message = λ d m ms is fit i. i; stream = λ d id h room found first some is counts i. i }) held e alone (λ moment set. set)
+
+-- nor does an end that is made ready
+ready_none : (e : End) (now : ℕ) → SetsNone e (ready_at e now).end
 ready_none e now moment set = ap (λ (x : End). x.timers.max_ack_delay) (sym (ready_leaves e now)) ∙ set
 
 polled_none : (p : Policy) (e : End) (now : ℕ) → SetsNone e (polled p e now).end
 polled_none p e now = by_poll_to p e now (λ (q : Polled). SetsNone e q.end) (record {
   silent = λ moment set. set;
   failed = λ moment set. set;
-  idle = ready_none e now;
+  nothing = λ is none. ready_none e now;
   used_up = λ moment set. none_set moment set;
-  gives = λ is may some moment set. ready_none e now moment (composed_none (lazied (ready_at e now)) moment set);
+  gives = λ is may some. by_going (SetsNone e) p (draft_at e now) (λ pacing moment set. ready_none e now moment (draft_none (ready_at e now).held (lazied (ready_at e now).end) (due_alone (ready_at e now) some) moment set));
 })
   where
     none_set : {A : Type 0} (moment : ℕ) → None ≡ Some moment → A
@@ -148,7 +157,7 @@ call_none p e theirs call a apart = by_plain_call p e theirs (SetsNone e) call a
   on_messages = λ m moment set. set;
   pings = λ moment set. set;
   heard = λ path same moment set. set;
-  times = λ now acks loss is. expired_none e now acks loss;
+  times = λ now acks loss pacing is. expired_none e now acks loss pacing;
   polls = λ now is. polled_none p e now;
   hears = λ now d is. (let clash : true ≡ false = sym is ∙ apart in cc);
   tells = λ told moment set. set;
@@ -329,6 +338,7 @@ debt_group = record {
   first = λ x y m there here. record { owes = λ opened moment set. cc };
   writer = λ x y call a c i back. debt_step x y call a c i;
   reader = λ x y call a c i back. record { owes = back.owes };
+  shows = λ x y here there b back i j. record { owes = i.owes };
 }
 
 -- ---- a run

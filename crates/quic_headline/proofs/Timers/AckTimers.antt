@@ -13,18 +13,19 @@ use Rattle.quic_machine.specs.declared.run.Answer.{Answer}
 use Rattle.quic_machine.specs.declared.run.View.{View}
 use Rattle.quic_machine.specs.Policy.{Policy}
 use Rattle.quic_machine.specs.Closing.{ticked}
-use Rattle.quic_machine.specs.End.{End, with_closing, closed_by}
+use Rattle.quic_machine.specs.End.{End, with_closing, closed_by, with_loss_timer}
 use Rattle.quic_machine.specs.Receive.{timers_after}
-use Rattle.quic_machine.specs.Poll.{Polled, Draft, with_ack, composed, lazied, polled}
-use Rattle.quic_machine.specs.Timeouts.{loss_judged}
+use Rattle.quic_machine.specs.Poll.{Polled, Draft, with_ack, lazied, polled, draft_if}
+use Rattle.quic_machine.specs.Timeouts.{loss_judged, acks_expired, loss_expired, pacing_expired}
 use Rattle.quic_machine.specs.Machine.{World, Policies, after_call, Follows}
 use Rattle.quic_headline.specs.Headline.{AckTimerFollows, AckTimersFollow}
-use Rattle.quic_machine.specs.DraftLaws.{by_writing}
+use Rattle.quic_machine.specs.DraftLaws.{by_leave, due_alone}
 use Rattle.quic_machine.specs.LeaveCases.{at_expiry}
 use Rattle.quic_machine.specs.CallCases.{by_plain_call}
 use Rattle.quic_machine.specs.FrameCases.{Settling, Receives, named, acked_keeps, losses_keep, frame_keeps, frame_leaves, by_received}
-use Rattle.quic_machine.specs.PollCases.{ready_at, ready_leaves, by_poll_to}
+use Rattle.quic_machine.specs.PollCases.{ready_at, ready_leaves, by_poll_to, draft_at}
 use Rattle.quic_headline.proofs.Timers.BothEnds.{run_keeps}
+use Rattle.quic_headline.proofs.Packets.Probes.{MayLeave, by_going}
 
 -- no timer is set
 unset_follows : (e : End) → e.timers.max_ack_delay ≡ None → AckTimerFollows e
@@ -38,7 +39,7 @@ closed_follows reason e = unset_follows (closed_by reason e) refl
 
 -- acknowledged and lost packets leave the timer, and the packets that ask count on
 settling : Settling AckTimerFollows
-settling = record { known = λ n e i. i; reset = λ id e i. i; acked = λ m e i. i; lost = λ m e i. i; again = λ carried e i. i; tracked = λ t e i. i; measured = λ r e i. i }
+settling = record { known = λ n e i. i; reset = λ id e i. i; acked = λ m e i. i; lost = λ m e i. i; again = λ carried e i. i; tracked = λ t e i. i; measured = λ r first e i. i }
 
 -- the timer waits or is left: the count stays
 wait_counts : (b : Bool) (p : Pending) (now : ℕ) → (cond b (record p { since = Some now }) p).asking ≡ p.asking
@@ -65,8 +66,8 @@ receives = record {
 -- ---- a poll
 
 -- an ACK that goes stops the timer, and no other frame changes it
-composed_follows : (e : End) → AckTimerFollows e → AckTimerFollows (composed e).end
-composed_follows = by_writing (λ (d : Draft). AckTimerFollows d.end) (record {
+draft_follows : (held : Bool) (e : End) → MayLeave held e → AckTimerFollows e → AckTimerFollows (draft_if held e).end
+draft_follows = by_leave (λ (d : Draft). AckTimerFollows d.end) (record {
   ack = λ d filled may i. unset_follows (with_ack d).end refl;
   ping = λ d i. i;
   drops = λ d kind i. i;
@@ -75,30 +76,39 @@ composed_follows = by_writing (λ (d : Draft). AckTimerFollows d.end) (record {
   stream = λ d id h room found first some is counts i. i;
 })
 
--- what a probe changes leaves the timer
-ready_follows : (e : End) (now : ℕ) → AckTimerFollows e → AckTimerFollows (ready_at e now)
+-- what changes where an end is made ready leaves the timer
+ready_follows : (e : End) (now : ℕ) → AckTimerFollows e → AckTimerFollows (ready_at e now).end
 ready_follows e now i = subst (λ (x : End). AckTimerFollows x) (sym (ready_leaves e now)) i
 
 polled_follows : (p : Policy) (e : End) (now : ℕ) → AckTimerFollows e → AckTimerFollows (polled p e now).end
 polled_follows p e now i = by_poll_to p e now (λ (q : Polled). AckTimerFollows q.end) (record {
   silent = i;
   failed = i;
-  idle = ready_follows e now i;
-  used_up = closed_follows reasons.NumberLimit (ready_at e now);
-  gives = λ is may some. composed_follows (lazied (ready_at e now)) (ready_follows e now i);
+  nothing = λ is none. ready_follows e now i;
+  used_up = closed_follows reasons.NumberLimit (ready_at e now).end;
+  gives = λ is may some. by_going AckTimerFollows p (draft_at e now) (λ pacing. draft_follows (ready_at e now).held (lazied (ready_at e now).end) (due_alone (ready_at e now) some) (ready_follows e now i));
 })
 
 -- ---- any call
 
--- expired timers: that of acknowledgements stops, and losses leave it
+-- expired timers: that of acknowledgements stops, and losses leave it, and so does the pacer's
 judged_follows : (o : Option ℕ) (e : End) → AckTimerFollows e → AckTimerFollows (loss_judged o e)
 judged_follows None e i = i
 judged_follows (Some moment) e i = losses_keep AckTimerFollows settling e i
 
-expired_follows : (e : End) (now : ℕ) (acks loss : Bool) → AckTimerFollows e → AckTimerFollows (at_expiry e now acks loss)
-expired_follows e now true loss i = unset_follows (at_expiry e now true loss) refl
-expired_follows e now false true i = judged_follows e.tracking.loss_time (with_closing e (ticked e.closing now)) i
-expired_follows e now false false i = i
+acks_follow : (acks loss : Bool) (e : End) → AckTimerFollows e → AckTimerFollows (acks_expired acks (loss_expired loss e))
+acks_follow true loss e i = unset_follows (acks_expired true (loss_expired loss e)) refl
+acks_follow false true e i = judged_follows e.tracking.loss_time e i
+acks_follow false false e i = i
+
+pacing_follows : (pacing : Bool) (e : End) → AckTimerFollows e → AckTimerFollows (with_loss_timer (pacing_expired pacing e))
+pacing_follows true e i = i
+pacing_follows false e i = i
+
+expired_follows : (e : End) (now : ℕ) (acks loss pacing : Bool) → AckTimerFollows e → AckTimerFollows (at_expiry e now acks loss pacing)
+expired_follows e now acks loss pacing i =
+    let begun : End = with_closing e (ticked e.closing now) in
+    pacing_follows pacing (acks_expired acks (loss_expired loss begun)) (acks_follow acks loss begun i)
 
 -- what any call leaves
 call_follows : (p : Policy) (e : End) (theirs : List (List ℕ)) (call : Call) (a : Answer) → AckTimerFollows e → AckTimerFollows (after_call p e theirs call a)
@@ -108,7 +118,7 @@ call_follows p e theirs call a i = by_plain_call p e theirs AckTimerFollows call
   on_messages = λ m. i;
   pings = i;
   heard = λ path same. i;
-  times = λ now acks loss is. expired_follows e now acks loss i;
+  times = λ now acks loss pacing is. expired_follows e now acks loss pacing i;
   polls = λ now is. polled_follows p e now i;
   hears = λ now d is. by_received AckTimerFollows receives p e now d i;
   tells = λ told. i;
@@ -118,5 +128,6 @@ call_follows p e theirs call a i = by_plain_call p e theirs AckTimerFollows call
 pub ack_timers_follow : (k : Policies) (w end : World) (events : List RunEvent) (told : List Answer) (views : List View) → Follows k w events told views end → AckTimersFollow w → AckTimersFollow end
 ack_timers_follow k w end events told views f i = run_keeps AckTimerFollows (record {
   call = call_follows;
+  shows = λ window e i. i;
   stops = λ e next is opened. let clash : states.Failed ≡ states.Open = sym is.0 ∙ opened in cc;
 }) k w end events told views f i

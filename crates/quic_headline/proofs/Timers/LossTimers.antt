@@ -32,11 +32,12 @@ use Rattle.quic_machine.specs.Opens.{own_id_length}
 use Rattle.quic_machine.specs.Closing.{Closing, ticked}
 use Rattle.quic_spaces.specs.Numbers.{Numbers, number_opened}
 use Rattle.quic_machine.specs.Tracking.{Tracking, TrackedPacket, asks_any, without_record, is_behind, tail_of, forgets, forgotten, oldest, without_packet, asking_sent, after_sent, Verdict, is_lost, kept_by, loss_moment, moment_or, probe_moment, after_detection, acked_by, not_acked_by, names}
-use Rattle.quic_machine.specs.End.{End, with_closing, closed_by, with_numbers, number_of, with_ping, peer_delay, probe_timeout, with_loss_timer}
+use Rattle.quic_machine.specs.End.{End, with_closing, closed_by, with_numbers, number_of, with_ping, peer_delay, probe_timeout, with_loss_timer, with_window}
 use Rattle.quic_machine.specs.Acked.{verdict, losses_detected, measured, sampled, without_acked, after_named, after_acked}
 use Rattle.quic_machine.specs.Receive.{Fault, violation, reason_of, take_frame, take_items, take_payload, is_empty, asks_in, after_taken, dropped, ends_as, by_state, opened_to, opened_as, opening, headed, received_in, received}
-use Rattle.quic_machine.specs.Poll.{Polled, Draft, composed, packet_of, after_given, record_moved, lazied, polled}
-use Rattle.quic_machine.specs.Timeouts.{acks_expired, loss_judged, loss_expired}
+use Rattle.quic_machine.specs.Poll.{Polled, Draft, packet_of, after_given, record_moved, lazied, draft_if, polled}
+use Rattle.quic_machine.specs.Timeouts.{acks_expired, loss_judged, loss_expired, pacing_expired}
+use Rattle.quic_machine.specs.Control.{Gated}
 use Rattle.quic_machine.specs.Machine.{World, Policies, after_call, Follows}
 use Rattle.quic_machine.specs.LeaveCases.{at_expiry}
 use Rattle.quic_machine.specs.CallCases.{by_plain_call}
@@ -45,7 +46,7 @@ use Rattle.quic_machine.specs.PollCases.{ready_at, by_poll_to, Composes, compose
 use Rattle.quic_headline.specs.Runs.{In}
 use Rattle.quic_headline.specs.Headline.{LossTimerFollows, LossTimersFollow}
 use Rattle.quic_headline.proofs.Packets.Named.{in_filter, filter_chose}
-use Rattle.quic_headline.proofs.Packets.Probes.{in_put, by_ready}
+use Rattle.quic_headline.proofs.Packets.Probes.{in_put, by_ready, MayLeave, may_leave, by_going}
 use Rattle.quic_headline.proofs.Packets.Given.{allocated_near}
 use Rattle.quic_headline.proofs.Packets.Growth.{in_more}
 use Rattle.quic_headline.proofs.Packets.Numbered.{Lies, lies_below, lies_filter, lies_remove, lies_put, lies_push, one_key, added_last, in_remove, oldest_in, asks_last, asks_remove, asks_put, late_asks, is_at_same}
@@ -236,7 +237,7 @@ quiet_settles e = record {
   lost = λ m x q. record { numbers = q.numbers; closing = q.closing };
   again = λ c x q. record { numbers = q.numbers; closing = q.closing };
   tracked = λ t x q. record { numbers = q.numbers; closing = q.closing };
-  measured = λ r x q. record { numbers = q.numbers; closing = q.closing };
+  measured = λ r first x q. record { numbers = q.numbers; closing = q.closing };
 }
 
 -- a round trip that is measured leaves what is tracked
@@ -307,8 +308,8 @@ moved_stands next p t i s = (
     old q asks (inr is) = ap (λ (x : ℕ × TrackedPacket). is_behind t.greatest_asking x.0) is ∙ s.asked p i (ap (λ (x : ℕ × TrackedPacket). x.1.asks) (sym is) ∙ asks)
 
 -- an end is ready
-pub ready_stands : (e : End) (now : ℕ) → LossStands e → LossStands (ready_at e now)
-ready_stands e now i = by_ready LossStands e now same pings moves
+pub ready_stands : (e : End) (now : ℕ) → LossStands e → LossStands (ready_at e now).end
+ready_stands e now i = by_ready LossStands e now same pings moves (λ moment pacing x j opened. (let s = j opened in record { stands = s.stands; set = s.set }))
   where
     same : LossStands (with_closing e (ticked e.closing now))
     same opened = let s = i opened in record { stands = s.stands; set = s.set }
@@ -323,21 +324,27 @@ ready_stands e now i = by_ready LossStands e now same pings moves
         record { stands = moved.0; set = s.set ∙ sym (moved.1 (probe_timeout e)) }
 
 -- a datagram goes
-given_stands : (p : Policy) (e : End) → LossStands e → LossStands (after_given p (composed e))
-given_stands p e i opened =
-    let d : Draft = composed e in
-    let c : Composes e d.end = composes e in
+given_stands : (p : Policy) (held : Bool) (e : End) → MayLeave held e → LossStands e → LossStands (after_given p (draft_if held e))
+given_stands p held e due i = by_going LossStands p d (λ pacing opened.
     let before = (i (ap (λ (x : Closing). x.state) (sym c.closing) ∙ opened)).stands in
     let ready : Stands d.end.numbers.next d.end.tracking = subst (λ (n : Numbers). Stands n.next d.end.tracking) (sym c.numbers) (subst (λ (t : Tracking). Stands e.numbers.next t) (sym c.tracking) before) in
-    record { stands = stands_sent d.end.numbers.next (number_of d.end) d.end.tracking (packet_of d) (allocated_near d.end.filter d.end.numbers.next).0 ready; set = refl }
+    record { stands = stands_sent d.end.numbers.next (number_of d.end) d.end.tracking (packet_of d) (allocated_near d.end.filter d.end.numbers.next).0 ready; set = refl })
+  where
+    d : Draft
+    d = draft_if held e
+
+    c : Composes e d.end
+    c = composes held e due
 
 polled_stands : (p : Policy) (e : End) (now : ℕ) → LossStands e → LossStands (polled p e now).end
 polled_stands p e now i = by_poll_to p e now (λ (q : Polled). LossStands q.end) (record {
   silent = i;
   failed = i;
-  idle = ready_stands e now i;
-  used_up = closed_stands reasons.NumberLimit (ready_at e now);
-  gives = λ is may some. given_stands p (lazied (ready_at e now)) (λ opened. (let s = ready_stands e now i opened in record { stands = s.stands; set = s.set }));
+  nothing = λ is none opened. (let s = ready_stands e now i opened in record { stands = s.stands; set = s.set });
+  used_up = closed_stands reasons.NumberLimit (ready_at e now).end;
+  gives = λ is may some.
+      let g : Gated = ready_at e now in
+      given_stands p g.held (lazied g.end) (may_leave e now g.held g.end refl some) (λ opened. (let s = ready_stands e now i opened in record { stands = s.stands; set = s.set }));
 })
 
 -- ---- any call
@@ -350,8 +357,8 @@ judged_stands e (Some moment) i opened =
     let s = i (ap (λ (c : Closing). c.state) (sym quiet.closing) ∙ opened) in
     subst (λ (n : Numbers). Stands n.next (losses_detected e).tracking) (sym quiet.numbers) (stands_detected e.numbers.next (verdict e) e.tracking s.lies s.asked)
 
-expired_stands : (e : End) (now : ℕ) (acks loss : Bool) → LossStands e → LossStands (at_expiry e now acks loss)
-expired_stands e now acks loss i = after acks (loss_expired loss begun) (judged loss)
+expired_stands : (e : End) (now : ℕ) (acks loss pacing : Bool) → LossStands e → LossStands (at_expiry e now acks loss pacing)
+expired_stands e now acks loss pacing i = after pacing (acks_expired acks (loss_expired loss begun)) (acked acks (loss_expired loss begun) (judged loss))
   where
     begun : End
     begun = with_closing e (ticked e.closing now)
@@ -360,8 +367,12 @@ expired_stands e now acks loss i = after acks (loss_expired loss begun) (judged 
     judged true = judged_stands begun e.tracking.loss_time (λ opened. (i opened).stands)
     judged false = λ opened. (i opened).stands
 
-    after : (acks : Bool) (f : End) → FrameStands f → LossStands (with_loss_timer (acks_expired acks f))
-    after true f j opened = (let s = j opened in record { stands = record { lies = s.lies; asked = s.asked; late = s.late }; set = refl })
+    acked : (acks : Bool) (f : End) → FrameStands f → FrameStands (acks_expired acks f)
+    acked true f j opened = let s = j opened in record { lies = s.lies; asked = s.asked; late = s.late }
+    acked false f j opened = j opened
+
+    after : (pacing : Bool) (f : End) → FrameStands f → LossStands (with_loss_timer (pacing_expired pacing f))
+    after true f j opened = record { stands = j opened; set = refl }
     after false f j opened = record { stands = j opened; set = refl }
 
 -- what any call leaves
@@ -372,11 +383,15 @@ call_stands p e theirs call a i = by_plain_call p e theirs LossStands call a (re
   on_messages = λ m opened. (let s = i opened in record { stands = s.stands; set = s.set });
   pings = λ opened. (let s = i opened in record { stands = s.stands; set = s.set });
   heard = λ path same opened. (let s = i opened in record { stands = s.stands; set = s.set ∙ ap (λ (r : Rtt). loss_moment (saturated (rtt_timeout r + peer_delay e)) e.tracking) (sym same.rtt) });
-  times = λ now acks loss is. expired_stands e now acks loss i;
+  times = λ now acks loss pacing is. expired_stands e now acks loss pacing i;
   polls = λ now is. polled_stands p e now i;
   hears = λ now d is. by_hearing LossStands FrameStands hears p e now d i;
   tells = λ told opened. (let s = i opened in record { stands = s.stands; set = s.set });
 })
+
+-- whichever window is shown
+pub stands_shown : (window : ℕ) (e : End) → LossStands e → LossStands (with_window e window)
+stands_shown window e i opened = let s = i opened in record { stands = s.stands; set = s.set }
 
 -- ---- a run
 
@@ -396,6 +411,7 @@ stands_follow e i opened =
 pub losses_stand : (k : Policies) (w end : World) (events : List RunEvent) (told : List Answer) (views : List View) → Follows k w events told views end → AtBoth LossStands w → AtBoth LossStands end
 losses_stand k w end events told views f i = run_keeps LossStands (record {
   call = call_stands;
+  shows = stands_shown;
   stops = λ e next is opened. let clash : states.Failed ≡ states.Open = sym is.0 ∙ opened in cc;
 }) k w end events told views f i
 

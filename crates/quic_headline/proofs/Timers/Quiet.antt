@@ -297,6 +297,7 @@ quiet_group = record {
   first = λ x y m there here. record { quiet = record { own = λ s i. absurd i; unnamed = λ s i. absurd i } };
   writer = λ x y call a c i back. quiet_step x y call a c i;
   reader = λ x y call a c i back. record { quiet = back.quiet };
+  shows = λ x y here there b back i j. record { quiet = i.quiet };
 }
 
 -- ---- a run

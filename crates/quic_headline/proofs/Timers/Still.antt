@@ -11,7 +11,8 @@ use Rattle.quic_machine.specs.Machine.{after_call}
 use Rattle.quic_machine.specs.CallCases.{by_plain_call}
 use Rattle.quic_machine.specs.LeaveCases.{at_expiry, by_expired}
 use Rattle.quic_machine.specs.FrameCases.{Receives, named, frame_keeps, frame_leaves, by_received}
-use Rattle.quic_machine.specs.PollCases.{at_moment, by_poll, composes}
+use Rattle.quic_machine.specs.PollCases.{at_poll, by_poll, composes}
+use Rattle.quic_headline.proofs.Packets.Probes.{may_leave}
 use Rattle.quic_headline.proofs.Packets.Stays.{settles_ack, settles_losses}
 
 -- it was open before
@@ -31,16 +32,18 @@ opened_receives e = record {
   closes = λ reason f i opened. cc;
 }
 
-opened_expired : (e : End) (now : ℕ) (acks loss : Bool) → WasOpen e (at_expiry e now acks loss)
+opened_expired : (e : End) (now : ℕ) (acks loss pacing : Bool) → WasOpen e (at_expiry e now acks loss pacing)
 opened_expired e now = by_expired e now (WasOpen e) (λ pending tracking timers runs packets opened. opened) (λ pending timers runs opened. ap (λ (c : Closing). c.state) (sym (settles_losses (with_closing e (ticked e.closing now))).closing) ∙ opened)
 
 opened_polled : (p : Policy) (e : End) (now : ℕ) → WasOpen e (polled p e now).end
 opened_polled p e now = by_poll p e now (λ (q : Polled). WasOpen e q.end) (record {
   silent = λ opened. opened;
   failed = λ opened. opened;
-  idle = λ t w ready opened. opened;
-  used_up = λ t w ready opened. cc;
-  gives = λ t w tracking timers is may some ready opened. ap (λ (c : Closing). c.state) (sym (composes (lazied (at_moment e now t w))).closing) ∙ opened;
+  nothing = λ t w moment pacing limited opened. opened;
+  used_up = λ t w moment pacing opened. cc;
+  gives = λ held t w moment pacing paid tracking timers is may ready some opened.
+      let x : End = at_poll e now t w moment pacing e.path.app_limited in
+      ap (λ (c : Closing). c.state) (sym (composes held (lazied x) (may_leave e now held x ready some)).closing) ∙ opened;
 })
 
 -- behind any call
@@ -51,7 +54,7 @@ was_open p e theirs call a = by_plain_call p e theirs (WasOpen e) call a (record
   on_messages = λ m opened. opened;
   pings = λ opened. opened;
   heard = λ path same opened. opened;
-  times = λ now acks loss is. opened_expired e now acks loss;
+  times = λ now acks loss pacing is. opened_expired e now acks loss pacing;
   polls = λ now is. opened_polled p e now;
   hears = λ now d is. by_received (WasOpen e) (opened_receives e) p e now d (λ opened. opened);
   tells = λ told opened. opened;

@@ -2,6 +2,7 @@
 use Rattle.std.proofs.Common.{refl, take}
 use Rattle.quic_machine.specs.Machine.{Policies}
 use Rattle.quic_headline.specs.Runs.{Run}
+use Rattle.quic_connection_core.specs.Telling.{windows_of}
 use Rattle.quic_connection.specs.Ends.{world_of, first_world, policies_of, run_of}
 use Rattle.quic_connection.proofs.running.run.Goals as goal
 
@@ -9,185 +10,227 @@ pub returns-clause-ordered_prefix : goal.returns-clause-ordered_prefix
 returns-clause-ordered_prefix g c =
     let o = c.run_events.result in
     let keys : Policies = policies_of g.H.HeaderKey.protection g.K.PacketKey.aead g.R.Rng.stream c.args.ends in
-    let r : Run = run_of keys c.args.ends c.args.events.now o.answers.items o.views.items o.given in
-    λ honest. c.ordered_prefix.ensures r (world_of o.ends o.given) honest (record { codes = c.show_codes.ensures; follows = c.run_events.ensures.follows; from_client = refl; from_server = refl })
+    let r : Run = run_of keys (windows_of g.C.Controller.steps g.C.Controller.window_of) c.args.ends c.args.events.now o.answers.items o.views.items o.given in
+    λ honest. c.ordered_prefix.ensures r (world_of (windows_of g.C.Controller.steps g.C.Controller.window_of) o.ends o.given) honest (record { codes = c.show_codes.ensures; follows = c.run_events.ensures.follows; from_client = refl; from_server = refl })
 
 pub returns-clause-slices : goal.returns-clause-slices
 returns-clause-slices g c =
     let o = c.run_events.result in
     let keys : Policies = policies_of g.H.HeaderKey.protection g.K.PacketKey.aead g.R.Rng.stream c.args.ends in
-    let r : Run = run_of keys c.args.ends c.args.events.now o.answers.items o.views.items o.given in
-    λ honest. c.slices.ensures r (world_of o.ends o.given) honest (record { codes = c.show_codes.ensures; follows = c.run_events.ensures.follows; from_client = refl; from_server = refl })
+    let r : Run = run_of keys (windows_of g.C.Controller.steps g.C.Controller.window_of) c.args.ends c.args.events.now o.answers.items o.views.items o.given in
+    λ honest. c.slices.ensures r (world_of (windows_of g.C.Controller.steps g.C.Controller.window_of) o.ends o.given) honest (record { codes = c.show_codes.ensures; follows = c.run_events.ensures.follows; from_client = refl; from_server = refl })
 
 pub returns-clause-once : goal.returns-clause-once
 returns-clause-once g c =
     let o = c.run_events.result in
     let keys : Policies = policies_of g.H.HeaderKey.protection g.K.PacketKey.aead g.R.Rng.stream c.args.ends in
-    let r : Run = run_of keys c.args.ends c.args.events.now o.answers.items o.views.items o.given in
-    λ honest. c.once.ensures r (world_of o.ends o.given) honest (record { codes = c.show_codes.ensures; follows = c.run_events.ensures.follows; from_client = refl; from_server = refl })
+    let r : Run = run_of keys (windows_of g.C.Controller.steps g.C.Controller.window_of) c.args.ends c.args.events.now o.answers.items o.views.items o.given in
+    λ honest. c.once.ensures r (world_of (windows_of g.C.Controller.steps g.C.Controller.window_of) o.ends o.given) honest (record { codes = c.show_codes.ensures; follows = c.run_events.ensures.follows; from_client = refl; from_server = refl })
 
 pub returns-clause-end_after_all : goal.returns-clause-end_after_all
 returns-clause-end_after_all g c =
     let o = c.run_events.result in
     let keys : Policies = policies_of g.H.HeaderKey.protection g.K.PacketKey.aead g.R.Rng.stream c.args.ends in
-    let r : Run = run_of keys c.args.ends c.args.events.now o.answers.items o.views.items o.given in
-    λ honest. c.end_after_all.ensures r (world_of o.ends o.given) honest (record { codes = c.show_codes.ensures; follows = c.run_events.ensures.follows; from_client = refl; from_server = refl })
+    let r : Run = run_of keys (windows_of g.C.Controller.steps g.C.Controller.window_of) c.args.ends c.args.events.now o.answers.items o.views.items o.given in
+    λ honest. c.end_after_all.ensures r (world_of (windows_of g.C.Controller.steps g.C.Controller.window_of) o.ends o.given) honest (record { codes = c.show_codes.ensures; follows = c.run_events.ensures.follows; from_client = refl; from_server = refl })
 
 pub returns-clause-blocked_only_without_bytes : goal.returns-clause-blocked_only_without_bytes
 returns-clause-blocked_only_without_bytes g c =
     let o = c.run_events.result in
     let keys : Policies = policies_of g.H.HeaderKey.protection g.K.PacketKey.aead g.R.Rng.stream c.args.ends in
-    let r : Run = run_of keys c.args.ends c.args.events.now o.answers.items o.views.items o.given in
-    λ honest. c.blocked_only_without_bytes.ensures r (world_of o.ends o.given) honest (record { codes = c.show_codes.ensures; follows = c.run_events.ensures.follows; from_client = refl; from_server = refl })
+    let r : Run = run_of keys (windows_of g.C.Controller.steps g.C.Controller.window_of) c.args.ends c.args.events.now o.answers.items o.views.items o.given in
+    λ honest. c.blocked_only_without_bytes.ensures r (world_of (windows_of g.C.Controller.steps g.C.Controller.window_of) o.ends o.given) honest (record { codes = c.show_codes.ensures; follows = c.run_events.ensures.follows; from_client = refl; from_server = refl })
 
 pub returns-clause-accepts_all : goal.returns-clause-accepts_all
 returns-clause-accepts_all g c =
     let o = c.run_events.result in
     let keys : Policies = policies_of g.H.HeaderKey.protection g.K.PacketKey.aead g.R.Rng.stream c.args.ends in
-    let r : Run = run_of keys c.args.ends c.args.events.now o.answers.items o.views.items o.given in
-    λ honest. c.accepts_all.ensures r (world_of o.ends o.given) honest (record { codes = c.show_codes.ensures; follows = c.run_events.ensures.follows; from_client = refl; from_server = refl })
+    let r : Run = run_of keys (windows_of g.C.Controller.steps g.C.Controller.window_of) c.args.ends c.args.events.now o.answers.items o.views.items o.given in
+    λ honest. c.accepts_all.ensures r (world_of (windows_of g.C.Controller.steps g.C.Controller.window_of) o.ends o.given) honest (record { codes = c.show_codes.ensures; follows = c.run_events.ensures.follows; from_client = refl; from_server = refl })
 
 pub returns-clause-finished_means_arrived : goal.returns-clause-finished_means_arrived
 returns-clause-finished_means_arrived g c =
     let o = c.run_events.result in
     let keys : Policies = policies_of g.H.HeaderKey.protection g.K.PacketKey.aead g.R.Rng.stream c.args.ends in
-    let r : Run = run_of keys c.args.ends c.args.events.now o.answers.items o.views.items o.given in
-    λ honest. c.finished_means_arrived.ensures r (world_of o.ends o.given) honest (record { codes = c.show_codes.ensures; follows = c.run_events.ensures.follows; from_client = refl; from_server = refl })
+    let r : Run = run_of keys (windows_of g.C.Controller.steps g.C.Controller.window_of) c.args.ends c.args.events.now o.answers.items o.views.items o.given in
+    λ honest. c.finished_means_arrived.ensures r (world_of (windows_of g.C.Controller.steps g.C.Controller.window_of) o.ends o.given) honest (record { codes = c.show_codes.ensures; follows = c.run_events.ensures.follows; from_client = refl; from_server = refl })
 
 pub returns-clause-finished_is_told : goal.returns-clause-finished_is_told
 returns-clause-finished_is_told g c =
     let o = c.run_events.result in
     let keys : Policies = policies_of g.H.HeaderKey.protection g.K.PacketKey.aead g.R.Rng.stream c.args.ends in
-    let r : Run = run_of keys c.args.ends c.args.events.now o.answers.items o.views.items o.given in
-    λ honest. c.finished_is_told.ensures r (world_of o.ends o.given) honest (record { codes = c.show_codes.ensures; follows = c.run_events.ensures.follows; from_client = refl; from_server = refl })
+    let r : Run = run_of keys (windows_of g.C.Controller.steps g.C.Controller.window_of) c.args.ends c.args.events.now o.answers.items o.views.items o.given in
+    λ honest. c.finished_is_told.ensures r (world_of (windows_of g.C.Controller.steps g.C.Controller.window_of) o.ends o.given) honest (record { codes = c.show_codes.ensures; follows = c.run_events.ensures.follows; from_client = refl; from_server = refl })
 
 pub returns-clause-duties_stand : goal.returns-clause-duties_stand
 returns-clause-duties_stand g c =
     let o = c.run_events.result in
     let keys : Policies = policies_of g.H.HeaderKey.protection g.K.PacketKey.aead g.R.Rng.stream c.args.ends in
-    let r : Run = run_of keys c.args.ends c.args.events.now o.answers.items o.views.items o.given in
-    λ honest. c.duties_stand.ensures r (world_of o.ends o.given) honest (record { codes = c.show_codes.ensures; follows = c.run_events.ensures.follows; from_client = refl; from_server = refl })
+    let r : Run = run_of keys (windows_of g.C.Controller.steps g.C.Controller.window_of) c.args.ends c.args.events.now o.answers.items o.views.items o.given in
+    λ honest. c.duties_stand.ensures r (world_of (windows_of g.C.Controller.steps g.C.Controller.window_of) o.ends o.given) honest (record { codes = c.show_codes.ensures; follows = c.run_events.ensures.follows; from_client = refl; from_server = refl })
 
 pub returns-clause-grown_limits_wait : goal.returns-clause-grown_limits_wait
 returns-clause-grown_limits_wait g c =
     let o = c.run_events.result in
     let keys : Policies = policies_of g.H.HeaderKey.protection g.K.PacketKey.aead g.R.Rng.stream c.args.ends in
-    let r : Run = run_of keys c.args.ends c.args.events.now o.answers.items o.views.items o.given in
-    λ honest. c.grown_limits_wait.ensures r (world_of o.ends o.given) honest (record { codes = c.show_codes.ensures; follows = c.run_events.ensures.follows; from_client = refl; from_server = refl })
+    let r : Run = run_of keys (windows_of g.C.Controller.steps g.C.Controller.window_of) c.args.ends c.args.events.now o.answers.items o.views.items o.given in
+    λ honest. c.grown_limits_wait.ensures r (world_of (windows_of g.C.Controller.steps g.C.Controller.window_of) o.ends o.given) honest (record { codes = c.show_codes.ensures; follows = c.run_events.ensures.follows; from_client = refl; from_server = refl })
 
 pub returns-clause-messages_at_most_once : goal.returns-clause-messages_at_most_once
 returns-clause-messages_at_most_once g c =
     let o = c.run_events.result in
     let keys : Policies = policies_of g.H.HeaderKey.protection g.K.PacketKey.aead g.R.Rng.stream c.args.ends in
-    let r : Run = run_of keys c.args.ends c.args.events.now o.answers.items o.views.items o.given in
-    λ honest. c.messages_at_most_once.ensures r (world_of o.ends o.given) honest (record { codes = c.show_codes.ensures; follows = c.run_events.ensures.follows; from_client = refl; from_server = refl })
+    let r : Run = run_of keys (windows_of g.C.Controller.steps g.C.Controller.window_of) c.args.ends c.args.events.now o.answers.items o.views.items o.given in
+    λ honest. c.messages_at_most_once.ensures r (world_of (windows_of g.C.Controller.steps g.C.Controller.window_of) o.ends o.given) honest (record { codes = c.show_codes.ensures; follows = c.run_events.ensures.follows; from_client = refl; from_server = refl })
 
 pub returns-clause-writes_take_what_limits_allow : goal.returns-clause-writes_take_what_limits_allow
 returns-clause-writes_take_what_limits_allow g c =
     let o = c.run_events.result in
     let keys : Policies = policies_of g.H.HeaderKey.protection g.K.PacketKey.aead g.R.Rng.stream c.args.ends in
-    let r : Run = run_of keys c.args.ends c.args.events.now o.answers.items o.views.items o.given in
-    λ honest. c.writes_take_what_limits_allow.ensures r (world_of o.ends o.given) honest (record { codes = c.show_codes.ensures; follows = c.run_events.ensures.follows; from_client = refl; from_server = refl })
+    let r : Run = run_of keys (windows_of g.C.Controller.steps g.C.Controller.window_of) c.args.ends c.args.events.now o.answers.items o.views.items o.given in
+    λ honest. c.writes_take_what_limits_allow.ensures r (world_of (windows_of g.C.Controller.steps g.C.Controller.window_of) o.ends o.given) honest (record { codes = c.show_codes.ensures; follows = c.run_events.ensures.follows; from_client = refl; from_server = refl })
+
+pub returns-clause-polls_send_what_waits : goal.returns-clause-polls_send_what_waits
+returns-clause-polls_send_what_waits g c =
+    let o = c.run_events.result in
+    let keys : Policies = policies_of g.H.HeaderKey.protection g.K.PacketKey.aead g.R.Rng.stream c.args.ends in
+    let r : Run = run_of keys (windows_of g.C.Controller.steps g.C.Controller.window_of) c.args.ends c.args.events.now o.answers.items o.views.items o.given in
+    λ honest. c.polls_send_what_waits.ensures r (world_of (windows_of g.C.Controller.steps g.C.Controller.window_of) o.ends o.given) honest (record { codes = c.show_codes.ensures; follows = c.run_events.ensures.follows; from_client = refl; from_server = refl })
+
+pub returns-clause-polls_send_messages : goal.returns-clause-polls_send_messages
+returns-clause-polls_send_messages g c =
+    let o = c.run_events.result in
+    let keys : Policies = policies_of g.H.HeaderKey.protection g.K.PacketKey.aead g.R.Rng.stream c.args.ends in
+    let r : Run = run_of keys (windows_of g.C.Controller.steps g.C.Controller.window_of) c.args.ends c.args.events.now o.answers.items o.views.items o.given in
+    λ honest. c.polls_send_messages.ensures r (world_of (windows_of g.C.Controller.steps g.C.Controller.window_of) o.ends o.given) honest (record { codes = c.show_codes.ensures; follows = c.run_events.ensures.follows; from_client = refl; from_server = refl })
+
+pub returns-clause-pacer_sets_its_timer : goal.returns-clause-pacer_sets_its_timer
+returns-clause-pacer_sets_its_timer g c =
+    let o = c.run_events.result in
+    let keys : Policies = policies_of g.H.HeaderKey.protection g.K.PacketKey.aead g.R.Rng.stream c.args.ends in
+    let r : Run = run_of keys (windows_of g.C.Controller.steps g.C.Controller.window_of) c.args.ends c.args.events.now o.answers.items o.views.items o.given in
+    λ honest. c.pacer_sets_its_timer.ensures r (world_of (windows_of g.C.Controller.steps g.C.Controller.window_of) o.ends o.given) honest (record { codes = c.show_codes.ensures; follows = c.run_events.ensures.follows; from_client = refl; from_server = refl })
+
+pub returns-clause-asking_goes_where_let : goal.returns-clause-asking_goes_where_let
+returns-clause-asking_goes_where_let g c =
+    let o = c.run_events.result in
+    let keys : Policies = policies_of g.H.HeaderKey.protection g.K.PacketKey.aead g.R.Rng.stream c.args.ends in
+    let r : Run = run_of keys (windows_of g.C.Controller.steps g.C.Controller.window_of) c.args.ends c.args.events.now o.answers.items o.views.items o.given in
+    λ honest. c.asking_goes_where_let.ensures r (world_of (windows_of g.C.Controller.steps g.C.Controller.window_of) o.ends o.given) honest (record { codes = c.show_codes.ensures; follows = c.run_events.ensures.follows; from_client = refl; from_server = refl })
+
+pub returns-clause-probes_pass : goal.returns-clause-probes_pass
+returns-clause-probes_pass g c =
+    let o = c.run_events.result in
+    let keys : Policies = policies_of g.H.HeaderKey.protection g.K.PacketKey.aead g.R.Rng.stream c.args.ends in
+    let r : Run = run_of keys (windows_of g.C.Controller.steps g.C.Controller.window_of) c.args.ends c.args.events.now o.answers.items o.views.items o.given in
+    λ honest. c.probes_pass.ensures r (world_of (windows_of g.C.Controller.steps g.C.Controller.window_of) o.ends o.given) honest (record { codes = c.show_codes.ensures; follows = c.run_events.ensures.follows; from_client = refl; from_server = refl })
+
+pub returns-clause-window_is_of_history : goal.returns-clause-window_is_of_history
+returns-clause-window_is_of_history g c =
+    let o = c.run_events.result in
+    let keys : Policies = policies_of g.H.HeaderKey.protection g.K.PacketKey.aead g.R.Rng.stream c.args.ends in
+    let r : Run = run_of keys (windows_of g.C.Controller.steps g.C.Controller.window_of) c.args.ends c.args.events.now o.answers.items o.views.items o.given in
+    λ honest. c.window_is_of_history.ensures r (world_of (windows_of g.C.Controller.steps g.C.Controller.window_of) o.ends o.given) honest (record { codes = c.show_codes.ensures; follows = c.run_events.ensures.follows; from_client = refl; from_server = refl })
 
 pub returns-clause-tracks_in_flight : goal.returns-clause-tracks_in_flight
 returns-clause-tracks_in_flight g c =
     let o = c.run_events.result in
     let keys : Policies = policies_of g.H.HeaderKey.protection g.K.PacketKey.aead g.R.Rng.stream c.args.ends in
-    let r : Run = run_of keys c.args.ends c.args.events.now o.answers.items o.views.items o.given in
-    λ honest. c.tracks_in_flight.ensures r (world_of o.ends o.given) honest (record { codes = c.show_codes.ensures; follows = c.run_events.ensures.follows; from_client = refl; from_server = refl })
+    let r : Run = run_of keys (windows_of g.C.Controller.steps g.C.Controller.window_of) c.args.ends c.args.events.now o.answers.items o.views.items o.given in
+    λ honest. c.tracks_in_flight.ensures r (world_of (windows_of g.C.Controller.steps g.C.Controller.window_of) o.ends o.given) honest (record { codes = c.show_codes.ensures; follows = c.run_events.ensures.follows; from_client = refl; from_server = refl })
 
 pub returns-clause-loss_moments : goal.returns-clause-loss_moments
 returns-clause-loss_moments g c =
     let o = c.run_events.result in
     let keys : Policies = policies_of g.H.HeaderKey.protection g.K.PacketKey.aead g.R.Rng.stream c.args.ends in
-    let r : Run = run_of keys c.args.ends c.args.events.now o.answers.items o.views.items o.given in
-    λ honest. c.loss_moments.ensures r (world_of o.ends o.given) honest (record { codes = c.show_codes.ensures; follows = c.run_events.ensures.follows; from_client = refl; from_server = refl })
+    let r : Run = run_of keys (windows_of g.C.Controller.steps g.C.Controller.window_of) c.args.ends c.args.events.now o.answers.items o.views.items o.given in
+    λ honest. c.loss_moments.ensures r (world_of (windows_of g.C.Controller.steps g.C.Controller.window_of) o.ends o.given) honest (record { codes = c.show_codes.ensures; follows = c.run_events.ensures.follows; from_client = refl; from_server = refl })
 
 pub returns-clause-ack_moments : goal.returns-clause-ack_moments
 returns-clause-ack_moments g c =
     let o = c.run_events.result in
     let keys : Policies = policies_of g.H.HeaderKey.protection g.K.PacketKey.aead g.R.Rng.stream c.args.ends in
-    let r : Run = run_of keys c.args.ends c.args.events.now o.answers.items o.views.items o.given in
-    λ honest. c.ack_moments.ensures r (world_of o.ends o.given) honest (record { codes = c.show_codes.ensures; follows = c.run_events.ensures.follows; from_client = refl; from_server = refl })
+    let r : Run = run_of keys (windows_of g.C.Controller.steps g.C.Controller.window_of) c.args.ends c.args.events.now o.answers.items o.views.items o.given in
+    λ honest. c.ack_moments.ensures r (world_of (windows_of g.C.Controller.steps g.C.Controller.window_of) o.ends o.given) honest (record { codes = c.show_codes.ensures; follows = c.run_events.ensures.follows; from_client = refl; from_server = refl })
 
 pub returns-clause-acknowledged_were_taken : goal.returns-clause-acknowledged_were_taken
 returns-clause-acknowledged_were_taken g c =
     let o = c.run_events.result in
     let keys : Policies = policies_of g.H.HeaderKey.protection g.K.PacketKey.aead g.R.Rng.stream c.args.ends in
-    let r : Run = run_of keys c.args.ends c.args.events.now o.answers.items o.views.items o.given in
-    λ honest. c.acknowledged_were_taken.ensures r (world_of o.ends o.given) honest (record { codes = c.show_codes.ensures; follows = c.run_events.ensures.follows; from_client = refl; from_server = refl })
+    let r : Run = run_of keys (windows_of g.C.Controller.steps g.C.Controller.window_of) c.args.ends c.args.events.now o.answers.items o.views.items o.given in
+    λ honest. c.acknowledged_were_taken.ensures r (world_of (windows_of g.C.Controller.steps g.C.Controller.window_of) o.ends o.given) honest (record { codes = c.show_codes.ensures; follows = c.run_events.ensures.follows; from_client = refl; from_server = refl })
 
 pub returns-clause-names_were_taken : goal.returns-clause-names_were_taken
 returns-clause-names_were_taken g c =
     let o = c.run_events.result in
     let keys : Policies = policies_of g.H.HeaderKey.protection g.K.PacketKey.aead g.R.Rng.stream c.args.ends in
-    let r : Run = run_of keys c.args.ends c.args.events.now o.answers.items o.views.items o.given in
-    λ honest. c.names_were_taken.ensures r (world_of o.ends o.given) honest (record { codes = c.show_codes.ensures; follows = c.run_events.ensures.follows; from_client = refl; from_server = refl })
+    let r : Run = run_of keys (windows_of g.C.Controller.steps g.C.Controller.window_of) c.args.ends c.args.events.now o.answers.items o.views.items o.given in
+    λ honest. c.names_were_taken.ensures r (world_of (windows_of g.C.Controller.steps g.C.Controller.window_of) o.ends o.given) honest (record { codes = c.show_codes.ensures; follows = c.run_events.ensures.follows; from_client = refl; from_server = refl })
 
 pub returns-clause-opens_exactly : goal.returns-clause-opens_exactly
 returns-clause-opens_exactly g c =
     let o = c.run_events.result in
     let keys : Policies = policies_of g.H.HeaderKey.protection g.K.PacketKey.aead g.R.Rng.stream c.args.ends in
-    let r : Run = run_of keys c.args.ends c.args.events.now o.answers.items o.views.items o.given in
-    λ honest. c.opens_exactly.ensures r (world_of o.ends o.given) honest (record { codes = c.show_codes.ensures; follows = c.run_events.ensures.follows; from_client = refl; from_server = refl })
+    let r : Run = run_of keys (windows_of g.C.Controller.steps g.C.Controller.window_of) c.args.ends c.args.events.now o.answers.items o.views.items o.given in
+    λ honest. c.opens_exactly.ensures r (world_of (windows_of g.C.Controller.steps g.C.Controller.window_of) o.ends o.given) honest (record { codes = c.show_codes.ensures; follows = c.run_events.ensures.follows; from_client = refl; from_server = refl })
 
 pub returns-clause-newest_opens : goal.returns-clause-newest_opens
 returns-clause-newest_opens g c =
     let o = c.run_events.result in
     let keys : Policies = policies_of g.H.HeaderKey.protection g.K.PacketKey.aead g.R.Rng.stream c.args.ends in
-    let r : Run = run_of keys c.args.ends c.args.events.now o.answers.items o.views.items o.given in
-    λ honest. c.newest_opens.ensures r (world_of o.ends o.given) honest (record { codes = c.show_codes.ensures; follows = c.run_events.ensures.follows; from_client = refl; from_server = refl })
+    let r : Run = run_of keys (windows_of g.C.Controller.steps g.C.Controller.window_of) c.args.ends c.args.events.now o.answers.items o.views.items o.given in
+    λ honest. c.newest_opens.ensures r (world_of (windows_of g.C.Controller.steps g.C.Controller.window_of) o.ends o.given) honest (record { codes = c.show_codes.ensures; follows = c.run_events.ensures.follows; from_client = refl; from_server = refl })
 
 pub returns-clause-loss_timer_quiet : goal.returns-clause-loss_timer_quiet
 returns-clause-loss_timer_quiet g c =
     let o = c.run_events.result in
     let keys : Policies = policies_of g.H.HeaderKey.protection g.K.PacketKey.aead g.R.Rng.stream c.args.ends in
-    let r : Run = run_of keys c.args.ends c.args.events.now o.answers.items o.views.items o.given in
-    λ honest. c.loss_timer_quiet.ensures r (world_of o.ends o.given) honest (record { codes = c.show_codes.ensures; follows = c.run_events.ensures.follows; from_client = refl; from_server = refl })
+    let r : Run = run_of keys (windows_of g.C.Controller.steps g.C.Controller.window_of) c.args.ends c.args.events.now o.answers.items o.views.items o.given in
+    λ honest. c.loss_timer_quiet.ensures r (world_of (windows_of g.C.Controller.steps g.C.Controller.window_of) o.ends o.given) honest (record { codes = c.show_codes.ensures; follows = c.run_events.ensures.follows; from_client = refl; from_server = refl })
 
 pub returns-clause-loss_timers_follow : goal.returns-clause-loss_timers_follow
 returns-clause-loss_timers_follow g c =
     let o = c.run_events.result in
     let keys : Policies = policies_of g.H.HeaderKey.protection g.K.PacketKey.aead g.R.Rng.stream c.args.ends in
-    λ started i w leads. c.loss_timers_follow.ensures keys (first_world c.args.ends) w (take i c.args.events.now) (take i o.answers.items) (take i o.views.items) started leads
+    λ started i w leads. c.loss_timers_follow.ensures keys (first_world (windows_of g.C.Controller.steps g.C.Controller.window_of) c.args.ends) w (take i c.args.events.now) (take i o.answers.items) (take i o.views.items) started leads
 
 pub returns-clause-ack_timers_follow : goal.returns-clause-ack_timers_follow
 returns-clause-ack_timers_follow g c =
     let o = c.run_events.result in
     let keys : Policies = policies_of g.H.HeaderKey.protection g.K.PacketKey.aead g.R.Rng.stream c.args.ends in
-    λ first i w leads. c.ack_timers_follow.ensures.runs keys (first_world c.args.ends) w (take i c.args.events.now) (take i o.answers.items) (take i o.views.items) leads first
+    λ first i w leads. c.ack_timers_follow.ensures.runs keys (first_world (windows_of g.C.Controller.steps g.C.Controller.window_of) c.args.ends) w (take i c.args.events.now) (take i o.answers.items) (take i o.views.items) leads first
 
 pub returns-clause-numbers_rise : goal.returns-clause-numbers_rise
 returns-clause-numbers_rise g c =
     let o = c.run_events.result in
     let keys : Policies = policies_of g.H.HeaderKey.protection g.K.PacketKey.aead g.R.Rng.stream c.args.ends in
-    let r : Run = run_of keys c.args.ends c.args.events.now o.answers.items o.views.items o.given in
-    λ honest. c.numbers_rise.ensures r (world_of o.ends o.given) honest (record { codes = c.show_codes.ensures; follows = c.run_events.ensures.follows; from_client = refl; from_server = refl })
+    let r : Run = run_of keys (windows_of g.C.Controller.steps g.C.Controller.window_of) c.args.ends c.args.events.now o.answers.items o.views.items o.given in
+    λ honest. c.numbers_rise.ensures r (world_of (windows_of g.C.Controller.steps g.C.Controller.window_of) o.ends o.given) honest (record { codes = c.show_codes.ensures; follows = c.run_events.ensures.follows; from_client = refl; from_server = refl })
 
 pub returns-clause-no_blame : goal.returns-clause-no_blame
 returns-clause-no_blame g c =
     let o = c.run_events.result in
     let keys : Policies = policies_of g.H.HeaderKey.protection g.K.PacketKey.aead g.R.Rng.stream c.args.ends in
-    let r : Run = run_of keys c.args.ends c.args.events.now o.answers.items o.views.items o.given in
-    λ honest. c.no_blame.ensures r (world_of o.ends o.given) honest (record { codes = c.show_codes.ensures; follows = c.run_events.ensures.follows; from_client = refl; from_server = refl })
+    let r : Run = run_of keys (windows_of g.C.Controller.steps g.C.Controller.window_of) c.args.ends c.args.events.now o.answers.items o.views.items o.given in
+    λ honest. c.no_blame.ensures r (world_of (windows_of g.C.Controller.steps g.C.Controller.window_of) o.ends o.given) honest (record { codes = c.show_codes.ensures; follows = c.run_events.ensures.follows; from_client = refl; from_server = refl })
 
 pub returns-clause-too_many_pieces : goal.returns-clause-too_many_pieces
 returns-clause-too_many_pieces g c =
     let o = c.run_events.result in
     let keys : Policies = policies_of g.H.HeaderKey.protection g.K.PacketKey.aead g.R.Rng.stream c.args.ends in
-    let r : Run = run_of keys c.args.ends c.args.events.now o.answers.items o.views.items o.given in
-    λ honest. c.too_many_pieces.ensures r (world_of o.ends o.given) honest (record { codes = c.show_codes.ensures; follows = c.run_events.ensures.follows; from_client = refl; from_server = refl })
+    let r : Run = run_of keys (windows_of g.C.Controller.steps g.C.Controller.window_of) c.args.ends c.args.events.now o.answers.items o.views.items o.given in
+    λ honest. c.too_many_pieces.ensures r (world_of (windows_of g.C.Controller.steps g.C.Controller.window_of) o.ends o.given) honest (record { codes = c.show_codes.ensures; follows = c.run_events.ensures.follows; from_client = refl; from_server = refl })
 
 pub returns-clause-number_limit : goal.returns-clause-number_limit
 returns-clause-number_limit g c =
     let o = c.run_events.result in
     let keys : Policies = policies_of g.H.HeaderKey.protection g.K.PacketKey.aead g.R.Rng.stream c.args.ends in
-    let r : Run = run_of keys c.args.ends c.args.events.now o.answers.items o.views.items o.given in
-    λ honest. c.number_limit.ensures r (world_of o.ends o.given) honest (record { codes = c.show_codes.ensures; follows = c.run_events.ensures.follows; from_client = refl; from_server = refl })
+    let r : Run = run_of keys (windows_of g.C.Controller.steps g.C.Controller.window_of) c.args.ends c.args.events.now o.answers.items o.views.items o.given in
+    λ honest. c.number_limit.ensures r (world_of (windows_of g.C.Controller.steps g.C.Controller.window_of) o.ends o.given) honest (record { codes = c.show_codes.ensures; follows = c.run_events.ensures.follows; from_client = refl; from_server = refl })
 
 pub returns-clause-taken_or_too_many : goal.returns-clause-taken_or_too_many
 returns-clause-taken_or_too_many g c =
     let o = c.run_events.result in
     let keys : Policies = policies_of g.H.HeaderKey.protection g.K.PacketKey.aead g.R.Rng.stream c.args.ends in
-    let r : Run = run_of keys c.args.ends c.args.events.now o.answers.items o.views.items o.given in
-    λ honest. c.taken_or_too_many.ensures r (world_of o.ends o.given) honest (record { codes = c.show_codes.ensures; follows = c.run_events.ensures.follows; from_client = refl; from_server = refl })
+    let r : Run = run_of keys (windows_of g.C.Controller.steps g.C.Controller.window_of) c.args.ends c.args.events.now o.answers.items o.views.items o.given in
+    λ honest. c.taken_or_too_many.ensures r (world_of (windows_of g.C.Controller.steps g.C.Controller.window_of) o.ends o.given) honest (record { codes = c.show_codes.ensures; follows = c.run_events.ensures.follows; from_client = refl; from_server = refl })

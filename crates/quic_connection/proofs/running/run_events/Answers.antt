@@ -2,6 +2,7 @@ use Rattle.std.proofs.Common.{rules, ◌≡◌, length, Some, arith, refl, sym, 
 use Rattle.std.specs.Prelude.{slice_get, vec_len, vec_capacity}
 use Rattle.std.proofs.lemmas.Option.{slice_get_read}
 use Rattle.std.proofs.lemmas.Grind.{common_steps}
+use Rattle.quic_connection_core.specs.Telling.{windows_of}
 use Rattle.quic_connection.specs.Ends.{world_of, policies_of}
 use Rattle.quic_connection.proofs.Runs.{follows_goes_on, reserved}
 use Rattle.quic_connection.specs.GoingOn.{go_same, go_then, are_own, are_on}
@@ -25,8 +26,8 @@ loop-event-preserved g c =
     rw inv.count (slice_get_read c.args.events.now (length c.args.events.now) c.loop-event.event-index c.event-item.result refl c.loop-event-test.true c.event-item.is) in
     record {
       follows =
-          follows_goes_on _ _ _ c.loop-event.answers.items c.loop-event.views.items (world_of c.loop-event.ends c.loop-event.given)
-          c.event-item.result c.in-Ok.answer (world_of c.step.new.ends c.step.new.given) _ _
+          follows_goes_on _ _ _ c.loop-event.answers.items c.loop-event.views.items (world_of (windows_of g.C.Controller.steps g.C.Controller.window_of) c.loop-event.ends c.loop-event.given)
+          c.event-item.result c.in-Ok.answer (world_of (windows_of g.C.Controller.steps g.C.Controller.window_of) c.step.new.ends c.step.new.given) _ _
           inv.follows at
           (c.in-Ok.ensures.step own
           (are_on g.H.HeaderKey.protection g.K.PacketKey.aead stream own c.args.ends c.loop-event.ends (are_own g.H.HeaderKey.protection g.K.PacketKey.aead stream c.args.ends) inv.goes_on))

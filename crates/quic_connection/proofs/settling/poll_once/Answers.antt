@@ -1,5 +1,6 @@
 use Rattle.std.proofs.Common.{◌≡◌, Bool, true, false, length, refl, sym, ◌∙◌, subst}
 use Rattle.quic_machine.specs.Machine.{World, given_by, gave}
+use Rattle.quic_connection_core.specs.Telling.{windows_of}
 use Rattle.quic_connection.specs.Ends.{world_of}
 use Rattle.quic_connection.specs.GoingOn.{go_then, are_on}
 use Rattle.quic_connection.specs.Settled.{IsPassedOn}
@@ -8,8 +9,8 @@ use Rattle.quic_connection.proofs.settling.poll_once.Goals as goal
 pub returns-then-not-gave-clause-polled : goal.returns-then-not-gave-clause-polled
 returns-then-not-gave-clause-polled g c = λ k are.
     let none : gave c.in_ok-answer.answer ≡ false = sym c.gave.ensures ∙ c.if-not-gave.true in
-    let from : World = world_of c.args.ends.now c.args.given.now in
-    let next : World = world_of c.step.new.ends c.step.new.given in
+    let from : World = world_of (windows_of g.C.Controller.steps g.C.Controller.window_of) c.args.ends.now c.args.given.now in
+    let next : World = world_of (windows_of g.C.Controller.steps g.C.Controller.window_of) c.step.new.ends c.step.new.given in
     record {
       are_open = c.requires.opened;
       answer = c.in_ok-answer.answer;
@@ -21,11 +22,12 @@ returns-then-not-gave-clause-polled g c = λ k are.
 
 pub returns-clause-polled : goal.returns-clause-polled
 returns-clause-polled g c = λ k are.
+    let windows = windows_of g.C.Controller.steps g.C.Controller.window_of in
     let some : gave c.in_ok-answer.answer ≡ true = sym c.gave.ensures ∙ c.if-not-gave.false in
-    let from : World = world_of c.args.ends.now c.args.given.now in
-    let next : World = world_of c.step.new.ends c.step.new.given in
-    let to : World = world_of c.step-2.new.ends c.step-2.new.given in
-    let delivery = rw (c.not.ensures, c.count_given-index.ensures c.args.ends.now.client.end c.args.ends.now.server.end) at (c.in_ok-step.ensures.step k (are_on _ _ _ k _ _ are c.step.ensures.goes_on)) in
+    let from : World = world_of (windows_of g.C.Controller.steps g.C.Controller.window_of) c.args.ends.now c.args.given.now in
+    let next : World = world_of (windows_of g.C.Controller.steps g.C.Controller.window_of) c.step.new.ends c.step.new.given in
+    let to : World = world_of (windows_of g.C.Controller.steps g.C.Controller.window_of) c.step-2.new.ends c.step-2.new.given in
+    let delivery = rw (c.not.ensures, c.count_given-index.ensures c.args.ends.now.client.end c.args.ends.now.server.end (windows c.args.ends.now.client.control) (windows c.args.ends.now.server.control)) at (c.in_ok-step.ensures.step k (are_on _ _ _ k _ _ are c.step.ensures.goes_on)) in
     record {
       are_open = c.requires.opened;
       answer = c.in_ok-answer.answer;

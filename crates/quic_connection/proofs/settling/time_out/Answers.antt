@@ -1,3 +1,4 @@
+use Rattle.quic_connection_core.specs.Telling.{windows_of}
 use Rattle.quic_connection.specs.Ends.{world_of}
 use Rattle.quic_connection.specs.GoingOn.{go_then, are_on}
 use Rattle.quic_connection.proofs.settling.time_out.Goals as goal
@@ -5,7 +6,7 @@ use Rattle.quic_connection.proofs.settling.time_out.Goals as goal
 pub returns-clause-handled : goal.returns-clause-handled
 returns-clause-handled g c = λ k are. record {
   client_answer = c.in_ok-step.field-0;
-  middle = world_of c.step.new.ends c.step.new.given;
+  middle = world_of (windows_of g.C.Controller.steps g.C.Controller.window_of) c.step.new.ends c.step.new.given;
   client = c.in_ok-step.ensures.step k are;
   server_answer = c.in_ok-step-2.field-0;
   server = c.in_ok-step-2.ensures.step k (are_on _ _ _ k _ _ are c.step.ensures.goes_on);

@@ -4,33 +4,46 @@ use Rattle.quic_parameters.specs.ParametersRead.{parameters_at}
 use Rattle.quic_wire_core.specs.StreamId.{other_side}
 use Rattle.quic_parameters.specs.ParametersWritten.{written_parameters}
 use Rattle.quic_config.specs.Transport.{Settings, parameters_of, IsInRange}
+use Rattle.quic_congestion.specs.NewReno.{Reno, RenoSettings}
+use Rattle.quic_connection_core.specs.Configured.{Configured}
+use Rattle.quic_connection_core.specs.Telling.{windows_at}
 use Rattle.quic_connection.specs.Ends.{in_order}
 use Rattle.quic_run_core.specs.declared.options.Options.{Options}
-use Rattle.quic_run_core.specs.Scripts.{settings_of}
+use Rattle.quic_run_core.specs.Scripts.{settings_of, first_controller}
 use Rattle.quic_connection_core.specs.Drawn.{after_words}
 use Rattle.quic_run_core.proofs.Constant.{words_are}
-use Rattle.quic_run_core.proofs.Making.{never_refused, made_first, eight}
+use Rattle.quic_run_core.proofs.Making.{first_control, never_refused, made_first, eight}
 use Rattle.quic_run_core.proofs.session.make_end.Goals as goal
+
+pub returns-clause-control : goal.returns-clause-control
+returns-clause-control c = c.in_ok-end.ensures.control ∙ first_control c.args.own.now c.config-2.result _ c.config-2.ensures c.from_nanos.ensures
 
 pub returns-clause-end : goal.returns-clause-end
 returns-clause-end c =
-    made_first c.args.side c.not.result c.args.own.now c.args.peer.now _ c.config.result _ _ _ _ _ _ _ c.config-2.ensures c.config.ensures c.deref.ensures.value c.in_ok-parameters.ensures.read_back c.first_id.ensures c.not.ensures c.first_id-2.ensures c.from_nanos.ensures (ap (λ (s : Stream). s.u64_after []) c.of.ensures ∙ sym (words_are c.args.own.now.source 0)) c.in_ok-end.ensures.made
+    let control : c.in_ok-end.end.control ≡ first_controller = c.in_ok-end.ensures.control ∙ first_control c.args.own.now c.config-2.result _ c.config-2.ensures c.from_nanos.ensures in
+    made_first c.args.side c.not.result c.args.own.now c.args.peer.now _ c.config.result.settings _ _ _ _ _ _ _ _
+    (ap (λ (x : Configured RenoSettings). x.settings) c.config-2.ensures) (ap (λ (x : Configured RenoSettings). x.settings) c.config.ensures) (ap (λ (r : Reno). windows_at (λ (q : Reno). q.settings.initial) (λ (q : Reno). q.window) r) control)
+    c.deref.ensures.value c.in_ok-parameters.ensures.read_back c.first_id.ensures c.not.ensures c.first_id-2.ensures c.from_nanos.ensures (ap (λ (s : Stream). s.u64_after []) c.of.ensures ∙ sym (words_are c.args.own.now.source 0)) c.in_ok-end.ensures.made
 
 pub returns-clause-making : goal.returns-clause-making
 returns-clause-making c =
     let peer : Options = c.args.peer.now in
-    let set : c.config.result ≡ settings_of peer = c.config.ensures in
+    let set : c.config.result.settings ≡ settings_of peer = ap (λ (x : Configured RenoSettings). x.settings) c.config.ensures in
     record {
       range = subst (λ (s : Settings). IsInRange s) set c.in_ok-parameters.ensures.range;
       says = subst (λ (s : Settings). parameters_at (written_parameters (parameters_of s) in_order) ≡ Ok (parameters_of s)) set
-          (subst (λ (bytes : List ℕ). parameters_at bytes ≡ Ok (parameters_of c.config.result)) c.in_ok-parameters.ensures.bytes c.in_ok-parameters.ensures.read_back);
+          (subst (λ (bytes : List ℕ). parameters_at bytes ≡ Ok (parameters_of c.config.result.settings)) c.in_ok-parameters.ensures.bytes c.in_ok-parameters.ensures.read_back);
       id = eight (other_side c.args.side);
     }
 
 pub returns-in_err-end-clause-memory : goal.returns-in_err-end-clause-memory
 returns-in_err-end-clause-memory c =
     let read = ap (λ (bytes : List ℕ). parameters_at bytes) c.deref.ensures.value ∙ c.in_ok-parameters.ensures.read_back in
-    absurd (never_refused c.args.side c.not.result _ c.args.own.now c.args.peer.now _ _ _ _ _ c.config-2.ensures c.config.ensures read c.first_id.ensures c.not.ensures c.first_id-2.ensures c.in_err-end.ensures.refusal)
+    let shows = ap (λ (r : Reno). r.window) (first_control c.args.own.now c.config-2.result _ c.config-2.ensures c.from_nanos.ensures) in
+    absurd (never_refused c.args.side c.not.result _ c.args.own.now c.args.peer.now _ _ _ _ _ _ (ap (λ (x : Configured RenoSettings). x.settings) c.config-2.ensures) (ap (λ (x : Configured RenoSettings). x.settings) c.config.ensures) shows read c.first_id.ensures c.not.ensures c.first_id-2.ensures c.in_err-end.ensures.refusal)
 
 pub returns-clause-words : goal.returns-clause-words
 returns-clause-words c = c.in_ok-end.ensures.random ∙ ap (λ (s : Stream). after_words 1 s) c.of.ensures
+
+pub returns-clause-keys : goal.returns-clause-keys
+returns-clause-keys c = c.in_ok-end.ensures.keys ∙ c.keys_for.ensures

@@ -1,6 +1,7 @@
 use Rattle.std.proofs.Common.{◌≡◌, ◌-◌, ℕ, Result, Ok, Err, IfOk}
 use Rattle.quic_wire_core.specs.declared.stream_id.Side.TheVariants.{Client, Server}
 use Rattle.quic_packet.specs.declared.crypto.Keys.{Keys}
+use Rattle.quic_congestion.specs.NewReno.{Reno}
 use Rattle.quic_machine.specs.declared.answers.ConfigError.{ConfigError}
 use Rattle.quic_machine.specs.Start.{AreKeys}
 use Rattle.quic_connection_core.specs.Drawn.{words_of}
@@ -16,7 +17,7 @@ use Rattle.quic_run_core.specs.Words.{stream_from}
 use Rattle.quic_run_tests.proofs.ends.ends_with.Goals as goal
 
 -- ends that have the keys of scripts, whatever words they draw
-are_keys : (made : Result (Ends PlainHeaderKey PlainKey Words) ConfigError) (client server : Keys PlainHeaderKey PlainKey) → client ≡ keys_of Client → server ≡ keys_of Server
+are_keys : (made : Result (Ends PlainHeaderKey PlainKey Words Reno) ConfigError) (client server : Keys PlainHeaderKey PlainKey) → client ≡ keys_of Client → server ≡ keys_of Server
     → IfOk made (λ ends. ends.client.keys ≡ client) → IfOk made (λ ends. ends.server.keys ≡ server) → ((client server : ℕ → ℕ) → AreKeys (plain_policies client server))
     → IfOk made (λ ends. AreKeys (policies_of (λ _. plain_protection) (λ k. plain_aead k.mark) stream_from ends))
 are_keys (Ok ends) client server client_is server_is client_has server_has law =

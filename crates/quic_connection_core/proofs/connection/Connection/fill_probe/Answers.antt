@@ -1,8 +1,11 @@
-use Rattle.std.proofs.Common.{sym, ap, ◌∙◌}
+use Rattle.std.proofs.Common.{sym, ap, subst, ◌∙◌}
+use Rattle.quic_streams_parts.specs.Table.{Table}
+use Rattle.quic_sent_packets.specs.Packets.{Ascends}
+use Rattle.quic_machine.specs.Tracking.{TrackedPacket}
 use Rattle.quic_spaces.specs.Space.{Probed}
 use Rattle.quic_machine.specs.End.{End, with_end}
 use Rattle.quic_machine.specs.Poll.{probed}
-use Rattle.quic_connection_core.proofs.Probing.{with_space, as_is, probe_fills, where_ok, either_way}
+use Rattle.quic_connection_core.proofs.Probing.{with_space, as_is, probe_fills, probe_flies, where_ok, either_way}
 use Rattle.quic_connection_core.proofs.connection.Connection.fill_probe.Goals as goal
 
 pub invariant_of-self : goal.invariant_of-self
@@ -11,7 +14,19 @@ invariant_of-self g c =
     let plain = c.self.invariant.0 in
     let fills = probe_fills e c.self.inside.space c.self.inside.streams.pending c.self.inside.streams.state (ap (λ w. w.end.streams) c.self.view_is) plain in
     let queued = c.maybe_queue_probe.ensures in
-    (either_way c.maybe_queue_probe.result _ _ _ (λ is. ap (λ (q : Probed). q.space.immediate_ack_pending) is ∙ fills.plain) (λ is. ap (λ s. s.immediate_ack_pending) is ∙ plain) queued.ok queued.err, c.self.invariant.1)
+    let i = c.self.invariant in
+    let i_path = c.self.inside.path in
+    let up = subst (λ (es : Table TrackedPacket). Ascends es) c.packets.ensures c.get-packet.ensures.ascends in (
+      either_way c.maybe_queue_probe.result _ _ _ (λ is. ap (λ (q : Probed). q.space.immediate_ack_pending) is ∙ fills.plain) (λ is. ap (λ s. s.immediate_ack_pending) is ∙ plain) queued.ok queued.err,
+      i.1,
+      i.2,
+      i.3,
+      i.4,
+      either_way c.maybe_queue_probe.result _ _ _
+          (λ is. (let space = ap (λ (q : Probed). q.space) is in rw space (probe_flies i_path.generation i_path.in_flight c.self.inside.space c.self.inside.streams.pending c.self.inside.streams.state up i.5)))
+          (λ is. (rw is i.5))
+          queued.ok queued.err,
+    )
 
 pub returns-clause-ok : goal.returns-clause-ok
 returns-clause-ok g c =

@@ -5,18 +5,18 @@ use Rattle.quic_packet.specs.Header.{header_bytes}
 use Rattle.quic_spaces.specs.Numbers.{cut_against}
 use Rattle.quic_machine.specs.End.{number_of}
 use Rattle.std.proofs.lemmas.List.{length-append}
-use Rattle.quic_machine.specs.Poll.{composed, payload_of, datagram_size}
+use Rattle.quic_machine.specs.Poll.{draft_if, payload_of, datagram_size}
 use Rattle.quic_connection_core.proofs.Plain.{front_of, same_numbers, same_filter, same_ids, payload_is, payload_long, size_is, size_of, plain_of}
 use Rattle.quic_connection_core.proofs.connection.Connection.put_plain.Goals as goal
 
-pub put_frames-requires-clause-some : goal.put_frames-requires-clause-some
-put_frames-requires-clause-some g c =
+pub put_leave-requires-clause-some : goal.put_leave-requires-clause-some
+put_leave-requires-clause-some g c =
     let width = c.put_header-width.ensures.width in
     let short = c.put_header-width.ensures.short in
     omega arith
 
-pub put_frames-requires-clause-room : goal.put_frames-requires-clause-room
-put_frames-requires-clause-room g c =
+pub put_leave-requires-clause-room : goal.put_leave-requires-clause-room
+put_leave-requires-clause-room g c =
     let width = c.put_header-width.ensures.width in
     let len = c.put_header-width.ensures.len in
     let short = c.put_header-width.ensures.short in
@@ -42,10 +42,10 @@ returns-clause-items g c =
     let e = c.args.self.now.end in
     let t = truncated (number_of e) (cut_against e.numbers) in
     let before : List ℕ = c.put_header-width.new.out.items in
-    let whole : List ℕ = c.put_frames.new.out.items in
-    plain_of c.args.out.now.items before (header_bytes e.ids.active.id t) whole c.pad.new.out.items (composed e).bytes t.width c.put_header-width.result (vec_len c.put_frames.new.out) c.len-body.result
+    let whole : List ℕ = c.put_leave.new.out.items in
+    plain_of c.args.out.now.items before (header_bytes e.ids.active.id t) whole c.pad.new.out.items (draft_if c.args.held e).bytes t.width c.put_header-width.result (vec_len c.put_leave.new.out) c.len-body.result
     (search rules) (search rules) (search rules) (search rules) c.in_ok-sent.ensures.items c.pad.ensures.items
-    ∙ ap (λ (z : List ℕ). c.args.out.now.items ++ (header_bytes e.ids.active.id t ++ z)) (sym (payload_is e))
+    ∙ ap (λ (z : List ℕ). c.args.out.now.items ++ (header_bytes e.ids.active.id t ++ z)) (sym (payload_is c.args.held e c.requires.due))
 
 pub returns-clause-within : goal.returns-clause-within
 returns-clause-within g c =
@@ -62,20 +62,20 @@ pub returns-clause-size : goal.returns-clause-size
 returns-clause-size g c =
     let e = c.args.self.now.end in
     let before : List ℕ = c.put_header-width.new.out.items in
-    let grown : vec_len c.put_frames.new.out ≡ vec_len c.put_header-width.new.out + length (composed e).bytes =
-    c.put_frames.new.out.ok.0 ∙ ap length c.in_ok-sent.ensures.items ∙ length-append before (composed e).bytes ∙ ap (λ (k : ℕ). k + length (composed e).bytes) (sym c.put_header-width.new.out.ok.0) in
-    size_of (datagram_size (composed e)) (length e.ids.active.id) (truncated (number_of e) (cut_against e.numbers)).width c.put_header-width.result (length (payload_of (composed e))) (length (composed e).bytes)
-    (vec_len c.args.out.now) (vec_len c.put_header-width.new.out) (vec_len c.put_frames.new.out) (vec_len c.pad.new.out) c.len-body.result
-    (size_is e) (payload_long e) c.put_header-width.ensures.width c.put_header-width.ensures.len c.len-body.ensures grown c.pad.ensures.len
+    let grown : vec_len c.put_leave.new.out ≡ vec_len c.put_header-width.new.out + length (draft_if c.args.held e).bytes =
+    c.put_leave.new.out.ok.0 ∙ ap length c.in_ok-sent.ensures.items ∙ length-append before (draft_if c.args.held e).bytes ∙ ap (λ (k : ℕ). k + length (draft_if c.args.held e).bytes) (sym c.put_header-width.new.out.ok.0) in
+    size_of (datagram_size (draft_if c.args.held e)) (length e.ids.active.id) (truncated (number_of e) (cut_against e.numbers)).width c.put_header-width.result (length (payload_of (draft_if c.args.held e))) (length (draft_if c.args.held e).bytes)
+    (vec_len c.args.out.now) (vec_len c.put_header-width.new.out) (vec_len c.put_leave.new.out) (vec_len c.pad.new.out) c.len-body.result
+    (size_is c.args.held e c.requires.due) (payload_long c.args.held e c.requires.due) c.put_header-width.ensures.width c.put_header-width.ensures.len c.len-body.ensures grown c.pad.ensures.len
 
 pub returns-clause-filter : goal.returns-clause-filter
-returns-clause-filter g c = ap (λ w. w.end.filter) c.count_frames.ensures ∙ ap (λ w. w.end.filter) c.in_ok-sent.ensures.end ∙ same_filter c.args.self.now.end
+returns-clause-filter g c = ap (λ w. w.end.filter) c.count_frames.ensures ∙ ap (λ w. w.end.filter) c.in_ok-sent.ensures.end ∙ same_filter c.args.held c.args.self.now.end c.requires.due
 
 pub returns-clause-numbers : goal.returns-clause-numbers
-returns-clause-numbers g c = ap (λ w. w.end.numbers) c.count_frames.ensures ∙ ap (λ w. w.end.numbers) c.in_ok-sent.ensures.end ∙ same_numbers c.args.self.now.end
+returns-clause-numbers g c = ap (λ w. w.end.numbers) c.count_frames.ensures ∙ ap (λ w. w.end.numbers) c.in_ok-sent.ensures.end ∙ same_numbers c.args.held c.args.self.now.end c.requires.due
 
 pub returns-clause-ids : goal.returns-clause-ids
-returns-clause-ids g c = ap (λ w. w.end.ids) c.count_frames.ensures ∙ ap (λ w. w.end.ids) c.in_ok-sent.ensures.end ∙ same_ids c.args.self.now.end
+returns-clause-ids g c = ap (λ w. w.end.ids) c.count_frames.ensures ∙ ap (λ w. w.end.ids) c.in_ok-sent.ensures.end ∙ same_ids c.args.held c.args.self.now.end c.requires.due
 
 pub returns-in_err-sent-clause-front : goal.returns-in_err-sent-clause-front
 returns-in_err-sent-clause-front g c =
@@ -84,4 +84,4 @@ returns-in_err-sent-clause-front g c =
     let body = c.len-body.ensures in
     let old = c.args.out.now.ok.0 in
     let new = c.put_header-width.new.out.ok.0 in
-    front_of c.args.out.now.items header c.put_frames.new.out.items _ (vec_len c.args.out.now) (vec_len c.put_header-width.new.out) old (omega (arith, len)) c.put_header-width.ensures.items c.put_frames.ensures.front
+    front_of c.args.out.now.items header c.put_leave.new.out.items _ (vec_len c.args.out.now) (vec_len c.put_header-width.new.out) old (omega (arith, len)) c.put_header-width.ensures.items c.put_leave.ensures.front

@@ -1,11 +1,61 @@
-use Rattle.std.proofs.Common.{rules, refl}
+use Rattle.std.proofs.Common.{rules, ◌≡◌, Err, refl, sym, ap, ◌∙◌}
+use Rattle.quic_wire.specs.Items.{items}
+use Rattle.quic_wire.specs.FrameView.{item_view}
+use Rattle.quic_congestion.specs.Congestion.{after_calls}
+use Rattle.quic_machine.specs.Receive.{told_items}
 use Rattle.quic_connection_core.proofs.Forms.{all_have_form}
+use Rattle.quic_connection_core.proofs.Items.{taken_step, told_step, told_stop, asks_already, asks_now, form_behind}
+use Rattle.quic_connection_core.proofs.Told.{keys_step}
 use Rattle.quic_connection_core.proofs.connection.Connection.take_frames.Goals as goal
 
 pub loop-item-init : goal.loop-item-init
 loop-item-init g c = record {
   takes = search rules;
+  told = search rules;
   asks = search rules;
   form = all_have_form c.into_iter-item-iterator.result;
   others = refl;
 }
+
+pub returns-in_err-take_item-clause-told : goal.returns-in_err-take_item-clause-told
+returns-in_err-take_item-clause-told g c =
+    let e = c.loop-item.self.end in
+    let is : c.from_residual.result ≡ Err c.in_err-take_item.field-0.0 = search rules in
+    rw is (told_stop g.C.Controller.steps c.loop-item.self.control c.take_item.new.self.control (item_view c.in-Some.item) (items c.next.new.self) (items c.loop-item.item-iterator) e c.take_item.new.self.end _ _ c.in-Some.ensures.steps c.in_err-take_item.ensures.takes c.in_err-take_item.ensures.told c.loop-item.invariant.told)
+
+pub loop-item-preserved-then-asks : goal.loop-item-preserved-then-asks
+loop-item-preserved-then-asks g c =
+    let i = item_view c.in-Some.item in
+    let all = items c.loop-item.item-iterator in
+    let others = items c.next.new.self in
+    let e = c.loop-item.self.end in
+    let v = c.loop-item.invariant in
+    let first = c.in-Some.ensures.steps in
+    let ok = c.in_ok-take_item.ensures in
+    record {
+      takes = taken_step i others all e c.take_item.new.self.end first ok.takes ∙ v.takes;
+      told = told_step g.C.Controller.steps c.loop-item.self.control c.take_item.new.self.control i others all e c.take_item.new.self.end first ok.takes ok.told ∙ v.told;
+      asks = asks_already c.loop-item.asks _ i others all first c.if-asks.true v.asks;
+      form = form_behind i others all first v.form;
+      others = keys_step c.args.self.now c.loop-item.self c.take_item.new.self v.others ok.others;
+    }
+
+pub loop-item-preserved : goal.loop-item-preserved
+loop-item-preserved g c =
+    let i = item_view c.in-Some.item in
+    let all = items c.loop-item.item-iterator in
+    let others = items c.next.new.self in
+    let e = c.loop-item.self.end in
+    let v = c.loop-item.invariant in
+    let first = c.in-Some.ensures.steps in
+    let ok = c.in_ok-take_item.ensures in
+    record {
+      takes = taken_step i others all e c.take_item.new.self.end first ok.takes ∙ v.takes;
+      told = told_step g.C.Controller.steps c.loop-item.self.control c.take_item.new.self.control i others all e c.take_item.new.self.end first ok.takes ok.told ∙ v.told;
+      asks = asks_now c.loop-item.asks c.item_asks-asks.result _ i others all first c.if-asks.false c.item_asks-asks.ensures v.asks;
+      form = form_behind i others all first v.form;
+      others = keys_step c.args.self.now c.loop-item.self c.take_item.new.self v.others ok.others;
+    }
+
+pub returns-clause-told : goal.returns-clause-told
+returns-clause-told g c = ap (λ is. after_calls g.C.Controller.steps c.loop-item.self.control (told_items is c.loop-item.self.end)) (sym c.in-None.ensures.steps.0) ∙ c.loop-item.invariant.told

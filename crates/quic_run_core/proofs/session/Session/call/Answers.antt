@@ -2,6 +2,7 @@ use Rattle.std.proofs.Common.{◌≡◌, ◌++◌, ℕ, length, refl, sym, ap, �
 use Rattle.std.specs.Prelude.{string_bytes}
 use Rattle.quic_wire_core.specs.declared.stream_id.Side.{Side}
 use Rattle.quic_machine.specs.Machine.{World, Policies, given_by}
+use Rattle.quic_congestion.specs.NewReno.{window_after}
 use Rattle.quic_connection.specs.Ends.{world_of}
 use Rattle.quic_run_core.specs.Printed.{answer_text}
 use Rattle.quic_wire_core.specs.declared.stream_id.Side.TheVariants.{Client, Server}
@@ -29,7 +30,7 @@ invariant_of-self-clause-server_known c =
 pub returns-clause-tells : goal.returns-clause-tells
 returns-clause-tells c =
     let k : Policies = plain_policies (words_from c.args.self.now.client_source) (words_from c.args.self.now.server_source) in
-    let next : World = world_of c.step.new.ends c.step.new.given in
+    let next : World = world_of window_after c.step.new.ends c.step.new.given in
     let answer = c.in_ok-answer.answer in
     let count : c.match-event.given ≡ length (given_by c.args.event.now.side next) =
     elim c.match-event.branch [

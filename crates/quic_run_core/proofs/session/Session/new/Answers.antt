@@ -13,15 +13,17 @@ returns-in_err-make_end-2-clause-memory c =
     let p = err_from_is_err_and c.from_residual-in_err-make_end-2.result c.from_residual-in_err-make_end-2.ensures.1 in
     rw (p.1, p.2) c.in_err-make_end-2.ensures.memory
 
-pub invariant_of-result : goal.invariant_of-result
-invariant_of-result c = record {
-  plain = record {
-    client = plain_at Client _ _ c.in_ok-make_end.ensures.keys (ap (λ (e : End). e.filter.drawn) c.in_ok-make_end.ensures.end) c.in_ok-make_end.ensures.words;
-    server = plain_at Server _ _ c.in_ok-make_end-2.ensures.keys (ap (λ (e : End). e.filter.drawn) c.in_ok-make_end-2.ensures.end) c.in_ok-make_end-2.ensures.words;
-  };
-  client_known = rw (c.new.ensures.client, c.new-2.ensures.items) refl;
-  server_known = rw (c.new.ensures.server, c.new-3.ensures.items) refl;
+pub invariant_of-result-clause-plain : goal.invariant_of-result-clause-plain
+invariant_of-result-clause-plain c = record {
+  client = plain_at Client c.args.client.now.source c.in_ok-make_end.field-0 c.in_ok-make_end.ensures.keys (ap (λ (e : End). e.filter.drawn) c.in_ok-make_end.ensures.end) c.in_ok-make_end.ensures.words;
+  server = plain_at Server c.args.server.now.source c.in_ok-make_end-2.field-0 c.in_ok-make_end-2.ensures.keys (ap (λ (e : End). e.filter.drawn) c.in_ok-make_end-2.ensures.end) c.in_ok-make_end-2.ensures.words;
 }
 
+pub invariant_of-result-clause-client_known : goal.invariant_of-result-clause-client_known
+invariant_of-result-clause-client_known c = rw (c.new.ensures.client, c.new-2.ensures.items) refl
+
+pub invariant_of-result-clause-server_known : goal.invariant_of-result-clause-server_known
+invariant_of-result-clause-server_known c = rw (c.new.ensures.server, c.new-3.ensures.items) refl
+
 pub returns-clause-world : goal.returns-clause-world
-returns-clause-world c = first_ends c.args.client.now c.args.server.now _ _ _ _ c.in_ok-make_end.ensures.end c.in_ok-make_end-2.ensures.end c.new.ensures.client c.new.ensures.server
+returns-clause-world c = first_ends c.args.client.now c.args.server.now _ _ _ _ _ _ c.in_ok-make_end.ensures.end c.in_ok-make_end-2.ensures.end c.new.ensures.client c.new.ensures.server c.in_ok-make_end.ensures.control c.in_ok-make_end-2.ensures.control

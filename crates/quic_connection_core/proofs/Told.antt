@@ -1,0 +1,179 @@
+-- What a controller is told of packets, one after another.
+use Rattle.std.proofs.Common.{◌≡◌, ℕ, Bool, true, ◌&&◌, cond, List, [], ◌∷◌, ◌++◌, reverse, Option, Some, None, refl, sym, ap, ◌∙◌}
+use Rattle.std.specs.Option.{option_map}
+use Rattle.quic_wire.specs.Value.{AckValue}
+use Rattle.quic_wire.specs.AckGrammar.{GoDown}
+use Rattle.std.proofs.lemmas.List.{reverse-append, append_assoc}
+use Rattle.std.proofs.lemmas.List.Sums.{fold-append}
+use Rattle.quic_send_buffer.specs.declared.stream_meta.StreamMeta.{StreamMeta}
+use Rattle.quic_congestion.specs.Congestion.{Told, Steps, after_call, after_calls}
+use Rattle.quic_streams_parts.specs.Table.{Table, at}
+use Rattle.quic_machine.specs.Closing.{Closing}
+use Rattle.quic_machine.specs.Parts.{Path}
+use Rattle.quic_machine.specs.Tracking.{TrackedPacket, Carried, Tracking, asks_any, acked_by, not_acked_by}
+use Rattle.quic_machine.specs.End.{End, ConnectionValue, with_end, with_tracking}
+use Rattle.quic_machine.specs.Control.{told_packet, told_packets, told_acks_ended}
+use Rattle.quic_machine.specs.Acked.{without_known, reset_acked, resets_acked, stream_acked, streams_acked, carried_acked, packets_acked, stream_lost, streams_lost, carried_lost, packets_lost, measured, sampled, without_acked, told_detected, told_named, told_acked}
+use Rattle.quic_connection_core.specs.Telling.{telling, KeepsKeys}
+use Rattle.quic_connection_core.specs.Tracked.{sampled_at}
+use Rattle.quic_connection_core.proofs.Tracked.{moment_measured}
+use Rattle.quic_connection_core.proofs.Lost.{packets_acked_beside, sample_of, reversed_none}
+
+abbrev Packets : Type 0
+Packets = Table TrackedPacket
+
+-- clock, state and path stay
+pub record KeepsPath (e f : End) : Type 0 where
+  pub closing : f.closing ≡ e.closing
+  pub path : f.path ≡ e.path
+
+both_keep : (e f h : End) → KeepsPath e f → KeepsPath f h → KeepsPath e h
+both_keep e f h k l = record { closing = l.closing ∙ k.closing; path = l.path ∙ k.path }
+
+pub same_path : (e : End) → KeepsPath e e
+same_path e = record { closing = refl; path = refl }
+
+known_keep : (o : Option ℕ) (e : End) → KeepsPath e (without_known o e)
+known_keep None e = same_path e
+known_keep (Some n) e = record { closing = refl; path = refl }
+
+resets_keep : (rs : List (ℕ × ℕ)) (e : End) → KeepsPath e (resets_acked rs e)
+resets_keep [] e = same_path e
+resets_keep (r ∷ rs) e = let k = resets_keep rs (reset_acked r.0 e) in record { closing = k.closing; path = k.path }
+
+streams_keep : (ms : List StreamMeta) (e : End) → KeepsPath e (streams_acked ms e)
+streams_keep [] e = same_path e
+streams_keep (m ∷ ms) e = let k = streams_keep ms (stream_acked m e) in record { closing = k.closing; path = k.path }
+
+-- where what a packet carried is acknowledged
+pub acked_keep : (c : Carried) (e : End) → KeepsPath e (carried_acked c e)
+acked_keep c e =
+    let known : End = without_known c.largest_acked e in
+    let resets : End = resets_acked c.retransmits.reset_stream known in
+    both_keep e known (streams_acked c.stream_frames resets) (known_keep c.largest_acked e)
+    (both_keep known resets (streams_acked c.stream_frames resets) (resets_keep c.retransmits.reset_stream known) (streams_keep c.stream_frames resets))
+
+lost_keep : (ms : List StreamMeta) (e : End) → KeepsPath e (streams_lost ms e)
+lost_keep [] e = same_path e
+lost_keep (m ∷ ms) e = let k = lost_keep ms (stream_lost m e) in record { closing = k.closing; path = k.path }
+
+-- or lost
+pub carried_lost_keep : (c : Carried) (e : End) → KeepsPath e (carried_lost c e)
+carried_lost_keep c e = let k = lost_keep c.stream_frames e in record { closing = k.closing; path = k.path }
+
+-- or those of packets
+pub packets_acked_keep : (ps : Packets) (e : End) → KeepsPath e (packets_acked ps e)
+packets_acked_keep [] e = same_path e
+packets_acked_keep (p ∷ ps) e = both_keep e (carried_acked p.1.carried e) (packets_acked ps (carried_acked p.1.carried e)) (acked_keep p.1.carried e) (packets_acked_keep ps (carried_acked p.1.carried e))
+
+pub packets_lost_keep : (ps : Packets) (e : End) → KeepsPath e (packets_lost ps e)
+packets_lost_keep [] e = same_path e
+packets_lost_keep (p ∷ ps) e = both_keep e (carried_lost p.1.carried e) (packets_lost ps (carried_lost p.1.carried e)) (carried_lost_keep p.1.carried e) (packets_lost_keep ps (carried_lost p.1.carried e))
+
+-- ---- what is told in parts
+
+pub told_parts : {C : Type 0} (steps : Steps C) (c : C) (before later : List Told) → after_calls steps (after_calls steps c before) later ≡ after_calls steps c (before ++ later)
+told_parts steps c before later = sym (fold-append (λ d call. after_call steps call d) c before later)
+
+-- ---- packets that are acknowledged, the last of a list first
+
+pub popped : (all rest : Packets) (x : ℕ × TrackedPacket) → all ≡ rest ++ x ∷ [] → reverse all ≡ x ∷ reverse rest
+popped all rest x is = ap reverse is ∙ reverse-append rest (x ∷ [])
+
+told_same : (e f : End) (p : ℕ × TrackedPacket) → KeepsPath e f → told_packet f p ≡ told_packet e p
+told_same e f p k = ap (λ (c : Closing). told_packet (record f { closing = c }) p) k.closing ∙ ap (λ (x : Path). told_packet (record f { closing = e.closing; path = x }) p) k.path
+
+-- the end and its controller once one is
+pub record Acks {H K R C : Type 0} (steps : Steps C) (first : ConnectionValue H K R C) (all : Packets) (w : ConnectionValue H K R C) (left : Packets) : Type 0 where
+  pub takes : packets_acked (reverse left) w.end ≡ packets_acked (reverse all) first.end
+  pub told : after_calls steps w.control (told_packets first.end (reverse left)) ≡ after_calls steps first.control (told_packets first.end (reverse all))
+  pub keeps : KeepsPath first.end w.end
+  pub others : KeepsKeys first w
+
+pub acks_begin : {H K R C : Type 0} (steps : Steps C) (w : ConnectionValue H K R C) (all : Packets) → Acks steps w all w all
+acks_begin steps w all = record { takes = refl; told = refl; keeps = same_path w.end; others = refl }
+
+pub acks_go_on : {H K R C : Type 0} (steps : Steps C) (first w next : ConnectionValue H K R C) (all left rest : Packets) (x : ℕ × TrackedPacket) → Acks steps first all w left → left ≡ rest ++ x ∷ []
+    → next ≡ record w { control = after_calls steps w.control (told_packet w.end x); end = carried_acked x.1.carried w.end } → Acks steps first all next rest
+acks_go_on {H} {K} {R} {C} steps first w next all left rest x a is goes =
+    let turned = popped left rest x is in
+    let end : next.end ≡ carried_acked x.1.carried w.end = ap (λ (z : ConnectionValue H K R C). z.end) goes in
+    let control : next.control ≡ after_calls steps w.control (told_packet w.end x) = ap (λ (z : ConnectionValue H K R C). z.control) goes in
+    let same : told_packet w.end x ≡ told_packet first.end x = told_same first.end w.end x a.keeps in
+    let step : KeepsPath w.end (carried_acked x.1.carried w.end) = acked_keep x.1.carried w.end in
+    record {
+      takes = ap (packets_acked (reverse rest)) end ∙ ap (λ (ps : Packets). packets_acked ps w.end) (sym turned) ∙ a.takes;
+      told = ap (λ (c : C). after_calls steps c (told_packets first.end (reverse rest))) control
+          ∙ ap (λ (t : List Told). after_calls steps (after_calls steps w.control t) (told_packets first.end (reverse rest))) same
+          ∙ told_parts steps w.control (told_packet first.end x) (told_packets first.end (reverse rest))
+          ∙ ap (λ (ps : Packets). after_calls steps w.control (told_packets first.end ps)) (sym turned)
+          ∙ a.told;
+      keeps = record { closing = ap (λ (z : End). z.closing) end ∙ step.closing ∙ a.keeps.closing; path = ap (λ (z : End). z.path) end ∙ step.path ∙ a.keeps.path };
+      others = goes ∙ ap (λ (z : ConnectionValue H K R C). record z { control = after_calls steps w.control (told_packet w.end x); end = carried_acked x.1.carried w.end }) a.others
+          ∙ ap (λ (z : ConnectionValue H K R C). record first { control = z.control; end = z.end }) (sym goes);
+    }
+
+pub acks_end : {H K R C : Type 0} (steps : Steps C) (first w : ConnectionValue H K R C) (all left : Packets) → Acks steps first all w left → left ≡ [] → w ≡ telling steps first (told_packets first.end (reverse all)) (packets_acked (reverse all) first.end)
+acks_end {H} {K} {R} {C} steps first w all left a none =
+    let end : w.end ≡ packets_acked (reverse all) first.end = ap (λ (ps : Packets). packets_acked (reverse ps) w.end) (sym none) ∙ a.takes in
+    let control : w.control ≡ after_calls steps first.control (told_packets first.end (reverse all)) = ap (λ (ps : Packets). after_calls steps w.control (told_packets first.end (reverse ps))) (sym none) ∙ a.told in
+    a.others ∙ ap (λ (c : C). record first { control = c; end = w.end }) control ∙ ap (λ (x : End). record first { control = after_calls steps first.control (told_packets first.end (reverse all)); end = x }) end
+
+-- ---- keys and random source stay
+
+pub keys_told : {H K R C : Type 0} (steps : Steps C) (w t : ConnectionValue H K R C) (told : List Told) (e : End) → t ≡ telling steps w told e → KeepsKeys w t
+keys_told {H} {K} {R} {C} steps w t told e is = is ∙ ap (λ (z : ConnectionValue H K R C). record w { control = z.control; end = z.end }) (sym is)
+
+pub keys_end : {H K R C : Type 0} (w t left : ConnectionValue H K R C) → KeepsKeys w t → left ≡ with_end t left.end → KeepsKeys w left
+keys_end {H} {K} {R} {C} w t left k is =
+    let control : left.control ≡ t.control = ap (λ (z : ConnectionValue H K R C). z.control) is in
+    is ∙ ap (λ (z : ConnectionValue H K R C). with_end z left.end) k ∙ ap (λ (c : C). record w { control = c; end = left.end }) (sym control)
+
+pub keys_step : {H K R C : Type 0} (w t left : ConnectionValue H K R C) → KeepsKeys w t → KeepsKeys t left → KeepsKeys w left
+keys_step {H} {K} {R} {C} w t left k l = l ∙ ap (λ (z : ConnectionValue H K R C). record z { control = left.control; end = left.end }) k
+
+-- ---- an ACK frame
+
+told_beside : (ps : Packets) (e : End) (t : Tracking) → told_packets (with_tracking e t) ps ≡ told_packets e ps
+told_beside [] e t = refl
+told_beside (p ∷ ps) e t = ap (λ (l : List Told). told_packet e p ++ l) (told_beside ps e t)
+
+-- what a controller is told of one that names tracked packets
+pub named_told : (rises : Bool) (a : AckValue) (e f : End) (acked : Packets) (sent : Option ℕ) → GoDown a.largest a.ranges → acked_by a e.tracking.packets ≡ reverse acked → (acked ≡ [] → ⊥)
+    → f ≡ packets_acked (reverse acked) (with_tracking e (record e.tracking { packets = not_acked_by a e.tracking.packets }))
+    → sent ≡ cond (rises && asks_any acked) (option_map (λ p. p.time_sent) (at e.tracking.packets a.largest)) None
+    → told_packets (with_tracking e (record e.tracking { packets = not_acked_by a e.tracking.packets })) (reverse acked) ++ (told_acks_ended f ++ told_detected true (sampled_at sent a f)) ≡ told_acked rises a e
+named_told rises a e f acked sent down is some acks measures =
+    ap (λ (x : End). told_packets (with_tracking e left) (reverse acked) ++ (told_acks_ended x ++ told_detected true (sampled_at sent a x))) moved
+    ∙ ap (λ (o : Option ℕ). told_packets (with_tracking e left) (reverse acked) ++ (told_acks_ended w ++ told_detected true (sampled_at o a w))) (measures ∙ moment_measured rises a e.tracking.packets acked down is)
+    ∙ ap (λ (x : End). told_packets (with_tracking e left) (reverse acked) ++ (told_acks_ended w ++ told_detected true x)) (sample_of (measured rises a named) a w)
+    ∙ ap (λ (l : List Told). l ++ (told_acks_ended w ++ told_detected true (sampled (measured rises a named) a w))) (told_beside (reverse acked) e left ∙ ap (told_packets e) (sym is))
+    ∙ by_named named refl
+  where
+    named : Packets
+    named = acked_by a e.tracking.packets
+
+    left : Tracking
+    left = record e.tracking { packets = not_acked_by a e.tracking.packets }
+
+    w : End
+    w = without_acked named a e
+
+    -- the end once the packets are acknowledged
+    moved : f ≡ w
+    moved = acks ∙ ap (λ (ps : Packets). packets_acked ps (with_tracking e left)) (sym is) ∙ packets_acked_beside named e left
+
+    by_named : (ps : Packets) → named ≡ ps → told_packets e named ++ (told_acks_ended w ++ told_detected true (sampled (measured rises a named) a w)) ≡ told_acked rises a e
+    by_named [] none = absurd (some (reversed_none acked (sym is ∙ none)))
+    by_named (p ∷ ps) first =
+        ap (λ (xs : Packets). told_packets e xs ++ (told_acks_ended (without_acked xs a e) ++ told_detected true (sampled (measured rises a xs) a (without_acked xs a e)))) first
+        ∙ sym (append_assoc (told_packets e (p ∷ ps)) (told_acks_ended (without_acked (p ∷ ps) a e)) (told_detected true (sampled (measured rises a (p ∷ ps)) a (without_acked (p ∷ ps) a e))))
+        ∙ ap (λ (xs : Packets). told_named xs rises a e) (sym first)
+
+-- one that names none
+pub told_none : (rises : Bool) (a : AckValue) (e : End) (acked : Packets) → acked_by a e.tracking.packets ≡ reverse acked → acked ≡ [] → [] ≡ told_acked rises a e
+told_none rises a e acked is none = ap (λ (ps : Packets). told_named ps rises a e) (sym (is ∙ ap reverse none))
+
+-- a controller that is told of acknowledged packets, that they end, and of others that are lost
+pub told_thrice : {C : Type 0} (steps : Steps C) (c : C) (acks ends losses : List Told) → after_calls steps (after_calls steps (after_calls steps c acks) ends) losses ≡ after_calls steps c (acks ++ (ends ++ losses))
+told_thrice steps c acks ends losses = told_parts steps (after_calls steps c acks) ends losses ∙ told_parts steps c acks (ends ++ losses)

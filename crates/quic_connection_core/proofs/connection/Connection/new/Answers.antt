@@ -1,0 +1,53 @@
+use Rattle.std.proofs.Common.{rules, ◌≡◌, ◌≤◌, ◌*◌, ℕ, false, length, refl, sym, ap, subst, ◌∙◌, arith}
+use Rattle.std.specs.Prelude.{Ok, ◌==◌}
+use Rattle.std.proofs.lemmas.Bool.{le-ltb}
+use Rattle.quic_parameters.specs.ParametersRead.{parameters_at}
+use Rattle.quic_config.specs.Transport.{transport_of, first_mtu}
+use Rattle.quic_congestion.specs.Congestion.{HasRoom}
+use Rattle.quic_machine.specs.End.{are_sizes_wrong, is_window_small}
+use Rattle.quic_connection_core.specs.Telling.{IsRoomy}
+use Rattle.quic_connection_core.proofs.Flights.{none_in_flight}
+use Rattle.quic_connection_core.proofs.connection.Connection.new.Goals as goal
+
+pub invariant_of-result : goal.invariant_of-result
+invariant_of-result g c =
+    let made = c.path.view_is ∙ c.new-path.ensures in
+    let size : c.path.inside.current_mtu ≡ c.get_initial_mtu-mtu.result = ap (λ p. p.size) made ∙ sym c.get_initial_mtu-mtu.ensures.value in
+    let bound : 1200 ≤ c.path.inside.current_mtu = omega (arith, size, c.get_initial_mtu-mtu.ensures.value, c.get_initial_mtu-mtu.ensures.bound) in
+    let flight = ap (λ p. p.in_flight) made in
+    let room : HasRoom c.path.inside.current_mtu c.window-window.result = record {
+      sized = omega (arith, size, c.get_initial_mtu-mtu.type_inv);
+      room = omega (arith, size, c.from.ensures, c.if-window-from.false);
+    } in
+    let built = g.met.F.ControllerFactory.built_for_size c.factory.result.now c.args.now (first_mtu c.transport-transport.result) in
+    let shown : g.C.Controller.size_of c.path.inside.congestion ≡ c.path.inside.current_mtu = ap (λ p. g.C.Controller.size_of p.congestion) made ∙ built ∙ sym (ap (λ p. p.size) made) in
+    let roomy : IsRoomy g.C.Controller.size_of g.C.Controller.window_of c.path.inside.congestion c.path.inside.current_mtu = record { size = shown; room = subst (λ (k : ℕ). HasRoom c.path.inside.current_mtu k) c.window-window.ensures room } in
+    (search rules, search rules, bound, roomy, room, rw (flight, c.new-3.ensures) (none_in_flight _ _))
+
+pub returns-clause-roomy : goal.returns-clause-roomy
+returns-clause-roomy g c =
+    let made = c.path.view_is ∙ c.new-path.ensures in
+    let size : c.path.inside.current_mtu ≡ c.get_initial_mtu-mtu.result = ap (λ p. p.size) made ∙ sym c.get_initial_mtu-mtu.ensures.value in
+    let room : HasRoom c.path.inside.current_mtu c.window-window.result = record {
+      sized = omega (arith, size, c.get_initial_mtu-mtu.type_inv);
+      room = omega (arith, size, c.from.ensures, c.if-window-from.false);
+    } in
+    let built = g.met.F.ControllerFactory.built_for_size c.factory.result.now c.args.now (first_mtu c.transport-transport.result) in
+    let shown : g.C.Controller.size_of c.path.inside.congestion ≡ c.path.inside.current_mtu = ap (λ p. g.C.Controller.size_of p.congestion) made ∙ built ∙ sym (ap (λ p. p.size) made) in
+    record { size = shown; room = subst (λ (k : ℕ). HasRoom c.path.inside.current_mtu k) c.window-window.ensures room }
+
+pub returns-clause-lawful : goal.returns-clause-lawful
+returns-clause-lawful g c =
+    let made = c.path.view_is ∙ c.new-path.ensures in
+    let settings = c.args.config.now.settings in
+    let read : parameters_at c.args.peer_parameters.now ≡ Ok c.in-Ok.theirs = search rules in
+    let own : length c.args.own_id ≡ 8 = search rules in
+    let peer : (length c.args.peer_id == 0) ≡ false = search rules in
+    let sizes : are_sizes_wrong settings c.in-Ok.theirs ≡ false = sym (c.are_sizes_wrong.ensures settings (sym c.transport-transport.ensures)) ∙ search rules in
+    let shown = c.window-window.ensures ∙ ap (λ p. g.C.Controller.window_of p.congestion) made
+    ∙ ap (λ f. g.C.Controller.window_of (g.F.ControllerFactory.built f c.args.now (first_mtu c.transport-transport.result))) c.factory.ensures
+    ∙ ap (λ t. g.C.Controller.window_of (g.F.ControllerFactory.built c.args.config.now.factory c.args.now (first_mtu t))) c.transport-transport.ensures in
+    let mtu : c.from.result ≡ first_mtu (transport_of settings) = c.from.ensures ∙ c.get_initial_mtu-mtu.ensures.value ∙ ap first_mtu c.transport-transport.ensures in
+    let room : 2 * first_mtu (transport_of settings) ≤ c.window-window.result = omega (arith, mtu, c.if-window-from.false) in
+    let small : is_window_small settings c.window-window.result ≡ false = le-ltb c.window-window.result (2 * first_mtu (transport_of settings)) room in
+    rw (← shown) (rw (read, own, peer, sizes, small) refl)

@@ -1,0 +1,19 @@
+use Rattle.std.proofs.Common.{arith}
+use Rattle.std.proofs.lemmas.Bool.{and_parts}
+use Rattle.quic_recovery_core.specs.PendingAcks.{is_filled}
+use Rattle.quic_spaces.specs.Acknowledging.{delay_at}
+use Rattle.quic_spaces.proofs.AckSize.{few_runs}
+use Rattle.quic_connection_core.proofs.connection.Connection.put_leave.Goals as goal
+
+pub put_ack-largest-requires-clause-some : goal.put_ack-largest-requires-clause-some
+put_ack-largest-requires-clause-some g c =
+    let a = c.args.self.now.end.acknowledging in
+    (and_parts a.due (is_filled a.runs) (c.requires.due c.if-held.true)).1
+
+pub put_ack-largest-requires-clause-room : goal.put_ack-largest-requires-clause-room
+put_ack-largest-requires-clause-room g c few =
+    let e = c.args.self.now.end in
+    let most = few_runs (delay_at e.acknowledging e.closing.clock) e.acknowledging.runs few in
+    let some = c.requires.some in
+    let room = c.requires.room in
+    omega (arith, most, some, room)

@@ -1,0 +1,70 @@
+//! Packets that are lost at once, as a congestion controller hears of them (RFC 9002, sections
+//! 7.3.2 and 7.6).
+ghost use Rattle.std.specs.Prelude.{ℕ, ◌≡◌};
+ghost use Rattle.quic_machine.specs.Control.{flies};
+ghost use Rattle.quic_connection_core.specs.Losses.{none_lost, one_lost};
+
+use quic_machine::Instant;
+use quic_sent_packets::SentPacket;
+use quic_spaces::PersistentCongestion;
+use quic_time::Duration;
+use std::marker::Model;
+
+/// Whether a packet is in flight on the path of this generation: it asks for an acknowledgement,
+/// and went there.
+pub(crate) fn flies(generation: u64, packet: &SentPacket) -> bool
+    ensures { (number : ℕ) → result ≡ flies generation (number, packet.now) }
+{
+    packet.ack_eliciting && packet.path_generation == generation
+}
+
+/// Packets that are lost at once.
+#[derive(Debug, Drop)]
+pub(crate) struct Losses {
+    // Whether one of them was in flight on the path.
+    pub(crate) flew: bool,
+    // When the last of them went.
+    pub(crate) last_sent: Instant,
+    // How many bytes they had.
+    pub(crate) bytes: u64,
+    pub(crate) persistent: PersistentCongestion,
+}
+
+impl Model for Losses {
+    ghost use Rattle.quic_connection_core.specs.Losses.{Lost};
+
+    ghost Value = { Lost };
+
+    ghost view = { λ l. record {
+      flew = l.flew;
+      last = l.last_sent;
+      bytes = l.bytes;
+      watch = l.persistent;
+    } };
+}
+
+impl Losses {
+    /// None is lost yet. Losses this far apart are persistent congestion, where a round trip was
+    /// measured before this number was sent.
+    pub(crate) fn new(period: Duration, first_after_rtt: Option<u64>) -> Self
+        ensures { result ≡ none_lost period first_after_rtt }
+    {
+        Losses {
+            flew: false,
+            last_sent: Instant::from_nanos(0),
+            bytes: 0,
+            persistent: PersistentCongestion::new(period, first_after_rtt),
+        }
+    }
+
+    /// One more is lost, where packets fly on the path of this generation.
+    pub(crate) fn add(&mut self, generation: u64, number: u64, packet: &SentPacket)
+        ensures { self.new ≡ one_lost generation self.old (number, packet.now) }
+    {
+        self.flew = self.flew || flies(generation, packet);
+        self.last_sent = packet.time_sent;
+        self.bytes = self.bytes.saturating_add(u64::from(packet.size));
+        self.persistent
+            .on_lost(number, packet.time_sent, packet.ack_eliciting);
+    }
+}

@@ -1,0 +1,122 @@
+//! Two ends of a connection in one program: a request and an answer on one stream. The program is
+//! the network, the clock and both applications, and shows what each end needs of them.
+#![tactic(auto)]
+
+mod key;
+mod party;
+
+use crate::key::{ClearHeaderKey, ClearKey, keys};
+use crate::party::{MANY, Party};
+use anyhow::{Result, bail};
+use quic_connection::{
+    Config, Connection, ConnectionId, Dir, Instant, NewReno, NewRenoConfig, Side, TransportConfig,
+    TransportParameters, VarInt,
+};
+use rand_core::SeedableRng;
+use rand_pcg::Pcg64;
+use std::alloc::Global;
+use std::collections::VecDeque;
+
+/// An end: over its header keys, its packet keys, its random source and its congestion controller.
+pub(crate) type End = Connection<ClearHeaderKey, ClearKey, Pcg64, NewReno>;
+
+/// What either end is configured with. What isn't set has its default.
+fn config() -> Config<NewRenoConfig> {
+    let mut transport = TransportConfig::default();
+    // The peer may have one stream open, and send 32 bytes on it before any are read.
+    transport.max_concurrent_bidi_streams(VarInt::from_u32(1));
+    transport.stream_receive_window(VarInt::from_u32(32));
+    Config::new(transport, NewRenoConfig::default())
+}
+
+/// A letter for each end, which is in its id and marks what it sends.
+fn letter(side: Side) -> u8 {
+    match side {
+        Side::Client => b'c',
+        Side::Server => b's',
+    }
+}
+
+/// The first id of an end, of eight bytes.
+fn first_id(side: Side) -> ConnectionId {
+    ConnectionId::new(&[letter(side); 8])
+}
+
+/// The transport parameters that a handshake carries to the peer (RFC 9000, section 7.4): what the
+/// configuration comes to, and behind it what only a handshake knows (section 7.3). Both ends
+/// append initial_source_connection_id (0f), their first id. A server appends
+/// original_destination_connection_id (00), the id to which the client's first packet went;
+/// retry_source_connection_id (10), if it sent a Retry; and stateless_reset_token (02), if it is to
+/// be able to reset.
+///
+/// `Connection::new` skips these, as all that it doesn't know. So before it makes the end, a
+/// handshake checks in the peer's list that just those of the ids are there that have to be, once
+/// and as the handshake saw them, and that a client sent none of a server's.
+fn parameters(alloc: Global, side: Side) -> Result<Vec<u8>> {
+    let mut list = config().write_parameters(alloc, &TransportParameters::ORDER)?;
+    let id = first_id(side);
+    list.extend_from_slice(&[0x0f, id.len() as u8])?;
+    list.extend_from_slice(id.as_slice())?;
+    Ok(list)
+}
+
+/// An end, as a handshake leaves it at moment 0: ids and parameters are exchanged, both ends have
+/// the keys, and the peer's address is validated. Its application has these bytes to write.
+fn make(alloc: Global, side: Side, unwritten: &'static [u8]) -> Result<Party> {
+    // Its words say which packet numbers are left out: in earnest a peer must not guess them.
+    let random = Pcg64::seed_from_u64(42);
+    let end = Connection::new(
+        alloc,
+        side,
+        &config(),
+        &parameters(alloc, !side)?,
+        first_id(side),
+        first_id(!side),
+        keys(letter(side), letter(!side)),
+        Instant::from_nanos(0),
+        random,
+        true,
+    )?;
+    Ok(Party {
+        side,
+        end,
+        sent: VecDeque::new(alloc),
+        unwritten,
+    })
+}
+
+/// Lets the client ask and the server answer, until no datagram is under way and no timer is set.
+fn talk(rt: &(impl Print + AllocGlobal), client: &mut Party, server: &mut Party) -> Result<()> {
+    let mut now = Instant::from_nanos(0);
+    let Some(id) = client.end.streams().open(Dir::Bi) else {
+        bail!("the server lets no stream be opened");
+    };
+    client.write(id)?;
+    client.serve(rt, now)?;
+    println!(rt; "  the network loses that")?;
+    client.sent.clear();
+    for _ in 0..MANY {
+        let moments = [client.next_moment(), server.next_moment()];
+        let Some(next) = moments.iter().copied().flatten().min() else {
+            break;
+        };
+        // A timer may be set to a moment that is over.
+        now = now.later(next);
+        println!(rt; "{} ms", now.as_nanos() / 1_000_000)?;
+        client.take(rt, server, now)?;
+        server.take(rt, client, now)?;
+        client.serve(rt, now)?;
+        server.serve(rt, now)?;
+    }
+    let (client, server) = (client.end.state(), server.end.state());
+    println!(rt; "at rest: the client is {client}, the server is {server}")?;
+    Ok(())
+}
+
+fn main(rt: HostRuntime) -> Result<()> {
+    println!(rt; "the keys of this program hide nothing")?;
+    let answer = b"42, but what was the question, once more?";
+    let mut client = make(rt.alloc(), Side::Client, b"What is the answer?")?;
+    let mut server = make(rt.alloc(), Side::Server, answer)?;
+    talk(&rt, &mut client, &mut server)
+}

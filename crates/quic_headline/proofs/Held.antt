@@ -1,0 +1,7 @@
+-- That a poll gives what waits, unless window or pacer hold it back.
+pub mod Flight
+pub mod Silent
+pub mod Behind
+pub mod Unsent
+pub mod Messages
+pub mod Clause

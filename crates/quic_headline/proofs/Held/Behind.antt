@@ -1,0 +1,161 @@
+-- Behind a poll that gave nothing and left its end open: what its end still has to give is held back, as the view shows.
+use Rattle.std.proofs.Common.{◌≡◌, ℕ, zero, suc, ◌+◌, ◌<◌, ◌≤◌, true, List, [], ◌∷◌, ◌++◌, take, Option, Some, None, Ok, Err, refl, sym, ap, ◌∙◌, subst, ◌⊎◌, inl, inr, arith}
+use Rattle.std.specs.Prelude.{slice_get}
+use Rattle.std.proofs.lemmas.Bool.{leb-true}
+use Rattle.quic_wire_core.specs.declared.stream_id.Side.{Side}
+use Rattle.quic_wire_core.specs.declared.stream_id.Side.TheVariants.{Client, Server}
+use Rattle.quic_wire_core.specs.StreamId.{other_side}
+use Rattle.quic_time.specs.Timers.{each_timer}
+use Rattle.quic_congestion.specs.Congestion.{Told}
+use Rattle.quic_machine.specs.declared.answers.State.TheVariants as states
+use Rattle.quic_machine.specs.declared.run.RunEvent.{RunEvent}
+use Rattle.quic_machine.specs.declared.run.Call.{Call}
+use Rattle.quic_machine.specs.declared.run.Call.TheVariants as calls
+use Rattle.quic_machine.specs.declared.run.Answer.{Answer}
+use Rattle.quic_machine.specs.declared.run.Answer.TheVariants as answers
+use Rattle.quic_machine.specs.declared.run.View.{View}
+use Rattle.quic_machine.specs.Policy.{Policy}
+use Rattle.quic_machine.specs.End.{End, with_window}
+use Rattle.quic_machine.specs.Control.{Control, after_told, bytes_in_flight, is_window_full}
+use Rattle.quic_machine.specs.Poll.{Polled, asks_to_go, rests, polled, told_polled}
+use Rattle.quic_machine.specs.PollCases.{ready_at}
+use Rattle.quic_machine.specs.Machine.{World, Policies, IsStep, Follows, policy_at, end_at, control_at, view_of}
+use Rattle.quic_headline.specs.Runs.{Run, LeadsTo}
+use Rattle.quic_headline.specs.Observer.{Watch, watch}
+use Rattle.quic_headline.specs.Moments.{timers_in}
+use Rattle.quic_headline.specs.Headline.{IsHonest}
+use Rattle.quic_headline.specs.Polls.{window_in, pacing_timer, GaveNothing, bytes_flying, size_at, IsFull, IsPaced, IsHeldBack}
+use Rattle.quic_headline.proofs.Packets.Group.{PacketsHold}
+use Rattle.quic_headline.proofs.Packets.Sight.{Sight}
+use Rattle.quic_headline.proofs.Places.Parties.{Party, watch_of}
+use Rattle.quic_headline.proofs.Places.Groups.{Way}
+use Rattle.quic_headline.proofs.Places.Placed.{party_at, Placed, placed_less, shown, watch_is}
+use Rattle.quic_headline.proofs.Timers.Watched.{timers_behind, open_behind}
+use Rattle.quic_headline.proofs.Held.Flight.{bytes_at}
+use Rattle.quic_headline.proofs.Held.Silent.{IsQuiet, quiet, quiet_tells, quiet_window, IsHeld, full, paced, rests_held}
+
+-- ---- the last step
+
+-- What leads to some ends by one event more: how it leads to those before it, and that event.
+pub record Last (k : Policies) (i : ℕ) (first end : World) (events : List RunEvent) (answers : List Answer) (views : List View) (event : RunEvent) (a : Answer) : Type 0 where
+  pub before : World
+  pub leads : Follows k first (take i events) (take i answers) (take i views) before
+  pub step : IsStep k before event a end
+
+-- what stands in one place is the same
+some_same : {X : Type 0} (x y : X) → Some x ≡ Some y → x ≡ y
+some_same x y is = cc
+
+none_there : {X : Type 0} (x : X) → ◌≡◌ {A = Option X} None (Some x) → ⊥
+none_there x is = cc
+
+pub last_step : (k : Policies) (i : ℕ) (w end : World) (events : List RunEvent) (answers : List Answer) (views : List View) (event : RunEvent) (a : Answer) → slice_get events i ≡ Some event → slice_get answers i ≡ Some a
+    → Follows k w (take (suc i) events) (take (suc i) answers) (take (suc i) views) end → Last k i w end events answers views event a
+last_step k i w end [] answers views event a at said f = absurd (none_there event at)
+last_step k i w end (e ∷ events) [] views event a at said f = absurd (none_there a said)
+last_step k i w end (e ∷ events) (b ∷ answers) [] event a at said f = absurd f
+last_step k zero w end (e ∷ events) (b ∷ answers) (v ∷ views) event a at said f = record {
+  before = w;
+  leads = refl;
+  step = subst (λ (x : RunEvent). IsStep k w x a end) (some_same e event at) (subst (λ (x : Answer). IsStep k w e x end) (some_same b a said) (subst (λ (u : World). IsStep k w e b u) (sym f.3) f.1));
+}
+last_step k (suc i) w end (e ∷ events) (b ∷ answers) (v ∷ views) event a at said f =
+    let rest = last_step k i f.0 end events answers views event a at said f.3 in
+    record { before = rest.before; leads = (f.0, f.1, f.2, rest.leads); step = rest.step }
+
+-- ---- what a view shows
+
+-- the window that a controller shows
+window_shown : (side : Side) (w : World) → window_in (view_of w) side ≡ Some (control_at side w [])
+window_shown Client w = refl
+window_shown Server w = refl
+
+-- a poll that gave nothing was answered so by the machine
+none_answered : (r : Polled) → (answers.Poll (Ok None) ≡ answers.Poll r.answer) ⊎ (answers.Poll (Ok None) ≡ answers.Poll (Err (record {}))) → r.answer ≡ Ok None
+none_answered r (inl is) = cc
+none_answered r (inr is) = cc
+
+module _ (r : Run) (side : Side) (i now : ℕ) (v : View) (w : World) (leads : LeadsTo r (suc i) w) (g : GaveNothing r side i now v) where
+  abbrev call : Call
+  call = calls.Poll now
+
+  abbrev last : Last r.keys i r.start w r.events r.answers r.views (record { side = side; call = call }) (answers.Poll (Ok None))
+  last = last_step r.keys i r.start w r.events r.answers r.views (record { side = side; call = call }) (answers.Poll (Ok None)) g.poll.event g.poll.answer leads
+
+  -- the end as it was polled, which had read the window that its controller showed
+  abbrev met : End
+  met = with_window (end_at side last.before) (control_at side last.before [])
+
+  abbrev policy : Policy
+  policy = policy_at side r.keys
+
+  -- the end is open
+  pub open_now : (end_at side w).closing.state ≡ states.Open
+  open_now = open_behind r w i v side leads g.shown g.opened
+
+  left : end_at side w ≡ (polled policy met now).end
+  left = last.step.end
+
+  still : IsQuiet policy met now
+  still = quiet policy met now (none_answered (polled policy met now) last.step.answer) (sym (ap (λ (e : End). e.closing.state) left) ∙ open_now)
+
+  -- it rests
+  at_rest : end_at side w ≡ rests (ready_at met now)
+  at_rest = left ∙ still.leaves
+
+  -- the view shows the window that it read
+  pub window_at : window_in v side ≡ Some (end_at side w).path.window
+  window_at =
+      let told : control_at side w ≡ after_told (control_at side last.before) (told_polled met now) = last.step.control in
+      let shows : control_at side w [] ≡ control_at side last.before [] = ap (λ (c : Control). c []) told ∙ ap (λ (ts : List Told). control_at side last.before (ts ++ [])) (quiet_tells policy met now still) in
+      let read : (end_at side w).path.window ≡ control_at side last.before [] = ap (λ (e : End). e.path.window) left ∙ quiet_window policy met now still in
+      ap (λ (u : View). window_in u side) (shown r w i v leads g.shown) ∙ window_shown side w ∙ ap (λ (n : ℕ). Some n) (shows ∙ sym read)
+
+  -- and the timer of its pacer
+  pub pacing_at : pacing_timer v side ≡ Some (end_at side w).timers.pacing
+  pacing_at = ap (λ (ts : List (Option ℕ)). slice_get ts 6) (timers_behind r w i v side leads g.shown)
+
+  -- what it has to give is held back
+  pub held_there : asks_to_go (end_at side w) ≡ true → IsHeld (end_at side w)
+  held_there asks = subst IsHeld (sym at_rest) (rests_held met now still.none (ap asks_to_go (sym at_rest) ∙ asks))
+
+-- ---- at a place
+
+-- What it rests on there.
+pub record SaysWhatFlies (G : Way) : Type 1 where
+  pub packets : (x y : Party) → G x y → PacketsHold x y
+  pub sight : (x y : Party) → G x y → Sight x y
+
+module _ (G : Way) (b : SaysWhatFlies G) (r : Run) (end : World) (honest : IsHonest r) (side : Side) (i now : ℕ) (v : View) (at : Placed G r end side (suc i)) (g : GaveNothing r side i now v) where
+  abbrev x : Party
+  x = party_at r (suc i) at.world side at.sents
+
+  abbrev y : Party
+  y = party_at r (suc i) at.world (other_side side) at.theirs
+
+  opened : x.end.closing.state ≡ states.Open
+  opened = open_now r side i now v at.world at.leads g
+
+  abbrev seen : Placed Sight r end side (suc i)
+  seen = placed_less G Sight r end side (suc i) b.sight at
+
+  -- the end has as many bytes in flight as its observer counts, and its datagrams have the size that they began with
+  when_full : is_window_full x.end ≡ true → IsFull r side (suc i) v
+  when_full is =
+      let bytes : bytes_in_flight x.end ≡ bytes_flying r side (suc i) = bytes_at r end honest side (suc i) seen opened in
+      let size : x.end.path.size ≡ size_at r side = (b.packets x y at.gives).size in
+      let most = leb-true x.end.path.window (bytes_in_flight x.end + x.end.path.size) is in
+      record { window = x.end.path.window; shown = window_at r side i now v at.world at.leads g; full = omega arith }
+
+  -- the clock of the end is its observer's
+  when_paced : (moment : ℕ) → x.end.timers.pacing ≡ Some moment → x.end.closing.clock < moment → IsPaced r side (suc i) v
+  when_paced moment set later =
+      let clock : (watch r side (suc i)).clock ≡ x.end.closing.clock = ap (λ (w : Watch). w.clock) (watch_is r honest at.world (suc i) side at.sents at.theirs) ∙ ((b.sight x y at.gives).watched.flight opened).tells.clock in
+      record { moment = moment; shown = pacing_at r side i now v at.world at.leads g ∙ ap (λ (o : Option ℕ). Some o) set; later = omega arith }
+
+  -- window or pacer hold back what its end has to give
+  pub held_back : asks_to_go x.end ≡ true → IsHeldBack r side (suc i) v
+  held_back asks = elim (held_there r side i now v at.world at.leads g asks) [
+    | full is ↦ inl (when_full is)
+    | paced moment set later ↦ inr (when_paced moment set later)
+  ]

@@ -1,0 +1,97 @@
+-- A poll that gives nothing and leaves its end open leaves it with nothing to give but what window or pacer hold back.
+use Rattle.std.proofs.Common.{◌≡◌, ℕ, ◌<◌, Bool, true, false, not, List, [], Option, Some, None, Ok, refl, sym, ap, ◌∙◌, ◌⊎◌, inl, inr, arith}
+use Rattle.std.specs.Prelude.{if◌then◌else◌, ◌&&◌, nat_lt}
+use Rattle.std.proofs.lemmas.Bool.{ltb-true, and_parts, or_parts, both_ways}
+use Rattle.quic_recovery_core.specs.PendingAcks.{can_send}
+use Rattle.quic_congestion.specs.Congestion.{Told}
+use Rattle.quic_machine.specs.declared.answers.State.{State}
+use Rattle.quic_machine.specs.declared.answers.State.TheVariants as states
+use Rattle.quic_machine.specs.Closing.{ticked}
+use Rattle.quic_spaces.specs.Numbers.{can_number}
+use Rattle.quic_machine.specs.Policy.{Policy}
+use Rattle.quic_machine.specs.End.{End, with_closing}
+use Rattle.quic_machine.specs.Control.{is_window_full, pacer_answer, if_later, paced_until, pacer_asked, Gated, lets, holds, with_pacing_timer}
+use Rattle.quic_machine.specs.Poll.{probed, asks_to_go, is_gated, gated, goes, rests, sends, polled_if, polled_in, polled, told_if, told_polled_in, told_polled}
+use Rattle.quic_machine.specs.PollCases.{ready_at, ready_leaves, by_gate}
+
+-- ---- a poll that gives nothing
+
+-- an end gave nothing in a poll, and is open behind it: it was open, and nothing goes of it where it is ready
+pub record IsQuiet (p : Policy) (e : End) (now : ℕ) : Type 0 where
+  pub opened : e.closing.state ≡ states.Open
+  pub none : goes (ready_at e now) ≡ false
+  pub leaves : (polled p e now).end ≡ rests (ready_at e now)
+
+pub quiet : (p : Policy) (e : End) (now : ℕ) → (polled p e now).answer ≡ Ok None → (polled p e now).end.closing.state ≡ states.Open → IsQuiet p e now
+quiet p e now = state_case e.closing.state refl
+  where
+    g : Gated
+    g = ready_at e now
+
+    -- numbers are left, or the end closes
+    number_case : (b : Bool) → (sends b p g).answer ≡ Ok None → (sends b p g).end.closing.state ≡ states.Open → ⊥
+    number_case true is opened = cc
+    number_case false is opened = cc
+
+    going_case : (b : Bool) → goes g ≡ b → (polled_if b p g).answer ≡ Ok None → (polled_if b p g).end.closing.state ≡ states.Open → (goes g ≡ false) × ((polled_if b p g).end ≡ rests g)
+    going_case true some is opened = absurd (number_case (can_number g.end.numbers) is opened)
+    going_case false none is opened = (none, refl)
+
+    state_case : (s : State) → e.closing.state ≡ s → (polled_in s p e now).answer ≡ Ok None → (polled_in s p e now).end.closing.state ≡ states.Open → IsQuiet p e now
+    state_case states.Open s is opened =
+        let found = going_case (goes g) refl is opened in
+        record { opened = s; none = found.0; leaves = ap (λ (t : State). (polled_in t p e now).end) s ∙ found.1 }
+    state_case states.Closing s is opened = (let clash : states.Closing ≡ states.Open = sym s ∙ opened in cc)
+    state_case states.Drained s is opened = (let clash : states.Drained ≡ states.Open = sym s ∙ opened in cc)
+    state_case states.Failed s is opened = cc
+
+module _ (p : Policy) (e : End) (now : ℕ) (q : IsQuiet p e now) where
+  -- it tells the controller nothing
+  pub quiet_tells : told_polled e now ≡ []
+  quiet_tells =
+      let g : Gated = ready_at e now in
+      ap (λ (s : State). told_polled_in s e now) q.opened ∙ ap (λ (b : Bool). told_if (b && can_number g.end.numbers) g) q.none
+
+  -- it leaves the window as it was read
+  pub quiet_window : (polled p e now).end.path.window ≡ e.path.window
+  quiet_window = ap (λ (x : End). x.path.window) q.leaves ∙ ap (λ (x : End). x.path.window) (ready_leaves e now)
+
+-- ---- what is held back
+
+-- the window has no room, or the timer of the pacer is set to a later moment
+pub data IsHeld (e : End) : Type 0 where
+  full : is_window_full e ≡ true → IsHeld e
+  paced : (moment : ℕ) → e.timers.pacing ≡ Some moment → e.closing.clock < moment → IsHeld e
+
+-- the moment that a pacer names is later
+named_later : (now moment : ℕ) (o : Option ℕ) → if_later now o ≡ Some moment → now < moment
+named_later now moment None is = cc
+named_later now moment (Some m) is = go (nat_lt now m) refl is
+  where
+    go : (b : Bool) → nat_lt now m ≡ b → (if b then Some m else None) ≡ Some moment → now < moment
+    go true later is = let same : m ≡ moment = cc in let less = ltb-true now m later in omega arith
+    go false later is = cc
+
+-- where nothing goes of an end that is ready, what asks is held back
+pub rests_held : (e : End) (now : ℕ) → goes (ready_at e now) ≡ false → asks_to_go (rests (ready_at e now)) ≡ true → IsHeld (rests (ready_at e now))
+rests_held e now = by_gate y (λ (g : Gated). goes g ≡ false → asks_to_go (rests g) ≡ true → IsHeld (rests g)) (record { free = free; full = when_full; lets = let_go; holds = held_back })
+  where
+    y : End
+    y = probed (with_pacing_timer (with_closing e (ticked e.closing now)) None)
+
+    -- what isn't held back would go
+    would_go : goes (lets y) ≡ false → asks_to_go y ≡ true → ⊥
+    would_go none asks = both_ways (asks_to_go y) (or_parts (can_send y.acknowledging) (asks_to_go y) none).1 asks
+
+    free : is_gated y ≡ false → goes (lets y) ≡ false → asks_to_go (rests (lets y)) ≡ true → IsHeld (rests (lets y))
+    free is none asks = absurd (would_go none asks)
+
+    when_full : is_gated y ≡ true → is_window_full y ≡ true → goes (holds y) ≡ false → asks_to_go (rests (holds y)) ≡ true → IsHeld (rests (holds y))
+    when_full gate is none asks = full is
+
+    let_go : is_gated y ≡ true → is_window_full y ≡ false → paced_until y ≡ None → goes (lets (pacer_asked y)) ≡ false → asks_to_go (rests (lets (pacer_asked y))) ≡ true → IsHeld (rests (lets (pacer_asked y)))
+    let_go gate room until none asks = absurd (would_go none asks)
+
+    held_back : (moment : ℕ) → is_gated y ≡ true → is_window_full y ≡ false → paced_until y ≡ Some moment → goes (holds (with_pacing_timer (pacer_asked y) (Some moment))) ≡ false → asks_to_go (rests (holds (with_pacing_timer (pacer_asked y) (Some moment)))) ≡ true
+        → IsHeld (rests (holds (with_pacing_timer (pacer_asked y) (Some moment))))
+    held_back moment gate room until none asks = paced moment refl (named_later y.closing.clock moment (pacer_answer y) until)

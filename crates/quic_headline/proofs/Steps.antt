@@ -1,0 +1,8 @@
+-- What single calls do: the timer of the pacer, the window that a controller shows, and what polls give that asks.
+pub mod Made
+pub mod Pacing
+pub mod Windows
+pub mod Moved
+pub mod Probes
+pub mod Idle
+pub mod Asking

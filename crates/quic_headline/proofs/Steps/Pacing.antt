@@ -1,0 +1,141 @@
+-- The timer of the pacer of an open end: a poll sets it to the moment that the pacer names, or stops it; any other call leaves it or stops it.
+use Rattle.std.proofs.Common.{◌≡◌, ℕ, Bool, true, false, List, [], Option, Some, None, refl, sym, ap, subst, ◌⊎◌, inl, inr}
+use Rattle.std.specs.Prelude.{if◌then◌else◌}
+use Rattle.quic_wire_core.specs.StreamId.{other_side}
+use Rattle.quic_recovery_core.specs.Duplicates.{Seen}
+use Rattle.quic_recovery_core.specs.PendingAcks.{Pending, after_insert, packet_starts_wait}
+use Rattle.quic_time.specs.Timers.{Timers}
+use Rattle.quic_spaces.specs.Acknowledging.{ack_due}
+use Rattle.quic_machine.specs.declared.answers.State.{State}
+use Rattle.quic_machine.specs.declared.answers.State.TheVariants as states
+use Rattle.quic_machine.specs.declared.run.Call.{Call}
+use Rattle.quic_machine.specs.declared.run.Call.TheVariants as calls
+use Rattle.quic_machine.specs.declared.run.Answer.{Answer}
+use Rattle.quic_machine.specs.Policy.{Policy}
+use Rattle.quic_machine.specs.Closing.{ticked}
+use Rattle.quic_spaces.specs.Numbers.{can_number}
+use Rattle.quic_machine.specs.End.{End, with_closing, with_ack_timer, with_loss_timer, with_window}
+use Rattle.quic_machine.specs.Control.{Gated, paced_until, with_pacing_timer}
+use Rattle.quic_machine.specs.Timeouts.{acks_expired, loss_judged, loss_expired, pacing_expired}
+use Rattle.quic_machine.specs.Poll.{probed, lazied, goes, sends, polled_if, polled_in, polled}
+use Rattle.quic_machine.specs.Receive.{timers_after}
+use Rattle.quic_machine.specs.Machine.{after_call, end_at, control_at, given_by, policy_at}
+use Rattle.quic_machine.specs.CallCases.{is_poll, by_plain_call}
+use Rattle.quic_machine.specs.FrameCases.{Settling, Receives, named, acked_keeps, losses_keep, frame_keeps, frame_leaves, by_received}
+use Rattle.quic_machine.specs.PollCases.{ready_at, draft_at, probe_leaves, by_gate, composes}
+use Rattle.quic_machine.specs.DraftLaws.{due_alone}
+use Rattle.quic_headline.specs.Runs.{Run}
+use Rattle.quic_headline.specs.Polls.{PacerSetsItsTimer, pacing_at, pacer_names}
+use Rattle.quic_headline.proofs.Packets.Probes.{by_going}
+use Rattle.quic_headline.proofs.Steps.Made.{made_end}
+
+-- the timer isn't set, or is set as this says
+abbrev Paces : Option ℕ → End → Type 0
+Paces o e = (e.timers.pacing ≡ None) ⊎ (e.timers.pacing ≡ o)
+
+-- ---- a poll
+
+-- the end that asks its pacer
+abbrev asking_end : End → ℕ → End
+asking_end e now = probed (with_pacing_timer (with_closing e (ticked e.closing now)) None)
+
+-- the moment that the pacer names
+abbrev names : End → ℕ → Option ℕ
+names e now = paced_until (asking_end e now)
+
+-- its timer is stopped first
+stopped : (e : End) (now : ℕ) → (asking_end e now).timers.pacing ≡ None
+stopped e now = ap (λ (x : End). x.timers.pacing) (probe_leaves (with_pacing_timer (with_closing e (ticked e.closing now)) None))
+
+-- where window and pacer were asked
+gated_paces : (e : End) (now : ℕ) → Paces (names e now) (ready_at e now).end
+gated_paces e now = by_gate (asking_end e now) (λ (g : Gated). Paces (names e now) g.end) (record {
+  free = λ is. inl (stopped e now);
+  full = λ asks is. inl (stopped e now);
+  lets = λ asks room is. inl (stopped e now);
+  holds = λ moment asks room is. inr (sym is);
+})
+
+-- so it is behind a poll of an open end
+pub polled_paces : (p : Policy) (e : End) (now : ℕ) → e.closing.state ≡ states.Open → Paces (names e now) (polled p e now).end
+polled_paces p e now opened = subst (λ (s : State). Paces (names e now) (polled_in s p e now).end) (sym opened) (going_case (goes (ready_at e now)) refl)
+  where
+    g : Gated
+    g = ready_at e now
+
+    given : goes g ≡ true → Paces (names e now) (sends true p g).end
+    given some = by_going (Paces (names e now)) p (draft_at e now) (λ pacing. subst (λ (o : Option ℕ). (o ≡ None) ⊎ (o ≡ names e now)) (sym (composes g.held (lazied g.end) (due_alone g some)).pacing) (gated_paces e now))
+
+    number_case : goes g ≡ true → (b : Bool) → Paces (names e now) (sends b p g).end
+    number_case some true = given some
+    number_case some false = inl refl
+
+    going_case : (b : Bool) → goes g ≡ b → Paces (names e now) (polled_if b p g).end
+    going_case true some = number_case some (can_number g.end.numbers)
+    going_case false none = gated_paces e now
+
+-- ---- any other call
+
+-- a packet that is taken leaves the timer
+pacing_after : (t : Timers) (p : Pending) (now n : ℕ) (asks : Bool) (s : Seen) → (timers_after t p now n asks s).pacing ≡ t.pacing
+pacing_after t p now n asks s = go (packet_starts_wait p n asks s)
+  where
+    go : (b : Bool) → (if b then with_ack_timer t (Some (ack_due now)) else t).pacing ≡ t.pacing
+    go true = refl
+    go false = refl
+
+module _ (o : Option ℕ) where
+  -- acknowledged and lost packets leave the timer
+  settling : Settling (Paces o)
+  settling = record { known = λ n e i. i; reset = λ id e i. i; acked = λ m e i. i; lost = λ m e i. i; again = λ carried e i. i; tracked = λ t e i. i; measured = λ r first e i. i }
+
+  -- a datagram that comes does, and stops it where the end closes
+  receives : Receives (Paces o)
+  receives = record {
+    notes = λ n e i. i;
+    begins = λ now n e i. i;
+    frame = frame_keeps (Paces o) (record { ack = λ rises a e i. acked_keeps (Paces o) settling rises a (named a e) i; on_streams = λ f e on i. frame_leaves (Paces o) f e on (λ t. i); message = λ m e i. i });
+    takes = λ n asks e i. subst (λ (q : Option ℕ). (q ≡ None) ⊎ (q ≡ o)) (sym (pacing_after e.timers (after_insert e.acknowledging n e.closing.clock) e.closing.clock n asks e.numbers.opened)) i;
+    closes = λ reason e i. inl refl;
+  }
+
+  -- losses that are judged leave it
+  judged_paces : (moment : Option ℕ) (e : End) → Paces o e → Paces o (loss_judged moment e)
+  judged_paces None e i = i
+  judged_paces (Some moment) e i = losses_keep (Paces o) settling e i
+
+  -- the timer of losses expires or doesn't
+  lost_paces : (loss : Bool) (e : End) → Paces o e → Paces o (loss_expired loss e)
+  lost_paces true e i = judged_paces e.tracking.loss_time e i
+  lost_paces false e i = i
+
+  -- so does that of acknowledgements
+  acks_pace : (acks : Bool) (e : End) → Paces o e → Paces o (acks_expired acks e)
+  acks_pace true e i = i
+  acks_pace false e i = i
+
+  -- and that of the pacer, which is stopped then
+  expired_paces : (pacing : Bool) (e : End) → Paces o e → Paces o (with_loss_timer (pacing_expired pacing e))
+  expired_paces true e i = inl refl
+  expired_paces false e i = i
+
+  -- so any call but a poll leaves the timer, or stops it
+  other_paces : (p : Policy) (e : End) (theirs : List (List ℕ)) (call : Call) (a : Answer) → is_poll call ≡ false → Paces o e → Paces o (after_call p e theirs call a)
+  other_paces p e theirs call a other i = by_plain_call p e theirs (Paces o) call a (record {
+    same = i;
+    on_streams = λ t. i;
+    on_messages = λ m. i;
+    pings = i;
+    heard = λ path same. i;
+    times = λ now acks loss pacing is. expired_paces pacing (acks_expired acks (loss_expired loss (with_closing e (ticked e.closing now)))) (acks_pace acks (loss_expired loss (with_closing e (ticked e.closing now))) (lost_paces loss (with_closing e (ticked e.closing now)) i));
+    polls = λ now is. cc;
+    hears = λ now d is. by_received (Paces o) receives p e now d i;
+    tells = λ told. i;
+  })
+
+-- ---- the clause
+
+-- the timer of the pacer is set only to the moment that the pacer named in the last poll
+pub pacer_sets_its_timer : (r : Run) → PacerSetsItsTimer r
+pacer_sets_its_timer r i side (calls.Poll now) a w next m opened = subst (Paces (pacer_names side w now)) (sym (made_end r i side (calls.Poll now) a w next m)) (polled_paces (policy_at side r.keys) (with_window (end_at side w) (control_at side w [])) now opened)
+pacer_sets_its_timer r i side call a w next m opened = subst (Paces (pacing_at side w)) (sym (made_end r i side call a w next m)) (other_paces (pacing_at side w) (policy_at side r.keys) (end_at side w) (given_by (other_side side) w) call a refl (inr refl))

@@ -1,0 +1,280 @@
+-- Where a probe waits, a poll that leaves its end open gives a datagram that asks for an acknowledgement (RFC 9002, sections 6.2.4 and 7.5).
+use Rattle.std.proofs.Common.{◌≡◌, ℕ, ◌+◌, ◌-◌, ◌<◌, ◌≤◌, List, [], ◌∷◌, ◌++◌, length, Bool, true, false, Some, None, Ok, refl, sym, ap, ◌∙◌, subst, ◌⊎◌, inl, inr, arith}
+use Rattle.std.specs.Prelude.{not, ◌||◌, ◌==◌}
+use Rattle.std.proofs.lemmas.Bool.{lt-ltb, or_left, or_right, and_right, and_parts, not-true, ne_eqb}
+use Rattle.std.proofs.lemmas.List.{length-append}
+use Rattle.std.proofs.lemmas.List.Folds.{list_any-append}
+use Rattle.quic_wire_core.specs.declared.shared.EcnCodepoint.TheVariants.{Ect0}
+use Rattle.quic_wire_core.specs.StreamId.{other_side}
+use Rattle.quic_wire.specs.Value.{FrameValue, ack, ping, stream, datagram, reset_stream, stop_sending, max_data, max_stream_data, max_streams, data_blocked, stream_data_blocked, asks}
+use Rattle.quic_wire.specs.AckGrammar.{AckFits}
+use Rattle.quic_wire.specs.Writing.{spelling}
+use Rattle.quic_wire.proofs.FrameWritten.{spelling_length}
+use Rattle.quic_wire.proofs.FrameRange.{size_most}
+use Rattle.quic_wire.proofs.AckSet.{set_length}
+use Rattle.quic_recovery_core.specs.PendingAcks.{is_filled, can_send}
+use Rattle.quic_recovery_core.specs.declared.spaces.pending_acks.TheConstants.{MAX_ACK_RUNS}
+use Rattle.quic_retransmits.specs.Retransmits.{nothing_waits}
+use Rattle.quic_streams_parts.specs.Table.{added}
+use Rattle.quic_streams_parts.specs.SendHalf.{frame_of}
+use Rattle.quic_streams_state.specs.State.{Streams}
+use Rattle.quic_streams_state.specs.Waiting.{is_empty, can_send_stream_data}
+use Rattle.quic_streams_state.specs.Control as control
+use Rattle.quic_spaces.specs.Numbers.{can_number}
+use Rattle.quic_machine.specs.declared.answers.State.{State}
+use Rattle.quic_machine.specs.declared.answers.State.TheVariants as states
+use Rattle.quic_machine.specs.declared.answers.Transmit.{Transmit}
+use Rattle.quic_machine.specs.declared.run.Call.TheVariants as calls
+use Rattle.quic_machine.specs.declared.run.Answer.{Answer}
+use Rattle.quic_machine.specs.declared.run.Answer.TheVariants as answers
+use Rattle.quic_machine.specs.Policy.{Policy}
+use Rattle.quic_machine.specs.Closing.{ticked}
+use Rattle.quic_machine.specs.Ids.{Ids}
+use Rattle.quic_machine.specs.Tracking.{Tracking, TrackedPacket, forgotten, without_packet, asking_sent, after_sent}
+use Rattle.quic_machine.specs.Opens.{own_id_length}
+use Rattle.quic_machine.specs.End.{End, number_of, with_closing, with_window, streams_at}
+use Rattle.quic_machine.specs.Control.{Gated, lets, gated_if, with_pacing_timer}
+use Rattle.quic_machine.specs.Poll.{Polled, Draft, no_frames, frame_room, ping_if, with_control_frames, with_message_frames, with_stream_frames, with_asking, ack_of, with_ack, ack_fits, ack_if, composed_if, composed, datagram_of, asking, packet_of, probed, lazied, message_waits, asks_to_go, goes, draft_of, sends, polled_if, polled_in, polled}
+use Rattle.quic_machine.specs.Machine.{World, end_at, control_at, policy_at}
+use Rattle.quic_machine.specs.DraftLaws.{Writing, room_most, by_entries, by_messages, by_streams}
+use Rattle.quic_machine.specs.PollCases.{ready_at, frames_padded, frames_at, by_probed, composes}
+use Rattle.quic_headline.specs.Runs.{Run}
+use Rattle.quic_headline.specs.Headline.{IsHonest, IsRun}
+use Rattle.quic_headline.specs.Observer.{sents_until}
+use Rattle.quic_headline.specs.Polls.{IsMade, ProbesPass}
+use Rattle.quic_headline.proofs.Packets.Invariant.{Acks}
+use Rattle.quic_headline.proofs.Packets.Entries.{IsControl, entry_control}
+use Rattle.quic_headline.proofs.Packets.Composed.{Spelling, ack_form}
+use Rattle.quic_headline.proofs.Packets.Going.{Bringing, control_goes}
+use Rattle.quic_headline.proofs.Packets.Flying.{asking_padded}
+use Rattle.quic_headline.proofs.Packets.Probes.{by_going}
+use Rattle.quic_headline.proofs.Packets.Group.{PacketsHold}
+use Rattle.quic_headline.proofs.Packets.Sight.{Sight}
+use Rattle.quic_headline.proofs.Places.Parties.{sent_by, sents_by, Party}
+use Rattle.quic_headline.proofs.Places.Groups.{Way, Nothing, And, Group}
+use Rattle.quic_headline.proofs.Places.Placed.{party_at}
+use Rattle.quic_headline.proofs.Places.Steps.{poll_answer}
+use Rattle.quic_headline.proofs.Places.Together.{Spells}
+use Rattle.quic_headline.proofs.Steps.Made.{made_served, made_end, polling, PollHolds, poll_holds, observed_poll, sents_more}
+use Rattle.quic_headline.proofs.Steps.Moved.{has_probe, probe_has}
+
+-- ---- drafts that ask
+
+-- one of the frames of a draft asks for an acknowledgement
+abbrev pub Asks : Draft → Type 0
+Asks d = asking d.frames ≡ true
+
+-- it does still where a frame goes behind
+still_asks : (d : Draft) (f : FrameValue) → Asks d → asking (d.frames ++ f ∷ []) ≡ true
+still_asks d f is = list_any-append asks d.frames (f ∷ []) ∙ or_left (asking d.frames) (asking (f ∷ [])) is
+
+-- or where that frame asks
+last_asks : (d : Draft) (f : FrameValue) → asks f ≡ true → asking (d.frames ++ f ∷ []) ≡ true
+last_asks d f is = list_any-append asks d.frames (f ∷ []) ∙ or_right (asking d.frames) (asking (f ∷ [])) (or_left (asks f) false is)
+
+-- whichever frames go behind
+asks_stay : Writing Asks
+asks_stay = record {
+  ack = λ d filled may is. still_asks d (ack (ack_of d.end)) is;
+  ping = λ d is. still_asks d ping is;
+  drops = λ d kind is. is;
+  control = λ d kind e es f first due is. still_asks d f is;
+  message = λ d m ms first fit is. still_asks d (datagram m) is;
+  stream = λ d id h room found first left at counts is. still_asks d (stream (frame_of id h room)) is;
+}
+
+-- a frame of control asks
+control_asks : (f : FrameValue) → IsControl f → asks f ≡ true
+control_asks (reset_stream f) is = refl
+control_asks (stop_sending f) is = refl
+control_asks (max_data limit) is = refl
+control_asks (max_stream_data f) is = refl
+control_asks (max_streams f) is = refl
+control_asks (data_blocked limit) is = refl
+control_asks (stream_data_blocked f) is = refl
+control_asks f is = absurd is
+
+-- so frames of control do behind a draft, if any go
+control_or_none : (d : Draft) → Asks (with_control_frames d) ⊎ (length (with_control_frames d).frames ≡ length d.frames)
+control_or_none d = by_entries (λ (x : Draft). Asks x ⊎ (length x.frames ≡ length d.frames)) (λ x kind before. before)
+    (λ x kind e es f first due before. inl (last_asks x f (control_asks f (entry_control kind x.end.waiting.frames e es x.end.streams f first due)))) d (inr refl)
+
+-- messages and frames of streams go behind them
+more_ask : (d : Draft) → Asks d → Asks (with_stream_frames (with_message_frames d))
+more_ask d is = by_streams Asks asks_stay.stream (with_message_frames d) (by_messages Asks asks_stay.message d is)
+
+-- an ACK frame leaves room for one more frame of control
+ack_leaves : (e : End) → Acks e.acknowledging → is_filled e.acknowledging.runs ≡ true → length e.ids.active.id ≤ 20 → length (spelling (ack (ack_of e))) + 25 ≤ frame_room e
+ack_leaves e acks filled short =
+    let form : AckFits (ack_of e) = ack_form e acks filled in
+    let long = spelling_length (ack (ack_of e)) form in
+    let most = size_most (ack (ack_of e)) form in
+    let count = set_length e.acknowledging.runs in
+    let few = acks.runs.few in
+    let runs : MAX_ACK_RUNS ≡ 64 = refl in
+    let room = room_most e short in
+    omega arith
+
+module _ (K : Streams → Type 0) (k : Spelling K) (c : Bringing K) where
+  -- frames of control go behind a draft that leaves room for one, where something waits beside the bytes of streams
+  control_frames_ask : (d : Draft) → length d.bytes + 25 ≤ frame_room d.end → K (streams_at d.end) → is_empty d.end.waiting.frames d.end.streams ≡ false → Asks (with_control_frames d)
+  control_frames_ask d room i waits = go (control_or_none d)
+    where
+      go : Asks (with_control_frames d) ⊎ (length (with_control_frames d).frames ≡ length d.frames) → Asks (with_control_frames d)
+      go (inl is) = is
+      go (inr same) =
+          let gone = (control.control_frames (frame_room d.end) (length d.bytes) d.end.streams d.end.waiting.frames nothing_waits).frames in
+          let some : 0 < length gone = control_goes K k c d room i waits in
+          let all : length (with_control_frames d).frames ≡ length d.frames + length gone = length-append d.frames gone in
+          absurd (omega arith)
+
+  -- so what asks does, where something waits for a probe
+  with_asking_asks : (d : Draft) → length d.bytes + 25 ≤ frame_room d.end → K (streams_at d.end) → has_probe d.end ≡ true → Asks (with_asking d)
+  with_asking_asks d room i waits = pinged d.end.waiting.ping waits
+    where
+      pinged : (b : Bool) → (b || not (is_empty d.end.waiting.frames d.end.streams)) ≡ true → Asks (with_stream_frames (with_message_frames (with_control_frames (ping_if b d))))
+      pinged true on = more_ask (with_control_frames (ping_if true d)) (by_entries Asks asks_stay.drops asks_stay.control (ping_if true d) (last_asks d ping refl))
+      pinged false on = more_ask (with_control_frames d) (control_frames_ask d room i (not-true _ on))
+
+  -- and what is composed
+  composed_asks : (e : End) → Acks e.acknowledging → length e.ids.active.id ≤ 20 → K (streams_at e) → has_probe e ≡ true → Asks (composed e)
+  composed_asks e acks short i waits = go (can_send e.acknowledging) refl
+    where
+      late : (b : Bool) (d : Draft) → Asks d → Asks (ack_if b d)
+      late true d is = still_asks d (ack (ack_of d.end)) is
+      late false d is = is
+
+      go : (b : Bool) → can_send e.acknowledging ≡ b → Asks (composed_if b e)
+      go true due = with_asking_asks (with_ack (no_frames e)) (ack_leaves e acks (and_parts e.acknowledging.due (is_filled e.acknowledging.runs) due).1 short) i waits
+      go false due = late (ack_fits (with_asking (no_frames e))) (with_asking (no_frames e)) (with_asking_asks (no_frames e) (let room = room_most e short in omega arith) i waits)
+
+-- ---- a poll where a probe waits
+
+-- a packet that asks takes away a probe that waits
+one_fewer : (t : Tracking) (n : ℕ) (p : TrackedPacket) → p.asks ≡ true → (after_sent t n p).probes ≡ t.probes - 1
+one_fewer t n p is = ap (λ (b : Bool). (asking_sent b n p.time_sent (record t { packets = added (without_packet (forgotten t p) t.packets) n p })).probes) is
+
+-- an end at a moment, with the timer of its pacer stopped
+abbrev pub begun : End → ℕ → End
+begun e now = with_pacing_timer (with_closing e (ticked e.closing now)) None
+
+-- What a poll gives where a probe waits: a datagram that asks, and one probe fewer waits.
+record GivesProbe (p : Policy) (e : End) (now : ℕ) : Type 0 where
+  transmit : Transmit
+  answer : (polled p e now).answer ≡ Ok (Some transmit)
+  asks : asking (frames_at e now) ≡ true
+  fewer : (polled p e now).end.tracking.probes + 1 ≡ e.tracking.probes
+
+module _ (K : Streams → Type 0) (k : Spelling K) (c : Bringing K) (p : Policy) (e : End) (now : ℕ) (waits : 0 < e.tracking.probes) (acks : Acks e.acknowledging) (short : length e.ids.active.id ≤ 20) (streams : K (streams_at (ready_at e now).end)) where
+  -- the end where something waits for each probe
+  abbrev x : End
+  x = probed (begun e now)
+
+  -- as many probes wait
+  same_probes : x.tracking.probes ≡ e.tracking.probes
+  same_probes = by_probed (begun e now) (λ (z : End). z.tracking.probes ≡ e.tracking.probes) refl refl (λ q probes is. refl)
+
+  -- what is to be acknowledged stays
+  same_acks : x.acknowledging ≡ e.acknowledging
+  same_acks = by_probed (begun e now) (λ (z : End). z.acknowledging ≡ e.acknowledging) refl refl (λ q probes is. refl)
+
+  -- and so do the ids
+  same_ids : x.ids ≡ e.ids
+  same_ids = by_probed (begun e now) (λ (z : End). z.ids ≡ e.ids) refl refl (λ q probes is. refl)
+
+  -- something waits for them
+  something : has_probe x ≡ true
+  something = probe_has (begun e now) (lt-ltb 0 e.tracking.probes waits)
+
+  -- window and pacer aren't asked
+  ungated : ready_at e now ≡ lets x
+  ungated = ap (λ (b : Bool). gated_if b x) (and_right (asks_to_go x) (x.tracking.probes == 0) (ne_eqb x.tracking.probes 0 (λ none. (let same = same_probes in omega arith))))
+
+  -- so something goes
+  some : goes (lets x) ≡ true
+  some = or_right (can_send x.acknowledging) (asks_to_go x) (asks_more x.waiting.ping (not (is_empty x.waiting.frames x.streams)) (message_waits x || can_send_stream_data x.streams) something)
+    where
+      asks_more : (a b d : Bool) → (a || b) ≡ true → (a || (b || d)) ≡ true
+      asks_more true b d is = refl
+      asks_more false b d is = or_left b d is
+
+  -- which asks
+  goes_asks : Asks (composed (lazied x))
+  goes_asks = composed_asks K k c (lazied x) (let there = subst Acks (sym same_acks) acks in record { runs = there.runs; small = there.small })
+      (subst (λ (ids : Ids). length ids.active.id ≤ 20) (sym same_ids) short) (subst (λ (g : Gated). K (streams_at g.end)) ungated streams) something
+
+  -- and so do the frames of its datagram
+  frames_ask : asking (frames_at e now) ≡ true
+  frames_ask = ap (λ (g : Gated). asking (frames_padded (draft_of g))) ungated ∙ asking_padded (composed (lazied x)).frames _ ∙ goes_asks
+
+  -- a poll of an open end gives it, unless the numbers are used up
+  polled_as : e.closing.state ≡ states.Open → polled p e now ≡ sends (can_number x.numbers) p (lets x)
+  polled_as opened =
+      ap (λ (s : State). polled_in s p e now) opened
+      ∙ ap (λ (g : Gated). polled_if (goes g) p g) ungated
+      ∙ ap (λ (b : Bool). polled_if b p (lets x)) some
+
+  -- one probe fewer waits behind it
+  fewer : (sends true p (lets x)).end.tracking.probes + 1 ≡ e.tracking.probes
+  fewer =
+      let d : Draft = composed (lazied x) in
+      let tracking : d.end.tracking ≡ x.tracking = (composes false (lazied x) (λ held. cc)).tracking in
+      let there : d.end.tracking.probes ≡ x.tracking.probes = ap (λ (t : Tracking). t.probes) tracking in
+      let same = same_probes in
+      by_going (λ (z : End). z.tracking.probes + 1 ≡ e.tracking.probes) p d (λ pacing. (let one = one_fewer d.end.tracking (number_of d.end) (packet_of d) goes_asks in omega arith))
+
+  -- so a poll that leaves an open end open gives it
+  gives_probe : e.closing.state ≡ states.Open → (polled p e now).end.closing.state ≡ states.Open → GivesProbe p e now
+  gives_probe opened still = go (can_number x.numbers) (polled_as opened)
+    where
+      go : (b : Bool) → polled p e now ≡ sends b p (lets x) → GivesProbe p e now
+      go true is = record {
+        transmit = record { size = length (datagram_of p (draft_of (lets x))); ecn = Some Ect0 };
+        answer = ap (λ (q : Polled). q.answer) is;
+        asks = frames_ask;
+        fewer = ap (λ (q : Polled). q.end.tracking.probes + 1) is ∙ fewer;
+      }
+      go false is = let clash : states.Drained ≡ states.Open = sym (ap (λ (q : Polled). q.end.closing.state) is) ∙ still in cc
+
+-- ---- the clause
+
+module _ (H : Way) (s : Spells H) (g : Group Nothing (And (And PacketsHold H) Sight)) (r : Run) (end : World) (honest : IsHonest r) (run : IsRun r end) where
+  -- where a probe waits, a poll that leaves its end open gives a datagram that asks, and one probe fewer waits then
+  pub probes_pass : ProbesPass r
+  probes_pass side i now a w next m opened still waits = (
+    record {
+      transmit = gives.transmit;
+      made = subst (λ (b : Answer). IsMade r i side (calls.Poll now) b w next) said m;
+      sent = sent_by e now;
+      went = sents_more r i side now a w (observed_poll H r i side now a w h) ∙ ap (λ (b : Answer). sents_until r side i ++ sents_by e (calls.Poll now) b) said;
+      asks = gives.asks;
+    },
+    ap (λ (z : End). z.tracking.probes + 1) left ∙ gives.fewer,
+  )
+    where
+      h : PollHolds (And (And PacketsHold H) Sight) r i side now a w
+      h = poll_holds (And (And PacketsHold H) Sight) g r end honest run i side now a w next m
+
+      x : Party
+      x = polling r i w side h.sents
+
+      y : Party
+      y = party_at r i w (other_side side) h.theirs
+
+      p : Policy
+      p = policy_at side r.keys
+
+      e : End
+      e = with_window (end_at side w) (control_at side w [])
+
+      left : end_at side next ≡ (polled p e now).end
+      left = made_end r i side (calls.Poll now) a w next m
+
+      long : length e.ids.active.id ≡ own_id_length
+      long = ap (λ (id : List ℕ). length id) h.gives.0.0.active ∙ h.joined.y_long
+
+      gives : GivesProbe p e now
+      gives = gives_probe s.known s.spelling s.bringing p e now waits h.takes.0.0.acks (let eight = long in omega arith) (s.holds x y h.gives.0.0 h.gives.0.1 now) opened (sym (ap (λ (z : End). z.closing.state) left) ∙ still)
+
+      said : a ≡ answers.Poll (Ok (Some gives.transmit))
+      said = poll_answer p e now a m.step.answer (made_served r i side (calls.Poll now) a w next m) ∙ ap answers.Poll gives.answer

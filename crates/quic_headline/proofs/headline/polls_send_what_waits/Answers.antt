@@ -1,0 +1,5 @@
+use Rattle.quic_headline.proofs.Held.Clause.{polls_send_what_waits}
+use Rattle.quic_headline.proofs.headline.polls_send_what_waits.Goals as goal
+
+pub returns : goal.returns
+returns c = polls_send_what_waits

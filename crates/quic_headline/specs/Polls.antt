@@ -1,0 +1,168 @@
+-- What polls give, and what they hold back (RFC 9002, sections 7, 7.5 and 7.7): an open end gives what waits, unless the congestion window or the pacer holds it back;
+-- and the controller shows the window that comes of what it was told.
+use Rattle.std.specs.Prelude.{ℕ, suc, ◌+◌, ◌<◌, ◌≤◌, ◌≡◌, ◌⊎◌, true, List, [], ◌∷◌, ◌++◌, filter, length, sum_by, slice_get, take, Option, Some, None, Ok, if◌then◌else◌}
+use Rattle.quic_wire_core.specs.declared.stream_id.Side.{Side}
+use Rattle.quic_wire_core.specs.declared.stream_id.Side.TheVariants.{Client, Server}
+use Rattle.quic_wire_core.specs.StreamId.{other_side}
+use Rattle.quic_congestion.specs.Congestion as congestion
+use Rattle.quic_machine.specs.declared.answers.Transmit.{Transmit}
+use Rattle.quic_machine.specs.declared.answers.State.TheVariants as states
+use Rattle.quic_machine.specs.declared.run.RunEvent.{RunEvent}
+use Rattle.quic_machine.specs.declared.run.Call.{Call}
+use Rattle.quic_machine.specs.declared.run.Call.TheVariants as calls
+use Rattle.quic_machine.specs.declared.run.Answer.{Answer}
+use Rattle.quic_machine.specs.declared.run.Answer.TheVariants as answers
+use Rattle.quic_machine.specs.declared.run.View.{View}
+use Rattle.quic_machine.specs.Closing.{ticked}
+use Rattle.quic_machine.specs.End.{End, with_closing, with_window}
+use Rattle.quic_machine.specs.Control.{paced_until, with_pacing_timer}
+use Rattle.quic_machine.specs.Poll.{probed}
+use Rattle.quic_machine.specs.Machine.{World, Policies, IsStep, policy_at, end_at, end_met, control_at, given_by, tells}
+use Rattle.quic_headline.specs.Runs.{Run, In, same_side, state_in, until, AreServed, LeadsTo, written, ended, reset}
+use Rattle.quic_headline.specs.Observer.{Sent, HoldsOffset, HoldsEnd, asks_of, watch, sents_until, acked_until}
+use Rattle.quic_headline.specs.Headline.{IsAt}
+use Rattle.quic_headline.specs.Moments.{timers_in}
+
+-- ---- what is seen of an end
+
+-- the congestion window of an end in a view
+abbrev pub window_in : View → Side → Option ℕ
+window_in v Client = v.client.window
+window_in v Server = v.server.window
+
+-- the timer of the pacer in a view: the seventh of the nine
+abbrev pub pacing_timer : View → Side → Option (Option ℕ)
+pacing_timer v side = slice_get (timers_in v side) 6
+
+-- A poll at a moment gave nothing and left its end open, as the view behind it shows.
+pub record GaveNothing (r : Run) (side : Side) (i now : ℕ) (v : View) : Type 0 where
+  pub poll : IsAt r i side (calls.Poll now) (answers.Poll (Ok None))
+  pub shown : slice_get r.views i ≡ Some v
+  pub opened : state_in v side ≡ states.Open
+
+-- ---- what holds back
+
+-- those of an end's datagrams that are in flight behind the first so many answers: they are neither acknowledged nor lost (RFC 9002, section 2)
+abbrev pub flying : Run → Side → ℕ → List Sent
+flying r side i = (watch r side i).flight.flying
+
+-- their bytes, of those that ask for an acknowledgement
+abbrev pub bytes_flying : Run → Side → ℕ → ℕ
+bytes_flying r side i = sum_by (λ s. s.size) (filter asks_of (flying r side i))
+
+-- how many bytes a datagram of an end has at most; until it searches for more, these are those that it began with
+abbrev pub size_at : Run → Side → ℕ
+size_at r side = (end_at side r.start).path.size
+
+-- The window that a view shows has no room for one more datagram beside those in flight.
+pub record IsFull (r : Run) (side : Side) (i : ℕ) (v : View) : Type 0 where
+  pub window : ℕ
+  pub shown : window_in v side ≡ Some window
+  pub full : window ≤ bytes_flying r side i + size_at r side
+
+-- A view shows the timer of the pacer set to a moment that is later than each that the end took over.
+pub record IsPaced (r : Run) (side : Side) (i : ℕ) (v : View) : Type 0 where
+  pub moment : ℕ
+  pub shown : pacing_timer v side ≡ Some (Some moment)
+  pub later : (watch r side i).clock < moment
+
+-- window or pacer hold back what asks for an acknowledgement
+abbrev pub IsHeldBack : Run → Side → ℕ → View → Type 0
+IsHeldBack r side i v = IsFull r side i v ⊎ IsPaced r side i v
+
+-- ---- what waits is given
+
+-- A byte was written on a stream that wasn't reset, and is neither in flight nor acknowledged.
+pub record IsByteToGo (r : Run) (side : Side) (i id offset : ℕ) : Type 0 where
+  pub written : offset < length (written id (until r side i))
+  pub kept : reset id (until r side i) ≡ None
+  pub not_flying : HoldsOffset (flying r side i) id offset → ⊥
+  pub not_acked : HoldsOffset (acked_until r side i) id offset → ⊥
+
+-- So it is of the end of a stream.
+pub record IsEndToGo (r : Run) (side : Side) (i id : ℕ) : Type 0 where
+  pub ended : ended id (until r side i) ≡ true
+  pub kept : reset id (until r side i) ≡ None
+  pub not_flying : HoldsEnd (flying r side i) id → ⊥
+  pub not_acked : HoldsEnd (acked_until r side i) id → ⊥
+
+-- a byte of a stream, or its end, is to go
+abbrev pub IsToGo : Run → Side → ℕ → ℕ → Type 0
+IsToGo r side i id = ((offset : ℕ) × IsByteToGo r side i id offset) ⊎ IsEndToGo r side i id
+
+-- where a poll of an open end gives nothing though a byte of a stream, or its end, is to go, window or pacer hold it back
+abbrev pub PollsSendWhatWaits : Run → Type 0
+PollsSendWhatWaits r = (side : Side) (i now id : ℕ) (v : View) → AreServed r (suc i) → GaveNothing r side i now v → IsToGo r side (suc i) id → IsHeldBack r side (suc i) v
+
+-- so it is where a message waits (RFC 9221, section 5.4)
+abbrev pub PollsSendMessages : Run → Type 0
+PollsSendMessages r = (side : Side) (i now : ℕ) (message : List ℕ) (v : View) (w : World) → AreServed r (suc i) → GaveNothing r side i now v → LeadsTo r (suc i) w → In message (end_at side w).messages.queues.outgoing → IsHeldBack r side (suc i) v
+
+-- ---- step by step
+
+-- A call of a run, what it was answered, and the ends before and behind it; memory served.
+pub record IsMade (r : Run) (i : ℕ) (side : Side) (call : Call) (a : Answer) (w next : World) : Type 0 where
+  pub at : IsAt r i side call a
+  pub leads : LeadsTo r i w
+  pub step : IsStep r.keys w (record { side = side; call = call }) a next
+  pub served : AreServed r (suc i)
+
+-- an end as a poll asks its pacer: at the moment of the poll, with the window that its controller shows; the timer of the pacer is stopped, and something waits
+-- for each probe to carry
+abbrev pub polled_end : Side → World → ℕ → End
+polled_end side w now = let e = with_window (end_at side w) (control_at side w []) in probed (with_pacing_timer (with_closing e (ticked e.closing now)) None)
+
+-- the moment that the pacer of an end names in a poll, if it names a later one
+abbrev pub pacer_names : Side → World → ℕ → Option ℕ
+pacer_names side w now = paced_until (polled_end side w now)
+
+-- whether the timer of the pacer of an end is set, and to which moment
+abbrev pub pacing_at : Side → World → Option ℕ
+pacing_at side w = (end_at side w).timers.pacing
+
+-- a poll of an open end leaves the timer of its pacer set to the moment that the pacer named, or not set; any other call leaves it as it was, or not set
+abbrev pub PacingBehind : Side → Call → World → World → Type 0
+PacingBehind side (calls.Poll now) w next = (pacing_at side next ≡ None) ⊎ (pacing_at side next ≡ pacer_names side w now)
+PacingBehind side call w next = (pacing_at side next ≡ None) ⊎ (pacing_at side next ≡ pacing_at side w)
+
+-- so the timer of the pacer is set only to the moment that the pacer named in the last poll
+abbrev pub PacerSetsItsTimer : Run → Type 0
+PacerSetsItsTimer r = (i : ℕ) (side : Side) (call : Call) (a : Answer) (w next : World) → IsMade r i side call a w next → (end_at side w).closing.state ≡ states.Open → PacingBehind side call w next
+
+-- A poll gave a datagram that asks for an acknowledgement.
+pub record GaveAsking (r : Run) (side : Side) (i now : ℕ) (w next : World) : Type 0 where
+  pub transmit : Transmit
+  pub made : IsMade r i side (calls.Poll now) (answers.Poll (Ok (Some transmit))) w next
+  pub sent : Sent
+  pub went : sents_until r side (suc i) ≡ sents_until r side i ++ sent ∷ []
+  pub asks : asks_of sent ≡ true
+
+-- one that is no probe goes only where the window has room for it beside those in flight, and the pacer names no later moment
+abbrev pub AskingGoesWhereLet : Run → Type 0
+AskingGoesWhereLet r = (side : Side) (i now : ℕ) (w next : World) → GaveAsking r side i now w next → (end_at side w).tracking.probes ≡ 0
+    → (bytes_flying r side i + size_at r side < control_at side w []) × (pacer_names side w now ≡ None)
+
+-- where a probe waits, a poll that leaves its end open gives a datagram that asks, whatever window and pacer say; one probe fewer waits then (section 7.5)
+abbrev pub ProbesPass : Run → Type 0
+ProbesPass r = (side : Side) (i now : ℕ) (a : Answer) (w next : World) → IsMade r i side (calls.Poll now) a w next → (end_at side w).closing.state ≡ states.Open → (end_at side next).closing.state ≡ states.Open → 0 < (end_at side w).tracking.probes
+    → GaveAsking r side i now w next × ((end_at side next).tracking.probes + 1 ≡ (end_at side w).tracking.probes)
+
+-- ---- the window
+
+-- what a step tells the controller of an end: what its call tells, if it is a call at this end
+abbrev pub told_by_step : Side → Policies → World → RunEvent → List congestion.Told
+told_by_step side k w event = if same_side event.side side then tells (policy_at event.side k) (end_met w event) (given_by (other_side event.side) w) event.call else []
+
+-- The controller of an end was told this by the first of these events, in turn: by each of them that was answered.
+abbrev pub WasTold : Side → Policies → World → List RunEvent → List Answer → World → List congestion.Told → Type 0
+WasTold side k w events [] end told = (end ≡ w) × (told ≡ [])
+WasTold side k w [] (a ∷ answers) end told = ⊥
+WasTold side k w (event ∷ events) (a ∷ answers) end told = (next : World) × (rest : List congestion.Told) × IsStep k w event a next × (told ≡ told_by_step side k w event ++ rest) × WasTold side k next events answers end rest
+
+-- Behind the first so many answers the controller of an end was told this.
+abbrev pub IsHistory : Run → Side → ℕ → World → List congestion.Told → Type 0
+IsHistory r side i w told = WasTold side r.keys r.start (take i r.events) (take i r.answers) w told
+
+-- the window that a view shows is that which the controller, as it was when the run began, shows once it was told what the calls up to there tell
+abbrev pub WindowIsOfHistory : Run → Type 0
+WindowIsOfHistory r = (side : Side) (i : ℕ) (v : View) → AreServed r (suc i) → slice_get r.views i ≡ Some v → (w : World) × (told : List congestion.Told) × IsHistory r side (suc i) w told × (window_in v side ≡ Some (control_at side r.start told))

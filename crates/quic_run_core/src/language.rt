@@ -1,0 +1,8 @@
+//! What other languages of lines share with scripts: how lines are read, what their words name, and how answers are printed.
+
+pub use crate::answer::{call_name, mark_name, put_answer, put_bytes, put_received};
+pub use crate::lines::Lines;
+pub use crate::options::Options;
+pub use crate::runner::{MOST_TURNS, print};
+pub use crate::script::{LineError, LineWords, MAX_LINE, Setting, call_of, is_skipped, side};
+pub use crate::words::Source;

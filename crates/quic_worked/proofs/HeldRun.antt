@@ -1,0 +1,282 @@
+-- The run in which a window holds back, event by event.
+use Rattle.std.proofs.Common.{◌≡◌, ◌+◌, ◌<◌, ◌≤◌, ℕ, List, [], ◌∷◌, length, replicate, true, false, Option, Some, None, Ok, refl, inl, inr, ap, sym, ◌∙◌, subst, lit<, lit≤, arith}
+use Rattle.quic_wire_core.specs.declared.stream_id.Side.{Side}
+use Rattle.quic_wire_core.specs.declared.stream_id.Side.TheVariants.{Client, Server}
+use Rattle.quic_wire.specs.Value.{FrameValue, StreamValue, stream}
+use Rattle.quic_congestion.specs.Congestion.{Sent}
+use Rattle.quic_config.specs.Transport.{default_settings}
+use Rattle.quic_machine.specs.declared.run.Answer.TheVariants as answers
+use Rattle.quic_machine.specs.End.{IsMade}
+use Rattle.quic_machine.specs.Control.{bytes_in_flight, is_window_full}
+use Rattle.quic_machine.specs.Start.{AreStarted}
+use Rattle.quic_machine.specs.Machine.{World, IsStep, Follows, view_of}
+use Rattle.quic_headline.specs.Runs.{In}
+use Rattle.quic_headline.specs.Observer.{Sent as SentAs, HoldsOffset, acked_until}
+use Rattle.quic_headline.specs.Headline.{IsHonest, IsRun}
+use Rattle.quic_headline.specs.Polls.{GaveNothing, IsFull, IsPaced, IsByteToGo, PollsSendWhatWaits, WindowIsOfHistory, flying, bytes_flying, size_at}
+use Rattle.quic_worked.specs.Worked.{worked_policies, told_in, client_id, server_id, client_gives, once_written, once_sent, opens_stream, asks_datagram, gives_bytes, view_with, open_view}
+use Rattle.quic_worked.specs.Broken.{IsNoRun}
+use Rattle.quic_worked.specs.Reordered.{writes_bytes}
+use Rattle.quic_worked.specs.Timed.{serves, asks_at}
+use Rattle.quic_worked.specs.Held.{narrow_windows, held_start, held_events, held_answers, gives_nothing, once_held, held_view, full_view, held_run, silent_run, shrunk_view, shrunk_run}
+use Rattle.quic_worked.proofs.Codes.{no_codes}
+use Rattle.quic_worked.proofs.OwnIds.{AreOwn, BothOwn, own_ids, honest}
+use Rattle.quic_worked.proofs.BrokenRuns.{IsRefused, stops, behind}
+use Rattle.quic_worked.proofs.WorkedKeys.{are_keys}
+use Rattle.quic_worked.proofs.WorkedHonest.{making}
+use Rattle.quic_worked.proofs.WorkedRun.{parameters_say, opens as opens_first, writes as writes_first}
+
+-- ---- the premises
+
+held_started : AreStarted held_start
+held_started = record {
+  client_making = record (making client_id) { windows = narrow_windows };
+  server_making = record (making server_id) { windows = narrow_windows };
+  client_is = record { range = record { receive_window = lit< tt; stream_receive_window = lit< tt }; says = parameters_say; id = refl };
+  server_is = record { range = record { receive_window = lit< tt; stream_receive_window = lit< tt }; says = parameters_say; id = refl };
+  client = subst (λ read. IsMade Client default_settings narrow_windows read client_id server_id 0 true 63 held_start.client) (sym parameters_say) refl;
+  server = subst (λ read. IsMade Server default_settings narrow_windows read server_id client_id 0 true 63 held_start.server) (sym parameters_say) refl;
+  client_gave = refl;
+  server_gave = refl;
+}
+
+own : (side : Side) → AreOwn side [] held_run.events held_run.answers held_run.views
+own Client = (tt, (inl refl, (tt, (tt, (tt, (tt, (tt, (tt, tt))))))))
+own Server = (tt, (tt, (tt, (tt, (tt, (tt, (tt, (tt, tt))))))))
+
+pub held_is_honest : IsHonest held_run
+held_is_honest = record { start = held_started; keys = are_keys; ids = own_ids held_run own }
+
+-- ---- the machine's run
+
+opens : IsStep worked_policies held_start opens_stream (answers.Open (Some 0)) (once_held 1)
+unfolding once_held
+opens = record { answer = refl; end = refl; control = refl; others = refl; lacking = tt }
+
+writes : IsStep worked_policies (once_held 1) (writes_bytes (replicate 4000 0x61)) (answers.Write (Ok 4000)) (once_held 2)
+unfolding once_held
+writes = record { answer = inl refl; end = refl; control = refl; others = refl; lacking = λ lacks. cc }
+
+gives : IsStep worked_policies (once_held 2) (asks_at Client 0) (gives_bytes 1200) (once_held 3)
+unfolding once_held
+gives = record { answer = inl refl; end = refl; control = refl; others = refl; lacking = tt }
+
+holds : IsStep worked_policies (once_held 3) (asks_at Client 0) gives_nothing (once_held 4)
+unfolding once_held
+holds = record { answer = inl refl; end = refl; control = refl; others = refl; lacking = tt }
+
+expires : IsStep worked_policies (once_held 4) (serves Client 1024000000) (answers.Timeout (Ok tt)) (once_held 5)
+unfolding once_held
+expires = record { answer = inl refl; end = refl; control = refl; others = refl; lacking = tt }
+
+probes : IsStep worked_policies (once_held 5) (asks_at Client 1024000000) (gives_bytes 1200) (once_held 6)
+unfolding once_held
+probes = record { answer = inl refl; end = refl; control = refl; others = refl; lacking = tt }
+
+probes_again : IsStep worked_policies (once_held 6) (asks_at Client 1024000000) (gives_bytes 1200) (once_held 7)
+unfolding once_held
+probes_again = record { answer = inl refl; end = refl; control = refl; others = refl; lacking = tt }
+
+holds_again : IsStep worked_policies (once_held 7) (asks_at Client 1024000000) gives_nothing (once_held 8)
+unfolding once_held
+holds_again = record { answer = inl refl; end = refl; control = refl; others = refl; lacking = tt }
+
+unset_seen : held_view (view_with None None) ≡ view_of (once_held 1)
+unfolding once_held
+unset_seen = refl
+
+written_seen : held_view (view_with None None) ≡ view_of (once_held 2)
+unfolding once_held
+written_seen = refl
+
+given_seen : full_view ≡ view_of (once_held 3)
+unfolding once_held
+given_seen = refl
+
+held_seen : full_view ≡ view_of (once_held 4)
+unfolding once_held
+held_seen = refl
+
+expired_seen : held_view (view_with (Some 2048000000) None) ≡ view_of (once_held 5)
+unfolding once_held
+expired_seen = refl
+
+probed_seen : held_view (view_with (Some 3072000000) None) ≡ view_of (once_held 6)
+unfolding once_held
+probed_seen = refl
+
+again_seen : held_view (view_with (Some 3072000000) None) ≡ view_of (once_held 7)
+unfolding once_held
+again_seen = refl
+
+last_seen : held_view (view_with (Some 3072000000) None) ≡ view_of (once_held 8)
+unfolding once_held
+last_seen = refl
+
+follows : Follows held_run.keys held_run.start held_run.events held_run.answers held_run.views (once_held 8)
+follows = (once_held 1, opens, unset_seen, (once_held 2, writes, written_seen, (once_held 3, gives, given_seen, (once_held 4, holds, held_seen, (once_held 5, expires, expired_seen, (once_held 6, probes, probed_seen, (once_held 7, probes_again, again_seen, (once_held 8, holds_again, last_seen, refl))))))))
+
+gave_three : held_run.from_client ≡ (once_held 8).from_client
+unfolding once_held
+gave_three = refl
+
+gave_none : held_run.from_server ≡ (once_held 8).from_server
+unfolding once_held
+gave_none = refl
+
+pub held_is_run : IsRun held_run (once_held 8)
+held_is_run = record { codes = no_codes held_run.events refl; follows = follows; from_client = gave_three; from_server = gave_none }
+
+-- ---- what is in flight, and what is told
+
+-- nothing waits behind the datagram of the worked run, whose window has room
+pub is_idle : (client_gives once_sent.client 0).end.path.app_limited ≡ true
+unfolding once_sent
+is_idle = refl
+
+pub one_flies : bytes_in_flight (once_held 3).client ≡ 1200
+unfolding once_held
+one_flies = refl
+
+pub is_full : is_window_full (once_held 3).client ≡ true
+unfolding once_held
+is_full = refl
+
+pub not_limited : (once_held 4).client.path.app_limited ≡ false
+unfolding once_held
+not_limited = refl
+
+pub two_probes : (once_held 5).client.tracking.probes ≡ 2
+unfolding once_held
+two_probes = refl
+
+pub no_probe : (once_held 7).client.tracking.probes ≡ 0
+unfolding once_held
+no_probe = refl
+
+pub all_fly : bytes_in_flight (once_held 8).client ≡ 3600
+unfolding once_held
+all_fly = refl
+
+pub told_three : told_in Client worked_policies held_start held_events held_answers ≡ Sent 0 1200 0 ∷ Sent 1024000000 1200 1 ∷ Sent 1024000000 1200 2 ∷ []
+unfolding once_held
+told_three = refl
+
+-- ---- what waits, and is held back
+
+-- the frame of the datagram in flight, and the datagram as it was sent
+abbrev first_frame : StreamValue
+first_frame = record { id = 0; offset = 0; fin = false; bytes = replicate 1172 0x61 }
+
+abbrev first_sent : SentAs
+first_sent = record { number = 0; reference = 0; frames = stream first_frame ∷ []; moment = 0; size = 1200 }
+
+it_flies : flying held_run Client 4 ≡ first_sent ∷ []
+unfolding once_held
+it_flies = refl
+
+none_acked : acked_until held_run Client 4 ≡ []
+unfolding once_held
+none_acked = refl
+
+same_frame : (f g : StreamValue) → ◌≡◌ {A = FrameValue} (stream f) (stream g) → f ≡ g
+same_frame f g e = cc
+
+-- a datagram with one STREAM frame alone holds no offset behind it
+not_behind : (s : SentAs) (f : StreamValue) (id offset : ℕ) → s.frames ≡ stream f ∷ [] → f.offset + length f.bytes ≤ offset → HoldsOffset (s ∷ []) id offset → ⊥
+not_behind s f id offset only ends h = elim (h.among) [ inl is ↦ here is | inr i ↦ absurd i ]
+  where
+    carried : h.sent ≡ s → In (stream h.frame) (stream f ∷ [])
+    carried is = subst (λ (fs : List FrameValue). In (stream h.frame) fs) (ap (λ (x : SentAs). x.frames) is ∙ only) h.carried
+
+    past : h.frame ≡ f → ⊥
+    past is = let below : offset < f.offset + length f.bytes = subst (λ (g : StreamValue). offset < g.offset + length g.bytes) is h.below in omega (arith, below, ends)
+
+    here : h.sent ≡ s → ⊥
+    here is = elim (carried is) [ inl e ↦ past (same_frame h.frame f e) | inr i ↦ absurd i ]
+
+pub none_given : GaveNothing held_run Client 3 0 full_view
+none_given = record { poll = record { event = refl; answer = refl }; shown = refl; opened = refl }
+
+pub byte_waits : IsByteToGo held_run Client 4 0 1172
+byte_waits = record {
+  written = lit< tt;
+  kept = refl;
+  not_flying = λ h. not_behind first_sent first_frame 0 1172 refl (lit≤ tt) (subst (λ (ss : List SentAs). HoldsOffset ss 0 1172) it_flies h);
+  not_acked = λ h. (subst (λ (ss : List SentAs). HoldsOffset ss 0 1172) none_acked h).among;
+}
+
+so_many : bytes_flying held_run Client 4 ≡ 1200
+unfolding once_held
+so_many = refl
+
+pub window_is_full : IsFull held_run Client 4 full_view
+window_is_full = record {
+  window = 2400;
+  shown = refl;
+  full = let same : bytes_flying held_run Client 4 + size_at held_run Client ≡ 2400 = ap (λ (n : ℕ). n + 1200) so_many in subst (λ (n : ℕ). 2400 ≤ n) (sym same) (lit≤ tt);
+}
+
+-- ---- what goes wrong
+
+pub past_no : (next : World) → IsStep worked_policies (once_held 3) (asks_at Client 0) (gives_bytes 1200) next → ⊥
+unfolding once_held
+past_no next step = elim (step.answer) [ inl e ↦ cc | inr e ↦ cc ]
+
+pub probe_no : (next : World) → IsStep worked_policies (once_held 5) (asks_at Client 1024000000) gives_nothing next → ⊥
+unfolding once_held
+probe_no next step = elim (step.answer) [ inl e ↦ cc | inr e ↦ cc ]
+
+-- ---- a client that keeps what it wrote
+
+first_waits : IsByteToGo silent_run Client 3 0 0
+first_waits = record { written = lit< tt; kept = refl; not_flying = λ h. h.among; not_acked = λ h. h.among }
+
+-- its window has room, and it has no timer
+not_full : IsFull silent_run Client 3 (record { client = open_view; server = open_view }) → ⊥
+not_full f =
+    let shown : ◌≡◌ {A = Option ℕ} (Some 12000) (Some f.window) = f.shown in
+    let is : ◌≡◌ {A = ℕ} 12000 f.window = cc in
+    let most : 12000 ≤ 1200 = subst (λ (n : ℕ). n ≤ 1200) (sym is) f.full in
+    omega (arith, most)
+
+not_paced : IsPaced silent_run Client 3 (record { client = open_view; server = open_view }) → ⊥
+not_paced p = let shown : ◌≡◌ {A = Option (Option ℕ)} (Some None) (Some (Some p.moment)) = p.shown in cc
+
+pub silent_sends : PollsSendWhatWaits silent_run → ⊥
+silent_sends h =
+    elim (h Client 2 0 0 (record { client = open_view; server = open_view }) refl (record { poll = record { event = refl; answer = refl }; shown = refl; opened = refl }) (inl (0, first_waits))) [ inl f ↦ not_full f | inr p ↦ not_paced p ]
+
+silent_no : IsRefused once_written asks_datagram gives_nothing
+unfolding once_sent
+silent_no (inl e) = cc
+silent_no (inr e) = cc
+
+pub silent_is_none : IsNoRun silent_run
+silent_is_none = behind refl opens_first (behind refl writes_first (stops _ _ _ _ _ silent_no))
+
+silent_own : BothOwn silent_run
+silent_own = record { start = refl; keys = refl; client = (tt, (inl refl, (tt, tt))); server = (tt, (tt, (tt, tt))) }
+
+pub silent_is_honest : IsHonest silent_run
+silent_is_honest = honest silent_run silent_own
+
+-- ---- a client that shows another window
+
+pub seems_full : IsFull shrunk_run Client 3 shrunk_view
+seems_full = record { window = 1; shown = refl; full = lit≤ tt }
+
+pub shrunk_window : WindowIsOfHistory shrunk_run → ⊥
+shrunk_window h =
+    let told = h Client 0 shrunk_view refl refl in
+    let shows : ◌≡◌ {A = Option ℕ} (Some 1) (Some 12000) = told.3 in
+    cc
+
+pub shrunk_is_none : IsNoRun shrunk_run
+shrunk_is_none = silent_is_none
+
+shrunk_own : BothOwn shrunk_run
+shrunk_own = record { start = refl; keys = refl; client = (tt, (inl refl, (tt, tt))); server = (tt, (tt, (tt, tt))) }
+
+pub shrunk_is_honest : IsHonest shrunk_run
+shrunk_is_honest = honest shrunk_run shrunk_own

@@ -1,0 +1,142 @@
+-- A run in which a congestion window holds back what asks (RFC 9002, section 7): the window is 2400 bytes, twice the size of a datagram, and the client writes
+-- 4000 bytes. Once a full datagram is in flight, there is no room for one more. The loss timer expires, and two probes pass (section 7.5); then it holds again. And machines that hold back
+-- what the window lets go.
+use Rattle.std.specs.Prelude.{ℕ, true, List, [], ◌∷◌, ◌++◌, replicate, take, Some, None, Ok}
+use Rattle.quic_wire_core.specs.declared.stream_id.Side.TheVariants.{Client, Server}
+use Rattle.quic_congestion.specs.Congestion.{Told}
+use Rattle.quic_config.specs.Transport.{default_settings, parameters_of}
+use Rattle.quic_machine.specs.declared.run.RunEvent.{RunEvent}
+use Rattle.quic_machine.specs.declared.run.Answer.{Answer}
+use Rattle.quic_machine.specs.declared.run.Answer.TheVariants as answers
+use Rattle.quic_machine.specs.declared.run.EndView.{EndView}
+use Rattle.quic_machine.specs.declared.run.View.{View}
+use Rattle.quic_machine.specs.Parts.{Windows}
+use Rattle.quic_machine.specs.End.{new_end}
+use Rattle.quic_machine.specs.Control.{Control}
+use Rattle.quic_machine.specs.Machine.{World}
+use Rattle.quic_headline.specs.Runs.{Run}
+use Rattle.quic_worked.specs.Worked.{ran, worked_policies, client_id, server_id, started, opens_stream, writes_hello, asks_datagram, gives_bytes, view_with, open_view, worked_views}
+use Rattle.quic_worked.specs.Acknowledged.{client_acked, client_datagram}
+use Rattle.quic_worked.specs.Reordered.{writes_bytes}
+use Rattle.quic_worked.specs.Timed.{serves, asks_at}
+
+-- ---- the ends
+
+-- two datagrams
+abbrev pub narrow_window : ℕ
+narrow_window = 2400
+
+-- a controller that shows it whatever it is told
+abbrev pub narrow_control : Control
+narrow_control = λ (told : List Told). narrow_window
+
+abbrev pub narrow_windows : Windows
+narrow_windows = record { initial = narrow_window; present = narrow_window }
+
+-- both ends, before anything was given
+abbrev pub held_start : World
+held_start = record {
+  client = new_end Client default_settings narrow_windows (parameters_of default_settings) client_id server_id 0 true 63;
+  server = new_end Server default_settings narrow_windows (parameters_of default_settings) server_id client_id 0 true 63;
+  from_client = [];
+  from_server = [];
+  client_control = narrow_control;
+  server_control = narrow_control;
+}
+
+-- ---- events and answers
+
+-- the client writes 4000 bytes, and is asked twice for a datagram at once; then its timer expires, and it is asked three times
+abbrev pub held_events : List RunEvent
+held_events =
+    opens_stream
+    ∷ writes_bytes (replicate 4000 0x61)
+    ∷ asks_at Client 0
+    ∷ asks_at Client 0
+    ∷ serves Client 1024000000
+    ∷ asks_at Client 1024000000
+    ∷ asks_at Client 1024000000
+    ∷ asks_at Client 1024000000
+    ∷ []
+
+-- nothing goes
+abbrev pub gives_nothing : Answer
+gives_nothing = answers.Poll (Ok None)
+
+abbrev pub held_answers : List Answer
+held_answers =
+    answers.Open (Some 0)
+    ∷ answers.Write (Ok 4000)
+    ∷ gives_bytes 1200
+    ∷ gives_nothing
+    ∷ answers.Timeout (Ok tt)
+    ∷ gives_bytes 1200
+    ∷ gives_bytes 1200
+    ∷ gives_nothing
+    ∷ []
+
+-- what the first so many of these leave
+unfoldable pub once_held : ℕ → World
+unfolding client_acked
+once_held n = ran worked_policies held_start (take n held_events) (take n held_answers)
+
+-- ---- the run
+
+-- STREAM without a length, so that it goes up to the end of the datagram: on stream 0, from offset 0 on (RFC 9000, section 19.8)
+abbrev pub first_payload : List ℕ
+first_payload = (0x08 ∷ 0x00 ∷ []) ++ replicate 1172 0x61
+
+-- the probes: PING, and STREAM from offset 1172 on, and from 2341 on
+abbrev pub second_payload : List ℕ
+second_payload = (0x01 ∷ 0x0c ∷ 0x00 ∷ 0x44 ∷ 0x94 ∷ []) ++ replicate 1169 0x61
+
+abbrev pub third_payload : List ℕ
+third_payload = (0x01 ∷ 0x0c ∷ 0x00 ∷ 0x49 ∷ 0x25 ∷ []) ++ replicate 1169 0x61
+
+-- what is seen of both, where the client's loss timer is set so
+abbrev pub held_view : EndView → View
+held_view client = record { client = record client { window = Some narrow_window }; server = record (view_with None None) { window = Some narrow_window } }
+
+-- so it is once a full datagram is in flight
+abbrev pub full_view : View
+full_view = held_view (view_with (Some 1024000000) None)
+
+abbrev pub held_views : List View
+held_views =
+    replicate 2 (held_view (view_with None None))
+    ++ replicate 2 full_view
+    ++ held_view (view_with (Some 2048000000) None)
+    ∷ replicate 3 (held_view (view_with (Some 3072000000) None))
+
+abbrev pub held_run : Run
+held_run = record {
+  keys = worked_policies;
+  start = held_start;
+  events = held_events;
+  answers = held_answers;
+  views = held_views;
+  from_client = client_datagram 0 0 first_payload ∷ client_datagram 1 0 second_payload ∷ client_datagram 2 0 third_payload ∷ [];
+  from_server = [];
+}
+
+-- ---- machines that go wrong
+
+-- five bytes wait, a window of ten datagrams is empty, no timer is set, and the poll gives nothing
+abbrev pub silent_run : Run
+silent_run = record {
+  keys = worked_policies;
+  start = started;
+  events = opens_stream ∷ writes_hello ∷ asks_datagram ∷ [];
+  answers = answers.Open (Some 0) ∷ answers.Write (Ok 5) ∷ gives_nothing ∷ [];
+  views = take 3 worked_views;
+  from_client = [];
+  from_server = [];
+}
+
+-- the client shows a window of one byte, whatever its controller shows
+abbrev pub shrunk_view : View
+shrunk_view = record { client = record open_view { window = Some 1 }; server = open_view }
+
+-- so nothing seems to fit, and the same poll gives nothing
+abbrev pub shrunk_run : Run
+shrunk_run = record silent_run { views = replicate 3 shrunk_view }
