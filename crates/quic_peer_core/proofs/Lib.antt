@@ -1,0 +1,4 @@
+pub mod Saying
+pub mod Making
+pub mod Running
+pub mod Behind

@@ -1,0 +1,91 @@
+-- An end as it is made.
+use Rattle.std.proofs.Common.{◌≡◌, ℕ, true, List, [], ◌++◌, Some, None, Result, Ok, Err, IfOk, sym, subst, ap, ◌∙◌}
+use Rattle.std.specs.Prelude.{codes, IfErr, OnOk}
+use Rattle.rand_core.specs.Stream.{Stream}
+use Rattle.quic_packet.specs.declared.crypto.Keys.{Keys}
+use Rattle.quic_parameters.specs.ParametersRead.{parameters_at}
+use Rattle.quic_parameters.specs.ParametersWritten.{written_parameters}
+use Rattle.quic_config.specs.Transport.{Settings, parameters_of, transport_of, first_mtu}
+use Rattle.quic_congestion.specs.NewReno.{Reno, RenoSettings, default_reno, reno_made}
+use Rattle.quic_machine.specs.declared.answers.ConfigError.{ConfigError}
+use Rattle.quic_machine.specs.Parts.{Windows}
+use Rattle.quic_machine.specs.End.{MadeFrom, refusal_of}
+use Rattle.quic_connection_core.specs.Configured.{Configured}
+use Rattle.quic_connection_core.specs.Drawn.{words_of, after_words}
+use Rattle.quic_connection_core.specs.Telling.{windows_at}
+use Rattle.quic_run_core.specs.declared.key.PlainHeaderKey.{PlainHeaderKey}
+use Rattle.quic_run_core.specs.declared.key.PlainKey.{PlainKey}
+use Rattle.quic_run_core.specs.declared.options.Options.{Options}
+use Rattle.quic_run_core.specs.declared.words.Words.{Words}
+use Rattle.quic_run_core.specs.KeysOf.{keys_of}
+use Rattle.quic_connection.specs.Ends.{in_order}
+use Rattle.quic_run_core.specs.Printed.{bytes_text}
+use Rattle.quic_run_core.specs.Scripts.{settings_of, first_windows, line_feed}
+use Rattle.quic_run_core.specs.Words.{stream_from, source_stream, words_from}
+use Rattle.quic_run_core.proofs.Constant.{words_are}
+use Rattle.quic_peer_core.specs.declared.command.NewEnd.{NewEnd}
+use Rattle.quic_peer_core.specs.Printed.{line_text, parameters_text}
+use Rattle.quic_peer_core.specs.Peer.{Held, IsNew, refusal}
+
+-- the configuration of these options
+abbrev pub configured : Options → Configured RenoSettings
+configured options = record { settings = settings_of options; factory = default_reno }
+
+-- the controller that is made of a configuration at a moment
+abbrev pub built : Configured RenoSettings → ℕ → Reno
+built config now = reno_made config.factory now (first_mtu (transport_of config.settings))
+
+-- the windows that a controller shows
+abbrev pub shown : Reno → Windows
+shown r = windows_at (λ (q : Reno). q.settings.initial) (λ (q : Reno). q.window) r
+
+-- so an end is made of its options
+pub is_new : (options : Options) (new : NewEnd) (config : Configured RenoSettings) (bytes : List ℕ) (keys : Keys PlainHeaderKey PlainKey) (random : Words) (r : Result Held ConfigError)
+    → config ≡ configured options → bytes ≡ new.parameters → keys ≡ keys_of new.side → stream_from random ≡ source_stream options.source
+    → IfOk r (λ c. MadeFrom new.side config.settings (shown c.control) bytes new.id new.peer_id new.now true (words_of stream_from random 0) c.end)
+    → IfOk r (λ c. c.control ≡ built config new.now) → IfOk r (λ c. c.keys ≡ keys) → IfOk r (λ c. stream_from c.random ≡ after_words 1 (stream_from random))
+    → IfOk r (λ c. IsNew options new c)
+is_new options new config bytes keys random (Err e) is same own from made control kept drawn = tt
+is_new options new config bytes keys random (Ok held) is same own from made control kept drawn =
+    let reno : held.control ≡ reno_made default_reno new.now 1200 = control ∙ ap (λ (c : Configured RenoSettings). built c new.now) is in
+    let windows : shown held.control ≡ first_windows = ap shown reno in
+    let settings : config.settings ≡ settings_of options = ap (λ (c : Configured RenoSettings). c.settings) is in
+    let word : words_of stream_from random 0 ≡ words_from options.source 0 = ap (λ (s : Stream). s.u64_after []) from ∙ sym (words_are options.source 0) in
+    record {
+      end =
+          subst (λ (w : ℕ). MadeFrom new.side (settings_of options) first_windows new.parameters new.id new.peer_id new.now true w held.end) word
+          (subst (λ (b : List ℕ). MadeFrom new.side (settings_of options) first_windows b new.id new.peer_id new.now true (words_of stream_from random 0) held.end) same
+          (subst (λ (w : Windows). MadeFrom new.side (settings_of options) w bytes new.id new.peer_id new.now true (words_of stream_from random 0) held.end) windows
+          (subst (λ (s : Settings). MadeFrom new.side s (shown held.control) bytes new.id new.peer_id new.now true (words_of stream_from random 0) held.end) settings made)));
+      control = reno;
+      keys = kept ∙ own;
+      random = drawn ∙ ap (λ (s : Stream). after_words 1 s) from;
+    }
+
+-- why none is made, as its options and these say
+refusal-is : (options : Options) (new : NewEnd) (config : Configured RenoSettings) (bytes : List ℕ) → config ≡ configured options → bytes ≡ new.parameters
+    → refusal_of config.settings (built config new.now).window (parameters_at bytes) new.id new.peer_id ≡ refusal options new
+refusal-is options new config bytes is same =
+    ap (λ (c : Configured RenoSettings). refusal_of c.settings (built c new.now).window (parameters_at bytes) new.id new.peer_id) is
+    ∙ ap (λ (b : List ℕ). refusal_of (settings_of options) default_reno.initial (parameters_at b) new.id new.peer_id) same
+
+-- nothing stands against an end that is made
+pub is_lawful : (options : Options) (new : NewEnd) (config : Configured RenoSettings) (bytes : List ℕ) (r : Result Held ConfigError) → config ≡ configured options → bytes ≡ new.parameters
+    → OnOk r (refusal_of config.settings (built config new.now).window (parameters_at bytes) new.id new.peer_id ≡ None) → OnOk r (refusal options new ≡ None)
+is_lawful options new config bytes (Err e) is same lawful = tt
+is_lawful options new config bytes (Ok held) is same lawful = sym (refusal-is options new config bytes is same) ∙ lawful
+
+-- and it is told why none is made
+pub is_refused : (options : Options) (new : NewEnd) (config : Configured RenoSettings) (bytes : List ℕ) (r : Result Held ConfigError) → config ≡ configured options → bytes ≡ new.parameters
+    → IfErr r (λ e. Some e ≡ refusal_of config.settings (built config new.now).window (parameters_at bytes) new.id new.peer_id) → IfErr r (λ e. refusal options new ≡ Some e)
+is_refused options new config bytes (Ok held) is same refused = tt
+is_refused options new config bytes (Err e) is same refused = sym (refused ∙ refusal-is options new config bytes is same)
+
+-- its own parameters are told
+pub told-parameters : (options : Options) (config : Configured RenoSettings) (items given before mid text : List ℕ) → config ≡ configured options → items ≡ written_parameters (parameters_of config.settings) in_order → given ≡ items
+    → before ≡ codes "params " → mid ≡ before ++ bytes_text given → text ≡ mid ++ line_feed → text ≡ line_text (codes "params") (parameters_text options)
+told-parameters options config items given before mid text is written same first told last =
+    let settings : config.settings ≡ settings_of options = ap (λ (c : Configured RenoSettings). c.settings) is in
+    let bytes : given ≡ written_parameters (parameters_of (settings_of options)) in_order = same ∙ (written ∙ ap (λ (s : Settings). written_parameters (parameters_of s) in_order) settings) in
+    let line : text ≡ (codes "params " ++ bytes_text given) ++ line_feed = last ∙ ap (λ (t : List ℕ). t ++ line_feed) (told ∙ ap (λ (t : List ℕ). t ++ bytes_text given) first) in
+    line ∙ ap (λ (b : List ℕ). (codes "params " ++ bytes_text b) ++ line_feed) bytes

@@ -1,0 +1,5 @@
+pub mod Language
+pub mod Printed
+pub mod Peer
+pub mod Stages
+pub mod Outcomes

@@ -1,0 +1,38 @@
+-- What is printed of what one end answers.
+use Rattle.std.specs.Prelude.{ℕ, List, ◌∷◌, ◌++◌, codes, Option, Some, None, Ok}
+use Rattle.quic_wire_core.specs.declared.shared.EcnCodepoint.{EcnCodepoint}
+use Rattle.quic_parameters.specs.ParametersWritten.{written_parameters}
+use Rattle.quic_config.specs.Transport.{parameters_of}
+use Rattle.quic_machine.specs.declared.answers.ConfigError.{ConfigError}
+use Rattle.quic_machine.specs.declared.answers.ConfigError.TheVariants as config_errors
+use Rattle.quic_machine.specs.declared.run.Answer.{Answer}
+use Rattle.quic_machine.specs.declared.run.Answer.TheVariants as answers
+use Rattle.quic_connection.specs.Ends.{in_order}
+use Rattle.quic_run_core.specs.declared.options.Options.{Options}
+use Rattle.quic_run_core.specs.Printed.{bytes_text, mark_text, answer_text}
+use Rattle.quic_run_core.specs.Scripts.{settings_of, line_feed}
+
+-- a line: a name, a blank and what is answered
+abbrev pub line_text : List ℕ → List ℕ → List ℕ
+line_text name answer = name ++ (codes " " ++ (answer ++ line_feed))
+
+-- why an end isn't made; want of memory isn't printed
+abbrev pub refusal_text : ConfigError → Option (List ℕ)
+refusal_text config_errors.Parameters = Some (codes "parameters")
+refusal_text config_errors.IdLength = Some (codes "idlength")
+refusal_text config_errors.Size = Some (codes "size")
+refusal_text config_errors.Window = Some (codes "window")
+refusal_text config_errors.Memory = None
+
+-- the transport parameters of an end with these options, in the order of their ids
+abbrev pub parameters_text : Options → List ℕ
+parameters_text options = bytes_text (written_parameters (parameters_of (settings_of options)) in_order)
+
+-- the mark and the bytes of a datagram
+abbrev pub datagram_text : Option EcnCodepoint → List ℕ → List ℕ
+datagram_text mark bytes = mark_text mark ++ (codes " " ++ bytes_text bytes)
+
+-- An answer of an end that gave these datagrams at the call: of a poll the first of them, if it gave one.
+abbrev pub told_text : List (List ℕ) → Answer → List ℕ
+told_text (bytes ∷ more) (answers.Poll (Ok (Some transmit))) = datagram_text transmit.ecn bytes
+told_text given answer = answer_text 0 answer

@@ -1,0 +1,7 @@
+-- The stage that a runner is at.
+use Rattle.quic_peer_core.specs.declared.runner.Peer.{Peer}
+use Rattle.quic_peer_core.specs.Peer.{Stage}
+
+-- how far a runner is
+abbrev pub stage_of : Peer → Stage
+stage_of peer = record { options = peer.options; end = peer.end }

@@ -1,0 +1,124 @@
+//! An end, and what is printed of what it answers.
+ghost use Rattle.std.specs.Prelude.{◌≡◌, ◌++◌, IfOk, IfErr, OnOk, MatchResult, Some, None, codes, string_bytes};
+ghost use Rattle.quic_run_core.specs.Language.{asked_of};
+ghost use Rattle.quic_peer_core.specs.Printed.{refusal_text, datagram_text, told_text, parameters_text, line_text};
+ghost use Rattle.quic_peer_core.specs.Peer.{refusal, IsNew, IsCall, Receives};
+
+use crate::command::NewEnd;
+use quic_connection::{
+    Answer, Call, ConfigError, Connection, Datagram, EcnCodepoint, Injection, NewReno, call_at,
+};
+use quic_parameters::TransportParameters;
+use quic_run_core::Words;
+use quic_run_core::key::{PlainHeaderKey, PlainKey, keys_for};
+use quic_run_core::language::{
+    LineError, Options, call_name, mark_name, put_answer, put_bytes, put_received,
+};
+use std::alloc::{AllocError, Global};
+
+/// An end with stand-in keys.
+pub(crate) type End = Connection<PlainHeaderKey, PlainKey, Words, NewReno>;
+
+/// An end with these options. Its peer's address counts as validated.
+pub(crate) fn make_end(alloc: Global, options: &Options, new: &NewEnd) -> Result<End, ConfigError>
+    ensures made { IfOk result (λ made. IsNew options.now new.entry.now made) }
+    ensures lawful { OnOk result (refusal options.now new.entry.now ≡ None) }
+    ensures refusal { IfErr result (λ e. refusal options.now new.entry.now ≡ Some e) }
+{
+    Connection::new(
+        alloc,
+        new.side,
+        &options.config(),
+        &new.parameters,
+        new.id,
+        new.peer_id,
+        keys_for(new.side),
+        new.now,
+        Words::of(options.source),
+        true,
+    )
+}
+
+/// How it is printed why an end isn't made. Want of memory isn't printed.
+pub(crate) fn refusal_name(error: ConfigError) -> Result<&'static str, LineError>
+    ensures { MatchResult result
+        (λ name. refusal_text error ≡ Some name.now)
+        (λ e. (e ≡ LineError.OutOfMemory) × (refusal_text error ≡ None)) }
+{
+    match error {
+        ConfigError::Parameters => Ok("parameters"),
+        ConfigError::IdLength => Ok("idlength"),
+        ConfigError::Size => Ok("size"),
+        ConfigError::Window => Ok("window"),
+        ConfigError::Memory => Err(LineError::OutOfMemory),
+    }
+}
+
+/// The line that tells the transport parameters of an end with these options.
+pub(crate) fn tell_params(alloc: Global, options: &Options) -> Result<String, AllocError>
+    ensures { IfOk result (λ text. string_bytes text ≡ line_text (codes "params") (parameters_text options.now)) }
+{
+    let parameters = options
+        .config()
+        .write_parameters(alloc, &TransportParameters::ORDER)?;
+    let mut out = String::from_str(alloc, "params ")?;
+    put_bytes(alloc, &mut out, &parameters)?;
+    out.push_str("\n")?;
+    Ok(out)
+}
+
+/// Hands a datagram in, and gives the line that tells what comes of it. An error is want of memory.
+pub(crate) fn take(alloc: Global, end: &mut End, datagram: &Injection) -> Result<String, AllocError>
+    ensures { IfOk result (λ text. Receives datagram.entry.now.now datagram.entry.now.bytes end.old (string_bytes text) end.new) }
+{
+    let mut bytes = Vec::from_slice(alloc, datagram.bytes.as_slice())?;
+    let received = end.receive(datagram.now, datagram.ecn, &mut bytes);
+    let mut out = String::from_str(alloc, "receive ")?;
+    put_received(&mut out, &received)?;
+    out.push_str("\n")?;
+    Ok(out)
+}
+
+/// Makes a call, and gives the line that tells its answer. An error is want of memory.
+pub(crate) fn ask(alloc: Global, end: &mut End, call: &Call) -> Result<String, AllocError>
+    ensures { IfOk result (λ text. IsCall (asked_of call.now) end.old (string_bytes text) end.new) }
+{
+    let mut given = Vec::new(alloc);
+    let answer = call_at(alloc, end, &mut given, call)?;
+    let name = call_name(call);
+    let mut out = format!(in alloc; "{name} ")?;
+    put_told(alloc, &mut out, &answer, &given)?;
+    out.push_str("\n")?;
+    Ok(out)
+}
+
+/// Appends an answer: of a poll that gave a datagram its mark and its bytes.
+fn put_told(
+    alloc: Global,
+    out: &mut String,
+    answer: &Answer,
+    given: &[Datagram],
+) -> Result<(), AllocError>
+    ensures { OnOk result (string_bytes out.new ≡ string_bytes out.old ++ told_text given.now answer.now) }
+{
+    match (answer, given) {
+        (Answer::Poll(Ok(Some(transmit))), [datagram, ..]) => {
+            put_datagram(alloc, out, transmit.ecn, datagram)
+        }
+        _ => put_answer(alloc, out, answer, 0),
+    }
+}
+
+/// Appends the mark and the bytes of a datagram.
+fn put_datagram(
+    alloc: Global,
+    out: &mut String,
+    ecn: Option<EcnCodepoint>,
+    datagram: &Datagram,
+) -> Result<(), AllocError>
+    ensures { OnOk result (string_bytes out.new ≡ string_bytes out.old ++ datagram_text ecn datagram.now) }
+{
+    let mark = mark_name(ecn);
+    write!(out, "{mark} ")?;
+    put_bytes(alloc, out, datagram.as_slice())
+}

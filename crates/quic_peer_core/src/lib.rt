@@ -1,0 +1,9 @@
+//! One end of a connection, driven by lines: its peer is elsewhere.
+#![tactic(auto)]
+
+mod command;
+mod end;
+mod runner;
+
+pub use quic_run_core::ScriptError;
+pub use runner::{NOTICE, run_peer};

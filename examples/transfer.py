@@ -1,0 +1,220 @@
+#!/usr/bin/env python3
+"""Moves a file between the two ends of a connection over UDP on loopback, there and back.
+
+    ./quic-peer --proved < /dev/null    # once: proves and builds the program
+    python3 examples/transfer.py FILE
+
+Each end is a `quic-peer` process with a socket of its own, driven by the lines of docs/PEER.md. The
+client writes the file to a stream, and the server sends back what it read there; then the digests
+are compared. In place of a handshake this program hands each end the other's parameters and id. The
+keys of the ends are stand-ins that hide nothing.
+"""
+import hashlib
+import os
+import secrets
+import select
+import socket
+import subprocess
+import sys
+import time
+
+PROGRAM = os.path.join(os.path.dirname(os.path.dirname(os.path.abspath(__file__))), "quic-peer")
+PIECE = 64 * 1024  # The most bytes of a write and of a read.
+BURST = 32  # The most datagrams that a party takes, and sends, in one turn.
+LONGEST_WAIT = 1_000_000_000
+START = time.monotonic_ns()
+
+
+def now():
+    """The moment, in nanoseconds from the start of the program."""
+    return time.monotonic_ns() - START
+
+
+def bound_socket():
+    """A socket at a free port of loopback, which never waits."""
+    bound = socket.socket(socket.AF_INET, socket.SOCK_DGRAM)
+    bound.setsockopt(socket.SOL_SOCKET, socket.SO_RCVBUF, 1 << 20)
+    bound.bind(("127.0.0.1", 0))
+    bound.setblocking(False)
+    return bound
+
+
+def waiting(bound):
+    """The datagrams that wait at a socket, as many as are taken in one turn."""
+    for _ in range(BURST):
+        try:
+            yield bound.recv(2048)
+        except BlockingIOError:
+            return
+
+
+class End:
+    """One end of a connection: its process, its socket, and which streams can go on."""
+
+    def __init__(self, side):
+        self.side = side
+        self.process = subprocess.Popen(
+            [PROGRAM], stdin=subprocess.PIPE, stdout=subprocess.PIPE
+        )
+        self.notice = self.process.stdout.readline().decode().strip()
+        self.socket = bound_socket()
+        self.id = secrets.token_hex(8)
+        (self.parameters,) = self.ask("params")
+        self.peer = None  # Where datagrams go.
+        self.readable = set()
+        self.writable = set()
+
+    def ask(self, *words):
+        """Writes a line, and gives the words of its answer behind the first."""
+        self.process.stdin.write((" ".join(map(str, words)) + "\n").encode())
+        self.process.stdin.flush()
+        answer = self.process.stdout.readline().decode().split()
+        if answer[:1] != [words[0]] or answer[1:2] in (["failed"], ["memory"]):
+            raise RuntimeError(f"{self.side}: {words[0]} is answered {answer}")
+        return answer[1:]
+
+    def begin(self, other, peer):
+        """Makes the end for the other one, whose datagrams come from this address."""
+        made = self.ask("new", self.side, self.id, other.id, now(), other.parameters)
+        if made != ["ok"]:
+            raise RuntimeError(f"{self.side}: not made: {made}")
+        self.peer = peer
+
+    def sockets(self):
+        return [self.socket]
+
+    def next(self):
+        """When a timer expires, if one is set."""
+        (moment,) = self.ask("next")
+        return None if moment == "none" else int(moment)
+
+    def turn(self):
+        """Takes what came and what is due, and sends: whether there may be more to do at once."""
+        datagrams = list(waiting(self.socket))
+        for datagram in datagrams:
+            self.ask("receive", now(), "-", datagram.hex() or "-")
+        moment = self.next()
+        if moment is not None and moment <= now():
+            self.ask("timeout", now())
+        self.hear()
+        return self.send() or bool(datagrams)
+
+    def hear(self):
+        """Notes what the end tells of streams; one that the peer opened is accepted."""
+        while True:
+            event = self.ask("event")
+            if event == ["none"]:
+                return
+            if event[0] == "lost":
+                raise RuntimeError(f"{self.side}: lost: {event[1]}")
+            if event[0] == "opened":
+                self.readable.update(self.ask("accept", event[1]))
+            if event[0] == "readable":
+                self.readable.add(event[1])
+            if event[0] == "writable":
+                self.writable.add(event[1])
+
+    def send(self):
+        """Sends the datagrams that are ready: whether there may be more."""
+        for _ in range(BURST):
+            answer = self.ask("poll", now())
+            if answer == ["none"]:
+                return False
+            _mark, datagram = answer
+            self.socket.sendto(bytes.fromhex(datagram), self.peer)
+        return True
+
+    def write(self, stream, data, start):
+        """Writes what lies behind the start, as far as it is taken: where it ends."""
+        while stream in self.writable and start < len(data):
+            (taken,) = self.ask("write", stream, data[start : start + PIECE].hex())
+            if taken == "blocked":
+                self.writable.discard(stream)
+            else:
+                start += int(taken)
+        return start
+
+    def read(self, stream, data):
+        """Appends what can be read: whether the stream is read to its end."""
+        while stream in self.readable:
+            answer = self.ask("read", stream, PIECE)
+            if answer == ["end"]:
+                return True
+            if answer == ["blocked"]:
+                self.readable.discard(stream)
+            else:
+                data += bytes.fromhex(answer[1])
+        return False
+
+    def close(self):
+        """Ends the process, which has run all its lines."""
+        self.process.stdin.close()
+        if self.process.wait() != 0:
+            raise RuntimeError(f"{self.side}: status {self.process.returncode}")
+
+
+def wait(parties):
+    """Waits until a datagram comes at a party, or a moment for which one waits."""
+    moments = [moment for moment in (party.next() for party in parties) if moment is not None]
+    left = min(moments + [now() + LONGEST_WAIT]) - now()
+    sockets = [bound for party in parties for bound in party.sockets()]
+    select.select(sockets, [], [], max(left, 0) / 1e9)
+
+
+def move(parties, sender, receiver, stream, data):
+    """Moves bytes from one end to the other on a stream: what came."""
+    came, written, finished = bytearray(), 0, False
+    sender.writable.add(stream)
+    begun = now()
+    while not receiver.read(stream, came):
+        written = sender.write(stream, data, written)
+        if written == len(data) and not finished:
+            finished = sender.ask("finish", stream) == ["ok"]
+        if not any([party.turn() for party in parties]):
+            wait(parties)
+    seconds = (now() - begun) / 1e9
+    print(f"{sender.side} to {receiver.side}: {len(came)} bytes in {seconds:.1f} seconds")
+    return bytes(came)
+
+
+def there_and_back(parties, client, server, data):
+    """Moves bytes to the server and back: whether they came as they went."""
+    (stream,) = client.ask("open", "bi")
+    there = move(parties, client, server, stream, data)
+    back = move(parties, server, client, stream, there)
+    digests = [hashlib.sha256(each).hexdigest() for each in (data, there, back)]
+    for name, digest in zip(("sent", "there", "back"), digests):
+        print(f"{name}: {digest}")
+    return len(set(digests)) == 1
+
+
+def two_ends():
+    """A client and a server, which aren't made yet."""
+    if subprocess.run([PROGRAM, "--is-proved"]).returncode != 0:
+        sys.exit("first prove and build the program: ./quic-peer --proved < /dev/null")
+    client, server = End("c"), End("s")
+    print(client.notice)
+    return client, server
+
+
+def run(parties, client, server, path):
+    """Moves a file there and back between two ends that were made: the exit status."""
+    with open(path, "rb") as file:
+        same = there_and_back(parties, client, server, file.read())
+    client.close()
+    server.close()
+    print("the digests are the same" if same else "THE DIGESTS DIFFER")
+    return 0 if same else 1
+
+
+def main():
+    if len(sys.argv) != 2:
+        sys.exit("usage: transfer.py FILE")
+    client, server = two_ends()
+    client.begin(server, server.socket.getsockname())
+    server.begin(client, client.socket.getsockname())
+    return run([client, server], client, server, sys.argv[1])
+
+
+if __name__ == "__main__":
+    sys.exit(main())
