@@ -2,6 +2,7 @@
 pub mod Spans
 pub mod Loose
 pub mod LooseSteps
+pub mod Last
 pub mod OffsetSet
 pub mod OffsetCalls
 pub mod Edits
