@@ -2,7 +2,6 @@
 pub mod Spans
 pub mod Loose
 pub mod LooseSteps
-pub mod Last
 pub mod OffsetSet
 pub mod OffsetCalls
 pub mod Edits
