@@ -2,3 +2,8 @@ mod Idle
 mod Places
 mod Within
 mod Room
+mod Joined
+mod Slotted
+mod Ordered
+mod Looked
+mod Lent
