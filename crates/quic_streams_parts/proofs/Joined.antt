@@ -17,7 +17,7 @@ other n k ne = unsigned_tied n k ∙ ne_eqb n k ne
 pub below_less : (n k : ℕ) → n < k → nat_cmp n k ≡ Less
 below_less n k l = sym (nat_cmp_is n k Less l)
 
-above_greater : (n k : ℕ) → k < n → nat_cmp n k ≡ Greater
+pub above_greater : (n k : ℕ) → k < n → nat_cmp n k ≡ Greater
 above_greater n k l = sym (nat_cmp_is n k Greater l)
 
 module _ {A : Type 0} where

@@ -7,3 +7,4 @@ mod Slotted
 mod Ordered
 mod Looked
 mod Lent
+mod Parted

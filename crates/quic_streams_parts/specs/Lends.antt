@@ -6,6 +6,7 @@ use Rattle.quic_streams_parts.specs.Table.{Table, put}
 use Rattle.quic_streams_parts.specs.Slots.{Slots}
 use Rattle.quic_streams_parts.specs.contracts.kept.Kept.{the_row as kept_row}
 use Rattle.quic_streams_parts.specs.contracts.ring.Ring.{the_row as ring_row}
+use Rattle.quic_streams_parts.specs.contracts.by_number.ByNumber.{the_row as by_number_row}
 use Rattle.quic_streams_parts.specs.contracts.numbered.Numbered.{the_row as numbered_row}
 
 module _ (T : RattleType) where
@@ -15,12 +16,16 @@ module _ (T : RattleType) where
 
   -- a slot has it, and stays as it is where it has no value
   abbrev pub lends_slot : MutBor (Option T.Denot) → Option (MutBor T.Denot) → Fml
-  lends_slot s r = LendsIf (option_row (kept_row T)) T s r (λ w. Some w) s.now
+  lends_slot s r = LendsIf (option_row T) T s r (λ w. Some w) s.now
 
   -- the slot of a number has it
   abbrev pub lends_ring : MutBor (Slots T.Denot) → ℕ → Option (MutBor T.Denot) → Fml
   lends_ring s n r = LendsIf (ring_row T) T s r (λ w. record s.now { slots = slice_set s.now.slots (n - s.now.base) (Some w) }) s.now
 
   -- a number has it
+  abbrev pub lends_by_number : MutBor (Table T.Denot) → ℕ → Option (MutBor T.Denot) → Fml
+  lends_by_number s n r = LendsIf (by_number_row T) T s r (put s.now n) s.now
+
+  -- the same, of values that are kept
   abbrev pub lends_number : MutBor (Table T.Denot) → ℕ → Option (MutBor T.Denot) → Fml
   lends_number s n r = LendsIf (numbered_row T) T s r (put s.now n) s.now

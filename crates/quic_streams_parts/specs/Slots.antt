@@ -1,5 +1,6 @@
 -- Values in slots, one for each number from a first one on.
-use Rattle.std.specs.Prelude.{ℕ, ◌+◌, ◌^◌, ◌<◌, ◌≤◌, List, [], ◌∷◌, length, Option, Some, None}
+use Rattle.std.specs.Prelude.{ℕ, ◌+◌, ◌^◌, ◌<◌, ◌≤◌, List, [], ◌∷◌, length, Option, Some, None, ⊤}
+use Rattle.std.specs.Option.{IsSome}
 use Rattle.std.specs.List.{AllByRecursion}
 use Rattle.std.specs.List.Sorted.{IsStrictlySortedBy}
 use Rattle.std.specs.Map.{keys_of}
@@ -10,6 +11,11 @@ use Rattle.quic_streams_parts.specs.Table.{Table}
 pub record Slots (A : Type 0) : Type 0 where
   pub base : ℕ
   pub slots : List (Option A)
+
+-- the value of the first entry, if there is one
+abbrev pub first_value : {K A : Type 0} → List (K × A) → Option A
+first_value [] = None
+first_value (e ∷ es) = Some e.1
 
 module _ {A : Type 0} where
   -- what the slot of a number holds, before other values
@@ -26,10 +32,15 @@ module _ {A : Type 0} where
   abbrev pub held : Slots A → Table A
   held p = numbered p.base p.slots
 
-  -- no more than 65536 slots, whose numbers fit 64 bits
+  -- no more than 4096 slots, whose numbers fit 64 bits
   pub record IsShort (p : Slots A) : Type 0 where
     pub numbers : p.base + length p.slots ≤ 2 ^ 64
-    pub span : length p.slots ≤ 65536
+    pub span : length p.slots ≤ 4096
+
+  -- the first slot, if there is one, holds a value
+  abbrev pub IsTrimmed : List (Option A) → Type 0
+  IsTrimmed [] = ⊤
+  IsTrimmed (o ∷ slots) = IsSome o
 
   -- all numbers of some values lie below one
   abbrev pub AllBelow : ℕ → Table A → Type 0
@@ -39,7 +50,8 @@ module _ {A : Type 0} where
   abbrev pub AllFrom : ℕ → Table A → Type 0
   AllFrom n entries = AllByRecursion (λ k. n ≤ k) (keys_of entries)
 
-  -- some values by number, in order, and the slots of those behind all of them
+  -- some values by number, in order, and the slots of those behind all of them, trimmed
   pub record IsSplit (earlier : Table A) (s : Slots A) : Type 0 where
     pub below : AllBelow s.base earlier
     pub ordered : IsStrictlySortedBy nat_cmp (keys_of earlier)
+    pub trimmed : IsTrimmed s.slots

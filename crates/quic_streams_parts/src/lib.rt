@@ -5,6 +5,8 @@
 
 mod answers;
 mod by_dir;
+mod by_number;
+mod by_place;
 mod events;
 mod kept;
 mod numbered;

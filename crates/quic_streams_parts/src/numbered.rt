@@ -1,4 +1,4 @@
-//! Values by number: the latest in a ring, and those that fell out of it in an ordered map.
+//! Values by number, each at a place of its own on the heap.
 ghost use Rattle.std.specs.Prelude.{◌≡◌, [], IfOk, OnOk, OnErr};
 ghost use Rattle.std.specs.Option.{option_copied, option_copied_mut};
 ghost use Rattle.std.specs.Borrow.{sem};
@@ -7,33 +7,26 @@ ghost use Rattle.std.specs.Map.{keys_of};
 ghost use Rattle.std.specs.Ordering.{nat_cmp};
 ghost use Rattle.quic_streams_parts.specs.Table.{at, added, without};
 
+use crate::by_number::ByNumber;
 use crate::kept::{Kept, given_out};
-use crate::ring::Ring;
 use std::alloc::{AllocError, Global};
-use std::collections::BTreeMap;
 use std::marker::Model;
 
-/// Values by number, for numbers that come nearly in order. One of the latest 65536 numbers is
+/// Values by number, for numbers that come nearly in order. One of the latest 4096 numbers is
 /// found, kept and taken out in constant time, amortized, and an earlier one in the logarithm of
 /// how many of those there are. Each value stays where it is on the heap.
 #[derive(Drop)]
 pub struct Numbered<T> {
-    // Those whose numbers lie below the ring's.
-    earlier: BTreeMap<u64, Kept<T>>,
-    ring: Ring<T>,
+    values: ByNumber<Kept<T>>,
     alloc: Global,
 }
 
 impl<T> Model for Numbered<T> {
-    ghost use Rattle.std.specs.Prelude.{◌++◌};
     ghost use Rattle.quic_streams_parts.specs.Table.{Table};
-    ghost use Rattle.quic_streams_parts.specs.Slots.{held, IsSplit};
 
     ghost Value = { Table T };
 
-    ghost view = { λ m. m.earlier.entries ++ held m.ring };
-
-    ghost invariant = { λ m. IsSplit m.earlier.entries m.ring };
+    ghost view = { λ m. m.values };
 }
 
 impl<T> Numbered<T> {
@@ -44,8 +37,7 @@ impl<T> Numbered<T> {
         ensures { result ≡ [] }
     {
         Numbered {
-            earlier: BTreeMap::new(alloc),
-            ring: Ring::new(alloc),
+            values: ByNumber::new(alloc),
             alloc,
         }
     }
@@ -54,10 +46,7 @@ impl<T> Numbered<T> {
     pub fn get(&self, number: u64) -> Option<&T>
         ensures { option_copied result ≡ at self.now number }
     {
-        if number >= self.ring.base() {
-            return self.ring.get(number);
-        }
-        match self.earlier.get(&number) {
+        match self.values.get(number) {
             Some(kept) => Some(kept.get()),
             None => None,
         }
@@ -68,10 +57,7 @@ impl<T> Numbered<T> {
         ensures* writes_back { sem 𝓛 (lends_number T.row self.entry number result) }
         ensures value { option_copied_mut result ≡ at self.old number }
     {
-        if number >= self.ring.base() {
-            return self.ring.get_mut(number);
-        }
-        match self.earlier.get_mut(&number) {
+        match self.values.get_mut(number) {
             Some(kept) => Some(kept.get_mut()),
             None => None,
         }
@@ -90,12 +76,9 @@ impl<T> Numbered<T> {
         ensures err { OnErr result (self.new ≡ self.old) }
         ensures was_ordered { IsStrictlySortedBy nat_cmp (keys_of self.old) }
     {
+        self.values.are_ordered();
         let kept = Kept::new(self.alloc, value)?;
-        if number < self.ring.base() {
-            return Ok(given_out(self.earlier.insert(number, kept)?));
-        }
-        self.ring.reach(number, &mut self.earlier)?;
-        self.ring.insert(number, kept)
+        Ok(given_out(self.values.insert(number, kept)?))
     }
 
     /// Takes out the value of a number, if it is there.
@@ -105,9 +88,6 @@ impl<T> Numbered<T> {
         ensures taken { result ≡ at self.old number }
         ensures left { self.new ≡ without self.old number }
     {
-        if number < self.ring.base() {
-            return given_out(self.earlier.remove(&number));
-        }
-        self.ring.remove(number)
+        given_out(self.values.remove(number))
     }
 }

@@ -4,23 +4,22 @@ ghost use Rattle.std.specs.Option.{option_copied, option_copied_mut};
 ghost use Rattle.std.specs.Borrow.{sem};
 ghost use Rattle.quic_streams_parts.specs.Table.{at, added, without};
 ghost use Rattle.quic_streams_parts.specs.Lends.{lends_slot};
-ghost use Rattle.quic_streams_parts.specs.Slots.{held, in_slot, numbered, AllBelow};
+ghost use Rattle.quic_streams_parts.specs.Slots.{held, in_slot, numbered, first_value, AllBelow, IsTrimmed};
 
-use crate::kept::{Kept, given_out};
 use std::alloc::{AllocError, Global};
 use std::collections::{BTreeMap, VecDeque};
 use std::marker::Model;
 use std::mem;
 
 /// How many numbers the ring goes over at most.
-const SPAN: u64 = 65536;
+const SPAN: u64 = 4096;
 
 /// The latest values in slots, one for each number from `base` on. A slot is empty where its number
 /// was skipped, or where its value was taken out.
 #[derive(Drop)]
 pub(crate) struct Ring<T> {
     base: u64,
-    slots: VecDeque<Option<Kept<T>>>,
+    slots: VecDeque<Option<T>>,
 }
 
 impl<T> Model for Ring<T> {
@@ -34,31 +33,32 @@ impl<T> Model for Ring<T> {
 }
 
 /// The value that is kept in a slot, if there is one.
-fn value_in<T>(slot: &Option<Kept<T>>) -> Option<&T>
+fn value_in<T>(slot: &Option<T>) -> Option<&T>
     ensures { option_copied result ≡ slot.now }
 {
     match slot {
-        Some(kept) => Some(kept.get()),
+        Some(value) => Some(value),
         None => None,
     }
 }
 
 /// The same, to be changed.
-fn value_mut_in<T>(slot: &mut Option<Kept<T>>) -> Option<&mut T>
+fn value_mut_in<T>(slot: &mut Option<T>) -> Option<&mut T>
     ensures* writes_back { sem 𝓛 (lends_slot T.row slot.entry result) }
     ensures value { option_copied_mut result ≡ slot.old }
 {
     match slot {
-        Some(kept) => Some(kept.get_mut()),
+        Some(value) => Some(value),
         None => None,
     }
 }
 
 /// Appends empty slots until there are `len`, or more if there were more.
-fn widen<T>(slots: &mut VecDeque<Option<Kept<T>>>, len: usize) -> Result<(), AllocError>
+fn widen<T>(slots: &mut VecDeque<Option<T>>, len: usize) -> Result<(), AllocError>
     ensures held { (n : ℕ) → numbered n slots.new.items ≡ numbered n slots.old.items }
     ensures ok { OnOk result (length slots.new.items ≡ max len (length slots.old.items)) }
     ensures err { OnErr result (slots.new.items ≡ slots.old.items) }
+    ensures trimmed { 0 < length slots.old.items → IsTrimmed slots.old.items → IsTrimmed slots.new.items }
 {
     slots.reserve(len.saturating_sub(slots.len()))?;
     while slots.len() < len {
@@ -70,23 +70,23 @@ fn widen<T>(slots: &mut VecDeque<Option<Kept<T>>>, len: usize) -> Result<(), All
 /// Keeps the value of a slot, if it holds one, behind all others. An error is want of memory, and
 /// gives back what the slot held.
 fn keep<T: Drop>(
-    earlier: &mut BTreeMap<u64, Kept<T>>,
+    earlier: &mut BTreeMap<u64, T>,
     number: u64,
-    slot: Option<Kept<T>>,
-) -> Result<(), Option<Kept<T>>>
+    slot: Option<T>,
+) -> Result<(), Option<T>>
     requires { AllBelow number earlier.old.entries }
     ensures ok { OnOk result (earlier.new.entries ≡ earlier.old.entries ++ in_slot number slot []) }
     ensures err { OnErr result (earlier.new.entries ≡ earlier.old.entries) }
     ensures given_back { IfErr result (λ back. back ≡ slot) }
 {
-    let Some(kept) = slot else {
+    let Some(value) = slot else {
         return Ok(());
     };
-    match earlier.insert(number, kept) {
+    match earlier.insert(number, value) {
         Ok(_) => Ok(()),
         Err(failed) => {
-            let (_, kept) = failed.value;
-            Err(Some(kept))
+            let (_, value) = failed.value;
+            Err(Some(value))
         }
     }
 }
@@ -136,14 +136,27 @@ impl<T> Ring<T> {
         }
     }
 
+    /// The first value. The first slot holds it.
+    pub(crate) fn first(&self) -> Option<&T>
+        requires { IsTrimmed self.now.slots }
+        ensures { option_copied result ≡ first_value (held self.now) }
+    {
+        match self.slots.front() {
+            Some(slot) => value_in(slot),
+            None => None,
+        }
+    }
+
     /// The first slot gets this number where there is none yet.
     fn start_at(&mut self, number: u64)
         requires from { self.old.base ≤ number }
-        requires near { 0 < length self.old.slots → number < self.old.base + 65536 }
+        requires near { 0 < length self.old.slots → number < self.old.base + 4096 }
         ensures held { held self.new ≡ held self.old }
         ensures base { self.old.base ≤ self.new.base }
         ensures from { self.new.base ≤ number }
-        ensures near { number < self.new.base + 65536 }
+        ensures near { number < self.new.base + 4096 }
+        ensures slots { self.new.slots ≡ self.old.slots }
+        ensures first { length self.old.slots ≡ 0 → self.new.base ≡ number }
     {
         if self.slots.is_empty() {
             self.base = number;
@@ -157,18 +170,19 @@ impl<T: Drop> Ring<T> {
     /// # Errors
     ///
     /// [`AllocError`] where memory lacks; no value changes.
-    pub(crate) fn insert(&mut self, number: u64, kept: Kept<T>) -> Result<Option<T>, AllocError>
+    pub(crate) fn insert(&mut self, number: u64, value: T) -> Result<Option<T>, AllocError>
         requires from { self.old.base ≤ number }
-        requires near { 0 < length self.old.slots → number < self.old.base + 65536 }
+        requires near { 0 < length self.old.slots → number < self.old.base + 4096 }
         ensures replaced { IfOk result (λ replaced. replaced ≡ at (held self.old) number) }
-        ensures ok { OnOk result (held self.new ≡ added (held self.old) number kept) }
+        ensures ok { OnOk result (held self.new ≡ added (held self.old) number value) }
         ensures err { OnErr result (held self.new ≡ held self.old) }
         ensures base { self.old.base ≤ self.new.base }
+        ensures trimmed { IsTrimmed self.old.slots → IsTrimmed self.new.slots }
     {
         self.start_at(number);
         let index = (number - self.base) as usize;
         widen(&mut self.slots, index + 1)?;
-        Ok(given_out(mem::replace(&mut self.slots[index], Some(kept))))
+        Ok(mem::replace(&mut self.slots[index], Some(value)))
     }
 
     /// Takes out the value of a number from the first slot on, if it is there.
@@ -177,14 +191,15 @@ impl<T: Drop> Ring<T> {
         ensures taken { result ≡ at (held self.old) number }
         ensures left { held self.new ≡ without (held self.old) number }
         ensures base { self.old.base ≤ self.new.base }
+        ensures trimmed { IsTrimmed self.old.slots → IsTrimmed self.new.slots }
     {
         let index = (number - self.base) as usize;
         let Some(slot) = self.slots.get_mut(index) else {
             return None;
         };
-        let kept = slot.take();
+        let value = slot.take();
         self.trim();
-        given_out(kept)
+        value
     }
 
     /// Gives up empty slots before the first value.
@@ -193,6 +208,7 @@ impl<T: Drop> Ring<T> {
         ensures base { self.old.base ≤ self.new.base }
         ensures fewer { length self.new.slots ≤ length self.old.slots }
         ensures end { self.new.base ≤ self.old.base + length self.old.slots }
+        ensures trimmed { IsTrimmed self.new.slots }
     {
         while let Some(None) = self.slots.front() {
             let _ = self.slots.pop_front();
@@ -211,14 +227,15 @@ impl<T: Drop> Ring<T> {
     pub(crate) fn reach(
         &mut self,
         number: u64,
-        earlier: &mut BTreeMap<u64, Kept<T>>,
+        earlier: &mut BTreeMap<u64, T>,
     ) -> Result<(), AllocError>
         requires from { self.old.base ≤ number }
         requires below { AllBelow self.old.base earlier.old.entries }
         ensures both { earlier.new.entries ++ held self.new ≡ earlier.old.entries ++ held self.old }
         ensures below { AllBelow self.new.base earlier.new.entries }
         ensures from { self.new.base ≤ number }
-        ensures near { OnOk result (0 < length self.new.slots → number < self.new.base + 65536) }
+        ensures near { OnOk result (0 < length self.new.slots → number < self.new.base + 4096) }
+        ensures trimmed { IsTrimmed self.old.slots → IsTrimmed self.new.slots }
     {
         while !self.slots.is_empty() && number - self.base >= SPAN {
             self.retire(earlier)?;
@@ -232,7 +249,7 @@ impl<T: Drop> Ring<T> {
     /// # Errors
     ///
     /// [`AllocError`] where memory lacks; nothing changes.
-    fn retire(&mut self, earlier: &mut BTreeMap<u64, Kept<T>>) -> Result<(), AllocError>
+    fn retire(&mut self, earlier: &mut BTreeMap<u64, T>) -> Result<(), AllocError>
         requires some { 0 < length self.old.slots }
         requires next { self.old.base + 1 < 2 ^ 64 }
         requires below { AllBelow self.old.base earlier.old.entries }
@@ -240,6 +257,7 @@ impl<T: Drop> Ring<T> {
         ensures below { AllBelow self.new.base earlier.new.entries }
         ensures end { self.new.base ≤ self.old.base + length self.old.slots }
         ensures fewer { OnOk result (length self.new.slots < length self.old.slots) }
+        ensures trimmed { IsTrimmed self.old.slots → IsTrimmed self.new.slots }
     {
         let Some(slot) = self.slots.pop_front() else {
             return Ok(());

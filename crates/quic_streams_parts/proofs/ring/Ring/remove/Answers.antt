@@ -22,10 +22,10 @@ returns-clause-taken g c =
     let base = ap (λ (p : Slots g.row.T.Denot). p.base) c.self.view_is in
     let within = c.in-Some.ensures.variant.0 refl in
     let len = c.self.inside.slots.ok.0 in
-    rw (c.given_out.ensures, c.take-kept.ensures.value, ← c.self.view_is) (slot_found c.self.inside.base c.args.number c.self.inside.slots.items (omega arith) c.in-Some.slot.now (omega arith) c.in-Some.ensures.value)
+    rw (c.take-value.ensures.value, ← c.self.view_is) (slot_found c.self.inside.base c.args.number c.self.inside.slots.items (omega arith) c.in-Some.slot.now (omega arith) c.in-Some.ensures.value)
 
 pub returns-clause-left : goal.returns-clause-left
 returns-clause-left g c =
     let base = ap (λ (p : Slots g.row.T.Denot). p.base) c.self.view_is in
     rw (c.trim.ensures.held, ← c.self.view_is)
-    (slot_cleared c.self.inside.base c.args.number c.self.inside.slots.items (omega arith) _ (ap (set c.self.inside.slots.items _) c.take-kept.ensures.after))
+    (slot_cleared c.self.inside.base c.args.number c.self.inside.slots.items (omega arith) _ (ap (set c.self.inside.slots.items _) c.take-value.ensures.after))
