@@ -5,6 +5,5 @@ pub mod Gaps
 pub mod Skipped
 pub mod Free
 pub mod Undone
-pub mod Last
 pub mod Joining
 pub mod Copying

@@ -2,9 +2,7 @@
 pub mod Spans
 pub mod Loose
 pub mod LooseSteps
-pub mod Last
 pub mod OffsetSet
 pub mod OffsetCalls
 pub mod Edits
 pub mod Undone
-pub mod Prefix

@@ -9,6 +9,5 @@ mod Tables
 mod Taken
 mod Arriving
 mod Coming
-mod Fresh
 mod Framing
 mod Putting
