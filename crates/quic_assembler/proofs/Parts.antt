@@ -5,5 +5,6 @@ pub mod Gaps
 pub mod Skipped
 pub mod Free
 pub mod Undone
+pub mod Last
 pub mod Joining
 pub mod Copying

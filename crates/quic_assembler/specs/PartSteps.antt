@@ -1,5 +1,5 @@
 -- Words of the steps by which the assembler puts in and takes out parts.
-use Rattle.std.specs.Prelude.{◌≡◌, ℕ, ◌+◌, ◌-◌, ◌<◌, ◌≤◌, ◌==◌, Bool, true, false, cond, ltb, min, not, ◌&&◌, ◌||◌, List, [], ◌∷◌, length, take, Option, Some, None}
+use Rattle.std.specs.Prelude.{◌≡◌, ℕ, ◌+◌, ◌-◌, ◌<◌, ◌≤◌, ◌==◌, Bool, true, false, cond, ltb, min, not, ◌||◌, List, [], ◌∷◌, take, Option, Some, None}
 use Rattle.std.specs.Option.{is_some}
 use Rattle.std.specs.Ordering.{nat_cmp}
 use Rattle.std.specs.BTreeMap.{is_at}
@@ -56,11 +56,6 @@ rest_of (p ∷ ps) = ps
 abbrev pub front_of : List Part → ℕ → Option (List ℕ)
 front_of [] most = None
 front_of (p ∷ ps) most = Some (take most p.1)
-
--- whether taking them cuts the first part: none of them doesn't
-abbrev pub cuts_front : List Part → ℕ → Bool
-cuts_front [] most = false
-cuts_front (p ∷ ps) most = ltb 0 most && ltb most (length p.1)
 
 -- the part that begins at an offset, among the parts behind it
 abbrev pub touching_at : ℕ → Option Part → Option Part

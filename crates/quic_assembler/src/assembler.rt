@@ -1,6 +1,7 @@
 // What has arrived of a stream and is not read yet, in parts.
-ghost use Rattle.std.specs.Prelude.{◌≡◌, ◌+◌, ◌<◌, ◌≤◌, ◌^◌, ◌&&◌, ◌⊎◌, length, [], IfOk, IsOk, OnOk, OnErr, is_err, is_some, true, false};
+ghost use Rattle.std.specs.Prelude.{◌≡◌, ℕ, ◌+◌, ◌<◌, ◌≤◌, ◌^◌, ◌&&◌, ◌⊎◌, length, [], IfOk, IsOk, OnOk, OnErr, is_err, is_some, true, false};
 ghost use Rattle.quic_assembler.specs.Arrived.{IsLawful, byte_at, bytes_read_of, runs_of, is_crowded, after_insert, is_next_in, given_in, given_by, after_read_in, after_read, after_ordering, cuts};
+ghost use Rattle.quic_sets.specs.Runs.{Has, Drops};
 ghost use Rattle.quic_assembler.specs.Waiting.{BringsNew, IsInserted, IsRead, IsLeft};
 
 mod parts;
@@ -48,8 +49,9 @@ pub struct Assembler {
     // The offsets that unordered reads gave.
     picked: BTreeMap<u64, u64>,
     // Offsets from `read` on that are known to have arrived: they wait, or were picked. An insert
-    // skips them a run at a time, and needn't look each part up. Some lack where memory did, or
-    // once parts were cleared: that costs time, and nothing else.
+    // skips them a run at a time, and needn't look each part up. Those lack that came while nothing
+    // waited: most come in order and are read at once, and noting them would be for nothing. Some
+    // lack where memory did, or once parts were cleared. That costs time, and nothing else.
     arrived: OffsetSet,
     // The number of bytes that were read, kept so that none has to be counted.
     total: u64,
@@ -65,6 +67,26 @@ impl Model for Assembler {
     ghost view = { λ a. record { read = a.read; unordered = a.unordered; picked = a.picked.entries; parts = a.parts } };
 
     ghost invariant = { Arranged };
+}
+
+// Notes the offsets of a range as arrived, if something waited before they came. Without memory for
+// it, later inserts are as right.
+fn note(arrived: &mut OffsetSet, waited: bool, start: u64, end: u64)
+    requires { end < 2 ^ 62 }
+    ensures { (o : ℕ) → Has arrived.new o → (Has arrived.old o ⊎ ((start ≤ o) × (o < end))) }
+{
+    if waited {
+        let _ = arrived.insert(start..end);
+    }
+}
+
+// Takes out the offsets below one. This costs nothing where none are noted.
+fn forget(arrived: &mut OffsetSet, end: u64)
+    ensures { Drops arrived.old arrived.new 0 end }
+{
+    if !arrived.is_empty() {
+        arrived.remove_first(0..end);
+    }
 }
 
 impl Assembler {
@@ -168,7 +190,11 @@ impl Assembler {
     /// joining copies no more than 128 bytes for each part that goes, each byte once. The one
     /// insert that joins looks each part up, and holds both maps until it ends. Each other takes a
     /// few look-ups for each gap that it fills: what has arrived is skipped a run at a time, in
-    /// however many parts it waits or was given. quinn-proto's `Assembler::insert`.
+    /// however many parts it waits or was given. Bytes behind all that wait need only the last part
+    /// looked up, where no unordered read gave any. A range that comes while nothing waits isn't
+    /// noted as arrived: the next insert that has offsets of it while something waits looks up each
+    /// part and each run that was given there, and notes its own range. quinn-proto's
+    /// `Assembler::insert`.
     ///
     /// # Errors
     ///
@@ -184,10 +210,10 @@ impl Assembler {
     {
         let known = self.read.saturating_sub(offset).min(bytes.len() as u64);
         let at = offset + known;
+        let waited = self.parts.is_some();
         self.parts
             .insert(&self.picked, &self.arrived, at, &bytes[known as usize..])?;
-        // Without memory for this, later inserts are as right.
-        let _ = self.arrived.insert(at..offset + bytes.len() as u64);
+        note(&mut self.arrived, waited, at, offset + bytes.len() as u64);
         Ok(())
     }
 
@@ -200,16 +226,13 @@ impl Assembler {
         ensures err { OnErr result (self.new ≡ self.old) }
         ensures whole { cuts self.old.parts self.old.read max ≡ false → IsOk result }
     {
-        if !self.parts.starts_at(self.read) {
-            return Ok(None);
-        }
         let offset = self.read;
-        match self.parts.take_front(max)? {
+        match self.parts.take_front(offset, max)? {
             Some(bytes) => {
                 let len = bytes.len() as u64;
                 self.read += len;
                 self.total += len;
-                self.arrived.remove_first(0..self.read);
+                forget(&mut self.arrived, self.read);
                 Ok(Some(Chunk { offset, bytes }))
             }
             None => Ok(None),

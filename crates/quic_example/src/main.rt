@@ -14,7 +14,7 @@ use quic_connection::{
 };
 use rand_core::SeedableRng;
 use rand_pcg::Pcg64;
-use std::alloc::Global;
+use std::alloc::{AllocError, Global};
 use std::collections::VecDeque;
 
 /// An end: over its header keys, its packet keys, its random source and its congestion controller.
@@ -62,7 +62,7 @@ fn parameters(alloc: Global, side: Side) -> Result<Vec<u8>> {
 
 /// An end, as a handshake leaves it at moment 0: ids and parameters are exchanged, both ends have
 /// the keys, and the peer's address is validated. Its application has these bytes to write.
-fn make(alloc: Global, side: Side, unwritten: &'static [u8]) -> Result<Party> {
+fn make(alloc: Global, side: Side, unwritten: &'static [u8]) -> Result<Box<Party>> {
     // Its words say which packet numbers are left out: in earnest a peer must not guess them.
     let random = Pcg64::seed_from_u64(42);
     let end = Connection::new(
@@ -77,12 +77,18 @@ fn make(alloc: Global, side: Side, unwritten: &'static [u8]) -> Result<Party> {
         random,
         true,
     )?;
-    Ok(Party {
+    let party = Party {
         side,
         end,
         sent: VecDeque::new(alloc),
         unwritten,
-    })
+    };
+    Ok(boxed(alloc, party)?)
+}
+
+/// It lies on the heap, since an end is great.
+fn boxed(alloc: Global, party: Party) -> Result<Box<Party>, AllocError> {
+    Ok(Box::new(alloc, party)?)
 }
 
 /// Lets the client ask and the server answer, until no datagram is under way and no timer is set.
@@ -118,5 +124,5 @@ fn main(rt: HostRuntime) -> Result<()> {
     let answer = b"42, but what was the question, once more?";
     let mut client = make(rt.alloc(), Side::Client, b"What is the answer?")?;
     let mut server = make(rt.alloc(), Side::Server, answer)?;
-    talk(&rt, &mut client, &mut server)
+    talk(&rt, client.as_mut(), server.as_mut())
 }

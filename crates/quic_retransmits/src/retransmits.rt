@@ -454,6 +454,24 @@ impl Retransmits {
         Ok(())
     }
 
+    /// Whether nothing waits, whether it may go or not.
+    pub fn is_idle(&self) -> bool
+        ensures { IsTrue result ↔ (self.now ≡ nothing_waits) }
+    {
+        let flags = self.max_data
+            || self.data_blocked
+            || self.max_stream_id.bi
+            || self.max_stream_id.uni
+            || self.ack_frequency;
+        !flags
+            && self.reset_stream.is_empty()
+            && self.stop_sending.is_empty()
+            && self.max_stream_data.is_empty()
+            && self.stream_data_blocked.is_empty()
+            && self.new_cids.is_empty()
+            && self.retire_cids.is_empty()
+    }
+
     /// Whether nothing waits that may go: DATA_BLOCKED, MAX_STREAM_DATA and STREAM_DATA_BLOCKED count only where `streams` says
     /// that they may.
     pub fn is_empty<S: LimitQueries>(&self, streams: &S) -> bool

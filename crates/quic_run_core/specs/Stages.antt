@@ -1,5 +1,6 @@
 -- The stage that a runner is at.
 use Rattle.std.specs.Prelude.{Option, Some, None}
+use Rattle.std.specs.Option.{option_map}
 use Rattle.quic_congestion.specs.NewReno.{window_after}
 use Rattle.quic_connection.specs.Ends.{world_of}
 use Rattle.quic_run_core.specs.declared.session.Session.{Session}
@@ -15,4 +16,4 @@ made_in (Some session) = Some (record { world = world_of window_after session.en
 
 -- how far a runner is
 abbrev pub stage_of : Runner → Stage
-stage_of runner = record { client = runner.client; server = runner.server; made = made_in runner.session }
+stage_of runner = record { client = runner.client; server = runner.server; made = made_in (option_map (λ b. b.value) runner.session) }

@@ -21,14 +21,21 @@ use std::io::{Read, Write};
 /// How often the reader of a script is called at most.
 pub const MOST_TURNS: u64 = 1 << 32;
 
+/// A session on the heap. An `Err` is want of memory.
+fn boxed(alloc: Global, session: Session) -> Result<Box<Session>, AllocError>
+    ensures { IfOk result (λ b. b.value ≡ session) }
+{
+    Ok(Box::new(alloc, session)?)
+}
+
 /// A script as far as it was run.
 #[derive(Drop)]
 struct Runner {
     alloc: Global,
     client: Options,
     server: Options,
-    // None until the first line that isn't a setting.
-    session: Option<Session>,
+    // None until the first line that isn't a setting. It lies on the heap, so that a runner is small.
+    session: Option<Box<Session>>,
 }
 
 impl Runner {
@@ -111,7 +118,7 @@ impl Runner {
         self.begin()?;
         let mut out = heading(self.alloc, event.side, call_name(&event.call))?;
         match &mut self.session {
-            Some(session) => session.call(event, &mut out)?,
+            Some(session) => session.as_mut().call(event, &mut out)?,
             None => unreachable!(),
         }
         out.push_str("\n")?;
@@ -127,7 +134,7 @@ impl Runner {
         self.begin()?;
         let mut out = heading(self.alloc, side, "show")?;
         match &mut self.session {
-            Some(session) => session.show(side, index, &mut out)?,
+            Some(session) => session.as_mut().show(side, index, &mut out)?,
             None => unreachable!(),
         }
         out.push_str("\n")?;
@@ -144,7 +151,7 @@ impl Runner {
         let mut out = String::new(self.alloc);
         out.push_str("settle ")?;
         match &mut self.session {
-            Some(session) => session.settle(now, &mut out)?,
+            Some(session) => session.as_mut().settle(now, &mut out)?,
             None => unreachable!(),
         }
         out.push_str("\n")?;
@@ -157,7 +164,8 @@ impl Runner {
         ensures memory { IfErr result (λ e. e ≡ LineError.OutOfMemory) }
     {
         if self.session.is_none() {
-            self.session = Some(Session::new(self.alloc, &self.client, &self.server)?);
+            let session = Session::new(self.alloc, &self.client, &self.server)?;
+            self.session = Some(boxed(self.alloc, session)?);
         }
         Ok(())
     }

@@ -93,7 +93,22 @@ impl Pair {
     }
 }
 
-/// What comes of an act with two ends where this is set: here alone they are let go.
+/// Two ends where this is set, which gave nothing yet.
+fn new_pair(alloc: Global, transport: TransportConfig) -> Result<Pair, ConfigError> {
+    Ok(Pair {
+        alloc,
+        ends: ends_with(alloc, transport)?,
+        given: Given::new(alloc),
+    })
+}
+
+/// A pair on the heap. An `Err` is want of memory.
+fn boxed(alloc: Global, pair: Pair) -> Result<Box<Pair>, AllocError> {
+    Ok(Box::new(alloc, pair)?)
+}
+
+/// What comes of an act with two ends where this is set: here alone they are let go. They lie on
+/// the heap, since a proof takes longer where a great value is moved.
 pub(crate) fn with_pair<T, F: FnOnce(&mut Pair) -> Result<T, Fail>>(
     alloc: Global,
     transport: TransportConfig,
@@ -101,12 +116,8 @@ pub(crate) fn with_pair<T, F: FnOnce(&mut Pair) -> Result<T, Fail>>(
 ) -> Result<T, Fail>
     requires { F.IsAlwaysCallable act }
 {
-    let mut pair = Pair {
-        alloc,
-        ends: ends_with(alloc, transport)?,
-        given: Given::new(alloc),
-    };
-    act(&mut pair)
+    let mut pair = boxed(alloc, new_pair(alloc, transport)?)?;
+    act(pair.as_mut())
 }
 
 /// What a run of new ends answers, and whether it was cut short.

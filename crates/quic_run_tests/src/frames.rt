@@ -61,6 +61,11 @@ pub(crate) fn refusal_of_window(alloc: Global, window: u64) -> Option<ConfigErro
     end_of(alloc, Side::Client, &config).err()
 }
 
+/// An end on the heap. An `Err` is want of memory.
+fn boxed(alloc: Global, end: End) -> Result<Box<End>, AllocError> {
+    Ok(Box::new(alloc, end)?)
+}
+
 /// What comes of an act with such an end: here alone it is let go.
 pub(crate) fn with_end<T, F: FnOnce(&mut End) -> Result<T, Fail>>(
     alloc: Global,
@@ -71,8 +76,8 @@ pub(crate) fn with_end<T, F: FnOnce(&mut End) -> Result<T, Fail>>(
     requires { F.IsAlwaysCallable act }
 {
     let config = Config::new(transport, NewRenoConfig::default());
-    let mut end = end_of(alloc, side, &config)?;
-    act(&mut end)
+    let mut end = boxed(alloc, end_of(alloc, side, &config)?)?;
+    act(end.as_mut())
 }
 
 /// What an end answers to a datagram: none where it is taken, else the code and the reason that it

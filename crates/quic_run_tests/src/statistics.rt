@@ -1,8 +1,10 @@
 //! What an end counts in the worked example: the client opens a stream, writes `hello`, finishes it
-//! and is polled; the server takes the datagram.
-use crate::ends::{Pair, hello, with_pair};
+//! and is polled; the server takes the datagram. And where frames of several kinds go both ways.
+use crate::ends::{Pair, delivery, event, hello, stream, with_pair};
+use bytes::Bytes;
 use quic_connection::{
-    ConnectionStats, Duration, FrameStats, PathStats, RunEvent, TransportConfig, UdpStats,
+    Call, ConnectionStats, Delivery, Dir, Duration, FrameStats, Instant, PathStats, RunEvent, Side,
+    TransportConfig, UdpStats, VarInt,
 };
 use std::process::Abort;
 use std::test::Fail;
@@ -71,5 +73,73 @@ fn a_datagram_is_counted(rt: HostRuntime) -> Result<(), Fail> {
     let events = hello(rt.alloc())?;
     with_pair(rt.alloc(), TransportConfig::default(), |pair| {
         assert_counted(&rt, pair, &events)
+    })
+}
+
+/// A datagram of the client with PING, a message and bytes of a stream; one of the server, which
+/// acknowledges it and stops the stream; and the client's, which resets it and acknowledges that.
+fn several() -> [RunEvent; 11] {
+    let now = Instant::from_nanos(0);
+    let first = Delivery {
+        now,
+        ecn: None,
+        index: 0,
+    };
+    [
+        event(Side::Client, Call::Ping),
+        event(
+            Side::Client,
+            Call::Send(Bytes::from_static(b"message"), false),
+        ),
+        event(Side::Client, Call::Open(Dir::Bi)),
+        event(
+            Side::Client,
+            Call::Write(stream(), Bytes::from_static(b"hello")),
+        ),
+        event(Side::Client, Call::Poll(now)),
+        delivery(0),
+        event(Side::Server, Call::Stop(stream(), VarInt::from_u32(7))),
+        event(Side::Server, Call::Poll(now)),
+        event(Side::Client, Call::Deliver(first)),
+        event(Side::Client, Call::Reset(stream(), VarInt::from_u32(7))),
+        event(Side::Client, Call::Poll(now)),
+    ]
+}
+
+/// The client's frames of them.
+fn frames_of_client() -> FrameStats {
+    let mut frames = FrameStats::default();
+    frames.ping = 1;
+    frames.datagram = 1;
+    frames.stream = 1;
+    frames.reset_stream = 1;
+    frames.acks = 1;
+    frames
+}
+
+/// The server's.
+fn frames_of_server() -> FrameStats {
+    let mut frames = FrameStats::default();
+    frames.stop_sending = 1;
+    frames.acks = 1;
+    frames
+}
+
+fn assert_each_counted<R: Abort>(rt: &R, pair: &mut Pair) -> Result<(), Fail> {
+    for event in &several() {
+        pair.make(event)?;
+    }
+    pair.make(&delivery(1))?;
+    assert!(rt; pair.ends.client.stats().frame_tx == frames_of_client());
+    assert!(rt; pair.ends.server.stats().frame_rx == frames_of_client());
+    assert!(rt; pair.ends.server.stats().frame_tx == frames_of_server());
+    assert!(rt; pair.ends.client.stats().frame_rx == frames_of_server());
+    Ok(())
+}
+
+#[test]
+fn each_frame_is_counted(rt: HostRuntime) -> Result<(), Fail> {
+    with_pair(rt.alloc(), TransportConfig::default(), |pair| {
+        assert_each_counted(&rt, pair)
     })
 }

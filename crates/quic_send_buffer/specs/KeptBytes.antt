@@ -1,6 +1,5 @@
 -- The bytes of a stream that are kept, in the pieces that they were written in.
-use Rattle.std.specs.Prelude.{◌≡◌, ℕ, ◌+◌, ◌-◌, ◌<◌, ◌≤◌, ◌==◌, cond, leb, List, [], ◌∷◌, ◌++◌, length, drop, Option, Some, None}
-use Rattle.std.specs.List.{filter}
+use Rattle.std.specs.Prelude.{◌≡◌, ℕ, ◌+◌, ◌-◌, ◌<◌, ◌==◌, cond, leb, List, [], ◌∷◌, ◌++◌, length, drop, Option, Some, None}
 use Rattle.quic_sets.specs.Parts.{Part}
 use Rattle.quic_send_buffer.specs.Buffered.{passed, pieces_behind, piece_of}
 
@@ -61,12 +60,3 @@ base_behind o at (p ∷ ps) = cond (leb p.0 o) (base_behind o p.0 ps) at
 abbrev pub parts_from : ℕ → List (List ℕ) → List Part
 parts_from at [] = []
 parts_from at (c ∷ cs) = cond (length c == 0) (parts_from at cs) ((at + length c, c) ∷ parts_from (at + length c) cs)
-
--- each piece ends up to an offset
-abbrev pub EndBy : ℕ → List Part → Type 0
-EndBy o [] = Unit {0}
-EndBy o (p ∷ ps) = (p.0 ≤ o) × EndBy o ps
-
--- the pieces that end up to an offset
-abbrev pub ending_by : ℕ → List Part → List Part
-ending_by o ps = filter (λ p. leb p.0 o) ps

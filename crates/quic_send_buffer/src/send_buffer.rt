@@ -1,6 +1,6 @@
 // What was written to a stream and may have to be sent.
 ghost use Rattle.std.specs.Prelude.{◌≡◌, ℕ, ◌+◌, ◌-◌, ◌≤◌, ◌<◌, ◌^◌, ◌++◌, [], length, min, max, slice_get, slice_range, OnOk, OnErr, vec_len, vec_capacity};
-ghost use Rattle.quic_sets.specs.Offsets.{first_lacking, without_offsets};
+ghost use Rattle.quic_sets.specs.Offsets.{without_offsets};
 ghost use Rattle.quic_send_buffer.specs.Buffered.{Buffered, IsBuffered, HasUnacked, HasInFlight, nothing_written, written, kept_byte, is_fully_acked, has_unsent, after_write, after_writes, after_ack, after_loss, after_poll, offset_width, next_range, next_start, writes_length, sent_end, piece_end};
 ghost use Rattle.quic_send_buffer.specs.Source.{cut_to};
 
@@ -8,7 +8,7 @@ mod pieces;
 
 use bytes::Bytes;
 use pieces::Pieces;
-use quic_sets::OffsetSet;
+use quic_sets::{OffsetSet, PrefixSet};
 use quic_wire_core::VarInt;
 use quic_wire_core::reserved::append;
 use std::alloc::{AllocError, Global};
@@ -29,7 +29,7 @@ pub struct SendBuffer {
     pieces: Pieces,
     // The first offset that was never sent.
     unsent: u64,
-    acked: OffsetSet,
+    acked: PrefixSet,
     lost: OffsetSet,
 }
 
@@ -41,16 +41,6 @@ impl Model for SendBuffer {
     ghost view = { λ s. record { base = s.pieces.base; kept = s.pieces.bytes; pieces = s.pieces.lengths; unsent = s.unsent; acked = s.acked; lost = s.lost } };
 
     ghost invariant = { λ s. IsBuffered (record { base = s.pieces.base; kept = s.pieces.bytes; pieces = s.pieces.lengths; unsent = s.unsent; acked = s.acked; lost = s.lost }) };
-}
-
-// The first offset that isn't in the set.
-fn first_lacking_of(set: &OffsetSet) -> u64
-    ensures { result ≡ first_lacking set.now }
-{
-    match set.first() {
-        Some(run) if run.start == 0 => run.end,
-        _ => 0,
-    }
 }
 
 // The width of an offset in a STREAM frame, which isn't written where it is 0.
@@ -74,7 +64,7 @@ impl SendBuffer {
         SendBuffer {
             pieces: Pieces::new(alloc),
             unsent: 0,
-            acked: OffsetSet::new(alloc),
+            acked: PrefixSet::new(alloc),
             lost: OffsetSet::new(alloc),
         }
     }
@@ -142,7 +132,7 @@ impl SendBuffer {
         ensures value { result ≡ is_fully_acked self.now }
         ensures lawful { IsBuffered self.now }
     {
-        first_lacking_of(&self.acked) == self.offset()
+        self.acked.first_lacking() == self.offset()
     }
 
     /// Whether there are bytes to send: lost ones, or some that were never sent.
@@ -169,7 +159,7 @@ impl SendBuffer {
     {
         let sent = range.start..range.end.min(self.unsent);
         self.acked.insert_from(sent, &mut self.lost)?;
-        self.pieces.release(first_lacking_of(&self.acked));
+        self.pieces.release(self.acked.first_lacking());
         Ok(())
     }
 
@@ -188,7 +178,7 @@ impl SendBuffer {
         ensures lawful { IsBuffered self.new }
     {
         let sent = range.start..range.end.min(self.unsent);
-        self.lost.insert_lacking(sent, &self.acked)
+        self.acked.insert_lacking_into(sent, &mut self.lost)
     }
 
     // What goes next: the least lost run, or else all that was never sent.

@@ -2,7 +2,9 @@
 pub mod Spans
 pub mod Loose
 pub mod LooseSteps
+pub mod Last
 pub mod OffsetSet
 pub mod OffsetCalls
 pub mod Edits
 pub mod Undone
+pub mod Prefix

@@ -37,6 +37,11 @@ abbrev pub inside_at : ℕ → Option Span → Option ℕ
 inside_at end None = None
 inside_at end (Some g) = cond (leb g.0 end) (Some g.0) None
 
+-- the last of some runs, or else another one
+abbrev pub last_span : Span → List Span → Span
+last_span l [] = l
+last_span l (g ∷ gs) = last_span g gs
+
 -- whether the first of some runs begins at an offset
 abbrev pub begins_first : ℕ → List Span → Bool
 begins_first o [] = false

@@ -33,6 +33,10 @@ first_lacking (r ∷ rs) = cond (ltb 0 r.start) 0 r.end
 abbrev pub span : ℕ → ℕ → List Run
 span a z = cond (ltb a z) (record { start = a; end = z } ∷ []) []
 
+-- the runs of a set that has each offset below `first`, but not that one, and others above it
+abbrev pub with_prefix : ℕ → List Run → List Run
+with_prefix first rs = cond (ltb 0 first) (record { start = 0; end = first } ∷ rs) rs
+
 -- with the offsets from a up to z; an empty or reversed range has none
 unfoldable pub with_offsets : ℕ → ℕ → List Run → List Run
 with_offsets a z rs = cond (ltb a z) (with_range a z rs) rs

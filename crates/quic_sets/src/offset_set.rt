@@ -6,8 +6,9 @@ ghost use Rattle.std.specs.BTreeMap.{is_at};
 ghost use Rattle.std.specs.Ordering.{nat_cmp};
 ghost use Rattle.quic_sets.specs.Runs.{Has, AreRuns, Adds, Drops};
 ghost use Rattle.quic_sets.specs.Lacking.{AddsLacking, HasLacking, HasMoving};
-ghost use Rattle.quic_sets.specs.Spans.{in_span, in_spans, next_span};
-ghost use Rattle.quic_sets.specs.Loose.{AreLoose, AreMaximal, BothLack, IsCut, FitsRun, TouchWithin, inside_at, as_run, touches};
+ghost use Rattle.quic_sets.specs.Offsets.{has};
+ghost use Rattle.quic_sets.specs.Spans.{in_span, in_spans, next_span, ends_of};
+ghost use Rattle.quic_sets.specs.Loose.{AreLoose, AreMaximal, BothLack, IsCut, FitsRun, TouchWithin, inside_at, last_span, as_run, touches};
 ghost use Rattle.quic_sets.specs.Parts.{undone};
 
 use crate::spans::{begin_of, finish_of, keep, look, next_after, remove};
@@ -173,6 +174,41 @@ fn join_between(spans: &mut BTreeMap<u64, u64>, start: u64, end: u64)
     }
 }
 
+// Where the last run begins and ends, or else 0 and 0.
+fn last_run(spans: &BTreeMap<u64, u64>) -> (u64, u64)
+    ensures { result ≡ ends_of (last_span (0, 0) spans.now.entries) }
+{
+    match spans.last_key_value() {
+        Some((end, start)) => (*start, *end),
+        None => (0, 0),
+    }
+}
+
+// Puts in the offsets of a range that begins where the last run ends, or behind it: that run goes
+// on then, or one follows it. Says whether the range is such, as each is that comes in order.
+fn append(spans: &mut BTreeMap<u64, u64>, start: u64, end: u64) -> Result<bool, AllocError>
+    requires maximal { AreMaximal spans.old.entries }
+    requires some { start < end }
+    requires small { end < 2 ^ 62 }
+    ensures maximal { AreMaximal spans.new.entries }
+    ensures done { IfOk result (λ b. b ≡ true → (o : ℕ) → in_spans spans.new.entries o ≡ in_spans spans.old.entries o || in_span o (end, start)) }
+    ensures not_done { IfOk result (λ b. b ≡ false → spans.new.entries ≡ spans.old.entries) }
+    ensures err { OnErr result (spans.new.entries ≡ spans.old.entries) }
+    ensures free { OnErr result (in_spans spans.old.entries start ≡ false) }
+{
+    let (first, last) = last_run(spans);
+    if start < last {
+        return Ok(false);
+    }
+    if last < start {
+        keep(spans, end, start)?;
+    } else {
+        keep(spans, end, first)?;
+        remove(spans, start);
+    }
+    Ok(true)
+}
+
 // Puts in the offsets of a range that neither set has. The memory is taken before runs are joined.
 fn add_lacking(
     spans: &mut BTreeMap<u64, u64>,
@@ -183,13 +219,16 @@ fn add_lacking(
 ) -> Result<(), AllocError>
     requires maximal { AreMaximal spans.old.entries }
     requires others { AreLoose others.now.entries }
-    requires ordered { start ≤ end }
+    requires some { start < end }
     requires small { end < 2 ^ 62 }
     ensures maximal { AreMaximal spans.new.entries }
     ensures ok { OnOk result ((o : ℕ) → in_spans spans.new.entries o ≡ in_spans spans.old.entries o || (in_span o (end, start) && not (in_spans others.now.entries o))) }
     ensures err { OnErr result (spans.new.entries ≡ spans.old.entries) }
     ensures free { OnErr result (BothLack spans.old.entries others.now.entries start end) }
 {
+    if others.is_empty() && append(spans, start, end)? {
+        return Ok(());
+    }
     let mut ends = Vec::new(alloc);
     let outcome = fill_lacking(spans, others, start, end, &mut ends);
     if outcome.is_ok() {
@@ -254,6 +293,24 @@ fn take_out(spans: &mut BTreeMap<u64, u64>, start: u64, end: u64)
     }
 }
 
+// Takes out the offsets of a range, which needs memory where it begins within a run.
+fn remove_range(spans: &mut BTreeMap<u64, u64>, start: u64, end: u64) -> Result<(), AllocError>
+    requires maximal { AreMaximal spans.old.entries }
+    requires small { end < 2 ^ 62 }
+    ensures maximal { AreMaximal spans.new.entries }
+    ensures ok { OnOk result (Drops (map as_run spans.old.entries) (map as_run spans.new.entries) start end) }
+    ensures err { OnErr result (map as_run spans.new.entries ≡ map as_run spans.old.entries) }
+    ensures lacking { OnErr result (start < end) }
+    ensures held { OnErr result (Has (map as_run spans.old.entries) start) }
+{
+    if end <= start || spans.is_empty() {
+        return Ok(());
+    }
+    split(spans, start)?;
+    take_out(spans, start, end);
+    Ok(())
+}
+
 // Puts in the offsets of a range, and takes them out of another set. Where memory lacks, what was
 // begun is undone, which needs none.
 fn insert_from(
@@ -276,6 +333,9 @@ fn insert_from(
 {
     if x.end <= x.start {
         return Ok(());
+    }
+    if others.is_empty() {
+        return add_lacking(spans, others, x.start, x.end, alloc);
     }
     let nothing = BTreeMap::new(alloc);
     split(others, x.start)?;
@@ -410,6 +470,27 @@ impl OffsetSet {
         ensures most { result.1 < len → (Has self.now (at + result.1) ↔ IsTrue (not result.0)) }
     {
         look(&self.spans, at, len)
+    }
+
+    // Whether an offset is in the set.
+    pub(crate) fn has(&self, offset: u64) -> bool
+        requires { offset < 2 ^ 62 }
+        ensures { result ≡ has self.now offset }
+    {
+        look(&self.spans, offset, 0).0
+    }
+
+    // Takes out the offsets of a range. An `Err` (want of memory, where the range begins within a
+    // run) changes nothing; an empty or a reversed range never makes one.
+    pub(crate) fn remove(&mut self, x: Range<u64>) -> Result<(), AllocError>
+        requires { x.end < 2 ^ 62 }
+        ensures ok { OnOk result (Drops self.old self.new x.start x.end) }
+        ensures runs { AreRuns self.new }
+        ensures err { OnErr result (self.new ≡ self.old) }
+        ensures lacking { OnErr result (x.start < x.end) }
+        ensures held { OnErr result (Has self.old x.start) }
+    {
+        remove_range(&mut self.spans, x.start, x.end)
     }
 
     /// Takes out the offsets of a range, where none is below it. This needs no memory.

@@ -5,7 +5,7 @@ ghost use Rattle.quic_wire_core.specs.StreamId.{index_of, dir_of};
 ghost use Rattle.quic_streams_parts.specs.Dirs.{of, is_own};
 ghost use Rattle.quic_streams_halves.specs.Halves.{no_places, has_place, with_place, with_index};
 
-use quic_sets::OffsetSet;
+use quic_sets::PrefixSet;
 use quic_streams_parts::ByDir;
 use quic_wire_core::{Dir, Side, StreamId};
 use std::alloc::{AllocError, Global};
@@ -13,7 +13,7 @@ use std::marker::Model;
 
 /// Places of streams among those of their kind and opener: a set of runs, which contracts see as the list of them.
 #[derive(Drop)]
-pub struct Indices(OffsetSet);
+pub struct Indices(PrefixSet);
 
 impl Model for Indices {
     ghost use Rattle.std.specs.Prelude.{List};
@@ -31,7 +31,7 @@ impl Indices {
     fn new(alloc: Global) -> Self
         ensures { result ≡ [] }
     {
-        Indices(OffsetSet::new(alloc))
+        Indices(PrefixSet::new(alloc))
     }
 
     // Whether an index is among them.
@@ -39,7 +39,7 @@ impl Indices {
         requires { index < 2 ^ 60 }
         ensures { result ≡ has self.now index }
     {
-        self.0.look(index, 1).0
+        self.0.has(index)
     }
 
     // An index comes among them.

@@ -11,17 +11,16 @@ ghost use Rattle.quic_streams_halves.specs.Halves.{Halves, no_halves, has_place,
 
 use crate::places::Places;
 use quic_assembler::{Chunk, IllegalOrderedRead};
-use quic_streams_parts::{ReadError, Recv};
+use quic_streams_parts::{Numbered, ReadError, Recv};
 use quic_wire::frame::Stream;
 use quic_wire_core::{Side, StreamId, VarInt};
 use std::alloc::{AllocError, Global};
-use std::collections::BTreeMap;
 use std::marker::Model;
 
 /// The receiving parts of all streams of one end.
 #[derive(Drop)]
 pub struct RecvHalves {
-    live: BTreeMap<u64, Recv>,
+    live: Numbered<Recv>,
     places: Places,
     // The greatest offsets that arrived on all of them, and the bytes that count as consumed, so that
     // no frame and no read has to sum them.
@@ -35,9 +34,9 @@ impl Model for RecvHalves {
 
     ghost Value = { Halves RecvHalf };
 
-    ghost view = { λ h. record { live = h.live.entries; places = h.places } };
+    ghost view = { λ h. record { live = h.live; places = h.places } };
 
-    ghost invariant = { λ h. AreCounted h.live.entries h.seen h.consumed };
+    ghost invariant = { λ h. AreCounted h.live h.seen h.consumed };
 }
 
 // A sum of which one term changes.
@@ -55,7 +54,7 @@ impl RecvHalves {
         ensures { result ≡ no_halves }
     {
         RecvHalves {
-            live: BTreeMap::new(alloc),
+            live: Numbered::new(alloc),
             places: Places::new(alloc),
             seen: 0,
             consumed: 0,
@@ -81,7 +80,7 @@ impl RecvHalves {
     pub fn get(&self, id: StreamId) -> Option<&Recv>
         ensures { option_copied result ≡ at self.now.live id }
     {
-        self.live.get(&u64::from(id))
+        self.live.get(u64::from(id))
     }
 
     /// Whether the part of a stream was ever in use.
@@ -102,7 +101,7 @@ impl RecvHalves {
         let (seen, consumed) = (half.end(), half.credit());
         let _ = self.live.insert(u64::from(id), half)?;
         if self.places.add(side, id).is_err() {
-            let _ = self.live.remove(&u64::from(id));
+            let _ = self.live.remove(u64::from(id));
             return Err(AllocError);
         }
         self.seen += seen;
@@ -114,7 +113,7 @@ impl RecvHalves {
     pub fn remove(&mut self, id: StreamId)
         ensures { self.new ≡ without_half self.old id }
     {
-        if let Some(half) = self.live.remove(&u64::from(id)) {
+        if let Some(half) = self.live.remove(u64::from(id)) {
             self.seen -= half.end();
             self.consumed -= half.credit();
         }
@@ -129,7 +128,7 @@ impl RecvHalves {
         ensures err { OnErr result (self.new ≡ self.old) }
         ensures lacking { OnErr result (IfSome (at self.old.live frame.now.id) (λ h. FrameMayLack h.arrived (stream_view frame.now))) }
     {
-        let Some(half) = self.live.get_mut(&u64::from(frame.id)) else {
+        let Some(half) = self.live.get_mut(u64::from(frame.id)) else {
             return Ok(());
         };
         let (seen, consumed) = (half.end(), half.credit());
@@ -146,7 +145,7 @@ impl RecvHalves {
         requires room { seen_in self.old.live ≤ greatest_offset }
         ensures { self.new ≡ changed (λ h. with_offsets_of h (stream_view frame.now)) self.old frame.now.id }
     {
-        let Some(half) = self.live.get_mut(&u64::from(frame.id)) else {
+        let Some(half) = self.live.get_mut(u64::from(frame.id)) else {
             return;
         };
         let (seen, consumed) = (half.end(), half.credit());
@@ -162,7 +161,7 @@ impl RecvHalves {
         requires room { seen_in self.old.live ≤ greatest_offset }
         ensures { self.new ≡ changed (λ h. reset_by h code size) self.old id }
     {
-        let Some(half) = self.live.get_mut(&u64::from(id)) else {
+        let Some(half) = self.live.get_mut(u64::from(id)) else {
             return;
         };
         let (seen, consumed) = (half.end(), half.credit());
@@ -178,7 +177,7 @@ impl RecvHalves {
         requires room { seen_in self.old.live ≤ greatest_offset }
         ensures { self.new ≡ changed (λ h. record h { seen = size; final = Some size }) self.old id }
     {
-        let Some(half) = self.live.get_mut(&u64::from(id)) else {
+        let Some(half) = self.live.get_mut(u64::from(id)) else {
             return;
         };
         let (seen, consumed) = (half.end(), half.credit());
@@ -191,7 +190,7 @@ impl RecvHalves {
     pub fn stop(&mut self, id: StreamId)
         ensures { self.new ≡ changed stopped_now self.old id }
     {
-        let Some(half) = self.live.get_mut(&u64::from(id)) else {
+        let Some(half) = self.live.get_mut(u64::from(id)) else {
             return;
         };
         let consumed = half.credit();
@@ -205,7 +204,7 @@ impl RecvHalves {
         ensures refused { IfSome (at self.old.live id) (λ h. is_err result ≡ is_illegal h ordered) }
         ensures new { self.new ≡ changed (λ h. begun h ordered) self.old id }
     {
-        let Some(half) = self.live.get_mut(&u64::from(id)) else {
+        let Some(half) = self.live.get_mut(u64::from(id)) else {
             return Ok(());
         };
         half.begin(ordered)
@@ -218,7 +217,7 @@ impl RecvHalves {
         ensures new { self.new ≡ changed (λ h. half_after_next result h max) self.old id }
         ensures lacking { result ≡ Err read_errors.Memory → IfSome (at self.old.live id) (λ h. read_may_lack h.arrived max ≡ true) }
     {
-        let Some(half) = self.live.get_mut(&u64::from(id)) else {
+        let Some(half) = self.live.get_mut(u64::from(id)) else {
             return Ok(None);
         };
         let consumed = half.credit();
@@ -232,7 +231,7 @@ impl RecvHalves {
         requires { max_data ≤ greatest_offset }
         ensures { self.new ≡ changed (λ h. record h { announced = max_data }) self.old id }
     {
-        let Some(half) = self.live.get_mut(&u64::from(id)) else {
+        let Some(half) = self.live.get_mut(u64::from(id)) else {
             return;
         };
         half.set_max_data(max_data);

@@ -15,16 +15,15 @@ use crate::places::Places;
 use crate::queued;
 use bytes::Bytes;
 use quic_send_buffer::StreamMeta;
-use quic_streams_parts::{Place, Send, WriteError};
+use quic_streams_parts::{Numbered, Place, Send, WriteError};
 use quic_wire_core::{Side, StreamId, VarInt};
 use std::alloc::{AllocError, Global};
-use std::collections::BTreeMap;
 use std::marker::Model;
 
 /// The sending parts of all streams of one end.
 #[derive(Drop)]
 pub struct SendHalves {
-    live: BTreeMap<u64, Send>,
+    live: Numbered<Send>,
     places: Places,
     // The bytes that are kept on all of them, so that no write has to sum them.
     buffered: u64,
@@ -36,12 +35,12 @@ impl Model for SendHalves {
 
     ghost Value = { Halves SendHalf };
 
-    ghost view = { λ h. record { live = h.live.entries; places = h.places } };
+    ghost view = { λ h. record { live = h.live; places = h.places } };
 
     ghost use Rattle.quic_streams_halves.specs.Halves.{buffered_in};
     ghost use Rattle.std.specs.Prelude.{◌≡◌};
 
-    ghost invariant = { λ h. h.buffered ≡ buffered_in h.live.entries };
+    ghost invariant = { λ h. h.buffered ≡ buffered_in h.live };
 }
 
 impl SendHalves {
@@ -50,7 +49,7 @@ impl SendHalves {
         ensures { result ≡ no_halves }
     {
         SendHalves {
-            live: BTreeMap::new(alloc),
+            live: Numbered::new(alloc),
             places: Places::new(alloc),
             buffered: 0,
         }
@@ -67,7 +66,7 @@ impl SendHalves {
     pub fn get(&self, id: StreamId) -> Option<&Send>
         ensures { option_copied result ≡ at self.now.live id }
     {
-        self.live.get(&u64::from(id))
+        self.live.get(u64::from(id))
     }
 
     /// Whether the part of a stream was ever in use.
@@ -87,7 +86,7 @@ impl SendHalves {
         let kept = half.buffered();
         let _ = self.live.insert(u64::from(id), half)?;
         if self.places.add(side, id).is_err() {
-            let _ = self.live.remove(&u64::from(id));
+            let _ = self.live.remove(u64::from(id));
             return Err(AllocError);
         }
         self.buffered += kept;
@@ -98,7 +97,7 @@ impl SendHalves {
     pub fn remove(&mut self, id: StreamId)
         ensures { self.new ≡ without_half self.old id }
     {
-        if let Some(half) = self.live.remove(&u64::from(id)) {
+        if let Some(half) = self.live.remove(u64::from(id)) {
             self.buffered -= half.buffered();
         }
     }
@@ -107,7 +106,7 @@ impl SendHalves {
     pub fn set_max_data(&mut self, id: StreamId, max_data: VarInt)
         ensures { self.new ≡ changed (λ h. record h { limit = max_data }) self.old id }
     {
-        let Some(half) = self.live.get_mut(&u64::from(id)) else {
+        let Some(half) = self.live.get_mut(u64::from(id)) else {
             return;
         };
         half.set_max_data(max_data);
@@ -117,7 +116,7 @@ impl SendHalves {
     pub fn set_priority(&mut self, id: StreamId, priority: i32)
         ensures { self.new ≡ changed (λ h. record h { priority = priority }) self.old id }
     {
-        let Some(half) = self.live.get_mut(&u64::from(id)) else {
+        let Some(half) = self.live.get_mut(u64::from(id)) else {
             return;
         };
         half.set_priority(priority);
@@ -127,7 +126,7 @@ impl SendHalves {
     pub fn set_stop_reason(&mut self, id: StreamId, code: VarInt)
         ensures { self.new ≡ changed (λ h. record h { stopped = Some code }) self.old id }
     {
-        let Some(half) = self.live.get_mut(&u64::from(id)) else {
+        let Some(half) = self.live.get_mut(u64::from(id)) else {
             return;
         };
         half.set_stop_reason(code);
@@ -137,7 +136,7 @@ impl SendHalves {
     pub fn set_blocked(&mut self, id: StreamId, blocked: bool)
         ensures { self.new ≡ changed (λ h. record h { blocked = blocked }) self.old id }
     {
-        let Some(half) = self.live.get_mut(&u64::from(id)) else {
+        let Some(half) = self.live.get_mut(u64::from(id)) else {
             return;
         };
         half.set_blocked(blocked);
@@ -161,7 +160,7 @@ impl SendHalves {
         ensures err { OnErr result (self.new ≡ self.old) }
         ensures same { OnErr result (queue.new ≡ queue.old) }
     {
-        let Some(half) = self.live.get_mut(&u64::from(id)) else {
+        let Some(half) = self.live.get_mut(u64::from(id)) else {
             return Ok(());
         };
         queued::write_all(half, id, chunks, len, queue)?;
@@ -189,7 +188,7 @@ impl SendHalves {
         ensures same { OnErr result (queue.new ≡ queue.old) }
         ensures lacking { result ≡ Err write_errors.Memory → IsOkAnd (written_to (at self.old.live id) room (length bytes.now)) (λ n. 0 < n) }
     {
-        let Some(half) = self.live.get_mut(&u64::from(id)) else {
+        let Some(half) = self.live.get_mut(u64::from(id)) else {
             return Err(WriteError::ClosedStream);
         };
         let taken = queued::write(half, id, bytes, room, alloc, queue)?;
@@ -201,7 +200,7 @@ impl SendHalves {
     pub fn finish(&mut self, id: StreamId, place: Option<Place>)
         ensures { self.new ≡ changed (λ h. record (ended h) { place = place }) self.old id }
     {
-        let Some(half) = self.live.get_mut(&u64::from(id)) else {
+        let Some(half) = self.live.get_mut(u64::from(id)) else {
             return;
         };
         half.finish();
@@ -212,7 +211,7 @@ impl SendHalves {
     pub fn reset(&mut self, id: StreamId)
         ensures { self.new ≡ changed (λ h. record (reset_now h) { place = None }) self.old id }
     {
-        let Some(half) = self.live.get_mut(&u64::from(id)) else {
+        let Some(half) = self.live.get_mut(u64::from(id)) else {
             return;
         };
         let kept = half.buffered();
@@ -225,7 +224,7 @@ impl SendHalves {
     pub fn set_place(&mut self, id: StreamId, place: Option<Place>)
         ensures { self.new ≡ changed (λ h. record h { place = place }) self.old id }
     {
-        let Some(half) = self.live.get_mut(&u64::from(id)) else {
+        let Some(half) = self.live.get_mut(u64::from(id)) else {
             return;
         };
         half.set_place(place);
@@ -239,7 +238,7 @@ impl SendHalves {
         ensures same { OnErr result (queue.new ≡ queue.old) }
         ensures lacking { OnErr result (IsSomeAnd (at self.old.live frame.now.id) (λ h. HasSent h frame.now ⊎ (h.place ≡ None))) }
     {
-        let Some(half) = self.live.get_mut(&u64::from(frame.id)) else {
+        let Some(half) = self.live.get_mut(u64::from(frame.id)) else {
             return Ok(());
         };
         let kept = half.buffered();
@@ -262,7 +261,7 @@ impl SendHalves {
         ensures same { OnErr result (queue.new ≡ queue.old) }
         ensures lacking { OnErr result (IsSomeAnd (at self.old.live frame.now.id) (λ h. (h.reset ≡ None) × (HasSent h frame.now ⊎ (h.place ≡ None)))) }
     {
-        let Some(half) = self.live.get_mut(&u64::from(frame.id)) else {
+        let Some(half) = self.live.get_mut(u64::from(frame.id)) else {
             return Ok(false);
         };
         let kept = half.buffered();
@@ -283,7 +282,7 @@ impl SendHalves {
         ensures same { OnErr result (queue.new ≡ queue.old) }
         ensures lacking { OnErr result (IsSomeAnd (at self.old.live frame.now.id) (λ h. HasSent h frame.now ⊎ (h.place ≡ None))) }
     {
-        let Some(half) = self.live.get_mut(&u64::from(frame.id)) else {
+        let Some(half) = self.live.get_mut(u64::from(frame.id)) else {
             return Ok(());
         };
         queued::retransmit(half, frame, queue)
@@ -311,7 +310,7 @@ impl SendHalves {
         ensures lacking { OnErr result (IsSome (counting_at (at self.old.live id) max_len)) }
         ensures meta { IfOk result (λ meta. meta ≡ option_map (λ h. meta_of (frame_of id h max_len)) (counting_at (at self.old.live id) max_len)) }
     {
-        let Some(half) = self.live.get_mut(&u64::from(id)) else {
+        let Some(half) = self.live.get_mut(u64::from(id)) else {
             return Ok(None);
         };
         queued::put_frame(half, id, fair, max_len, out, queue)

@@ -1,4 +1,4 @@
-use super::ends::{end_streams, first_id, receive};
+use super::ends::{first_id, receive, with_streams};
 use quic_streams_handles::{Chunks, EndStreams, RecvStream, Streams};
 use quic_streams_parts::{ClosedStream, ReadError, ReadableError, UpdateError};
 use quic_wire::frame::ResetStream;
@@ -80,16 +80,23 @@ fn read_all(rt: &impl Abort, streams: &mut EndStreams) -> Result<(), Fail> {
     Ok(())
 }
 
-#[test]
-fn a_stream_is_read_to_its_end(rt: HostRuntime) -> Result<(), Fail> {
-    let mut streams = end_streams(&rt, Side::Server);
-    receive(&rt, &mut streams, 0, b"hello", true)?;
-    accept(&rt, &mut streams);
-    read_all(&rt, &mut streams)?;
+fn assert_read_to_its_end(rt: &impl Abort, streams: &mut EndStreams) -> Result<(), Fail> {
+    receive(rt, streams, 0, b"hello", true)?;
+    accept(rt, streams);
+    read_all(rt, streams)?;
     assert!(rt; streams.pending.max_data());
     assert!(rt; !streams.pending.has_max_stream_data(first_id()));
-    refuse(&rt, &mut streams, true, ReadableError::ClosedStream);
+    refuse(rt, streams, true, ReadableError::ClosedStream);
     Ok(())
+}
+
+#[test]
+fn a_stream_is_read_to_its_end(rt: HostRuntime) -> Result<(), Fail> {
+    with_streams(
+        rt.alloc(),
+        Side::Server,
+        |streams| assert_read_to_its_end(&rt, streams),
+    )
 }
 
 // What waits is read in any order, and the read dropped.
@@ -100,14 +107,21 @@ fn read_any(rt: &impl Abort, streams: &mut EndStreams) -> Result<(), Fail> {
     Ok(())
 }
 
+fn assert_limit_told(rt: &impl Abort, streams: &mut EndStreams) -> Result<(), Fail> {
+    receive(rt, streams, 2, b"llo", false)?;
+    read_any(rt, streams)?;
+    assert!(rt; streams.pending.has_max_stream_data(first_id()));
+    refuse(rt, streams, true, ReadableError::IllegalOrderedRead);
+    Ok(())
+}
+
 #[test]
 fn a_read_in_any_order_tells_the_limit(rt: HostRuntime) -> Result<(), Fail> {
-    let mut streams = end_streams(&rt, Side::Server);
-    receive(&rt, &mut streams, 2, b"llo", false)?;
-    read_any(&rt, &mut streams)?;
-    assert!(rt; streams.pending.has_max_stream_data(first_id()));
-    refuse(&rt, &mut streams, true, ReadableError::IllegalOrderedRead);
-    Ok(())
+    with_streams(
+        rt.alloc(),
+        Side::Server,
+        |streams| assert_limit_told(&rt, streams),
+    )
 }
 
 // The peer resets the stream behind six bytes.
@@ -141,14 +155,21 @@ fn read_reset(rt: &impl Abort, streams: &mut EndStreams) -> Result<(), Fail> {
     Ok(())
 }
 
+fn assert_told_again(rt: &impl Abort, streams: &mut EndStreams) -> Result<(), Fail> {
+    receive(rt, streams, 0, b"hello", false)?;
+    reset(streams)?;
+    read_reset(rt, streams)?;
+    refuse(rt, streams, true, ReadableError::ClosedStream);
+    Ok(())
+}
+
 #[test]
 fn a_reset_is_told_again(rt: HostRuntime) -> Result<(), Fail> {
-    let mut streams = end_streams(&rt, Side::Server);
-    receive(&rt, &mut streams, 0, b"hello", false)?;
-    reset(&mut streams)?;
-    read_reset(&rt, &mut streams)?;
-    refuse(&rt, &mut streams, true, ReadableError::ClosedStream);
-    Ok(())
+    with_streams(
+        rt.alloc(),
+        Side::Server,
+        |streams| assert_told_again(&rt, streams),
+    )
 }
 
 // This end stops the stream.
@@ -164,12 +185,19 @@ fn stop(rt: &impl Abort, streams: &mut EndStreams) -> Result<(), Fail> {
     Ok(())
 }
 
-#[test]
-fn a_stopped_stream_is_read_no_more(rt: HostRuntime) -> Result<(), Fail> {
-    let mut streams = end_streams(&rt, Side::Server);
-    receive(&rt, &mut streams, 0, b"hello", false)?;
-    stop(&rt, &mut streams)?;
-    refuse(&rt, &mut streams, true, ReadableError::ClosedStream);
+fn assert_read_no_more(rt: &impl Abort, streams: &mut EndStreams) -> Result<(), Fail> {
+    receive(rt, streams, 0, b"hello", false)?;
+    stop(rt, streams)?;
+    refuse(rt, streams, true, ReadableError::ClosedStream);
     assert!(rt; streams.pending.first_stop_sending().is_some());
     Ok(())
+}
+
+#[test]
+fn a_stopped_stream_is_read_no_more(rt: HostRuntime) -> Result<(), Fail> {
+    with_streams(
+        rt.alloc(),
+        Side::Server,
+        |streams| assert_read_no_more(&rt, streams),
+    )
 }

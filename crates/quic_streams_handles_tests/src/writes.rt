@@ -1,4 +1,4 @@
-use super::ends::{end_streams, first_id};
+use super::ends::{first_id, with_streams};
 use quic_streams_handles::{EndStreams, SendStream, Streams};
 use quic_streams_parts::{UpdateError, WriteError};
 use quic_wire_core::{Dir, Side, VarInt};
@@ -67,13 +67,20 @@ fn end(rt: &impl Abort, streams: &mut EndStreams) -> Result<(), Fail> {
     Ok(())
 }
 
-#[test]
-fn a_stream_is_written_and_finished(rt: HostRuntime) -> Result<(), Fail> {
-    let mut streams = end_streams(&rt, Side::Client);
-    opened(&rt, &mut streams, 7)?;
-    block(&rt, &mut streams);
-    write_all(&rt, &mut streams)?;
-    end(&rt, &mut streams)?;
+fn assert_written_and_finished(rt: &impl Abort, streams: &mut EndStreams) -> Result<(), Fail> {
+    opened(rt, streams, 7)?;
+    block(rt, streams);
+    write_all(rt, streams)?;
+    end(rt, streams)?;
     assert!(rt; streams.pending.first_reset_stream().is_some());
     Ok(())
+}
+
+#[test]
+fn a_stream_is_written_and_finished(rt: HostRuntime) -> Result<(), Fail> {
+    with_streams(
+        rt.alloc(),
+        Side::Client,
+        |streams| assert_written_and_finished(&rt, streams),
+    )
 }

@@ -2,3 +2,9 @@ mod Idle
 mod Places
 mod Within
 mod Room
+mod Joined
+mod Slotted
+mod Ordered
+mod Looked
+mod Lent
+mod Parted

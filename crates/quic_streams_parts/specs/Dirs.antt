@@ -1,10 +1,9 @@
 -- One value for each direction: of two-way streams, and of one-way streams (RFC 9000, section 2.1).
 use Rattle.std.specs.Prelude.{ℕ, ◌+◌, Bool, true, false, ◌==◌}
 use Rattle.quic_wire_core.specs.declared.stream_id.Side.{Side}
-use Rattle.quic_wire_core.specs.declared.stream_id.Side.TheVariants.{Client, Server}
 use Rattle.quic_wire_core.specs.declared.stream_id.Dir.{Dir}
 use Rattle.quic_wire_core.specs.declared.stream_id.Dir.TheVariants.{Bi, Uni}
-use Rattle.quic_wire_core.specs.StreamId.{initiator_of, dir_of, side_bit}
+use Rattle.quic_wire_core.specs.StreamId.{initiator_of, side_bit}
 use Rattle.quic_streams_parts.specs.declared.by_dir.ByDir.{ByDir}
 
 -- how many streams of each direction

@@ -1,5 +1,5 @@
 -- What the application is told of streams.
-use Rattle.std.specs.Prelude.{Bool, true, false, if◌then◌else◌, List, [], ◌∷◌, ◌++◌, Option, Some, None}
+use Rattle.std.specs.Prelude.{true, false, if◌then◌else◌, List, [], ◌∷◌, ◌++◌, Option, Some, None}
 use Rattle.quic_wire_core.specs.declared.stream_id.Dir.{Dir}
 use Rattle.quic_wire_core.specs.declared.stream_id.Dir.TheVariants.{Bi, Uni}
 use Rattle.quic_streams_parts.specs.declared.answers.StreamEvent.{StreamEvent}

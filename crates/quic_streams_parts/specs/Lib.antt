@@ -1,5 +1,7 @@
 pub mod Table
 pub mod TableLaws
+pub mod Slots
+pub mod Lends
 pub mod Dirs
 pub mod SendHalf
 pub mod RecvHalf

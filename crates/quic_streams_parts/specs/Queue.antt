@@ -1,10 +1,11 @@
 -- The streams with something to send: the highest priority first, equal ones in the order in which they were queued.
-use Rattle.std.specs.Prelude.{ℕ, ℤ, pos, negsuc, ◌+◌, ◌-◌, ◌^◌, ◌<◌, Bool, true, false, nat_lt, if◌then◌else◌, List, [], ◌∷◌, map, Option, Some, None}
+use Rattle.std.specs.Prelude.{ℕ, ℤ, pos, negsuc, ◌+◌, ◌-◌, ◌^◌, ◌<◌, Bool, true, false, nat_lt, if◌then◌else◌, List, [], ◌∷◌, ◌++◌, map, Option, Some, None}
 use Rattle.std.specs.List.{AllByRecursion}
 use Rattle.std.specs.Ordering.{nat_cmp, ordering_then}
 use Rattle.std.specs.declared.cmp.Ordering.{Ordering}
 use Rattle.std.specs.BTreeMap.{is_at, insert_entry}
 use Rattle.std.specs.Map.{remove_entry}
+use Rattle.quic_streams_parts.specs.Table.{Table}
 
 -- the place of a stream: its rank, the lowest first, and the turn at which it was queued
 abbrev pub Place : Type 0
@@ -22,6 +23,19 @@ pub record Queue : Type 0 where
 -- each turn was given before
 pub record IsQueue (entries : List (Place × ℕ)) (next : ℕ) : Type 0 where
   pub earlier : AllByRecursion (λ e. e.0.1 < next) entries
+
+-- streams by turn, at their places under one rank
+abbrev pub ranked : ℕ → Table ℕ → List (Place × ℕ)
+ranked rank streams = map (λ e. ((rank, e.0), e.1)) streams
+
+-- streams of which the first have lesser ranks than this one, and the last greater ones
+abbrev pub parted : List (Place × ℕ) → ℕ → Table ℕ → List (Place × ℕ) → List (Place × ℕ)
+parted low rank streams high = low ++ (ranked rank streams ++ high)
+
+-- and that they have
+pub record IsParted (low : List (Place × ℕ)) (rank : ℕ) (high : List (Place × ℕ)) : Type 0 where
+  pub below : AllByRecursion (λ e. e.0.0 < rank) low
+  pub above : AllByRecursion (λ e. rank < e.0.0) high
 
 -- no stream
 abbrev pub no_queue : Queue

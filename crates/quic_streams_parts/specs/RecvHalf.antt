@@ -1,5 +1,5 @@
 -- The receiving part of a stream (RFC 9000, sections 2.2, 3.2, 4.1 and 4.5).
-use Rattle.std.specs.Prelude.{ℕ, ◌+◌, ◌-◌, ◌*◌, ◌/◌, ◌^◌, max, min, Bool, true, false, nat_lt, nat_le, ◌==◌, ◌&&◌, ◌||◌, not, if◌then◌else◌, [], length, Option, Some, None, Result, Ok, Err}
+use Rattle.std.specs.Prelude.{ℕ, ◌+◌, ◌-◌, ◌/◌, ◌^◌, max, min, Bool, true, false, nat_lt, nat_le, ◌==◌, ◌&&◌, ◌||◌, not, if◌then◌else◌, [], length, Option, Some, None, Result, Ok, Err}
 use Rattle.std.specs.Option.{is_some}
 use Rattle.quic_wire.specs.Value.{StreamValue}
 use Rattle.quic_assembler.specs.Arrived.{Arrived, after_insert, after_read, after_ordering, given_by, bytes_read_of, runs_of}

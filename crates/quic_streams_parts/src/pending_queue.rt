@@ -2,8 +2,8 @@
 ghost use Rattle.std.specs.Prelude.{◌≡◌, ◌+◌, ◌<◌, IfOk, OnOk, OnErr, ◌∷◌, []};
 ghost use Rattle.quic_streams_parts.specs.Queue.{IsLast, taken_back, after_push, after_remove, first_queued, is_waiting, no_queue, order, pushed};
 
+use crate::by_place::ByPlace;
 use std::alloc::{AllocError, Global};
-use std::collections::BTreeMap;
 use std::marker::Model;
 
 /// Where a stream stands in the queue: its rank, and the turn at which it was queued.
@@ -13,7 +13,7 @@ pub type Place = (u64, u64);
 /// `PendingStreamsQueue`).
 #[derive(Drop)]
 pub struct PendingStreamsQueue {
-    streams: BTreeMap<(u64, u64), u64>,
+    streams: ByPlace,
     // The turn of the next stream that is queued.
     next: u64,
 }
@@ -23,9 +23,9 @@ impl Model for PendingStreamsQueue {
 
     ghost Value = { Queue };
 
-    ghost view = { λ q. record { entries = q.streams.entries; next = q.next } };
+    ghost view = { λ q. record { entries = q.streams; next = q.next } };
 
-    ghost invariant = { λ q. IsQueue q.streams.entries q.next };
+    ghost invariant = { λ q. IsQueue q.streams q.next };
 }
 
 impl PendingStreamsQueue {
@@ -34,7 +34,7 @@ impl PendingStreamsQueue {
         ensures { result ≡ no_queue }
     {
         PendingStreamsQueue {
-            streams: BTreeMap::new(alloc),
+            streams: ByPlace::new(alloc),
             next: 0,
         }
     }
@@ -56,7 +56,7 @@ impl PendingStreamsQueue {
         let Some(next) = turn.checked_add(1) else {
             return Err(AllocError);
         };
-        let _ = self.streams.insert((rank, turn), id)?;
+        self.streams.insert((rank, turn), id)?;
         self.next = next;
         Ok((rank, turn))
     }
@@ -66,7 +66,7 @@ impl PendingStreamsQueue {
         requires { IsLast self.old place }
         ensures { self.new ≡ taken_back self.old place }
     {
-        let _ = self.streams.remove(&place);
+        self.streams.remove(place);
         self.next = place.1;
     }
 
@@ -74,17 +74,14 @@ impl PendingStreamsQueue {
     pub fn remove(&mut self, place: Place)
         ensures { self.new ≡ after_remove self.old place }
     {
-        let _ = self.streams.remove(&place);
+        self.streams.remove(place);
     }
 
     /// The stream that goes next.
     pub fn first(&self) -> Option<u64>
         ensures { result ≡ first_queued self.now }
     {
-        match self.streams.first_key_value() {
-            Some((_, id)) => Some(*id),
-            None => None,
-        }
+        self.streams.first()
     }
 
     /// Whether a stream is queued.

@@ -1,5 +1,5 @@
 -- Writes of several chunks.
-use Rattle.std.proofs.Common.{◌≡◌, ◌≢◌, ℕ, zero, suc, ◌+◌, ◌<◌, ◌≤◌, min, Bool, true, false, ◌==◌, List, [], ◌∷◌, length, Option, Some, None, Result, Ok, Err, refl, sym, ap, subst, ◌∙◌, arith}
+use Rattle.std.proofs.Common.{◌≡◌, ℕ, zero, suc, ◌+◌, ◌<◌, ◌≤◌, min, Bool, true, false, ◌==◌, List, [], ◌∷◌, length, Option, Some, None, Result, Ok, Err, refl, sym, ap, subst, ◌∙◌, arith}
 use Rattle.std.specs.Prelude.{OnOk, IsOkAnd, if◌then◌else◌}
 use Rattle.std.proofs.Math.Dec.{eqb-suc-zero}
 use Rattle.std.specs.Option.{is_some}
@@ -9,7 +9,7 @@ use Rattle.quic_streams_parts.specs.declared.answers.Written.{Written}
 use Rattle.quic_streams_parts.specs.declared.answers.WriteError.{WriteError}
 use Rattle.quic_streams_parts.specs.declared.answers.WriteError.TheVariants as write_errors
 use Rattle.quic_streams_parts.specs.SendHalf.{SendHalf, room_on, is_ready, grown, grown_all, requeued_at, written_to, taken_unless}
-use Rattle.quic_streams_state.specs.Sends.{with_queued, with_live_queued, accepted_in, chunks_grown_in}
+use Rattle.quic_streams_state.specs.Sends.{with_queued, with_live_queued, accepted_in, chunks_grown_half, chunks_grown_in}
 use Rattle.quic_streams_parts.specs.Table.{at}
 use Rattle.quic_streams_state.specs.Parts.{Sending}
 use Rattle.quic_streams_state.specs.State.{StreamsState, sending_half, room}
@@ -59,10 +59,24 @@ one_accepted (Some h) s id (b ∷ bytes) some =
     (cut_one (b ∷ bytes))
     ∙ sym (ap (λ (z : Bool). if z then s else grown_by h s id (b ∷ bytes)) (eqb-suc-zero (length bytes)))
 
-pub one_taken : {T E : Type 0} (r : Result T E) (o : Option SendHalf) (s t : StreamsState) (id : ℕ) (bytes : List ℕ) (cs : List (List ℕ)) → 0 < length bytes → cs ≡ bytes ∷ []
-    → OnOk r (t ≡ chunks_accepted_at o s id (length bytes) cs) → OnOk r (t ≡ accepted_at o s id bytes)
-one_taken (Ok x) o s t id bytes cs some e put = put ∙ ap (λ (ds : List (List ℕ)). chunks_accepted_at o s id (length bytes) ds) e ∙ one_accepted o s id bytes some
-one_taken (Err x) o s t id bytes cs some e put = tt
+-- what isn't empty
+pub not_empty : (n : ℕ) (empty : Bool) → empty ≡ (n == 0) → empty ≡ false → 0 < n
+not_empty zero empty e f = absurd (wrong (sym e ∙ f))
+  where
+    wrong : true ≡ false → ⊥
+    wrong h = cc
+not_empty (suc n) empty e f = omega arith
+
+-- one chunk whole is accepted first on a half
+pub first_accepted : {T E : Type 0} (r : Result T E) (s : StreamsState) (t : Sending) (id : ℕ) (h : SendHalf) (bytes : List ℕ) (cs : List (List ℕ)) → sending_half s id ≡ Some h → 0 < length bytes → cs ≡ bytes ∷ []
+    → OnOk r (t ≡ chunks_grown_half h s.sending s.side id (length bytes) cs) → OnOk r (record s { sending = t } ≡ accepted_at (sending_half s id) s id bytes)
+first_accepted (Err x) s t id h bytes cs is some e put = tt
+first_accepted (Ok x) s t id h bytes cs is some e put =
+    ap (λ (y : Sending). let u : StreamsState = record s { sending = y } in u) put
+    ∙ sym (chunks_accepted h s id (length bytes) cs some)
+    ∙ ap (λ (ds : List (List ℕ)). chunks_accepted_at (Some h) s id (length bytes) ds) e
+    ∙ one_accepted (Some h) s id bytes some
+    ∙ sym (ap (λ (o : Option SendHalf). accepted_at o s id bytes) is)
 
 -- no chunk is left to count
 pub none_left : (total most n : ℕ) (cs : List (List ℕ)) → length cs ≡ 0 → min (total + bytes_of cs) most ≡ n → total ≤ most → total ≡ n
@@ -86,12 +100,12 @@ in_use : (s : StreamsState) (id : ℕ) (h : SendHalf) → at s.sending.halves.li
 in_use s id h found = rw found refl
 
 -- what it is answered is what any write is
-pub live_answer : (s : StreamsState) (id len : ℕ) (r : Result ℕ WriteError) → r ≢ Err write_errors.ClosedStream → r ≡ written_to (at s.sending.halves.live id) (room s.sending) len → r ≡ write_answer true s id len
-live_answer s id len r used told = told ∙ go (at s.sending.halves.live id) refl
+pub live_answer : (s : StreamsState) (id len : ℕ) (r : Result ℕ WriteError) → is_some (at s.sending.halves.live id) ≡ true → r ≡ written_to (at s.sending.halves.live id) (room s.sending) len → r ≡ write_answer true s id len
+live_answer s id len r there told = told ∙ go (at s.sending.halves.live id) refl there
   where
-    go : (o : Option SendHalf) → at s.sending.halves.live id ≡ o → written_to o (room s.sending) len ≡ write_answer true s id len
-    go None found = absurd (used (told ∙ ap (λ (o : Option SendHalf). written_to o (room s.sending) len) found))
-    go (Some h) found = sym (ap (λ (o : Option SendHalf). written_to o (room s.sending) len) (in_use s id h found))
+    go : (o : Option SendHalf) → at s.sending.halves.live id ≡ o → is_some o ≡ true → written_to o (room s.sending) len ≡ write_answer true s id len
+    go None found is = cc
+    go (Some h) found is = sym (ap (λ (o : Option SendHalf). written_to o (room s.sending) len) (in_use s id h found))
 
 -- and what it leaves
 pub live_written : (s : StreamsState) (t : Sending) (id : ℕ) (bytes : List ℕ) → (at s.sending.halves.live id ≡ None → ⊥) → t ≡ accepted_in (at s.sending.halves.live id) s.sending id bytes

@@ -9,5 +9,6 @@ mod Tables
 mod Taken
 mod Arriving
 mod Coming
+mod Fresh
 mod Framing
 mod Putting

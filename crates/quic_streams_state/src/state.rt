@@ -3,7 +3,7 @@ ghost use Rattle.std.specs.Prelude.{◌≡◌, ◌≢◌, ◌<◌, ◌≤◌, �
 ghost use Rattle.std.specs.Option.{option_copied};
 ghost use Rattle.quic_parameters.specs.Parameters.{AreInRange};
 ghost use Rattle.quic_streams_parts.specs.Table.{at};
-ghost use Rattle.quic_streams_parts.specs.SendHalf.{new_send_half, finish_of};
+ghost use Rattle.quic_streams_parts.specs.SendHalf.{new_send_half, finish_of, written_to};
 ghost use Rattle.quic_streams_parts.specs.Answered.{AnswersBreach, UnlessMemory, OnMemory};
 ghost use Rattle.quic_streams_state.specs.State.{new_streams, after_set_params, send_streams, remote_open_streams, sending_half, is_opened, sends_on};
 ghost use Rattle.quic_streams_state.specs.Opening.{opened_by, sending_refusal, open_answer, after_open, accept_answer, after_accept, max_streams_breach, after_max_streams};
@@ -345,6 +345,15 @@ impl StreamsState {
         }
     }
 
+    // The same on the half of the stream, which isn't in use.
+    fn written_first(&self, id: StreamId, half: &Send, len: usize) -> Result<usize, WriteError>
+        requires { sending_half self.now id ≡ Some half.now }
+        ensures answer { result ≡ write_answer true self.now id len }
+        ensures memory { result ≢ Err write_errors.Memory }
+    {
+        written_to(half, self.sending.room(), len)
+    }
+
     // A stream whose write is blocked by what all streams may send, or by its own limit: what the peer is told of that waits, and
     // the application is told once it takes bytes again.
     fn block(&mut self, id: StreamId, pending: &mut Retransmits) -> Result<(), AllocError>
@@ -420,40 +429,75 @@ impl StreamsState {
         self.sending.write_fresh(self.side, id, half, chunks, len)
     }
 
-    // Bytes that may be written on a stream go behind those before them. An `Err` (want of memory) changes nothing.
-    fn take(&mut self, id: StreamId, bytes: &[u8], asked: usize) -> Result<(), AllocError>
-        requires { write_answer true self.old id asked ≡ Ok (length bytes.now) }
+    // Bytes that may be written on a half that isn't in use come first on it. An `Err` (want of
+    // memory) changes nothing.
+    fn take_first(
+        &mut self,
+        id: StreamId,
+        half: Send,
+        bytes: &[u8],
+        asked: usize,
+    ) -> Result<(), AllocError>
+        requires none { at self.old.sending.halves.live id ≡ None }
+        requires half { sending_half self.old id ≡ Some half }
+        requires accepted { write_answer true self.old id asked ≡ Ok (length bytes.now) }
         ensures ok { OnOk result (self.new ≡ accepted_at (sending_half self.old id) self.old id bytes.now) }
         ensures err { OnErr result (self.new ≡ self.old) }
         ensures lacking { OnErr result (0 < length bytes.now) }
     {
+        // The proof reads how many bytes these are at most.
+        let _asked = asked;
         if bytes.is_empty() {
             return Ok(());
         }
         let piece = self.sending.piece(bytes)?;
-        self.take_all(id, slice::from_ref(&piece), bytes.len(), asked)
+        self.sending
+            .write_fresh(self.side, id, half, slice::from_ref(&piece), bytes.len())
     }
 
-    // What a write leaves and answers on an open end, whether the half of the stream is in use or not.
-    fn write_any(
+    // What a write leaves and answers on an open end, where the half of the stream isn't in use.
+    fn write_first(
         &mut self,
         id: StreamId,
         bytes: &[u8],
         pending: &mut Retransmits,
     ) -> Result<usize, WriteError>
+        requires { at self.old.sending.halves.live id ≡ None }
         ensures answer { result ≢ Err write_errors.Memory → result ≡ write_answer true self.old id (length bytes.now) }
         ensures new { self.new ≡ (written_by result self.old pending.old id bytes.now).state }
         ensures pending { pending.new ≡ (written_by result self.old pending.old id bytes.now).pending }
         ensures lacking { result ≡ Err write_errors.Memory → WriteMayLack (write_answer true self.old id (length bytes.now)) (sending_half self.old id) (room self.old.sending) }
     {
-        let taken = match self.written(id, bytes.len()) {
+        let Some(half) = self.fresh_send(id) else {
+            return Err(WriteError::ClosedStream);
+        };
+        let taken = match self.written_first(id, &half, bytes.len()) {
             Ok(taken) => taken,
             Err(error) => return Err(self.refuse(id, error, pending)),
         };
-        match self.take(id, &bytes[..taken], bytes.len()) {
+        match self.take_first(id, half, &bytes[..taken], bytes.len()) {
             Ok(()) => Ok(taken),
             Err(_) => Err(WriteError::Memory),
         }
+    }
+
+    // The same, where no half in use took it: there is none, or it was finished or reset.
+    fn write_closed(
+        &mut self,
+        id: StreamId,
+        bytes: &[u8],
+        pending: &mut Retransmits,
+    ) -> Result<usize, WriteError>
+        requires { written_to (at self.old.sending.halves.live id) (room self.old.sending) (length bytes.now) ≡ Err write_errors.ClosedStream }
+        ensures answer { result ≢ Err write_errors.Memory → result ≡ write_answer true self.old id (length bytes.now) }
+        ensures new { self.new ≡ (written_by result self.old pending.old id bytes.now).state }
+        ensures pending { pending.new ≡ (written_by result self.old pending.old id bytes.now).pending }
+        ensures lacking { result ≡ Err write_errors.Memory → WriteMayLack (write_answer true self.old id (length bytes.now)) (sending_half self.old id) (room self.old.sending) }
+    {
+        if self.sending.get(id).is_some() {
+            return Err(WriteError::ClosedStream);
+        }
+        self.write_first(id, bytes, pending)
     }
 
     /// Writes as many of the bytes as fit, and says how many (RFC 9000, sections 2.2 and 4.1).
@@ -481,8 +525,7 @@ impl StreamsState {
         match self.sending.write(id, bytes) {
             Ok(taken) => Ok(taken),
             Err(WriteError::Memory) => Err(WriteError::Memory),
-            // Its half may not be in use.
-            Err(WriteError::ClosedStream) => self.write_any(id, bytes, pending),
+            Err(WriteError::ClosedStream) => self.write_closed(id, bytes, pending),
             Err(error) => Err(self.refuse(id, error, pending)),
         }
     }

@@ -74,22 +74,6 @@ impl StreamsState {
         Some(self.receiving.fresh())
     }
 
-    // Why bytes up to an offset, with the end or without, are refused before they have any effect.
-    fn refusal(&self, id: StreamId, end: u64, fin: bool) -> Option<Breach>
-        ensures { result ≡ refusal self.now id end fin }
-    {
-        if let Some(breach) = self.receiving_refusal(id) {
-            return Some(breach);
-        }
-        if let Some(half) = self.receiving.get(id) {
-            return self.receiving.breach_on(half, end, fin);
-        }
-        match self.unused_part(id) {
-            Some(half) => self.receiving.breach_on(&half, end, fin),
-            None => None,
-        }
-    }
-
     // The peer is to be told of the limits on all bytes and on streams that grew.
     pub(crate) fn decide(&self, pending: &mut Retransmits)
         ensures { pending.new ≡ decided self.now pending.old }
@@ -244,31 +228,34 @@ impl StreamsState {
         Ok(())
     }
 
-    // The same for a half that isn't in use.
+    // A frame that isn't refused by its id comes for a half that isn't in use. One piece waits then at
+    // most, and this end didn't stop the half, so it is neither crowded nor over.
     fn received_fresh(
         &mut self,
         frame: &Stream<'_>,
-        half: Recv,
         pending: &mut Retransmits,
     ) -> Result<(), ReceivedError>
         requires none { at self.old.receiving.halves.live frame.now.id ≡ None }
-        requires fresh { half ≡ new_recv_half (first_window self.old.receiving) }
-        requires part { part_for self.old frame.now.id ≡ Some half }
-        requires allowed { refusal self.old frame.now.id (end_of (stream_view frame.now)) frame.now.fin ≡ None }
+        requires lawful { receiving_refusal self.old frame.now.id ≡ None }
         ensures answer { AnswersBreach result (stream_breach self.old (stream_view frame.now)) }
         ensures new { UnlessMemory result (self.new ≡ (after_stream self.old pending.old (stream_view frame.now)).state) }
         ensures pending { UnlessMemory result (pending.new ≡ (after_stream self.old pending.old (stream_view frame.now)).pending) }
         ensures memory { OnMemory result (self.new ≡ self.old) }
         ensures kept { OnMemory result (pending.new ≡ pending.old) }
+        ensures lacking { OnMemory result (FrameLacks (refusal self.old frame.now.id (end_of (stream_view frame.now)) frame.now.fin) (part_for self.old frame.now.id)) }
     {
+        let Some(half) = self.unused_part(frame.id) else {
+            return Ok(());
+        };
+        let end = frame.offset + frame.data.len() as u64;
+        if let Some(breach) = self.receiving.breach_on(&half, end, frame.fin) {
+            return Err(ReceivedError::Breach(breach));
+        }
         if self.keep_fresh(frame, half).is_err() {
             return Err(ReceivedError::Memory);
         }
-        let crowded = self.has_too_many(frame.id);
-        self.settle(frame.id, pending);
-        if crowded {
-            return Err(ReceivedError::Breach(Breach::Pieces));
-        }
+        self.open_by(frame.id);
+        self.decide(pending);
         Ok(())
     }
 
@@ -292,17 +279,17 @@ impl StreamsState {
         ensures kept { OnMemory result (pending.new ≡ pending.old) }
         ensures lacking { OnMemory result (FrameLacks (refusal self.old frame.now.id (end_of (stream_view frame.now)) frame.now.fin) (part_for self.old frame.now.id)) }
     {
-        let end = frame.offset + frame.data.len() as u64;
-        if let Some(breach) = self.refusal(frame.id, end, frame.fin) {
+        if let Some(breach) = self.receiving_refusal(frame.id) {
             return Err(ReceivedError::Breach(breach));
         }
-        if self.receiving.get(frame.id).is_some() {
-            return self.received_used(frame, pending);
+        let Some(half) = self.receiving.get(frame.id) else {
+            return self.received_fresh(frame, pending);
+        };
+        let end = frame.offset + frame.data.len() as u64;
+        if let Some(breach) = self.receiving.breach_on(half, end, frame.fin) {
+            return Err(ReceivedError::Breach(breach));
         }
-        match self.unused_part(frame.id) {
-            Some(half) => self.received_fresh(frame, half, pending),
-            None => Ok(()),
-        }
+        self.received_used(frame, pending)
     }
 
     // A reset of a half that is in use is kept, and the application told of the first. An `Err` (want
@@ -365,28 +352,35 @@ impl StreamsState {
         Ok(())
     }
 
-    // The same for a half that isn't in use.
+    // A reset that isn't refused by its id comes for a half that isn't in use. This end didn't stop the
+    // half, so it isn't over.
     fn received_fresh_reset(
         &mut self,
         frame: ResetStream,
-        half: Recv,
         pending: &mut Retransmits,
     ) -> Result<(), ReceivedError>
         requires none { at self.old.receiving.halves.live frame.id ≡ None }
-        requires fresh { half ≡ new_recv_half (first_window self.old.receiving) }
-        requires part { part_for self.old frame.id ≡ Some half }
-        requires allowed { reset_breach self.old (reset_stream_view frame) ≡ None }
+        requires lawful { receiving_refusal self.old frame.id ≡ None }
         ensures answer { AnswersBreach result (reset_breach self.old (reset_stream_view frame)) }
         ensures new { UnlessMemory result (self.new ≡ (after_reset_frame self.old pending.old (reset_stream_view frame)).state) }
         ensures pending { UnlessMemory result (pending.new ≡ (after_reset_frame self.old pending.old (reset_stream_view frame)).pending) }
         ensures memory { OnMemory result (self.new ≡ self.old) }
         ensures kept { OnMemory result (pending.new ≡ pending.old) }
+        ensures lacking { OnMemory result (ResetLacks (reset_breach self.old (reset_stream_view frame)) (part_for self.old frame.id)) }
     {
         let id = frame.id;
+        let Some(half) = self.unused_part(id) else {
+            return Ok(());
+        };
+        let size = frame.final_offset.into_inner();
+        if let Some(breach) = self.receiving.breach_on(&half, size, true) {
+            return Err(ReceivedError::Breach(breach));
+        }
         if self.keep_fresh_reset(frame, half).is_err() {
             return Err(ReceivedError::Memory);
         }
-        self.settle(id, pending);
+        self.open_by(id);
+        self.decide(pending);
         Ok(())
     }
 
@@ -409,16 +403,16 @@ impl StreamsState {
         ensures kept { OnMemory result (pending.new ≡ pending.old) }
         ensures lacking { OnMemory result (ResetLacks (reset_breach self.old (reset_stream_view frame)) (part_for self.old frame.id)) }
     {
-        let size = frame.final_offset.into_inner();
-        if let Some(breach) = self.refusal(frame.id, size, true) {
+        if let Some(breach) = self.receiving_refusal(frame.id) {
             return Err(ReceivedError::Breach(breach));
         }
-        if self.receiving.get(frame.id).is_some() {
-            return self.received_used_reset(frame, pending);
+        let Some(half) = self.receiving.get(frame.id) else {
+            return self.received_fresh_reset(frame, pending);
+        };
+        let size = frame.final_offset.into_inner();
+        if let Some(breach) = self.receiving.breach_on(half, size, true) {
+            return Err(ReceivedError::Breach(breach));
         }
-        match self.unused_part(frame.id) {
-            Some(half) => self.received_fresh_reset(frame, half, pending),
-            None => Ok(()),
-        }
+        self.received_used_reset(frame, pending)
     }
 }

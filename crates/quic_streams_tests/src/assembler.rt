@@ -1,4 +1,4 @@
-use super::spent::spend;
+use super::spent::{none_fails_behind, spend};
 use Step::{Begin, Count, Insert, Read, Wait};
 use quic_assembler::{Assembler, Chunk, MOST_PIECES};
 use std::alloc::AllocError;
@@ -134,89 +134,89 @@ fn small_frames_in_order_are_one_run(rt: HostRuntime) -> Result<(), Fail> {
     make(&rt, &mut assembler, Count(100_000, 0))
 }
 
-// Two runs of one-byte frames, 2049 in all: the last one makes them too many, and each run is joined.
+// Two runs of one-byte frames, 2049 in all: the last one makes them too many, and each run is
+// joined.
 fn insert_two_runs(rt: &impl Abort, assembler: &mut Assembler) -> Result<(), Fail> {
     for offset in 5000..6025u64 {
-        make(rt, assembler, Insert(offset, b"y"))?;
+        take(rt, assembler, Insert(offset, b"y"))?;
     }
-    for offset in 0..1024u64 {
-        make(rt, assembler, Insert(offset, b"x"))?;
+    for offset in 0..1023u64 {
+        take(rt, assembler, Insert(offset, b"x"))?;
     }
+    make(rt, assembler, Insert(1023, b"x"))?;
     make(rt, assembler, Count(0, 2))
 }
 
-// So many allocations are made before two runs come and are joined. Where the program's allocation 8491 fails, an earlier one of
-// the assembler's does for each of these: among them all of that join. What waits is in two parts then.
+// So many allocations are made before two runs come and are joined. Where the program's allocation
+// 6450 fails, it is one of that join, for each test another. What waits is in two parts then.
 fn join_behind<R: Abort + AllocGlobal>(rt: &R, allocations: u64) -> Result<(), Fail> {
     spend(rt, allocations);
     let mut assembler = Assembler::new(rt.alloc());
     insert_two_runs(rt, &mut assembler)?;
-    make(rt, &mut assembler, Read(9999, 0, &[b'x'; 1024]))?;
-    make(rt, &mut assembler, Begin(false, true))?;
-    make(rt, &mut assembler, Read(9999, 5000, &[b'y'; 1025]))
+    take(rt, &mut assembler, Read(9999, 0, &[b'x'; 1024]))?;
+    take(rt, &mut assembler, Begin(false, true))?;
+    take(rt, &mut assembler, Read(9999, 5000, &[b'y'; 1025]))?;
+    none_fails_behind(rt)
 }
 
 #[test]
-fn first_join_behind_one_allocation(rt: HostRuntime) -> Result<(), Fail> {
-    join_behind(&rt, 1)
+fn a_join_lacks_its_first_allocation(rt: HostRuntime) -> Result<(), Fail> {
+    join_behind(&rt, 14)
 }
 
 #[test]
-fn first_join_behind_two_allocations(rt: HostRuntime) -> Result<(), Fail> {
-    join_behind(&rt, 2)
+fn a_join_lacks_its_second_allocation(rt: HostRuntime) -> Result<(), Fail> {
+    join_behind(&rt, 13)
 }
 
 #[test]
-fn first_join_behind_three_allocations(rt: HostRuntime) -> Result<(), Fail> {
-    join_behind(&rt, 3)
+fn a_join_lacks_its_third_allocation(rt: HostRuntime) -> Result<(), Fail> {
+    join_behind(&rt, 12)
 }
 
 #[test]
-fn first_join_behind_four_allocations(rt: HostRuntime) -> Result<(), Fail> {
-    join_behind(&rt, 4)
+fn a_join_lacks_its_fourth_allocation(rt: HostRuntime) -> Result<(), Fail> {
+    join_behind(&rt, 11)
 }
 
 #[test]
-fn first_join_behind_five_allocations(rt: HostRuntime) -> Result<(), Fail> {
-    join_behind(&rt, 5)
+fn a_join_lacks_its_fifth_allocation(rt: HostRuntime) -> Result<(), Fail> {
+    join_behind(&rt, 10)
 }
 
-// Fills the gaps up to an offset, and says with which byte. Where memory lacked it is another one, since the first bytes stand:
-// none may be of those that were put in before.
+// Fills the gaps up to an offset, and says with which byte. Where memory lacked it is another one,
+// since the first bytes stand: none may be of those that were put in before.
 fn fill_gaps(rt: &impl Abort, assembler: &mut Assembler) -> Result<u8, Fail> {
     let before = seen(assembler);
-    if assembler.insert(0, &[b'x'; 29]).is_ok() {
+    if assembler.insert(0, &[b'x'; 25]).is_ok() {
         return Ok(b'x');
     }
     assert_eq!(rt; seen(assembler), before);
-    assembler.insert(0, &[b'y'; 29])?;
+    assembler.insert(0, &[b'y'; 25])?;
     Ok(b'y')
 }
 
-// A byte waits at each second offset, from 1 on.
-fn insert_apart(rt: &impl Abort, assembler: &mut Assembler, count: u32) -> Result<(), Fail> {
-    for place in 0..count {
-        make(rt, assembler, Insert(2 * u64::from(place) + 1, b"a"))?;
-    }
-    Ok(())
-}
-
-// Bytes fill 15 gaps among 14 parts: with the second of these a full node is split, which takes the allocations 68 and 69.
+// Bytes fill 13 gaps among 12 parts: with the fourth of these a full node is split, and with the
+// fifth the list of what was put in grows.
 #[test]
 fn a_node_is_full_at_an_insert(rt: HostRuntime) -> Result<(), Fail> {
-    spend(&rt, 4);
+    spend(&rt, 32);
     let mut assembler = Assembler::new(rt.alloc());
-    insert_apart(&rt, &mut assembler, 14)?;
-    let byte = fill_gaps(&rt, &mut assembler)?;
-    for place in 0..14u64 {
-        make(&rt, &mut assembler, Read(9, 2 * place, &[byte]))?;
-        make(&rt, &mut assembler, Read(9, 2 * place + 1, b"a"))?;
+    for place in 0..12u64 {
+        take(&rt, &mut assembler, Insert(2 * place + 1, b"a"))?;
     }
-    make(&rt, &mut assembler, Read(9, 28, &[byte]))?;
-    make(&rt, &mut assembler, Count(29, 0))
+    let byte = fill_gaps(&rt, &mut assembler)?;
+    for place in 0..12u64 {
+        take(&rt, &mut assembler, Read(9, 2 * place, &[byte]))?;
+        take(&rt, &mut assembler, Read(9, 2 * place + 1, b"a"))?;
+    }
+    take(&rt, &mut assembler, Read(9, 24, &[byte]))?;
+    take(&rt, &mut assembler, Count(25, 0))?;
+    none_fails_behind(&rt)
 }
 
-// The byte that waits at an offset is read. Where memory lacks, it wasn't given: another may come in its place.
+// The byte that waits at an offset is read. Where memory lacks, it wasn't given: another may come
+// in its place.
 fn read_or_bring(rt: &impl Abort, assembler: &mut Assembler, offset: u64) -> Result<(), Fail> {
     let before = seen(assembler);
     match assembler.read(9) {
@@ -224,8 +224,8 @@ fn read_or_bring(rt: &impl Abort, assembler: &mut Assembler, offset: u64) -> Res
         Err(_) => {
             assert_eq!(rt; seen(assembler), before);
             assembler.clear();
-            make(rt, assembler, Insert(offset, b"b"))?;
-            make(rt, assembler, Read(9, offset, b"b"))?;
+            take(rt, assembler, Insert(offset, b"b"))?;
+            take(rt, assembler, Read(9, offset, b"b"))?;
         }
     }
     Ok(())
@@ -234,24 +234,29 @@ fn read_or_bring(rt: &impl Abort, assembler: &mut Assembler, offset: u64) -> Res
 // A byte comes for each second offset, and is read.
 fn read_apart(rt: &impl Abort, assembler: &mut Assembler, count: u32) -> Result<(), Fail> {
     for place in 0..count {
-        make(rt, assembler, Insert(2 * u64::from(place), b"a"))?;
-        read_or_bring(rt, assembler, 2 * u64::from(place))?;
+        let offset = 2 * u64::from(place);
+        take(rt, assembler, Insert(offset, b"a"))?;
+        take(rt, assembler, Read(9, offset, b"a"))?;
     }
     Ok(())
 }
 
-// Each second byte is read out of order: with the 16th a full node is split, which takes the allocations 70 and 71. None comes again.
+// Each second byte is read out of order: with the 16th a full node is split. None comes again.
 #[test]
 fn a_node_is_full_at_a_read(rt: HostRuntime) -> Result<(), Fail> {
+    spend(&rt, 18);
     let mut assembler = Assembler::new(rt.alloc());
-    make(&rt, &mut assembler, Begin(false, true))?;
-    read_apart(&rt, &mut assembler, 16)?;
-    make(&rt, &mut assembler, Insert(0, &[b'x'; 32]))?;
-    make(&rt, &mut assembler, Count(16, 16))?;
+    take(&rt, &mut assembler, Begin(false, true))?;
+    read_apart(&rt, &mut assembler, 15)?;
+    take(&rt, &mut assembler, Insert(30, b"a"))?;
+    read_or_bring(&rt, &mut assembler, 30)?;
+    take(&rt, &mut assembler, Insert(0, &[b'x'; 32]))?;
+    take(&rt, &mut assembler, Count(16, 16))?;
     for place in 0..16u64 {
-        make(&rt, &mut assembler, Read(9, 2 * place + 1, b"x"))?;
+        take(&rt, &mut assembler, Read(9, 2 * place + 1, b"x"))?;
     }
-    make(&rt, &mut assembler, Count(32, 0))
+    take(&rt, &mut assembler, Count(32, 0))?;
+    none_fails_behind(&rt)
 }
 
 // What waits is dropped, and may come again; what was read stays so.
@@ -272,7 +277,9 @@ fn cleared_bytes_are_gone(rt: HostRuntime) -> Result<(), Fail> {
 #[test]
 fn runs_are_counted(rt: HostRuntime) -> Result<(), Fail> {
     let mut assembler = Assembler::new(rt.alloc());
-    insert_apart(&rt, &mut assembler, 2048)?;
+    for place in 0..2048u64 {
+        make(&rt, &mut assembler, Insert(2 * place + 1, b"a"))?;
+    }
     make(&rt, &mut assembler, Count(0, 2048))?;
     assert_eq!(rt; assembler.runs(), MOST_PIECES);
     make(&rt, &mut assembler, Insert(4097, b"a"))?;

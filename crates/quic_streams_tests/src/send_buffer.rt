@@ -1,4 +1,4 @@
-use super::spent::spend;
+use super::spent::{none_fails_behind, spend};
 use Step::{Ack, Keep, Lose, Send, Tell, Write};
 use bytes::Bytes;
 use quic_send_buffer::SendBuffer;
@@ -144,8 +144,8 @@ fn runs_are_cut_and_joined(rt: HostRuntime) -> Result<(), Fail> {
     run(&rt, &steps)
 }
 
-// Every second byte is acknowledged: more runs than a node of a map holds. What is left of them is lost and goes again, and in the
-// end one run has all.
+// Every second byte is acknowledged: more runs than a node of a map holds. What is left of them is
+// lost and goes again, and in the end one run has all.
 #[test]
 fn many_runs_come_to_be_one(rt: HostRuntime) -> Result<(), Fail> {
     let mut buffer = SendBuffer::new(rt.alloc());
@@ -162,8 +162,9 @@ fn many_runs_come_to_be_one(rt: HostRuntime) -> Result<(), Fail> {
     make(&rt, &mut buffer, Keep(0))
 }
 
-// These bytes are in flight, and of every two the second is acknowledged, until so many are. Before, so many allocations are made
-// that those with which the test's next call splits a node are among 68 to 71: ./test makes each of these fail.
+// These bytes are in flight, and of every two the second is acknowledged, until so many are. So
+// many allocations are made before that those of the test's next call are among 68 to 71:
+// ./fail-alloc makes each of these fail. Where another call lacks memory, the test fails.
 fn acked_apart<R: Abort + AllocGlobal>(
     rt: &R,
     allocations: u64,
@@ -173,94 +174,111 @@ fn acked_apart<R: Abort + AllocGlobal>(
     assert!(rt; acks < 50);
     spend(rt, allocations);
     let mut buffer = SendBuffer::new(rt.alloc());
-    make(rt, &mut buffer, Write(bytes))?;
+    take(rt, &mut buffer, Write(bytes))?;
     assert_eq!(rt; buffer.poll_transmit(100), (0..bytes.len() as u64, true));
     for place in 0..acks {
-        make(rt, &mut buffer, Ack(2 * place + 1, 2 * place + 2))?;
+        buffer.ack(2 * place + 1..2 * place + 2)?;
     }
     Ok(buffer)
 }
 
-// So many times the first byte of two goes, then what lies behind them up to `end`, and then nothing.
-fn go(rt: &impl Abort, buffer: &mut SendBuffer, count: u64, end: u64) {
+// Of every two bytes the first goes, from place `first` up to `count`, then what lies behind them
+// up to `end`, and then nothing.
+fn go(rt: &impl Abort, buffer: &mut SendBuffer, first: u64, count: u64, end: u64) {
     assert!(rt; count < 50);
-    for place in 0..count {
+    for place in first..count {
         assert_eq!(rt; buffer.poll_transmit(100), (2 * place..2 * place + 1, true));
     }
     assert_eq!(rt; buffer.poll_transmit(100), (2 * count..end, true));
     assert!(rt; !buffer.has_unsent_data());
 }
 
-// The 16th run of those that are acknowledged is put into a full node. Where memory lacks for that, its byte goes again as one that
-// isn't acknowledged.
+// The 16th run of those that are acknowledged is put into a full node. Where memory lacks for that,
+// its byte goes again as one that isn't acknowledged.
 #[test]
 fn a_node_is_full_at_an_ack(rt: HostRuntime) -> Result<(), Fail> {
-    let mut buffer = acked_apart(&rt, 48, &[b'x'; 33], 15)?;
+    let mut buffer = acked_apart(&rt, 63, &[b'x'; 33], 15)?;
     if buffer.ack(31..32).is_err() {
-        make(&rt, &mut buffer, Lose(0, 33))?;
-        go(&rt, &mut buffer, 15, 33);
+        buffer.retransmit(0..33)?;
+        go(&rt, &mut buffer, 0, 15, 33);
         buffer.ack(31..32)?;
     }
-    make(&rt, &mut buffer, Lose(0, 33))?;
-    go(&rt, &mut buffer, 16, 33);
-    Ok(())
+    buffer.retransmit(0..33)?;
+    go(&rt, &mut buffer, 0, 16, 33);
+    none_fails_behind(&rt)
 }
 
-// An acknowledgement fills seven gaps: where memory lacks behind some of them, as the list of what was put in grows, none is filled.
+// An acknowledgement of bytes behind the first that lacks one fills seven gaps: where memory lacks
+// behind some of them, as the list of what was put in grows, none is filled.
 #[test]
 fn an_ack_fills_all_gaps_or_none(rt: HostRuntime) -> Result<(), Fail> {
-    let mut buffer = acked_apart(&rt, 57, &[b'x'; 13], 6)?;
-    if buffer.ack(0..13).is_err() {
-        make(&rt, &mut buffer, Lose(0, 13))?;
-        go(&rt, &mut buffer, 6, 13);
-        buffer.ack(0..13)?;
+    let mut buffer = acked_apart(&rt, 63, &[b'x'; 15], 7)?;
+    if buffer.ack(2..15).is_err() {
+        buffer.retransmit(0..15)?;
+        go(&rt, &mut buffer, 0, 7, 15);
+        buffer.ack(2..15)?;
     }
-    make(&rt, &mut buffer, Tell(true, false))?;
-    make(&rt, &mut buffer, Keep(0))
+    buffer.retransmit(0..15)?;
+    go(&rt, &mut buffer, 0, 0, 1);
+    none_fails_behind(&rt)
 }
 
-// The 16th piece is put into a full node of the map of pieces. Where memory lacks for that, it was not written.
+// An acknowledgement from the first byte on that lacks one fills seven gaps, all of them lost, and
+// needs no memory: it makes no allocation that could fail before the next write's.
 #[test]
-fn a_node_is_full_at_a_write(rt: HostRuntime) -> Result<(), Fail> {
-    spend(&rt, 36);
+fn an_ack_of_the_first_bytes_needs_no_memory(rt: HostRuntime) -> Result<(), Fail> {
+    let mut buffer = acked_apart(&rt, 60, &[b'x'; 13], 6)?;
+    buffer.retransmit(0..13)?;
+    buffer.ack(0..13)?;
+    make(&rt, &mut buffer, Write(b"y"))?;
+    assert_eq!(rt; seen(&buffer), (14, 13, 1, false, true));
+    none_fails_behind(&rt)
+}
+
+// The fifth piece is put into a full queue. Where memory lacks for its bytes, or for the queue, it
+// was not written.
+#[test]
+fn a_queue_is_full_at_a_write(rt: HostRuntime) -> Result<(), Fail> {
+    spend(&rt, 57);
     let mut buffer = SendBuffer::new(rt.alloc());
-    for _ in 0..15 {
-        make(&rt, &mut buffer, Write(b"x"))?;
+    for _ in 0..4 {
+        take(&rt, &mut buffer, Write(b"x"))?;
     }
     make(&rt, &mut buffer, Write(b"yz"))?;
-    assert_eq!(rt; buffer.poll_transmit(100), (0..17, true));
-    assert_eq!(rt; buffer.get(14..17), b"x".as_slice());
-    assert_eq!(rt; buffer.get(15..17), b"yz".as_slice());
-    Ok(())
+    assert_eq!(rt; buffer.poll_transmit(100), (0..6, true));
+    assert_eq!(rt; buffer.get(3..6), b"x".as_slice());
+    assert_eq!(rt; buffer.get(4..6), b"yz".as_slice());
+    none_fails_behind(&rt)
 }
 
-// A loss brings 17 runs beside one that was lost before. Where memory lacks behind some of them, that one alone goes again.
+// A loss brings 17 runs beside one that was lost before. Where memory lacks behind some of them,
+// that one alone goes again.
 #[test]
 fn a_node_is_full_at_a_loss(rt: HostRuntime) -> Result<(), Fail> {
-    let mut buffer = acked_apart(&rt, 40, &[b'x'; 35], 17)?;
-    make(&rt, &mut buffer, Lose(2, 3))?;
+    let mut buffer = acked_apart(&rt, 57, &[b'x'; 35], 17)?;
+    buffer.retransmit(2..3)?;
     if buffer.retransmit(0..35).is_err() {
         assert_eq!(rt; buffer.poll_transmit(100), (2..3, true));
         assert!(rt; !buffer.has_unsent_data());
         buffer.retransmit(0..35)?;
     }
-    go(&rt, &mut buffer, 17, 35);
-    Ok(())
+    go(&rt, &mut buffer, 0, 17, 35);
+    none_fails_behind(&rt)
 }
 
-// An acknowledgement cuts the last of 15 lost runs in two, in a full node. Where memory lacks, also behind the cut, that run goes
-// again as one.
+// An acknowledgement cuts the last of 15 lost runs in two, in a full node, and is the 16th run of
+// another full one. Where memory lacks, also behind the cut, that run goes again as one.
 #[test]
 fn a_node_is_full_at_a_cut(rt: HostRuntime) -> Result<(), Fail> {
-    let mut buffer = acked_apart(&rt, 46, &[b'x'; 32], 14)?;
-    make(&rt, &mut buffer, Lose(0, 32))?;
-    if buffer.ack(29..30).is_err() {
-        go(&rt, &mut buffer, 14, 32);
-        make(&rt, &mut buffer, Lose(0, 32))?;
-        buffer.ack(29..30)?;
+    let mut buffer = acked_apart(&rt, 59, &[b'x'; 34], 15)?;
+    buffer.retransmit(2..34)?;
+    if buffer.ack(31..32).is_err() {
+        go(&rt, &mut buffer, 1, 15, 34);
+        buffer.retransmit(2..34)?;
+        buffer.ack(31..32)?;
     }
-    go(&rt, &mut buffer, 15, 32);
-    Ok(())
+    go(&rt, &mut buffer, 1, 16, 34);
+    none_fails_behind(&rt)
 }
 
 #[test]
@@ -298,7 +316,7 @@ fn chunks_are_pieces(rt: HostRuntime) -> Result<(), Fail> {
     Ok(())
 }
 
-// More chunks than one node of a map holds: all of them are taken, or none.
+// More chunks than a queue has room for at first: all of them are taken, or none.
 #[test]
 fn chunks_are_taken_or_none(rt: HostRuntime) -> Result<(), Fail> {
     let mut chunks = Vec::new(rt.alloc());

@@ -2,16 +2,14 @@
 use Rattle.std.proofs.Common.{◌≡◌, ℕ, ◌+◌, ◌-◌, ◌^◌, ◌<◌, ◌≤◌, length, List, [], ◌∷◌, take, drop, Bool, true, false, not, ◌||◌, cond, Some, None, Option, refl, sym, ap, ◌∙◌, subst, arith, min, length-take, length-drop, ◌⊎◌, inl, inr}
 use Rattle.std.specs.Option.{option_or, is_some}
 use Rattle.std.proofs.lemmas.Bool.{le-ltb}
-use Rattle.std.specs.Result.{OnOk, OnErr}
-use Rattle.std.specs.declared.result.Result.{Result}
-use Rattle.quic_sets.specs.Runs.{Run, Adds, Drops}
+use Rattle.quic_sets.specs.Runs.{Run, Has, Drops}
 use Rattle.quic_assembler.specs.declared.assembler.Chunk.{Chunk}
 use Rattle.quic_sets.specs.Spans.{Span, AreSpans, in_spans, width_of, with_run}
 use Rattle.quic_assembler.specs.PartSteps.{front_of, AreHere}
 use Rattle.quic_assembler.specs.Arrived.{Arrived, AreApart, IsLawful, byte_at, is_next, left_front, first_given, with_free, settled, with_chunk, length_of, after_ordering, after_insert, after_read_in, after_read, given_by, in_chunk, is_given, waits, HaveArrived}
 use Rattle.quic_sets.specs.Parts.{Part, start, byte_from}
 use Rattle.quic_assembler.proofs.Parts.Filled.{low_small}
-use Rattle.quic_assembler.proofs.Calls.Inserting.{on_both, known_free}
+use Rattle.quic_assembler.proofs.Calls.Inserting.{known_free}
 use Rattle.quic_sets.proofs.Parts.Bytes.{from_within}
 use Rattle.quic_assembler.proofs.Arrived.Lawful.{insert_lawful, insert_bytes, read_given, read_leaves}
 use Rattle.quic_assembler.proofs.Arrived.Picking.{part_clear, pick_lawful, pick_width}
@@ -119,16 +117,14 @@ here_of read offset known u gs ps bs s k h o l m i =
     let e = le-ltb o read (omega arith) in
     sym (ap (λ b. (b || in_spans gs o) || waits ps o) e) ∙ h o i
 
-pub insert_known : {A E : Type 0} (r : Result A E) (read offset known : ℕ) (u : Bool) (gs : List Span) (ps ns : List Part) (bs : List ℕ) (s t : List Run) → known ≡ min (read - offset) (length bs) → IsLawful (seen read u gs ps) → offset + length bs < 2 ^ 62 → HaveArrived s (seen read u gs ps) → ns ≡ settled (with_free gs ps (offset + known) (take (length bs - known) (drop known bs))) → OnOk r (Adds s t (offset + known) (offset + length bs)) → OnErr r (t ≡ s) → HaveArrived t (seen read u gs ns)
-insert_known r read offset known u gs ps ns bs s t k h l known_then e ok err =
+pub insert_known : (read offset known : ℕ) (u : Bool) (gs : List Span) (ps ns : List Part) (bs : List ℕ) (s t : List Run) → known ≡ min (read - offset) (length bs) → IsLawful (seen read u gs ps) → offset + length bs < 2 ^ 62 → HaveArrived s (seen read u gs ps) → ns ≡ settled (with_free gs ps (offset + known) (take (length bs - known) (drop known bs))) → ((o : ℕ) → Has t o → (Has s o ⊎ ((offset + known ≤ o) × (o < offset + length bs)))) → HaveArrived t (seen read u gs ns)
+insert_known read offset known u gs ps ns bs s t k h l known_then e noted =
     let same : ns ≡ (after_insert (seen read u gs ps) offset bs).parts = e ∙ ap settled (known_free read offset known gs ps bs k) in
     let now = known_insert s (seen read u gs ps) offset bs h l known_then in
-    subst (λ (qs : List Part). HaveArrived t (seen read u gs qs)) (sym same) (on_both r ok err
-    (λ adds. λ o i. elim ((adds o).0 i) [
+    subst (λ (qs : List Part). HaveArrived t (seen read u gs qs)) (sym same) (λ o i. elim (noted o i) [
       | inl j ↦ now o j
       | inr j ↦ new_known (seen read u gs ps) offset bs o h l (let a = j.0 in omega arith) j.1
     ])
-    (λ q. subst (λ (x : List Run). HaveArrived x (after_insert (seen read u gs ps) offset bs)) (sym q) now))
 
 next_as : (read most : ℕ) (u : Bool) (gs : List Span) (ps ns : List Part) (bytes : List ℕ) → is_next ps read ≡ true → Some bytes ≡ front_of ps most → ns ≡ left_front ps most → seen (read + length bytes) u gs ns ≡ after_read_in false (seen read u gs ps) most
 next_as read most u gs [] ns bytes next e left = cc

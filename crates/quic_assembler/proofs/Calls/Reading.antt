@@ -1,5 +1,5 @@
 -- A read from the first part.
-use Rattle.std.proofs.Common.{◌≡◌, ℕ, ◌+◌, ◌^◌, ◌<◌, ltb, length, List, [], ◌∷◌, take, drop, Bool, true, false, cond, Some, refl, sym, subst, arith, length-take, length-drop}
+use Rattle.std.proofs.Common.{◌≡◌, ℕ, ◌+◌, ◌^◌, ◌<◌, ltb, length, List, [], ◌∷◌, take, drop, Bool, true, false, cond, Some, None, Option, refl, sym, subst, arith, length-take, length-drop}
 use Rattle.std.proofs.lemmas.Bool.{ltb-true, ltb-false, eqb-true}
 use Rattle.quic_sets.specs.Parts.{Part, start}
 use Rattle.quic_assembler.specs.Arrived.{AreApart, is_next, shortened, left_front}
@@ -33,3 +33,8 @@ read_apart read most (p ∷ ps) ns bytes h s e is =
 
 pub read_small : (read most : ℕ) (ps : List Part) (bytes : List ℕ) → AreApart read ps → is_next ps read ≡ true → Some bytes ≡ front_of ps most → read + length bytes < 2 ^ 62
 read_small read most ps bytes h s e = low_small (read + length bytes) (left_front ps most) (read_apart read most ps (left_front ps most) bytes h s e refl)
+
+-- bytes were taken only where the first part begins where the stream is read next
+pub taken_next : (b : Bool) (o : Option (List ℕ)) (ps qs ns : List Part) (bytes : List ℕ) → Some bytes ≡ cond b o None → ns ≡ cond b qs ps → (b ≡ true) × (Some bytes ≡ o) × (ns ≡ qs)
+taken_next true o ps qs ns bytes e is = (refl, e, is)
+taken_next false o ps qs ns bytes e is = cc

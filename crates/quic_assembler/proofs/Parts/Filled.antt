@@ -1,6 +1,6 @@
 -- A part that is put into a gap: the parts stay apart, and their runs change by those that it
 -- touches.
-use Rattle.std.proofs.Common.{◌≡◌, ℕ, ◌+◌, ◌-◌, ◌^◌, ◌<◌, ◌≤◌, ◌==◌, ltb, lit<, lit≤, length, List, [], ◌∷◌, Bool, true, false, cond, Some, None, refl, sym, ap, ◌∙◌, subst, arith}
+use Rattle.std.proofs.Common.{◌≡◌, ℕ, ◌+◌, ◌-◌, ◌^◌, ◌<◌, ◌≤◌, ◌==◌, ltb, lit<, lit≤, length, List, [], ◌∷◌, Bool, true, false, cond, Some, None, refl, sym, ◌∙◌, subst, arith}
 use Rattle.std.specs.Ordering.{nat_cmp}
 use Rattle.std.specs.Option.{is_some}
 use Rattle.std.specs.Cmp.{nat_cmp_is, unsigned_tied}
@@ -139,12 +139,11 @@ put_apart low at a ps ns bs part v h m l s f e is =
     let fits = subst (λ (x : List Part). Fits (at + length bs) (after at x)) (sym v) f in
     rw (is, e) (filled_apart low at ps bs h m l s fits)
 
-pub put_runs : (low at runs touches : ℕ) (joins : Bool) (a ps ns : List Part) (bs part : List ℕ) → ps ≡ a → AreApart low ps → low ≤ at → 0 < length bs → Fits (at + length bs) (after at a) → joins ≡ begins_at (at + length bs) (after at a) → runs ≡ runs_of ps → touches ≡ cond (is_some (lookup (is_at (nat_cmp at)) ps)) 1 0 + cond joins 1 0 → part ≡ bs → ns ≡ insert_entry nat_cmp ps (at + length bs) part → runs + 1 - touches ≡ runs_of ns
-put_runs low at runs touches joins a ps ns bs part v h m l f j r t e is =
+pub put_runs : (low at runs touched : ℕ) (a ps ns : List Part) (bs part : List ℕ) → ps ≡ a → AreApart low ps → low ≤ at → 0 < length bs → Fits (at + length bs) (after at a) → runs ≡ runs_of ps → touched ≡ touching a at (at + length bs) → part ≡ bs → ns ≡ insert_entry nat_cmp ps (at + length bs) part → runs + 1 - touched ≡ runs_of ns
+put_runs low at runs touched a ps ns bs part v h m l f r t e is =
     let fits = subst (λ (x : List Part). Fits (at + length bs) (after at x)) (sym v) f in
-    let behind : joins ≡ begins_at (at + length bs) (after at ps) = subst (λ (x : List Part). joins ≡ begins_at (at + length bs) (after at x)) (sym v) j in
+    let whole : touched ≡ touching ps at (at + length bs) = subst (λ (x : List Part). touched ≡ touching x at (at + length bs)) (sym v) t in
     let sum = filled_runs low at ps bs h m l fits in
-    let whole : touches ≡ touching ps at (at + length bs) = t ∙ ap (λ b. cond (is_some (lookup (is_at (nat_cmp at)) ps)) 1 0 + cond b 1 0) behind in
     rw (is, e, r) (omega arith)
 
 -- what is read lies below the greatest offset

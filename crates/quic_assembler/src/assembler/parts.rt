@@ -1,12 +1,12 @@
 // The parts of a stream that wait to be read.
-ghost use Rattle.std.specs.Prelude.{◌≡◌, ℕ, cond, drop, leb, ◌+◌, ◌*◌, ◌<◌, ◌≤◌, ◌∷◌, ◌^◌, ◌⊎◌, length, [], take, true, false, None, IfOk, IsOk, OnOk, OnErr, is_some};
+ghost use Rattle.std.specs.Prelude.{◌≡◌, ℕ, cond, drop, leb, ◌+◌, ◌*◌, ◌<◌, ◌≤◌, ◌∷◌, ◌^◌, ◌⊎◌, length, [], take, true, false, None, IfOk, IfSome, IsOk, OnOk, OnErr, is_some};
 ghost use Rattle.std.specs.Option.{option_map};
 ghost use Rattle.std.specs.Map.{lookup, remove_entry};
 ghost use Rattle.std.specs.BTreeMap.{insert_entry, is_at};
 ghost use Rattle.std.specs.Ordering.{nat_cmp};
-ghost use Rattle.quic_assembler.specs.Arrived.{AreApart, runs_of, byte_at, with_gaps, with_free, is_next, is_some_part, first_given, left_front, in_front, joined, settled, is_crowded, waiting_bytes, waits};
+ghost use Rattle.quic_assembler.specs.Arrived.{AreApart, runs_of, byte_at, with_gaps, with_free, is_next, is_some_part, first_given, left_front, cuts, in_front, joined, settled, is_crowded, waiting_bytes, waits};
 ghost use Rattle.quic_sets.specs.Spans.{AreSpans};
-ghost use Rattle.quic_assembler.specs.PartSteps.{first_bytes, rest_of, front_of, cuts_front, span_of, is_held, held_at, gap_at, begins_at, Fits, touching_at, from_after, HasGap, HasFree, AreHere};
+ghost use Rattle.quic_assembler.specs.PartSteps.{first_bytes, rest_of, front_of, span_of, is_held, held_at, gap_at, begins_at, touching, Fits, touching_at, from_after, HasGap, HasFree, AreHere};
 ghost use Rattle.quic_sets.specs.Parts.{after, undone};
 
 use super::Chunk;
@@ -108,6 +108,28 @@ fn touches(parts: &BTreeMap<u64, Bytes>, at: u64, joins: bool) -> usize
 {
     let before = if parts.contains_key(&at) { 1 } else { 0 };
     if joins { before + 1 } else { before }
+}
+
+// Where no part ends behind an offset: how many parts end at it, one or none. The last part alone is
+// looked up.
+fn ends_at_last(parts: &BTreeMap<u64, Bytes>, at: u64) -> Option<usize>
+    requires { AreApart 0 parts.now.entries }
+    ensures behind { IfSome result (λ n. after at parts.now.entries ≡ None) }
+    ensures touching { IfSome result (λ n. n ≡ cond (is_some (lookup (is_at (nat_cmp at)) parts.now.entries)) 1 0) }
+{
+    match parts.last_key_value() {
+        Some((end, _)) => {
+            let end = *end;
+            if at < end {
+                None
+            } else if at == end {
+                Some(1)
+            } else {
+                Some(0)
+            }
+        }
+        None => Some(0),
+    }
 }
 
 // Where the run ends that goes on at an offset.
@@ -279,21 +301,20 @@ impl Parts {
         starts_at(&self.map, at)
     }
 
-    // Puts a part into a gap.
-    fn fill_gap(&mut self, at: u64, bytes: &[u8], joins: bool) -> Result<(), AllocError>
+    // Puts a part into a gap, where `touched` parts touch it.
+    fn fill_gap(&mut self, at: u64, bytes: &[u8], touched: usize) -> Result<(), AllocError>
         requires some { 0 < length bytes.now }
         requires small { at + length bytes.now < 2 ^ 62 }
         requires fits { Fits (at + length bytes.now) (after at self.old) }
-        requires joins { joins ≡ begins_at (at + length bytes.now) (after at self.old) }
+        requires touched { touched ≡ touching self.old at (at + length bytes.now) }
         ensures apart { AreApart 0 self.new }
         ensures ok { OnOk result (self.new ≡ insert_entry nat_cmp self.old (at + length bytes.now) bytes.now) }
         ensures err { OnErr result (self.new ≡ self.old) }
     {
         let end = at + bytes.len() as u64;
-        let touching = touches(&self.map, at, joins);
         let part = Bytes::copy_from_slice(self.alloc, bytes)?;
         keep(&mut self.map, end, part)?;
-        self.runs = self.runs + 1 - touching;
+        self.runs = self.runs + 1 - touched;
         self.bytes += bytes.len() as u64;
         Ok(())
     }
@@ -314,7 +335,8 @@ impl Parts {
         let len = count as usize;
         if !held {
             ends.push(at + count)?;
-            self.fill_gap(at, &bytes[..len], joins)?;
+            let touched = touches(&self.map, at, joins);
+            self.fill_gap(at, &bytes[..len], touched)?;
         }
         Ok(len)
     }
@@ -502,14 +524,9 @@ impl Parts {
         self.settle()
     }
 
-    /// Puts in the bytes of a frame that were not given and do not wait yet, each gap as one more
-    /// part. Parts that touch are joined where there are too many and they are short. What is known
-    /// to have arrived, as it waits or was given, is skipped a run at a time.
-    ///
-    /// # Errors
-    ///
-    /// [`AllocError`] where memory lacks; nothing changed.
-    pub(crate) fn insert(
+    // Fills the gaps of a frame, wherever they are, and takes the new parts out again where memory
+    // lacks.
+    fn fill_or_undo(
         &mut self,
         given: &BTreeMap<u64, u64>,
         arrived: &OffsetSet,
@@ -533,6 +550,83 @@ impl Parts {
         outcome
     }
 
+    // Where none were given and a frame has bytes behind all parts: how many parts end where it
+    // begins.
+    fn last_touched(&self, given: &BTreeMap<u64, u64>, at: u64, bytes: &[u8]) -> Option<usize>
+        ensures given { IfSome result (λ n. given.now.entries ≡ []) }
+        ensures some { IfSome result (λ n. 0 < length bytes.now) }
+        ensures behind { IfSome result (λ n. after at self.now ≡ None) }
+        ensures dry { IfSome result (λ n. byte_at self.now at ≡ None) }
+        ensures touched { IfSome result (λ n. n ≡ touching self.now at (at + length bytes.now)) }
+    {
+        if bytes.is_empty() || !given.is_empty() {
+            None
+        } else {
+            ends_at_last(&self.map, at)
+        }
+    }
+
+    // Takes out the part that ends at `end`, so that `runs` runs and `bytes` bytes are left.
+    fn take_out(&mut self, end: u64, runs: usize, bytes: u64)
+        requires apart { AreApart 0 (remove_entry (is_at (nat_cmp end)) self.old) }
+        requires counted { runs ≡ runs_of (remove_entry (is_at (nat_cmp end)) self.old) }
+        requires bytes { bytes ≡ waiting_bytes (remove_entry (is_at (nat_cmp end)) self.old) }
+        ensures { self.new ≡ remove_entry (is_at (nat_cmp end)) self.old }
+    {
+        remove(&mut self.map, end);
+        self.runs = runs;
+        self.bytes = bytes;
+    }
+
+    // Puts bytes behind all parts as one more, where `touched` parts end at the first of them. No
+    // other part is looked up.
+    fn append(&mut self, at: u64, bytes: &[u8], touched: usize) -> Result<(), AllocError>
+        requires some { 0 < length bytes.now }
+        requires small { at + length bytes.now < 2 ^ 62 }
+        requires behind { after at self.old ≡ None }
+        requires touched { touched ≡ touching self.old at (at + length bytes.now) }
+        ensures ok { OnOk result (self.new ≡ settled (with_gaps self.old at bytes.now)) }
+        ensures err { OnErr result (self.new ≡ self.old) }
+    {
+        let runs = self.runs();
+        let waiting = self.waiting();
+        self.fill_gap(at, bytes, touched)?;
+        let outcome = self.settle();
+        if outcome.is_err() {
+            self.take_out(at + bytes.len() as u64, runs, waiting);
+        }
+        outcome
+    }
+
+    /// Puts in the bytes of a frame that were not given and do not wait yet, each gap as one more
+    /// part. Parts that touch are joined where there are too many and they are short. What is known
+    /// to have arrived, as it waits or was given, is skipped a run at a time. Where none were given
+    /// and all parts end before the frame, as they do where it comes in order, only the last part
+    /// is looked up.
+    ///
+    /// # Errors
+    ///
+    /// [`AllocError`] where memory lacks; nothing changed.
+    pub(crate) fn insert(
+        &mut self,
+        given: &BTreeMap<u64, u64>,
+        arrived: &OffsetSet,
+        at: u64,
+        bytes: &[u8],
+    ) -> Result<(), AllocError>
+        requires spans { AreSpans 0 given.now.entries }
+        requires small { at + length bytes.now < 2 ^ 62 }
+        requires here { AreHere given.now.entries self.old arrived.now at (length bytes.now) }
+        ensures ok { OnOk result (self.new ≡ settled (with_free given.now.entries self.old at bytes.now)) }
+        ensures err { OnErr result (self.new ≡ self.old) }
+        ensures lacking { OnErr result (HasFree given.now.entries self.old at (length bytes.now) ⊎ (is_crowded self.old ≡ true)) }
+    {
+        match self.last_touched(given, at, bytes) {
+            Some(touched) => self.append(at, bytes, touched),
+            None => self.fill_or_undo(given, arrived, at, bytes),
+        }
+    }
+
     // Takes out the first part.
     fn pop(&mut self) -> Option<Bytes>
         ensures part { result ≡ first_bytes self.old }
@@ -546,21 +640,25 @@ impl Parts {
         Some(bytes)
     }
 
-    /// Takes out the first bytes of the first part, at most `max` of them, without a copy.
+    /// Takes out the first bytes of the first part, at most `max` of them, without a copy, where it
+    /// begins at an offset.
     ///
     /// # Errors
     ///
     /// [`AllocError`] where the part is cut and memory lacks; nothing changed.
-    pub(crate) fn take_front(&mut self, max: usize) -> Result<Option<Bytes>, AllocError>
-        ensures ok { IfOk result (λ bytes. bytes ≡ front_of self.old max) }
-        ensures new { OnOk result (self.new ≡ left_front self.old max) }
+    pub(crate) fn take_front(&mut self, at: u64, max: usize) -> Result<Option<Bytes>, AllocError>
+        ensures ok { IfOk result (λ bytes. bytes ≡ cond (is_next self.old at) (front_of self.old max) None) }
+        ensures new { OnOk result (self.new ≡ cond (is_next self.old at) (left_front self.old max) self.old) }
         ensures err { OnErr result (self.new ≡ self.old) }
-        ensures whole { cuts_front self.old max ≡ false → IsOk result }
+        ensures whole { cuts self.old at max ≡ false → IsOk result }
     {
         let Some((end, bytes)) = self.map.first_key_value() else {
             return Ok(None);
         };
         let (end, len) = (*end, bytes.len());
+        if end.saturating_sub(len as u64) != at {
+            return Ok(None);
+        }
         if len <= max {
             return Ok(self.pop());
         }
@@ -614,7 +712,7 @@ impl Parts {
     pub(crate) fn is_some(&self) -> bool
         ensures { result ≡ is_some_part self.now }
     {
-        self.map.first_key_value().is_some()
+        !self.map.is_empty()
     }
 
     /// Drops the parts.

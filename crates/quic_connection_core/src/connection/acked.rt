@@ -391,6 +391,7 @@ impl<H: HeaderKey + Drop, K: PacketKey + Drop, R: Rng + Drop, C: Controller> Con
         ensures { self.new ≡ telling C.steps self.old (told_lost by_ack self.old.end.closing.clock losses.now) self.old.end }
     {
         if losses.flew {
+            self.count_congestion();
             let now = self.closing.clock();
             let persistent = by_ack && losses.persistent.is_persistent();
             tell_congested(

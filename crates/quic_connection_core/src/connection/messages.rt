@@ -16,6 +16,7 @@ use crate::connection::sending::CURRENT_MTU;
 use quic_congestion::Controller;
 use quic_messages::{DatagramLimits, DatagramState, Datagrams, ReceivedError, max_size};
 use quic_packet::crypto::{HeaderKey, PacketKey, TAG_LEN};
+use quic_stats::FrameStats;
 use quic_wire::frame::{Frame, put_frame};
 use quic_wire_core::Reason;
 use rand_core::Rng;
@@ -118,6 +119,7 @@ impl<H, K, R, C: Controller> Connection<H, K, R, C> {
 /// room.
 pub(crate) fn put_messages(
     datagrams: &mut DatagramState,
+    stats: &mut FrameStats,
     body: usize,
     most: usize,
     out: &mut Vec<u8>,
@@ -135,6 +137,7 @@ pub(crate) fn put_messages(
 {
     while let Some(message) = datagrams.next_frame(body + most - out.len()) {
         put_message(out, &message);
+        stats.datagram = stats.datagram.saturating_add(1);
     }
 }
 

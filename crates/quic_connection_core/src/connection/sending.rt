@@ -32,6 +32,7 @@ ghost use Rattle.quic_connection_core.specs.Flying.{is_flying, flight_left_any, 
 use crate::connection::Connection;
 use crate::connection::acked::leave_flight;
 use crate::connection::messages::put_messages;
+use crate::connection::statistics::{count_frames, count_streams};
 use crate::connection::telling::tell_sent;
 use quic_congestion::Controller;
 use quic_machine::{Failed, Instant, LostReason, State, Timer, Transmit};
@@ -42,6 +43,7 @@ use quic_paths::PathData;
 use quic_retransmits::{Retransmits, ThinRetransmits};
 use quic_send_buffer::StreamMeta;
 use quic_sent_packets::SentPacket;
+use quic_stats::FrameStats;
 use quic_streams_handles::EndStreams;
 use quic_time::Duration;
 use quic_wire::frame::{Ack, Frame, Stream, put_frame};
@@ -472,7 +474,6 @@ impl<H: HeaderKey + Drop, K: PacketKey + Drop, R: Rng + Drop, C: Controller> Con
         let width = self.put_header(out);
         let body = out.len();
         let sent = self.put_leave(held, out)?;
-        self.count_frames(&out[body..]);
         pad(out, width, body);
         Ok(sent)
     }
@@ -589,6 +590,7 @@ impl<H: HeaderKey + Drop, K: PacketKey + Drop, R: Rng + Drop, C: Controller> Con
         let largest = self.space.acknowledging.largest();
         self.space.acknowledging.put(self.closing.clock(), out);
         self.timers.stop(Timer::MaxAckDelay);
+        self.count_ack();
         largest
     }
 
@@ -632,6 +634,7 @@ impl<H: HeaderKey + Drop, K: PacketKey + Drop, R: Rng + Drop, C: Controller> Con
     {
         if self.take_ping() {
             put_ping(out);
+            self.count_ping();
         }
     }
 
@@ -657,6 +660,7 @@ impl<H: HeaderKey + Drop, K: PacketKey + Drop, R: Rng + Drop, C: Controller> Con
         put_content(
             &mut self.streams,
             &mut self.datagrams,
+            &mut self.stats.frame_tx,
             fair,
             self.alloc,
             body,
@@ -785,6 +789,7 @@ fn leave_forgotten<C>(path: &mut PathData<C>, forgotten: &Option<SentPacket>)
 fn put_content(
     streams: &mut EndStreams,
     datagrams: &mut DatagramState,
+    stats: &mut FrameStats,
     fair: bool,
     alloc: Global,
     body: usize,
@@ -804,12 +809,13 @@ fn put_content(
     ensures carried { IfOk result (λ carried. carried ≡ carried_in (content fair most (vec_len out.old - body) streams.old.state streams.old.pending datagrams.old.outgoing).frames) }
     ensures front { take (vec_len out.old) out.new.items ≡ out.old.items }
 {
-    let retransmits = put_control_frames(streams, alloc, body, most, out)?;
-    put_messages(datagrams, body, most, out);
+    let retransmits = put_control_frames(streams, stats, alloc, body, most, out)?;
+    put_messages(datagrams, stats, body, most, out);
     let mut stream_frames = Vec::new(alloc);
     streams
         .state
         .write_stream_frames(out, body + most, fair, &mut stream_frames)?;
+    count_streams(stats, stream_frames.len());
     Ok(Carried {
         largest_acked: None,
         stream_frames,
@@ -822,6 +828,7 @@ fn put_content(
 /// again if the datagram is lost. An error is want of memory; the streams are of no more use then.
 fn put_control_frames(
     streams: &mut EndStreams,
+    stats: &mut FrameStats,
     alloc: Global,
     body: usize,
     most: usize,
@@ -847,6 +854,7 @@ fn put_control_frames(
     if out.len() == before {
         return Ok(ThinRetransmits::new());
     }
+    count_frames(stats, &out[before..]);
     ThinRetransmits::of(alloc, sent)
 }
 

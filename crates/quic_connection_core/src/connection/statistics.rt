@@ -4,7 +4,7 @@ ghost use Rattle.quic_time.specs.Rtt.{best_rtt};
 
 use crate::connection::Connection;
 use quic_congestion::Controller;
-use quic_stats::ConnectionStats;
+use quic_stats::{ConnectionStats, FrameStats};
 use quic_wire::frame::Iter;
 
 impl<H, K, R, C: Controller> Connection<H, K, R, C> {
@@ -24,15 +24,20 @@ impl<H, K, R, C: Controller> Connection<H, K, R, C> {
         stats
     }
 
-    /// The frames of a payload go.
-    pub(crate) fn count_frames(&mut self, payload: &[u8])
+    /// An ACK frame goes.
+    pub(crate) fn count_ack(&mut self)
         ensures { self.new ≡ self.old }
     {
-        for item in Iter::new(payload) {
-            if let Ok(frame) = item {
-                self.stats.frame_tx.record(&frame);
-            }
-        }
+        let frames = &mut self.stats.frame_tx;
+        frames.acks = frames.acks.saturating_add(1);
+    }
+
+    /// A PING frame goes.
+    pub(crate) fn count_ping(&mut self)
+        ensures { self.new ≡ self.old }
+    {
+        let frames = &mut self.stats.frame_tx;
+        frames.ping = frames.ping.saturating_add(1);
     }
 
     /// A packet of so many bytes goes.
@@ -51,4 +56,26 @@ impl<H, K, R, C: Controller> Connection<H, K, R, C> {
         path.lost_packets = path.lost_packets.saturating_add(1);
         path.lost_bytes = path.lost_bytes.saturating_add(u64::from(size));
     }
+
+    /// The congestion controller is told of congestion.
+    pub(crate) fn count_congestion(&mut self)
+        ensures { self.new ≡ self.old }
+    {
+        let path = &mut self.stats.path;
+        path.congestion_events = path.congestion_events.saturating_add(1);
+    }
+}
+
+/// The frames in these bytes go: those of control, of which there are few.
+pub(crate) fn count_frames(stats: &mut FrameStats, bytes: &[u8]) {
+    for item in Iter::new(bytes) {
+        if let Ok(frame) = item {
+            stats.record(&frame);
+        }
+    }
+}
+
+/// So many STREAM frames go.
+pub(crate) fn count_streams(stats: &mut FrameStats, frames: usize) {
+    stats.stream = stats.stream.saturating_add(frames as u64);
 }

@@ -1,16 +1,12 @@
 -- The bytes that are kept of a stream, by the pieces that they stand in.
 use Rattle.std.proofs.Common.{◌≡◌, ℕ, ◌+◌, ◌-◌, ◌<◌, ◌≤◌, ◌++◌, ltb, leb, cond, length, take, drop, List, [], ◌∷◌, Bool, true, false, Some, None, min, length-take, length-drop, refl, sym, ap, ◌∙◌, subst, arith, length-append, inl, inr, ◌==◌}
 use Rattle.std.specs.Prelude.{slice_range}
-use Rattle.std.specs.Ordering.{nat_cmp}
-use Rattle.std.specs.Cmp.{nat_cmp_is}
-use Rattle.std.specs.declared.cmp.Ordering.TheVariants.{Greater}
-use Rattle.std.specs.BTreeMap.{insert_entry}
 use Rattle.std.proofs.lemmas.Bool.{cases_lt, cases_Bool, le-leb, lt-leb, lt-ltb, le-ltb, ltb-true, ltb-false, eqb-true}
 use Rattle.std.proofs.lemmas.List.{append_assoc, append-nil}
 use Rattle.std.proofs.Math.Seq.{drop-append-add}
 use Rattle.quic_sets.specs.Parts.{Part, start, after, bytes_of}
 use Rattle.quic_send_buffer.specs.Buffered.{passed, pieces_behind, piece_of, piece_end}
-use Rattle.quic_send_buffer.specs.KeptBytes.{KeptBytes, AreInTurn, lengths_of, with_piece, released_to, behind, base_behind, EndBy}
+use Rattle.quic_send_buffer.specs.KeptBytes.{KeptBytes, AreInTurn, lengths_of, with_piece, released_to, behind, base_behind}
 use Rattle.quic_send_buffer.proofs.Kept.Ranges.{within_first, within_second}
 
 -- pieces as they are seen
@@ -28,18 +24,6 @@ end_is at end (p ∷ ps) h =
     omega (arith, rest, len, here)
 
 -- ---- one more piece
-
--- pieces in turn up to an offset
-pub turn_end_by : (at end : ℕ) (ps : List Part) → AreInTurn at ps end → EndBy end ps
-turn_end_by at end [] h = tt
-turn_end_by at end (p ∷ ps) h = (let last = end_is p.0 end ps h.2 in omega (arith, last), turn_end_by p.0 end ps h.2)
-
-pub put_behind : (end : ℕ) (ps : List Part) (bytes : List ℕ) → EndBy end ps → 0 < length bytes → insert_entry nat_cmp ps (end + length bytes) bytes ≡ ps ++ ((end + length bytes, bytes) ∷ [])
-put_behind end [] bytes h some = refl
-put_behind end (p ∷ ps) bytes h some =
-    let below = h.0 in
-    let c : nat_cmp (end + length bytes) p.0 ≡ Greater = sym (nat_cmp_is (end + length bytes) p.0 Greater (omega (arith, below, some))) in
-    rw c (ap (λ (qs : List Part). p ∷ qs) (put_behind end ps bytes h.1 some))
 
 pub more_in_turn : (at end : ℕ) (ps : List Part) (bytes : List ℕ) → AreInTurn at ps end → 0 < length bytes → AreInTurn at (ps ++ ((end + length bytes, bytes) ∷ [])) (end + length bytes)
 more_in_turn at end [] bytes h some = (omega (arith, h), some, refl)
@@ -59,14 +43,13 @@ one_piece n some = elim (cases_Bool (n == 0)) [
   | inr isnt ↦ rw isnt refl
 ]
 
-pub push_turn : (at end next : ℕ) (ps ns : List Part) (bytes : List ℕ) → AreInTurn at ps end → 0 < length bytes → next ≡ end + length bytes → ns ≡ insert_entry nat_cmp ps next bytes → AreInTurn at ns next
-push_turn at end next ps ns bytes h some e f =
-    subst (λ (n : ℕ). ns ≡ insert_entry nat_cmp ps n bytes → AreInTurn at ns n) (sym e) (λ g. rw (g ∙ put_behind end ps bytes (turn_end_by at end ps h) some) (more_in_turn at end ps bytes h some)) f
+pub push_turn : (at end next : ℕ) (ps ns : List Part) (bytes : List ℕ) → AreInTurn at ps end → 0 < length bytes → next ≡ end + length bytes → ns ≡ ps ++ ((next, bytes) ∷ []) → AreInTurn at ns next
+push_turn at end next ps ns bytes h some e f = rw (f, e) (more_in_turn at end ps bytes h some)
 
-pub push_seen : (at end next : ℕ) (ps ns : List Part) (bytes : List ℕ) → AreInTurn at ps end → 0 < length bytes → next ≡ end + length bytes → ns ≡ insert_entry nat_cmp ps next bytes → seen_from at ns ≡ with_piece bytes (seen_from at ps)
-push_seen at end next ps ns bytes h some e f =
-    let q : Part = (end + length bytes, bytes) in
-    ap (λ (qs : List Part). seen_from at qs) (f ∙ ap (λ (n : ℕ). insert_entry nat_cmp ps n bytes) e ∙ put_behind end ps bytes (turn_end_by at end ps h) some)
+pub push_seen : (at next : ℕ) (ps ns : List Part) (bytes : List ℕ) → 0 < length bytes → ns ≡ ps ++ ((next, bytes) ∷ []) → seen_from at ns ≡ with_piece bytes (seen_from at ps)
+push_seen at next ps ns bytes some f =
+    let q : Part = (next, bytes) in
+    ap (λ (qs : List Part). seen_from at qs) f
     ∙ ap (λ (bs : List ℕ). let x : KeptBytes = record { base = at; bytes = bs; lengths = lengths_of (ps ++ (q ∷ [])) } in x) (more_bytes ps q)
     ∙ ap (λ (ls : List ℕ). let x : KeptBytes = record { base = at; bytes = bytes_of ps ++ bytes; lengths = ls } in x) (more_lengths ps q ∙ ap (λ (ls : List ℕ). lengths_of ps ++ ls) (one_piece (length bytes) some))
 

@@ -1,45 +1,12 @@
 -- Several pieces that are put behind those that are kept, and taken off again.
-use Rattle.std.proofs.Common.{◌≡◌, ℕ, zero, suc, ◌+◌, ◌-◌, ◌<◌, ◌≤◌, ◌++◌, ◌==◌, leb, length, take, List, [], ◌∷◌, Result, Ok, Err, false, min, refl, sym, ap, ◌∙◌, subst, arith, length-take, append_assoc, inl, inr, ◌⊎◌}
-use Rattle.std.specs.Ordering.{nat_cmp, is_lt}
-use Rattle.std.specs.Prelude.{OnOk}
-use Rattle.std.specs.List.{All}
-use Rattle.std.specs.BTreeMap.{insert_entry}
-use Rattle.std.proofs.lemmas.Bool.{cases_Bool, le-leb, lt-leb, eqb-true}
-use Rattle.std.proofs.lemmas.List.{append-nil, take_min}
-use Rattle.std.proofs.lemmas.List.Elements.{All-head, All-tail, filter-append}
-use Rattle.std.proofs.lemmas.Map.Keys.{ge_from_not_lt}
-use Rattle.std.specs.Map.{keys_of}
+use Rattle.std.proofs.Common.{◌≡◌, ℕ, zero, suc, ◌+◌, ◌-◌, ◌<◌, ◌≤◌, ◌++◌, ◌==◌, length, take, List, [], ◌∷◌, false, min, refl, sym, ap, ◌∙◌, subst, arith, length-take, append_assoc, inl, inr, ◌⊎◌}
+use Rattle.std.proofs.lemmas.Bool.{cases_Bool, eqb-true}
+use Rattle.std.proofs.lemmas.List.{append-nil, take_min, take-append-le}
 use Rattle.std.proofs.lemmas.List.Sums.{sum_by-cons}
 use Rattle.quic_sets.specs.Parts.{Part}
 use Rattle.quic_send_buffer.specs.Source.{bytes_of, cut_to}
-use Rattle.quic_send_buffer.specs.KeptBytes.{KeptBytes, AreInTurn, with_piece, with_each, parts_from, EndBy, ending_by}
-use Rattle.quic_send_buffer.proofs.Kept.Pieces.{seen_from, more_in_turn, push_seen, put_behind, turn_end_by}
-
--- ---- pieces that end up to an offset
-
-pub end_by_more : (o at : ℕ) (ps : List Part) → EndBy o ps → o ≤ at → EndBy at ps
-end_by_more o at [] h le = tt
-end_by_more o at (p ∷ ps) h le = (omega (arith, h.0, le), end_by_more o at ps h.1 le)
-
-pub end_by_append : (o : ℕ) (ps qs : List Part) → EndBy o ps → EndBy o qs → EndBy o (ps ++ qs)
-end_by_append o [] qs h k = k
-end_by_append o (p ∷ ps) qs h k = (h.0, end_by_append o ps qs h.1 k)
-
--- all of them stay
-pub all_end_by : (o : ℕ) (ps : List Part) → EndBy o ps → ending_by o ps ≡ ps
-all_end_by o [] h = refl
-all_end_by o (p ∷ ps) h = rw (le-leb p.0 o h.0) (ap (λ (qs : List Part). p ∷ qs) (all_end_by o ps h.1))
-
--- the last of a map's pieces ends up to the offset
-pub none_behind : (o last : ℕ) (ps : List Part) → All (λ (q : ℕ). is_lt (nat_cmp last q) ≡ false) (keys_of ps) → last ≤ o → EndBy o ps
-none_behind o last [] h le = tt
-none_behind o last (p ∷ ps) h le =
-    let first = ge_from_not_lt last p.0 (All-head (λ (q : ℕ). is_lt (nat_cmp last q) ≡ false) p.0 (keys_of ps) h) in
-    (omega (arith, first, le), none_behind o last ps (All-tail (λ (q : ℕ). is_lt (nat_cmp last q) ≡ false) p.0 (keys_of ps) h) le)
-
--- a last one behind the offset goes
-pub last_goes : (o : ℕ) (ps : List Part) (p : Part) → o < p.0 → ending_by o (ps ++ (p ∷ [])) ≡ ending_by o ps
-last_goes o ps p lt = filter-append (λ q. leb q.0 o) ps (p ∷ []) ∙ rw (lt-leb p.0 o lt) (append-nil (ending_by o ps))
+use Rattle.quic_send_buffer.specs.KeptBytes.{KeptBytes, AreInTurn, with_piece, with_each, parts_from}
+use Rattle.quic_send_buffer.proofs.Kept.Pieces.{seen_from, more_in_turn, push_seen}
 
 -- ---- what chunks make
 
@@ -67,22 +34,9 @@ first_part at c cs = elim (cases_Bool (length c == 0)) [
   | inr isnt ↦ rw isnt refl
 ]
 
--- one chunk's piece behind those up to an offset
-pub one_end_by : (at : ℕ) (c : List ℕ) → EndBy (at + length c) (parts_from at (c ∷ []))
-one_end_by at c = elim (one_part at c) [
-  | inl h ↦ rw h.1 tt
-  | inr h ↦ rw h.1 (omega arith, tt)
-]
-
-pub one_goes : (o at : ℕ) (ps : List Part) (c : List ℕ) → o ≤ at → ending_by o (ps ++ parts_from at (c ∷ [])) ≡ ending_by o ps
-one_goes o at ps c le = elim (one_part at c) [
-  | inl h ↦ rw h.1 (ap (λ (qs : List Part). ending_by o qs) (append-nil ps))
-  | inr h ↦ rw h.1 (last_goes o ps (at + length c, c) (let some = h.0 in omega (arith, some, le)))
-]
-
 -- ---- the pieces behind those in turn
 
--- one chunk's piece comes last in the map
+-- one chunk's piece comes last
 pub one_turn : (at end : ℕ) (ps : List Part) (c : List ℕ) → AreInTurn at ps end → AreInTurn at (ps ++ parts_from end (c ∷ [])) (end + length c)
 one_turn at end ps c h = elim (one_part end c) [
   | inl g ↦ rw g.1 (rw (append-nil ps) (let none = g.0 in let same : end ≡ end + length c = omega (arith, none) in subst (λ (n : ℕ). AreInTurn at ps n) same h))
@@ -96,7 +50,7 @@ no_piece (b ∷ bs) k h = cc
 one_seen : (at end : ℕ) (ps : List Part) (c : List ℕ) → AreInTurn at ps end → seen_from at (ps ++ parts_from end (c ∷ [])) ≡ with_piece c (seen_from at ps)
 one_seen at end ps c h = elim (one_part end c) [
   | inl g ↦ rw g.1 (ap (λ (qs : List Part). seen_from at qs) (append-nil ps) ∙ no_piece c (seen_from at ps) g.0)
-  | inr g ↦ rw g.1 (push_seen at end (end + length c) ps (ps ++ ((end + length c, c) ∷ [])) c h g.0 refl (sym (put_behind end ps c (turn_end_by at end ps h) g.0)))
+  | inr g ↦ rw g.1 (push_seen at (end + length c) ps (ps ++ ((end + length c, c) ∷ [])) c g.0 refl)
 ]
 
 pub each_turn : (at end : ℕ) (ps : List Part) (cs : List (List ℕ)) → AreInTurn at ps end → AreInTurn at (ps ++ parts_from end cs) (end + bytes_of cs)
@@ -140,26 +94,18 @@ one_count at left taken c cs e =
     let all = sum_by-cons (λ (x : List ℕ). length x) (take left c) (cut_to (left - length c) cs) in
     omega (arith, len, rest, all, e)
 
-pub one_by : (at taken : ℕ) (ps qs : List Part) (c : List ℕ) → taken ≤ length c → EndBy at ps → qs ≡ ps ++ parts_from at (take taken c ∷ []) → EndBy (at + taken) qs
-one_by at taken ps qs c le h put =
-    let len = length-take taken c in
-    let count : at + length (take taken c) ≡ at + taken = omega (arith, len, le) in
-    rw put (end_by_append (at + taken) ps (parts_from at (take taken c ∷ [])) (end_by_more at (at + taken) ps h (omega arith))
-    (subst (λ (n : ℕ). EndBy n (parts_from at (take taken c ∷ []))) count (one_end_by at (take taken c))))
+-- the first pieces stay, however many there are
+pub one_back : (n : ℕ) (ps qs ns : List Part) → n ≤ length ps → ns ≡ ps ++ qs → take n ns ≡ take n ps
+one_back n ps qs ns le put = ap (λ (xs : List Part). take n xs) put ∙ take-append-le n ps qs le
 
-pub one_back : (o at taken : ℕ) (ps qs : List Part) (c : List ℕ) → o ≤ at → qs ≡ ps ++ parts_from at (take taken c ∷ []) → ending_by o qs ≡ ending_by o ps
-one_back o at taken ps qs c le put = rw put (one_goes o at ps (take taken c) le)
-
--- the piece of one chunk, put into the map or not
-pub front_put : {T E : Type 0} (r : Result T E) (ps ns : List Part) (end len : ℕ) (chunk piece : List ℕ) → EndBy end ps → len ≤ length chunk → 0 < len → piece ≡ take len chunk
-    → OnOk r (ns ≡ insert_entry nat_cmp ps (end + len) piece) → OnOk r (ns ≡ ps ++ parts_from end (take len chunk ∷ []))
-front_put (Ok x) ps ns end len chunk piece h le some e put =
+-- the piece of one chunk, put behind the others
+pub front_put : (ps ns : List Part) (end len : ℕ) (chunk piece : List ℕ) → len ≤ length chunk → 0 < len → piece ≡ take len chunk → ns ≡ ps ++ ((end + len, piece) ∷ []) → ns ≡ ps ++ parts_from end (take len chunk ∷ [])
+front_put ps ns end len chunk piece le some e put =
     let count = length-take len chunk in
     let same : end + len ≡ end + length (take len chunk) = omega (arith, count, le) in
     let filled : 0 < length (take len chunk) = omega (arith, count, le, some) in
-    put ∙ ap (λ (n : ℕ). insert_entry nat_cmp ps n piece) same ∙ ap (λ (bs : List ℕ). insert_entry nat_cmp ps (end + length (take len chunk)) bs) e
-    ∙ put_behind end ps (take len chunk) h filled ∙ ap (λ (qs : List Part). ps ++ qs) (sym (part_is end (take len chunk) filled))
-front_put (Err x) ps ns end len chunk piece h le some e put = tt
+    put ∙ ap (λ (n : ℕ). ps ++ ((n, piece) ∷ [])) same ∙ ap (λ (bs : List ℕ). ps ++ ((end + length (take len chunk), bs) ∷ [])) e
+    ∙ ap (λ (qs : List Part). ps ++ qs) (sym (part_is end (take len chunk) filled))
 
 -- ---- as the pieces are seen
 

@@ -1,21 +1,24 @@
 // The bytes of a stream that are kept, in the pieces that they were written in.
-ghost use Rattle.std.specs.Prelude.{◌≡◌, ◌+◌, ◌-◌, ◌<◌, ◌≤◌, ◌^◌, List, [], ◌∷◌, ◌++◌, length, take, min, slice_range, true, false, IfOk, OnOk, OnErr};
-ghost use Rattle.quic_sets.specs.Parts.{Part};
+ghost use Rattle.std.specs.Prelude.{◌≡◌, ◌+◌, ◌-◌, ◌<◌, ◌≤◌, ◌^◌, [], ◌∷◌, ◌++◌, length, take, min, slice_range, leb, IfOk, OnOk, OnErr};
+ghost use Rattle.std.specs.Option.{option_map};
+ghost use Rattle.std.specs.List.Sorted.{IsPartitionedBy};
+ghost use Rattle.quic_sets.specs.Parts.{after};
 ghost use Rattle.quic_send_buffer.specs.Buffered.{piece_end};
 ghost use Rattle.quic_send_buffer.specs.Source.{bytes_of, cut_to};
-ghost use Rattle.quic_send_buffer.specs.KeptBytes.{with_piece, with_each, released_to, first_end, behind, base_behind, parts_from, EndBy, ending_by};
+ghost use Rattle.quic_send_buffer.specs.KeptBytes.{with_piece, with_each, released_to, first_end, behind, base_behind, parts_from};
 
 use bytes::Bytes;
-use quic_sets::by_end::{keep, next_part};
 use std::alloc::{AllocError, Global};
-use std::collections::BTreeMap;
+use std::collections::VecDeque;
 use std::marker::Model;
 use std::ops::Range;
 
 /// Bytes of a stream from one offset up to another, in pieces. No byte is moved while it is kept.
 #[derive(Drop)]
 pub(crate) struct Pieces {
-    map: BTreeMap<u64, Bytes>,
+    // Each piece with the offset behind it. A queue, as pieces come behind the last and go in front
+    // alone, which costs little there; since the offsets rise, halving finds one by its offset.
+    queue: VecDeque<(u64, Bytes)>,
     // The offset of the first byte, and the one behind the last.
     base: u64,
     end: u64,
@@ -29,96 +32,93 @@ impl Model for Pieces {
 
     ghost Value = { KeptBytes };
 
-    ghost view = { λ p. record { base = p.base; bytes = bytes_of p.map.entries; lengths = lengths_of p.map.entries } };
+    ghost view = { λ p. record { base = p.base; bytes = bytes_of p.queue.items; lengths = lengths_of p.queue.items } };
 
-    ghost invariant = { λ p. AreInTurn p.base p.map.entries p.end × (p.end < 2 ^ 62) };
+    ghost invariant = { λ p. AreInTurn p.base p.queue.items p.end × (p.end < 2 ^ 62) };
 }
 
 // Where the first piece ends, if it ends up to an offset.
-fn first_end(pieces: &BTreeMap<u64, Bytes>, up_to: u64) -> Option<u64>
-    ensures { result ≡ first_end up_to pieces.now.entries }
+fn first_end(pieces: &VecDeque<(u64, Bytes)>, up_to: u64) -> Option<u64>
+    ensures { result ≡ first_end up_to pieces.now.items }
 {
-    let (end, _) = pieces.first_key_value()?;
+    let (end, _) = pieces.front()?;
     if *end <= up_to { Some(*end) } else { None }
+}
+
+// The first piece that ends behind an offset. It often is the first of all; else halving finds it.
+fn next_piece(pieces: &VecDeque<(u64, Bytes)>, at: u64) -> Option<(u64, &Bytes)>
+    requires { IsPartitionedBy (λ p. leb p.0 at) pieces.now.items }
+    ensures { option_map (λ p. (p.0, p.1.now)) result ≡ after at pieces.now.items }
+{
+    let (first_end, first) = pieces.front()?;
+    if *first_end > at {
+        return Some((*first_end, first));
+    }
+    let index = pieces.partition_point(
+        |p: &(u64, Bytes)| -> bool
+            ensures { result ≡ leb p.now.0 at }
+        { p.0 <= at },
+    );
+    let (end, piece) = pieces.get(index)?;
+    Some((*end, piece))
 }
 
 // Takes off the first pieces that end up to an offset, and says where the others begin, if the
 // first begins at `base`.
-fn drop_up_to(pieces: &mut BTreeMap<u64, Bytes>, base: u64, up_to: u64) -> u64
-    ensures base { result ≡ base_behind up_to base pieces.old.entries }
-    ensures rest { pieces.new.entries ≡ behind up_to pieces.old.entries }
+fn drop_up_to(pieces: &mut VecDeque<(u64, Bytes)>, base: u64, up_to: u64) -> u64
+    ensures base { result ≡ base_behind up_to base pieces.old.items }
+    ensures rest { pieces.new.items ≡ behind up_to pieces.old.items }
 {
     let mut start = base;
     while let Some(end) = first_end(pieces, up_to) {
-        let _ = pieces.pop_first();
+        let _ = pieces.pop_front();
         start = end;
     }
     start
 }
 
-// Puts the first bytes of a chunk, if there are any, behind pieces that end up to `end`. An `Err`
-// changes nothing.
+// Puts the first bytes of a chunk, if there are any, behind pieces, from the offset `end` on. An
+// `Err` changes nothing.
 fn put_front(
-    pieces: &mut BTreeMap<u64, Bytes>,
+    pieces: &mut VecDeque<(u64, Bytes)>,
     end: u64,
     chunk: &Bytes,
     len: usize,
 ) -> Result<(), AllocError>
-    requires turn { EndBy end pieces.old.entries }
     requires within { len ≤ length chunk.now }
     requires small { end + len < 2 ^ 62 }
-    ensures ok { OnOk result (pieces.new.entries ≡ pieces.old.entries ++ parts_from end (take len chunk.now ∷ [])) }
-    ensures err { OnErr result (pieces.new.entries ≡ pieces.old.entries) }
+    ensures ok { OnOk result (pieces.new.items ≡ pieces.old.items ++ parts_from end (take len chunk.now ∷ [])) }
+    ensures err { OnErr result (pieces.new.items ≡ pieces.old.items) }
     ensures lacking { OnErr result (0 < len) }
 {
     if len == 0 {
         return Ok(());
     }
     let piece = chunk.slice(..len)?;
-    keep(pieces, end + len as u64, piece)
+    pieces.push_back((end + len as u64, piece))?;
+    Ok(())
 }
 
-// Whether the last piece ends behind an offset.
-fn ends_behind(pieces: &BTreeMap<u64, Bytes>, up_to: u64) -> bool
-    ensures some { result ≡ true → 0 < length pieces.now.entries }
-    ensures last { result ≡ true → (ps : List Part) (p : Part) → pieces.now.entries ≡ ps ++ p ∷ [] → up_to < p.0 }
-    ensures none { result ≡ false → EndBy up_to pieces.now.entries }
-{
-    match pieces.last_key_value() {
-        Some((end, _)) => *end > up_to,
-        None => false,
-    }
-}
-
-// Takes off the pieces that end behind an offset.
-fn drop_behind(pieces: &mut BTreeMap<u64, Bytes>, up_to: u64)
-    ensures { pieces.new.entries ≡ ending_by up_to pieces.old.entries }
-{
-    while ends_behind(pieces, up_to) {
-        let _ = pieces.pop_last();
-    }
-}
-
-// Puts the first `len` bytes of chunks behind pieces that end up to `end`, each chunk as a piece,
-// and says where the last ends then. An `Err` changes nothing.
+// Puts the first `len` bytes of chunks behind pieces, from the offset `end` on, each chunk as a
+// piece, and says where the last ends then. An `Err` changes nothing.
 fn put_each(
-    pieces: &mut BTreeMap<u64, Bytes>,
+    pieces: &mut VecDeque<(u64, Bytes)>,
     end: u64,
     chunks: &[Bytes],
     len: usize,
 ) -> Result<u64, AllocError>
-    requires turn { EndBy end pieces.old.entries }
     requires small { end + len < 2 ^ 62 }
     ensures end { IfOk result (λ last. last ≡ end + bytes_of (cut_to len chunks.now)) }
-    ensures ok { OnOk result (pieces.new.entries ≡ pieces.old.entries ++ parts_from end (cut_to len chunks.now)) }
-    ensures err { OnErr result (pieces.new.entries ≡ pieces.old.entries) }
+    ensures ok { OnOk result (pieces.new.items ≡ pieces.old.items ++ parts_from end (cut_to len chunks.now)) }
+    ensures err { OnErr result (pieces.new.items ≡ pieces.old.items) }
     ensures lacking { OnErr result (0 < len) }
 {
+    let kept = pieces.len();
     let (mut rest, mut at, mut left) = (chunks, end, len);
     while let Some((chunk, others)) = rest.split_first() {
         let taken = left.min(chunk.len());
         if put_front(pieces, at, chunk, taken).is_err() {
-            drop_behind(pieces, end);
+            pieces.truncate(kept);
             return Err(AllocError);
         }
         at += taken as u64;
@@ -134,7 +134,7 @@ impl Pieces {
         ensures { result ≡ record { base = 0; bytes = []; lengths = [] } }
     {
         Pieces {
-            map: BTreeMap::new(alloc),
+            queue: VecDeque::new(alloc),
             base: 0,
             end: 0,
             alloc,
@@ -172,7 +172,7 @@ impl Pieces {
         }
         let end = self.end() + bytes.len() as u64;
         let piece = Bytes::copy_from_slice(self.alloc, bytes)?;
-        keep(&mut self.map, end, piece)?;
+        self.queue.push_back((end, piece))?;
         self.end = end;
         Ok(())
     }
@@ -189,7 +189,7 @@ impl Pieces {
         ensures err { OnErr result (self.new ≡ self.old) }
         ensures lacking { OnErr result (0 < len) }
     {
-        self.end = put_each(&mut self.map, self.end, chunks, len)?;
+        self.end = put_each(&mut self.queue, self.end, chunks, len)?;
         Ok(())
     }
 
@@ -197,7 +197,7 @@ impl Pieces {
     pub(crate) fn release(&mut self, up_to: u64)
         ensures { self.new ≡ released_to up_to self.old }
     {
-        self.base = drop_up_to(&mut self.map, self.base, up_to);
+        self.base = drop_up_to(&mut self.queue, self.base, up_to);
     }
 
     /// The bytes at these offsets from the first on, up to the last or the end of the piece that
@@ -213,7 +213,7 @@ impl Pieces {
     {
         // The proof reads the invariant here.
         let _kept = self.end();
-        match next_part(&self.map, offsets.start) {
+        match next_piece(&self.queue, offsets.start) {
             Some((end, piece)) => {
                 let start = end.saturating_sub(piece.len() as u64);
                 let from = offsets.start.saturating_sub(start) as usize;

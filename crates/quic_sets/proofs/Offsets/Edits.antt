@@ -1,6 +1,6 @@
 -- Sets of offsets: the words for what a call leaves have the offsets that they should, and are
 -- maximal runs.
-use Rattle.std.proofs.Common.{◌≡◌, ℕ, ◌+◌, ◌≤◌, ◌<◌, ◌↔◌, true, false, cond, ltb, leb, max, List, [], ◌∷◌, refl, ap, inl, inr, arith}
+use Rattle.std.proofs.Common.{◌≡◌, ℕ, ◌+◌, ◌≤◌, ◌<◌, ◌↔◌, Bool, true, false, cond, ltb, leb, max, List, [], ◌∷◌, refl, sym, ap, inl, inr, arith}
 use Rattle.std.proofs.lemmas.Bool.{cases_lt, lt-ltb, le-ltb, le-leb, leb-true, ltb-true, and_parts, and_from, or_cases, or_left, or_right, false_from_ne_true, both_ways}
 use Rattle.quic_sets.specs.Runs.{Run, Has, AreRunsFrom, AreRuns, Adds, Drops, IsUnion, IsDifference}
 use Rattle.quic_sets.specs.Lacking.{AddsLacking}
@@ -37,6 +37,11 @@ has_not rs o none = false_from_ne_true (has rs o) (λ h. none (has_is rs o h))
 
 pub lacks : (rs : List Run) (o : ℕ) → has rs o ≡ false → Has rs o → ⊥
 lacks rs o h i = both_ways (has rs o) h (has_from rs o i)
+
+-- a test of an offset is the set's
+pub has_by : (b : Bool) (rs : List Run) (o : ℕ) → Has rs o ↔ (b ≡ true) → b ≡ has rs o
+has_by true rs o h = sym (has_from rs o (h.1 refl))
+has_by false rs o h = sym (has_not rs o (λ i. both_ways false refl (h.0 i)))
 
 -- ---- with the offsets of a range
 

@@ -6,8 +6,9 @@ use Rattle.quic_sets.specs.Lacking.{AddsLacking, HasLacking, HasMoving}
 use Rattle.quic_sets.proofs.RunLists.{same_list}
 use Rattle.quic_sets.specs.Spans.{Span, in_span, in_spans, next_span, is_spanned, spanned_at, free_at}
 use Rattle.quic_sets.specs.Loose.{LieWithin, greatest, AreLoose, AreMaximal, BothLack, as_run, IsCut, begins_first, touches}
-use Rattle.quic_sets.proofs.Offsets.Spans.{next_in, next_past}
+use Rattle.quic_sets.proofs.Offsets.Spans.{next_in, next_past, look_some}
 use Rattle.quic_sets.proofs.Offsets.Loose.{lie_up, out_below, span_is, span_from, runs_are, runs_have}
+use Rattle.quic_sets.proofs.Offsets.LooseSteps.{look_as}
 
 -- ---- offsets more or less
 pub lacking_made : (a z : ℕ) (es ns os : List Span) → ((o : ℕ) → in_spans ns o ≡ (in_spans es o || (in_span o (z, a) && not (in_spans os o)))) → AddsLacking (map as_run es) (map as_run os) (map as_run ns) a z
@@ -126,3 +127,11 @@ look_most at len n es held m b e l = go (next_span at es) refl held b e
         let out = ltb-true at g.1 (not-false (ltb at g.1) (sym b)) in
         let full = own at es g 0 greatest m.loose q in
         ap (in_spans es) (omega arith) ∙ next_in at g.1 es g q (span_from g.1 g (omega arith) full.0)
+
+-- the run behind an offset holds it where the set does
+pub spanned_is : (at : ℕ) (es : List Span) → AreLoose es → is_spanned at (next_span at es) ≡ in_spans es at
+spanned_is at es h =
+    let held = is_spanned at (next_span at es) in
+    let n = cond held (spanned_at at 1 (next_span at es)) (free_at at 1 (next_span at es)) in
+    let some = look_some at n 1 es held (omega arith) refl refl in
+    sym (look_as at 1 n at es held h refl refl (omega arith) (omega (arith, some.0)))

@@ -1,9 +1,22 @@
 use Rattle.std.proofs.Common.{ap, ◌∙◌, ◌&&◌, not}
+use Rattle.std.proofs.lemmas.List.{nil_from_length}
+use Rattle.std.proofs.lemmas.Result.{on_ok_weaker, on_err_weaker}
 use Rattle.quic_sets.specs.Spans.{in_span}
 use Rattle.quic_sets.proofs.Offsets.OffsetSet.{apart_again, apart_out}
 use Rattle.quic_sets.proofs.Offsets.OffsetCalls.{adds_made, drops_made, same_made, moves_in, moves_out}
 use Rattle.quic_sets.proofs.Outcomes.{of_error}
 use Rattle.quic_sets.proofs.offset_set.insert_from.Goals as goal
+
+pub returns-then-is_empty-clause-ok : goal.returns-then-is_empty-clause-ok
+returns-then-is_empty-clause-ok c =
+    let a = c.args in
+    let none = nil_from_length a.others.now.entries (c.is_empty.ensures.0 c.if-is_empty.true) in
+    on_ok_weaker c.add_lacking.result (adds_made a.x.start a.x.end a.spans.now.entries c.add_lacking.new.spans.entries a.others.now.entries none) c.add_lacking.ensures.ok
+
+pub returns-then-is_empty-clause-moving : goal.returns-then-is_empty-clause-moving
+returns-then-is_empty-clause-moving c =
+    let a = c.args in
+    on_err_weaker c.add_lacking.result (moves_in a.x.start a.x.end a.spans.now.entries a.others.now.entries a.others.now.entries) c.add_lacking.ensures.free
 
 pub returns-clause-others_err : goal.returns-clause-others_err
 returns-clause-others_err c =
@@ -15,7 +28,7 @@ returns-clause-others_err c =
 pub returns-in-Ok-clause-ok : goal.returns-in-Ok-clause-ok
 returns-in-Ok-clause-ok c =
     let a = c.args in
-    adds_made a.x.start a.x.end a.spans.now.entries c.add_lacking.new.spans.entries c.new-nothing.result.entries c.new-nothing.ensures.empty c.in-Ok.ensures.ok
+    adds_made a.x.start a.x.end a.spans.now.entries c.add_lacking-2.new.spans.entries c.new-nothing.result.entries c.new-nothing.ensures.empty c.in-Ok.ensures.ok
 
 pub returns-in-Ok-clause-others : goal.returns-in-Ok-clause-others
 returns-in-Ok-clause-others c =

@@ -33,10 +33,9 @@ invariant_of-self-2 c =
     let a = c.args in
     let known = c.min-known.ensures ∙ ap (λ (n : ℕ). min n (length a.bytes.now)) c.saturating_sub.ensures in
     let put = c.in_ok-insert.ensures.ok in
-    let more = c.insert-2.ensures in
     record {
       lawful = insert_kept i.read a.offset c.min-known.result i.unordered i.picked.entries i.parts _ a.bytes.now known c.self.invariant.lawful c.requires put;
-      known = insert_known c.insert-2.result i.read a.offset c.min-known.result i.unordered i.picked.entries i.parts _ a.bytes.now i.arrived _ known c.self.invariant.lawful c.requires c.self.invariant.known put more.ok more.err;
+      known = insert_known i.read a.offset c.min-known.result i.unordered i.picked.entries i.parts _ a.bytes.now i.arrived _ known c.self.invariant.lawful c.requires c.self.invariant.known put c.note.ensures;
       total = c.self.invariant.total;
     }
 

@@ -51,3 +51,9 @@ returns-clause-lawful g c =
     let room : 2 * first_mtu (transport_of settings) ≤ c.window-window.result = omega (arith, mtu, c.if-window-from.false) in
     let small : is_window_small settings c.window-window.result ≡ false = le-ltb c.window-window.result (2 * first_mtu (transport_of settings)) room in
     rw (← shown) (rw (read, own, peer, sizes, small) refl)
+
+pub returns-clause-made : goal.returns-clause-made
+returns-clause-made g c =
+    let read : parameters_at c.args.peer_parameters.now ≡ Ok c.in-Ok.theirs = search rules in
+    let streams = c.first_streams.ensures.state c.args.config.now.settings (sym c.transport-transport.ensures) in
+    rw read (search (rules, streams))

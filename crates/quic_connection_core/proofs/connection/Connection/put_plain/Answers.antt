@@ -69,13 +69,13 @@ returns-clause-size g c =
     (size_is c.args.held e c.requires.due) (payload_long c.args.held e c.requires.due) c.put_header-width.ensures.width c.put_header-width.ensures.len c.len-body.ensures grown c.pad.ensures.len
 
 pub returns-clause-filter : goal.returns-clause-filter
-returns-clause-filter g c = ap (λ w. w.end.filter) c.count_frames.ensures ∙ ap (λ w. w.end.filter) c.in_ok-sent.ensures.end ∙ same_filter c.args.held c.args.self.now.end c.requires.due
+returns-clause-filter g c = ap (λ w. w.end.filter) c.in_ok-sent.ensures.end ∙ same_filter c.args.held c.args.self.now.end c.requires.due
 
 pub returns-clause-numbers : goal.returns-clause-numbers
-returns-clause-numbers g c = ap (λ w. w.end.numbers) c.count_frames.ensures ∙ ap (λ w. w.end.numbers) c.in_ok-sent.ensures.end ∙ same_numbers c.args.held c.args.self.now.end c.requires.due
+returns-clause-numbers g c = ap (λ w. w.end.numbers) c.in_ok-sent.ensures.end ∙ same_numbers c.args.held c.args.self.now.end c.requires.due
 
 pub returns-clause-ids : goal.returns-clause-ids
-returns-clause-ids g c = ap (λ w. w.end.ids) c.count_frames.ensures ∙ ap (λ w. w.end.ids) c.in_ok-sent.ensures.end ∙ same_ids c.args.held c.args.self.now.end c.requires.due
+returns-clause-ids g c = ap (λ w. w.end.ids) c.in_ok-sent.ensures.end ∙ same_ids c.args.held c.args.self.now.end c.requires.due
 
 pub returns-in_err-sent-clause-front : goal.returns-in_err-sent-clause-front
 returns-in_err-sent-clause-front g c =

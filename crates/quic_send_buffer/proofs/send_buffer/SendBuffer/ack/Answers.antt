@@ -15,7 +15,7 @@ invariant_of-self-2 c =
       drops = c.in_ok-insert_from.ensures.other;
       runs_lost = c.in_ok-insert_from.ensures.other_runs;
     } in
-    let same = ack_made c.first_lacking_of.result c.release.new.self c.self.invariant made c.first_lacking_of.ensures c.release.ensures in
+    let same = ack_made c.first_lacking.result c.release.new.self c.self.invariant made c.first_lacking.ensures c.release.ensures in
     subst IsBuffered (sym same) (ack_lawful v c.args.range.start c.args.range.end c.self.invariant)
 
 pub returns-clause-ok : goal.returns-clause-ok
@@ -28,7 +28,7 @@ returns-clause-ok c =
       drops = c.in_ok-insert_from.ensures.other;
       runs_lost = c.in_ok-insert_from.ensures.other_runs;
     } in
-    let same = ack_made c.first_lacking_of.result c.release.new.self c.self.invariant made c.first_lacking_of.ensures c.release.ensures in
+    let same = ack_made c.first_lacking.result c.release.new.self c.self.invariant made c.first_lacking.ensures c.release.ensures in
     same ∙ ap (λ (b : Buffered). after_ack b c.args.range.start c.args.range.end) c.self.view_is
 
 pub returns-clause-lawful : goal.returns-clause-lawful

@@ -16,21 +16,21 @@ failed (Err x) e p = p
 
 pub returns-then-is_err-clause-err : goal.returns-then-is_err-clause-err
 returns-then-is_err-clause-err c =
-    let es = c.self.inside.live.entries in
+    let es = c.self.inside.live in
     let P : Halves RecvHalf → Type 0 = λ h. at h.live c.args.id ≡ None in
     let none = subst P (sym c.self.view_is) c.requires.none in
-    let ins = c.in_ok-insert.ensures.entries ∙ ap (λ k. added es k c.args.half) c.from.ensures in
-    let told = c.remove.ensures.entries ∙ ap (λ k. without c.insert.new.self.entries k) c.from-then-is_err.ensures ∙ ap (λ xs. without xs c.args.id) ins ∙ without-added es c.args.id c.args.half none in
+    let ins = c.in_ok-insert.ensures.ok ∙ ap (λ k. added es k c.args.half) c.from.ensures in
+    let told = c.remove.ensures.left ∙ ap (λ k. without c.insert.new.self k) c.from-then-is_err.ensures ∙ ap (λ xs. without xs c.args.id) ins ∙ without-added es c.args.id c.args.half none in
     let places = failed c.add.result (sym c.is_err.ensures.value ∙ c.if-is_err.true) c.add.ensures.err in
     rw (told, places) c.self.view_is
 
 pub invariant_of-self-then-is_err : goal.invariant_of-self-then-is_err
 invariant_of-self-then-is_err c =
-    let es = c.self.inside.live.entries in
+    let es = c.self.inside.live in
     let P : Halves RecvHalf → Type 0 = λ h. at h.live c.args.id ≡ None in
     let none = subst P (sym c.self.view_is) c.requires.none in
-    let ins = c.in_ok-insert.ensures.entries ∙ ap (λ k. added es k c.args.half) c.from.ensures in
-    let told = c.remove.ensures.entries ∙ ap (λ k. without c.insert.new.self.entries k) c.from-then-is_err.ensures ∙ ap (λ xs. without xs c.args.id) ins ∙ without-added es c.args.id c.args.half none in
+    let ins = c.in_ok-insert.ensures.ok ∙ ap (λ k. added es k c.args.half) c.from.ensures in
+    let told = c.remove.ensures.left ∙ ap (λ k. without c.insert.new.self k) c.from-then-is_err.ensures ∙ ap (λ xs. without xs c.args.id) ins ∙ without-added es c.args.id c.args.half none in
     rw told c.self.invariant
 
 pub overflow_add-self-2 : goal.overflow_add-self-2
@@ -38,15 +38,15 @@ overflow_add-self-2 c =
     let all = ap (λ (h : Halves RecvHalf). seen_in h.live) c.self.view_is in
     let sum = c.self.invariant.seen in
     let room = c.requires.room in
-    let within = consumed_within c.self.inside.live.entries c.self.inside.seen c.self.inside.consumed c.self.invariant in
+    let within = consumed_within c.self.inside.live c.self.inside.seen c.self.inside.consumed c.self.invariant in
     omega (arith, c.credit-consumed.ensures.within)
 
 pub invariant_of-self-2 : goal.invariant_of-self-2
 invariant_of-self-2 c =
-    let es = c.self.inside.live.entries in
+    let es = c.self.inside.live in
     let P : Halves RecvHalf → Type 0 = λ h. at h.live c.args.id ≡ None in
     let none = subst P (sym c.self.view_is) c.requires.none in
-    let ins = c.in_ok-insert.ensures.entries ∙ ap (λ k. added es k c.args.half) c.from.ensures in
+    let ins = c.in_ok-insert.ensures.ok ∙ ap (λ k. added es k c.args.half) c.from.ensures in
     let seen = c.end-seen.ensures.value in
     let consumed = c.credit-consumed.ensures.value in
     let within : credit c.args.half ≤ c.args.half.seen = omega (arith, c.credit-consumed.ensures.within) in
@@ -54,15 +54,15 @@ invariant_of-self-2 c =
 
 pub returns-clause-sum : goal.returns-clause-sum
 returns-clause-sum c =
-    let es = c.self.inside.live.entries in
+    let es = c.self.inside.live in
     let P : Halves RecvHalf → Type 0 = λ h. at h.live c.args.id ≡ None in
     let none = subst P (sym c.self.view_is) c.requires.none in
-    let ins = c.in_ok-insert.ensures.entries ∙ ap (λ k. added es k c.args.half) c.from.ensures in
+    let ins = c.in_ok-insert.ensures.ok ∙ ap (λ k. added es k c.args.half) c.from.ensures in
     let seen = c.end-seen.ensures.value in
     let consumed = c.credit-consumed.ensures.value in
     let within : credit c.args.half ≤ c.args.half.seen = omega (arith, c.credit-consumed.ensures.within) in
     let new = added_counted es _ c.args.id c.self.inside.seen c.self.inside.consumed (c.self.inside.seen + c.end-seen.result) (c.self.inside.consumed + c.credit-consumed.result) c.args.half c.in_ok-insert.ensures.was_ordered c.self.invariant none ins within (omega arith) (omega arith) in
     let all = ap (λ (h : Halves RecvHalf). seen_in h.live) c.self.view_is in
     let was = c.self.invariant.seen in
-    let is : c.self.inside.seen + c.end-seen.result ≡ seen_in c.insert.new.self.entries = new.seen in
+    let is : c.self.inside.seen + c.end-seen.result ≡ seen_in c.insert.new.self = new.seen in
     omega arith

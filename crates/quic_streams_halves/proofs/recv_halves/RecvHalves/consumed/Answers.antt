@@ -8,5 +8,5 @@ pub returns-clause-within : goal.returns-clause-within
 returns-clause-within c =
     let all = ap (λ (h : Halves RecvHalf). seen_in h.live) c.self.view_is in
     let sum = c.self.invariant.seen in
-    let within = consumed_within c.self.inside.live.entries c.self.inside.seen c.self.inside.consumed c.self.invariant in
+    let within = consumed_within c.self.inside.live c.self.inside.seen c.self.inside.consumed c.self.invariant in
     omega arith

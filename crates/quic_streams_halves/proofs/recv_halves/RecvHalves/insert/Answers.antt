@@ -5,7 +5,7 @@ use Rattle.std.proofs.lemmas.Map.Steps.{set_value_same}
 use Rattle.quic_streams_parts.specs.Table.{at, put}
 use Rattle.quic_streams_parts.specs.RecvHalf.{RecvHalf, credit}
 use Rattle.quic_streams_halves.specs.Halves.{Halves, seen_in}
-use Rattle.quic_streams_halves.proofs.Totals.{put_counted, put_fits, kept_counted}
+use Rattle.quic_streams_halves.proofs.Totals.{put_counted, put_fits, kept_counted, seen_term, consumed_term}
 use Rattle.quic_streams_halves.proofs.recv_halves.RecvHalves.insert.Goals as goal
 
 on_err : {T E P : Type 0} (r : Result T E) → P → OnErr r P
@@ -14,23 +14,23 @@ on_err (Err e) p = p
 
 pub invariant_of-self-in_err-insert : goal.invariant_of-self-in_err-insert
 invariant_of-self-in_err-insert c =
-    let es = c.self.inside.live.entries in
+    let es = c.self.inside.live in
     let h = c.in-Some.half.now in
     let w = c.insert.new.self in
     let found : at es c.args.frame.now.id ≡ Some h = search rules in
-    let told = (c.get_mut.follows.holds c.insert.new.self).0 ∙ ap (λ k. put c.self.inside.live.entries k c.insert.new.self) c.from.ensures in
+    let told = ap (λ k. put c.self.inside.live k c.insert.new.self) c.from.ensures in
     let same = c.in_err-insert.ensures.err in
     kept_counted es _ c.args.frame.now.id c.self.inside.seen c.self.inside.consumed h w c.self.invariant found told (ap (λ (k : RecvHalf). k.seen) same) (ap credit same)
 
 pub returns-in_err-insert-clause-err : goal.returns-in_err-insert-clause-err
 returns-in_err-insert-clause-err c =
-    let told = (c.get_mut.follows.holds c.insert.new.self).0 ∙ ap (λ k. put c.self.inside.live.entries k c.insert.new.self) c.from.ensures in
-    let same = told ∙ ap (λ w. put c.self.inside.live.entries c.args.frame.now.id w) c.in_err-insert.ensures.err ∙ set_value_same (is_at (nat_cmp c.args.frame.now.id)) c.self.inside.live.entries c.in-Some.half.now (search rules) in
+    let told = ap (λ k. put c.self.inside.live k c.insert.new.self) c.from.ensures in
+    let same = told ∙ ap (λ w. put c.self.inside.live c.args.frame.now.id w) c.in_err-insert.ensures.err ∙ set_value_same (is_at (nat_cmp c.args.frame.now.id)) c.self.inside.live c.in-Some.half.now (search rules) in
     on_err c.from_residual.result (rw same c.self.view_is)
 
 pub with_term-self-inside-requires-2-clause-fits : goal.with_term-self-inside-requires-2-clause-fits
 with_term-self-inside-requires-2-clause-fits c =
-    let es = c.self.inside.live.entries in
+    let es = c.self.inside.live in
     let h = c.in-Some.half.now in
     let w = c.insert.new.self in
     let found : at es c.args.frame.now.id ≡ Some h = search rules in
@@ -48,7 +48,7 @@ with_term-self-inside-requires-2-clause-fits c =
 
 pub invariant_of-self-2 : goal.invariant_of-self-2
 invariant_of-self-2 c =
-    let es = c.self.inside.live.entries in
+    let es = c.self.inside.live in
     let h = c.in-Some.half.now in
     let w = c.insert.new.self in
     let found : at es c.args.frame.now.id ≡ Some h = search rules in
@@ -57,7 +57,19 @@ invariant_of-self-2 c =
     let consumed = c.credit-consumed.ensures.value in
     let now = c.credit.ensures.value in
     let within : credit w ≤ w.seen = omega (arith, c.credit.ensures.within) in
-    let told = (c.get_mut.follows.holds c.insert.new.self).0 ∙ ap (λ k. put c.self.inside.live.entries k c.insert.new.self) c.from.ensures in
+    let told = ap (λ k. put c.self.inside.live k c.insert.new.self) c.from.ensures in
     let s2 = c.with_term-self-inside.ensures in
     let c2 = c.with_term-self-inside-2.ensures in
     put_counted es _ c.args.frame.now.id c.self.inside.seen c.self.inside.consumed _ _ h w c.self.invariant found told within (omega arith) (omega arith)
+
+pub with_term-self-inside-requires-clause-within : goal.with_term-self-inside-requires-clause-within
+with_term-self-inside-requires-clause-within c =
+    let found : at c.self.inside.live c.args.frame.now.id ≡ Some c.in-Some.half.now = search rules in
+    let term = seen_term c.self.inside.live c.args.frame.now.id c.self.inside.seen c.self.inside.consumed c.in-Some.half.now c.self.invariant found in
+    omega (arith, c.end-seen.ensures.value)
+
+pub with_term-self-inside-requires-2-clause-within : goal.with_term-self-inside-requires-2-clause-within
+with_term-self-inside-requires-2-clause-within c =
+    let found : at c.self.inside.live c.args.frame.now.id ≡ Some c.in-Some.half.now = search rules in
+    let term = consumed_term c.self.inside.live c.args.frame.now.id c.self.inside.seen c.self.inside.consumed c.in-Some.half.now c.self.invariant found in
+    omega (arith, c.credit-consumed.ensures.value)

@@ -13,21 +13,27 @@ on_err (Err e) p = p
 
 pub invariant_of-self-in_err-ack : goal.invariant_of-self-in_err-ack
 invariant_of-self-in_err-ack c =
-    let told = (c.get_mut.follows.holds c.ack.new.half).0 ∙ ap (λ k. put c.self.inside.live.entries k c.ack.new.half) c.from.ensures in
+    let told = ap (λ k. put c.self.inside.live k c.ack.new.half) c.from.ensures in
     let kept = ap (λ (h : SendHalf). length h.buffer.kept) c.in_err-ack.ensures.err in
-    put_sum (λ (h : SendHalf). length h.buffer.kept) c.self.inside.live.entries _ c.args.frame.now.id c.in-Some.half.now c.ack.new.half c.self.inside.buffered _ c.self.invariant (search rules) told (omega arith)
+    put_sum (λ (h : SendHalf). length h.buffer.kept) c.self.inside.live _ c.args.frame.now.id c.in-Some.half.now c.ack.new.half c.self.inside.buffered _ c.self.invariant (search rules) told (omega arith)
 
 pub returns-in_err-ack-clause-err : goal.returns-in_err-ack-clause-err
 returns-in_err-ack-clause-err c =
-    let told = (c.get_mut.follows.holds c.ack.new.half).0 ∙ ap (λ k. put c.self.inside.live.entries k c.ack.new.half) c.from.ensures in
-    let same = told ∙ ap (λ w. put c.self.inside.live.entries c.args.frame.now.id w) c.in_err-ack.ensures.err ∙ set_value_same (is_at (nat_cmp c.args.frame.now.id)) c.self.inside.live.entries c.in-Some.half.now (search rules) in
+    let told = ap (λ k. put c.self.inside.live k c.ack.new.half) c.from.ensures in
+    let same = told ∙ ap (λ w. put c.self.inside.live c.args.frame.now.id w) c.in_err-ack.ensures.err ∙ set_value_same (is_at (nat_cmp c.args.frame.now.id)) c.self.inside.live c.in-Some.half.now (search rules) in
     on_err c.from_residual.result (rw same c.self.view_is)
 
 pub invariant_of-self-2 : goal.invariant_of-self-2
 invariant_of-self-2 c =
-    let told = (c.get_mut.follows.holds c.ack.new.half).0 ∙ ap (λ k. put c.self.inside.live.entries k c.ack.new.half) c.from.ensures in
+    let told = ap (λ k. put c.self.inside.live k c.ack.new.half) c.from.ensures in
     let fewer = acked_kept c.args.frame.now c.args.queue.now c.in-Some.half.now c.ack.new.half c.in_ok-ack.ensures.half in
-    let held = within_sum (λ (h : SendHalf). length h.buffer.kept) c.self.inside.live.entries c.args.frame.now.id c.in-Some.half.now c.self.inside.buffered c.self.invariant (search rules) in
+    let held = within_sum (λ (h : SendHalf). length h.buffer.kept) c.self.inside.live c.args.frame.now.id c.in-Some.half.now c.self.inside.buffered c.self.invariant (search rules) in
     let before = c.buffered-kept.ensures.value in
     let behind = c.buffered.ensures.value in
-    put_sum (λ (h : SendHalf). length h.buffer.kept) c.self.inside.live.entries _ c.args.frame.now.id c.in-Some.half.now c.ack.new.half c.self.inside.buffered _ c.self.invariant (search rules) told (omega arith)
+    put_sum (λ (h : SendHalf). length h.buffer.kept) c.self.inside.live _ c.args.frame.now.id c.in-Some.half.now c.ack.new.half c.self.inside.buffered _ c.self.invariant (search rules) told (omega arith)
+
+pub overflow_sub-self-2 : goal.overflow_sub-self-2
+overflow_sub-self-2 c =
+    let held = within_sum (λ (h : SendHalf). length h.buffer.kept) c.self.inside.live c.args.frame.now.id c.in-Some.half.now c.self.inside.buffered c.self.invariant (search rules) in
+    let before = c.buffered-kept.ensures.value in
+    omega arith

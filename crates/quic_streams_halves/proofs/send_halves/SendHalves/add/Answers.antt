@@ -16,28 +16,28 @@ failed (Err x) e p = p
 
 pub returns-then-is_err-clause-err : goal.returns-then-is_err-clause-err
 returns-then-is_err-clause-err c =
-    let es = c.self.inside.live.entries in
+    let es = c.self.inside.live in
     let P : Halves SendHalf → Type 0 = λ h. at h.live c.args.id ≡ None in
     let none = subst P (sym c.self.view_is) c.requires.none in
-    let ins = c.in_ok-insert.ensures.entries ∙ ap (λ k. added es k c.args.half) c.from.ensures in
-    let told = c.remove.ensures.entries ∙ ap (λ k. without c.insert.new.self.entries k) c.from-then-is_err.ensures ∙ ap (λ xs. without xs c.args.id) ins ∙ without-added es c.args.id c.args.half none in
+    let ins = c.in_ok-insert.ensures.ok ∙ ap (λ k. added es k c.args.half) c.from.ensures in
+    let told = c.remove.ensures.left ∙ ap (λ k. without c.insert.new.self k) c.from-then-is_err.ensures ∙ ap (λ xs. without xs c.args.id) ins ∙ without-added es c.args.id c.args.half none in
     let places = failed c.add.result (sym c.is_err.ensures.value ∙ c.if-is_err.true) c.add.ensures.err in
     rw (told, places) c.self.view_is
 
 pub invariant_of-self-then-is_err : goal.invariant_of-self-then-is_err
 invariant_of-self-then-is_err c =
-    let es = c.self.inside.live.entries in
+    let es = c.self.inside.live in
     let P : Halves SendHalf → Type 0 = λ h. at h.live c.args.id ≡ None in
     let none = subst P (sym c.self.view_is) c.requires.none in
-    let ins = c.in_ok-insert.ensures.entries ∙ ap (λ k. added es k c.args.half) c.from.ensures in
-    let told = c.remove.ensures.entries ∙ ap (λ k. without c.insert.new.self.entries k) c.from-then-is_err.ensures ∙ ap (λ xs. without xs c.args.id) ins ∙ without-added es c.args.id c.args.half none in
+    let ins = c.in_ok-insert.ensures.ok ∙ ap (λ k. added es k c.args.half) c.from.ensures in
+    let told = c.remove.ensures.left ∙ ap (λ k. without c.insert.new.self k) c.from-then-is_err.ensures ∙ ap (λ xs. without xs c.args.id) ins ∙ without-added es c.args.id c.args.half none in
     rw told c.self.invariant
 
 pub invariant_of-self-2 : goal.invariant_of-self-2
 invariant_of-self-2 c =
-    let es = c.self.inside.live.entries in
+    let es = c.self.inside.live in
     let P : Halves SendHalf → Type 0 = λ h. at h.live c.args.id ≡ None in
     let none = subst P (sym c.self.view_is) c.requires.none in
-    let ins = c.in_ok-insert.ensures.entries ∙ ap (λ k. added es k c.args.half) c.from.ensures in
+    let ins = c.in_ok-insert.ensures.ok ∙ ap (λ k. added es k c.args.half) c.from.ensures in
     let kept = c.buffered-kept.ensures.value in
     added_sum (λ (h : SendHalf). length h.buffer.kept) es _ c.args.id c.args.half c.self.inside.buffered _ c.in_ok-insert.ensures.was_ordered c.self.invariant none ins (omega arith)

@@ -13,13 +13,13 @@ on_err (Err e) p f = f p
 
 pub invariant_of-self-2 : goal.invariant_of-self-2
 invariant_of-self-2 c =
-    let told = (c.get_mut.follows.holds c.retransmit.new.half).0 ∙ ap (λ k. put c.self.inside.live.entries k c.retransmit.new.half) c.from.ensures in
+    let told = ap (λ k. put c.self.inside.live k c.retransmit.new.half) c.from.ensures in
     let kept = lost_kept c.retransmit.result c.args.frame.now c.args.queue.now c.in-Some.half.now c.retransmit.new.half c.retransmit.ensures.half c.retransmit.ensures.err in
-    put_sum (λ (h : SendHalf). length h.buffer.kept) c.self.inside.live.entries _ c.args.frame.now.id c.in-Some.half.now c.retransmit.new.half c.self.inside.buffered _ c.self.invariant (search rules) told (omega arith)
+    put_sum (λ (h : SendHalf). length h.buffer.kept) c.self.inside.live _ c.args.frame.now.id c.in-Some.half.now c.retransmit.new.half c.self.inside.buffered _ c.self.invariant (search rules) told (omega arith)
 
 pub returns-clause-err : goal.returns-clause-err
 returns-clause-err c =
-    let told = (c.get_mut.follows.holds c.retransmit.new.half).0 ∙ ap (λ k. put c.self.inside.live.entries k c.retransmit.new.half) c.from.ensures in
+    let told = ap (λ k. put c.self.inside.live k c.retransmit.new.half) c.from.ensures in
     on_err c.retransmit.result c.retransmit.ensures.err (λ e.
-    let same = told ∙ ap (λ w. put c.self.inside.live.entries c.args.frame.now.id w) e ∙ set_value_same (is_at (nat_cmp c.args.frame.now.id)) c.self.inside.live.entries c.in-Some.half.now (search rules) in
+    let same = told ∙ ap (λ w. put c.self.inside.live c.args.frame.now.id w) e ∙ set_value_same (is_at (nat_cmp c.args.frame.now.id)) c.self.inside.live c.in-Some.half.now (search rules) in
     rw same c.self.view_is)

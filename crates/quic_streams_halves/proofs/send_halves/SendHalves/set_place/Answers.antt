@@ -1,4 +1,4 @@
-use Rattle.std.proofs.Common.{length, rules, ap, ◌∙◌, arith}
+use Rattle.std.proofs.Common.{length, rules, ap, arith}
 use Rattle.quic_streams_parts.specs.Table.{put}
 use Rattle.quic_streams_parts.specs.SendHalf.{SendHalf}
 use Rattle.quic_streams_halves.proofs.Sums.{put_sum}
@@ -6,6 +6,6 @@ use Rattle.quic_streams_halves.proofs.send_halves.SendHalves.set_place.Goals as 
 
 pub invariant_of-self-2 : goal.invariant_of-self-2
 invariant_of-self-2 c =
-    let told = (c.get_mut.follows.holds c.set_place.new.self).0 ∙ ap (λ k. put c.self.inside.live.entries k c.set_place.new.self) c.from.ensures in
+    let told = ap (λ k. put c.self.inside.live k c.set_place.new.self) c.from.ensures in
     let kept = ap (λ (h : SendHalf). length h.buffer.kept) c.set_place.ensures in
-    put_sum (λ (h : SendHalf). length h.buffer.kept) c.self.inside.live.entries _ c.args.id c.in-Some.half.now c.set_place.new.self c.self.inside.buffered _ c.self.invariant (search rules) told (omega arith)
+    put_sum (λ (h : SendHalf). length h.buffer.kept) c.self.inside.live _ c.args.id c.in-Some.half.now c.set_place.new.self c.self.inside.buffered _ c.self.invariant (search rules) told (omega arith)

@@ -22,7 +22,7 @@ invariant_of-self-2 c =
     let i = c.self.inside in
     record {
       apart = put_apart 0 a.at _ i.map.entries _ a.bytes.now _ c.self.view_is c.self.invariant.apart (omega arith) c.requires.some c.requires.small c.requires.fits c.in_ok-part.ensures c.in_ok-keep.ensures.ok;
-      counted = put_runs 0 a.at i.runs _ a.joins _ i.map.entries _ a.bytes.now _ c.self.view_is c.self.invariant.apart (omega arith) c.requires.some c.requires.fits c.requires.joins c.self.invariant.counted c.touches-touching.ensures c.in_ok-part.ensures c.in_ok-keep.ensures.ok;
+      counted = put_runs 0 a.at i.runs a.touched _ i.map.entries _ a.bytes.now _ c.self.view_is c.self.invariant.apart (omega arith) c.requires.some c.requires.fits c.self.invariant.counted c.requires.touched c.in_ok-part.ensures c.in_ok-keep.ensures.ok;
       bytes = put_bytes a.at i.bytes _ i.map.entries _ a.bytes.now _ c.self.view_is c.self.invariant.apart c.requires.some c.requires.fits c.self.invariant.bytes c.in_ok-part.ensures c.in_ok-keep.ensures.ok;
     }
 

@@ -1,0 +1,100 @@
+//! What a piece of work came to, and what it took.
+use anyhow::Result;
+use std::io;
+use std::rt::{Clock, Files};
+use std::time::{CpuClock, Duration, Instant};
+
+/// When work began, on the wall and of the processor.
+#[derive(Clone, Copy)]
+pub struct Watch {
+    wall: Instant,
+    cpu: Duration,
+}
+
+impl Watch {
+    /// Work begins.
+    pub fn start<R: Clock + CpuClock>(rt: &R) -> io::Result<Self> {
+        Ok(Watch {
+            cpu: rt.process_cpu_time()?,
+            wall: Instant::now(rt)?,
+        })
+    }
+
+    /// How long it has taken, and how much of the processor's time, in nanoseconds.
+    pub fn read<R: Clock + CpuClock>(&self, rt: &R) -> io::Result<(u128, u128)> {
+        let wall = self.wall.elapsed(rt)?;
+        let cpu = rt.process_cpu_time()?.saturating_sub(self.cpu);
+        Ok((wall.as_nanos(), cpu.as_nanos()))
+    }
+}
+
+/// What a piece of work came to.
+#[derive(Clone, Copy)]
+pub struct Figures {
+    /// How long it took, in nanoseconds.
+    pub ns: u128,
+    /// How much of the processor's time it took, in nanoseconds.
+    pub cpu_ns: u128,
+    /// How many bytes, streams, messages or datagrams the server's application has.
+    pub units: u64,
+    /// How many datagrams the client sent.
+    pub data: u64,
+    /// How many the server sent.
+    pub back: u64,
+    /// How many of both were lost.
+    pub lost: u64,
+    /// How long the work took in virtual time, in microseconds.
+    pub virtual_us: u64,
+    /// A checksum of what the application has.
+    pub checksum: u64,
+}
+
+impl Figures {
+    /// Prints what varies and what doesn't, on a line.
+    pub fn print_all<R: Print + Files + Alloc>(&self, rt: &R) -> io::Result<()> {
+        let Figures {
+            ns,
+            cpu_ns,
+            units,
+            data,
+            back,
+            lost,
+            virtual_us,
+            ..
+        } = *self;
+        let peak_kb = peak_kb(rt);
+        println!(rt;
+            "ns={ns} cpu_ns={cpu_ns} units={units} data={data} back={back} lost={lost} virtual_us={virtual_us} peak_kb={peak_kb}"
+        )
+    }
+
+    /// Prints what doesn't vary, on a line behind a name.
+    pub fn print_counts<R: Print>(&self, rt: &R, name: &str) -> io::Result<()> {
+        let Figures {
+            units,
+            data,
+            back,
+            lost,
+            virtual_us,
+            checksum,
+            ..
+        } = *self;
+        println!(rt;
+            "{name}: units={units} data={data} back={back} lost={lost} virtual_us={virtual_us} checksum={checksum:016x}"
+        )
+    }
+}
+
+/// The most memory that the process has held, in KiB, as the system tells it; 0 where it doesn't.
+fn peak_kb<R: Files + Alloc>(rt: &R) -> u64 {
+    match std::fs::read_to_string(rt, "/proc/self/status") {
+        Ok(status) => peak_in(status.as_str()).unwrap_or(0),
+        Err(_) => 0,
+    }
+}
+
+/// The number in the line of the greatest size.
+fn peak_in(status: &str) -> Option<u64> {
+    let line = status.lines().find(|line| line.starts_with("VmHWM:"))?;
+    line.split_whitespace().nth(1)?.parse::<u64>().ok()
+}

@@ -1,0 +1,314 @@
+//! Two ends of a connection in one thread and in virtual time, and the rule by which they are
+//! driven: at each moment first the client, then the server, each over and over while datagrams
+//! are due: it takes up to `batch` of them and a due timeout, its application acts, and it sends
+//! until it gives nothing. Then the next moment is the least of timers and arrivals.
+use crate::figures::{Figures, Watch};
+use crate::lane::{Datagram, Lane, ONE_WAY, earlier};
+use anyhow::{Result, bail};
+use quic_connection::{
+    Config, ConfigError, Connection, EcnCodepoint, Ends, Instant, Making, NewReno, NewRenoConfig,
+    Received, TransportConfig,
+};
+use quic_run_core::Words;
+use quic_run_core::key::{PlainHeaderKey, PlainKey, keys_for};
+use quic_wire_core::{ConnectionId, Side, VarInt};
+use std::alloc::{AllocError, Global};
+use std::rt::Clock;
+use std::time::CpuClock;
+
+/// One end, with null keys.
+pub type End = Connection<PlainHeaderKey, PlainKey, Words, NewReno>;
+
+/// Two of them.
+type BothEnds = Ends<PlainHeaderKey, PlainKey, Words, NewReno>;
+
+/// Every random word of an end.
+const RANDOM_WORD: u64 = 63;
+
+/// The bytes of a datagram.
+const DATAGRAM_SIZE: u16 = 1200;
+
+/// The network between the ends, and how the ends are driven.
+#[derive(Clone, Copy)]
+pub struct Network {
+    /// How many of 1000 datagrams are lost.
+    pub loss: u64,
+    /// How many of 1000 come late.
+    pub reorder: u64,
+    /// The seed of the generator that says which.
+    pub seed: u64,
+    /// How many datagrams an end takes before it may send.
+    pub batch: u64,
+}
+
+/// What the applications of both ends do.
+pub trait Work {
+    /// The client's turn.
+    fn client(&mut self, end: &mut End) -> Result<()>;
+
+    /// The server's turn: whether its application has everything.
+    fn server(&mut self, end: &mut End) -> Result<bool>;
+
+    /// How many units of work the server's application has.
+    fn units(&self) -> u64;
+
+    /// A checksum of what it has.
+    fn checksum(&self) -> u64;
+}
+
+/// Nothing is done.
+#[derive(Drop)]
+struct Rest;
+
+impl Work for Rest {
+    fn client(&mut self, _end: &mut End) -> Result<()> {
+        Ok(())
+    }
+
+    fn server(&mut self, _end: &mut End) -> Result<bool> {
+        Ok(false)
+    }
+
+    fn units(&self) -> u64 {
+        0
+    }
+
+    fn checksum(&self) -> u64 {
+        0
+    }
+}
+
+/// A client and a server, and the lanes between them.
+#[derive(Drop)]
+pub struct Pair {
+    /// Both ends. They lie on the heap, so that a pair is small.
+    pub ends: Box<BothEnds>,
+    /// From the client to the server.
+    pub up: Lane,
+    /// From the server to the client.
+    pub down: Lane,
+    batch: u64,
+    /// The moment, in nanoseconds.
+    pub now: u64,
+    /// When the work began.
+    start: u64,
+}
+
+/// The first id of an end.
+fn id_of(side: Side) -> ConnectionId {
+    match side {
+        Side::Client => ConnectionId::new(&[0xc0; 8]),
+        Side::Server => ConnectionId::new(&[0x50; 8]),
+    }
+}
+
+/// What an end is made of that lets its peer have so many one-way streams open at once.
+fn making(side: Side, streams: VarInt) -> Making<NewRenoConfig, PlainHeaderKey, PlainKey, Words> {
+    let mut transport = TransportConfig::default();
+    transport.initial_mtu(DATAGRAM_SIZE);
+    transport.min_mtu(DATAGRAM_SIZE);
+    transport.max_concurrent_uni_streams(streams);
+    Making {
+        config: Config::new(transport, NewRenoConfig::default()),
+        id: id_of(side),
+        keys: keys_for(side),
+        random: Words::word(RANDOM_WORD),
+        validated: true,
+    }
+}
+
+/// Two ends at the moment 0.
+fn new_ends(alloc: Global, streams: VarInt) -> Result<BothEnds, ConfigError> {
+    let now = Instant::from_nanos(0);
+    let client = making(Side::Client, streams);
+    let server = making(Side::Server, streams);
+    Ends::new(alloc, now, client, server)
+}
+
+/// These ends on the heap. An `Err` is want of memory.
+fn boxed(alloc: Global, ends: BothEnds) -> Result<Box<BothEnds>, AllocError> {
+    Ok(Box::new(alloc, ends)?)
+}
+
+impl Pair {
+    /// Two ends at the moment 0, which take so many datagrams before they may send.
+    pub fn new(alloc: Global, streams: VarInt, batch: u64) -> Result<Self> {
+        let ends = boxed(alloc, new_ends(alloc, streams)?)?;
+        Ok(Pair {
+            ends,
+            up: Lane::new(alloc),
+            down: Lane::new(alloc),
+            batch,
+            now: 0,
+            start: 0,
+        })
+    }
+
+    /// Each end learns the round trip from a PING, as from a handshake, both come to rest, and the
+    /// network becomes what it is to be.
+    pub fn settle(&mut self, network: Network) -> Result<()> {
+        let ends = self.ends.as_mut();
+        ends.client.ping();
+        ends.server.ping();
+        self.run_until(20 * ONE_WAY, &mut Rest)?;
+        let Network {
+            loss,
+            reorder,
+            seed,
+            batch: _,
+        } = network;
+        self.up.disturb(seed, loss, reorder);
+        self.down.disturb(!seed, loss, reorder);
+        Ok(())
+    }
+
+    /// Begins to count anew.
+    pub fn begin(&mut self) {
+        self.up.reset_counts();
+        self.down.reset_counts();
+        self.start = self.now;
+    }
+
+    /// Does a piece of work, and measures what it takes.
+    pub fn measure<R: Clock + CpuClock, W: Work>(
+        &mut self,
+        rt: &R,
+        work: &mut W,
+    ) -> Result<Figures> {
+        self.begin();
+        let watch = Watch::start(rt)?;
+        self.run(work)?;
+        self.figures(rt, &watch, work.units(), work.checksum())
+    }
+
+    /// What work comes to that began with this watch.
+    pub fn figures<R: Clock + CpuClock>(
+        &self,
+        rt: &R,
+        watch: &Watch,
+        units: u64,
+        checksum: u64,
+    ) -> Result<Figures> {
+        let (ns, cpu_ns) = watch.read(rt)?;
+        Ok(Figures {
+            ns,
+            cpu_ns,
+            units,
+            data: self.up.sent,
+            back: self.down.sent,
+            lost: self.up.lost.wrapping_add(self.down.lost),
+            virtual_us: self.now.saturating_sub(self.start) / 1000,
+            checksum,
+        })
+    }
+
+    /// Lets both ends run until the server's application has everything.
+    pub fn run<W: Work>(&mut self, work: &mut W) -> Result<()> {
+        self.run_until(u64::MAX, work)
+    }
+
+    /// The same until a moment at most.
+    fn run_until<W: Work>(&mut self, end: u64, work: &mut W) -> Result<()> {
+        for _ in 0..u64::MAX {
+            self.client_turn(work)?;
+            if self.server_turn(work)? {
+                break;
+            }
+            match self.next_moment() {
+                Some(moment) if moment <= end => self.now = self.now.max(moment),
+                None if end == u64::MAX => bail!("both ends rest, and the work isn't done"),
+                _ => break,
+            }
+        }
+        Ok(())
+    }
+
+    /// The client acts while datagrams are due.
+    fn client_turn<W: Work>(&mut self, work: &mut W) -> Result<()> {
+        for _ in 0..u64::MAX {
+            let client = &mut self.ends.as_mut().client;
+            let more = take(client, &mut self.down, self.now, self.batch)?;
+            work.client(client)?;
+            transmit(client, &mut self.up, self.now)?;
+            if !more {
+                break;
+            }
+        }
+        Ok(())
+    }
+
+    /// The server acts while datagrams are due: whether its application has everything.
+    fn server_turn<W: Work>(&mut self, work: &mut W) -> Result<bool> {
+        let mut is_done = false;
+        for _ in 0..u64::MAX {
+            let server = &mut self.ends.as_mut().server;
+            let more = take(server, &mut self.up, self.now, self.batch)?;
+            is_done |= work.server(server)?;
+            transmit(server, &mut self.down, self.now)?;
+            if !more {
+                break;
+            }
+        }
+        Ok(is_done)
+    }
+
+    /// The next moment at which a timer expires or a datagram arrives.
+    fn next_moment(&self) -> Option<u64> {
+        let ends = self.ends.as_ref();
+        let timers = earlier(timer_of(&ends.client), timer_of(&ends.server));
+        let arrivals = earlier(self.up.next_arrival(), self.down.next_arrival());
+        earlier(timers, arrivals)
+    }
+}
+
+/// The moment at which the next timer of an end expires.
+fn timer_of(end: &End) -> Option<u64> {
+    Some(end.poll_timeout()?.as_nanos())
+}
+
+/// Takes datagrams that are due, so many at most, and a due timeout: whether more are due.
+fn take(end: &mut End, inbox: &mut Lane, now: u64, batch: u64) -> Result<bool> {
+    for _ in 0..batch {
+        let Some(datagram) = inbox.pop_due(now) else {
+            break;
+        };
+        let Datagram { ecn, mut bytes, .. } = datagram;
+        receive(end, now, ecn, &mut bytes)?;
+        inbox.give_back(bytes);
+    }
+    expire(end, now)?;
+    Ok(inbox.is_due(now))
+}
+
+/// Takes a datagram. None comes twice, so that each has to be taken.
+pub fn receive(end: &mut End, now: u64, ecn: Option<EcnCodepoint>, bytes: &mut [u8]) -> Result<()> {
+    match end.receive(Instant::from_nanos(now), ecn, bytes) {
+        Received::Taken => Ok(()),
+        answer => bail!("a datagram was {answer}"),
+    }
+}
+
+/// Lets timers expire that are due.
+fn expire(end: &mut End, now: u64) -> Result<()> {
+    if let Some(moment) = timer_of(end)
+        && moment <= now
+    {
+        end.handle_timeout(Instant::from_nanos(now))?;
+    }
+    Ok(())
+}
+
+/// Sends until there is nothing to send.
+pub fn transmit(end: &mut End, outbox: &mut Lane, now: u64) -> Result<()> {
+    for _ in 0..u64::MAX {
+        let mut bytes = outbox.buffer()?;
+        match end.poll_transmit(Instant::from_nanos(now), &mut bytes)? {
+            Some(transmit) => outbox.push(now, transmit.ecn, bytes)?,
+            None => {
+                outbox.give_back(bytes);
+                break;
+            }
+        }
+    }
+    Ok(())
+}

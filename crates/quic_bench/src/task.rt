@@ -1,0 +1,194 @@
+//! What is asked for: a workload, with its names and values.
+use crate::application::PATTERN;
+use crate::pair::Network;
+use anyhow::Result;
+use quic_wire_core::VarInt;
+use std::alloc::{AllocError, Global};
+use std::collections::BTreeMap;
+use std::str::SplitWhitespace;
+
+/// A workload, with its values.
+#[derive(Clone, Copy)]
+pub enum Workload {
+    /// So many bytes on one stream, compared or not.
+    Bulk {
+        bytes: u64,
+        is_verified: bool,
+    },
+    /// So many bytes on one stream after another.
+    Growth {
+        bytes: u64,
+        times: u64,
+    },
+    /// So many streams of so many bytes, so many open at once, beside so many that stay open.
+    Streams {
+        count: u64,
+        size: u64,
+        open: u64,
+        idle: u64,
+    },
+    /// So many messages of so many bytes, so many at most under way.
+    Messages {
+        count: u64,
+        size: u64,
+        ahead: u64,
+    },
+    /// So many datagrams that don't open, but for so many of 1000 that are repeats.
+    Hostile {
+        count: u64,
+        repeats: u64,
+    },
+    /// So many datagrams through a lane.
+    Floor {
+        count: u64,
+    },
+}
+
+/// What is asked for.
+#[derive(Clone, Copy)]
+pub struct Task {
+    /// The workload.
+    pub workload: Workload,
+    /// The network between the ends.
+    pub network: Network,
+}
+
+/// Values by their names, as far as they weren't taken yet.
+#[derive(Drop)]
+struct Values {
+    given: BTreeMap<String, u64>,
+}
+
+impl Values {
+    /// Those of words as `NAME=VALUE`; none where a word isn't one.
+    fn read(alloc: Global, words: SplitWhitespace<'_>) -> Result<Option<Self>, AllocError> {
+        let mut given = BTreeMap::new(alloc);
+        for word in words {
+            let Some((name, value)) = word.split_once('=') else {
+                return Ok(None);
+            };
+            let Ok(value) = value.parse::<u64>() else {
+                return Ok(None);
+            };
+            given.insert(String::from_str(alloc, name)?, value)?;
+        }
+        Ok(Some(Values { given }))
+    }
+
+    /// Takes the value of a name, or another where it isn't given.
+    fn take(&mut self, name: &str, default: u64) -> u64 {
+        self.given.remove(name).unwrap_or(default)
+    }
+
+    /// The workload of this name with its values, if there is one.
+    fn workload(&mut self, name: &str) -> Option<Workload> {
+        Some(match name {
+            "bulk" => Workload::Bulk {
+                bytes: self.take("bytes", 64 << 20),
+                is_verified: self.take("verify", 0) != 0,
+            },
+            "growth" => Workload::Growth {
+                bytes: self.take("bytes", 16 << 20),
+                times: self.take("times", 4),
+            },
+            "streams" => Workload::Streams {
+                count: self.take("count", 100_000),
+                size: self.take("size", 100),
+                open: self.take("open", 100),
+                idle: self.take("idle", 0),
+            },
+            "messages" => Workload::Messages {
+                count: self.take("count", 1_000_000),
+                size: self.take("size", 100),
+                ahead: self.take("ahead", 10_000),
+            },
+            "hostile" => Workload::Hostile {
+                count: self.take("count", 1_000_000),
+                repeats: self.take("repeats", 500),
+            },
+            "floor" => Workload::Floor {
+                count: self.take("count", 1_000_000),
+            },
+            _ => return None,
+        })
+    }
+
+    /// The network that they name.
+    fn network(&mut self) -> Network {
+        Network {
+            loss: self.take("loss", 0),
+            reorder: self.take("reorder", 0),
+            seed: self.take("seed", 1),
+            batch: self.take("batch", 2),
+        }
+    }
+}
+
+impl Task {
+    /// What a line asks for; none where a workload or a name isn't known, or the work can't be done.
+    pub fn read(alloc: Global, line: &str) -> Result<Option<Self>, AllocError> {
+        let mut words = line.split_whitespace();
+        let Some(name) = words.next() else {
+            return Ok(None);
+        };
+        let Some(mut values) = Values::read(alloc, words)? else {
+            return Ok(None);
+        };
+        let Some(workload) = values.workload(name) else {
+            return Ok(None);
+        };
+        let network = values.network();
+        let task = Task { workload, network };
+        if values.given.is_empty() && task.can_be_done() {
+            Ok(Some(task))
+        } else {
+            Ok(None)
+        }
+    }
+
+    /// Whether the work can be done as it is asked for: it has an end (lost messages don't come
+    /// again), and what is written at once is no longer than the pattern that it is taken from.
+    fn can_be_done(&self) -> bool {
+        let Network { loss, batch, .. } = self.network;
+        if batch == 0 || loss >= 1000 {
+            return false;
+        }
+        match self.workload {
+            Workload::Streams { size, .. } => size <= PATTERN as u64,
+            Workload::Messages { size, .. } => size <= PATTERN as u64 && loss == 0,
+            _ => true,
+        }
+    }
+
+    /// How many streams the server lets the client have open at once. Beside idle ones it allows
+    /// twice as many as are open: a limit is told anew only once it grew by an eighth of its count,
+    /// and the ends of the few others don't raise it so far.
+    pub fn streams(&self) -> Result<VarInt> {
+        let streams = match self.workload {
+            Workload::Streams { open, idle: 0, .. } => open,
+            Workload::Streams { open, idle, .. } => open.saturating_add(idle).saturating_mul(2),
+            _ => 100,
+        };
+        Ok(VarInt::from_u64(streams)?)
+    }
+
+    /// How often the work is done on one connection.
+    pub fn times(&self) -> u64 {
+        match self.workload {
+            Workload::Growth { times, .. } => times,
+            _ => 1,
+        }
+    }
+
+    /// The name of the workload.
+    pub fn name(&self) -> &'static str {
+        match self.workload {
+            Workload::Bulk { .. } => "bulk",
+            Workload::Growth { .. } => "growth",
+            Workload::Streams { .. } => "streams",
+            Workload::Messages { .. } => "messages",
+            Workload::Hostile { .. } => "hostile",
+            Workload::Floor { .. } => "floor",
+        }
+    }
+}

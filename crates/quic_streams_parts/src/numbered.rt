@@ -1,0 +1,93 @@
+//! Values by number, each at a place of its own on the heap.
+ghost use Rattle.std.specs.Prelude.{◌≡◌, [], IfOk, OnOk, OnErr};
+ghost use Rattle.std.specs.Option.{option_copied, option_copied_mut};
+ghost use Rattle.std.specs.Borrow.{sem};
+ghost use Rattle.std.specs.List.Sorted.{IsStrictlySortedBy};
+ghost use Rattle.std.specs.Map.{keys_of};
+ghost use Rattle.std.specs.Ordering.{nat_cmp};
+ghost use Rattle.quic_streams_parts.specs.Table.{at, added, without};
+
+use crate::by_number::ByNumber;
+use crate::kept::{Kept, given_out};
+use std::alloc::{AllocError, Global};
+use std::marker::Model;
+
+/// Values by number, for numbers that come nearly in order. One of the latest 4096 numbers is
+/// found, kept and taken out in constant time, amortized, and an earlier one in the logarithm of
+/// how many of those there are. Each value stays where it is on the heap.
+#[derive(Drop)]
+pub struct Numbered<T> {
+    values: ByNumber<Kept<T>>,
+    alloc: Global,
+}
+
+impl<T> Model for Numbered<T> {
+    ghost use Rattle.quic_streams_parts.specs.Table.{Table};
+
+    ghost Value = { Table T };
+
+    ghost view = { λ m. m.values };
+}
+
+impl<T> Numbered<T> {
+    ghost use Rattle.quic_streams_parts.specs.Lends.{lends_number};
+
+    /// No values.
+    pub fn new(alloc: Global) -> Self
+        ensures { result ≡ [] }
+    {
+        Numbered {
+            values: ByNumber::new(alloc),
+            alloc,
+        }
+    }
+
+    /// The value of a number, if it is there.
+    pub fn get(&self, number: u64) -> Option<&T>
+        ensures { option_copied result ≡ at self.now number }
+    {
+        match self.values.get(number) {
+            Some(kept) => Some(kept.get()),
+            None => None,
+        }
+    }
+
+    /// The same, to be changed.
+    pub fn get_mut(&mut self, number: u64) -> Option<&mut T>
+        ensures* writes_back { sem 𝓛 (lends_number T.row self.entry number result) }
+        ensures value { option_copied_mut result ≡ at self.old number }
+    {
+        match self.values.get_mut(number) {
+            Some(kept) => Some(kept.get_mut()),
+            None => None,
+        }
+    }
+
+    /// Keeps a value: the one that had its number, if any.
+    ///
+    /// # Errors
+    ///
+    /// [`AllocError`] where memory lacks; nothing changes.
+    pub fn insert(&mut self, number: u64, value: T) -> Result<Option<T>, AllocError>
+    where
+        T: Drop,
+        ensures replaced { IfOk result (λ replaced. replaced ≡ at self.old number) }
+        ensures ok { OnOk result (self.new ≡ added self.old number value) }
+        ensures err { OnErr result (self.new ≡ self.old) }
+        ensures was_ordered { IsStrictlySortedBy nat_cmp (keys_of self.old) }
+    {
+        self.values.are_ordered();
+        let kept = Kept::new(self.alloc, value)?;
+        Ok(given_out(self.values.insert(number, kept)?))
+    }
+
+    /// Takes out the value of a number, if it is there.
+    pub fn remove(&mut self, number: u64) -> Option<T>
+    where
+        T: Drop,
+        ensures taken { result ≡ at self.old number }
+        ensures left { self.new ≡ without self.old number }
+    {
+        given_out(self.values.remove(number))
+    }
+}
