@@ -1,6 +1,6 @@
 //! What an application does at an end.
+use crate::fault::Fault;
 use crate::pair::End;
-use anyhow::{Result, bail, ensure};
 use quic_connection::{
     Chunk, Chunks, Dir, Event, ReadError, ReadableError, StreamEvent, StreamId, WriteError,
 };
@@ -30,7 +30,7 @@ fn accept(end: &mut End) -> Option<StreamId> {
 }
 
 /// Writes on a stream: how many bytes were taken, 0 where none may be.
-pub fn write(end: &mut End, id: StreamId, data: &[u8]) -> Result<usize> {
+pub fn write(end: &mut End, id: StreamId, data: &[u8]) -> Result<usize, Fault> {
     match end.send_stream(id).write(data) {
         Ok(count) => Ok(count),
         Err(WriteError::Blocked) => Ok(0),
@@ -39,19 +39,17 @@ pub fn write(end: &mut End, id: StreamId, data: &[u8]) -> Result<usize> {
 }
 
 /// Ends a stream.
-pub fn finish(end: &mut End, id: StreamId) -> Result<()> {
-    match end.send_stream(id).finish() {
-        Ok(()) => Ok(()),
-        Err(error) => Err(error.into()),
-    }
+pub fn finish(end: &mut End, id: StreamId) -> Result<(), Fault> {
+    end.send_stream(id).finish()?;
+    Ok(())
 }
 
 /// Takes all events: whether one says that a stream takes bytes again.
-pub fn take_events(end: &mut End) -> Result<bool> {
+pub fn take_events(end: &mut End) -> Result<bool, Fault> {
     let mut is_writable = false;
     for _ in 0..u64::MAX {
         match end.poll() {
-            Some(Event::Lost(reason)) => bail!("connection lost: {reason}"),
+            Some(Event::Lost(_)) => return Err(Fault::Lost),
             Some(Event::Stream(StreamEvent::Writable { .. })) => is_writable = true,
             Some(Event::Stream(_) | Event::Message) => {}
             None => break,
@@ -74,7 +72,7 @@ impl Readable {
     }
 
     /// The next stream that became readable, newly opened ones too; none once all events are taken.
-    pub fn next(&mut self, end: &mut End) -> Result<Option<StreamId>> {
+    pub fn next(&mut self, end: &mut End) -> Result<Option<StreamId>, Fault> {
         for _ in 0..u64::MAX {
             if self.accepts {
                 match accept(end) {
@@ -93,7 +91,7 @@ impl Readable {
     }
 
     /// Takes an event: the stream that it says is readable.
-    fn take(&mut self, event: &Event) -> Result<Option<StreamId>> {
+    fn take(&mut self, event: &Event) -> Result<Option<StreamId>, Fault> {
         match event {
             Event::Stream(StreamEvent::Opened { .. }) => {
                 self.accepts = true;
@@ -101,7 +99,7 @@ impl Readable {
             }
             Event::Stream(StreamEvent::Readable { id }) => Ok(Some(*id)),
             Event::Stream(_) | Event::Message => Ok(None),
-            Event::Lost(reason) => bail!("connection lost: {reason}"),
+            Event::Lost(_) => Err(Fault::Lost),
         }
     }
 }
@@ -128,7 +126,7 @@ impl Reader {
     }
 
     /// Reads in order all that is there: whether the stream ended.
-    pub fn read(&mut self, end: &mut End, id: StreamId) -> Result<bool> {
+    pub fn read(&mut self, end: &mut End, id: StreamId) -> Result<bool, Fault> {
         match end.recv_stream(id).read(true) {
             Ok(mut chunks) => {
                 let ended = self.take_all(&mut chunks)?;
@@ -142,7 +140,7 @@ impl Reader {
     }
 
     /// Takes all pieces that are there: whether the stream ended.
-    fn take_all(&mut self, chunks: &mut Chunks<'_>) -> Result<bool> {
+    fn take_all(&mut self, chunks: &mut Chunks<'_>) -> Result<bool, Fault> {
         for _ in 0..u64::MAX {
             match chunks.next(usize::MAX) {
                 Ok(Some(chunk)) => self.take(&chunk)?,
@@ -155,13 +153,12 @@ impl Reader {
     }
 
     /// Takes a piece.
-    fn take(&mut self, chunk: &Chunk) -> Result<()> {
+    fn take(&mut self, chunk: &Chunk) -> Result<(), Fault> {
         let bytes = chunk.bytes.as_slice();
-        if let Some(expected) = &self.expected {
-            ensure!(
-                chunk.offset == self.bytes && is_there(expected, chunk.offset, bytes),
-                "other bytes came than were written"
-            );
+        if let Some(expected) = &self.expected
+            && (chunk.offset != self.bytes || !is_there(expected, chunk.offset, bytes))
+        {
+            return Err(Fault::OtherBytes);
         }
         let last = bytes.last().copied().unwrap_or(0);
         let mixed = self.checksum.wrapping_mul(31).wrapping_add(chunk.offset);

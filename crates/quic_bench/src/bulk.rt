@@ -1,8 +1,8 @@
 //! One stream is written from a buffer, and read whenever it is readable.
 use crate::application::{PATTERN, Readable, Reader, finish, open, pattern, take_events, write};
+use crate::fault::Fault;
 use crate::figures::Figures;
 use crate::pair::{End, Pair, Work};
-use anyhow::{Context, Result};
 use quic_connection::StreamId;
 use std::rt::Clock;
 use std::time::CpuClock;
@@ -24,7 +24,7 @@ struct Bulk {
 
 impl Bulk {
     /// Writes what may be written at once of what is left: how many bytes.
-    fn write_piece(&mut self, end: &mut End) -> Result<u64> {
+    fn write_piece(&mut self, end: &mut End) -> Result<u64, Fault> {
         let at = (self.sent % PATTERN as u64) as usize;
         let left = self.bytes.saturating_sub(self.sent);
         let piece = left.min(PATTERN as u64) as usize;
@@ -36,7 +36,7 @@ impl Bulk {
 }
 
 impl Work for Bulk {
-    fn client(&mut self, end: &mut End) -> Result<()> {
+    fn client(&mut self, end: &mut End) -> Result<(), Fault> {
         if take_events(end)? {
             self.is_blocked = false;
         }
@@ -53,7 +53,7 @@ impl Work for Bulk {
         Ok(())
     }
 
-    fn server(&mut self, end: &mut End) -> Result<bool> {
+    fn server(&mut self, end: &mut End) -> Result<bool, Fault> {
         let mut has_ended = false;
         for _ in 0..u64::MAX {
             let Some(id) = self.readable.next(end)? else {
@@ -79,14 +79,14 @@ pub fn run<R: Clock + CpuClock + AllocGlobal>(
     pair: &mut Pair,
     bytes: u64,
     is_verified: bool,
-) -> Result<Figures> {
+) -> Result<Figures, Fault> {
     let expected = if is_verified {
         Some(pattern(rt.alloc())?)
     } else {
         None
     };
     let mut work = Bulk {
-        id: open(&mut pair.ends.as_mut().client).context("no stream may be opened")?,
+        id: open(&mut pair.ends.as_mut().client).ok_or(Fault::NoStream)?,
         source: pattern(rt.alloc())?,
         bytes,
         sent: 0,

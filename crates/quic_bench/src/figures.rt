@@ -1,5 +1,4 @@
 //! What a piece of work came to, and what it took.
-use anyhow::Result;
 use std::io;
 use std::rt::{Clock, Files};
 use std::time::{CpuClock, Duration, Instant};

@@ -1,8 +1,9 @@
 //! What the lanes alone cost: datagrams of 1200 bytes go through one, each copied once.
+use crate::fault::Fault;
 use crate::figures::{Figures, Watch};
 use crate::lane::Lane;
 use crate::pair::Pair;
-use anyhow::Result;
+use std::alloc::AllocError;
 use std::rt::Clock;
 use std::time::CpuClock;
 
@@ -13,7 +14,7 @@ const AT_ONCE: u64 = 100;
 const DATAGRAM: [u8; 1200] = [7; 1200];
 
 /// Sends datagrams.
-fn send(lane: &mut Lane, now: u64) -> Result<()> {
+fn send(lane: &mut Lane, now: u64) -> Result<(), AllocError> {
     for _ in 0..AT_ONCE {
         let mut bytes = lane.buffer()?;
         bytes.extend_from_slice(&DATAGRAM)?;
@@ -37,7 +38,7 @@ fn take_all(lane: &mut Lane) -> u64 {
 }
 
 /// So many datagrams go through a lane, in whole hundreds.
-pub fn run<R: Clock + CpuClock>(rt: &R, pair: &mut Pair, count: u64) -> Result<Figures> {
+pub fn run<R: Clock + CpuClock>(rt: &R, pair: &mut Pair, count: u64) -> Result<Figures, Fault> {
     pair.begin();
     let watch = Watch::start(rt)?;
     let mut sum = 0u64;

@@ -1,9 +1,10 @@
 //! Datagrams come that don't open, and repeats of one that was taken.
 use crate::application::{open, pattern, write};
+use crate::fault::Fault;
 use crate::figures::{Figures, Watch};
 use crate::pair::{Pair, receive};
-use anyhow::{Context, Result, ensure};
 use quic_connection::{DropReason, Instant, Received};
+use std::alloc::AllocError;
 use std::rt::Clock;
 use std::time::CpuClock;
 
@@ -11,15 +12,16 @@ use std::time::CpuClock;
 const FRAME: usize = 1100;
 
 /// A datagram with bytes of a stream, which the server has taken.
-fn taken_datagram<R: AllocGlobal>(rt: &R, pair: &mut Pair) -> Result<Vec<u8>> {
+fn taken_datagram<R: AllocGlobal>(rt: &R, pair: &mut Pair) -> Result<Vec<u8>, Fault> {
     let data = pattern(rt.alloc())?;
     let client = &mut pair.ends.as_mut().client;
-    let id = open(client).context("no stream may be opened")?;
+    let id = open(client).ok_or(Fault::NoStream)?;
     write(client, id, data.get(..FRAME).unwrap_or(&[]))?;
     let now = Instant::from_nanos(pair.now);
     let mut datagram = Vec::new(rt.alloc());
-    let given = client.poll_transmit(now, &mut datagram)?;
-    ensure!(given.is_some(), "the client gave no datagram");
+    if client.poll_transmit(now, &mut datagram)?.is_none() {
+        return Err(Fault::NoDatagram);
+    }
     let mut copy = Vec::from_slice(rt.alloc(), &datagram)?;
     receive(&mut pair.ends.as_mut().server, pair.now, None, &mut copy)?;
     Ok(datagram)
@@ -31,7 +33,7 @@ fn answer(
     datagram: &[u8],
     is_broken: bool,
     copy: &mut Vec<u8>,
-) -> Result<Received> {
+) -> Result<Received, AllocError> {
     copy.clear();
     copy.extend_from_slice(datagram)?;
     if is_broken && let Some(last) = copy.last_mut() {
@@ -48,7 +50,7 @@ pub fn run<R: Clock + CpuClock + AllocGlobal>(
     pair: &mut Pair,
     count: u64,
     repeats: u64,
-) -> Result<Figures> {
+) -> Result<Figures, Fault> {
     let datagram = taken_datagram(rt, pair)?;
     let mut copy = Vec::with_capacity(rt.alloc(), datagram.len())?;
     pair.begin();
@@ -60,7 +62,7 @@ pub fn run<R: Clock + CpuClock + AllocGlobal>(
         match answer(pair, &datagram, is_broken, &mut copy)? {
             Received::Dropped(DropReason::NotOpened) => {}
             Received::Dropped(DropReason::Duplicate) => opened = opened.wrapping_add(1),
-            other => anyhow::bail!("a datagram was {other}"),
+            other => return Err(Fault::answered(&other)),
         }
     }
     pair.figures(rt, &watch, count, opened)

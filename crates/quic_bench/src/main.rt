@@ -25,6 +25,7 @@
 
 mod application;
 mod bulk;
+mod fault;
 mod figures;
 mod floor;
 mod hostile;
@@ -34,6 +35,7 @@ mod pair;
 mod streams;
 mod task;
 
+use crate::fault::Fault;
 use crate::figures::Figures;
 use crate::pair::Pair;
 use crate::task::{Task, Workload};
@@ -78,7 +80,7 @@ fn work<R: Runtime + CpuClock + AllocGlobal>(
     rt: &R,
     pair: &mut Pair,
     workload: Workload,
-) -> Result<Figures> {
+) -> Result<Figures, Fault> {
     match workload {
         Workload::Bulk { bytes, is_verified } => bulk::run(rt, pair, bytes, is_verified),
         Workload::Growth { bytes, .. } => bulk::run(rt, pair, bytes, false),

@@ -1,8 +1,8 @@
 //! Messages go, of which so many at most are under way.
 use crate::application::{PATTERN, pattern, take_events};
+use crate::fault::Fault;
 use crate::figures::Figures;
 use crate::pair::{End, Pair, Work};
-use anyhow::Result;
 use bytes::Bytes;
 use quic_connection::SendDatagramError;
 use std::alloc::Global;
@@ -23,7 +23,7 @@ struct Messages {
 
 impl Messages {
     /// Sends a message: whether there was room for it.
-    fn send_one(&mut self, end: &mut End) -> Result<bool> {
+    fn send_one(&mut self, end: &mut End) -> Result<bool, Fault> {
         let data = self.data.as_slice();
         let mut datagrams = end.datagrams();
         if datagrams.send_buffer_space() < data.len() {
@@ -49,7 +49,7 @@ impl Messages {
 }
 
 impl Work for Messages {
-    fn client(&mut self, end: &mut End) -> Result<()> {
+    fn client(&mut self, end: &mut End) -> Result<(), Fault> {
         let _ = take_events(end)?;
         let most = self.received.saturating_add(self.ahead).min(self.count);
         for _ in self.sent..most {
@@ -60,7 +60,7 @@ impl Work for Messages {
         Ok(())
     }
 
-    fn server(&mut self, end: &mut End) -> Result<bool> {
+    fn server(&mut self, end: &mut End) -> Result<bool, Fault> {
         let _ = take_events(end)?;
         for _ in 0..u64::MAX {
             let Some(message) = end.datagrams().recv() else {
@@ -87,7 +87,7 @@ pub fn run<R: Clock + CpuClock + AllocGlobal>(
     count: u64,
     size: u64,
     ahead: u64,
-) -> Result<Figures> {
+) -> Result<Figures, Fault> {
     let mut data = pattern(rt.alloc())?;
     data.truncate(size.min(PATTERN as u64) as usize);
     let mut work = Messages {

@@ -2,9 +2,9 @@
 //! driven: at each moment first the client, then the server, each over and over while datagrams
 //! are due: it takes up to `batch` of them and a due timeout, its application acts, and it sends
 //! until it gives nothing. Then the next moment is the least of timers and arrivals.
+use crate::fault::Fault;
 use crate::figures::{Figures, Watch};
 use crate::lane::{Datagram, Lane, ONE_WAY, earlier};
-use anyhow::{Result, bail};
 use quic_connection::{
     Config, ConfigError, Connection, EcnCodepoint, Ends, Instant, Making, NewReno, NewRenoConfig,
     Received, TransportConfig,
@@ -44,10 +44,10 @@ pub struct Network {
 /// What the applications of both ends do.
 pub trait Work {
     /// The client's turn.
-    fn client(&mut self, end: &mut End) -> Result<()>;
+    fn client(&mut self, end: &mut End) -> Result<(), Fault>;
 
     /// The server's turn: whether its application has everything.
-    fn server(&mut self, end: &mut End) -> Result<bool>;
+    fn server(&mut self, end: &mut End) -> Result<bool, Fault>;
 
     /// How many units of work the server's application has.
     fn units(&self) -> u64;
@@ -61,11 +61,11 @@ pub trait Work {
 struct Rest;
 
 impl Work for Rest {
-    fn client(&mut self, _end: &mut End) -> Result<()> {
+    fn client(&mut self, _end: &mut End) -> Result<(), Fault> {
         Ok(())
     }
 
-    fn server(&mut self, _end: &mut End) -> Result<bool> {
+    fn server(&mut self, _end: &mut End) -> Result<bool, Fault> {
         Ok(false)
     }
 
@@ -132,7 +132,7 @@ fn boxed(alloc: Global, ends: BothEnds) -> Result<Box<BothEnds>, AllocError> {
 
 impl Pair {
     /// Two ends at the moment 0, which take so many datagrams before they may send.
-    pub fn new(alloc: Global, streams: VarInt, batch: u64) -> Result<Self> {
+    pub fn new(alloc: Global, streams: VarInt, batch: u64) -> Result<Self, Fault> {
         let ends = boxed(alloc, new_ends(alloc, streams)?)?;
         Ok(Pair {
             ends,
@@ -146,7 +146,7 @@ impl Pair {
 
     /// Each end learns the round trip from a PING, as from a handshake, both come to rest, and the
     /// network becomes what it is to be.
-    pub fn settle(&mut self, network: Network) -> Result<()> {
+    pub fn settle(&mut self, network: Network) -> Result<(), Fault> {
         let ends = self.ends.as_mut();
         ends.client.ping();
         ends.server.ping();
@@ -174,7 +174,7 @@ impl Pair {
         &mut self,
         rt: &R,
         work: &mut W,
-    ) -> Result<Figures> {
+    ) -> Result<Figures, Fault> {
         self.begin();
         let watch = Watch::start(rt)?;
         self.run(work)?;
@@ -188,7 +188,7 @@ impl Pair {
         watch: &Watch,
         units: u64,
         checksum: u64,
-    ) -> Result<Figures> {
+    ) -> Result<Figures, Fault> {
         let (ns, cpu_ns) = watch.read(rt)?;
         Ok(Figures {
             ns,
@@ -203,12 +203,12 @@ impl Pair {
     }
 
     /// Lets both ends run until the server's application has everything.
-    pub fn run<W: Work>(&mut self, work: &mut W) -> Result<()> {
+    pub fn run<W: Work>(&mut self, work: &mut W) -> Result<(), Fault> {
         self.run_until(u64::MAX, work)
     }
 
     /// The same until a moment at most.
-    fn run_until<W: Work>(&mut self, end: u64, work: &mut W) -> Result<()> {
+    fn run_until<W: Work>(&mut self, end: u64, work: &mut W) -> Result<(), Fault> {
         for _ in 0..u64::MAX {
             self.client_turn(work)?;
             if self.server_turn(work)? {
@@ -216,7 +216,7 @@ impl Pair {
             }
             match self.next_moment() {
                 Some(moment) if moment <= end => self.now = self.now.max(moment),
-                None if end == u64::MAX => bail!("both ends rest, and the work isn't done"),
+                None if end == u64::MAX => return Err(Fault::Rest),
                 _ => break,
             }
         }
@@ -224,7 +224,7 @@ impl Pair {
     }
 
     /// The client acts while datagrams are due.
-    fn client_turn<W: Work>(&mut self, work: &mut W) -> Result<()> {
+    fn client_turn<W: Work>(&mut self, work: &mut W) -> Result<(), Fault> {
         for _ in 0..u64::MAX {
             let client = &mut self.ends.as_mut().client;
             let more = take(client, &mut self.down, self.now, self.batch)?;
@@ -238,7 +238,7 @@ impl Pair {
     }
 
     /// The server acts while datagrams are due: whether its application has everything.
-    fn server_turn<W: Work>(&mut self, work: &mut W) -> Result<bool> {
+    fn server_turn<W: Work>(&mut self, work: &mut W) -> Result<bool, Fault> {
         let mut is_done = false;
         for _ in 0..u64::MAX {
             let server = &mut self.ends.as_mut().server;
@@ -267,7 +267,7 @@ fn timer_of(end: &End) -> Option<u64> {
 }
 
 /// Takes datagrams that are due, so many at most, and a due timeout: whether more are due.
-fn take(end: &mut End, inbox: &mut Lane, now: u64, batch: u64) -> Result<bool> {
+fn take(end: &mut End, inbox: &mut Lane, now: u64, batch: u64) -> Result<bool, Fault> {
     for _ in 0..batch {
         let Some(datagram) = inbox.pop_due(now) else {
             break;
@@ -281,15 +281,20 @@ fn take(end: &mut End, inbox: &mut Lane, now: u64, batch: u64) -> Result<bool> {
 }
 
 /// Takes a datagram. None comes twice, so that each has to be taken.
-pub fn receive(end: &mut End, now: u64, ecn: Option<EcnCodepoint>, bytes: &mut [u8]) -> Result<()> {
+pub fn receive(
+    end: &mut End,
+    now: u64,
+    ecn: Option<EcnCodepoint>,
+    bytes: &mut [u8],
+) -> Result<(), Fault> {
     match end.receive(Instant::from_nanos(now), ecn, bytes) {
         Received::Taken => Ok(()),
-        answer => bail!("a datagram was {answer}"),
+        answer => Err(Fault::answered(&answer)),
     }
 }
 
 /// Lets timers expire that are due.
-fn expire(end: &mut End, now: u64) -> Result<()> {
+fn expire(end: &mut End, now: u64) -> Result<(), Fault> {
     if let Some(moment) = timer_of(end)
         && moment <= now
     {
@@ -299,7 +304,7 @@ fn expire(end: &mut End, now: u64) -> Result<()> {
 }
 
 /// Sends until there is nothing to send.
-pub fn transmit(end: &mut End, outbox: &mut Lane, now: u64) -> Result<()> {
+pub fn transmit(end: &mut End, outbox: &mut Lane, now: u64) -> Result<(), Fault> {
     for _ in 0..u64::MAX {
         let mut bytes = outbox.buffer()?;
         match end.poll_transmit(Instant::from_nanos(now), &mut bytes)? {

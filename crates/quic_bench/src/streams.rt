@@ -1,8 +1,8 @@
 //! Streams are opened, written, finished and read to their ends, beside others that stay open.
 use crate::application::{PATTERN, Readable, Reader, finish, open, pattern, take_events, write};
+use crate::fault::Fault;
 use crate::figures::Figures;
 use crate::pair::{End, Pair, Work};
-use anyhow::{Context, Result, ensure};
 use std::rt::Clock;
 use std::time::CpuClock;
 
@@ -16,17 +16,19 @@ struct Idle {
 }
 
 impl Work for Idle {
-    fn client(&mut self, end: &mut End) -> Result<()> {
+    fn client(&mut self, end: &mut End) -> Result<(), Fault> {
         let _ = take_events(end)?;
         for _ in self.opened..self.count {
-            let id = open(end).context("no stream may be opened")?;
-            ensure!(write(end, id, &[1])? == 1, "a write was blocked");
+            let id = open(end).ok_or(Fault::NoStream)?;
+            if write(end, id, &[1])? != 1 {
+                return Err(Fault::WriteBlocked);
+            }
             self.opened = self.opened.wrapping_add(1);
         }
         Ok(())
     }
 
-    fn server(&mut self, end: &mut End) -> Result<bool> {
+    fn server(&mut self, end: &mut End) -> Result<bool, Fault> {
         for _ in 0..u64::MAX {
             let Some(id) = self.readable.next(end)? else {
                 break;
@@ -59,12 +61,14 @@ struct Streams {
 
 impl Streams {
     /// Opens a stream, writes all its bytes and finishes it: whether one may be opened.
-    fn send_one(&mut self, end: &mut End) -> Result<bool> {
+    fn send_one(&mut self, end: &mut End) -> Result<bool, Fault> {
         let Some(id) = open(end) else {
             return Ok(false);
         };
         let data = self.data.as_slice();
-        ensure!(write(end, id, data)? == data.len(), "a write was blocked");
+        if write(end, id, data)? != data.len() {
+            return Err(Fault::WriteBlocked);
+        }
         finish(end, id)?;
         self.opened = self.opened.wrapping_add(1);
         Ok(true)
@@ -72,7 +76,7 @@ impl Streams {
 }
 
 impl Work for Streams {
-    fn client(&mut self, end: &mut End) -> Result<()> {
+    fn client(&mut self, end: &mut End) -> Result<(), Fault> {
         let _ = take_events(end)?;
         let most = self.ended.saturating_add(self.at_once).min(self.count);
         for _ in self.opened..most {
@@ -83,7 +87,7 @@ impl Work for Streams {
         Ok(())
     }
 
-    fn server(&mut self, end: &mut End) -> Result<bool> {
+    fn server(&mut self, end: &mut End) -> Result<bool, Fault> {
         for _ in 0..u64::MAX {
             let Some(id) = self.readable.next(end)? else {
                 break;
@@ -112,7 +116,7 @@ pub fn run<R: Clock + CpuClock + AllocGlobal>(
     size: u64,
     at_once: u64,
     idle: u64,
-) -> Result<Figures> {
+) -> Result<Figures, Fault> {
     hold_open(pair, idle)?;
     let mut data = pattern(rt.alloc())?;
     // A task has no size above that of the pattern.
@@ -130,7 +134,7 @@ pub fn run<R: Clock + CpuClock + AllocGlobal>(
 }
 
 /// Opens so many streams that stay open, if any.
-fn hold_open(pair: &mut Pair, count: u64) -> Result<()> {
+fn hold_open(pair: &mut Pair, count: u64) -> Result<(), Fault> {
     if count == 0 {
         return Ok(());
     }
