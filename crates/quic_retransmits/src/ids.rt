@@ -1,10 +1,10 @@
 //! Sets of stream ids.
 ghost use Rattle.std.specs.Prelude.{◌≡◌, ℕ, List, [], not, false, IfOk, OnOk, OnErr};
 ghost use Rattle.std.specs.List.{list_any};
-ghost use Rattle.std.specs.Option.{is_some};
 ghost use Rattle.quic_retransmits.specs.Retransmits.{AreIds, with_id, without_id, with_ids, without_ids, has_id, first_of, others_of, is_any};
 
 use crate::queries::LimitQueries;
+use crate::retransmits::ControlKind;
 use quic_wire_core::{StreamId, VarInt};
 use std::alloc::{AllocError, Global};
 use std::collections::BTreeSet;
@@ -69,28 +69,14 @@ fn insert_all(
     Ok(())
 }
 
-// Whether MAX_STREAM_DATA of one of the streams may be sent.
-fn any_flow_control<S: LimitQueries>(ids: &BTreeSet<u64>, streams: &S) -> bool
+// Whether a frame of a kind may be sent on one of the streams.
+fn any_counts<S: LimitQueries>(kind: ControlKind, ids: &BTreeSet<u64>, streams: &S) -> bool
     requires { AreIds ids.now.keys }
-    ensures { result ≡ list_any (λ id. S.flow_control_goes streams.now id) ids.now.keys }
+    ensures { result ≡ list_any (λ id. S.gate_on streams.now kind id) ids.now.keys }
 {
     for id in ids.iter() {
         let id = StreamId::from(VarInt::from_u64_unchecked(*id));
-        if streams.can_send_flow_control(id) {
-            return true;
-        }
-    }
-    false
-}
-
-// Whether STREAM_DATA_BLOCKED of one of the streams may be sent.
-fn any_blocked<S: LimitQueries>(ids: &BTreeSet<u64>, streams: &S) -> bool
-    requires { AreIds ids.now.keys }
-    ensures { result ≡ list_any (λ id. is_some (S.blocked_limit streams.now id)) ids.now.keys }
-{
-    for id in ids.iter() {
-        let id = StreamId::from(VarInt::from_u64_unchecked(*id));
-        if streams.stream_data_blocked_limit(id).is_some() {
+        if streams.counts_on(kind, id) {
             return true;
         }
     }
@@ -173,7 +159,7 @@ impl StreamIds {
     pub fn is_empty(&self) -> bool
         ensures { result ≡ not (is_any self.now) }
     {
-        self.first().is_none()
+        self.ids.is_empty()
     }
 
     /// Puts the ids of another set in, and gives those that are new, by which the call can be taken back.
@@ -198,17 +184,10 @@ impl StreamIds {
         remove_all(&mut self.ids, &mut ids);
     }
 
-    /// Whether MAX_STREAM_DATA of one of the streams may be sent.
-    pub fn any_flow_control<S: LimitQueries>(&self, streams: &S) -> bool
-        ensures { result ≡ list_any (λ id. S.flow_control_goes streams.now id) self.now }
+    /// Whether a frame of a kind may be sent on one of the streams.
+    pub fn any_counts<S: LimitQueries>(&self, kind: ControlKind, streams: &S) -> bool
+        ensures { result ≡ list_any (λ id. S.gate_on streams.now kind id) self.now }
     {
-        any_flow_control(&self.ids, streams)
-    }
-
-    /// Whether STREAM_DATA_BLOCKED of one of the streams may be sent.
-    pub fn any_blocked<S: LimitQueries>(&self, streams: &S) -> bool
-        ensures { result ≡ list_any (λ id. is_some (S.blocked_limit streams.now id)) self.now }
-    {
-        any_blocked(&self.ids, streams)
+        any_counts(kind, &self.ids, streams)
     }
 }

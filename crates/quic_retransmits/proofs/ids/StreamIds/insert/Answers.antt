@@ -1,4 +1,3 @@
-use Rattle.std.proofs.Common.{rules, ◌<◌, ◌^◌, arith}
 use Rattle.quic_retransmits.proofs.IdSteps.{are_inserted}
 use Rattle.quic_retransmits.proofs.ids.StreamIds.insert.Goals as goal
 
