@@ -1,7 +1,9 @@
 //! Sets of stream ids.
-ghost use Rattle.std.specs.Prelude.{◌≡◌, ℕ, List, [], not, false, IfOk, OnOk, OnErr};
+ghost use Rattle.std.specs.Prelude.{◌≡◌, ◌<◌, ◌^◌, ℕ, List, [], not, true, false, None, IfOk, OnOk, OnErr};
 ghost use Rattle.std.specs.List.{list_any};
+ghost use Rattle.std.specs.Option.{is_some};
 ghost use Rattle.quic_retransmits.specs.Retransmits.{AreIds, with_id, without_id, with_ids, without_ids, has_id, first_of, others_of, is_any};
+ghost use Rattle.quic_retransmits.specs.Lone.{all_ids, AreAllIds};
 
 use crate::queries::LimitQueries;
 use crate::retransmits::ControlKind;
@@ -10,21 +12,57 @@ use std::alloc::{AllocError, Global};
 use std::collections::BTreeSet;
 use std::marker::Model;
 
-/// A set of stream ids. Contracts see them, ascending.
+/// A set of stream ids. Contracts see them, ascending. An id that comes alone takes no memory.
 #[derive(Drop)]
 pub struct StreamIds {
+    // The only id, where it came into an empty set: `ids` has none then.
+    lone: Option<u64>,
     ids: BTreeSet<u64>,
 }
 
 impl Model for StreamIds {
     ghost use Rattle.std.specs.Prelude.{List, ℕ};
-    ghost use Rattle.quic_retransmits.specs.Retransmits.{AreIds};
+    ghost use Rattle.quic_retransmits.specs.Lone.{all_ids, AreAllIds};
 
     ghost Value = { List ℕ };
 
-    ghost view = { λ s. s.ids.keys };
+    ghost view = { λ s. all_ids s.lone s.ids.keys };
 
-    ghost invariant = { λ s. AreIds s.ids.keys };
+    ghost invariant = { λ s. AreAllIds s.lone s.ids.keys };
+}
+
+// Whether an id is the only one.
+fn is_lone(lone: Option<u64>, id: u64) -> bool
+    ensures { result ≡ has_id id (all_ids lone []) }
+{
+    match lone {
+        Some(only) => only == id,
+        None => false,
+    }
+}
+
+// The only id comes among the others. An `Err` (want of memory) changes nothing.
+fn spread(lone: &mut Option<u64>, ids: &mut BTreeSet<u64>) -> Result<(), AllocError>
+    requires { AreAllIds lone.old ids.old.keys }
+    ensures none { OnOk result (lone.new ≡ None) }
+    ensures ok { OnOk result (ids.new.keys ≡ all_ids lone.old ids.old.keys) }
+    ensures err { OnErr result (lone.new ≡ lone.old) }
+    ensures same { OnErr result (ids.new.keys ≡ ids.old.keys) }
+    ensures lacking { OnErr result (is_some lone.old ≡ true) }
+{
+    if let Some(id) = *lone {
+        ids.insert(id)?;
+        *lone = None;
+    }
+    Ok(())
+}
+
+// The stream of a number.
+fn id_of(number: u64) -> StreamId
+    requires { number < 2 ^ 62 }
+    ensures { result ≡ number }
+{
+    StreamId::from(VarInt::from_u64_unchecked(number))
 }
 
 // Puts an id in, and notes it where it is new.
@@ -75,8 +113,7 @@ fn any_counts<S: LimitQueries>(kind: ControlKind, ids: &BTreeSet<u64>, streams: 
     ensures { result ≡ list_any (λ id. S.gate_on streams.now kind id) ids.now.keys }
 {
     for id in ids.iter() {
-        let id = StreamId::from(VarInt::from_u64_unchecked(*id));
-        if streams.counts_on(kind, id) {
+        if streams.counts_on(kind, id_of(*id)) {
             return true;
         }
     }
@@ -89,6 +126,7 @@ impl StreamIds {
         ensures { result ≡ [] }
     {
         StreamIds {
+            lone: None,
             ids: BTreeSet::new(alloc),
         }
     }
@@ -97,7 +135,8 @@ impl StreamIds {
     pub fn contains(&self, id: StreamId) -> bool
         ensures { result ≡ has_id id self.now }
     {
-        self.ids.contains(&u64::from(id))
+        let id = u64::from(id);
+        is_lone(self.lone, id) || self.ids.contains(&id)
     }
 
     /// Puts an id in, and says whether it is new.
@@ -111,7 +150,16 @@ impl StreamIds {
         ensures err { OnErr result (self.new ≡ self.old) }
         ensures lacking { OnErr result (has_id id self.old ≡ false) }
     {
-        let is_new = self.ids.insert(VarInt::from(id).into_inner())?;
+        let id = VarInt::from(id).into_inner();
+        if is_lone(self.lone, id) {
+            return Ok(false);
+        }
+        if self.lone.is_none() && self.ids.is_empty() {
+            self.lone = Some(id);
+            return Ok(true);
+        }
+        spread(&mut self.lone, &mut self.ids)?;
+        let is_new = self.ids.insert(id)?;
         Ok(is_new)
     }
 
@@ -120,7 +168,19 @@ impl StreamIds {
         ensures new { self.new ≡ without_id id self.old }
         ensures answer { result ≡ has_id id self.old }
     {
-        self.ids.remove(&u64::from(id))
+        self.remove_number(u64::from(id))
+    }
+
+    // Takes the id of this number out, if it has it, and says whether it had.
+    fn remove_number(&mut self, id: u64) -> bool
+        ensures new { self.new ≡ without_id id self.old }
+        ensures answer { result ≡ has_id id self.old }
+    {
+        if is_lone(self.lone, id) {
+            self.lone = None;
+            return true;
+        }
+        self.ids.remove(&id)
     }
 
     /// Takes an id back that was put in, which was new then or wasn't.
@@ -130,7 +190,7 @@ impl StreamIds {
         // The proof reads that the ids ascend.
         let _count = self.ids.len();
         if was_new {
-            self.ids.remove(&u64::from(id));
+            let _ = self.remove_number(u64::from(id));
         }
     }
 
@@ -138,8 +198,11 @@ impl StreamIds {
     pub fn first(&self) -> Option<StreamId>
         ensures { result ≡ first_of self.now }
     {
+        if let Some(id) = self.lone {
+            return Some(id_of(id));
+        }
         match self.ids.first() {
-            Some(id) => Some(StreamId::from(VarInt::from_u64_unchecked(*id))),
+            Some(id) => Some(id_of(*id)),
             None => None,
         }
     }
@@ -149,8 +212,12 @@ impl StreamIds {
         ensures answer { result ≡ first_of self.old }
         ensures new { self.new ≡ others_of self.old }
     {
+        if let Some(id) = self.lone {
+            self.lone = None;
+            return Some(id_of(id));
+        }
         match self.ids.pop_first() {
-            Some(id) => Some(StreamId::from(VarInt::from_u64_unchecked(id))),
+            Some(id) => Some(id_of(id)),
             None => None,
         }
     }
@@ -159,7 +226,7 @@ impl StreamIds {
     pub fn is_empty(&self) -> bool
         ensures { result ≡ not (is_any self.now) }
     {
-        self.ids.is_empty()
+        self.lone.is_none() && self.ids.is_empty()
     }
 
     /// Puts the ids of another set in, and gives those that are new, by which the call can be taken back.
@@ -173,7 +240,11 @@ impl StreamIds {
         ensures err { OnErr result (self.new ≡ self.old) }
     {
         let mut added = Vec::new(alloc);
-        insert_all(&mut self.ids, &more.ids, &mut added)?;
+        spread(&mut self.lone, &mut self.ids)?;
+        match more.lone {
+            Some(id) => insert_noted(&mut self.ids, id, &mut added)?,
+            None => insert_all(&mut self.ids, &more.ids, &mut added)?,
+        }
         Ok(added)
     }
 
@@ -181,13 +252,18 @@ impl StreamIds {
     pub fn remove_all(&mut self, mut ids: Vec<u64>)
         ensures { self.new ≡ without_ids ids.items self.old }
     {
-        remove_all(&mut self.ids, &mut ids);
+        while let Some(id) = ids.pop() {
+            let _ = self.remove_number(id);
+        }
     }
 
     /// Whether a frame of a kind may be sent on one of the streams.
     pub fn any_counts<S: LimitQueries>(&self, kind: ControlKind, streams: &S) -> bool
         ensures { result ≡ list_any (λ id. S.gate_on streams.now kind id) self.now }
     {
-        any_counts(kind, &self.ids, streams)
+        match self.lone {
+            Some(id) => streams.counts_on(kind, id_of(id)),
+            None => any_counts(kind, &self.ids, streams),
+        }
     }
 }
