@@ -8,4 +8,3 @@ pub mod Undone
 pub mod Last
 pub mod Joining
 pub mod Copying
-pub mod Rows

@@ -62,7 +62,7 @@ pub fn run<R: Clock + CpuClock + AllocGlobal>(
         match answer(pair, &datagram, is_broken, &mut copy)? {
             Received::Dropped(DropReason::NotOpened) => {}
             Received::Dropped(DropReason::Duplicate) => opened = opened.wrapping_add(1),
-            other => return Err(other.into()),
+            other => return Err(Fault::answered(&other)),
         }
     }
     pair.figures(rt, &watch, count, opened)

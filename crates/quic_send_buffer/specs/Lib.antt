@@ -1,6 +1,5 @@
 pub mod Buffered
 pub mod BufferedHistory
 pub mod KeptBytes
-pub mod Row
 pub mod Source
 pub mod WritesLaws

@@ -1,0 +1,52 @@
+use Rattle.std.proofs.Common.{◌≡◌, ◌≤◌, Some, rules, ap, arith}
+use Rattle.quic_streams_parts.specs.Table.{at, put}
+use Rattle.quic_streams_parts.specs.RecvHalf.{RecvHalf, credit}
+use Rattle.quic_streams_halves.specs.Halves.{Halves, seen_in}
+use Rattle.quic_streams_halves.proofs.Totals.{put_counted, put_fits, seen_term, consumed_term}
+use Rattle.quic_streams_halves.proofs.recv_halves.RecvHalves.skip.Goals as goal
+
+pub with_term-self-inside-requires-2-clause-fits : goal.with_term-self-inside-requires-2-clause-fits
+with_term-self-inside-requires-2-clause-fits c =
+    let es = c.self.inside.live in
+    let h = c.in-Some.half.now in
+    let w = c.skip.new.self in
+    let found : at es c.args.frame.now.id ≡ Some h = search rules in
+    let seen = c.end-seen.ensures.value in
+    let to = c.end.ensures.value in
+    let consumed = c.credit-consumed.ensures.value in
+    let now = c.credit.ensures.value in
+    let within : credit w ≤ w.seen = omega (arith, c.credit.ensures.within) in
+    let all = ap (λ (h : Halves RecvHalf). seen_in h.live) c.self.view_is in
+    let sum = c.self.invariant.seen in
+    let small = c.end.ensures.small in
+    let room = c.requires.room in
+    let fits = put_fits es c.args.frame.now.id c.self.inside.seen c.self.inside.consumed h w c.self.invariant found within in
+    omega arith
+
+pub invariant_of-self-2 : goal.invariant_of-self-2
+invariant_of-self-2 c =
+    let es = c.self.inside.live in
+    let h = c.in-Some.half.now in
+    let w = c.skip.new.self in
+    let found : at es c.args.frame.now.id ≡ Some h = search rules in
+    let seen = c.end-seen.ensures.value in
+    let to = c.end.ensures.value in
+    let consumed = c.credit-consumed.ensures.value in
+    let now = c.credit.ensures.value in
+    let within : credit w ≤ w.seen = omega (arith, c.credit.ensures.within) in
+    let told = ap (λ k. put c.self.inside.live k c.skip.new.self) c.from.ensures in
+    let s2 = c.with_term-self-inside.ensures in
+    let c2 = c.with_term-self-inside-2.ensures in
+    put_counted es _ c.args.frame.now.id c.self.inside.seen c.self.inside.consumed _ _ h w c.self.invariant found told within (omega arith) (omega arith)
+
+pub with_term-self-inside-requires-clause-within : goal.with_term-self-inside-requires-clause-within
+with_term-self-inside-requires-clause-within c =
+    let found : at c.self.inside.live c.args.frame.now.id ≡ Some c.in-Some.half.now = search rules in
+    let term = seen_term c.self.inside.live c.args.frame.now.id c.self.inside.seen c.self.inside.consumed c.in-Some.half.now c.self.invariant found in
+    omega (arith, c.end-seen.ensures.value)
+
+pub with_term-self-inside-requires-2-clause-within : goal.with_term-self-inside-requires-2-clause-within
+with_term-self-inside-requires-2-clause-within c =
+    let found : at c.self.inside.live c.args.frame.now.id ≡ Some c.in-Some.half.now = search rules in
+    let term = consumed_term c.self.inside.live c.args.frame.now.id c.self.inside.seen c.self.inside.consumed c.in-Some.half.now c.self.invariant found in
+    omega (arith, c.credit-consumed.ensures.value)
