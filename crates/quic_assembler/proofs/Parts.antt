@@ -8,3 +8,4 @@ pub mod Undone
 pub mod Last
 pub mod Joining
 pub mod Copying
+pub mod Rows

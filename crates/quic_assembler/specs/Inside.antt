@@ -7,9 +7,9 @@ use Rattle.quic_assembler.specs.declared.assembler.parts.Parts.TheInside as part
 
 -- the parts lie apart, and their runs and their bytes are counted
 pub record Counted (a : parts.Inside) : Type 0 where
-  pub apart : AreApart 0 a.map.entries
-  pub counted : a.runs ≡ runs_of a.map.entries
-  pub bytes : a.bytes ≡ waiting_bytes a.map.entries
+  pub apart : AreApart 0 a.map
+  pub counted : a.runs ≡ runs_of a.map
+  pub bytes : a.bytes ≡ waiting_bytes a.map
 
 -- what is seen of an assembler
 abbrev pub seen_of : assembler.Inside → Arrived

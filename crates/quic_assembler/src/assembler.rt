@@ -4,6 +4,7 @@ ghost use Rattle.quic_assembler.specs.Arrived.{IsLawful, byte_at, bytes_read_of,
 ghost use Rattle.quic_sets.specs.Runs.{Has, Drops};
 ghost use Rattle.quic_assembler.specs.Waiting.{BringsNew, IsInserted, IsRead, IsLeft};
 
+mod part_map;
 mod parts;
 
 use bytes::Bytes;

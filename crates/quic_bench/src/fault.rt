@@ -70,18 +70,6 @@ pub enum Fault {
     Rest,
 }
 
-impl Fault {
-    /// That a datagram got this answer, and had to get another.
-    pub fn answered(answer: &Received) -> Self {
-        match answer {
-            Received::Taken => Fault::Taken,
-            Received::Dropped(reason) => Fault::Dropped(*reason),
-            Received::Closed(_) => Fault::Closed,
-            Received::Failed => Fault::Failed,
-        }
-    }
-}
-
 impl From<AllocError> for Fault {
     fn from(_error: AllocError) -> Fault {
         Fault::Memory
@@ -97,6 +85,18 @@ impl From<io::Error> for Fault {
 impl From<Failed> for Fault {
     fn from(_error: Failed) -> Fault {
         Fault::Failed
+    }
+}
+
+// A datagram got this answer, and had to get another.
+impl From<Received> for Fault {
+    fn from(answer: Received) -> Fault {
+        match answer {
+            Received::Taken => Fault::Taken,
+            Received::Dropped(reason) => Fault::Dropped(reason),
+            Received::Closed(_) => Fault::Closed,
+            Received::Failed => Fault::Failed,
+        }
     }
 }
 

@@ -62,7 +62,7 @@ pub fn run<R: Clock + CpuClock + AllocGlobal>(
         match answer(pair, &datagram, is_broken, &mut copy)? {
             Received::Dropped(DropReason::NotOpened) => {}
             Received::Dropped(DropReason::Duplicate) => opened = opened.wrapping_add(1),
-            other => return Err(Fault::answered(&other)),
+            other => return Err(other.into()),
         }
     }
     pair.figures(rt, &watch, count, opened)

@@ -289,7 +289,7 @@ pub fn receive(
 ) -> Result<(), Fault> {
     match end.receive(Instant::from_nanos(now), ecn, bytes) {
         Received::Taken => Ok(()),
-        answer => Err(Fault::answered(&answer)),
+        answer => Err(answer.into()),
     }
 }
 

@@ -1,38 +1,29 @@
 -- What messages and frames about streams say: that they ask for an acknowledgement, and what they carry.
-use Rattle.std.proofs.Common.{◌≡◌, ℕ, ◌+◌, ◌-◌, ◌≤◌, Bool, true, false, List, [], ◌∷◌, ◌++◌, length, Option, Some, None, ◌⊎◌, inl, inr, refl, sym, ap, subst, ◌∙◌, arith}
-use Rattle.std.specs.Prelude.{map, if◌then◌else◌, nat_lt, Result, Ok, Err, IfOk, OnOk}
+use Rattle.std.proofs.Common.{◌≡◌, ℕ, ◌+◌, ◌-◌, ◌≤◌, Bool, true, List, [], ◌∷◌, ◌++◌, length, Option, Some, None, ◌⊎◌, inl, inr, refl, sym, ap, subst, ◌∙◌, arith}
+use Rattle.std.specs.Prelude.{map, nat_lt, Result, Ok, Err, IfOk, OnOk}
 use Rattle.std.specs.List.{fold}
-use Rattle.std.specs.Option.{option_map}
 use Rattle.std.proofs.Math.Bool.{or-true}
 use Rattle.std.proofs.lemmas.Bool.{lt-ltb, le-ltb}
 use Rattle.std.proofs.lemmas.List.{append_assoc, append-nil, length-append, map-append}
 use Rattle.std.proofs.lemmas.List.Folds.{list_any-append}
 use Rattle.std.proofs.lemmas.List.Sums.{fold-append}
-use Rattle.quic_wire_core.specs.declared.stream_id.Dir.{Dir}
-use Rattle.quic_wire_core.specs.declared.stream_id.Dir.TheVariants.{Bi, Uni}
-use Rattle.quic_wire.specs.Value.{FrameValue, StreamValue, StopSendingValue, ack, stream, datagram, reset_stream, stop_sending, max_data, max_stream_data, max_streams, data_blocked, stream_data_blocked, asks}
-use Rattle.quic_wire.specs.Writing.{spelling, spelled_all, stream_spelling, written, widths, width_of, numbers_of}
+use Rattle.quic_wire.specs.Value.{FrameValue, StreamValue, padding, ping, ack, stream, connection_close, application_close, datagram, asks}
+use Rattle.quic_wire.specs.Writing.{spelling, spelled_all, stream_spelling, written, widths, width_of, numbers_of, fields_of, text_of, kind_as}
+use Rattle.quic_wire.specs.FrameTypes.{type_of}
 use Rattle.quic_wire_core.specs.Varint.{shortest}
+use Rattle.quic_wire_core.specs.Law.{length-shortest, varint_size_positive}
 use Rattle.quic_wire.proofs.FrameWritten.{stream_length}
 use Rattle.quic_send_buffer.specs.Buffered.{writes_length}
 use Rattle.quic_send_buffer.specs.declared.stream_meta.StreamMeta.{StreamMeta}
 use Rattle.quic_retransmits.specs.Retransmits.{Retransmits, nothing_waits}
 use Rattle.quic_retransmits.specs.Kept.{made}
-use Rattle.quic_streams_parts.specs.Table.{at}
 use Rattle.quic_streams_parts.specs.SendHalf.{SendHalf, frame_of, meta_of}
-use Rattle.quic_wire.specs.FrameView.{is_one_way}
-use Rattle.quic_streams_parts.specs.Dirs.{of}
-use Rattle.quic_streams_parts.specs.RecvHalf.{RecvHalf, takes_limits, raised_on}
-use Rattle.quic_streams_state.specs.declared.control.ControlKind.{ControlKind}
-use Rattle.quic_streams_state.specs.declared.control.ControlKind.TheVariants.{ResetStream, StopSending, MaxData, MaxStreamData, MaxStreams, DataBlocked, StreamDataBlocked}
+use Rattle.quic_retransmits.specs.declared.retransmits.ControlKind.{ControlKind}
 use Rattle.quic_streams_state.specs.declared.state.StreamsState.{StreamsState}
-use Rattle.quic_streams_state.specs.Limits.{raised_data, raised_count, can_send_data_blocked}
-use Rattle.quic_streams_state.specs.Waiting.{stream_data_blocked_limit}
-use Rattle.quic_streams_state.specs.Control.{Entry, Draft, reset_entry, reset_frame, stop_entry, data_entry, limit_entry, limit_frame, count_entry, blocked_entry, stream_blocked_entry, waiting, first_sent, no_frames}
+use Rattle.quic_streams_state.specs.Control.{Draft, first_sent, no_frames, kind_of}
 use Rattle.quic_streams_state.specs.State.{streams_of}
 use Rattle.quic_streams_state.specs.Frames.{Sent, stream_room, frame_sent, no_stream_frames, stream_frames_in}
 use Rattle.quic_streams_laws.specs.ControlWalk.{by_control, by_stream_frames}
-use Rattle.quic_streams_laws.specs.QuietLaws.{all_any, listed_first, flag_first}
 use Rattle.quic_machine.specs.Tracking.{Carried, acked_in, streams_in, and_again, retransmits_in, carried_in}
 use Rattle.quic_machine.specs.Poll.{asking}
 use Rattle.quic_messages.specs.Messages.{frame_bytes}
@@ -80,87 +71,30 @@ streams_more (f ∷ fs) gs none = streams_more fs gs none
 
 -- ---- what a frame of control says
 
--- what waits says by its frame that it is to be sent again; the frame asks, names no number and has no bytes of a stream
-record Says (e : Entry) (f : FrameValue) : Type 0 where
-  carried : (r : Retransmits) → e.carried r ≡ and_again r f
+-- what begins with a number has a byte at least
+numbered_some : (n : ℕ) (ns text : List ℕ) → 1 ≤ length (written (n ∷ ns) ++ text)
+numbered_some n ns text =
+    let all = length-append (written (n ∷ ns)) text in
+    let front = length-append (shortest n) (written ns) in
+    let long = length-shortest n in
+    let some = varint_size_positive n in
+    omega arith
+
+-- it asks, names no number and has no bytes of a stream
+record Says (f : FrameValue) : Type 0 where
   asks_for : asks f ≡ true
   names_none : acked_in (f ∷ []) ≡ None
   no_bytes : streams_in (f ∷ []) ≡ []
   some : 1 ≤ length (spelling f)
 
--- whichever streams there are
-record IsSaying (e : Entry) : Type 0 where
-  says : (s : StreamsState) (f : FrameValue) → e.frame s ≡ Some f → Says e f
-
--- a frame that is none says all
-none_says : (e : Entry) (f : FrameValue) → None ≡ Some f → Says e f
-none_says e f due = cc
-
--- one that is known says what it says
-known_says : (e : Entry) (g f : FrameValue) → Says e g → Some g ≡ Some f → Says e f
-known_says e g f says due = let same : g ≡ f = cc in subst (Says e) same says
-
-reset_says : (r : ℕ × ℕ) → IsSaying (reset_entry r)
-reset_says r = record { says = λ s f due. go f (at s.sending.halves.live r.0) due }
-  where
-    one : (size : ℕ) → Says (reset_entry r) (reset_stream (record { id = r.0; code = r.1; final_size = size }))
-    one size = record { carried = λ q. refl; asks_for = refl; names_none = refl; no_bytes = refl; some = omega arith }
-
-    sized : (f : FrameValue) (o : Option ℕ) → option_map (λ size. reset_stream (record { id = r.0; code = r.1; final_size = size })) o ≡ Some f → Says (reset_entry r) f
-    sized f None due = none_says (reset_entry r) f due
-    sized f (Some size) due = known_says (reset_entry r) (reset_stream (record { id = r.0; code = r.1; final_size = size })) f (one size) due
-
-    go : (f : FrameValue) (o : Option SendHalf) → reset_frame r o ≡ Some f → Says (reset_entry r) f
-    go f None due = none_says (reset_entry r) f due
-    go f (Some h) due = sized f h.reset due
-
-stop_says : (x : StopSendingValue) → IsSaying (stop_entry x)
-stop_says x = record { says = λ s f due. known_says (stop_entry x) (stop_sending x) f (record { carried = λ q. refl; asks_for = refl; names_none = refl; no_bytes = refl; some = omega arith }) due }
-
-data_says : IsSaying data_entry
-data_says = record { says = λ s f due. known_says data_entry (max_data (raised_data s.receiving)) f (record { carried = λ q. refl; asks_for = refl; names_none = refl; no_bytes = refl; some = omega arith }) due }
-
-limit_says : (id : ℕ) → IsSaying (limit_entry id)
-limit_says id = record { says = λ s f due. go f s.receiving.stream_window (at s.receiving.halves.live id) due }
-  where
-    tested : (f : FrameValue) (window : ℕ) (h : RecvHalf) (b : Bool) → (if b then Some (max_stream_data (record { id = id; limit = raised_on window h })) else None) ≡ Some f → Says (limit_entry id) f
-    tested f window h true due = known_says (limit_entry id) (max_stream_data (record { id = id; limit = raised_on window h })) f (record { carried = λ q. refl; asks_for = refl; names_none = refl; no_bytes = refl; some = omega arith }) due
-    tested f window h false due = none_says (limit_entry id) f due
-
-    go : (f : FrameValue) (window : ℕ) (o : Option RecvHalf) → limit_frame window id o ≡ Some f → Says (limit_entry id) f
-    go f window None due = none_says (limit_entry id) f due
-    go f window (Some h) due = tested f window h (takes_limits h) due
-
-count_says : (dir : Dir) → IsSaying (count_entry dir)
-count_says dir = record { says = λ s f due. known_says (count_entry dir) (max_streams (record { one_way = is_one_way dir; count = raised_count dir s.opening })) f (one dir (raised_count dir s.opening)) due }
-  where
-    one : (dir : Dir) (count : ℕ) → Says (count_entry dir) (max_streams (record { one_way = is_one_way dir; count = count }))
-    one Bi count = record { carried = λ q. refl; asks_for = refl; names_none = refl; no_bytes = refl; some = omega arith }
-    one Uni count = record { carried = λ q. refl; asks_for = refl; names_none = refl; no_bytes = refl; some = omega arith }
-
-blocked_says : IsSaying blocked_entry
-blocked_says = record { says = λ s f due. go f s.sending.limit (can_send_data_blocked s) due }
-  where
-    go : (f : FrameValue) (limit : ℕ) (b : Bool) → (if b then Some (data_blocked limit) else None) ≡ Some f → Says blocked_entry f
-    go f limit true due = known_says blocked_entry (data_blocked limit) f (record { carried = λ q. refl; asks_for = refl; names_none = refl; no_bytes = refl; some = omega arith }) due
-    go f limit false due = none_says blocked_entry f due
-
-stream_blocked_says : (id : ℕ) → IsSaying (stream_blocked_entry id)
-stream_blocked_says id = record { says = λ s f due. go f (stream_data_blocked_limit s id) due }
-  where
-    go : (f : FrameValue) (o : Option ℕ) → option_map (λ limit. stream_data_blocked (record { id = id; limit = limit })) o ≡ Some f → Says (stream_blocked_entry id) f
-    go f None due = none_says (stream_blocked_entry id) f due
-    go f (Some limit) due = known_says (stream_blocked_entry id) (stream_data_blocked (record { id = id; limit = limit })) f (record { carried = λ q. refl; asks_for = refl; names_none = refl; no_bytes = refl; some = omega arith }) due
-
--- so does the first that waits of a kind
-first_says : (kind : ControlKind) (p : Retransmits) (e : Entry) (es : List Entry) → waiting kind p ≡ e ∷ es → IsSaying e
-first_says ResetStream p e es is = let x = listed_first (λ r. Unit {0}) reset_entry p.reset_stream e es (all_any p.reset_stream) is in subst IsSaying x.2 (reset_says x.0)
-first_says StopSending p e es is = let x = listed_first (λ r. Unit {0}) stop_entry p.stop_sending e es (all_any p.stop_sending) is in subst IsSaying x.2 (stop_says x.0)
-first_says MaxData p e es is = subst IsSaying (flag_first p.max_data data_entry e es is) data_says
-first_says MaxStreamData p e es is = let x = listed_first (λ r. Unit {0}) limit_entry p.max_stream_data e es (all_any p.max_stream_data) is in subst IsSaying x.2 (limit_says x.0)
-first_says (MaxStreams dir) p e es is = subst IsSaying (flag_first (of dir p.max_stream_id) (count_entry dir) e es is) (count_says dir)
-first_says DataBlocked p e es is = subst IsSaying (flag_first p.data_blocked blocked_entry e es is) blocked_says
-first_says StreamDataBlocked p e es is = let x = listed_first (λ r. Unit {0}) stream_blocked_entry p.stream_data_blocked e es (all_any p.stream_data_blocked) is in subst IsSaying x.2 (stream_blocked_says x.0)
+control_says : (f : FrameValue) (kind : ControlKind) → kind_of f ≡ Some kind → Says f
+control_says padding kind is = cc
+control_says ping kind is = cc
+control_says (ack a) kind is = cc
+control_says (stream s) kind is = cc
+control_says (connection_close c) kind is = cc
+control_says (application_close c) kind is = cc
+control_says f kind is = record { asks_for = refl; names_none = refl; no_bytes = refl; some = numbered_some (type_of (kind_as f)) (fields_of f) (text_of f) }
 
 -- ---- what frames of control say
 
@@ -176,9 +110,9 @@ record Told (d : Draft) : Type 0 where
   names_none : acked_in d.frames ≡ None
   no_bytes : streams_in d.frames ≡ []
 
-told_more : (d : Draft) (kind : ControlKind) (e : Entry) (f : FrameValue) → Says e f → Told d → Told (first_sent kind e f d)
-told_more d kind e f says t = record {
-  carried = says.carried d.sent ∙ ap (λ (r : Retransmits). and_again r f) t.carried ∙ sym (fold-append and_again nothing_waits d.frames (f ∷ []));
+told_more : (d : Draft) (kind : ControlKind) (f : FrameValue) → Says f → Told d → Told (first_sent kind f d)
+told_more d kind f says t = record {
+  carried = ap (λ (r : Retransmits). and_again r f) t.carried ∙ sym (fold-append and_again nothing_waits d.frames (f ∷ []));
   marked = subst (Marked (d.frames ++ f ∷ [])) (sym (spelled_more d.frames f)) (marked_last d.frames f (spelled_all d.frames) (spelling f) says.asks_for says.some);
   names_none = acked_more d.frames (f ∷ []) t.names_none ∙ says.names_none;
   no_bytes = streams_more d.frames (f ∷ []) t.no_bytes ∙ says.no_bytes;
@@ -188,7 +122,7 @@ control_told : (most used : ℕ) (s : StreamsState) (p : Retransmits) → Told (
 unfolding control_part
 control_told most used s p = by_control most Told (record {
   drops = λ d kind e es is due t. record { carried = t.carried; marked = t.marked; names_none = t.names_none; no_bytes = t.no_bytes };
-  sends = λ d kind e es f is due fits t. told_more d kind e f ((first_says kind d.pending e es is).says d.state f due) t;
+  sends = λ d kind f is fits t. told_more d kind f (control_says f kind is.of_kind) t;
 }) (no_frames used s p nothing_waits) (record { carried = refl; marked = inr (refl, refl); names_none = refl; no_bytes = refl })
 
 -- what is kept of frames of control to be sent again is what they carry

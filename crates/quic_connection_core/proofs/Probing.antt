@@ -84,6 +84,11 @@ pub where_ok : {A E : Type 0} (r : Result A E) (P Q : Type 0) → (P → Q) → 
 where_ok (Ok x) P Q f p = f p
 where_ok (Err x) P Q f p = tt
 
+-- what follows of three facts where a call lacked memory
+pub where_lacking : {A E : Type 0} (r : Result A E) (P Q R S : Type 0) → (P → Q → R → S) → OnErr r P → OnErr r Q → OnErr r R → OnErr r S
+where_lacking (Ok x) P Q R S f p q s = tt
+where_lacking (Err x) P Q R S f p q s = f p q s
+
 -- what holds in both cases
 pub either_way : {A E : Type 0} (r : Result A E) (P Q R : Type 0) → (P → R) → (Q → R) → OnOk r P → OnErr r Q → R
 either_way (Ok x) P Q R f g p q = f p

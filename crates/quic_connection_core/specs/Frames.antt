@@ -48,6 +48,7 @@ pub record Content : Type 0 where
   pub streams : Streams
   pub outgoing : List (List ℕ)
 
+-- all of it, in a datagram of at most so many bytes that has so many used
 unfoldable pub content : Bool → ℕ → ℕ → StreamsState → Retransmits → List (List ℕ) → Content
 content fair most used s p ms = record {
   frames = (control_part most used s p).frames ++ (message_frames most used s p ms ++ map stream (stream_part fair most used s p ms).frames);

@@ -35,6 +35,7 @@ abbrev pub is_max_data : FrameValue → Bool
 is_max_data (max_data limit) = true
 is_max_data other = false
 
+-- the same of DATA_BLOCKED
 abbrev pub is_data_blocked : FrameValue → Bool
 is_data_blocked (data_blocked limit) = true
 is_data_blocked other = false
@@ -57,12 +58,13 @@ stops_in [] = []
 stops_in (stop_sending f ∷ fs) = f ∷ stops_in fs
 stops_in (other ∷ fs) = stops_in fs
 
--- the streams of MAX_STREAM_DATA frames, and those of STREAM_DATA_BLOCKED frames
+-- the streams of MAX_STREAM_DATA frames
 abbrev pub limits_in : List FrameValue → List ℕ
 limits_in [] = []
 limits_in (max_stream_data f ∷ fs) = f.id ∷ limits_in fs
 limits_in (other ∷ fs) = limits_in fs
 
+-- the streams of STREAM_DATA_BLOCKED frames
 abbrev pub blocked_in : List FrameValue → List ℕ
 blocked_in [] = []
 blocked_in (stream_data_blocked f ∷ fs) = f.id ∷ blocked_in fs

@@ -108,11 +108,12 @@ is_late delay clock moment = nat_le (moment + delay) clock
 abbrev pub is_lost : Terms → ℕ → ℕ → ℕ → Sent → Bool
 is_lost t delay clock greatest s = nat_lt s.number greatest && (nat_le (s.number + t.threshold) greatest || is_late delay clock s.moment)
 
--- when the first of these is lost by time that ask and lie below the greatest acknowledged
+-- the lesser of two numbers, where there is a second
 abbrev pub lesser : ℕ → Option ℕ → ℕ
 lesser n None = n
 lesser n (Some k) = min n k
 
+-- when the first of these is lost by time that ask and lie below the greatest acknowledged
 abbrev pub first_late : ℕ → ℕ → List Sent → Option ℕ
 first_late delay greatest [] = None
 first_late delay greatest (s ∷ ss) =
@@ -190,14 +191,17 @@ is_behind_asked (Some s) n = nat_lt s.number n
 abbrev pub unasked : Flight → List Sent
 unasked f = filter (λ s. is_behind_asked f.asked s.number) f.flying
 
+-- these without the first of this number
 abbrev pub without_number : ℕ → List Sent → List Sent
 without_number n [] = []
 without_number n (s ∷ ss) = if n == s.number then ss else s ∷ without_number n ss
 
+-- these without the first of others, if there is one
 abbrev pub without_oldest : List Sent → List Sent → List Sent
 without_oldest [] ss = ss
 without_oldest (oldest ∷ others) ss = without_number oldest.number ss
 
+-- those that stay in flight where one more goes, which asks or doesn't
 abbrev pub kept_flying : Bool → Flight → List Sent
 kept_flying asks f = if not asks && nat_lt 1000 (length (unasked f)) then without_oldest (unasked f) f.flying else f.flying
 

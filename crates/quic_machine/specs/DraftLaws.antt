@@ -12,18 +12,19 @@ use Rattle.quic_streams_parts.specs.Table.{at}
 use Rattle.quic_streams_parts.specs.SendHalf.{SendHalf, frame_of, frame_counts}
 use Rattle.quic_streams_parts.specs.Queue.{first_queued}
 use Rattle.quic_retransmits.specs.Retransmits.{nothing_waits}
-use Rattle.quic_streams_state.specs.declared.control.ControlKind.{ControlKind}
+use Rattle.quic_retransmits.specs.declared.retransmits.ControlKind.{ControlKind}
 use Rattle.quic_streams_state.specs.State.{streams_of}
-use Rattle.quic_streams_state.specs.Control.{Entry, waiting, without_first, first_sent, first_dropped}
+use Rattle.quic_streams_state.specs.Control.{without_first, first_sent, frame_told}
 use Rattle.quic_streams_state.specs.Control as control
 use Rattle.quic_streams_state.specs.Frames as of_streams
+use Rattle.quic_streams_laws.specs.KindLaws.{GoesFirst}
 use Rattle.quic_streams_laws.specs.ControlWalk.{GoesOn, by_control, by_stream_frames}
 use Rattle.quic_recovery_core.specs.PendingAcks.{can_send, is_filled}
 use Rattle.quic_recovery_core.specs.declared.spaces.pending_acks.TheConstants.{LAZY_ACK_THRESHOLD}
 use Rattle.quic_spaces.specs.Numbers.{cut_against}
 use Rattle.quic_machine.specs.End.{End, number_of, with_streams, with_ping}
 use Rattle.quic_machine.specs.Control.{Gated}
-use Rattle.quic_machine.specs.Poll.{Draft, frame_room, fits, with_frame, left, ping_if, with_ping_frame, behind_control, with_control_frames, with_message, with_messages_of, with_message_frames, behind_stream, no_stream_frames, with_stream_frames, Kind, order, put, with_asking, no_frames, ack_of, with_ack, ack_fits, ack_if, composed_if, composed, asks_to_go, lazied, goes, draft_if}
+use Rattle.quic_machine.specs.Poll.{Draft, frame_room, fits, with_frame, left, ping_if, behind_control, with_control_frames, with_message, with_messages_of, with_message_frames, behind_stream, no_stream_frames, with_stream_frames, Kind, order, put, with_asking, no_frames, ack_of, with_ack, ack_fits, ack_if, composed_if, composed, asks_to_go, lazied, goes, draft_if}
 use Rattle.quic_machine.specs.Poll as poll
 
 -- a number takes four bytes at most
@@ -53,8 +54,8 @@ abbrev pub without_entry : Draft → ControlKind → Draft
 without_entry d kind = record d { end = with_streams d.end (streams_of d.end.streams (without_first kind d.end.waiting.frames)) }
 
 -- its frame goes
-abbrev pub with_entry : Draft → ControlKind → Entry → FrameValue → Draft
-with_entry d kind e f = with_frame d f (spelling f) (with_streams d.end (streams_of (e.told d.end.streams) (without_first kind d.end.waiting.frames)))
+abbrev pub with_entry : Draft → ControlKind → FrameValue → Draft
+with_entry d kind f = with_frame d f (spelling f) (with_streams d.end (streams_of (frame_told f d.end.streams) (without_first kind d.end.waiting.frames)))
 
 -- the frame of a half goes, where so many bytes are left behind its type and id
 abbrev pub with_half_frame : Draft → ℕ → SendHalf → ℕ → Draft
@@ -68,9 +69,9 @@ MayAck d = (d.bytes ≡ []) ⊎ (fits d (ack (ack_of d.end)) ≡ true)
 abbrev pub Drops : (Draft → Type 0) → Type 0
 Drops P = (d : Draft) (kind : ControlKind) → P d → P (without_entry d kind)
 
--- its frame goes
+-- its frame goes, of which is known what it says
 abbrev pub SendsEntry : (Draft → Type 0) → Type 0
-SendsEntry P = (d : Draft) (kind : ControlKind) (e : Entry) (es : List Entry) (f : FrameValue) → waiting kind d.end.waiting.frames ≡ e ∷ es → e.frame d.end.streams ≡ Some f → P d → P (with_entry d kind e f)
+SendsEntry P = (d : Draft) (kind : ControlKind) (f : FrameValue) → GoesFirst kind d.end.waiting.frames d.end.streams f → P d → P (with_entry d kind f)
 
 -- the frame of the stream goes that stands first in the queue, which brings something, where enough bytes are left
 abbrev pub SendsHalf : (Draft → Type 0) → Type 0
@@ -105,8 +106,8 @@ mapped_more (g ∷ fs) f = ap (λ (gs : List FrameValue). stream g ∷ gs) (mapp
 
 module _ (P : Draft → Type 0) (drops : Drops P) (sends : SendsEntry P) where
   -- frames of control behind a draft: one more is one more frame
-  entry_behind : (d : Draft) (c : control.Draft) (kind : ControlKind) (e : Entry) (f : FrameValue) → behind_control d (first_sent kind e f c) ≡ with_entry (behind_control d c) kind e f
-  entry_behind d c kind e f =
+  entry_behind : (d : Draft) (c : control.Draft) (kind : ControlKind) (f : FrameValue) → behind_control d (first_sent kind f c) ≡ with_entry (behind_control d c) kind f
+  entry_behind d c kind f =
       let fs : d.frames ++ (c.frames ++ f ∷ []) ≡ (d.frames ++ c.frames) ++ f ∷ [] = sym (append_assoc d.frames c.frames (f ∷ [])) in
       let bs : d.bytes ++ spelled_all (c.frames ++ f ∷ []) ≡ (d.bytes ++ spelled_all c.frames) ++ spelling f = ap (λ (x : List ℕ). d.bytes ++ x) (spelled_more c.frames f) ∙ sym (append_assoc d.bytes (spelled_all c.frames) (spelling f)) in
       rw (fs, bs) refl
@@ -118,7 +119,7 @@ module _ (P : Draft → Type 0) (drops : Drops P) (sends : SendsEntry P) where
       steps : GoesOn (frame_room d.end) (λ (c : control.Draft). P (behind_control d c))
       steps = record {
         drops = λ c kind e es is due q. drops (behind_control d c) kind q;
-        sends = λ c kind e es f is due room q. subst P (sym (entry_behind d c kind e f)) (sends (behind_control d c) kind e es f is due q);
+        sends = λ c kind f is room q. subst P (sym (entry_behind d c kind f)) (sends (behind_control d c) kind f is q);
       }
 
       first : P (behind_control d (control.no_frames (length d.bytes) d.end.streams d.end.waiting.frames nothing_waits))

@@ -1,7 +1,7 @@
 -- What a datagram that comes leaves, as cases: of the packets that an ACK frame names or that are lost, of frames, and of the packet that has them.
 use Rattle.std.proofs.Common.{◌≡◌, ℕ, Bool, true, false, not, ◌||◌, ◌==◌, List, [], ◌∷◌, map, Option, Some, None, Result, Ok, Err, refl, sym, ◌∙◌}
 use Rattle.std.specs.Prelude.{if◌then◌else◌}
-use Rattle.quic_wire.specs.Value.{FrameValue, AckValue, ack, stream, reset_stream, stop_sending, max_data, max_stream_data, max_streams, stream_data_blocked, streams_blocked, new_token, handshake_done, datagram}
+use Rattle.quic_wire.specs.Value.{FrameValue, AckValue, ack, stream, reset_stream, stop_sending, max_data, max_stream_data, max_streams, new_token, handshake_done, datagram}
 use Rattle.quic_wire.specs.Items.{items}
 use Rattle.quic_wire.specs.declared.frame.InvalidFrame.{InvalidFrame}
 use Rattle.quic_packet.specs.Header.{key_phase, reserved_bits}
@@ -133,8 +133,6 @@ OnStreams (stop_sending f) = Unit {0}
 OnStreams (max_data limit) = Unit {0}
 OnStreams (max_stream_data f) = Unit {0}
 OnStreams (max_streams f) = Unit {0}
-OnStreams (stream_data_blocked f) = Unit {0}
-OnStreams (streams_blocked f) = Unit {0}
 OnStreams f = ⊥
 
 -- the frames that change an end, by kind
@@ -166,8 +164,6 @@ frame_keeps P c (stop_sending f) e i = c.on_streams (stop_sending f) e tt i
 frame_keeps P c (max_data limit) e i = c.on_streams (max_data limit) e tt i
 frame_keeps P c (max_stream_data f) e i = c.on_streams (max_stream_data f) e tt i
 frame_keeps P c (max_streams f) e i = c.on_streams (max_streams f) e tt i
-frame_keeps P c (stream_data_blocked f) e i = c.on_streams (stream_data_blocked f) e tt i
-frame_keeps P c (streams_blocked f) e i = c.on_streams (streams_blocked f) e tt i
 frame_keeps P c (datagram m) e i = message_leaves P m e i (λ left. c.message left e i)
 frame_keeps P c (new_token t) e i = i
 frame_keeps P c handshake_done e i = i
@@ -181,8 +177,6 @@ frame_leaves P (stop_sending f) e on all = all _
 frame_leaves P (max_data limit) e on all = all _
 frame_leaves P (max_stream_data f) e on all = all _
 frame_leaves P (max_streams f) e on all = all _
-frame_leaves P (stream_data_blocked f) e on all = all _
-frame_leaves P (streams_blocked f) e on all = all _
 frame_leaves P f e on all = absurd on
 
 module _ (P : End → Type 0) (step : (f : FrameValue) (e : End) → P e → P (take_frame f e).end) where

@@ -39,10 +39,11 @@ abbrev pub injected_if : Bool → Policy → End → ℕ → List ℕ → Answer
 injected_if true p e now d = answers.Opens
 injected_if false p e now d = answers.Inject (received p e now d).answer
 
--- what a call on streams may be answered, and what it leaves
+-- what a call on streams may be answered
 abbrev pub AnswersOnStreams : End → Call → Answer → Type 0
 AnswersOnStreams e call a = IsStreamAnswer (is_open e.closing.state) e.streams call a
 
+-- the end that it leaves: with other streams alone
 abbrev pub end_on_streams : End → Call → Answer → End
 end_on_streams e call a = with_streams e (after_on_streams (is_open e.closing.state) (streams_at e) call a)
 
@@ -121,6 +122,7 @@ reads_window control call e = e
 abbrev pub end_left : Policy → Control → End → List (List ℕ) → Call → Answer → End
 end_left p control e theirs call a = after_call p (reads_window control call e) theirs call a
 
+-- what a call may leave: of an end that fails it is said only that it has stopped
 abbrev pub IsLeft : Bool → Policy → Control → End → List (List ℕ) → Call → Answer → End → Type 0
 IsLeft true p control e theirs call a next = HasStopped e next
 IsLeft false p control e theirs call a next = next ≡ end_left p control e theirs call a

@@ -40,6 +40,7 @@ after_on_messages e (calls.Send message makes_room) (answers.Send (Ok x)) = with
 after_on_messages e calls.Recv a = with_queues e.messages (after_recv e.messages.queues)
 after_on_messages e call a = e.messages
 
+-- the end that it leaves: with other messages alone
 abbrev pub end_on_messages : End → Call → Answer → End
 end_on_messages e call a = with_messages e (after_on_messages e call a)
 

@@ -264,7 +264,7 @@ writing e = record {
   ack = λ d filled may c. record { ids = c.ids; numbers = c.numbers; filter = c.filter; closing = c.closing; tracking = c.tracking; loss = c.loss; pacing = c.pacing; path = c.path; transport = c.transport; peer = c.peer };
   ping = λ d c. record { ids = c.ids; numbers = c.numbers; filter = c.filter; closing = c.closing; tracking = c.tracking; loss = c.loss; pacing = c.pacing; path = c.path; transport = c.transport; peer = c.peer };
   drops = λ d kind c. record { ids = c.ids; numbers = c.numbers; filter = c.filter; closing = c.closing; tracking = c.tracking; loss = c.loss; pacing = c.pacing; path = c.path; transport = c.transport; peer = c.peer };
-  control = λ d kind entry es f is goes c. record { ids = c.ids; numbers = c.numbers; filter = c.filter; closing = c.closing; tracking = c.tracking; loss = c.loss; pacing = c.pacing; path = c.path; transport = c.transport; peer = c.peer };
+  control = λ d kind f is c. record { ids = c.ids; numbers = c.numbers; filter = c.filter; closing = c.closing; tracking = c.tracking; loss = c.loss; pacing = c.pacing; path = c.path; transport = c.transport; peer = c.peer };
   message = λ d m ms is fit c. record { ids = c.ids; numbers = c.numbers; filter = c.filter; closing = c.closing; tracking = c.tracking; loss = c.loss; pacing = c.pacing; path = c.path; transport = c.transport; peer = c.peer };
   stream = λ d id h room found first some is counts c. record { ids = c.ids; numbers = c.numbers; filter = c.filter; closing = c.closing; tracking = c.tracking; loss = c.loss; pacing = c.pacing; path = c.path; transport = c.transport; peer = c.peer };
 }

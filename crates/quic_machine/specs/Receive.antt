@@ -4,7 +4,7 @@ use Rattle.std.specs.List.{list_any}
 use Rattle.quic_wire_core.specs.TransportError.{ErrorValue}
 use Rattle.quic_wire_core.specs.declared.stream_id.Side.{Side}
 use Rattle.quic_wire_core.specs.declared.stream_id.Side.TheVariants.{Client, Server}
-use Rattle.quic_wire.specs.Value.{FrameValue, AckValue, ack, stream, reset_stream, stop_sending, max_data, max_stream_data, max_streams, stream_data_blocked, streams_blocked, new_token, handshake_done, datagram, asks}
+use Rattle.quic_wire.specs.Value.{FrameValue, AckValue, ack, stream, reset_stream, stop_sending, max_data, max_stream_data, max_streams, new_token, handshake_done, datagram, asks}
 use Rattle.quic_wire.specs.Items.{items}
 use Rattle.quic_packet.specs.Header.{key_phase, reserved_bits}
 use Rattle.quic_packet.specs.Destination.{decoded, fixed_length_id}
@@ -35,7 +35,7 @@ use Rattle.quic_spaces.specs.Acknowledging.{ack_due}
 use Rattle.quic_streams_state.specs.declared.state.StreamsState.{StreamsState}
 use Rattle.quic_streams_state.specs.State.{Streams, streams_of}
 use Rattle.quic_streams_state.specs.Opening.{sending_refusal, max_streams_breach, after_max_streams}
-use Rattle.quic_streams_state.specs.Taking.{stream_breach, after_stream, reset_breach, after_reset_frame, after_stop_sending, after_max_data, after_max_stream_data, stream_data_blocked_breach, streams_blocked_breach}
+use Rattle.quic_streams_state.specs.Taking.{stream_breach, after_stream, reset_breach, after_reset_frame, after_stop_sending, after_max_data, after_max_stream_data, id_rule, broken}
 use Rattle.quic_messages.specs.declared.errors.ReceivedError.{ReceivedError}
 use Rattle.quic_messages.specs.Messages.{received_answer, after_received}
 use Rattle.quic_time.specs.Clocks.{saturated}
@@ -114,6 +114,7 @@ is_above (Some m) n = nat_lt m n
 abbrev pub names_ungiven : AckValue → End → Bool
 names_ungiven a e = nat_le e.numbers.next a.largest || list_any (λ r. names_skipped e.filter.last r.0 r.1) a.ranges
 
+-- what an ACK frame makes of the end: nothing where it names such a number
 abbrev pub take_ack : AckValue → End → Progress
 take_ack a e = if names_ungiven a e then record { end = e; fault = Some violation }
     else goes_on (after_acked (is_above e.numbers.largest_acked a.largest) a (with_numbers e (number_named e.numbers a.largest)))
@@ -144,10 +145,12 @@ abbrev pub message_judged : Result Bool ReceivedError → List ℕ → End → P
 message_judged (Ok first) m e = goes_on (with_messages e (message_taken first m e))
 message_judged (Err error) m e = record { end = e; fault = Some violation }
 
+-- what a DATAGRAM frame makes of the end
 abbrev pub take_message : List ℕ → End → Progress
 take_message m e = message_judged (received_answer e.transport.datagram_receive_buffer_size m e.messages.queues) m e
 
--- what a frame makes of the end; those of other kinds are read, and do nothing yet
+-- what a frame makes of the end; those of other kinds are read, held to their rule of ids and
+-- counts, and do nothing yet
 abbrev pub take_frame : FrameValue → End → Progress
 take_frame (ack a) e = take_ack a e
 take_frame (stream f) e = on_streams (stream_breach e.streams f) (after_stream e.streams e.waiting.frames f) e
@@ -156,12 +159,10 @@ take_frame (stop_sending f) e = on_state (sending_refusal e.streams f.id) (after
 take_frame (max_data limit) e = on_state None (after_max_data e.streams limit) e
 take_frame (max_stream_data f) e = on_state (sending_refusal e.streams f.id) (after_max_stream_data e.streams f.id f.limit) e
 take_frame (max_streams f) e = on_state (max_streams_breach f.count) (after_max_streams (dir_named f.one_way) f.count e.streams) e
-take_frame (stream_data_blocked f) e = on_state (stream_data_blocked_breach e.streams f.id) e.streams e
-take_frame (streams_blocked f) e = on_state (streams_blocked_breach f.count) e.streams e
 take_frame (datagram m) e = take_message m e
 take_frame (new_token t) e = record { end = e; fault = fault_at (side_of e) }
 take_frame handshake_done e = record { end = e; fault = fault_at (side_of e) }
-take_frame f e = goes_on e
+take_frame f e = record { end = e; fault = fault_of (broken e.streams (id_rule f)) }
 
 -- what the next item of a payload comes to
 abbrev pub take_item : Result FrameValue InvalidFrame → End → Progress

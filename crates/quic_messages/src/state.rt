@@ -7,6 +7,7 @@ ghost use Rattle.quic_messages.specs.declared.errors.SendDatagramError.TheVarian
 ghost use Rattle.quic_messages.specs.Messages.{no_messages, bytes_of, is_taken, received_answer, after_received, oldest, after_recv, frame_bytes, fitting, after_fitting, without_longer};
 ghost use Rattle.quic_messages.specs.Sending.{send_answer, after_send};
 
+use crate::copies::Copies;
 use crate::errors::{ReceivedError, SendDatagramError};
 use crate::limits::DatagramLimits;
 use crate::message_queue::{MessageQueue, fits};
@@ -21,7 +22,7 @@ use std::marker::Model;
 /// [`drop_oversized`](Self::drop_oversized) walks all that wait.
 #[derive(Drop)]
 pub struct DatagramState {
-    alloc: Global,
+    copies: Copies,
     incoming: MessageQueue,
     outgoing: MessageQueue,
 }
@@ -48,7 +49,7 @@ impl DatagramState {
         ensures { result ≡ no_messages }
     {
         DatagramState {
-            alloc,
+            copies: Copies::new(alloc),
             incoming: MessageQueue::new(alloc),
             outgoing: MessageQueue::new(alloc),
         }
@@ -76,7 +77,7 @@ impl DatagramState {
             return Err(ReceivedError::Breach);
         }
         let was_empty = self.incoming.is_empty();
-        let Ok(message) = Bytes::copy_from_slice(self.alloc, message) else {
+        let Ok(message) = self.copies.copy(message) else {
             return Err(ReceivedError::Memory);
         };
         match self.incoming.push(message, window) {

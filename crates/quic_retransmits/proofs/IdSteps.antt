@@ -1,17 +1,19 @@
 -- Sets of ids, as their ascending lists.
-use Rattle.std.proofs.Common.{◌≡◌, ℕ, ◌<◌, ◌^◌, [], ◌∷◌, ◌++◌, Bool, true, false, cond, List, Some, None, length, refl, sym, ap, ◌∙◌, arith}
+use Rattle.std.proofs.Common.{◌≡◌, ℕ, ◌<◌, ◌^◌, [], ◌∷◌, ◌++◌, Bool, true, false, cond, List, Option, Some, None, length, refl, sym, ap, ◌∙◌, arith}
 use Rattle.std.specs.Prelude.{◌||◌}
 use Rattle.std.specs.List.{slice_get, AllByRecursion}
 use Rattle.std.specs.List.Sorted.{IsStrictlySortedBy}
 use Rattle.std.specs.Ordering.{nat_cmp, match_ordering, is_eq}
 use Rattle.std.specs.declared.cmp.Ordering.{Ordering}
 use Rattle.std.specs.declared.cmp.Ordering.TheVariants.{Less, Equal, Greater}
-use Rattle.std.specs.Cmp.{unsigned_tied}
+use Rattle.std.specs.Cmp.{unsigned_tied, nat_cmp_total}
 use Rattle.std.specs.BTreeMap.{is_at}
+use Rattle.std.specs.Option.{is_some}
 use Rattle.std.specs.Set.{remove_key}
 use Rattle.std.proofs.lemmas.Bool.{eq-eqb, or_parts}
-use Rattle.std.proofs.lemmas.Map.Keys.{sorted_head, sorted_tail}
+use Rattle.std.proofs.lemmas.Map.Keys.{sorted_head, sorted_tail, sorted_from_all_adjacent}
 use Rattle.quic_retransmits.specs.Retransmits.{AreIds, with_id, without_id, with_ids, without_ids, has_id, first_of}
+use Rattle.quic_retransmits.specs.Lone.{all_ids, AreAllIds}
 
 pub are_inserted : (id : ℕ) (ids : List ℕ) → id < 2 ^ 62 → AreIds ids → AreIds (with_id id ids)
 are_inserted id [] l h = (l, tt)
@@ -92,3 +94,73 @@ first_none (y ∷ ys) e = absurd (omega arith)
 pub first_small : (ids : List ℕ) (id : ℕ) → AreIds ids → slice_get ids 0 ≡ Some id → id < 2 ^ 62
 first_small [] id h e = cc
 first_small (x ∷ xs) id h e = let same : x ≡ id = cc in let l = h.0 in omega arith
+
+-- ---- the only id, where it stands apart from the others
+
+pub all_are : (lone : Option ℕ) (ids : List ℕ) → AreAllIds lone ids → AreIds (all_ids lone ids)
+all_are None ids h = h
+all_are (Some x) ids h = (h.0, tt)
+
+pub all_ordered : (lone : Option ℕ) (ids : List ℕ) → IsStrictlySortedBy nat_cmp ids → IsStrictlySortedBy nat_cmp (all_ids lone ids)
+all_ordered None ids o = o
+all_ordered (Some x) ids o = sorted_from_all_adjacent nat_cmp_total (x ∷ []) 0 (λ k l. absurd (omega (arith, l)))
+
+-- it is one of the ids, and is known where it comes again
+pub lone_has : (lone : Option ℕ) (ids : List ℕ) (id : ℕ) → has_id id (all_ids lone []) ≡ true → has_id id (all_ids lone ids) ≡ true
+lone_has None ids id e = absurd (let w : true ≡ false = sym e in cc)
+lone_has (Some x) ids id e = e
+
+pub lone_same : (lone : Option ℕ) (ids : List ℕ) (id : ℕ) → has_id id (all_ids lone []) ≡ true → all_ids lone ids ≡ with_id id (all_ids lone ids)
+lone_same None ids id e = absurd (let w : true ≡ false = sym e in cc)
+lone_same (Some x) ids id e = go (nat_cmp id x) e
+  where
+    go : (r : Ordering) → (is_eq r || false) ≡ true → x ∷ [] ≡ match_ordering r (id ∷ x ∷ []) (x ∷ []) (x ∷ id ∷ [])
+    go Less e = absurd (let w : true ≡ false = sym e in cc)
+    go Equal e = refl
+    go Greater e = absurd (let w : true ≡ false = sym e in cc)
+
+-- any other is one of the others
+pub lone_apart : (lone : Option ℕ) (ids : List ℕ) (id : ℕ) → AreAllIds lone ids → has_id id (all_ids lone []) ≡ false → has_id id (all_ids lone ids) ≡ has_id id ids
+lone_apart None ids id h e = refl
+lone_apart (Some x) ids id h e = e ∙ sym (ap (λ (l : List ℕ). has_id id l) h.1)
+
+-- without it no id is left
+pub lone_removed : (lone : Option ℕ) (ids : List ℕ) (id : ℕ) → AreAllIds lone ids → has_id id (all_ids lone []) ≡ true → ids ≡ without_id id (all_ids lone ids)
+lone_removed None ids id h e = absurd (let w : true ≡ false = sym e in cc)
+lone_removed (Some x) ids id h e = h.1 ∙ go (is_at (nat_cmp id) x) e
+  where
+    go : (b : Bool) → (b || false) ≡ true → [] ≡ cond b [] (x ∷ [])
+    go true e = refl
+    go false e = absurd (let w : true ≡ false = sym e in cc)
+
+-- any other leaves it
+pub lone_left : (lone : Option ℕ) (ids : List ℕ) (id : ℕ) → has_id id (all_ids lone []) ≡ false → all_ids lone (without_id id ids) ≡ without_id id (all_ids lone ids)
+lone_left None ids id e = refl
+lone_left (Some x) ids id e = go (is_at (nat_cmp id) x) e
+  where
+    go : (b : Bool) → (b || false) ≡ false → x ∷ [] ≡ cond b [] (x ∷ [])
+    go true e = absurd (let w : true ≡ false = e in cc)
+    go false e = refl
+
+pub all_removed : (lone : Option ℕ) (ids : List ℕ) (test : ℕ → Bool) → AreAllIds lone ids → AreAllIds lone (remove_key test ids)
+all_removed None ids test h = are_removed test ids h
+all_removed (Some x) ids test h = (h.0, ap (λ (l : List ℕ). remove_key test l) h.1)
+
+-- a new one that joins it
+pub lone_joined : (lone : Option ℕ) (ids new : List ℕ) → lone ≡ None → AreIds new → AreAllIds lone new
+lone_joined None ids new e h = h
+lone_joined (Some x) ids new e h = absurd (cc)
+
+-- it is an id, and where there is none the others are
+pub lone_small : (lone : Option ℕ) (ids : List ℕ) (id : ℕ) → lone ≡ Some id → AreAllIds lone ids → id < 2 ^ 62
+lone_small None ids id e h = absurd (cc)
+lone_small (Some x) ids id e h = let same : x ≡ id = cc in let l = h.0 in omega arith
+
+pub others_are : (lone : Option ℕ) (ids : List ℕ) → lone ≡ None → AreAllIds lone ids → AreIds ids
+others_are None ids e h = h
+others_are (Some x) ids e h = absurd (cc)
+
+-- where it stands apart, and is another, an id is none of them
+pub lone_lacks : (lone : Option ℕ) (ids : List ℕ) (id : ℕ) → is_some lone ≡ true → has_id id (all_ids lone []) ≡ false → has_id id (all_ids lone ids) ≡ false
+lone_lacks None ids id is e = absurd (let w : true ≡ false = sym is in cc)
+lone_lacks (Some x) ids id is e = e

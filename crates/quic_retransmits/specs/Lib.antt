@@ -2,3 +2,4 @@ pub mod Retransmits
 pub mod RetireCode
 pub mod Kept
 pub mod Lending
+pub mod Lone

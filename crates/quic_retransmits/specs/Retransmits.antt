@@ -1,15 +1,16 @@
 -- What waits to be sent, or was sent in a packet and has to go again if that is lost, beside the bytes of streams (RFC 9000, section 13.3).
-use Rattle.std.specs.Prelude.{ℕ, ◌+◌, ◌-◌, ◌^◌, ◌<◌, Bool, true, false, not, ◌&&◌, ◌||◌, nat_lt, nat_le, ◌==◌, if◌then◌else◌, List, [], ◌∷◌, ◌++◌, length, Option, Some, None, Result, Ok, Err}
+use Rattle.std.specs.Prelude.{ℕ, ◌+◌, ◌-◌, ◌^◌, ◌<◌, Bool, true, false, not, ◌&&◌, ◌||◌, nat_le, List, [], ◌∷◌, ◌++◌, length, Option, Some, None}
 use Rattle.std.specs.List.{range_with_len, list_any, AllByRecursion}
-use Rattle.std.specs.Option.{is_some}
 use Rattle.std.specs.Ordering.{nat_cmp}
 use Rattle.std.specs.BTreeMap.{is_at}
 use Rattle.std.specs.BTreeSet.{insert_key}
 use Rattle.std.specs.Set.{remove_key}
 use Rattle.quic_wire_core.specs.declared.shared.IssuedCid.{IssuedCid}
 use Rattle.quic_wire.specs.Value.{StopSendingValue}
-use Rattle.quic_streams_parts.specs.declared.by_dir.ByDir.{ByDir}
-use Rattle.quic_streams_parts.specs.Dirs.{Flags, no_flag}
+use Rattle.quic_streams_parts.specs.Dirs.{Flags, no_flag, of}
+use Rattle.quic_retransmits.specs.declared.retransmits.ControlKind.{ControlKind}
+use Rattle.quic_retransmits.specs.declared.retransmits.ControlKind.TheVariants.{ResetStream, StopSending, MaxData, MaxStreamData, MaxStreams, DataBlocked, StreamDataBlocked}
+use Rattle.quic_retransmits.specs.declared.retransmits.TheConstants.{CONTROL_KINDS}
 
 -- MAX_DATA; DATA_BLOCKED; MAX_STREAMS of each kind; RESET_STREAM of these streams with these codes; STOP_SENDING; MAX_STREAM_DATA and STREAM_DATA_BLOCKED of the
 -- streams of these sets; NEW_CONNECTION_ID; RETIRE_CONNECTION_ID of these numbers; and ACK_FREQUENCY
@@ -121,17 +122,16 @@ after_retire r a z = record r { retire_cids = r.retire_cids ++ range_with_len a 
 
 -- ---- whether something goes
 
--- nothing waits that may go: DATA_BLOCKED counts where it may be sent, MAX_STREAM_DATA of a stream likewise, and STREAM_DATA_BLOCKED of one where it names a limit
-abbrev pub is_empty_where : Bool → (ℕ → Bool) → (ℕ → Option ℕ) → Retransmits → Bool
-is_empty_where can_send_data_blocked can_send_flow_control blocked_limit r = not (
-    r.max_data
-    || (r.data_blocked && can_send_data_blocked)
-    || (r.max_stream_id.bi || r.max_stream_id.uni)
-    || is_any r.reset_stream
-    || is_any r.stop_sending
-    || list_any (λ id. can_send_flow_control id) r.max_stream_data
-    || list_any (λ id. is_some (blocked_limit id)) r.stream_data_blocked
-    || is_any r.new_cids
-    || is_any r.retire_cids
-    || r.ack_frequency
-    )
+-- whether something waits of a kind that may go: what has a gate counts where it is open, for the kind or on the stream
+abbrev pub any_counts : (ControlKind → Bool) → (ControlKind → ℕ → Bool) → ControlKind → Retransmits → Bool
+any_counts gate gate_on ResetStream r = is_any r.reset_stream
+any_counts gate gate_on StopSending r = is_any r.stop_sending
+any_counts gate gate_on MaxData r = r.max_data
+any_counts gate gate_on MaxStreamData r = list_any (λ id. gate_on MaxStreamData id) r.max_stream_data
+any_counts gate gate_on (MaxStreams dir) r = of dir r.max_stream_id
+any_counts gate gate_on DataBlocked r = r.data_blocked && gate DataBlocked
+any_counts gate gate_on StreamDataBlocked r = list_any (λ id. gate_on StreamDataBlocked id) r.stream_data_blocked
+
+-- nothing waits that may go
+abbrev pub is_empty_where : (ControlKind → Bool) → (ControlKind → ℕ → Bool) → Retransmits → Bool
+is_empty_where gate gate_on r = not (list_any (λ kind. any_counts gate gate_on kind r) CONTROL_KINDS || is_any r.new_cids || is_any r.retire_cids || r.ack_frequency)

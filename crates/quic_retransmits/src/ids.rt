@@ -1,30 +1,68 @@
 //! Sets of stream ids.
-ghost use Rattle.std.specs.Prelude.{◌≡◌, ℕ, List, [], not, false, IfOk, OnOk, OnErr};
+ghost use Rattle.std.specs.Prelude.{◌≡◌, ◌<◌, ◌^◌, ℕ, List, [], not, true, false, None, IfOk, OnOk, OnErr};
 ghost use Rattle.std.specs.List.{list_any};
 ghost use Rattle.std.specs.Option.{is_some};
 ghost use Rattle.quic_retransmits.specs.Retransmits.{AreIds, with_id, without_id, with_ids, without_ids, has_id, first_of, others_of, is_any};
+ghost use Rattle.quic_retransmits.specs.Lone.{all_ids, AreAllIds};
 
 use crate::queries::LimitQueries;
+use crate::retransmits::ControlKind;
 use quic_wire_core::{StreamId, VarInt};
 use std::alloc::{AllocError, Global};
 use std::collections::BTreeSet;
 use std::marker::Model;
 
-/// A set of stream ids. Contracts see them, ascending.
+/// A set of stream ids. Contracts see them, ascending. An id that comes alone takes no memory.
 #[derive(Drop)]
 pub struct StreamIds {
+    // The only id, where it came into an empty set: `ids` has none then.
+    lone: Option<u64>,
     ids: BTreeSet<u64>,
 }
 
 impl Model for StreamIds {
     ghost use Rattle.std.specs.Prelude.{List, ℕ};
-    ghost use Rattle.quic_retransmits.specs.Retransmits.{AreIds};
+    ghost use Rattle.quic_retransmits.specs.Lone.{all_ids, AreAllIds};
 
     ghost Value = { List ℕ };
 
-    ghost view = { λ s. s.ids.keys };
+    ghost view = { λ s. all_ids s.lone s.ids.keys };
 
-    ghost invariant = { λ s. AreIds s.ids.keys };
+    ghost invariant = { λ s. AreAllIds s.lone s.ids.keys };
+}
+
+// Whether an id is the only one.
+fn is_lone(lone: Option<u64>, id: u64) -> bool
+    ensures { result ≡ has_id id (all_ids lone []) }
+{
+    match lone {
+        Some(only) => only == id,
+        None => false,
+    }
+}
+
+// The only id comes among the others. An `Err` (want of memory) changes nothing.
+fn spread(lone: &mut Option<u64>, ids: &mut BTreeSet<u64>) -> Result<(), AllocError>
+    requires { AreAllIds lone.old ids.old.keys }
+    ensures none { OnOk result (lone.new ≡ None) }
+    ensures ok { OnOk result (ids.new.keys ≡ all_ids lone.old ids.old.keys) }
+    ensures err { OnErr result (lone.new ≡ lone.old) }
+    ensures same { OnErr result (ids.new.keys ≡ ids.old.keys) }
+    ensures lacking { OnErr result (is_some lone.old ≡ true) }
+{
+    if let Some(id) = *lone {
+        ids.insert(id)?;
+        *lone = None;
+    }
+    Ok(())
+}
+
+// The stream of a number.
+fn id_of(number: u64) -> StreamId
+    requires { number < 2 ^ 62 }
+    ensures { result ≡ number }
+{
+    StreamId::from(VarInt::from_u64_unchecked(number))
 }
 
 // Puts an id in, and notes it where it is new.
@@ -69,28 +107,13 @@ fn insert_all(
     Ok(())
 }
 
-// Whether MAX_STREAM_DATA of one of the streams may be sent.
-fn any_flow_control<S: LimitQueries>(ids: &BTreeSet<u64>, streams: &S) -> bool
+// Whether a frame of a kind may be sent on one of the streams.
+fn any_counts<S: LimitQueries>(kind: ControlKind, ids: &BTreeSet<u64>, streams: &S) -> bool
     requires { AreIds ids.now.keys }
-    ensures { result ≡ list_any (λ id. S.flow_control_goes streams.now id) ids.now.keys }
+    ensures { result ≡ list_any (λ id. S.gate_on streams.now kind id) ids.now.keys }
 {
     for id in ids.iter() {
-        let id = StreamId::from(VarInt::from_u64_unchecked(*id));
-        if streams.can_send_flow_control(id) {
-            return true;
-        }
-    }
-    false
-}
-
-// Whether STREAM_DATA_BLOCKED of one of the streams may be sent.
-fn any_blocked<S: LimitQueries>(ids: &BTreeSet<u64>, streams: &S) -> bool
-    requires { AreIds ids.now.keys }
-    ensures { result ≡ list_any (λ id. is_some (S.blocked_limit streams.now id)) ids.now.keys }
-{
-    for id in ids.iter() {
-        let id = StreamId::from(VarInt::from_u64_unchecked(*id));
-        if streams.stream_data_blocked_limit(id).is_some() {
+        if streams.counts_on(kind, id_of(*id)) {
             return true;
         }
     }
@@ -103,6 +126,7 @@ impl StreamIds {
         ensures { result ≡ [] }
     {
         StreamIds {
+            lone: None,
             ids: BTreeSet::new(alloc),
         }
     }
@@ -111,7 +135,8 @@ impl StreamIds {
     pub fn contains(&self, id: StreamId) -> bool
         ensures { result ≡ has_id id self.now }
     {
-        self.ids.contains(&u64::from(id))
+        let id = u64::from(id);
+        is_lone(self.lone, id) || self.ids.contains(&id)
     }
 
     /// Puts an id in, and says whether it is new.
@@ -125,7 +150,16 @@ impl StreamIds {
         ensures err { OnErr result (self.new ≡ self.old) }
         ensures lacking { OnErr result (has_id id self.old ≡ false) }
     {
-        let is_new = self.ids.insert(VarInt::from(id).into_inner())?;
+        let id = VarInt::from(id).into_inner();
+        if is_lone(self.lone, id) {
+            return Ok(false);
+        }
+        if self.lone.is_none() && self.ids.is_empty() {
+            self.lone = Some(id);
+            return Ok(true);
+        }
+        spread(&mut self.lone, &mut self.ids)?;
+        let is_new = self.ids.insert(id)?;
         Ok(is_new)
     }
 
@@ -134,7 +168,19 @@ impl StreamIds {
         ensures new { self.new ≡ without_id id self.old }
         ensures answer { result ≡ has_id id self.old }
     {
-        self.ids.remove(&u64::from(id))
+        self.remove_number(u64::from(id))
+    }
+
+    // Takes the id of this number out, if it has it, and says whether it had.
+    fn remove_number(&mut self, id: u64) -> bool
+        ensures new { self.new ≡ without_id id self.old }
+        ensures answer { result ≡ has_id id self.old }
+    {
+        if is_lone(self.lone, id) {
+            self.lone = None;
+            return true;
+        }
+        self.ids.remove(&id)
     }
 
     /// Takes an id back that was put in, which was new then or wasn't.
@@ -144,7 +190,7 @@ impl StreamIds {
         // The proof reads that the ids ascend.
         let _count = self.ids.len();
         if was_new {
-            self.ids.remove(&u64::from(id));
+            let _ = self.remove_number(u64::from(id));
         }
     }
 
@@ -152,8 +198,11 @@ impl StreamIds {
     pub fn first(&self) -> Option<StreamId>
         ensures { result ≡ first_of self.now }
     {
+        if let Some(id) = self.lone {
+            return Some(id_of(id));
+        }
         match self.ids.first() {
-            Some(id) => Some(StreamId::from(VarInt::from_u64_unchecked(*id))),
+            Some(id) => Some(id_of(*id)),
             None => None,
         }
     }
@@ -163,8 +212,12 @@ impl StreamIds {
         ensures answer { result ≡ first_of self.old }
         ensures new { self.new ≡ others_of self.old }
     {
+        if let Some(id) = self.lone {
+            self.lone = None;
+            return Some(id_of(id));
+        }
         match self.ids.pop_first() {
-            Some(id) => Some(StreamId::from(VarInt::from_u64_unchecked(id))),
+            Some(id) => Some(id_of(id)),
             None => None,
         }
     }
@@ -173,7 +226,7 @@ impl StreamIds {
     pub fn is_empty(&self) -> bool
         ensures { result ≡ not (is_any self.now) }
     {
-        self.first().is_none()
+        self.lone.is_none() && self.ids.is_empty()
     }
 
     /// Puts the ids of another set in, and gives those that are new, by which the call can be taken back.
@@ -187,7 +240,11 @@ impl StreamIds {
         ensures err { OnErr result (self.new ≡ self.old) }
     {
         let mut added = Vec::new(alloc);
-        insert_all(&mut self.ids, &more.ids, &mut added)?;
+        spread(&mut self.lone, &mut self.ids)?;
+        match more.lone {
+            Some(id) => insert_noted(&mut self.ids, id, &mut added)?,
+            None => insert_all(&mut self.ids, &more.ids, &mut added)?,
+        }
         Ok(added)
     }
 
@@ -195,20 +252,18 @@ impl StreamIds {
     pub fn remove_all(&mut self, mut ids: Vec<u64>)
         ensures { self.new ≡ without_ids ids.items self.old }
     {
-        remove_all(&mut self.ids, &mut ids);
+        while let Some(id) = ids.pop() {
+            let _ = self.remove_number(id);
+        }
     }
 
-    /// Whether MAX_STREAM_DATA of one of the streams may be sent.
-    pub fn any_flow_control<S: LimitQueries>(&self, streams: &S) -> bool
-        ensures { result ≡ list_any (λ id. S.flow_control_goes streams.now id) self.now }
+    /// Whether a frame of a kind may be sent on one of the streams.
+    pub fn any_counts<S: LimitQueries>(&self, kind: ControlKind, streams: &S) -> bool
+        ensures { result ≡ list_any (λ id. S.gate_on streams.now kind id) self.now }
     {
-        any_flow_control(&self.ids, streams)
-    }
-
-    /// Whether STREAM_DATA_BLOCKED of one of the streams may be sent.
-    pub fn any_blocked<S: LimitQueries>(&self, streams: &S) -> bool
-        ensures { result ≡ list_any (λ id. is_some (S.blocked_limit streams.now id)) self.now }
-    {
-        any_blocked(&self.ids, streams)
+        match self.lone {
+            Some(id) => streams.counts_on(kind, id_of(id)),
+            None => any_counts(kind, &self.ids, streams),
+        }
     }
 }

@@ -10,5 +10,5 @@ mod thin_retransmits;
 
 pub use ids::StreamIds;
 pub use queries::LimitQueries;
-pub use retransmits::{RetireError, Retransmits};
+pub use retransmits::{CONTROL_KINDS, ControlKind, RetireError, Retransmits};
 pub use thin_retransmits::ThinRetransmits;

@@ -1,25 +1,22 @@
 //! What has to be known of streams to tell whether something goes.
-ghost use Rattle.std.specs.Prelude.{◌≡◌, ℕ, Bool, Option};
+ghost use Rattle.std.specs.Prelude.{◌≡◌, ℕ, Bool};
 
+use crate::retransmits::ControlKind;
 use quic_wire_core::StreamId;
 
-/// Which frames about limits may be sent (quinn-proto's queries of the same names on `StreamsState`).
+/// Which of the frames that wait may be sent now (quinn-proto has a query on `StreamsState` for each kind of which not all may).
 pub trait LimitQueries {
-    ghost data_blocked_goes: { Self → Bool };
+    ghost use Rattle.quic_retransmits.specs.declared.retransmits.ControlKind.{ControlKind};
 
-    ghost flow_control_goes: { Self → ℕ → Bool };
+    ghost gate: { Self → ControlKind → Bool };
 
-    ghost blocked_limit: { Self → ℕ → Option ℕ };
+    ghost gate_on: { Self → ControlKind → ℕ → Bool };
 
-    /// Whether DATA_BLOCKED may be sent: the limit on all streams is used up (RFC 9000, section 19.12).
-    fn can_send_data_blocked(&self) -> bool
-        ensures { result ≡ data_blocked_goes self.now };
+    /// Whether a frame of a kind may be sent that names no stream.
+    fn counts(&self, kind: ControlKind) -> bool
+        ensures { result ≡ gate self.now kind };
 
-    /// Whether MAX_STREAM_DATA of a stream may be sent (RFC 9000, section 19.10).
-    fn can_send_flow_control(&self, id: StreamId) -> bool
-        ensures { result ≡ flow_control_goes self.now id };
-
-    /// The limit that STREAM_DATA_BLOCKED of a stream names; `None` where it may not be sent (RFC 9000, section 19.13).
-    fn stream_data_blocked_limit(&self, id: StreamId) -> Option<u64>
-        ensures { result ≡ blocked_limit self.now id };
+    /// Whether a frame of a kind may be sent that names this stream.
+    fn counts_on(&self, kind: ControlKind, id: StreamId) -> bool
+        ensures { result ≡ gate_on self.now kind id };
 }

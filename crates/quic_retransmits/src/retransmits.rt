@@ -54,6 +54,37 @@ impl From<AllocError> for RetireError {
     }
 }
 
+/// A kind of frame about streams that waits in [`Retransmits`] (RFC 9000, section 19).
+#[derive(Clone, Copy)]
+pub enum ControlKind {
+    /// RESET_STREAM.
+    ResetStream,
+    /// STOP_SENDING.
+    StopSending,
+    /// MAX_DATA.
+    MaxData,
+    /// MAX_STREAM_DATA.
+    MaxStreamData,
+    /// MAX_STREAMS of two-way or of one-way streams.
+    MaxStreams(Dir),
+    /// DATA_BLOCKED.
+    DataBlocked,
+    /// STREAM_DATA_BLOCKED.
+    StreamDataBlocked,
+}
+
+/// The kinds, in the order in which their frames go into a datagram.
+pub const CONTROL_KINDS: [ControlKind; 8] = [
+    ControlKind::ResetStream,
+    ControlKind::StopSending,
+    ControlKind::MaxData,
+    ControlKind::MaxStreamData,
+    ControlKind::MaxStreams(Dir::Bi),
+    ControlKind::MaxStreams(Dir::Uni),
+    ControlKind::DataBlocked,
+    ControlKind::StreamDataBlocked,
+];
+
 /// The most retirements that wait: ten for each id that this end keeps of the peer's.
 const MAX_PENDING_RETIRED_CIDS: u64 = 50;
 
@@ -475,12 +506,12 @@ impl Retransmits {
     /// Whether nothing waits that may go: DATA_BLOCKED, MAX_STREAM_DATA and STREAM_DATA_BLOCKED count only where `streams` says
     /// that they may.
     pub fn is_empty<S: LimitQueries>(&self, streams: &S) -> bool
-        ensures { result ≡ is_empty_where (S.data_blocked_goes streams.now) (λ id. S.flow_control_goes streams.now id) (λ id. S.blocked_limit streams.now id) self.now }
+        ensures { result ≡ is_empty_where (λ kind. S.gate streams.now kind) (λ kind id. S.gate_on streams.now kind id) self.now }
     {
         if self.max_data {
             return false;
         }
-        if self.data_blocked && streams.can_send_data_blocked() {
+        if self.data_blocked && streams.counts(ControlKind::DataBlocked) {
             return false;
         }
         if self.max_stream_id.bi || self.max_stream_id.uni {
@@ -489,8 +520,12 @@ impl Retransmits {
         if !self.reset_stream.is_empty() || !self.stop_sending.is_empty() {
             return false;
         }
-        if self.max_stream_data.any_flow_control(streams)
-            || self.stream_data_blocked.any_blocked(streams)
+        if self
+            .max_stream_data
+            .any_counts(ControlKind::MaxStreamData, streams)
+            || self
+                .stream_data_blocked
+                .any_counts(ControlKind::StreamDataBlocked, streams)
         {
             return false;
         }

@@ -51,7 +51,7 @@ impl ThinRetransmits {
 
     /// Whether nothing is kept that may go, by [`Retransmits::is_empty`].
     pub fn is_empty<S: LimitQueries>(&self, streams: &S) -> bool
-        ensures { result ≡ is_none_where (S.data_blocked_goes streams.now) (λ id. S.flow_control_goes streams.now id) (λ id. S.blocked_limit streams.now id) self.now }
+        ensures { result ≡ is_none_where (λ kind. S.gate streams.now kind) (λ kind id. S.gate_on streams.now kind id) self.now }
     {
         match self.get() {
             Some(retransmits) => retransmits.is_empty(streams),

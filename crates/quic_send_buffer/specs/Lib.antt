@@ -1,5 +1,6 @@
 pub mod Buffered
 pub mod BufferedHistory
 pub mod KeptBytes
+pub mod Row
 pub mod Source
 pub mod WritesLaws

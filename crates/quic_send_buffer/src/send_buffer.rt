@@ -5,6 +5,7 @@ ghost use Rattle.quic_send_buffer.specs.Buffered.{Buffered, IsBuffered, HasUnack
 ghost use Rattle.quic_send_buffer.specs.Source.{cut_to};
 
 mod pieces;
+mod row;
 
 use bytes::Bytes;
 use pieces::Pieces;

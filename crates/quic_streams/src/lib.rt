@@ -5,7 +5,9 @@
 #![tactic(auto)]
 
 pub use quic_assembler::{Assembler, Chunk, IllegalOrderedRead, MOST_PIECES};
-pub use quic_retransmits::{LimitQueries, RetireError, Retransmits, StreamIds, ThinRetransmits};
+pub use quic_retransmits::{
+    ControlKind, LimitQueries, RetireError, Retransmits, StreamIds, ThinRetransmits,
+};
 pub use quic_send_buffer::{
     ByteSlice, BytesArray, BytesSource, SendBuffer, ShouldTransmit, StreamMeta,
 };

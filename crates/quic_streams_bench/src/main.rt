@@ -11,11 +11,15 @@
 //! - `buffered MIB`: so many MiB are written, then all sent, and then all acknowledged.
 //! - `busy FRAMES [COUNT]`: `COUNT` streams (10,000 unless given) are open, on each of which a byte went; then so many frames
 //!   of 1000 bytes go on the first of them, and are acknowledged.
+//! - `short COUNT [AT_ONCE [IDLE]]`: so many streams of 100 bytes go from one end to another, `AT_ONCE` (10 unless given, and no
+//!   more, as all go in one datagram) together: each is opened, written, finished, accepted, read to its end and acknowledged;
+//!   `IDLE` others (none unless given), of a byte each, are open beside them.
 #![tactic(auto)]
 
 ghost use Rattle.std.specs.Prelude.{◌<◌, ◌^◌};
 
 mod open_streams;
+mod short_streams;
 
 use anyhow::{Context, Result, bail};
 use quic_assembler::Assembler;
@@ -77,6 +81,9 @@ fn frames_in(mebibytes: u32) -> u64
 
 // How many pieces come in a round, unless it is said.
 const PIECES: u32 = 10000;
+
+// How many short streams go at once, unless it is said.
+const AT_ONCE: u32 = 10;
 
 // How many bytes a piece has.
 const PIECE_SIZE: u64 = 10;
@@ -257,15 +264,21 @@ fn number(word: Option<&str>) -> Result<u32> {
         .context("not a number")
 }
 
+// The number that a word spells, if there is one.
+fn number_or(word: Option<&str>, default: u32) -> Result<u32> {
+    match word {
+        Some(_) => number(word),
+        None => Ok(default),
+    }
+}
+
 // Does the work that a line names.
 fn work(alloc: Global, line: &str) -> Result<Tally> {
     let mut words = line.split_whitespace();
     let name = words.next().context("an empty line")?;
     let size = number(words.next())?;
-    let count = match words.next() {
-        Some(word) => number(Some(word))?,
-        None => PIECES,
-    };
+    let second = words.next();
+    let count = number_or(second, PIECES)?;
     let mut tally = Tally::new();
     match name {
         "pieces" => pieces(alloc, size, count, &mut tally)?,
@@ -275,6 +288,11 @@ fn work(alloc: Global, line: &str) -> Result<Tally> {
         "send" => send(alloc, size, &mut tally)?,
         "buffered" => buffered(alloc, size, &mut tally)?,
         "busy" => open_streams::busy(alloc, size, count, &mut tally)?,
+        "short" => {
+            let at_once = number_or(second, AT_ONCE)?;
+            let idle = number_or(words.next(), 0)?;
+            short_streams::short(alloc, size, at_once, idle, &mut tally)?;
+        }
         _ => bail!("no such work"),
     }
     Ok(tally)

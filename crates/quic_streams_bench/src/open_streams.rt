@@ -10,7 +10,7 @@ use quic_wire_core::{Dir, Side, StreamId, VarInt};
 use std::alloc::{AllocError, Global};
 
 // How many bytes a datagram has for frames.
-const ROOM: usize = 1200;
+pub(super) const ROOM: usize = 1200;
 
 // One end that only sends, and what it needs for a datagram.
 #[derive(Drop)]
@@ -44,7 +44,7 @@ fn client(alloc: Global, count: u32) -> Result<Sender> {
 }
 
 // Room for a datagram's frames is there, and none of them yet.
-fn make_room(out: &mut Vec<u8>) -> Result<(), AllocError>
+pub(super) fn make_room(out: &mut Vec<u8>) -> Result<(), AllocError>
     ensures room { OnOk result (ROOM ≤ vec_capacity out.new) }
     ensures none { OnOk result (vec_len out.new ≡ 0) }
 {

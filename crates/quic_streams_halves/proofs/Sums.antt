@@ -13,8 +13,8 @@ use Rattle.std.proofs.lemmas.Map.Entries.{sum_by-set_value, sum_by-remove_entry,
 use Rattle.quic_send_buffer.specs.declared.stream_meta.StreamMeta.{StreamMeta}
 use Rattle.quic_send_buffer.specs.Buffered.{Buffered, done, acknowledged}
 use Rattle.quic_streams_parts.specs.Queue.{Queue, Place}
-use Rattle.quic_streams_parts.specs.SendHalf.{SendHalf, Queued, is_ready, has_pending, frame_counts, half_after, half_acked, half_lost, grown, requeued, requeued_at, turned, turned_at}
-use Rattle.quic_streams_halves.specs.Queued.{unmoved, accepted_with, acked_with, acked_if_ready, lost_with, sent_if_counts}
+use Rattle.quic_streams_parts.specs.SendHalf.{SendHalf, is_ready, has_pending, frame_counts, half_after, half_acked, half_lost, grown, ended, requeued, requeued_at, turned, turned_at}
+use Rattle.quic_streams_halves.specs.Queued.{unmoved, accepted_with, acked_with, acked_if_ready, lost_with, sent_if_counts, finished_with}
 use Rattle.quic_streams_parts.specs.Table.{Table, at, put, without, added}
 
 module _ {A : Type 0} (f : A → ℕ) where
@@ -85,6 +85,11 @@ acked_if_kept m q h w is = go (is_ready h) is
 pub lost_kept : {T E : Type 0} (r : Result T E) (m : StreamMeta) (q : Queue) (h w : SendHalf) → OnOk r (w ≡ (lost_with m q h).half) → OnErr r (w ≡ h) → length w.buffer.kept ≡ length h.buffer.kept
 lost_kept (Ok x) m q h w ok err = ap (λ (v : SendHalf). length v.buffer.kept) ok ∙ ap (λ (b : Buffered). length b.kept) (requeued_kept (half_lost h m).place (has_pending (half_lost h m)) q m.id (half_lost h m))
 lost_kept (Err e) m q h w ok err = ap (λ (v : SendHalf). length v.buffer.kept) err
+
+-- and once its end has to go
+pub finished_kept : {T E : Type 0} (r : Result T E) (id : ℕ) (q : Queue) (h w : SendHalf) → OnOk r (w ≡ (finished_with id q h).half) → OnErr r (w ≡ h) → length w.buffer.kept ≡ length h.buffer.kept
+finished_kept (Ok x) id q h w ok err = ap (λ (v : SendHalf). length v.buffer.kept) ok ∙ ap (λ (b : Buffered). length b.kept) (requeued_kept h.place true q id (ended h))
+finished_kept (Err e) id q h w ok err = ap (λ (v : SendHalf). length v.buffer.kept) err
 
 -- and after one of it went
 pub sent_kept : {T E : Type 0} (r : Result T E) (fair : Bool) (id room : ℕ) (q : Queue) (h w : SendHalf) → OnOk r (w ≡ (sent_if_counts fair id room q h).half) → OnErr r (w ≡ half_after h room) → length w.buffer.kept ≡ length h.buffer.kept

@@ -1,6 +1,5 @@
 -- How much arrived and was consumed on all receiving halves, after a change of one.
-use Rattle.std.proofs.Common.{◌≡◌, ℕ, ◌+◌, ◌-◌, ◌≤◌, List, [], ◌∷◌, map, Some, None, Option, IfSome, Result, Ok, Err, sym, ap, ◌∙◌, subst, arith, refl}
-use Rattle.std.specs.Option.{unwrap_or, option_map}
+use Rattle.std.proofs.Common.{◌≡◌, ℕ, ◌+◌, ◌-◌, ◌≤◌, List, [], ◌∷◌, Some, None, Option, IfSome, Result, Ok, Err, sym, subst, arith, refl}
 use Rattle.std.specs.List.{sum_by, All}
 use Rattle.std.specs.Ordering.{nat_cmp}
 use Rattle.std.specs.BTreeMap.{is_at}
@@ -13,7 +12,7 @@ use Rattle.quic_streams_parts.specs.RecvHalf.{RecvHalf, credit, half_after_next}
 use Rattle.quic_streams_parts.specs.declared.answers.ReadError.{ReadError}
 use Rattle.quic_assembler.specs.declared.assembler.Chunk.{Chunk}
 use Rattle.quic_streams_parts.specs.Table.{Table, at, put, without, added}
-use Rattle.quic_streams_halves.specs.Halves.{seen_in, consumed_in, AreWithin, AreCounted}
+use Rattle.quic_streams_halves.specs.Halves.{AreWithin, AreCounted}
 use Rattle.quic_streams_halves.proofs.Sums.{put_sum, added_sum, removed_sum, within_sum}
 
 no_more : (hs : List RecvHalf) → All (λ h. credit h ≤ h.seen) hs → sum_by credit hs ≤ sum_by (λ h. h.seen) hs

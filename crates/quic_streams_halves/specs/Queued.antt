@@ -1,11 +1,11 @@
 -- What becomes of a sending half and of the queue of those with something to send, which follows it.
-use Rattle.std.specs.Prelude.{ℕ, ◌+◌, ◌^◌, ◌<◌, Bool, true, false, not, ◌&&◌, ◌==◌, if◌then◌else◌, List, length, Option, Some, None}
+use Rattle.std.specs.Prelude.{ℕ, ◌^◌, ◌<◌, Bool, true, false, not, ◌&&◌, ◌==◌, if◌then◌else◌, List, length, Option, Some, None}
 use Rattle.std.specs.List.{AllByRecursion}
 use Rattle.std.specs.Option.{is_some}
 use Rattle.quic_send_buffer.specs.Source.{cut_to}
 use Rattle.quic_send_buffer.specs.declared.stream_meta.StreamMeta.{StreamMeta}
 use Rattle.quic_streams_parts.specs.Queue.{Queue, Place}
-use Rattle.quic_streams_parts.specs.SendHalf.{SendHalf, Queued, is_ready, grown, grown_all, frame_counts, half_after, half_acked, half_lost, requeued, requeued_at, turned}
+use Rattle.quic_streams_parts.specs.SendHalf.{SendHalf, Queued, is_ready, grown, grown_all, ended, reset_now, frame_counts, half_after, half_acked, half_lost, requeued, requeued_at, turned}
 
 -- the ids of streams are queued (RFC 9000, section 2.1)
 abbrev pub AreQueuedIds : List (Place × ℕ) → Type 0
@@ -57,3 +57,11 @@ chunks_grown_with id n cs q h = requeued_at h.place true q id (grown_all h (cut_
 -- bytes were accepted on a half; none leave it as it was
 abbrev pub accepted_with : ℕ → List ℕ → Queue → SendHalf → Queued
 accepted_with id bytes q h = if length bytes == 0 then unmoved q h else requeued_at h.place true q id (grown h bytes)
+
+-- the end of a half waits to go
+abbrev pub finished_with : ℕ → Queue → SendHalf → Queued
+finished_with id q h = requeued_at h.place true q id (ended h)
+
+-- a half is reset: nothing of it waits to go
+abbrev pub reset_with : ℕ → Queue → SendHalf → Queued
+reset_with id q h = requeued_at h.place false q id (reset_now h)

@@ -7,7 +7,7 @@ ghost use Rattle.quic_send_buffer.specs.Source.{bytes_of};
 ghost use Rattle.quic_streams_parts.specs.Queue.{IsLast, taken_back};
 ghost use Rattle.quic_streams_parts.specs.declared.answers.WriteError.TheVariants as write_errors;
 ghost use Rattle.quic_streams_parts.specs.SendHalf.{written_to, grown, requeued_at, room_on, has_pending, half_after, frame_counts, frame_of, meta_of, requeued, turned, HasSent};
-ghost use Rattle.quic_streams_halves.specs.Queued.{acked_with, acked_if_ready, is_ended, lost_with, counting_at, sent_if_counts, chunks_grown_with, accepted_with};
+ghost use Rattle.quic_streams_halves.specs.Queued.{acked_with, acked_if_ready, is_ended, lost_with, counting_at, sent_if_counts, chunks_grown_with, accepted_with, finished_with, reset_with};
 
 use crate::pending_streams::PendingStreams;
 use bytes::Bytes;
@@ -309,4 +309,37 @@ pub(crate) fn write(
         Ok(()) => Ok(taken),
         Err(_) => Err(WriteError::Memory),
     }
+}
+
+/// The end of a part has to go, and it stands in the queue. An `Err` (want of memory) changes
+/// nothing.
+pub(crate) fn finish(
+    half: &mut Send,
+    id: StreamId,
+    queue: &mut PendingStreams,
+) -> Result<(), AllocError>
+    ensures half { OnOk result (half.new ≡ (finished_with id queue.old half.old).half) }
+    ensures queue { OnOk result (queue.new ≡ (finished_with id queue.old half.old).queue) }
+    ensures err { OnErr result (half.new ≡ half.old) }
+    ensures same { OnErr result (queue.new ≡ queue.old) }
+    ensures lacking { OnErr result (half.old.place ≡ None) }
+{
+    if half.place().is_none() {
+        let place = queue.push(rank_of(half.priority()), id)?;
+        half.set_place(Some(place));
+    }
+    half.finish();
+    Ok(())
+}
+
+/// Nothing more of a part goes, and it stands no more in the queue.
+pub(crate) fn reset(half: &mut Send, queue: &mut PendingStreams)
+    ensures half { (id : ℕ) → half.new ≡ (reset_with id queue.old half.old).half }
+    ensures queue { (id : ℕ) → queue.new ≡ (reset_with id queue.old half.old).queue }
+{
+    if let Some(place) = half.place() {
+        queue.remove(place);
+    }
+    half.reset();
+    half.set_place(None);
 }

@@ -1,10 +1,10 @@
 //! The receiving parts of all streams.
-ghost use Rattle.std.specs.Prelude.{◌≡◌, ◌≢◌, ◌<◌, ◌≤◌, ◌^◌, ◌+◌, ◌-◌, true, false, IfSome, IfOk, OnOk, OnErr, IsSome, Some, None, Ok, Err};
-ghost use Rattle.std.specs.Option.{option_copied};
+ghost use Rattle.std.specs.Prelude.{◌≡◌, ◌≢◌, ◌<◌, ◌≤◌, ◌^◌, ◌+◌, ◌-◌, true, false, IfSome, IfOk, OnOk, OnErr, IsSome, Some, None, Ok, Err, unwrap_or};
+ghost use Rattle.std.specs.Option.{option_copied, option_map};
 ghost use Rattle.std.specs.Result.{is_err};
 ghost use Rattle.quic_wire.specs.FrameView.{stream_view};
 ghost use Rattle.quic_streams_parts.specs.Table.{at};
-ghost use Rattle.quic_streams_parts.specs.RecvHalf.{RecvHalf, greatest_offset, end_of, breaks_final, with_frame, with_offsets_of, reset_by, stopped_now, begun, is_illegal, next_of, half_after_next};
+ghost use Rattle.quic_streams_parts.specs.RecvHalf.{RecvHalf, greatest_offset, end_of, breaks_final, after_frame, reset_by, stopped_now, begun, is_illegal, next_of, half_after_next};
 ghost use Rattle.quic_streams_parts.specs.Lacking.{FrameMayLack, read_may_lack};
 ghost use Rattle.quic_streams_parts.specs.declared.answers.ReadError.TheVariants as read_errors;
 ghost use Rattle.quic_streams_halves.specs.Halves.{Halves, no_halves, has_place, used, changed, without_half, seen_in, consumed_in};
@@ -26,6 +26,8 @@ pub struct RecvHalves {
     // no frame and no read has to sum them.
     seen: u64,
     consumed: u64,
+    // For the idle part that stands in a place that waits to be used again.
+    alloc: Global,
 }
 
 impl Model for RecvHalves {
@@ -48,6 +50,25 @@ fn with_term(sum: u64, before: u64, after: u64) -> u64
     sum - before + after
 }
 
+// A part takes a frame that breaks no rule on its final size: its offsets alone where this end stopped
+// it, nothing where the peer reset it. An `Err` (want of memory) changes nothing.
+fn take_on(half: &mut Recv, frame: &Stream<'_>) -> Result<(), AllocError>
+    requires end { end_of (stream_view frame.now) < 2 ^ 62 }
+    requires size { breaks_final half.old.final half.old.seen (end_of (stream_view frame.now)) frame.now.fin ≡ false }
+    ensures ok { OnOk result (half.new ≡ after_frame half.old (stream_view frame.now)) }
+    ensures err { OnErr result (half.new ≡ half.old) }
+    ensures lacking { OnErr result ((half.old.stopped ≡ false) × FrameMayLack half.old.arrived (stream_view frame.now)) }
+{
+    if half.is_stopped() {
+        half.skip(frame);
+        return Ok(());
+    }
+    if half.reset_code().is_some() {
+        return Ok(());
+    }
+    half.insert(frame)
+}
+
 impl RecvHalves {
     /// None was ever in use.
     pub fn new(alloc: Global) -> Self
@@ -58,6 +79,7 @@ impl RecvHalves {
             places: Places::new(alloc),
             seen: 0,
             consumed: 0,
+            alloc,
         }
     }
 
@@ -109,49 +131,41 @@ impl RecvHalves {
         Ok(())
     }
 
-    /// Nothing is left to do on a part.
-    pub fn remove(&mut self, id: StreamId)
-        ensures { self.new ≡ without_half self.old id }
+    /// Nothing is left to do on a part. Gives the greatest offset that arrived on it, and 0 where it
+    /// isn't in use.
+    pub fn remove(&mut self, id: StreamId) -> u64
+        ensures new { self.new ≡ without_half self.old id }
+        ensures seen { result ≡ unwrap_or (option_map (λ h. h.seen) (at self.old.live id)) 0 }
     {
-        if let Some(half) = self.live.remove(u64::from(id)) {
-            self.seen -= half.end();
-            self.consumed -= half.credit();
-        }
+        let Some(kept) = self.live.remove(u64::from(id)) else {
+            return 0;
+        };
+        let half = kept.get();
+        let (seen, consumed) = (half.end(), half.credit());
+        self.seen -= seen;
+        self.consumed -= consumed;
+        self.live.give_back(kept, Recv::new(self.alloc, 0));
+        seen
     }
 
-    /// Keeps a frame's bytes on its part, which is in use. An `Err` (want of memory) changes nothing.
-    pub fn insert(&mut self, frame: &Stream<'_>) -> Result<(), AllocError>
-        requires end { end_of (stream_view frame.now) < 2 ^ 62 }
+    /// Takes a frame on its part, if it is in use: its offsets alone where this end stopped the part,
+    /// nothing where the peer reset it. An `Err` (want of memory) changes nothing.
+    pub fn take(&mut self, frame: &Stream<'_>) -> Result<(), AllocError>
+        requires end { IfSome (at self.old.live frame.now.id) (λ h. end_of (stream_view frame.now) < 2 ^ 62) }
         requires size { IfSome (at self.old.live frame.now.id) (λ h. breaks_final h.final h.seen (end_of (stream_view frame.now)) frame.now.fin ≡ false) }
         requires room { seen_in self.old.live ≤ greatest_offset }
-        ensures ok { OnOk result (self.new ≡ changed (λ h. with_frame h (stream_view frame.now)) self.old frame.now.id) }
+        ensures ok { OnOk result (self.new ≡ changed (λ h. after_frame h (stream_view frame.now)) self.old frame.now.id) }
         ensures err { OnErr result (self.new ≡ self.old) }
-        ensures lacking { OnErr result (IfSome (at self.old.live frame.now.id) (λ h. FrameMayLack h.arrived (stream_view frame.now))) }
+        ensures lacking { OnErr result (IfSome (at self.old.live frame.now.id) (λ h. (h.stopped ≡ false) × FrameMayLack h.arrived (stream_view frame.now))) }
     {
         let Some(half) = self.live.get_mut(u64::from(frame.id)) else {
             return Ok(());
         };
         let (seen, consumed) = (half.end(), half.credit());
-        half.insert(frame)?;
+        take_on(half, frame)?;
         self.seen = with_term(self.seen, seen, half.end());
         self.consumed = with_term(self.consumed, consumed, half.credit());
         Ok(())
-    }
-
-    /// Takes a frame's offsets alone on its part, if it is in use.
-    pub fn skip(&mut self, frame: &Stream<'_>)
-        requires end { end_of (stream_view frame.now) < 2 ^ 62 }
-        requires size { IfSome (at self.old.live frame.now.id) (λ h. breaks_final h.final h.seen (end_of (stream_view frame.now)) frame.now.fin ≡ false) }
-        requires room { seen_in self.old.live ≤ greatest_offset }
-        ensures { self.new ≡ changed (λ h. with_offsets_of h (stream_view frame.now)) self.old frame.now.id }
-    {
-        let Some(half) = self.live.get_mut(u64::from(frame.id)) else {
-            return;
-        };
-        let (seen, consumed) = (half.end(), half.credit());
-        half.skip(frame);
-        self.seen = with_term(self.seen, seen, half.end());
-        self.consumed = with_term(self.consumed, consumed, half.credit());
     }
 
     /// The peer reset a part, if it is in use, with this code and final size.

@@ -6,9 +6,9 @@ ghost use Rattle.quic_send_buffer.specs.Buffered.{writes_length};
 ghost use Rattle.quic_send_buffer.specs.Source.{bytes_of};
 ghost use Rattle.quic_streams_parts.specs.declared.answers.WriteError.TheVariants as write_errors;
 ghost use Rattle.quic_streams_parts.specs.Table.{at, without};
-ghost use Rattle.quic_streams_parts.specs.SendHalf.{SendHalf, written_to, room_on, ended, reset_now, frame_of, meta_of, HasSent};
+ghost use Rattle.quic_streams_parts.specs.SendHalf.{SendHalf, written_to, room_on, frame_of, meta_of, HasSent};
 ghost use Rattle.quic_streams_halves.specs.Halves.{Halves, no_halves, has_place, used, changed, without_half, buffered_in};
-ghost use Rattle.quic_streams_halves.specs.Queued.{queue_with, acked_with, acked_if_ready, is_ended_at, lost_with, counting_at, sent_if_counts, chunks_grown_with, accepted_with};
+ghost use Rattle.quic_streams_halves.specs.Queued.{queue_with, acked_with, acked_if_ready, is_ended_at, lost_with, counting_at, sent_if_counts, chunks_grown_with, accepted_with, finished_with, reset_with};
 
 use crate::pending_streams::PendingStreams;
 use crate::places::Places;
@@ -27,6 +27,8 @@ pub struct SendHalves {
     places: Places,
     // The bytes that are kept on all of them, so that no write has to sum them.
     buffered: u64,
+    // For the idle part that stands in a place that waits to be used again.
+    alloc: Global,
 }
 
 impl Model for SendHalves {
@@ -52,6 +54,7 @@ impl SendHalves {
             live: Numbered::new(alloc),
             places: Places::new(alloc),
             buffered: 0,
+            alloc,
         }
     }
 
@@ -98,7 +101,9 @@ impl SendHalves {
         ensures { self.new ≡ without_half self.old id }
     {
         if let Some(half) = self.live.remove(u64::from(id)) {
-            self.buffered -= half.buffered();
+            self.buffered -= half.get().buffered();
+            let idle = Send::new(self.alloc, VarInt::from_u32(0));
+            self.live.give_back(half, idle);
         }
     }
 
@@ -196,27 +201,31 @@ impl SendHalves {
         Ok(taken)
     }
 
-    /// The end of a part has to go, if it is in use, and it stands there in the queue.
-    pub fn finish(&mut self, id: StreamId, place: Option<Place>)
-        ensures { self.new ≡ changed (λ h. record (ended h) { place = place }) self.old id }
+    /// The end of a part has to go, if it is in use, and it stands in the queue. An `Err` (want of
+    /// memory) changes nothing.
+    pub fn finish(&mut self, id: StreamId, queue: &mut PendingStreams) -> Result<(), AllocError>
+        ensures ok { OnOk result (self.new ≡ changed (λ h. (finished_with id queue.old h).half) self.old id) }
+        ensures queue { OnOk result (queue.new ≡ queue_with (finished_with id queue.old) (at self.old.live id) queue.old) }
+        ensures err { OnErr result (self.new ≡ self.old) }
+        ensures same { OnErr result (queue.new ≡ queue.old) }
+        ensures lacking { OnErr result (IsSomeAnd (at self.old.live id) (λ h. h.place ≡ None)) }
     {
         let Some(half) = self.live.get_mut(u64::from(id)) else {
-            return;
+            return Ok(());
         };
-        half.finish();
-        half.set_place(place);
+        queued::finish(half, id, queue)
     }
 
     /// Nothing more of a part goes, if it is in use, and it stands no more in the queue.
-    pub fn reset(&mut self, id: StreamId)
-        ensures { self.new ≡ changed (λ h. record (reset_now h) { place = None }) self.old id }
+    pub fn reset(&mut self, id: StreamId, queue: &mut PendingStreams)
+        ensures new { self.new ≡ changed (λ h. (reset_with id queue.old h).half) self.old id }
+        ensures queue { queue.new ≡ queue_with (reset_with id queue.old) (at self.old.live id) queue.old }
     {
         let Some(half) = self.live.get_mut(u64::from(id)) else {
             return;
         };
         let kept = half.buffered();
-        half.reset();
-        half.set_place(None);
+        queued::reset(half, queue);
         self.buffered -= kept;
     }
 

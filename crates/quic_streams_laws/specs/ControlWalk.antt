@@ -1,48 +1,31 @@
 -- What holds of the frames that go into a datagram about streams, whichever of them go: what each step keeps holds of all.
-use Rattle.std.proofs.Common.{◌≡◌, ℕ, zero, suc, ◌+◌, ◌≤◌, Bool, true, false, nat_le, List, [], ◌∷◌, length, Option, Some, None, refl}
-use Rattle.std.specs.Prelude.{if◌then◌else◌, map}
+use Rattle.std.proofs.Common.{◌≡◌, ℕ, zero, suc, ◌+◌, ◌≤◌, Bool, true, false, nat_le, List, [], ◌∷◌, length, Option, Some, None, refl, ap, ◌∙◌}
+use Rattle.std.specs.Prelude.{if◌then◌else◌}
 use Rattle.std.specs.List.{fold}
 use Rattle.std.proofs.lemmas.Bool.{leb-true}
-use Rattle.quic_wire_core.specs.declared.stream_id.Dir.TheVariants.{Bi, Uni}
 use Rattle.quic_wire.specs.Value.{FrameValue}
 use Rattle.quic_wire.specs.Writing.{frame_size}
 use Rattle.quic_streams_parts.specs.Table.{at}
 use Rattle.quic_streams_parts.specs.SendHalf.{SendHalf, frame_counts}
 use Rattle.quic_streams_parts.specs.Queue.{first_queued}
 use Rattle.quic_retransmits.specs.Retransmits.{Retransmits, others_of}
-use Rattle.quic_streams_state.specs.declared.control.ControlKind.{ControlKind}
-use Rattle.quic_streams_state.specs.declared.control.ControlKind.TheVariants.{ResetStream, StopSending, MaxData, MaxStreamData, MaxStreams, DataBlocked, StreamDataBlocked}
-use Rattle.quic_streams_state.specs.declared.control.TheConstants.{CONTROL_KINDS}
-use Rattle.quic_streams_state.specs.Control.{Entry, Draft, waiting, flagged, without_first, first_dropped, first_sent, first_and_more, with_listed, with_kind, with_control_frames}
+use Rattle.quic_retransmits.specs.declared.retransmits.ControlKind.{ControlKind}
+use Rattle.quic_retransmits.specs.declared.retransmits.TheConstants.{CONTROL_KINDS}
+use Rattle.quic_streams_state.specs.Control.{Entry, Draft, waiting, without_first, first_dropped, first_sent, first_and_more, with_listed, with_kind, with_control_frames}
+use Rattle.quic_streams_laws.specs.KindLaws.{GoesFirst, first_goes}
+use Rattle.quic_streams_state.specs.ControlLaws as control_laws
 use Rattle.quic_streams_state.specs.Frames.{Sent, least_stream_room, stream_room, frame_sent, frame_if, frame_and_more, stream_frames, with_stream_frames}
 
 -- ---- frames of control
 
--- of a list that waits the others are left, once its first is gone
-listed_left : {A : Type 0} (entry : A → Entry) (xs : List A) (e : Entry) (es : List Entry) → map entry xs ≡ e ∷ es → map entry (others_of xs) ≡ es
-listed_left entry [] e es is = cc
-listed_left entry (x ∷ xs) e es is = cc
-
--- of a flag nothing is
-flag_left : (b : Bool) (entry e : Entry) (es : List Entry) → flagged b entry ≡ e ∷ es → [] ≡ es
-flag_left true entry e es is = cc
-flag_left false entry e es is = cc
-
 -- the others of a kind wait once the first is gone
 pub others_wait : (kind : ControlKind) (p : Retransmits) (e : Entry) (es : List Entry) → waiting kind p ≡ e ∷ es → waiting kind (without_first kind p) ≡ es
-others_wait ResetStream p e es is = listed_left _ p.reset_stream e es is
-others_wait StopSending p e es is = listed_left _ p.stop_sending e es is
-others_wait MaxData p e es is = flag_left p.max_data _ e es is
-others_wait MaxStreamData p e es is = listed_left _ p.max_stream_data e es is
-others_wait (MaxStreams Bi) p e es is = flag_left p.max_stream_id.bi _ e es is
-others_wait (MaxStreams Uni) p e es is = flag_left p.max_stream_id.uni _ e es is
-others_wait DataBlocked p e es is = flag_left p.data_blocked _ e es is
-others_wait StreamDataBlocked p e es is = listed_left _ p.stream_data_blocked e es is
+others_wait kind p e es is = control_laws.others_wait kind p ∙ ap others_of is
 
--- what holds of a draft stays where the first that waits of a kind is dropped, since it is no longer due, or its frame goes
+-- what holds of a draft stays where the first that waits of a kind is dropped, since it is no longer due, or its frame goes, of which is known what it says
 pub record GoesOn (most : ℕ) (P : Draft → Type 0) : Type 0 where
   pub drops : (d : Draft) (kind : ControlKind) (e : Entry) (es : List Entry) → waiting kind d.pending ≡ e ∷ es → e.frame d.state ≡ None → P d → P (first_dropped kind d)
-  pub sends : (d : Draft) (kind : ControlKind) (e : Entry) (es : List Entry) (f : FrameValue) → waiting kind d.pending ≡ e ∷ es → e.frame d.state ≡ Some f → d.used + frame_size f ≤ most → P d → P (first_sent kind e f d)
+  pub sends : (d : Draft) (kind : ControlKind) (f : FrameValue) → GoesFirst kind d.pending d.state f → d.used + frame_size f ≤ most → P d → P (first_sent kind f d)
 
 module _ (most : ℕ) (P : Draft → Type 0) (c : GoesOn most P) where
   -- what waits of a kind
@@ -50,11 +33,11 @@ module _ (most : ℕ) (P : Draft → Type 0) (c : GoesOn most P) where
   listed_keeps kind [] d is p = p
   listed_keeps kind (e ∷ es) d is p = go (e.frame d.state) refl (λ x rest q. listed_keeps kind es x rest q)
     where
-      goes : (f : FrameValue) → e.frame d.state ≡ Some f → (b : Bool) → nat_le (d.used + frame_size f) most ≡ b → ((x : Draft) → waiting kind x.pending ≡ es → P x → P (with_listed kind most es x)) → P (if b then with_listed kind most es (first_sent kind e f d) else d)
-      goes f due true fits more = more (first_sent kind e f d) (others_wait kind d.pending e es is) (c.sends d kind e es f is due (leb-true (d.used + frame_size f) most fits) p)
+      goes : (f : FrameValue) → e.frame d.state ≡ Some f → (b : Bool) → nat_le (d.used + frame_size f) most ≡ b → ((x : Draft) → waiting kind x.pending ≡ es → P x → P (with_listed kind most es x)) → P (if b then with_listed kind most es (first_sent kind f d) else d)
+      goes f due true fits more = more (first_sent kind f d) (others_wait kind d.pending e es is) (c.sends d kind f (first_goes kind d.pending e es d.state f is due) (leb-true (d.used + frame_size f) most fits) p)
       goes f due false fits more = p
 
-      go : (o : Option FrameValue) → e.frame d.state ≡ o → ((x : Draft) → waiting kind x.pending ≡ es → P x → P (with_listed kind most es x)) → P (first_and_more o (with_listed kind most es) kind most e d)
+      go : (o : Option FrameValue) → e.frame d.state ≡ o → ((x : Draft) → waiting kind x.pending ≡ es → P x → P (with_listed kind most es x)) → P (first_and_more o (with_listed kind most es) kind most d)
       go None due more = more (first_dropped kind d) (others_wait kind d.pending e es is) (c.drops d kind e es is due p)
       go (Some f) due more = goes f due (nat_le (d.used + frame_size f) most) refl more
 

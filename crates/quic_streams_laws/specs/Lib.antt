@@ -1,6 +1,8 @@
+pub mod KindLaws
 pub mod ControlWalk
 pub mod Keeping
 pub mod KeepingLaws
+pub mod Giving
 pub mod Shape
 pub mod ShapeLaws
 pub mod EntryLaws
@@ -41,6 +43,7 @@ pub mod WrittenLaws
 pub mod WrittenFrames
 pub mod GrowsLaws
 pub mod WrittenResets
+pub mod GoesLaws
 pub mod Acknowledged
 pub mod AcknowledgedLaws
 pub mod FinishedLaws

@@ -1,56 +1,42 @@
 -- A fact that every small change keeps, however sending halves change, is left by each word about what an end sends.
-use Rattle.std.proofs.Common.{◌≡◌, ℕ, Bool, true, false, List, [], ◌∷◌, subst}
-use Rattle.std.specs.Prelude.{map}
-use Rattle.std.specs.List.{AllByRecursion}
+use Rattle.std.proofs.Common.{◌≡◌, ℕ, refl}
 use Rattle.quic_wire_core.specs.declared.stream_id.Dir.{Dir}
-use Rattle.quic_streams_parts.specs.Dirs.{of}
+use Rattle.quic_wire.specs.Value.{FrameValue, max_data, max_stream_data, max_streams}
 use Rattle.quic_streams_parts.specs.SendHalf.{SendHalf}
 use Rattle.quic_streams_parts.specs.RecvHalf.{RecvHalf}
-use Rattle.quic_retransmits.specs.Retransmits.{Retransmits}
 use Rattle.quic_streams_state.specs.declared.state.StreamsState.{StreamsState}
 use Rattle.quic_streams_state.specs.State.{Receiving}
-use Rattle.quic_streams_state.specs.declared.control.ControlKind.{ControlKind}
-use Rattle.quic_streams_state.specs.declared.control.ControlKind.TheVariants.{ResetStream, StopSending, MaxData, MaxStreamData, MaxStreams, DataBlocked, StreamDataBlocked}
-use Rattle.quic_streams_state.specs.Control.{Entry, Draft, waiting, flagged, reset_entry, stop_entry, data_entry, limit_entry, count_entry, blocked_entry, stream_blocked_entry, with_control_frames}
+use Rattle.quic_streams_state.specs.Opening.{announced_count}
+use Rattle.quic_streams_state.specs.Control.{Draft, data_told, limit_told, dir_named, frame_told, with_control_frames}
 use Rattle.quic_streams_laws.specs.ControlWalk.{by_control}
-use Rattle.quic_streams_laws.specs.Keeping.{KeepsAll}
+use Rattle.quic_streams_laws.specs.Keeping.{KeepsWhere, KeepsAll}
 use Rattle.quic_streams_laws.specs.KeepingLaws.{by_open, by_max_streams, by_write, by_write_chunks, by_finish, by_reset, by_set_priority, by_polled, by_stop_sending, by_max_data, by_max_stream_data, by_stream_acked, by_stream_lost, by_reset_acked, by_stream_frames, by_limit_told}
 use Rattle.quic_streams_laws.specs.Quiet.{IsQuiet}
 
-pub all_any : {A : Type 0} (xs : List A) → AllByRecursion (λ x. Unit {0}) xs
-all_any [] = tt
-all_any (x ∷ xs) = (tt, all_any xs)
+-- ---- a frame of control goes
 
--- the first that waits of a list is the entry of one of which holds what holds of each, and of a flag its entry
-pub listed_first : {A : Type 0} (P : A → Type 0) (entry : A → Entry) (xs : List A) (e : Entry) (es : List Entry) → AllByRecursion P xs → map entry xs ≡ e ∷ es → (x : A) × P x × (entry x ≡ e)
-listed_first P entry [] e es all is = absurd (nothing is)
-  where
-    nothing : [] ≡ e ∷ es → ⊥
-    nothing is = cc
-listed_first P entry (x ∷ xs) e es all is = (x, all.0, same is)
-  where
-    same : entry x ∷ map entry xs ≡ e ∷ es → entry x ≡ e
-    same is = cc
+-- what each limit that may be told leaves, any frame leaves
+pub by_tells : (P : StreamsState → Type 0) (s : StreamsState) → P s → P (record s { receiving = data_told s.receiving }) → ((id : ℕ) → P (record s { receiving = limit_told s.receiving id })) → ((dir : Dir) → P (record s { opening = announced_count dir s.opening }))
+    → (f : FrameValue) → P (frame_told f s)
+by_tells P s same all one counts (max_data limit) = all
+by_tells P s same all one counts (max_stream_data f) = one f.id
+by_tells P s same all one counts (max_streams f) = counts (dir_named f.one_way)
+by_tells P s same all one counts f = same
 
-pub flag_first : (b : Bool) (entry e : Entry) (es : List Entry) → flagged b entry ≡ e ∷ es → entry ≡ e
-flag_first true entry e es is = cc
-flag_first false entry e es is = cc
+-- so the sending halves stay as they were
+pub told_sending : (f : FrameValue) (s : StreamsState) → (frame_told f s).sending ≡ s.sending
+told_sending f s = by_tells (λ t. t.sending ≡ s.sending) s refl refl (λ id. refl) (λ dir. refl) f
 
-module _ {R : Receiving → ℕ → RecvHalf → RecvHalf → Type 0} {S : StreamsState → ℕ → SendHalf → SendHalf → Type 0} {W : StreamsState → ℕ → ℕ → SendHalf → SendHalf → Type 0} {A : StreamsState → Dir → Type 0} {F : ℕ → Type 0} (P : StreamsState → Type 0) (k : KeepsAll R S W A F P) where
+module _ {R : Receiving → ℕ → RecvHalf → RecvHalf → Type 0} {S : StreamsState → ℕ → SendHalf → SendHalf → Type 0} {W : StreamsState → ℕ → ℕ → SendHalf → SendHalf → Type 0} {A : StreamsState → Dir → Type 0} {F : ℕ → Type 0} {E : ℕ → SendHalf → Type 0}
+    {L : StreamsState → ℕ → Type 0} (P : StreamsState → Type 0) (k : KeepsWhere R S W A F E L P) where
   -- once a frame of control went
-  pub by_told : (kind : ControlKind) (p : Retransmits) (e : Entry) (es : List Entry) (s : StreamsState) → waiting kind p ≡ e ∷ es → P s → P (e.told s)
-  by_told ResetStream p e es s is q = let x = listed_first (λ r. Unit {0}) reset_entry p.reset_stream e es (all_any p.reset_stream) is in subst (λ y. P (y.told s)) x.2 q
-  by_told StopSending p e es s is q = let x = listed_first (λ r. Unit {0}) stop_entry p.stop_sending e es (all_any p.stop_sending) is in subst (λ y. P (y.told s)) x.2 q
-  by_told MaxData p e es s is q = subst (λ y. P (y.told s)) (flag_first p.max_data data_entry e es is) (k.tells s q)
-  by_told MaxStreamData p e es s is q = let x = listed_first (λ r. Unit {0}) limit_entry p.max_stream_data e es (all_any p.max_stream_data) is in subst (λ y. P (y.told s)) x.2 (by_limit_told P k s x.0 q)
-  by_told (MaxStreams dir) p e es s is q = subst (λ y. P (y.told s)) (flag_first (of dir p.max_stream_id) (count_entry dir) e es is) (k.tells_count s dir q)
-  by_told DataBlocked p e es s is q = subst (λ y. P (y.told s)) (flag_first p.data_blocked blocked_entry e es is) q
-  by_told StreamDataBlocked p e es s is q = let x = listed_first (λ r. Unit {0}) stream_blocked_entry p.stream_data_blocked e es (all_any p.stream_data_blocked) is in subst (λ y. P (y.told s)) x.2 q
+  pub by_told : (f : FrameValue) (s : StreamsState) → P s → P (frame_told f s)
+  by_told f s q = by_tells P s q (k.tells s q) (λ id. by_limit_told P k s id q) (λ dir. k.tells_count s dir q) f
 
   pub by_control_frames : (most : ℕ) (d : Draft) → P d.state → P (with_control_frames most d).state
   by_control_frames most d q = by_control most (λ d. P d.state) (record {
     drops = λ d kind e es is due q. q;
-    sends = λ d kind e es f is due fits q. by_told kind d.pending e es d.state is q;
+    sends = λ d kind f is fits q. by_told f d.state q;
   }) d q
 
 module _ {R : Receiving → ℕ → RecvHalf → RecvHalf → Type 0} {A : StreamsState → Dir → Type 0} (P : StreamsState → Type 0) (k : KeepsAll R (λ s id old new. Unit {0}) (λ s id n old new. Unit {0}) A (λ id. Unit {0}) P) where

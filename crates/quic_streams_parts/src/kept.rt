@@ -1,4 +1,5 @@
-//! A value in a place of its own, so that what keeps many of them moves no more than a pointer.
+//! A value in a place of its own, so that what keeps many of them, or takes one out, moves no more
+//! than a pointer.
 ghost use Rattle.std.specs.Prelude.{◌≡◌, IfOk};
 ghost use Rattle.std.specs.Borrow.{sem};
 
@@ -7,7 +8,7 @@ use std::marker::Model;
 
 /// A value on the heap.
 #[derive(Drop)]
-pub(crate) struct Kept<T> {
+pub struct Kept<T> {
     value: Box<T>,
 }
 
@@ -36,7 +37,7 @@ impl<T> Kept<T> {
     }
 
     /// The value.
-    pub(crate) fn get(&self) -> &T
+    pub fn get(&self) -> &T
         ensures { result.now ≡ self.now }
     {
         self.value.as_ref()
@@ -50,20 +51,12 @@ impl<T> Kept<T> {
         self.value.as_mut()
     }
 
-    /// Gives the value out.
-    pub(crate) fn into_value(self) -> T
-        ensures { result ≡ self }
+    /// The value gives way to another, which stands at its place.
+    pub(crate) fn set(&mut self, value: T)
+    where
+        T: Drop,
+        ensures { self.new ≡ value }
     {
-        Box::into_inner(self.value)
-    }
-}
-
-/// Gives out a value that was kept, if there is one.
-pub(crate) fn given_out<T>(slot: Option<Kept<T>>) -> Option<T>
-    ensures { result ≡ slot }
-{
-    match slot {
-        Some(kept) => Some(kept.into_value()),
-        None => None,
+        *self.value.as_mut() = value;
     }
 }

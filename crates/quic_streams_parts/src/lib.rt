@@ -21,6 +21,7 @@ pub use answers::{
 };
 pub use by_dir::ByDir;
 pub use events::Events;
+pub use kept::Kept;
 pub use numbered::Numbered;
 pub use pending_queue::{PendingStreamsQueue, Place};
 pub use recv::{GREATEST_OFFSET, Recv, least_growth};

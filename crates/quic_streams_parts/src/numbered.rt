@@ -8,16 +8,23 @@ ghost use Rattle.std.specs.Ordering.{nat_cmp};
 ghost use Rattle.quic_streams_parts.specs.Table.{at, added, without};
 
 use crate::by_number::ByNumber;
-use crate::kept::{Kept, given_out};
+use crate::kept::Kept;
 use std::alloc::{AllocError, Global};
 use std::marker::Model;
 
+/// How many places wait to be used again at most: enough where values come and go a few at a time,
+/// and little memory.
+const MAX_SPARE: usize = 16;
+
 /// Values by number, for numbers that come nearly in order. One of the latest 4096 numbers is
 /// found, kept and taken out in constant time, amortized, and an earlier one in the logarithm of
-/// how many of those there are. Each value stays where it is on the heap.
+/// how many of those there are. Each value stays where it is on the heap, and a place that was given
+/// back is used again.
 #[derive(Drop)]
 pub struct Numbered<T> {
     values: ByNumber<Kept<T>>,
+    // Places that were given back, each with an idle value.
+    spare: Vec<Kept<T>>,
     alloc: Global,
 }
 
@@ -38,6 +45,7 @@ impl<T> Numbered<T> {
     {
         Numbered {
             values: ByNumber::new(alloc),
+            spare: Vec::new(alloc),
             alloc,
         }
     }
@@ -63,12 +71,12 @@ impl<T> Numbered<T> {
         }
     }
 
-    /// Keeps a value: the one that had its number, if any.
+    /// Keeps a value: the one that had its number, if any, in its place.
     ///
     /// # Errors
     ///
     /// [`AllocError`] where memory lacks; nothing changes.
-    pub fn insert(&mut self, number: u64, value: T) -> Result<Option<T>, AllocError>
+    pub fn insert(&mut self, number: u64, value: T) -> Result<Option<Kept<T>>, AllocError>
     where
         T: Drop,
         ensures replaced { IfOk result (λ replaced. replaced ≡ at self.old number) }
@@ -77,17 +85,47 @@ impl<T> Numbered<T> {
         ensures was_ordered { IsStrictlySortedBy nat_cmp (keys_of self.old) }
     {
         self.values.are_ordered();
-        let kept = Kept::new(self.alloc, value)?;
-        Ok(given_out(self.values.insert(number, kept)?))
+        let kept = self.keep(value)?;
+        self.values.insert(number, kept)
     }
 
-    /// Takes out the value of a number, if it is there.
-    pub fn remove(&mut self, number: u64) -> Option<T>
+    // A value gets a place, which was used before if possible.
+    fn keep(&mut self, value: T) -> Result<Kept<T>, AllocError>
+    where
+        T: Drop,
+        ensures kept { IfOk result (λ kept. kept ≡ value) }
+        ensures same { self.new ≡ self.old }
+    {
+        match self.spare.pop() {
+            Some(mut kept) => {
+                kept.set(value);
+                Ok(kept)
+            }
+            None => Kept::new(self.alloc, value),
+        }
+    }
+
+    /// Takes out the value of a number, if it is there, in its place, so that it isn't moved.
+    pub fn remove(&mut self, number: u64) -> Option<Kept<T>>
     where
         T: Drop,
         ensures taken { result ≡ at self.old number }
         ensures left { self.new ≡ without self.old number }
     {
-        given_out(self.values.remove(number))
+        self.values.remove(number)
+    }
+
+    /// Takes back the place of a value that was taken out, to be used again, unless enough wait. The
+    /// value gives way to an idle one, which should hold no memory.
+    pub fn give_back(&mut self, mut kept: Kept<T>, idle: T)
+    where
+        T: Drop,
+        ensures { self.new ≡ self.old }
+    {
+        if self.spare.len() < MAX_SPARE {
+            kept.set(idle);
+            // Where memory lacks, the place is let go.
+            let _ = self.spare.push(kept);
+        }
     }
 }

@@ -13,13 +13,13 @@ use Rattle.std.specs.Option.{unwrap_or, option_map}
 use Rattle.quic_wire.specs.Value.{StreamValue}
 use Rattle.quic_streams_parts.specs.declared.answers.Breach.{Breach}
 use Rattle.quic_streams_parts.specs.declared.answers.Breach.TheVariants.{FlowControl, FinalSize}
-use Rattle.quic_streams_parts.specs.RecvHalf.{RecvHalf, greatest_offset, breaks_final, after_frame, after_reset_stream, begun}
+use Rattle.quic_streams_parts.specs.RecvHalf.{RecvHalf, greatest_offset, end_of, breaks_final, after_frame, with_frame, with_offsets_of, after_reset_stream, begun}
 use Rattle.quic_streams_parts.specs.Table.{Table, at, put, without}
-use Rattle.quic_streams_halves.specs.Halves.{Halves, changed, changed_at, seen_in, without_half}
+use Rattle.quic_streams_halves.specs.Halves.{Halves, changed, changed_at, seen_in}
 use Rattle.quic_streams_state.specs.Parts.{Receiving, seen}
 use Rattle.quic_streams_state.specs.Limits.{raised_data}
 use Rattle.quic_streams_state.specs.State.{seen_at}
-use Rattle.quic_streams_state.specs.Taking.{breach_on, breaks_limit}
+use Rattle.quic_streams_state.specs.Taking.{breach_on}
 use Rattle.quic_streams_state.specs.Bounds.{IsReceiving}
 
 -- the parts of a receiving end are lawful
@@ -75,6 +75,23 @@ changed_same f r id hs lawful same is = subst (λ (k : Halves RecvHalf). IsLawfu
         let was = lawful.seen in
         omega arith
 
+-- a frame that is allowed leaves no more than may arrive
+pub frame_room : (r : Receiving) (h : RecvHalf) (f : StreamValue) → breach_on r h (end_of f) f.fin ≡ None → seen r - h.seen + (after_frame h f).seen ≤ greatest_offset
+frame_room r h f e = go h.stopped (is_some h.reset)
+  where
+    room : seen r - h.seen + max h.seen (end_of f) ≤ greatest_offset
+    room = (allowed r h (end_of f) f.fin e).room
+
+    go : (b c : Bool) → seen r - h.seen + (if b then with_offsets_of h f else (if c then h else with_frame h f)).seen ≤ greatest_offset
+    go true c = room
+    go false true = let k = room in omega arith
+    go false false = room
+
+-- the greatest offset of a half that may be in use
+pub seen_found : (o : Option RecvHalf) → unwrap_or (option_map (λ (k : RecvHalf). k.seen) o) 0 ≡ seen_at o
+seen_found None = refl
+seen_found (Some h) = refl
+
 -- what arrived on a half moves to what arrived on those that are done
 pub removed_sum : (r : Receiving) (id : ℕ) → r.gone + seen_at (at r.halves.live id) + seen_in (without r.halves.live id) ≡ r.gone + seen_in r.halves.live
 removed_sum r id = go (at r.halves.live id) refl
@@ -99,9 +116,6 @@ begun_in_order hs id ordered e = go (at hs.live id) refl
     go None found = rw found refl
     go (Some h) found = unchanged (λ h. begun h ordered) hs id h found (rw e refl)
 
--- a half that the peer reset takes no frame, and no other reset
-pub frame_after_reset : (h : RecvHalf) (f : StreamValue) → h.stopped ≡ false → is_some h.reset ≡ true → after_frame h f ≡ h
-frame_after_reset h f e r = rw (e, r) refl
-
+-- a half that the peer reset takes no other reset
 pub reset_after_reset : (h : RecvHalf) (code size : ℕ) → h.stopped ≡ false → is_some h.reset ≡ true → after_reset_stream h code size ≡ h
 reset_after_reset h code size e r = rw (e, r) refl

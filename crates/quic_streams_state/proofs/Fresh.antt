@@ -12,7 +12,7 @@ use Rattle.quic_streams_parts.specs.Table.{at}
 use Rattle.quic_streams_state.specs.State.{StreamsState}
 use Rattle.quic_streams_state.specs.Limits.{decided}
 use Rattle.quic_streams_state.specs.Opening.{opens, opened_by, receiving_refusal}
-use Rattle.quic_streams_state.specs.Taking.{part_for, refusal, breach_on, breach_at, breach_behind, readable_if, ended_if}
+use Rattle.quic_streams_state.specs.Taking.{part_for, refusal, breach_at, breach_behind, readable_if, ended_if}
 use Rattle.quic_streams_state.specs.Received.{is_over, noted_on}
 use Rattle.quic_streams_state.proofs.Tables.{at-with_half}
 use Rattle.quic_streams_state.proofs.Coming.{IsTaken, is_taken, IsReset, is_reset}

@@ -5,35 +5,13 @@ use Rattle.std.specs.List.{fold}
 use Rattle.std.proofs.lemmas.List.{append_assoc, append-nil, take-append-le}
 use Rattle.std.proofs.lemmas.Bool.{le-leb}
 use Rattle.std.proofs.lemmas.Bool.Decides.{leb_tells}
-use Rattle.quic_wire_core.specs.declared.stream_id.Dir.TheVariants.{Bi, Uni}
 use Rattle.quic_wire.specs.Value.{FrameValue}
 use Rattle.quic_wire.specs.Writing.{spelling, spelled_all, frame_size}
-use Rattle.quic_retransmits.specs.Retransmits.{Retransmits, first_of, others_of, is_any}
-use Rattle.quic_streams_state.specs.declared.control.ControlKind.{ControlKind}
-use Rattle.quic_streams_state.specs.declared.control.ControlKind.TheVariants.{ResetStream, StopSending, MaxData, MaxStreamData, MaxStreams, DataBlocked, StreamDataBlocked}
+use Rattle.quic_retransmits.specs.Retransmits.{Retransmits, others_of, is_any}
+use Rattle.quic_retransmits.specs.declared.retransmits.ControlKind.{ControlKind}
 use Rattle.quic_streams_state.specs.State.{StreamsState}
-use Rattle.quic_streams_state.specs.Control.{Entry, Draft, limit_told, reset_entry, stop_entry, data_entry, limit_entry, count_entry, blocked_entry, stream_blocked_entry, flagged, waiting, without_first, no_frames, first_dropped, first_sent, first_and_more, with_listed, with_kind, frame_of_first, told_first, with_first}
-
--- ---- what waits behind the first
-
-others_mapped : {A : Type 0} → (f : A → Entry) (xs : List A) → map f (others_of xs) ≡ others_of (map f xs)
-others_mapped f [] = refl
-others_mapped f (x ∷ xs) = refl
-
-none_behind : (b : Bool) (e : Entry) → [] ≡ others_of (flagged b e)
-none_behind true e = refl
-none_behind false e = refl
-
--- without the first those behind it wait
-pub others_wait : (kind : ControlKind) (p : Retransmits) → waiting kind (without_first kind p) ≡ others_of (waiting kind p)
-others_wait ResetStream p = others_mapped reset_entry p.reset_stream
-others_wait StopSending p = others_mapped stop_entry p.stop_sending
-others_wait MaxData p = none_behind p.max_data data_entry
-others_wait MaxStreamData p = others_mapped limit_entry p.max_stream_data
-others_wait (MaxStreams Bi) p = none_behind p.max_stream_id.bi (count_entry Bi)
-others_wait (MaxStreams Uni) p = none_behind p.max_stream_id.uni (count_entry Uni)
-others_wait DataBlocked p = none_behind p.data_blocked blocked_entry
-others_wait StreamDataBlocked p = others_mapped stream_blocked_entry p.stream_data_blocked
+use Rattle.quic_streams_state.specs.Control.{Entry, Draft, waiting, without_first, no_frames, first_dropped, first_sent, first_and_more, with_listed, with_kind, frame_of_first, frame_told, and_again}
+use Rattle.quic_streams_state.specs.ControlLaws.{others_wait}
 
 -- ---- frames that went already
 
@@ -41,21 +19,21 @@ others_wait StreamDataBlocked p = others_mapped stream_blocked_entry p.stream_da
 abbrev pub behind : List FrameValue → Draft → Draft
 behind fs d = record d { frames = fs ++ d.frames }
 
-first_behind : (more : Draft → Draft) (kind : ControlKind) (most : ℕ) (e : Entry) (fs : List FrameValue) (d : Draft) (o : Option FrameValue)
-    → ((x : Draft) → more (behind fs x) ≡ behind fs (more x)) → first_and_more o more kind most e (behind fs d) ≡ behind fs (first_and_more o more kind most e d)
-first_behind more kind most e fs d None m = m (first_dropped kind d)
-first_behind more kind most e fs d (Some f) m = go (nat_le (d.used + frame_size f) most)
+first_behind : (more : Draft → Draft) (kind : ControlKind) (most : ℕ) (fs : List FrameValue) (d : Draft) (o : Option FrameValue)
+    → ((x : Draft) → more (behind fs x) ≡ behind fs (more x)) → first_and_more o more kind most (behind fs d) ≡ behind fs (first_and_more o more kind most d)
+first_behind more kind most fs d None m = m (first_dropped kind d)
+first_behind more kind most fs d (Some f) m = go (nat_le (d.used + frame_size f) most)
   where
-    sent : first_sent kind e f (behind fs d) ≡ behind fs (first_sent kind e f d)
-    sent = ap (λ gs. record (first_sent kind e f d) { frames = gs }) (append_assoc fs d.frames (f ∷ []))
+    sent : first_sent kind f (behind fs d) ≡ behind fs (first_sent kind f d)
+    sent = ap (λ gs. record (first_sent kind f d) { frames = gs }) (append_assoc fs d.frames (f ∷ []))
 
-    go : (b : Bool) → (if b then more (first_sent kind e f (behind fs d)) else behind fs d) ≡ behind fs (if b then more (first_sent kind e f d) else d)
-    go true = ap more sent ∙ m (first_sent kind e f d)
+    go : (b : Bool) → (if b then more (first_sent kind f (behind fs d)) else behind fs d) ≡ behind fs (if b then more (first_sent kind f d) else d)
+    go true = ap more sent ∙ m (first_sent kind f d)
     go false = refl
 
 listed_behind : (kind : ControlKind) (most : ℕ) (es : List Entry) (fs : List FrameValue) (d : Draft) → with_listed kind most es (behind fs d) ≡ behind fs (with_listed kind most es d)
 listed_behind kind most [] fs d = refl
-listed_behind kind most (e ∷ es) fs d = first_behind (with_listed kind most es) kind most e fs d (e.frame d.state) (listed_behind kind most es fs)
+listed_behind kind most (e ∷ es) fs d = first_behind (with_listed kind most es) kind most fs d (e.frame d.state) (listed_behind kind most es fs)
 
 -- what goes of kinds doesn't depend on the frames before it
 pub kinds_behind : (most : ℕ) (kinds : List ControlKind) (fs : List FrameValue) (d : Draft) → fold (with_kind most) (behind fs d) kinds ≡ behind fs (fold (with_kind most) d kinds)
@@ -79,7 +57,7 @@ goes_stale kind most used s p sent any none = go (waiting kind p) (others_wait k
     go : (es : List Entry) → waiting kind (without_first kind p) ≡ others_of es → is_any es ≡ true → frame_of_first es s ≡ None → with_listed kind most es (no_frames used s p sent) ≡ with_kind most (no_frames used s (without_first kind p) sent) kind
     go [] others any none = cc
     go (e ∷ es) others any none =
-        ap (λ o. first_and_more o (with_listed kind most es) kind most e (no_frames used s p sent)) none
+        ap (λ o. first_and_more o (with_listed kind most es) kind most (no_frames used s p sent)) none
         ∙ ap (λ xs. with_listed kind most xs (no_frames used s (without_first kind p) sent)) (sym others)
 
 -- nothing goes where nothing waits
@@ -98,22 +76,22 @@ goes_full kind most used s p sent f is full = go (waiting kind p) is
     go : (es : List Entry) → frame_of_first es s ≡ Some f → with_listed kind most es (no_frames used s p sent) ≡ no_frames used s p sent
     go [] is = cc
     go (e ∷ es) is =
-        ap (λ o. first_and_more o (with_listed kind most es) kind most e (no_frames used s p sent)) is
-        ∙ ap (λ b. if b then with_listed kind most es (first_sent kind e f (no_frames used s p sent)) else no_frames used s p sent) full
+        ap (λ o. first_and_more o (with_listed kind most es) kind most (no_frames used s p sent)) is
+        ∙ ap (λ b. if b then with_listed kind most es (first_sent kind f (no_frames used s p sent)) else no_frames used s p sent) full
 
 -- the first goes where it fits
 pub goes_first : (kind : ControlKind) (most used : ℕ) (s : StreamsState) (p sent : Retransmits) (f : FrameValue) → frame_of_first (waiting kind p) s ≡ Some f → nat_le (used + frame_size f) most ≡ true
-    → with_kind most (no_frames used s p sent) kind ≡ behind (f ∷ []) (with_kind most (no_frames (used + frame_size f) (told_first (waiting kind p) s) (without_first kind p) (with_first (waiting kind p) sent)) kind)
+    → with_kind most (no_frames used s p sent) kind ≡ behind (f ∷ []) (with_kind most (no_frames (used + frame_size f) (frame_told f s) (without_first kind p) (and_again sent f)) kind)
 goes_first kind most used s p sent f is fits = go (waiting kind p) (others_wait kind p) is
   where
     go : (es : List Entry) → waiting kind (without_first kind p) ≡ others_of es → frame_of_first es s ≡ Some f
-        → with_listed kind most es (no_frames used s p sent) ≡ behind (f ∷ []) (with_kind most (no_frames (used + frame_size f) (told_first es s) (without_first kind p) (with_first es sent)) kind)
+        → with_listed kind most es (no_frames used s p sent) ≡ behind (f ∷ []) (with_kind most (no_frames (used + frame_size f) (frame_told f s) (without_first kind p) (and_again sent f)) kind)
     go [] others is = cc
     go (e ∷ es) others is =
-        ap (λ o. first_and_more o (with_listed kind most es) kind most e (no_frames used s p sent)) is
-        ∙ ap (λ b. if b then with_listed kind most es (first_sent kind e f (no_frames used s p sent)) else no_frames used s p sent) fits
-        ∙ listed_behind kind most es (f ∷ []) (no_frames (used + frame_size f) (e.told s) (without_first kind p) (e.carried sent))
-        ∙ ap (λ xs. behind (f ∷ []) (with_listed kind most xs (no_frames (used + frame_size f) (e.told s) (without_first kind p) (e.carried sent)))) (sym others)
+        ap (λ o. first_and_more o (with_listed kind most es) kind most (no_frames used s p sent)) is
+        ∙ ap (λ b. if b then with_listed kind most es (first_sent kind f (no_frames used s p sent)) else no_frames used s p sent) fits
+        ∙ listed_behind kind most es (f ∷ []) (no_frames (used + frame_size f) (frame_told f s) (without_first kind p) (and_again sent f))
+        ∙ ap (λ xs. behind (f ∷ []) (with_listed kind most xs (no_frames (used + frame_size f) (frame_told f s) (without_first kind p) (and_again sent f)))) (sym others)
 
 -- ---- what is written
 
@@ -161,24 +139,24 @@ left_stale before d after kind most used s p q sent l any none is =
     subst (Left before d after) (goes_stale kind most used s p sent any none ∙ ap (λ w. with_kind most (no_frames used s w sent) kind) (sym is)) l
 
 -- the streams, what waits and what a datagram carries, once the first went
-pub record FirstWent (kind : ControlKind) (s : StreamsState) (p sent : Retransmits) (s' : StreamsState) (p' sent' : Retransmits) : Type 0 where
-  pub told : s' ≡ told_first (waiting kind p) s
+pub record FirstWent (kind : ControlKind) (f : FrameValue) (s : StreamsState) (p sent : Retransmits) (s' : StreamsState) (p' sent' : Retransmits) : Type 0 where
+  pub told : s' ≡ frame_told f s
   pub dropped : p' ≡ without_first kind p
-  pub carried : sent' ≡ with_first (waiting kind p) sent
+  pub carried : sent' ≡ and_again sent f
 
-went : (kind : ControlKind) (most used : ℕ) (s : StreamsState) (p sent : Retransmits) (s' : StreamsState) (p' sent' : Retransmits) → FirstWent kind s p sent s' p' sent'
-    → with_kind most (no_frames used (told_first (waiting kind p) s) (without_first kind p) (with_first (waiting kind p) sent)) kind ≡ with_kind most (no_frames used s' p' sent') kind
-went kind most used s p sent s' p' sent' w = let told = w.told in let dropped = w.dropped in let carried = w.carried in ap (λ x. with_kind most x kind) (cc)
+went : (kind : ControlKind) (f : FrameValue) (most used : ℕ) (s : StreamsState) (p sent : Retransmits) (s' : StreamsState) (p' sent' : Retransmits) → FirstWent kind f s p sent s' p' sent'
+    → with_kind most (no_frames used (frame_told f s) (without_first kind p) (and_again sent f)) kind ≡ with_kind most (no_frames used s' p' sent') kind
+went kind f most used s p sent s' p' sent' w = let told = w.told in let dropped = w.dropped in let carried = w.carried in ap (λ x. with_kind most x kind) (cc)
 
 -- once the frame of the first went
 pub left_first : (before : List ℕ) (d : Draft) (after : List ℕ) (kind : ControlKind) (most used : ℕ) (s : StreamsState) (p sent : Retransmits) (f : FrameValue) (more : List ℕ) (used' : ℕ) (s' : StreamsState) (p' sent' : Retransmits)
     → Left before d after (with_kind most (no_frames used s p sent) kind) → frame_of_first (waiting kind p) s ≡ Some f → used + frame_size f ≤ most
-    → FirstWent kind s p sent s' p' sent' → used' ≡ used + frame_size f → more ≡ after ++ spelling f
+    → FirstWent kind f s p sent s' p' sent' → used' ≡ used + frame_size f → more ≡ after ++ spelling f
     → Left before d more (with_kind most (no_frames used' s' p' sent') kind)
 left_first before d after kind most used s p sent f more used' s' p' sent' l is fits w len grown =
     let next : with_kind most (no_frames used s p sent) kind ≡ behind (f ∷ []) (with_kind most (no_frames used' s' p' sent') kind) =
     goes_first kind most used s p sent f is (le-leb (used + frame_size f) most fits)
-    ∙ ap (behind (f ∷ [])) (went kind most (used + frame_size f) s p sent s' p' sent' w ∙ ap (λ n. with_kind most (no_frames n s' p' sent') kind) (sym len)) in
+    ∙ ap (behind (f ∷ [])) (went kind f most (used + frame_size f) s p sent s' p' sent' w ∙ ap (λ n. with_kind most (no_frames n s' p' sent') kind) (sym len)) in
     left_behind before d after (with_kind most (no_frames used s p sent) kind) (with_kind most (no_frames used' s' p' sent') kind) (f ∷ []) more l next (grown ∙ ap (λ x. after ++ x) (sym (append-nil (spelling f))))
 
 -- a frame goes where the first is due and fits
@@ -282,39 +260,7 @@ pub on_err : {T E : Type 0} (r : Result T E) {P : Type 0} → P → OnErr r P
 on_err (Ok x) p = tt
 on_err (Err e) p = p
 
--- ---- what the first tells
-
-told_mapped : {A : Type 0} (f : A → Entry) (xs : List A) (a : A) (s : StreamsState) → first_of xs ≡ Some a → told_first (map f xs) s ≡ (f a).told s
-told_mapped f [] a s is = cc
-told_mapped f (x ∷ xs) a s is = let same : x ≡ a = cc in ap (λ y. (f y).told s) same
-
-told_by_none : {A : Type 0} (f : A → Entry) (xs : List A) (s : StreamsState) → first_of xs ≡ None → s ≡ told_first (map f xs) s
-told_by_none f [] s is = refl
-told_by_none f (x ∷ xs) s is = cc
-
-told_nothing : {A : Type 0} (f : A → Entry) (xs : List A) (s : StreamsState) → ((a : A) → s ≡ (f a).told s) → s ≡ told_first (map f xs) s
-told_nothing f [] s silent = refl
-told_nothing f (x ∷ xs) s silent = silent x
-
--- MAX_STREAM_DATA of a stream
-pub told_limit : (kind : ControlKind) (p : Retransmits) (s : StreamsState) (id : ℕ) → kind ≡ MaxStreamData → first_of p.max_stream_data ≡ Some id
-    → told_first (waiting kind p) s ≡ record s { receiving = limit_told s.receiving id }
-told_limit kind p s id is first = ap (λ k. told_first (waiting k p) s) is ∙ told_mapped limit_entry p.max_stream_data id s first
-
--- where none waits
-pub told_no_limit : (kind : ControlKind) (p : Retransmits) (s : StreamsState) → kind ≡ MaxStreamData → first_of p.max_stream_data ≡ None → s ≡ told_first (waiting kind p) s
-told_no_limit kind p s is none = told_by_none limit_entry p.max_stream_data s none ∙ ap (λ k. told_first (waiting k p) s) (sym is)
-
-told_no_flag : (b : Bool) (s : StreamsState) → s ≡ told_first (flagged b blocked_entry) s
-told_no_flag true s = refl
-told_no_flag false s = refl
-
--- the frames that tell nothing of limits
-pub told_none : (kind : ControlKind) (p : Retransmits) (s : StreamsState) → (kind ≡ ResetStream) ⊎ ((kind ≡ StopSending) ⊎ ((kind ≡ DataBlocked) ⊎ (kind ≡ StreamDataBlocked))) → s ≡ told_first (waiting kind p) s
-told_none kind p s (inl is) = told_nothing reset_entry p.reset_stream s (λ x. refl) ∙ ap (λ k. told_first (waiting k p) s) (sym is)
-told_none kind p s (inr (inl is)) = told_nothing stop_entry p.stop_sending s (λ x. refl) ∙ ap (λ k. told_first (waiting k p) s) (sym is)
-told_none kind p s (inr (inr (inl is))) = told_no_flag p.data_blocked s ∙ ap (λ k. told_first (waiting k p) s) (sym is)
-told_none kind p s (inr (inr (inr is))) = told_nothing stream_blocked_entry p.stream_data_blocked s (λ x. refl) ∙ ap (λ k. told_first (waiting k p) s) (sym is)
+-- ---- several kinds
 
 -- the kinds that are left, by the first of them
 pub left_next : (before : List ℕ) (d : Draft) (after : List ℕ) (most used : ℕ) (s : StreamsState) (p sent : Retransmits) (all : List ControlKind) (kind : ControlKind) (kinds : List ControlKind)

@@ -1,18 +1,18 @@
 -- What is sent after a half in use changed, and the queue with it.
-use Rattle.std.proofs.Common.{◌≡◌, ℕ, ◌+◌, ◌≤◌, Bool, true, false, List, [], ◌∷◌, length, take, Option, Some, None, Result, Ok, Err, OnOk, refl, ap, arith, ◌∙◌}
+use Rattle.std.proofs.Common.{◌≡◌, ℕ, ◌+◌, Bool, true, false, List, [], ◌∷◌, length, Option, Some, None, Result, Ok, Err, OnOk, refl, ap, arith, ◌∙◌}
 use Rattle.std.specs.Prelude.{if◌then◌else◌}
 use Rattle.std.specs.Ordering.{nat_cmp}
 use Rattle.std.specs.BTreeMap.{is_at}
 use Rattle.std.proofs.lemmas.Map.Steps.{set_value_same}
 use Rattle.std.proofs.Math.Dec.{eqb-suc-zero}
 use Rattle.quic_send_buffer.specs.declared.stream_meta.StreamMeta.{StreamMeta}
-use Rattle.quic_streams_parts.specs.Table.{at, put}
+use Rattle.quic_streams_parts.specs.Table.{at}
 use Rattle.quic_streams_parts.specs.Queue.{Queue}
-use Rattle.quic_streams_parts.specs.SendHalf.{SendHalf, Queued, is_ready, grown, requeued_at, frame_counts, half_after, turned}
+use Rattle.quic_streams_parts.specs.SendHalf.{SendHalf, Queued, is_ready, frame_counts, half_after, turned}
 use Rattle.quic_streams_halves.specs.Halves.{Halves, changed, changed_at}
-use Rattle.quic_streams_halves.specs.Queued.{queue_with, unmoved, accepted_with, acked_with, acked_if_ready, lost_with, sent_if_counts}
+use Rattle.quic_streams_halves.specs.Queued.{queue_with, unmoved, accepted_with, acked_with, acked_if_ready, lost_with, sent_if_counts, finished_with, reset_with}
 use Rattle.quic_streams_state.specs.Parts.{Sending}
-use Rattle.quic_streams_state.specs.Sends.{with_live_queued, accepted_in, acked_in, acked_if_ready_in, lost_in, sent_in, sent_if_counts_in}
+use Rattle.quic_streams_state.specs.Sends.{with_live_queued, accepted_in, acked_in, acked_if_ready_in, lost_in, sent_in, sent_if_counts_in, finished_in, reset_in}
 
 -- what two facts of a call that went well come to
 pub on_both : {T E P Q R : Type 0} (r : Result T E) → OnOk r P → OnOk r Q → (P → Q → R) → OnOk r R
@@ -58,6 +58,24 @@ pub lost_is : (s : Sending) (m : StreamMeta) (hs : Halves SendHalf) (q : Queue) 
 lost_is s m hs q e g = both_changed (lost_with m s.queue) s m.id hs q e g ∙ go (at s.halves.live m.id)
   where
     go : (o : Option SendHalf) → together (lost_with m s.queue) o s m.id ≡ lost_in o s m
+    go None = refl
+    go (Some h) = refl
+
+-- its end waits to go
+pub finished_is : (s : Sending) (id : ℕ) (hs : Halves SendHalf) (q : Queue) → hs ≡ changed (λ h. (finished_with id s.queue h).half) s.halves id → q ≡ queue_with (finished_with id s.queue) (at s.halves.live id) s.queue
+    → record s { halves = hs; queue = q } ≡ finished_in (at s.halves.live id) s id
+finished_is s id hs q e g = both_changed (finished_with id s.queue) s id hs q e g ∙ go (at s.halves.live id)
+  where
+    go : (o : Option SendHalf) → together (finished_with id s.queue) o s id ≡ finished_in o s id
+    go None = refl
+    go (Some h) = refl
+
+-- it is reset
+pub reset_is : (s : Sending) (id : ℕ) (hs : Halves SendHalf) (q : Queue) → hs ≡ changed (λ h. (reset_with id s.queue h).half) s.halves id → q ≡ queue_with (reset_with id s.queue) (at s.halves.live id) s.queue
+    → record s { halves = hs; queue = q } ≡ reset_in (at s.halves.live id) s id
+reset_is s id hs q e g = both_changed (reset_with id s.queue) s id hs q e g ∙ go (at s.halves.live id)
+  where
+    go : (o : Option SendHalf) → together (reset_with id s.queue) o s id ≡ reset_in o s id
     go None = refl
     go (Some h) = refl
 

@@ -14,5 +14,6 @@ pub mod SendLacking
 pub mod Telling
 pub mod Waiting
 pub mod Control
+pub mod ControlLaws
 pub mod Frames
 pub mod Worked

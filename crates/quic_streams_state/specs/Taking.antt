@@ -1,7 +1,7 @@
 -- What the peer's frames on streams come to: STREAM and RESET_STREAM, STOP_SENDING, and the limits (RFC 9000, sections 3, 4 and 19).
 use Rattle.std.specs.Prelude.{ℕ, ◌+◌, ◌-◌, ◌^◌, max, Bool, true, false, nat_lt, nat_le, ◌==◌, ◌&&◌, ◌||◌, not, if◌then◌else◌, List, [], ◌∷◌, ◌++◌, Option, Some, None}
 use Rattle.std.specs.Option.{is_some}
-use Rattle.quic_wire.specs.Value.{StreamValue, ResetStreamValue, StopSendingValue}
+use Rattle.quic_wire.specs.Value.{FrameValue, StreamValue, ResetStreamValue, StopSendingValue, stream, reset_stream, stop_sending, max_stream_data, max_streams, stream_data_blocked, streams_blocked}
 use Rattle.quic_streams_parts.specs.declared.answers.Breach.{Breach}
 use Rattle.quic_streams_parts.specs.declared.answers.Breach.TheVariants.{FlowControl, FinalSize, StreamState, Pieces}
 use Rattle.quic_streams_parts.specs.declared.answers.StreamEvent.TheVariants as stream_events
@@ -9,6 +9,8 @@ use Rattle.quic_streams_parts.specs.Events.{with_event}
 use Rattle.quic_streams_parts.specs.SendHalf.{SendHalf, written_on, is_ready}
 use Rattle.quic_streams_parts.specs.RecvHalf.{RecvHalf, end_of, breaks_final, after_frame, after_reset_stream, has_too_many}
 use Rattle.quic_retransmits.specs.Retransmits.{Retransmits}
+use Rattle.quic_streams_state.specs.declared.taking.IdRule.{IdRule}
+use Rattle.quic_streams_state.specs.declared.taking.IdRule.TheVariants.{Free, ReceivingOf, SendingOf, NotOfOwn, Counting}
 use Rattle.quic_streams_state.specs.State.{StreamsState, Receiving, seen, Streams, streams_of, sending_half, receiving_half, with_send, with_recv, recv_done, room}
 use Rattle.quic_streams_state.specs.Limits.{raised_data, settled}
 use Rattle.quic_streams_state.specs.Opening.{opens, opened_by, receiving_refusal, sending_refusal, max_streams_breach}
@@ -110,12 +112,34 @@ after_reset_frame s p f = reset_unless (reset_breach s f) s p f
 
 -- ---- STREAM_DATA_BLOCKED and STREAMS_BLOCKED (sections 19.13 and 19.14): they change nothing, and the first is refused on a stream on which only this end sends
 
+-- the rule that STREAM_DATA_BLOCKED breaks by its id, if it breaks one
 abbrev pub stream_data_blocked_breach : StreamsState → ℕ → Option Breach
 stream_data_blocked_breach s id = if is_own s.side id && not (is_two_way (dir_of id)) then Some StreamState else None
 
 -- the rule that STREAMS_BLOCKED breaks by its count, if it breaks one
 abbrev pub streams_blocked_breach : ℕ → Option Breach
 streams_blocked_breach count = max_streams_breach count
+
+-- ---- the rules of ids and counts, as a table: what a frame may name, whatever else it does
+
+-- the one that a frame is held to
+abbrev pub id_rule : FrameValue → IdRule
+id_rule (stream f) = ReceivingOf f.id
+id_rule (reset_stream f) = ReceivingOf f.id
+id_rule (stop_sending f) = SendingOf f.id
+id_rule (max_stream_data f) = SendingOf f.id
+id_rule (max_streams f) = Counting f.count
+id_rule (stream_data_blocked f) = NotOfOwn f.id
+id_rule (streams_blocked f) = Counting f.count
+id_rule f = Free
+
+-- how a frame that is held to a rule breaks it, if it does
+abbrev pub broken : StreamsState → IdRule → Option Breach
+broken s Free = None
+broken s (ReceivingOf id) = receiving_refusal s id
+broken s (SendingOf id) = sending_refusal s id
+broken s (NotOfOwn id) = stream_data_blocked_breach s id
+broken s (Counting count) = max_streams_breach count
 
 -- ---- what comes for a sending part
 

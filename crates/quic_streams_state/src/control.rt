@@ -5,44 +5,13 @@ ghost use Rattle.std.specs.Option.{option_map};
 ghost use Rattle.quic_wire.specs.FrameView.{frame_view};
 ghost use Rattle.quic_wire.specs.Writing.{Fits, spelled_all};
 ghost use Rattle.quic_retransmits.specs.Retransmits.{is_any};
-ghost use Rattle.quic_streams_state.specs.Control.{waiting, without_first, frame_of_first, told_first, with_first, reset_entry, data_entry, limit_entry, count_entry, blocked_entry, stream_blocked_entry, no_frames, with_kind, control_frames};
+ghost use Rattle.quic_streams_state.specs.Control.{waiting, without_first, frame_of_first, frame_told, and_again, reset_entry, data_entry, limit_entry, count_entry, blocked_entry, stream_blocked_entry, no_frames, with_kind, control_frames};
 
 use crate::state::StreamsState;
-use quic_retransmits::Retransmits;
+use quic_retransmits::{CONTROL_KINDS, ControlKind, LimitQueries, Retransmits};
 use quic_wire::frame::{Ack, Frame, ResetStream, Stream, put_frame, size_of_frame};
 use quic_wire_core::{Dir, StreamId, VarInt};
 use std::alloc::AllocError;
-
-/// A kind of frame about streams that waits in [`Retransmits`] (RFC 9000, section 19).
-#[derive(Clone, Copy)]
-pub enum ControlKind {
-    /// RESET_STREAM.
-    ResetStream,
-    /// STOP_SENDING.
-    StopSending,
-    /// MAX_DATA.
-    MaxData,
-    /// MAX_STREAM_DATA.
-    MaxStreamData,
-    /// MAX_STREAMS of two-way or of one-way streams.
-    MaxStreams(Dir),
-    /// DATA_BLOCKED.
-    DataBlocked,
-    /// STREAM_DATA_BLOCKED.
-    StreamDataBlocked,
-}
-
-/// The kinds, in the order in which their frames go into a datagram.
-pub const CONTROL_KINDS: [ControlKind; 8] = [
-    ControlKind::ResetStream,
-    ControlKind::StopSending,
-    ControlKind::MaxData,
-    ControlKind::MaxStreamData,
-    ControlKind::MaxStreams(Dir::Bi),
-    ControlKind::MaxStreams(Dir::Uni),
-    ControlKind::DataBlocked,
-    ControlKind::StreamDataBlocked,
-];
 
 // Whether something of a kind waits.
 fn is_waiting(kind: ControlKind, pending: &Retransmits) -> bool
@@ -82,53 +51,47 @@ fn drop_first(kind: ControlKind, pending: &mut Retransmits)
     }
 }
 
-// A datagram carries the first that waits of a kind. An `Err` (want of memory) changes nothing.
-fn note_first(
-    kind: ControlKind,
-    pending: &Retransmits,
-    sent: &mut Retransmits,
-) -> Result<(), AllocError>
-    ensures ok { OnOk result (sent.new ≡ with_first (waiting kind pending.now) sent.old) }
+// A datagram carries a frame. An `Err` (want of memory) changes nothing.
+fn note(frame: &Frame<'_>, sent: &mut Retransmits) -> Result<(), AllocError>
+    ensures ok { OnOk result (sent.new ≡ and_again sent.old (frame_view frame.now)) }
     ensures err { OnErr result (sent.new ≡ sent.old) }
 {
-    match kind {
-        ControlKind::ResetStream => {
-            if let Some((id, code)) = pending.first_reset_stream() {
-                sent.push_reset_stream(id, code)?;
-            }
+    match frame {
+        Frame::ResetStream(reset) => sent.push_reset_stream(reset.id, reset.error_code)?,
+        Frame::StopSending(stop) => sent.push_stop_sending(*stop)?,
+        Frame::MaxData(_) => sent.set_max_data(true),
+        Frame::MaxStreamData { id, .. } => {
+            sent.insert_max_stream_data(*id)?;
         }
-        ControlKind::StopSending => {
-            if let Some(stop) = pending.first_stop_sending() {
-                sent.push_stop_sending(stop)?;
-            }
-        }
-        ControlKind::MaxData => {
-            if pending.max_data() {
-                sent.set_max_data(true);
-            }
-        }
-        ControlKind::MaxStreamData => {
-            if let Some(id) = pending.first_max_stream_data() {
-                sent.insert_max_stream_data(id)?;
-            }
-        }
-        ControlKind::MaxStreams(dir) => {
-            if pending.max_stream_id(dir) {
-                sent.set_max_stream_id(dir, true);
-            }
-        }
-        ControlKind::DataBlocked => {
-            if pending.data_blocked() {
-                sent.set_data_blocked(true);
-            }
-        }
-        ControlKind::StreamDataBlocked => {
-            if let Some(id) = pending.first_stream_data_blocked() {
-                sent.insert_stream_data_blocked(id)?;
-            }
-        }
+        Frame::MaxStreams { dir, .. } => sent.set_max_stream_id(*dir, true),
+        Frame::DataBlocked { .. } => sent.set_data_blocked(true),
+        Frame::StreamDataBlocked { id, .. } => sent.insert_stream_data_blocked(*id)?,
+        _ => {}
     }
     Ok(())
+}
+
+impl LimitQueries for StreamsState {
+    ghost use Rattle.quic_streams_state.specs.Control.{may_go, may_go_on};
+
+    ghost gate = { may_go };
+
+    ghost gate_on = { may_go_on };
+
+    fn counts(&self, kind: ControlKind) -> bool {
+        match kind {
+            ControlKind::DataBlocked => self.can_send_data_blocked(),
+            _ => true,
+        }
+    }
+
+    fn counts_on(&self, kind: ControlKind, id: StreamId) -> bool {
+        match kind {
+            ControlKind::MaxStreamData => self.can_send_flow_control(id),
+            ControlKind::StreamDataBlocked => self.stream_data_blocked_limit(id).is_some(),
+            _ => true,
+        }
+    }
 }
 
 impl StreamsState {
@@ -236,30 +199,15 @@ impl StreamsState {
         }
     }
 
-    // The frame of the first that waits of a kind goes: the peer is told a limit.
-    fn tell_first(&mut self, kind: ControlKind, pending: &Retransmits)
-        ensures { self.new ≡ told_first (waiting kind pending.now) self.old }
+    // A frame goes: the peer is told a limit, if it says one.
+    fn tell(&mut self, frame: &Frame<'_>)
+        ensures { self.new ≡ frame_told (frame_view frame.now) self.old }
     {
-        match kind {
-            ControlKind::MaxData => {
-                if pending.max_data() {
-                    self.receiving.tell_max_data();
-                }
-            }
-            ControlKind::MaxStreamData => {
-                if let Some(id) = pending.first_max_stream_data() {
-                    self.receiving.tell_max_stream_data(id);
-                }
-            }
-            ControlKind::MaxStreams(dir) => {
-                if pending.max_stream_id(dir) {
-                    self.opening.set_sent_max_remote(dir);
-                }
-            }
-            ControlKind::ResetStream
-            | ControlKind::StopSending
-            | ControlKind::DataBlocked
-            | ControlKind::StreamDataBlocked => {}
+        match frame {
+            Frame::MaxData(_) => self.receiving.tell_max_data(),
+            Frame::MaxStreamData { id, .. } => self.receiving.tell_max_stream_data(*id),
+            Frame::MaxStreams { dir, .. } => self.opening.set_sent_max_remote(*dir),
+            _ => {}
         }
     }
 
@@ -294,9 +242,9 @@ impl StreamsState {
             if max_size - out.len() < size_of_frame(&frame) {
                 break;
             }
-            note_first(kind, pending, sent)?;
+            note(&frame, sent)?;
             put_frame(out, &frame);
-            self.tell_first(kind, pending);
+            self.tell(&frame);
             drop_first(kind, pending);
         }
         Ok(())

@@ -6,7 +6,6 @@ mod chunks;
 mod control;
 mod limits;
 mod opening;
-mod queries;
 mod reading;
 mod reads;
 mod receiving;
@@ -17,8 +16,9 @@ mod stream_frames;
 mod taking;
 pub mod worked;
 
-pub use control::{CONTROL_KINDS, ControlKind};
 pub use opening::Opening;
+pub use quic_retransmits::{CONTROL_KINDS, ControlKind};
 pub use receiving::Receiving;
 pub use sending::Sending;
 pub use state::StreamsState;
+pub use taking::IdRule;

@@ -154,17 +154,7 @@ impl Receiving {
         ensures err { OnErr result (self.new ≡ self.old) }
         ensures lacking { OnErr result (IfSome (at self.old.halves.live frame.now.id) (λ h. (h.stopped ≡ false) × FrameMayLack h.arrived (stream_view frame.now))) }
     {
-        let Some(half) = self.recv.get(frame.id) else {
-            return Ok(());
-        };
-        if half.is_stopped() {
-            self.recv.skip(frame);
-            return Ok(());
-        }
-        if half.reset_code().is_some() {
-            return Ok(());
-        }
-        self.recv.insert(frame)?;
+        self.recv.take(frame)?;
         Ok(())
     }
 
@@ -215,22 +205,11 @@ impl Receiving {
         self.recv.next(id, max)
     }
 
-    // The greatest offset that arrived on a half that is in use; 0 on any other.
-    fn seen_at(&self, id: StreamId) -> u64
-        ensures { result ≡ seen_at (at self.now.halves.live id) }
-    {
-        match self.recv.get(id) {
-            Some(half) => half.end(),
-            None => 0,
-        }
-    }
-
     /// Nothing is left to do on a half.
     pub fn remove(&mut self, id: StreamId)
         ensures { self.new ≡ record self.old { halves = without_half self.old.halves id; gone = self.old.gone + seen_at (at self.old.halves.live id) } }
     {
-        let size = self.seen_at(id);
-        self.recv.remove(id);
+        let size = self.recv.remove(id);
         self.gone += size;
     }
 }

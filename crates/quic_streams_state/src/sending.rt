@@ -166,29 +166,14 @@ impl Sending {
         ensures err { OnErr result (self.new ≡ self.old) }
         ensures lacking { OnErr result (IsSomeAnd (at self.old.halves.live id) (λ h. h.place ≡ None)) }
     {
-        let Some(half) = self.send.get(id) else {
-            return Ok(());
-        };
-        let (rank, place) = (rank_of(half.priority()), half.place());
-        let place = match place {
-            Some(place) => place,
-            None => self.pending.push(rank, id)?,
-        };
-        self.send.finish(id, Some(place));
-        Ok(())
+        self.send.finish(id, &mut self.pending)
     }
 
     /// Nothing more of a half that is in use goes.
     pub fn reset(&mut self, id: StreamId)
         ensures { self.new ≡ reset_in (at self.old.halves.live id) self.old id }
     {
-        let Some(half) = self.send.get(id) else {
-            return;
-        };
-        if let Some(place) = half.place() {
-            self.pending.remove(place);
-        }
-        self.send.reset(id);
+        self.send.reset(id, &mut self.pending);
     }
 
     /// A half that isn't in use comes into use. An `Err` (want of memory) changes nothing.

@@ -1,7 +1,7 @@
 //! Frames that come for the receiving halves of streams (RFC 9000, sections 3.2, 4.1, 4.5, 19.4, 19.8, 19.13 and 19.14).
 ghost use Rattle.std.specs.Prelude.{ℕ, ◌≡◌, ◌||◌, not, true, false, Some, None, IsSome, IfSome, OnOk, OnErr};
 ghost use Rattle.std.specs.Option.{is_some};
-ghost use Rattle.quic_wire.specs.FrameView.{stream_view, reset_stream_view};
+ghost use Rattle.quic_wire.specs.FrameView.{frame_view, stream_view, reset_stream_view};
 ghost use Rattle.quic_streams_parts.specs.Table.{at};
 ghost use Rattle.quic_streams_parts.specs.RecvHalf.{new_recv_half, end_of, after_frame, after_reset_stream, has_too_many};
 ghost use Rattle.quic_streams_parts.specs.Answered.{AnswersBreach, UnlessMemory, OnMemory};
@@ -9,7 +9,7 @@ ghost use Rattle.quic_streams_halves.specs.Halves.{is_done};
 ghost use Rattle.quic_streams_state.specs.State.{StreamsState, first_window, sending_status, recv_done};
 ghost use Rattle.quic_streams_state.specs.Limits.{decided};
 ghost use Rattle.quic_streams_state.specs.Opening.{opens, opened_by, receiving_refusal};
-ghost use Rattle.quic_streams_state.specs.Taking.{part_for, breach_on, refusal, readable_if, ended_if, stream_breach, after_stream, reset_breach, after_reset_frame, stream_data_blocked_breach, streams_blocked_breach};
+ghost use Rattle.quic_streams_state.specs.Taking.{part_for, breach_on, refusal, readable_if, ended_if, stream_breach, after_stream, reset_breach, after_reset_frame, stream_data_blocked_breach, streams_blocked_breach, id_rule, broken};
 ghost use Rattle.quic_streams_state.specs.Received.{is_over, noted_on, FrameLacks, ResetLacks};
 
 use crate::opening::MAX_STREAM_COUNT;
@@ -17,11 +17,59 @@ use crate::state::StreamsState;
 use quic_retransmits::Retransmits;
 use quic_streams_halves::is_own;
 use quic_streams_parts::{Breach, ReceivedError, Recv, StreamEvent};
-use quic_wire::frame::{ResetStream, Stream};
+use quic_wire::frame::{Frame, ResetStream, Stream};
 use quic_wire_core::{Dir, StreamId};
 use std::alloc::AllocError;
 
+/// What a frame is held to by the id or the count that it names, whatever else it does (RFC 9000, sections 4.6 and 19).
+#[derive(Clone, Copy, Debug, PartialEq, Eq)]
+pub enum IdRule {
+    /// Nothing.
+    Free,
+    /// This end receives on the stream, which is open, or which the peer may open: so of STREAM and RESET_STREAM.
+    ReceivingOf(StreamId),
+    /// This end sends on the stream, which is open, or which the peer may open: so of STOP_SENDING and MAX_STREAM_DATA.
+    SendingOf(StreamId),
+    /// The stream isn't one on which only this end sends: so of STREAM_DATA_BLOCKED.
+    NotOfOwn(StreamId),
+    /// The count is 2^60 at most: so of MAX_STREAMS and STREAMS_BLOCKED.
+    Counting(u64),
+}
+
+impl IdRule {
+    /// The rule that a frame is held to.
+    pub fn of(frame: &Frame<'_>) -> IdRule
+        ensures { result ≡ id_rule (frame_view frame.now) }
+    {
+        match frame {
+            Frame::Stream(frame) => IdRule::ReceivingOf(frame.id),
+            Frame::ResetStream(frame) => IdRule::ReceivingOf(frame.id),
+            Frame::StopSending(frame) => IdRule::SendingOf(frame.id),
+            Frame::MaxStreamData { id, .. } => IdRule::SendingOf(*id),
+            Frame::MaxStreams { count, .. } => IdRule::Counting(*count),
+            Frame::StreamDataBlocked { id, .. } => IdRule::NotOfOwn(*id),
+            Frame::StreamsBlocked { limit, .. } => IdRule::Counting(*limit),
+            _ => IdRule::Free,
+        }
+    }
+}
+
 impl StreamsState {
+    /// How a frame that is held to a rule of ids and counts breaks it: in this order `StreamState` on a stream on which this end
+    /// doesn't receive or send as the rule asks, or on one of this end that isn't opened, and `StreamLimit` beyond the count that the
+    /// peer may open; `FrameEncoding` for a count above 2^60. `None` where it doesn't break it.
+    pub fn breach(&self, rule: IdRule) -> Option<Breach>
+        ensures { result ≡ broken self.now rule }
+    {
+        match rule {
+            IdRule::Free => None,
+            IdRule::ReceivingOf(id) => self.receiving_refusal(id),
+            IdRule::SendingOf(id) => self.sending_refusal(id),
+            IdRule::NotOfOwn(id) => self.stream_data_blocked_breach(id),
+            IdRule::Counting(count) => self.streams_blocked_breach(count),
+        }
+    }
+
     /// The rule that STREAM_DATA_BLOCKED breaks by its id, which changes nothing (RFC 9000, section 19.13): `StreamState` on a stream
     /// on which only this end sends.
     pub fn stream_data_blocked_breach(&self, id: StreamId) -> Option<Breach>

@@ -1,5 +1,5 @@
 //! The definitions computed on worked rows. Each function does nothing: its contract is the law.
-ghost use Rattle.std.specs.Prelude.{◌≡◌, ℕ, ◌+◌, ◌-◌, ◌^◌, pos, IfSome, true, false, [], ◌∷◌, replicate, length, Some, None, Ok, Err};
+ghost use Rattle.std.specs.Prelude.{◌≡◌, ◌+◌, ◌-◌, ◌^◌, pos, IfSome, true, false, [], ◌∷◌, replicate, length, Some, None, Ok, Err};
 ghost use Rattle.quic_wire_core.specs.declared.stream_id.Side.TheVariants.{Client, Server};
 ghost use Rattle.quic_wire_core.specs.declared.stream_id.Dir.TheVariants.{Bi, Uni};
 ghost use Rattle.quic_wire.specs.Writing.{spelled_all};
@@ -10,12 +10,10 @@ ghost use Rattle.quic_streams_parts.specs.declared.answers.ReadError.TheVariants
 ghost use Rattle.quic_streams_parts.specs.declared.answers.ReadableError.TheVariants as readable_errors;
 ghost use Rattle.quic_streams_parts.specs.declared.answers.UpdateError.TheVariants as update_errors;
 ghost use Rattle.quic_streams_parts.specs.declared.answers.StreamEvent.TheVariants as stream_events;
-ghost use Rattle.quic_retransmits.specs.Retransmits.{Retransmits, nothing_waits, merged, after_retire, can_retire, is_empty_where};
+ghost use Rattle.quic_retransmits.specs.Retransmits.{nothing_waits, merged, after_retire, can_retire};
 ghost use Rattle.quic_streams_halves.specs.Halves.{done};
 ghost use Rattle.quic_streams_state.specs.Parts.{buffered};
-ghost use Rattle.quic_streams_state.specs.State.{StreamsState, consumed, sending_half, sending_status, receiving_status};
-ghost use Rattle.quic_streams_state.specs.Limits.{can_send_data_blocked, can_send_flow_control};
-ghost use Rattle.quic_streams_state.specs.Waiting.{stream_data_blocked_limit, is_empty};
+ghost use Rattle.quic_streams_state.specs.State.{consumed, sending_half, sending_status, receiving_status};
 ghost use Rattle.quic_streams_state.specs.Opening.{sending_refusal, open_answer, after_open, accept_answer, after_max_streams, max_streams_breach};
 ghost use Rattle.quic_streams_state.specs.Taking.{stream_breach, reset_breach, after_max_data};
 ghost use Rattle.quic_streams_state.specs.Reading.{told_bytes, next_answer, read_answer, stop_answer, after_stop, after_read_begun};
@@ -139,11 +137,6 @@ pub fn first_goes_first()
     ensures dropped { (controls_in 4 hello_reset.state (resets_wait ((4, 1) ∷ (0, 5) ∷ []))).frames ≡ reset_stream (record { id = 0; code = 5; final_size = 5 }) ∷ [] }
     ensures untouched { (controls_in 3 hello_reset.state (resets_wait ((0, 5) ∷ (4, 1) ∷ []))).pending.reset_stream ≡ (0, 5) ∷ (4, 1) ∷ [] }
     ensures nothing { (controls_in 3 hello_reset.state (resets_wait ((0, 5) ∷ (4, 1) ∷ []))).frames ≡ [] }
-{}
-
-/// What `Retransmits::is_empty` answers of streams, by their queries, is whether nothing waits that would be written.
-pub fn emptiness_is_told()
-    ensures { (p : Retransmits) (s : StreamsState) → is_empty_where (can_send_data_blocked s) (λ id. can_send_flow_control s id) (λ id. stream_data_blocked_limit s id) p ≡ is_empty p s }
 {}
 
 /// Retirements are joined in their order, and at most 50 wait.

@@ -26,6 +26,7 @@ two_buffers = (104 ∷ 101 ∷ 108 ∷ []) ∷ (108 ∷ 111 ∷ []) ∷ []
 abbrev pub both_written : Written
 both_written = record { bytes = 5; chunks = 2 }
 
+-- it opens its stream, writes them, ends the stream, and is asked for a datagram
 abbrev pub chunked_events : Vec (List ℕ) Global → List RunEvent
 chunked_events buffers = opens_stream ∷ writes_buffers buffers ∷ finishes_stream ∷ asks_datagram ∷ []
 

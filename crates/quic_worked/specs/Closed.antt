@@ -95,13 +95,16 @@ last_answers = answers.Open (Some 0) ∷ answers.Write (Ok 5) ∷ answers.Finish
 abbrev pub last_ended : World
 last_ended = ran worked_policies two_left (take 3 last_events) (take 3 last_answers)
 
+-- the datagram is given
 unfoldable pub last_given : World
 unfolding once_sent
 last_given = after_event worked_policies last_ended asks_datagram (gives_bytes 37)
 
+-- a PING is asked for
 abbrev pub last_pinged : World
 last_pinged = after_event worked_policies last_given asks_ping answers.Ping
 
+-- for which no number is left
 unfoldable pub last_closed : World
 unfolding last_given
 last_closed = after_event worked_policies last_pinged asks_datagram (answers.Poll (Ok None))

@@ -35,10 +35,11 @@ ends_of narrow = record {
   server_control = steady_control;
 }
 
--- the server takes eight bytes at a time, or one one-way stream
+-- the server takes eight bytes at a time
 abbrev pub narrow_bytes : World
 narrow_bytes = ends_of (with_window 8)
 
+-- the server takes one one-way stream
 abbrev pub narrow_count : World
 narrow_count = ends_of (with_uni 1)
 
@@ -53,6 +54,7 @@ eight = hello ++ abc
 abbrev pub credit_front : List RunEvent
 credit_front = opens_stream ∷ writes_on 0 (eight ++ eight) ∷ asks_datagram ∷ delivers ∷ accepts_stream ∷ []
 
+-- all of it, where the server reads by this call
 abbrev pub credit_events : ReadCall → List RunEvent
 credit_events read = credit_front ++ reads_stream read ∷ asks_server ∷ client_hears ∷ writes_on 0 eight ∷ []
 
@@ -91,31 +93,39 @@ limit_payload limit = 0x10 ∷ limit ∷ ack_at_once
 abbrev pub credit_opened : World
 credit_opened = after_event worked_policies narrow_bytes opens_stream (answers.Open (Some 0))
 
+-- as many bytes are written as may go
 abbrev pub credit_written : World
 credit_written = after_event worked_policies credit_opened (writes_on 0 (eight ++ eight)) (answers.Write (Ok 8))
 
+-- they are given
 unfoldable pub credit_sent : World
 unfolding once_sent
 credit_sent = after_event worked_policies credit_written asks_datagram (gives_bytes 37)
 
+-- and taken
 unfoldable pub credit_taken : World
 unfolding credit_sent once_taken
 credit_taken = after_event worked_policies credit_sent delivers (answers.Deliver receives.Taken)
 
+-- their stream is accepted
 abbrev pub credit_accepted : World
 credit_accepted = after_event worked_policies credit_taken accepts_stream (answers.Accept (Some 0))
 
+-- and they are read
 abbrev pub credit_read : World
 credit_read = with_server credit_accepted (end_after_reads credit_accepted.server 0 eight_bounds eight_nexts)
 
+-- the server gives its datagram
 unfoldable pub credit_given : World
 unfolding credit_taken
 credit_given = after_event worked_policies credit_read asks_server (gives_bytes 33)
 
+-- which is taken
 unfoldable pub credit_heard : World
 unfolding credit_given client_acked
 credit_heard = after_event worked_policies credit_given client_hears (answers.Deliver receives.Taken)
 
+-- so that the client writes on
 abbrev pub credit_used : World
 credit_used = after_event worked_policies credit_heard (writes_on 0 eight) (answers.Write (Ok 8))
 
@@ -138,6 +148,7 @@ accepts_one_way = record { side = Server; call = calls.Accept Uni }
 abbrev pub count_front : List RunEvent
 count_front = opens_one_way ∷ opens_one_way ∷ writes_on 2 hello ∷ ends_one_way ∷ asks_datagram ∷ delivers ∷ accepts_one_way ∷ []
 
+-- all of it, where the server reads by this call
 abbrev pub count_events : ReadCall → List RunEvent
 count_events read = count_front ++ reads_stream read ∷ asks_server ∷ client_hears ∷ opens_one_way ∷ []
 
@@ -170,37 +181,47 @@ count_payload count = 0x13 ∷ count ∷ ack_at_once
 abbrev pub count_opened : World
 count_opened = after_event worked_policies narrow_count opens_one_way (answers.Open (Some 2))
 
+-- a second stream is refused
 abbrev pub count_refused : World
 count_refused = after_event worked_policies count_opened opens_one_way (answers.Open None)
 
+-- the word is written on the first
 abbrev pub count_written : World
 count_written = after_event worked_policies count_refused (writes_on 2 hello) (answers.Write (Ok 5))
 
+-- which ends
 abbrev pub count_ended : World
 count_ended = after_event worked_policies count_written ends_one_way (answers.Finish (Ok tt))
 
+-- it is given
 unfoldable pub count_sent : World
 unfolding once_sent
 count_sent = after_event worked_policies count_ended asks_datagram (gives_bytes 34)
 
+-- and taken
 unfoldable pub count_taken : World
 unfolding count_sent once_taken with_offsets with_range joining
 count_taken = after_event worked_policies count_sent delivers (answers.Deliver receives.Taken)
 
+-- the stream is accepted
 abbrev pub count_accepted : World
 count_accepted = after_event worked_policies count_taken accepts_one_way (answers.Accept (Some 2))
 
+-- and read up to its end
 abbrev pub count_read : World
 count_read = with_server count_accepted (end_after_reads count_accepted.server 2 two_chunks all_nexts)
 
+-- the server gives its datagram
 unfoldable pub count_given : World
 unfolding count_taken
 count_given = after_event worked_policies count_read asks_server (gives_bytes 33)
 
+-- which is taken
 unfoldable pub count_heard : World
 unfolding count_given client_acked
 count_heard = after_event worked_policies count_given client_hears (answers.Deliver receives.Taken)
 
+-- so that the client opens another
 abbrev pub count_used : World
 count_used = after_event worked_policies count_heard opens_one_way (answers.Open (Some 6))
 
@@ -239,17 +260,19 @@ count_with told payload read = record {
   from_server = from_server 0 payload ∷ [];
 }
 
--- the runs: twice eight bytes may come, and two streams in all
+-- the run of bytes: twice eight may come
 abbrev pub credit_run : ReadCall → Run
 credit_run = credit_with credit_answers (limit_payload 16)
 
+-- the run of a count: two streams in all
 abbrev pub count_run : ReadCall → Run
 count_run = count_with count_answers (count_payload 2)
 
--- a read of stream 0 by the bound, and one of the one-way stream
+-- a read of stream 0 by the bound
 abbrev pub ReadsEight : ReadCall → Type 0
 ReadsEight read = ReadsAs 0 true eight_bounds read
 
+-- a read of the one-way stream
 abbrev pub ReadsOneWay : ReadCall → Type 0
 ReadsOneWay read = ReadsAs 2 true two_chunks read
 

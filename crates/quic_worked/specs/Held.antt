@@ -30,6 +30,7 @@ narrow_window = 2400
 abbrev pub narrow_control : Control
 narrow_control = λ (told : List Told). narrow_window
 
+-- what an end reads of it, at first and later
 abbrev pub narrow_windows : Windows
 narrow_windows = record { initial = narrow_window; present = narrow_window }
 
@@ -63,6 +64,7 @@ held_events =
 abbrev pub gives_nothing : Answer
 gives_nothing = answers.Poll (Ok None)
 
+-- what that is answered
 abbrev pub held_answers : List Answer
 held_answers =
     answers.Open (Some 0)
@@ -90,6 +92,7 @@ first_payload = (0x08 ∷ 0x00 ∷ []) ++ replicate 1172 0x61
 abbrev pub second_payload : List ℕ
 second_payload = (0x01 ∷ 0x0c ∷ 0x00 ∷ 0x44 ∷ 0x94 ∷ []) ++ replicate 1169 0x61
 
+-- the second of them
 abbrev pub third_payload : List ℕ
 third_payload = (0x01 ∷ 0x0c ∷ 0x00 ∷ 0x49 ∷ 0x25 ∷ []) ++ replicate 1169 0x61
 
@@ -101,6 +104,7 @@ held_view client = record { client = record client { window = Some narrow_window
 abbrev pub full_view : View
 full_view = held_view (view_with (Some 1024000000) None)
 
+-- what is seen of both after each event
 abbrev pub held_views : List View
 held_views =
     replicate 2 (held_view (view_with None None))
@@ -108,6 +112,7 @@ held_views =
     ++ held_view (view_with (Some 2048000000) None)
     ∷ replicate 3 (held_view (view_with (Some 3072000000) None))
 
+-- the run
 abbrev pub held_run : Run
 held_run = record {
   keys = worked_policies;

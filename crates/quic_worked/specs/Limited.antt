@@ -69,6 +69,7 @@ sixteen = eight ++ eight
 abbrev pub limited_front : List RunEvent
 limited_front = opens_stream ∷ opens_stream ∷ writes_on 0 sixteen ∷ writes_on 4 sixteen ∷ writes_on 4 sixteen ∷ asks_datagram ∷ delivers ∷ accepts_stream ∷ []
 
+-- all of it, where the server reads by this call
 abbrev pub limited_events : ReadCall → List RunEvent
 limited_events read = limited_front ++ reads_stream read ∷ asks_server ∷ client_hears ∷ writes_on 0 sixteen ∷ writes_on 4 sixteen ∷ writes_on 4 sixteen ∷ []
 
@@ -76,6 +77,7 @@ limited_events read = limited_front ++ reads_stream read ∷ asks_server ∷ cli
 abbrev pub hello_nexts : NextAnswers
 hello_nexts = gives_chunk hello ∷ []
 
+-- what that is answered
 abbrev pub limited_answers : List Answer
 limited_answers =
     answers.Open (Some 0)
@@ -104,57 +106,73 @@ raised_payload = 0x10 ∷ 0x0d ∷ 0x11 ∷ 0x00 ∷ 0x0a ∷ ack_at_once
 
 -- ---- what they leave
 
+-- the first stream is open
 abbrev pub limited_opened : World
 limited_opened = after_event worked_policies limited_start opens_stream (answers.Open (Some 0))
 
+-- and the second
 abbrev pub limited_both : World
 limited_both = after_event worked_policies limited_opened opens_stream (answers.Open (Some 4))
 
+-- five bytes are written on the first: its limit
 abbrev pub limited_first : World
 limited_first = after_event worked_policies limited_both (writes_on 0 sixteen) (answers.Write (Ok 5))
 
+-- and two on the second: the send window
 abbrev pub limited_second : World
 limited_second = after_event worked_policies limited_first (writes_on 4 sixteen) (answers.Write (Ok 2))
 
+-- a write more is blocked
 abbrev pub limited_blocked : World
 limited_blocked = after_event worked_policies limited_second (writes_on 4 sixteen) (answers.Write (Err write_errors.Blocked))
 
+-- the datagram is given
 unfoldable pub limited_sent : World
 unfolding once_sent with_offsets with_range joining pieces
 limited_sent = after_event worked_policies limited_blocked asks_datagram (gives_bytes 39)
 
+-- and taken
 unfoldable pub limited_taken : World
 unfolding limited_sent once_taken
 limited_taken = after_event worked_policies limited_sent delivers (answers.Deliver receives.Taken)
 
+-- the first stream is accepted
 abbrev pub limited_accepted : World
 limited_accepted = after_event worked_policies limited_taken accepts_stream (answers.Accept (Some 0))
 
+-- and read
 abbrev pub limited_read : World
 limited_read = with_server limited_accepted (end_after_reads limited_accepted.server 0 eight_bounds hello_nexts)
 
+-- the server gives its datagram
 unfoldable pub limited_given : World
 unfolding limited_taken
 limited_given = after_event worked_policies limited_read asks_server (gives_bytes 36)
 
+-- which is taken
 unfoldable pub limited_heard : World
 unfolding limited_given client_acked stream_limit_at
 limited_heard = after_event worked_policies limited_given client_hears (answers.Deliver receives.Taken)
 
+-- the client writes on
 abbrev pub limited_third : World
 limited_third = after_event worked_policies limited_heard (writes_on 0 sixteen) (answers.Write (Ok 5))
 
+-- on both streams
 abbrev pub limited_fourth : World
 limited_fourth = after_event worked_policies limited_third (writes_on 4 sixteen) (answers.Write (Ok 1))
 
+-- until it is blocked again
 abbrev pub limited_end : World
 limited_end = after_event worked_policies limited_fourth (writes_on 4 sixteen) (answers.Write (Err write_errors.Blocked))
 
 -- ---- the run
 
+-- what is seen of both after each event
 abbrev pub limited_views : List View
 limited_views = views_of_credit 5 ++ replicate 2 (record { client = waiting_view; server = sent_view })
 
+-- the run, where the server reads by this call
 abbrev pub limited_run : ReadCall → Run
 limited_run read = record {
   keys = worked_policies;

@@ -119,6 +119,7 @@ skipping_events = ping_events ++ delivers ∷ server_waits ∷ server_polled ∷
 abbrev pub skipping_until : List Answer
 skipping_until = ping_answers ++ answers.Deliver receives.Taken ∷ answers.Timeout (Ok tt) ∷ gives_bytes 32 ∷ []
 
+-- and with its answer to that
 abbrev pub skipping_answers : List Answer
 skipping_answers = skipping_until ++ answers.Deliver receives.Taken ∷ []
 

@@ -146,17 +146,19 @@ paired_frames =
 
 -- ---- what the events leave
 
--- both streams are open
+-- the first stream is open
 abbrev pub first_open : World
 first_open = after_event worked_policies started opens_stream (answers.Open (Some 0))
 
+-- and the second
 abbrev pub both_open : World
 both_open = after_event worked_policies first_open opens_stream (answers.Open (Some 4))
 
--- and written on
+-- the first is written on
 abbrev pub first_written : World
 first_written = after_event worked_policies both_open (writes_on 0 abc) (answers.Write (Ok 3))
 
+-- and the second is written on
 abbrev pub both_written : World
 both_written = after_event worked_policies first_written (writes_on 4 def) (answers.Write (Ok 3))
 
@@ -175,10 +177,11 @@ unfoldable pub pair_taken : World
 unfolding pair_sent once_taken reset_stream_at
 pair_taken = after_event worked_policies pair_sent delivers (answers.Deliver receives.Taken)
 
--- both streams are accepted
+-- the first stream is accepted
 abbrev pub first_accepted : World
 first_accepted = after_event worked_policies pair_taken accepts_stream (answers.Accept (Some 0))
 
+-- and the second
 abbrev pub both_accepted : World
 both_accepted = after_event worked_policies first_accepted accepts_stream (answers.Accept (Some 4))
 
@@ -206,17 +209,19 @@ unfoldable pub stop_taken : World
 unfolding stop_sent client_acked stop_sending_at
 stop_taken = after_event worked_policies stop_sent client_hears (answers.Deliver receives.Taken)
 
--- it is told, and nothing more
+-- it is told
 abbrev pub stop_told : World
 stop_told = after_event worked_policies stop_taken client_asks tells_stopped
 
+-- and nothing more
 abbrev pub nothing_told : World
 nothing_told = after_event worked_policies stop_told client_asks (answers.Event None)
 
--- a write on the second stream is refused, and a reset of the first
+-- a write on the second stream is refused
 abbrev pub write_refused : World
 write_refused = after_event worked_policies nothing_told (writes_on 4 abc) (answers.Write (Err (write_errors.Stopped 9)))
 
+-- and a reset of the first
 abbrev pub reset_refused : World
 reset_refused = after_event worked_policies write_refused (resets_with 8) (answers.Reset (Err update_errors.ClosedStream))
 

@@ -67,6 +67,7 @@ picked_twice = with_server picked_taken (after_picks picked_taken.server (picks_
 abbrev pub again_nexts : NextAnswers
 again_nexts = Ok (Some (record { offset = 0; bytes = abc })) ∷ Ok (Some (record { offset = 3; bytes = def })) ∷ []
 
+-- its run
 abbrev pub picked_again : ReadCall → ReadCall → Run
 picked_again = picked_as (picks_at 3 def) again_nexts
 

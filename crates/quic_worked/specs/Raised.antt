@@ -44,7 +44,7 @@ client_waits = record { side = Client; call = calls.Timeout 25000000 }
 abbrev pub ack_comes : RunEvent
 ack_comes = record { side = Server; call = calls.Deliver (record { now = 25000000; ecn = None; index = 1 }) }
 
--- up to the loss, and then
+-- up to the loss
 abbrev pub losing_limit : ReadCall → List RunEvent
 losing_limit read =
     credit_front
@@ -59,13 +59,15 @@ losing_limit read =
     ∷ ack_comes
     ∷ []
 
+-- all of it, where the server reads by this call
 abbrev pub raised_events : ReadCall → List RunEvent
 raised_events read = losing_limit read ++ server_polled ∷ comes_to_client 4 ∷ writes_on 0 eight ∷ []
 
--- their answers
+-- what a PING that goes is answered
 abbrev pub ping_told : List Answer
 ping_told = answers.Ping ∷ gives_bytes 32 ∷ []
 
+-- what that is answered up to the loss
 abbrev pub losing_told : List Answer
 losing_told =
     credit_until
@@ -79,22 +81,27 @@ losing_told =
     ∷ answers.Deliver receives.Taken
     ∷ []
 
+-- and what all of it is answered
 abbrev pub raised_told : List Answer
 raised_told = losing_told ++ gives_bytes 33 ∷ answers.Deliver receives.Taken ∷ answers.Write (Ok 8) ∷ []
 
 -- ---- what they leave
 
+-- a PING is asked for at the server
 abbrev pub after_server_ping : World → World
 after_server_ping w = after_event worked_policies w server_pings answers.Ping
 
+-- the first of three PINGs is given
 unfoldable pub first_ping : World
 unfolding credit_given
 first_ping = after_event worked_policies (after_server_ping credit_given) asks_server (gives_bytes 32)
 
+-- the second
 unfoldable pub second_ping : World
 unfolding first_ping
 second_ping = after_event worked_policies (after_server_ping first_ping) asks_server (gives_bytes 32)
 
+-- and the third
 unfoldable pub third_ping : World
 unfolding second_ping
 third_ping = after_event worked_policies (after_server_ping second_ping) asks_server (gives_bytes 32)
@@ -104,9 +111,11 @@ unfoldable pub third_came : World
 unfolding third_ping client_acked
 third_came = after_event worked_policies third_ping (comes_to_client 3) (answers.Deliver receives.Taken)
 
+-- the client's timer of acknowledgements is served
 abbrev pub third_due : World
 third_due = after_event worked_policies third_came client_waits (answers.Timeout (Ok tt))
 
+-- it gives the acknowledgement
 unfoldable pub third_named : World
 unfolding third_came
 third_named = after_event worked_policies third_due client_polled (gives_bytes 32)
@@ -116,20 +125,23 @@ unfoldable pub limit_lost : World
 unfolding third_named client_acked with_offsets with_range joining
 limit_lost = after_event worked_policies third_named ack_comes (answers.Deliver receives.Taken)
 
--- the limit goes again, comes, and is used
+-- the limit goes again
 unfoldable pub limit_again : World
 unfolding limit_lost
 limit_again = after_event worked_policies limit_lost server_polled (gives_bytes 33)
 
+-- it comes
 unfoldable pub limit_came : World
 unfolding limit_again
 limit_came = after_event worked_policies limit_again (comes_to_client 4) (answers.Deliver receives.Taken)
 
+-- and is used
 abbrev pub limit_used : World
 limit_used = after_event worked_policies limit_came (writes_on 0 eight) (answers.Write (Ok 8))
 
 -- ---- the run
 
+-- what is seen of both after each event
 abbrev pub raised_views : List View
 raised_views =
     view_of credit_opened
@@ -162,13 +174,15 @@ server_datagram number reference payload = sent worked_policies.server.header wo
 abbrev pub ping_and_ack : List ℕ
 ping_and_ack = 0x01 ∷ ack_at_once
 
--- ACK of number 3 alone, after 25000 microseconds; and of number 1, at once
+-- ACK of number 3 alone, after 25000 microseconds
 abbrev pub third_ack : List ℕ
 third_ack = 0x02 ∷ 0x03 ∷ 0x4c ∷ 0x35 ∷ 0x00 ∷ 0x00 ∷ []
 
+-- MAX_DATA of 16 bytes, and ACK of number 1, at once
 abbrev pub again_payload : List ℕ
 again_payload = 0x10 ∷ 0x10 ∷ 0x02 ∷ 0x01 ∷ 0x00 ∷ 0x00 ∷ 0x00 ∷ []
 
+-- the run, where the server reads by this call
 abbrev pub raised_run : ReadCall → Run
 raised_run read = record {
   keys = worked_policies;

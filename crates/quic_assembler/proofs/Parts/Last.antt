@@ -1,20 +1,22 @@
 -- Bytes behind all parts: they are one part more.
-use Rattle.std.proofs.Common.{◌≡◌, ℕ, suc, ◌+◌, ◌-◌, ◌<◌, ◌≤◌, length, List, [], ◌∷◌, take, drop, true, false, Some, None, Option, refl, sym, ap, ◌∙◌, subst, arith, take_all}
+use Rattle.std.proofs.Common.{◌≡◌, ℕ, suc, ◌+◌, ◌-◌, ◌<◌, ◌≤◌, length, List, [], ◌∷◌, take, drop, Bool, true, false, cond, Some, None, Option, refl, sym, ap, ◌∙◌, subst, arith, take_all}
 use Rattle.std.specs.List.{slice_get}
-use Rattle.std.specs.Option.{IfSome}
+use Rattle.std.specs.Option.{IfSome, is_some}
 use Rattle.std.specs.Result.{OnErr, is_err}
 use Rattle.std.specs.declared.result.Result.{Result}
 use Rattle.std.specs.declared.result.Result.TheVariants.{Ok, Err}
 use Rattle.std.specs.Ordering.{nat_cmp}
-use Rattle.std.specs.Map.{remove_entry}
+use Rattle.std.specs.Cmp.{unsigned_tied}
+use Rattle.std.specs.Map.{lookup, remove_entry}
 use Rattle.std.specs.BTreeMap.{insert_entry, is_at}
 use Rattle.std.proofs.lemmas.List.{drop_all}
-use Rattle.std.proofs.lemmas.Bool.{le-ltb}
+use Rattle.std.proofs.lemmas.Bool.{eq-eqb, le-ltb}
 use Rattle.quic_sets.specs.Spans.{Span}
 use Rattle.quic_sets.specs.Parts.{Part, after}
 use Rattle.quic_assembler.specs.Arrived.{AreApart, byte_at, with_gaps}
 use Rattle.quic_assembler.specs.PartSteps.{Fits, gap_at, is_held, HasFree}
 use Rattle.quic_sets.proofs.Offsets.Undone.{taken_out}
+use Rattle.quic_sets.proofs.Parts.First.{not_at}
 use Rattle.quic_assembler.proofs.Parts.Gaps.{dry_here}
 use Rattle.quic_assembler.proofs.Parts.Steps.{fills, none_left}
 use Rattle.quic_assembler.proofs.Parts.Undone.{fresh}
@@ -38,6 +40,33 @@ last_ends low at x (p ∷ q ∷ qs) h e l =
     let past = r.0 in
     let e1 = le-ltb at p.0 (omega arith) in
     (omega arith, rw e1 r.1)
+
+-- a part ends where the last one does, and none behind it
+pub last_found : (at : ℕ) (x : Part) (ps : List Part) → slice_get ps (length ps - 1) ≡ Some x → at ≡ x.0 → is_some (lookup (is_at (nat_cmp at)) ps) ≡ true
+last_found at x [] e l = cc
+last_found at x (p ∷ []) e l =
+    let same : x ≡ p = cc in
+    rw (unsigned_tied at p.0 ∙ eq-eqb at p.0 (l ∙ ap (λ (z : Part). z.0) same)) refl
+last_found at x (p ∷ q ∷ qs) e l =
+    let place : length (p ∷ q ∷ qs) - 1 ≡ suc (length (q ∷ qs) - 1) = omega arith in
+    let rest : slice_get (p ∷ q ∷ qs) (suc (length (q ∷ qs) - 1)) ≡ Some x = subst (λ n. slice_get (p ∷ q ∷ qs) n ≡ Some x) place e in
+    go (is_at (nat_cmp at) p.0) (last_found at x (q ∷ qs) rest l)
+  where
+    go : (b : Bool) → is_some (lookup (is_at (nat_cmp at)) (q ∷ qs)) ≡ true → is_some (cond b (Some p.1) (lookup (is_at (nat_cmp at)) (q ∷ qs))) ≡ true
+    go true r = refl
+    go false r = r
+
+pub last_passed : (low at : ℕ) (x : Part) (ps : List Part) → AreApart low ps → slice_get ps (length ps - 1) ≡ Some x → x.0 < at → lookup (is_at (nat_cmp at)) ps ≡ None
+last_passed low at x [] h e l = cc
+last_passed low at x (p ∷ []) h e l =
+    let same : x ≡ p = cc in
+    let up : p.0 < at = subst (λ (z : Part). z.0 < at) same l in
+    rw (not_at at p.0 (λ k. omega arith)) refl
+last_passed low at x (p ∷ q ∷ qs) h e l =
+    let place : length (p ∷ q ∷ qs) - 1 ≡ suc (length (q ∷ qs) - 1) = omega arith in
+    let rest : slice_get (p ∷ q ∷ qs) (suc (length (q ∷ qs) - 1)) ≡ Some x = subst (λ n. slice_get (p ∷ q ∷ qs) n ≡ Some x) place e in
+    let up : p.0 < x.0 = (last_ends p.0 at x (q ∷ qs) h.2 rest (omega arith)).0 in
+    rw (not_at at p.0 (λ k. omega arith)) (last_passed p.0 at x (q ∷ qs) h.2 rest l)
 
 pub put_last : (at : ℕ) (ps : List Part) (bs : List ℕ) → AreApart 0 ps → 0 < length bs → after at ps ≡ None → with_gaps ps at bs ≡ insert_entry nat_cmp ps (at + length bs) bs
 put_last at ps bs h l e =

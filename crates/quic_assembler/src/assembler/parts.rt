@@ -10,8 +10,8 @@ ghost use Rattle.quic_assembler.specs.PartSteps.{first_bytes, rest_of, front_of,
 ghost use Rattle.quic_sets.specs.Parts.{after, undone};
 
 use super::Chunk;
+use super::part_map::PartMap;
 use bytes::Bytes;
-use quic_sets::by_end::{keep, next_part};
 use quic_sets::{OffsetSet, spans};
 use std::alloc::{AllocError, Global};
 use std::collections::BTreeMap;
@@ -30,7 +30,7 @@ const SHORT_PART: usize = 64;
 pub(crate) struct Parts {
     // By the offset behind a part's last byte: so the part that holds an offset is found by one
     // look-up, and stays where it is when a read takes its front.
-    map: BTreeMap<u64, Bytes>,
+    map: PartMap,
     // The number of runs, kept so that no insert has to count it.
     runs: usize,
     // The number of bytes that wait, kept so that no insert has to count them.
@@ -46,28 +46,28 @@ impl Model for Parts {
 
     ghost use Rattle.quic_assembler.specs.Inside.{Counted};
 
-    ghost view = { λ a. a.map.entries };
+    ghost view = { λ a. a.map };
 
     ghost invariant = { Counted };
 }
 
 // Where the first part that ends behind an offset begins and ends.
-fn first_after(parts: &BTreeMap<u64, Bytes>, at: u64) -> Option<(u64, u64)>
+fn first_after(parts: &PartMap, at: u64) -> Option<(u64, u64)>
     requires { at < 2 ^ 62 }
-    ensures { result ≡ option_map span_of (after at parts.now.entries) }
+    ensures { result ≡ option_map span_of (after at parts.now) }
 {
-    match next_part(parts, at) {
+    match parts.next(at) {
         Some((end, bytes)) => Some((end.saturating_sub(bytes.len() as u64), end)),
         None => None,
     }
 }
 
 // The part that begins at an offset, where all before end there.
-fn next_touching(parts: &BTreeMap<u64, Bytes>, at: u64) -> Option<(u64, &Bytes)>
+fn next_touching(parts: &PartMap, at: u64) -> Option<(u64, &Bytes)>
     requires { at < 2 ^ 62 }
-    ensures { option_map (λ p. (p.0, p.1.now)) result ≡ touching_at at (after at parts.now.entries) }
+    ensures { option_map (λ p. (p.0, p.1.now)) result ≡ touching_at at (after at parts.now) }
 {
-    match next_part(parts, at) {
+    match parts.next(at) {
         Some((end, bytes)) => {
             if end.saturating_sub(bytes.len() as u64) == at {
                 Some((end, bytes))
@@ -81,11 +81,11 @@ fn next_touching(parts: &BTreeMap<u64, Bytes>, at: u64) -> Option<(u64, &Bytes)>
 
 // Whether an offset waits; how many of `len` bytes from it on wait in its part, or else in none;
 // and whether a part begins behind these.
-fn span(parts: &BTreeMap<u64, Bytes>, at: u64, len: u64) -> (bool, u64, bool)
+fn span(parts: &PartMap, at: u64, len: u64) -> (bool, u64, bool)
     requires { at + len < 2 ^ 62 }
-    ensures held { result.0 ≡ is_held at (after at parts.now.entries) }
-    ensures count { result.1 ≡ cond result.0 (held_at at len (after at parts.now.entries)) (gap_at at len (after at parts.now.entries)) }
-    ensures joins { result.2 ≡ begins_at (at + result.1) (after at parts.now.entries) }
+    ensures held { result.0 ≡ is_held at (after at parts.now) }
+    ensures count { result.1 ≡ cond result.0 (held_at at len (after at parts.now)) (gap_at at len (after at parts.now)) }
+    ensures joins { result.2 ≡ begins_at (at + result.1) (after at parts.now) }
 {
     match first_after(parts, at) {
         None => (false, len, false),
@@ -103,23 +103,22 @@ fn span(parts: &BTreeMap<u64, Bytes>, at: u64, len: u64) -> (bool, u64, bool)
 
 // How many parts touch a gap: one may end where it begins, and `joins` says whether one begins
 // behind it.
-fn touches(parts: &BTreeMap<u64, Bytes>, at: u64, joins: bool) -> usize
-    ensures { result ≡ cond (is_some (lookup (is_at (nat_cmp at)) parts.now.entries)) 1 0 + cond joins 1 0 }
+fn touches(parts: &PartMap, at: u64, joins: bool) -> usize
+    ensures { result ≡ cond (is_some (lookup (is_at (nat_cmp at)) parts.now)) 1 0 + cond joins 1 0 }
 {
-    let before = if parts.contains_key(&at) { 1 } else { 0 };
+    let before = if parts.contains(at) { 1 } else { 0 };
     if joins { before + 1 } else { before }
 }
 
 // Where no part ends behind an offset: how many parts end at it, one or none. The last part alone is
 // looked up.
-fn ends_at_last(parts: &BTreeMap<u64, Bytes>, at: u64) -> Option<usize>
-    requires { AreApart 0 parts.now.entries }
-    ensures behind { IfSome result (λ n. after at parts.now.entries ≡ None) }
-    ensures touching { IfSome result (λ n. n ≡ cond (is_some (lookup (is_at (nat_cmp at)) parts.now.entries)) 1 0) }
+fn ends_at_last(parts: &PartMap, at: u64) -> Option<usize>
+    requires { AreApart 0 parts.now }
+    ensures behind { IfSome result (λ n. after at parts.now ≡ None) }
+    ensures touching { IfSome result (λ n. n ≡ cond (is_some (lookup (is_at (nat_cmp at)) parts.now)) 1 0) }
 {
-    match parts.last_key_value() {
+    match parts.last() {
         Some((end, _)) => {
-            let end = *end;
             if at < end {
                 None
             } else if at == end {
@@ -133,12 +132,12 @@ fn ends_at_last(parts: &BTreeMap<u64, Bytes>, at: u64) -> Option<usize>
 }
 
 // Where the run ends that goes on at an offset.
-fn run_end(parts: &BTreeMap<u64, Bytes>, at: u64) -> u64
+fn run_end(parts: &PartMap, at: u64) -> u64
     requires small { at < 2 ^ 62 }
-    requires apart { AreApart 0 parts.now.entries }
+    requires apart { AreApart 0 parts.now }
     ensures above { at ≤ result }
     ensures small { result < 2 ^ 62 }
-    ensures done { touching_at result (after result parts.now.entries) ≡ None }
+    ensures done { touching_at result (after result parts.now) ≡ None }
 {
     let mut last = at;
     while let Some((next, _)) = next_touching(parts, last) {
@@ -148,14 +147,9 @@ fn run_end(parts: &BTreeMap<u64, Bytes>, at: u64) -> u64
 }
 
 // The first part of a run, with exactly the memory for all its bytes: so each is copied once.
-fn begin_run(
-    parts: &BTreeMap<u64, Bytes>,
-    end: u64,
-    bytes: &[u8],
-    alloc: Global,
-) -> Result<Vec<u8>, AllocError>
+fn begin_run(parts: &PartMap, end: u64, bytes: &[u8], alloc: Global) -> Result<Vec<u8>, AllocError>
     requires small { end < 2 ^ 62 }
-    requires apart { AreApart 0 parts.now.entries }
+    requires apart { AreApart 0 parts.now }
     ensures { IfOk result (λ run. run.items ≡ bytes.now) }
 {
     let more = run_end(parts, end) - end;
@@ -166,14 +160,14 @@ fn begin_run(
 
 // Joins a part with those that touch it: the run that begins with it, and where it ends.
 fn run_from(
-    parts: &BTreeMap<u64, Bytes>,
+    parts: &PartMap,
     end: u64,
     bytes: &[u8],
     alloc: Global,
 ) -> Result<(u64, Bytes), AllocError>
     requires small { end < 2 ^ 62 }
-    requires apart { AreApart 0 parts.now.entries }
-    ensures run { IfOk result (λ run. in_front (end, bytes.now) (joined (from_after end parts.now.entries)) ≡ run ∷ joined (from_after run.0 parts.now.entries)) }
+    requires apart { AreApart 0 parts.now }
+    ensures run { IfOk result (λ run. in_front (end, bytes.now) (joined (from_after end parts.now)) ≡ run ∷ joined (from_after run.0 parts.now)) }
     ensures above { IfOk result (λ run. end ≤ run.0) }
     ensures small { IfOk result (λ run. run.0 < 2 ^ 62) }
 {
@@ -188,14 +182,14 @@ fn run_from(
 
 // The run that begins with a part, and where it ends: the part itself where none touches it.
 fn run_of(
-    parts: &BTreeMap<u64, Bytes>,
+    parts: &PartMap,
     end: u64,
     bytes: &Bytes,
     alloc: Global,
 ) -> Result<(u64, Bytes), AllocError>
     requires small { end < 2 ^ 62 }
-    requires apart { AreApart 0 parts.now.entries }
-    ensures run { IfOk result (λ run. in_front (end, bytes.now) (joined (from_after end parts.now.entries)) ≡ run ∷ joined (from_after run.0 parts.now.entries)) }
+    requires apart { AreApart 0 parts.now }
+    ensures run { IfOk result (λ run. in_front (end, bytes.now) (joined (from_after end parts.now)) ≡ run ∷ joined (from_after run.0 parts.now)) }
     ensures above { IfOk result (λ run. end ≤ run.0) }
     ensures small { IfOk result (λ run. run.0 < 2 ^ 62) }
 {
@@ -206,30 +200,30 @@ fn run_of(
 }
 
 // The parts, those that touch joined into one.
-fn join_all(parts: &BTreeMap<u64, Bytes>, alloc: Global) -> Result<BTreeMap<u64, Bytes>, AllocError>
-    requires { AreApart 0 parts.now.entries }
-    ensures { IfOk result (λ new. new.entries ≡ joined parts.now.entries) }
+fn join_all(parts: &PartMap, alloc: Global) -> Result<PartMap, AllocError>
+    requires { AreApart 0 parts.now }
+    ensures { IfOk result (λ new. new ≡ joined parts.now) }
 {
-    let mut new = BTreeMap::new(alloc);
+    let mut new = PartMap::new(alloc);
     let mut at = 0;
-    while let Some((end, bytes)) = next_part(parts, at) {
+    while let Some((end, bytes)) = parts.next(at) {
         let (last, run) = run_of(parts, end, bytes, alloc)?;
-        keep(&mut new, last, run)?;
+        new.keep(last, run)?;
         at = last;
     }
     Ok(new)
 }
 
 // Takes out the part that ends at `end`.
-fn remove(parts: &mut BTreeMap<u64, Bytes>, end: u64)
-    ensures { parts.new.entries ≡ remove_entry (is_at (nat_cmp end)) parts.old.entries }
+fn remove(parts: &mut PartMap, end: u64)
+    ensures { parts.new ≡ remove_entry (is_at (nat_cmp end)) parts.old }
 {
-    let _ = parts.remove(&end);
+    parts.remove(end);
 }
 
 // Takes out the parts that end at some offsets, the last first.
-fn remove_all(parts: &mut BTreeMap<u64, Bytes>, ends: &mut Vec<u64>)
-    ensures { parts.new.entries ≡ undone ends.old.items parts.old.entries }
+fn remove_all(parts: &mut PartMap, ends: &mut Vec<u64>)
+    ensures { parts.new ≡ undone ends.old.items parts.old }
 {
     while let Some(end) = ends.pop() {
         remove(parts, end);
@@ -237,10 +231,10 @@ fn remove_all(parts: &mut BTreeMap<u64, Bytes>, ends: &mut Vec<u64>)
 }
 
 // As `Parts::starts_at`, of the map alone: `pop` asks this while the counts don't fit the map yet.
-fn starts_at(parts: &BTreeMap<u64, Bytes>, at: u64) -> bool
-    ensures { result ≡ is_next parts.now.entries at }
+fn starts_at(parts: &PartMap, at: u64) -> bool
+    ensures { result ≡ is_next parts.now at }
 {
-    match parts.first_key_value() {
+    match parts.first() {
         Some((end, bytes)) => end.saturating_sub(bytes.len() as u64) == at,
         None => false,
     }
@@ -272,7 +266,7 @@ impl Parts {
         ensures { result ≡ [] }
     {
         Parts {
-            map: BTreeMap::new(alloc),
+            map: PartMap::new(alloc),
             runs: 0,
             bytes: 0,
             alloc,
@@ -313,7 +307,7 @@ impl Parts {
     {
         let end = at + bytes.len() as u64;
         let part = Bytes::copy_from_slice(self.alloc, bytes)?;
-        keep(&mut self.map, end, part)?;
+        self.map.keep(end, part)?;
         self.runs = self.runs + 1 - touched;
         self.bytes += bytes.len() as u64;
         Ok(())
@@ -652,24 +646,19 @@ impl Parts {
         ensures err { OnErr result (self.new ≡ self.old) }
         ensures whole { cuts self.old at max ≡ false → IsOk result }
     {
-        let Some((end, bytes)) = self.map.first_key_value() else {
+        let Some((end, bytes)) = self.map.first() else {
             return Ok(None);
         };
-        let (end, len) = (*end, bytes.len());
+        let len = bytes.len();
         if end.saturating_sub(len as u64) != at {
             return Ok(None);
         }
         if len <= max {
             return Ok(self.pop());
         }
-        match self.map.get_mut(&end) {
-            Some(bytes) => {
-                let front = bytes.split_to(max)?;
-                self.bytes -= max as u64;
-                Ok(Some(front))
-            }
-            None => Ok(None),
-        }
+        let front = self.map.split_front(max)?;
+        self.bytes -= max as u64;
+        Ok(front)
     }
 
     /// The first bytes of the first part, at most `max` of them, without a copy.
@@ -682,7 +671,7 @@ impl Parts {
         ensures some { OnErr result (is_some_part self.now ≡ true) }
         ensures asked { OnErr result (0 < max) }
     {
-        match self.map.first_key_value() {
+        match self.map.first() {
             Some((end, bytes)) => {
                 let offset = end.saturating_sub(bytes.len() as u64);
                 let bytes = front(bytes, max)?;
@@ -696,16 +685,15 @@ impl Parts {
     pub(crate) fn skip_front(&mut self, max: usize)
         ensures { self.new ≡ left_front self.old max }
     {
-        let Some((end, bytes)) = self.map.first_key_value() else {
+        let Some((_, bytes)) = self.map.first() else {
             return;
         };
-        let (end, len) = (*end, bytes.len());
-        if len <= max {
+        if bytes.len() <= max {
             let _ = self.pop();
-        } else if let Some(bytes) = self.map.get_mut(&end) {
-            bytes.advance(max);
-            self.bytes -= max as u64;
+            return;
         }
+        self.map.skip_front(max);
+        self.bytes -= max as u64;
     }
 
     /// Whether there is a part.

@@ -10,11 +10,13 @@ ghost use Rattle.quic_connection_core.specs.Faults.{TakesAs, TakesOn, HasForm, I
 use crate::connection::receiving::{Trouble, trouble_of, violation};
 use quic_streams_handles::EndStreams;
 use quic_streams_parts::Breach;
+use quic_streams_state::IdRule;
 use quic_wire::frame::{Frame, ResetStream, StopSending, Stream};
 use quic_wire_core::{Dir, Reason, Side, StreamId, VarInt};
 
 /// Takes a frame that is neither ACK nor DATAGRAM: one for streams changes these, one that only
-/// servers send is refused by a server, and one of another kind does nothing yet.
+/// servers send is refused by a server, and one of another kind does nothing yet but that it may
+/// break a rule of ids and counts.
 pub(crate) fn take_other(streams: &mut EndStreams, frame: &Frame<'_>) -> Result<(), Trouble>
     requires other { IsOther (frame_view frame.now) }
     requires form { HasForm (frame_view frame.now) }
@@ -30,14 +32,8 @@ pub(crate) fn take_other(streams: &mut EndStreams, frame: &Frame<'_>) -> Result<
         }
         Frame::MaxStreamData { id, offset } => take_max_stream_data(streams, *id, *offset),
         Frame::MaxStreams { dir, count } => take_max_streams(streams, *dir, *count),
-        Frame::StreamDataBlocked { id, .. } => {
-            refuse(streams.state.stream_data_blocked_breach(*id))
-        }
-        Frame::StreamsBlocked { limit, .. } => {
-            refuse(streams.state.streams_blocked_breach(*limit))
-        }
         Frame::NewToken { .. } | Frame::HandshakeDone => take_of_server(streams.state.side()),
-        _ => Ok(()),
+        _ => refuse(streams.state.breach(IdRule::of(frame))),
     }
 }
 

@@ -13,13 +13,12 @@ use Rattle.quic_streams_parts.specs.SendHalf.{SendHalf, Queued, half_acked, rese
 use Rattle.quic_streams_halves.specs.Halves.{is_done, has_place}
 use Rattle.quic_streams_state.specs.declared.state.StreamsState.{StreamsState}
 use Rattle.quic_streams_state.specs.State.{Streams, Sending, sending_half, sending_status, receiving_status, done_if}
-use Rattle.quic_streams_state.specs.Control.{Entry}
 use Rattle.quic_streams_state.specs.Writing.{put_queued}
 use Rattle.quic_streams_laws.specs.Each.{HalfIs, EachSends, AreOfHalves}
 use Rattle.quic_streams_laws.specs.EachLaws.{each_kept, each_with, said_of}
 use Rattle.quic_streams_laws.specs.ShapeLaws.{sends_with}
 use Rattle.quic_streams_laws.specs.Keeping.{KeepsWhere, KeepsBy, HasEnded, MayAccept}
-use Rattle.quic_streams_laws.specs.KeepingLaws.{by_open, by_accept, by_finish, by_reset, by_set_priority, by_read_begun, by_next, by_finalize, by_stop, by_received_reset, by_polled, by_stream_lost, by_stream_acked_where, by_reset_acked_where, by_frame, by_limit_told}
+use Rattle.quic_streams_laws.specs.KeepingLaws.{by_open, by_accept, by_finish, by_reset, by_set_priority, by_read_begun, by_next, by_finalize, by_stop, by_received_reset, by_polled, by_stream_lost, by_stream_acked_where, by_reset_acked_where, by_frame}
 use Rattle.quic_streams_laws.specs.Written.{Wrote}
 use Rattle.quic_machine.specs.declared.run.Call.{Call}
 use Rattle.quic_machine.specs.declared.run.Answer.{Answer}
@@ -35,7 +34,7 @@ use Rattle.quic_machine.specs.FrameCases.{Settling}
 use Rattle.quic_machine.specs.LeaveCases.{by_expired, by_event}
 use Rattle.quic_machine.specs.CallCases.{is_delivery, by_call}
 use Rattle.quic_machine.specs.Machine.{IsAnswer, after_call}
-use Rattle.quic_headline.proofs.Packets.Entries.{by_first}
+use Rattle.quic_streams_laws.specs.QuietLaws.{by_told}
 use Rattle.quic_headline.proofs.Packets.Losses.{Losing, expiry_stays}
 use Rattle.quic_headline.proofs.Halves.Words.{OtherWords, is_write, other_with}
 use Rattle.quic_headline.proofs.Halves.WordsCalls.{call_on_is}
@@ -197,15 +196,7 @@ module _ (t : Tally) where
     ack = λ d filled may j. j;
     ping = λ d j. j;
     drops = λ d kind j. j;
-    control = λ d kind entry es f is due j. by_first d.end.waiting.frames (λ (x : Entry). Tallies t (x.told d.end.streams)) (record {
-      resets = λ r among. j;
-      stops = λ r among. j;
-      all_limits = tallies_kept.tells d.end.streams j;
-      limits = λ id among. by_limit_told (Tallies t) tallies_kept d.end.streams id j;
-      counts = λ dir. tallies_kept.tells_count d.end.streams dir j;
-      all_blocked = j;
-      blocked = λ id among. j;
-    }) kind entry es is;
+    control = λ d kind f is j. by_told (Tallies t) tallies_kept f d.end.streams j;
     message = λ d m ms is fit j. j;
     stream = λ d id h room found first some is counts j. by_frame (Tallies t) tallies_kept d.end.transport.send_fairness d.end.streams id room h found (goes_on id h _ refl refl refl refl refl) j;
   }) e i

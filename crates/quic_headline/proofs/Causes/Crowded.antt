@@ -6,7 +6,7 @@ use Rattle.std.proofs.lemmas.Bool.{ltb-true, both_ways}
 use Rattle.quic_wire_core.specs.declared.stream_id.Side.{Side}
 use Rattle.quic_wire_core.specs.declared.stream_id.Side.TheVariants.{Client, Server}
 use Rattle.quic_wire_core.specs.StreamId.{dir_of, index_of}
-use Rattle.quic_wire.specs.Value.{FrameValue, AckValue, StreamValue, ack, stream, reset_stream, stop_sending, max_data, max_stream_data, max_streams, stream_data_blocked, streams_blocked, new_token, handshake_done, datagram}
+use Rattle.quic_wire.specs.Value.{FrameValue, AckValue, StreamValue, ack, stream, reset_stream, new_token, handshake_done, datagram}
 use Rattle.quic_assembler.specs.declared.assembler.TheConstants.{MOST_PIECES}
 use Rattle.quic_assembler.specs.Arrived.{is_given, waits, runs_of}
 use Rattle.quic_assembler.proofs.Arrived.Lawful.{given_waits_not}
@@ -16,10 +16,12 @@ use Rattle.quic_streams_parts.specs.Dirs.{is_own, is_two_way}
 use Rattle.quic_streams_parts.specs.RecvHalf.{RecvHalf, end_of, breaks_final, after_frame, has_too_many}
 use Rattle.quic_retransmits.specs.Retransmits.{Retransmits}
 use Rattle.quic_streams_state.specs.declared.state.StreamsState.{StreamsState}
+use Rattle.quic_streams_state.specs.declared.taking.IdRule.{IdRule}
+use Rattle.quic_streams_state.specs.declared.taking.IdRule.TheVariants.{Free, ReceivingOf, SendingOf, NotOfOwn, Counting}
 use Rattle.quic_streams_state.specs.State.{Receiving, is_opened, receiving_half, with_recv}
 use Rattle.quic_streams_state.specs.Limits.{raised_count, most_streams}
-use Rattle.quic_streams_state.specs.Opening.{beyond, opens, opened_by, receiving_refusal, sending_refusal, max_streams_breach}
-use Rattle.quic_streams_state.specs.Taking.{part_for, breaks_limit, breach_at, breach_behind, refusal, readable_if, ended_if, renewed, too_many_at, breach_kept, stream_breach, after_stream, reset_breach, stream_data_blocked_breach, streams_blocked_breach}
+use Rattle.quic_streams_state.specs.Opening.{beyond, opens, opened_by, receiving_refusal, sending_refusal}
+use Rattle.quic_streams_state.specs.Taking.{part_for, breaks_limit, breach_at, breach_behind, refusal, readable_if, ended_if, renewed, too_many_at, breach_kept, stream_breach, after_stream, reset_breach, id_rule, broken}
 use Rattle.quic_streams_laws.specs.KeepingLaws.{Unbroken, stream_cases, by_opened, live_receives, at-half}
 use Rattle.quic_streams_laws.specs.QuietLaws.{is_quiet}
 use Rattle.quic_streams_laws.specs.StatusLaws.{at_half_of}
@@ -93,6 +95,14 @@ blocked_apart : (b : Bool) → (if b then Some StreamState else None) ≡ Some P
 blocked_apart true is = cc
 blocked_apart false is = cc
 
+-- no rule of ids and counts is that of pieces
+rule_apart : (s : StreamsState) (rule : IdRule) → broken s rule ≡ Some Pieces → ⊥
+rule_apart s Free is = cc
+rule_apart s (ReceivingOf id) is = receiving_apart s id is
+rule_apart s (SendingOf id) is = sending_apart s id is
+rule_apart s (NotOfOwn id) is = blocked_apart (is_own s.side id && not (is_two_way (dir_of id))) is
+rule_apart s (Counting count) is = counts_apart (nat_lt most_streams count) is
+
 -- the fault of a rule that is that of pieces
 pieces_of : (o : Option Breach) → fault_of o ≡ Some too_many_pieces → o ≡ Some Pieces
 pieces_of None is = cc
@@ -124,17 +134,11 @@ message_apart (Err error) m e is = cc
 crowds : (f : FrameValue) (e : End) → (take_frame f e).fault ≡ Some too_many_pieces → Crowds f e
 crowds (stream g) e is = record { frame = g; is = refl; breach = pieces_of (stream_breach e.streams g) is }
 crowds (reset_stream g) e is = absurd (refusal_apart e.streams g.id g.final_size true (pieces_of (reset_breach e.streams g) is))
-crowds (stop_sending g) e is = absurd (sending_apart e.streams g.id (pieces_of (sending_refusal e.streams g.id) is))
-crowds (max_data limit) e is = cc
-crowds (max_stream_data g) e is = absurd (sending_apart e.streams g.id (pieces_of (sending_refusal e.streams g.id) is))
-crowds (max_streams g) e is = absurd (counts_apart (nat_lt most_streams g.count) (pieces_of (max_streams_breach g.count) is))
-crowds (stream_data_blocked g) e is = absurd (blocked_apart (is_own e.streams.side g.id && not (is_two_way (dir_of g.id))) (pieces_of (stream_data_blocked_breach e.streams g.id) is))
-crowds (streams_blocked g) e is = absurd (counts_apart (nat_lt most_streams g.count) (pieces_of (streams_blocked_breach g.count) is))
 crowds (new_token t) e is = absurd (server_apart (side_of e) is)
 crowds handshake_done e is = absurd (server_apart (side_of e) is)
 crowds (datagram m) e is = absurd (message_apart (received_answer e.transport.datagram_receive_buffer_size m e.messages.queues) m e is)
 crowds (ack a) e is = absurd (ack_apart (names_ungiven a e) a e is)
-crowds f e is = cc
+crowds f e is = absurd (rule_apart e.streams (id_rule f) (pieces_of (broken e.streams (id_rule f)) is))
 
 -- ---- the frames of a packet up to the one that comes to too many pieces
 

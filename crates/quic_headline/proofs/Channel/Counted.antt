@@ -32,7 +32,6 @@ use Rattle.quic_streams_state.specs.Reading.{Told, told_bytes, told_end, told_re
 use Rattle.quic_streams_state.specs.Taking.{joined, writable_again, is_used_up, limited_half, limit_raised, limit_at, limit_unless, stop_at, stop_unless, sending_for, readable_if, ended_if, renewed}
 use Rattle.quic_streams_state.specs.Acked.{sent_half, finished, acked_on, acked_at, reset_acked_at, lost_at}
 use Rattle.quic_streams_state.specs.Telling.{Telling, passed, after_passing, told_behind, polled}
-use Rattle.quic_streams_state.specs.Control.{Entry}
 use Rattle.quic_streams_laws.specs.KeepingLaws.{stream_cases, reset_cases}
 use Rattle.quic_streams_laws.specs.Written.{Wrote}
 use Rattle.quic_machine.specs.declared.run.Call.{Call}
@@ -52,7 +51,7 @@ use Rattle.quic_machine.specs.CallCases.{is_delivery, by_call}
 use Rattle.quic_machine.specs.FrameCases.{Settling, named, ack_taken, acked_keeps, losses_keep, message_leaves}
 use Rattle.quic_machine.specs.Machine.{IsAnswer, after_call}
 use Rattle.quic_headline.specs.Runs.{OpensStream}
-use Rattle.quic_headline.proofs.Packets.Entries.{by_first}
+use Rattle.quic_streams_laws.specs.QuietLaws.{by_tells}
 use Rattle.quic_headline.proofs.Halves.Words.{CallWords, call_with}
 use Rattle.quic_headline.proofs.Halves.WordsCalls.{call_on_is}
 use Rattle.quic_headline.proofs.Packets.Probes.{poll_state}
@@ -208,7 +207,7 @@ module _ (K : Side → Counts → Counts → Type 0) where
     ack = λ d filled may j. j;
     ping = λ d j. j;
     drops = λ d kind j. j;
-    control = λ d kind entry es frame is due j. by_first d.end.waiting.frames (λ (x : Entry). Counted (x.told d.end.streams)) (record { resets = λ r among. j; stops = λ r among. j; all_limits = j; limits = λ id among. j; counts = λ dir. j; all_blocked = j; blocked = λ id among. j }) kind entry es is;
+    control = λ d kind f is j. by_tells Counted d.end.streams j j (λ id. j) (λ dir. j) f;
     message = λ d m ms is fit j. j;
     stream = λ d id h room found first some is counts j. j;
   }) e i

@@ -7,15 +7,19 @@ use Rattle.quic_wire_core.specs.declared.stream_id.Side.TheVariants.{Client, Ser
 use Rattle.quic_wire_core.specs.declared.stream_id.Dir.{Dir}
 use Rattle.quic_wire_core.specs.declared.stream_id.Dir.TheVariants.{Bi, Uni}
 use Rattle.quic_wire_core.specs.StreamId.{initiator_of, dir_of, index_of, other_side, side_bit}
-use Rattle.quic_wire.specs.Value.{FrameValue, stream, reset_stream, stop_sending, max_stream_data, max_streams, stream_data_blocked, streams_blocked, new_token, handshake_done}
+use Rattle.quic_wire.specs.Value.{FrameValue, stream, reset_stream, stop_sending, max_stream_data, max_streams, new_token, handshake_done}
 use Rattle.quic_config.specs.Transport.{parameters_of}
 use Rattle.quic_streams_parts.specs.declared.answers.Breach.{Breach}
 use Rattle.quic_streams_parts.specs.declared.answers.Breach.TheVariants.{StreamLimit, StreamState, FrameEncoding}
 use Rattle.quic_streams_parts.specs.Dirs.{Counts, of, with_of, is_own, is_two_way}
 use Rattle.quic_streams_state.specs.declared.state.StreamsState.{StreamsState}
+use Rattle.quic_streams_state.specs.declared.taking.IdRule.{IdRule}
+use Rattle.quic_streams_state.specs.declared.taking.IdRule.TheVariants.{Free, ReceivingOf, SendingOf, NotOfOwn, Counting}
 use Rattle.quic_streams_state.specs.State.{Opening, is_opened, sends_on, receives_on}
 use Rattle.quic_streams_state.specs.Limits.{raised_count, most_streams}
 use Rattle.quic_streams_state.specs.Opening.{opens, opened_if, opened_by, with_remote, with_own_limit, after_max_streams, beyond, receiving_refusal, sending_refusal}
+use Rattle.quic_streams_state.specs.Taking.{id_rule, broken}
+use Rattle.quic_streams_laws.specs.Giving.{Sends, Receives, MayGiveBy}
 use Rattle.quic_streams_laws.specs.ShapeLaws.{past_remote}
 use Rattle.quic_streams_laws.specs.Few.{AreFew}
 use Rattle.quic_machine.specs.declared.run.Call.{Call}
@@ -33,7 +37,7 @@ use Rattle.quic_headline.proofs.Places.Parties.{Party, called, Beginning, begun_
 use Rattle.quic_headline.proofs.Halves.Counts.{counts_in_range}
 use Rattle.quic_headline.proofs.Channel.Passing.{IdsPass, IdsHold}
 use Rattle.quic_headline.proofs.Channel.Counted.{Counted, call_counts, frame_counts}
-use Rattle.quic_headline.proofs.Channel.Given.{Grown, Sends, Receives, Given, opened_grows}
+use Rattle.quic_headline.proofs.Channel.Given.{Grown, Given, opened_grows}
 use Rattle.quic_headline.proofs.Channel.Names.{NamesHold, RestsOn, grows_behind, names_group}
 
 -- ---- tests
@@ -251,23 +255,24 @@ module _ (s t : StreamsState) (k : Counted (KnowsCounts s) t) (back : Counted (K
   sending_passes : (id : ℕ) → Receives s id → sending_refusal t id ≡ None
   sending_passes id is = ap (λ (b : Bool). if b then Some StreamState else beyond t id) (sends_there id is.0) ∙ reach id is.1
 
+  rule_passes : (rule : IdRule) → MayGiveBy s rule → broken t rule ≡ None
+  rule_passes Free is = refl
+  rule_passes (ReceivingOf id) is = receiving_passes id is
+  rule_passes (SendingOf id) is = sending_passes id is
+  rule_passes (NotOfOwn id) is = ap (λ (b : Bool). if b then Some StreamState else None) (receives_there id is)
+  rule_passes (Counting count) is = ap (λ (b : Bool). if b then Some FrameEncoding else None) (not_above most_streams count is)
+
   ids_pass : (f : FrameValue) → Given s f → IdsPass t f
-  ids_pass (stream f) is = receiving_passes f.id is
-  ids_pass (reset_stream f) is = receiving_passes f.id is
-  ids_pass (stop_sending f) is = sending_passes f.id is
-  ids_pass (max_stream_data f) is = sending_passes f.id is
-  ids_pass (max_streams f) is = ap (λ (b : Bool). if b then Some FrameEncoding else None) (not_above most_streams f.count (omega arith))
-  ids_pass (stream_data_blocked f) is = ap (λ (b : Bool). if b then Some StreamState else None) (receives_there f.id is)
-  ids_pass (streams_blocked f) is = absurd is
-  ids_pass (new_token t) is = tt
-  ids_pass handshake_done is = tt
-  ids_pass f is = tt
+  ids_pass (max_streams f) is = rule_passes (Counting f.count) (omega arith)
+  ids_pass (new_token x) is = absurd is
+  ids_pass handshake_done is = absurd is
+  ids_pass f is = rule_passes (id_rule f) is
 
 -- ---- and stays so
 
--- what passes by its id passes later too
-pub ids_stay : (t u : StreamsState) → Grown t u → (f : FrameValue) → IdsPass t f → IdsPass u f
-ids_stay t u g f is = go f is
+-- a rule that isn't broken isn't later either
+rule_stays : (t u : StreamsState) → Grown t u → (rule : IdRule) → broken t rule ≡ None → broken u rule ≡ None
+rule_stays t u g rule is = go rule is
   where
     side : u.side ≡ t.side
     side = g.0
@@ -307,15 +312,16 @@ ids_stay t u g f is = go f is
     sending : (id : ℕ) → sending_refusal t id ≡ None → sending_refusal u id ≡ None
     sending id none = behind_first (not (is_own t.side id) && not (is_two_way (dir_of id))) (not (is_own u.side id) && not (is_two_way (dir_of id))) (beyond t id) (beyond u id) (ap (λ (x : Side). not (is_own x id) && not (is_two_way (dir_of id))) side) (beyond_stays id) none
 
-    go : (f : FrameValue) → IdsPass t f → IdsPass u f
-    go (stream f) is = receiving f.id is
-    go (reset_stream f) is = receiving f.id is
-    go (stop_sending f) is = sending f.id is
-    go (max_stream_data f) is = sending f.id is
-    go (max_streams f) is = is
-    go (stream_data_blocked f) is = ap (λ (x : Side). if is_own x f.id && not (is_two_way (dir_of f.id)) then Some StreamState else None) side ∙ is
-    go (streams_blocked f) is = is
-    go f is = tt
+    go : (rule : IdRule) → broken t rule ≡ None → broken u rule ≡ None
+    go Free is = refl
+    go (ReceivingOf id) is = receiving id is
+    go (SendingOf id) is = sending id is
+    go (NotOfOwn id) is = ap (λ (x : Side). if is_own x id && not (is_two_way (dir_of id)) then Some StreamState else None) side ∙ is
+    go (Counting count) is = is
+
+-- what passes by its id passes later too
+pub ids_stay : (t u : StreamsState) → Grown t u → (f : FrameValue) → IdsPass t f → IdsPass u f
+ids_stay t u g f is = rule_stays t u g (id_rule f) is
 
 -- ---- the part of ids, as a group
 

@@ -1,31 +1,33 @@
 -- Frames that an end may give: of streams that it knows, and counts that it keeps; and so they stay, since streams only open and counts only grow.
 use Rattle.std.proofs.Common.{◌≡◌, ℕ, zero, suc, ◌+◌, ◌-◌, ◌≤◌, Bool, true, false, not, List, [], ◌∷◌, ◌++◌, length, replicate, Option, Some, None, refl, sym, ap, ◌∙◌, subst, inl, inr, arith}
 use Rattle.std.specs.Prelude.{if◌then◌else◌, ◌&&◌, ◌||◌}
-use Rattle.std.specs.Option.{option_map}
 use Rattle.std.proofs.lemmas.Bool.{and_parts, cond_both}
 use Rattle.quic_wire_core.specs.declared.stream_id.Dir.{Dir}
 use Rattle.quic_wire_core.specs.declared.stream_id.Dir.TheVariants.{Bi, Uni}
 use Rattle.quic_wire_core.specs.declared.stream_id.Side.{Side}
 use Rattle.quic_wire_core.specs.StreamId.{dir_of, index_of}
 use Rattle.quic_packet.specs.Number.{truncated}
-use Rattle.quic_wire.specs.Value.{FrameValue, StopSendingValue, padding, ping, stream, datagram, reset_stream, stop_sending, max_data, max_stream_data, max_streams, data_blocked, stream_data_blocked, streams_blocked, new_token, handshake_done}
-use Rattle.quic_wire.specs.FrameView.{is_one_way}
+use Rattle.quic_wire.specs.Value.{FrameValue, StopSendingValue, padding, ping, stream, datagram, reset_stream, stop_sending, max_stream_data, max_streams, stream_data_blocked, streams_blocked, new_token, handshake_done}
 use Rattle.quic_streams_parts.specs.Dirs.{of, is_own, is_two_way}
 use Rattle.quic_streams_parts.specs.Table.{at}
 use Rattle.quic_streams_parts.specs.SendHalf.{SendHalf, frame_of}
-use Rattle.quic_streams_parts.specs.RecvHalf.{RecvHalf, takes_limits, raised_on}
+use Rattle.quic_streams_parts.specs.RecvHalf.{RecvHalf}
 use Rattle.quic_streams_halves.specs.Halves.{is_done}
-use Rattle.quic_retransmits.specs.Retransmits.{Retransmits, others_of, merged}
+use Rattle.quic_retransmits.specs.Retransmits.{Retransmits, first_of, others_of, merged}
 use Rattle.quic_streams_state.specs.declared.state.StreamsState.{StreamsState}
-use Rattle.quic_streams_state.specs.declared.control.ControlKind.{ControlKind}
-use Rattle.quic_streams_state.specs.declared.control.ControlKind.TheVariants.{StopSending}
+use Rattle.quic_retransmits.specs.declared.retransmits.ControlKind.{ControlKind}
+use Rattle.quic_retransmits.specs.declared.retransmits.ControlKind.TheVariants.{StopSending}
+use Rattle.quic_streams_state.specs.declared.taking.IdRule.{IdRule}
+use Rattle.quic_streams_state.specs.declared.taking.IdRule.TheVariants.{Free, ReceivingOf, SendingOf, NotOfOwn, Counting}
 use Rattle.quic_streams_state.specs.State.{Streams, Opening, is_opened, is_opened_in, sends_on, receives_on, sending_half, sending_status, receiving_status, one_done, done_if}
-use Rattle.quic_streams_state.specs.Limits.{raised_count, raised_data, can_send_data_blocked}
+use Rattle.quic_streams_state.specs.Limits.{raised_count}
 use Rattle.quic_streams_state.specs.Opening.{with_remote}
-use Rattle.quic_streams_state.specs.Waiting.{stream_data_blocked_limit, blocked_limit}
-use Rattle.quic_streams_state.specs.Control.{Entry, reset_frame, reset_entry, limit_frame, limit_entry, waiting, without_first}
+use Rattle.quic_streams_state.specs.Taking.{id_rule}
+use Rattle.quic_streams_state.specs.Control.{blocked_limit, without_first, frame_told}
+use Rattle.quic_streams_state.specs.Control as control
+use Rattle.quic_streams_laws.specs.Giving.{Sends, Receives, MayGiveBy}
 use Rattle.quic_streams_laws.specs.Quiet.{IsSentWithin}
-use Rattle.quic_streams_laws.specs.QuietLaws.{is_quiet}
+use Rattle.quic_streams_laws.specs.QuietLaws.{is_quiet, by_tells}
 use Rattle.quic_streams_laws.specs.Keeping.{KeepsAll}
 use Rattle.quic_streams_laws.specs.KeepingLaws.{by_accept, by_stream, by_reset_frame, by_frame, by_limit_told}
 use Rattle.quic_streams_laws.specs.Shape.{IsShaped}
@@ -46,7 +48,6 @@ use Rattle.quic_machine.specs.CallCases.{is_delivery}
 use Rattle.quic_machine.specs.Machine.{IsAnswer, after_call}
 use Rattle.quic_headline.specs.Runs.{In}
 use Rattle.quic_headline.proofs.Packets.Growth.{in_more}
-use Rattle.quic_headline.proofs.Packets.Entries.{by_first}
 use Rattle.quic_headline.proofs.Places.Told.{in_append}
 use Rattle.quic_headline.proofs.Halves.QuietSteps.{frame_quiet}
 use Rattle.quic_headline.proofs.Halves.ReadCalls.{any_kept, call_kept}
@@ -127,25 +128,12 @@ frames_grow fs e = frames_keep (λ (x : End). Grown e.streams x.streams) (frame_
 
 -- ---- what may be given
 
--- the end sends on a stream that is opened; or it receives on one
-abbrev pub Sends : StreamsState → ℕ → Type 0
-Sends s id = (sends_on s.side id ≡ true) × (is_opened s id ≡ true)
-
-abbrev pub Receives : StreamsState → ℕ → Type 0
-Receives s id = (receives_on s.side id ≡ true) × (is_opened s id ≡ true)
-
--- a frame of such a stream, or of a count that the end keeps; and none that it never gives
+-- a frame of such a stream as its rule asks, or of a count that the end keeps; and none that it never gives
 abbrev pub Given : StreamsState → FrameValue → Type 0
-Given s (stream f) = Sends s f.id
-Given s (reset_stream f) = Sends s f.id
-Given s (stop_sending f) = Receives s f.id
-Given s (max_stream_data f) = Receives s f.id
 Given s (max_streams f) = f.count ≤ raised_count (dir_named f.one_way) s.opening
-Given s (stream_data_blocked f) = sends_on s.side f.id ≡ true
-Given s (streams_blocked f) = ⊥
 Given s (new_token t) = ⊥
 Given s handshake_done = ⊥
-Given s f = Unit {0}
+Given s f = MayGiveBy s (id_rule f)
 
 module _ (s t : StreamsState) (g : Grown s t) where
   pub opened_grows : (id : ℕ) → is_opened s id ≡ true → is_opened t id ≡ true
@@ -157,24 +145,35 @@ module _ (s t : StreamsState) (g : Grown s t) where
   pub receives_grow : (id : ℕ) → Receives s id → Receives t id
   receives_grow id is = (ap (λ (side : Side). receives_on side id) g.0 ∙ is.0, opened_grows id is.1)
 
+  rule_grows : (rule : IdRule) → MayGiveBy s rule → MayGiveBy t rule
+  rule_grows Free is = tt
+  rule_grows (ReceivingOf id) is = sends_grow id is
+  rule_grows (SendingOf id) is = receives_grow id is
+  rule_grows (NotOfOwn id) is = ap (λ (side : Side). sends_on side id) g.0 ∙ is
+  rule_grows (Counting count) is = is
+
   -- what may be given stays so
   pub given_grows : (f : FrameValue) → Given s f → Given t f
-  given_grows (stream f) is = sends_grow f.id is
-  given_grows (reset_stream f) is = sends_grow f.id is
-  given_grows (stop_sending f) is = receives_grow f.id is
-  given_grows (max_stream_data f) is = receives_grow f.id is
   given_grows (max_streams f) is = let more = g.3 (dir_named f.one_way) in omega arith
-  given_grows (stream_data_blocked f) is = ap (λ (side : Side). sends_on side f.id) g.0 ∙ is
-  given_grows (streams_blocked f) is = is
   given_grows (new_token t) is = is
   given_grows handshake_done is = is
-  given_grows f is = tt
+  given_grows f is = rule_grows (id_rule f) is
 
 -- ---- what waits, and goes
 
 -- STOP_SENDING waits of streams on which the end receives
 abbrev pub StopsHold : StreamsState → Retransmits → Type 0
 StopsHold s p = (r : StopSendingValue) → In r p.stop_sending → Receives s r.id
+
+-- what stands behind the first stands in a list
+pub in_others : {X : Type 0} (x : X) (xs : List X) → In x (others_of xs) → In x xs
+in_others x [] i = i
+in_others x (y ∷ xs) i = inr i
+
+-- so does the first
+first_in : {X : Type 0} (x : X) (xs : List X) → first_of xs ≡ Some x → In x xs
+first_in x [] is = cc
+first_in x (y ∷ xs) is = let same : x ≡ y = cc in inl same
 
 module _ (s : StreamsState) (shape : IsShaped s) where
   -- a half that is in use
@@ -184,69 +183,22 @@ module _ (s : StreamsState) (shape : IsShaped s) where
   live_receives : (id : ℕ) (h : RecvHalf) → at s.receiving.halves.live id ≡ Some h → Receives s id
   live_receives id h is = and_parts (receives_on s.side id) (is_opened s id) (shape.receiving.allowed id (shape.receiving.placed id h is))
 
-  -- the frame that an entry has may be given
-  abbrev MayGive : Entry → Type 0
-  MayGive e = (f : FrameValue) → e.frame s ≡ Some f → Given s f
-
-  one_is : (g f : FrameValue) → Given s g → Some g ≡ Some f → Given s f
-  one_is g f is due = let same : g ≡ f = cc in subst (Given s) same is
-
-  resets_may : (r : ℕ × ℕ) → MayGive (reset_entry r)
-  resets_may r f = go (at s.sending.halves.live r.0) refl
+  -- a frame that goes may be given
+  goes_given : (p : Retransmits) → StopsHold s p → (f : FrameValue) → control.Goes p s f → Given s f
+  goes_given p stops (reset_stream f) goes = live_sends f.id goes.0 goes.2
+  goes_given p stops (stop_sending f) goes = stops f (first_in f p.stop_sending goes)
+  goes_given p stops (max_stream_data f) goes = live_receives f.id goes.0 goes.2
+  goes_given p stops (max_streams f) goes = omega arith
+  goes_given p stops (stream_data_blocked f) goes = named (sending_half s f.id) refl goes
     where
-      sized : Sends s r.0 → (o : Option ℕ) → option_map (λ size. reset_stream (record { id = r.0; code = r.1; final_size = size })) o ≡ Some f → Given s f
-      sized here None due = cc
-      sized here (Some size) due = one_is (reset_stream (record { id = r.0; code = r.1; final_size = size })) f here due
-
-      go : (o : Option SendHalf) → at s.sending.halves.live r.0 ≡ o → reset_frame r o ≡ Some f → Given s f
-      go None is due = cc
-      go (Some h) is due = sized (live_sends r.0 h is) h.reset due
-
-  limits_may : (id : ℕ) → MayGive (limit_entry id)
-  limits_may id f = go (at s.receiving.halves.live id) refl
-    where
-      taken : Receives s id → (h : RecvHalf) (b : Bool) → (if b then Some (max_stream_data (record { id = id; limit = raised_on s.receiving.stream_window h })) else None) ≡ Some f → Given s f
-      taken here h true due = one_is (max_stream_data (record { id = id; limit = raised_on s.receiving.stream_window h })) f here due
-      taken here h false due = cc
-
-      go : (o : Option RecvHalf) → at s.receiving.halves.live id ≡ o → limit_frame s.receiving.stream_window id o ≡ Some f → Given s f
-      go None is due = cc
-      go (Some h) is due = taken (live_receives id h is) h (takes_limits h) due
-
-  counts_may : (dir : Dir) (f : FrameValue) → Some (max_streams (record { one_way = is_one_way dir; count = raised_count dir s.opening })) ≡ Some f → Given s f
-  counts_may Bi f due = one_is (max_streams (record { one_way = false; count = raised_count Bi s.opening })) f (omega arith) due
-  counts_may Uni f due = one_is (max_streams (record { one_way = true; count = raised_count Uni s.opening })) f (omega arith) due
-
-  all_blocked_may : (f : FrameValue) (b : Bool) → (if b then Some (data_blocked s.sending.limit) else None) ≡ Some f → Given s f
-  all_blocked_may f true due = one_is (data_blocked s.sending.limit) f tt due
-  all_blocked_may f false due = cc
-
-  blocked_may : (id : ℕ) (f : FrameValue) → option_map (λ limit. stream_data_blocked (record { id = id; limit = limit })) (stream_data_blocked_limit s id) ≡ Some f → Given s f
-  blocked_may id f = go (sending_half s id) refl
-    where
-      named : sends_on s.side id ≡ true → (o : Option ℕ) → option_map (λ limit. stream_data_blocked (record { id = id; limit = limit })) o ≡ Some f → Given s f
-      named here None due = cc
-      named here (Some limit) due = one_is (stream_data_blocked (record { id = id; limit = limit })) f here due
-
-      go : (o : Option SendHalf) → sending_half s id ≡ o → option_map (λ limit. stream_data_blocked (record { id = id; limit = limit })) (blocked_limit o) ≡ Some f → Given s f
-      go None is due = cc
-      go (Some h) is due = named (and_parts (sends_on s.side id) (is_opened s id) (sends_may s id h shape is)).0 (blocked_limit (Some h)) due
-
-  entry_may : (kind : ControlKind) (p : Retransmits) (e : Entry) (es : List Entry) (f : FrameValue) → waiting kind p ≡ e ∷ es → StopsHold s p → e.frame s ≡ Some f → Given s f
-  entry_may kind p e es f is stops due = by_first p MayGive (record {
-    resets = λ r i. resets_may r;
-    stops = λ r i f due. one_is (stop_sending r) f (stops r i) due;
-    all_limits = λ f due. one_is (max_data (raised_data s.receiving)) f tt due;
-    limits = λ id i. limits_may id;
-    counts = counts_may;
-    all_blocked = λ f due. all_blocked_may f (can_send_data_blocked s) due;
-    blocked = λ id i. blocked_may id;
-  }) kind e es is f due
-
--- what stands behind the first stands in a list
-pub in_others : {X : Type 0} (x : X) (xs : List X) → In x (others_of xs) → In x xs
-in_others x [] i = i
-in_others x (y ∷ xs) i = inr i
+      named : (o : Option SendHalf) → sending_half s f.id ≡ o → blocked_limit o ≡ Some f.limit → sends_on s.side f.id ≡ true
+      named None is due = cc
+      named (Some h) is due = (and_parts (sends_on s.side f.id) (is_opened s f.id) (sends_may s f.id h shape is)).0
+  goes_given p stops (stream f) goes = absurd goes
+  goes_given p stops (streams_blocked f) goes = absurd goes
+  goes_given p stops (new_token t) goes = absurd goes
+  goes_given p stops handshake_done goes = absurd goes
+  goes_given p stops f goes = tt
 
 fewer_stops : (s : StreamsState) (kind : ControlKind) (p : Retransmits) → StopsHold s p → StopsHold s (without_first kind p)
 fewer_stops s StopSending p stops r i = stops r (in_others r p.stop_sending i)
@@ -263,16 +215,12 @@ module _ (s : StreamsState) where
   more_given : (fs : List FrameValue) (g : FrameValue) → ((f : FrameValue) → In f fs → Given s f) → Given s g → (f : FrameValue) → In f (fs ++ g ∷ []) → Given s f
   more_given fs g all one f i = elim (in_more f g fs i) [ inl old ↦ all f old | inr new ↦ subst (Given s) (sym new) one ]
 
-  told_goes : (d : Draft) (kind : ControlKind) (e : Entry) (es : List Entry) → waiting kind d.end.waiting.frames ≡ e ∷ es → Goes s d → IsShaped (e.told d.end.streams) × Grown (e.told d.end.streams) s × StopsHold (e.told d.end.streams) d.end.waiting.frames
-  told_goes d kind e es is g = by_first d.end.waiting.frames (λ (x : Entry). IsShaped (x.told d.end.streams) × Grown (x.told d.end.streams) s × StopsHold (x.told d.end.streams) d.end.waiting.frames) (record {
-    resets = λ r i. (g.shape, g.back, g.stops);
-    stops = λ r i. (g.shape, g.back, g.stops);
-    all_limits = (shape_any.tells d.end.streams g.shape, g.back, g.stops);
-    limits = λ id i. (by_limit_told IsShaped shape_any d.end.streams id g.shape, g.back, g.stops);
-    counts = λ dir. (shape_any.tells_count d.end.streams dir g.shape, g.back, g.stops);
-    all_blocked = (g.shape, g.back, g.stops);
-    blocked = λ id i. (g.shape, g.back, g.stops);
-  }) kind e es is
+  told_goes : (d : Draft) (f : FrameValue) → Goes s d → IsShaped (frame_told f d.end.streams) × Grown (frame_told f d.end.streams) s × StopsHold (frame_told f d.end.streams) d.end.waiting.frames
+  told_goes d f g = by_tells (λ (t : StreamsState). IsShaped t × Grown t s × StopsHold t d.end.waiting.frames) d.end.streams (g.shape, g.back, g.stops)
+      (shape_any.tells d.end.streams g.shape, g.back, g.stops)
+      (λ id. (by_limit_told IsShaped shape_any d.end.streams id g.shape, g.back, g.stops))
+      (λ dir. (shape_any.tells_count d.end.streams dir g.shape, g.back, g.stops))
+      f
 
   acked_goes : (d : Draft) → Goes s d → Goes s (with_ack d)
   acked_goes d g = record { shape = g.shape; back = g.back; stops = g.stops; frames = more_given d.frames _ g.frames tt }
@@ -283,13 +231,13 @@ module _ (s : StreamsState) where
     ack = λ d filled may g. acked_goes d g;
     ping = λ d g. record { shape = g.shape; back = g.back; stops = g.stops; frames = more_given d.frames ping g.frames tt };
     drops = λ d kind g. record { shape = g.shape; back = g.back; stops = fewer_stops d.end.streams kind d.end.waiting.frames g.stops; frames = g.frames };
-    control = λ d kind entry es f is due g. (
-        let t = told_goes d kind entry es is g in
+    control = λ d kind f is g. (
+        let t = told_goes d f g in
         record {
           shape = t.0;
           back = t.1;
-          stops = fewer_stops (entry.told d.end.streams) kind d.end.waiting.frames t.2;
-          frames = more_given d.frames f g.frames (given_grows d.end.streams s g.back f (entry_may d.end.streams g.shape kind d.end.waiting.frames entry es f is g.stops due));
+          stops = fewer_stops (frame_told f d.end.streams) kind d.end.waiting.frames t.2;
+          frames = more_given d.frames f g.frames (given_grows d.end.streams s g.back f (goes_given d.end.streams g.shape d.end.waiting.frames g.stops f is.says));
         });
     message = λ d m ms is fit g. record { shape = g.shape; back = g.back; stops = g.stops; frames = more_given d.frames (datagram m) g.frames tt };
     stream = λ d id h room found first some is counts g. record {

@@ -13,11 +13,10 @@ use Rattle.quic_streams_parts.specs.SendHalf.{SendHalf, new_send_half}
 use Rattle.quic_streams_halves.specs.Halves.{Status, unknown, fresh, live, done, half_of, has_place, is_done}
 use Rattle.quic_streams_state.specs.declared.state.StreamsState.{StreamsState}
 use Rattle.quic_streams_state.specs.State.{sending_half, sending_status, receiving_status, done_if, first_limit}
-use Rattle.quic_streams_state.specs.Control.{Entry}
 use Rattle.quic_streams_laws.specs.Each.{StatusIs, EachSends, AreOfHalves}
 use Rattle.quic_streams_laws.specs.EachLaws.{each_kept, said_of, half_follows}
 use Rattle.quic_streams_laws.specs.Keeping.{KeepsWhere, KeepsBy, HasEnded, MayAccept}
-use Rattle.quic_streams_laws.specs.KeepingLaws.{by_open, by_accept, by_write, by_write_chunks, by_finish, by_reset, by_set_priority, by_read_begun, by_next, by_finalize, by_stop, by_received_reset, by_polled, by_stop_sending, by_max_data_where, by_max_stream_data, by_max_streams, by_stream, by_reset_frame, by_stream_lost, by_stream_acked_where, by_reset_acked_where, by_frame, by_limit_told}
+use Rattle.quic_streams_laws.specs.KeepingLaws.{by_open, by_accept, by_write, by_write_chunks, by_finish, by_reset, by_set_priority, by_read_begun, by_next, by_finalize, by_stop, by_received_reset, by_polled, by_stop_sending, by_max_data_where, by_max_stream_data, by_max_streams, by_stream, by_reset_frame, by_stream_lost, by_stream_acked_where, by_reset_acked_where, by_frame}
 use Rattle.quic_streams_laws.specs.Written.{Wrote, Grows, IsOver, IsSendHalf, HoldsWritten, nothing_done}
 use Rattle.quic_streams_laws.specs.WrittenLaws.{half_holds, holds_kept, holds_set_priority, holds_write, holds_write_chunks, holds_finish, holds_reset}
 use Rattle.quic_machine.specs.declared.run.Call.{Call}
@@ -37,7 +36,7 @@ use Rattle.quic_machine.specs.LeaveCases.{by_expired, by_event}
 use Rattle.quic_machine.specs.CallCases.{is_delivery, by_call}
 use Rattle.quic_machine.specs.Machine.{IsAnswer, after_call}
 use Rattle.quic_headline.specs.Runs.{In, written_by, first_of}
-use Rattle.quic_headline.proofs.Packets.Entries.{by_first}
+use Rattle.quic_streams_laws.specs.QuietLaws.{by_told}
 use Rattle.quic_headline.proofs.Halves.Wrote.{adds, or_false, first_none}
 use Rattle.quic_headline.proofs.Halves.Words.{CallWords, call_with}
 use Rattle.quic_headline.proofs.Halves.WordsCalls.{call_on_is}
@@ -130,15 +129,7 @@ module _ (t : StreamsState) where
     ack = λ d filled may j. j;
     ping = λ d j. j;
     drops = λ d kind j. j;
-    control = λ d kind entry es f is due j. by_first d.end.waiting.frames (λ (x : Entry). Heard t (x.told d.end.streams)) (record {
-      resets = λ r among. j;
-      stops = λ r among. j;
-      all_limits = heard_kept.tells d.end.streams j;
-      limits = λ id among. by_limit_told (Heard t) heard_kept d.end.streams id j;
-      counts = λ dir. heard_kept.tells_count d.end.streams dir j;
-      all_blocked = j;
-      blocked = λ id among. j;
-    }) kind entry es is;
+    control = λ d kind f is j. by_told (Heard t) heard_kept f d.end.streams j;
     message = λ d m ms is fit j. j;
     stream = λ d id h room found first some is counts j. by_frame (Heard t) heard_kept d.end.transport.send_fairness d.end.streams id room h found (λ a. a) j;
   }) e i

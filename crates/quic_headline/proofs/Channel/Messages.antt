@@ -35,7 +35,7 @@ use Rattle.quic_machine.specs.Control.{Gated}
 use Rattle.quic_headline.specs.Runs.{In}
 use Rattle.quic_headline.specs.Observer.{Sent}
 use Rattle.quic_headline.proofs.Packets.Growth.{in_more}
-use Rattle.quic_headline.proofs.Packets.Entries.{IsControl, entry_control}
+use Rattle.quic_headline.proofs.Packets.Entries.{IsControl, control_of}
 use Rattle.quic_headline.proofs.Packets.Stays.{placed_call}
 use Rattle.quic_headline.proofs.Places.Told.{in_append}
 use Rattle.quic_headline.proofs.Places.Steps.{poll_answer}
@@ -141,9 +141,9 @@ draft_draws window held e alone i = by_leave (Draws window) (record {
   ack = λ d filled may g. record { waiting = g.waiting; frames = one_more window d.frames (ack (ack_of d.end)) g.frames (λ m is. cc) };
   ping = λ d g. record { waiting = g.waiting; frames = one_more window d.frames ping g.frames (λ m is. cc) };
   drops = λ d kind g. record { waiting = g.waiting; frames = g.frames };
-  control = λ d kind entry es f is due g. record {
+  control = λ d kind f is g. record {
     waiting = g.waiting;
-    frames = one_more window d.frames f g.frames (λ m same. absurd (no_message f m (entry_control kind d.end.waiting.frames entry es d.end.streams f is due) same));
+    frames = one_more window d.frames f g.frames (λ m same. absurd (no_message f m (control_of f kind is.of_kind) same));
   };
   message = λ d m ms is fit g. (
       let all : AreTaken window (m ∷ ms) = subst (AreTaken window) is g.waiting in

@@ -5,6 +5,7 @@ use Rattle.quic_wire.specs.Value.{FrameValue, StopSendingValue, stop_sending}
 use Rattle.quic_streams_parts.specs.RecvHalf.{RecvHalf}
 use Rattle.quic_streams_state.specs.declared.state.StreamsState.{StreamsState}
 use Rattle.quic_streams_state.specs.State.{is_opened, receives_on, receiving_half}
+use Rattle.quic_streams_laws.specs.Giving.{Receives}
 use Rattle.quic_streams_laws.specs.ShapeLaws.{receives_may}
 use Rattle.quic_streams_laws.specs.Written.{HoldsWritten}
 use Rattle.quic_machine.specs.declared.run.Call.{Call}
@@ -26,7 +27,7 @@ use Rattle.quic_headline.proofs.Places.Groups.{Way, Calls, Group}
 use Rattle.quic_headline.proofs.Places.Parties.{sent_by, sent_if, sents_by, Party, called, came_to}
 use Rattle.quic_headline.proofs.Halves.Wrote.{wrote}
 use Rattle.quic_headline.proofs.Halves.QuietSteps.{sent_within}
-use Rattle.quic_headline.proofs.Channel.Given.{Grown, grown_same, call_grows, frames_grow, Receives, receives_grow, Given, given_grows, StopsHold, polled_given}
+use Rattle.quic_headline.proofs.Channel.Given.{Grown, grown_same, call_grows, frames_grow, receives_grow, Given, given_grows, StopsHold, polled_given}
 use Rattle.quic_headline.proofs.Channel.Stops.{StopsOf, from_stops, TrackedStops, call_stops, frame_stops, settles_stops}
 
 -- x gives

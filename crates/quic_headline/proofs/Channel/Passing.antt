@@ -1,13 +1,13 @@
 -- A frame passes at an end that breaks no rule there but that of pieces: by rules of ids and counts, by those of limits and sizes, and by those apart from streams.
 use Rattle.std.proofs.Common.{◌≡◌, ℕ, Bool, true, false, List, [], ◌∷◌, length, ◌==◌, map, Option, Some, None, Ok, Err, refl, sym, ap, ◌∙◌, inl, inr}
 use Rattle.std.specs.Prelude.{if◌then◌else◌}
-use Rattle.quic_wire.specs.Value.{FrameValue, StreamValue, ack, stream, reset_stream, stop_sending, max_data, max_stream_data, max_streams, stream_data_blocked, streams_blocked, new_token, handshake_done, datagram}
+use Rattle.quic_wire.specs.Value.{FrameValue, StreamValue, ack, stream, reset_stream, new_token, handshake_done, datagram}
 use Rattle.quic_streams_parts.specs.declared.answers.Breach.{Breach}
 use Rattle.quic_streams_parts.specs.declared.answers.Breach.TheVariants.{Pieces}
 use Rattle.quic_streams_parts.specs.RecvHalf.{RecvHalf, end_of, after_frame, has_too_many}
 use Rattle.quic_streams_state.specs.declared.state.StreamsState.{StreamsState}
-use Rattle.quic_streams_state.specs.Opening.{receiving_refusal, sending_refusal, max_streams_breach}
-use Rattle.quic_streams_state.specs.Taking.{part_for, breach_at, breach_behind, refusal, too_many_at, breach_kept, reset_breach, stream_data_blocked_breach, streams_blocked_breach}
+use Rattle.quic_streams_state.specs.Opening.{receiving_refusal}
+use Rattle.quic_streams_state.specs.Taking.{part_for, breach_at, breach_behind, refusal, too_many_at, breach_kept, reset_breach, id_rule, broken}
 use Rattle.quic_messages.specs.declared.errors.ReceivedError.TheVariants as received_errors
 use Rattle.quic_messages.specs.Messages.{is_taken}
 use Rattle.quic_machine.specs.declared.answers.State.TheVariants as states
@@ -24,14 +24,7 @@ use Rattle.quic_headline.proofs.Packets.Delivered.{arrived}
 
 -- those of ids and counts: STREAM_STATE_ERROR, STREAM_LIMIT_ERROR and FRAME_ENCODING_ERROR
 abbrev pub IdsPass : StreamsState → FrameValue → Type 0
-IdsPass s (stream f) = receiving_refusal s f.id ≡ None
-IdsPass s (reset_stream f) = receiving_refusal s f.id ≡ None
-IdsPass s (stop_sending f) = sending_refusal s f.id ≡ None
-IdsPass s (max_stream_data f) = sending_refusal s f.id ≡ None
-IdsPass s (max_streams f) = max_streams_breach f.count ≡ None
-IdsPass s (stream_data_blocked f) = stream_data_blocked_breach s f.id ≡ None
-IdsPass s (streams_blocked f) = streams_blocked_breach f.count ≡ None
-IdsPass s f = Unit {0}
+IdsPass s f = broken s (id_rule f) ≡ None
 
 -- those of limits and final sizes: FLOW_CONTROL_ERROR and FINAL_SIZE_ERROR
 abbrev pub SizesPass : StreamsState → FrameValue → Type 0
@@ -74,18 +67,12 @@ pub frame_passes : (f : FrameValue) (e : End) → IdsPass e.streams f → SizesP
 frame_passes (stream f) e ids sizes plain fault is =
     many_only (part_for e.streams f.id) f fault (sym (ap (λ (o : Option Breach). fault_of (breach_kept o e.streams f)) (allowed e.streams f.id (end_of f) f.fin ids sizes)) ∙ is)
 frame_passes (reset_stream f) e ids sizes plain fault is = nothing_broken (reset_breach e.streams f) (allowed e.streams f.id f.final_size true ids sizes) fault is
-frame_passes (stop_sending f) e ids sizes plain fault is = nothing_broken (sending_refusal e.streams f.id) ids fault is
-frame_passes (max_data limit) e ids sizes plain fault is = cc
-frame_passes (max_stream_data f) e ids sizes plain fault is = nothing_broken (sending_refusal e.streams f.id) ids fault is
-frame_passes (max_streams f) e ids sizes plain fault is = nothing_broken (max_streams_breach f.count) ids fault is
-frame_passes (stream_data_blocked f) e ids sizes plain fault is = nothing_broken (stream_data_blocked_breach e.streams f.id) ids fault is
-frame_passes (streams_blocked f) e ids sizes plain fault is = nothing_broken (streams_blocked_breach f.count) ids fault is
 frame_passes (datagram m) e ids sizes plain fault is =
     let clash : None ≡ Some fault = sym (ap (λ (b : Bool). (message_judged (if b then Ok (length e.messages.queues.incoming == 0) else Err received_errors.Breach) m e).fault) plain) ∙ is in cc
 frame_passes (new_token t) e ids sizes plain fault is = let clash : None ≡ Some fault = sym plain ∙ is in cc
 frame_passes handshake_done e ids sizes plain fault is = let clash : None ≡ Some fault = sym plain ∙ is in cc
 frame_passes (ack a) e ids sizes plain fault is = let clash : None ≡ Some fault = sym (ap (λ (b : Bool). (ack_taken b a e).fault) plain) ∙ is in cc
-frame_passes f e ids sizes plain fault is = cc
+frame_passes f e ids sizes plain fault is = nothing_broken (broken e.streams (id_rule f)) ids fault is
 
 -- ---- the frames of a packet
 

@@ -3,7 +3,7 @@ use Rattle.std.proofs.Common.{◌≡◌, ℕ, Bool, true, false, List, [], ◌�
 use Rattle.std.specs.Prelude.{if◌then◌else◌, ◌==◌}
 use Rattle.std.specs.Option.{is_some}
 use Rattle.std.specs.List.{fold}
-use Rattle.quic_wire.specs.Value.{FrameValue, StreamValue, ResetStreamValue, StopSendingValue, stream, reset_stream, stop_sending, max_data, max_stream_data, max_streams, stream_data_blocked, streams_blocked}
+use Rattle.quic_wire.specs.Value.{FrameValue, StreamValue, ResetStreamValue, StopSendingValue, stream, reset_stream, stop_sending, max_data, max_stream_data, max_streams}
 use Rattle.quic_send_buffer.specs.declared.stream_meta.StreamMeta.{StreamMeta}
 use Rattle.quic_streams_parts.specs.declared.answers.Breach.{Breach}
 use Rattle.quic_streams_parts.specs.declared.answers.WriteError.{WriteError}
@@ -20,8 +20,8 @@ use Rattle.quic_streams_state.specs.Limits.{settled, with_stream_if, stream_grew
 use Rattle.quic_streams_state.specs.Writing.{blocked_by_all, blocked_by_own, blocked_at, written_by, after_write, after_write_chunks, reset_at, after_reset, replaced}
 use Rattle.quic_streams_state.specs.Reading.{told_bytes, after_read_begun, after_finalize, stopped_if, with_stop, stopped_at, after_stop, reset_told, received_reset_answer}
 use Rattle.quic_streams_state.specs.Taking.{part_for, refusal, reset_breach, stream_unless, stream_at, after_stream, reset_unless, reset_at as taken_reset, after_reset_frame}
-use Rattle.quic_streams_state.specs.declared.control.ControlKind.{ControlKind}
-use Rattle.quic_streams_state.specs.declared.control.ControlKind.TheVariants.{StopSending}
+use Rattle.quic_retransmits.specs.declared.retransmits.ControlKind.{ControlKind}
+use Rattle.quic_retransmits.specs.declared.retransmits.ControlKind.TheVariants.{StopSending}
 use Rattle.quic_streams_state.specs.Control.{without_first}
 use Rattle.quic_streams_state.specs.Acked.{sent_half, finished, acked_on, acked_at, reset_acked_at}
 use Rattle.quic_machine.specs.declared.run.Call.{Call}
@@ -160,7 +160,7 @@ module _ (Q : ℕ → Type 0) where
     ack = λ d filled may j. j;
     ping = λ d j. j;
     drops = λ d kind j. fewer_stops kind d.end.waiting.frames j;
-    control = λ d kind entry es f is due j. fewer_stops kind d.end.waiting.frames j;
+    control = λ d kind f is j. fewer_stops kind d.end.waiting.frames j;
     message = λ d m ms is fit j. j;
     stream = λ d id h room found first some is counts j. j;
   }) e i
@@ -223,8 +223,6 @@ module _ (Q : ℕ → Type 0) where
   frame_stops (max_data limit) e on i = i
   frame_stops (max_stream_data f) e on i = i
   frame_stops (max_streams f) e on i = i
-  frame_stops (stream_data_blocked f) e on i = i
-  frame_stops (streams_blocked f) e on i = i
   frame_stops f e on i = absurd on
 
   -- what is acknowledged or lost

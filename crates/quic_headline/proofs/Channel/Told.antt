@@ -1,20 +1,16 @@
 -- How far an end told its peer that it may come, on all streams and on each, the peer may come at it, whatever it does later (RFC 9000, sections 4.1, 19.9 and 19.10).
-use Rattle.std.proofs.Common.{◌≡◌, ℕ, zero, suc, ◌+◌, ◌-◌, ◌≤◌, Bool, true, false, List, [], ◌∷◌, ◌++◌, length, replicate, Option, Some, None, refl, sym, ap, subst, inl, inr, arith}
+use Rattle.std.proofs.Common.{◌≡◌, ℕ, zero, suc, ◌+◌, ◌-◌, ◌≤◌, Bool, List, [], ◌∷◌, ◌++◌, length, replicate, Option, Some, sym, ap, subst, inl, inr, arith}
 use Rattle.std.specs.Prelude.{if◌then◌else◌}
-use Rattle.std.specs.Option.{option_map}
 use Rattle.quic_packet.specs.Number.{truncated}
-use Rattle.quic_wire.specs.Value.{FrameValue, padding, ping, stream, datagram, reset_stream, stop_sending, max_data, max_stream_data, max_streams, data_blocked, stream_data_blocked}
-use Rattle.quic_wire.specs.FrameView.{is_one_way}
+use Rattle.quic_wire.specs.Value.{FrameValue, padding, ping, stream, datagram, max_data, max_stream_data}
 use Rattle.quic_streams_parts.specs.Table.{at}
 use Rattle.quic_streams_parts.specs.TableLaws.{at-put}
-use Rattle.quic_streams_parts.specs.SendHalf.{SendHalf, frame_of}
-use Rattle.quic_streams_parts.specs.RecvHalf.{RecvHalf, takes_limits, raised_on}
+use Rattle.quic_streams_parts.specs.SendHalf.{frame_of}
+use Rattle.quic_streams_parts.specs.RecvHalf.{RecvHalf, raised_on}
 use Rattle.quic_streams_halves.specs.Halves.{has_place, changed_at}
+use Rattle.quic_retransmits.specs.Retransmits.{Retransmits}
 use Rattle.quic_streams_state.specs.declared.state.StreamsState.{StreamsState}
-use Rattle.quic_streams_state.specs.declared.control.ControlKind.{ControlKind}
-use Rattle.quic_streams_state.specs.Limits.{raised_data, raised_count, can_send_data_blocked}
-use Rattle.quic_streams_state.specs.Waiting.{stream_data_blocked_limit}
-use Rattle.quic_streams_state.specs.Control.{Entry, reset_frame, reset_entry, limit_frame, limit_entry, count_entry, waiting}
+use Rattle.quic_streams_state.specs.Control.{limit_told, frame_told, Goes}
 use Rattle.quic_streams_laws.specs.Each.{HalfIs}
 use Rattle.quic_streams_laws.specs.ContentLaws.{by_next_answer}
 use Rattle.quic_streams_laws.specs.KeepingLaws.{by_accept, by_read_begun, by_next, by_stop, by_received_reset, by_stream, by_reset_frame, by_frame}
@@ -36,7 +32,6 @@ use Rattle.quic_machine.specs.Control.{Gated}
 use Rattle.quic_headline.specs.Runs.{In, Intake}
 use Rattle.quic_headline.specs.Observer.{Sent}
 use Rattle.quic_headline.proofs.Packets.Growth.{in_more}
-use Rattle.quic_headline.proofs.Packets.Entries.{by_first}
 use Rattle.quic_headline.proofs.Packets.Delivered.{Arrivals}
 use Rattle.quic_headline.proofs.Packets.Group.{meets}
 use Rattle.quic_headline.proofs.Places.Told.{in_append}
@@ -88,24 +83,6 @@ told_stays before s (max_data limit) i is = let more = i.receives.more in omega 
 told_stays before s (max_stream_data f) i is = i.receives.allows f.id f.limit is
 told_stays before s f i is = tt
 
--- the frame of what waits tells no more than what the end holds then
-abbrev TellsSo : Entry → Type 0
-TellsSo e = (s : StreamsState) (f : FrameValue) → e.frame s ≡ Some f → IsTold (e.told s) f
-
-one_is : (s : StreamsState) (g f : FrameValue) → IsTold s g → Some g ≡ Some f → IsTold s f
-one_is s g f is due = let same : g ≡ f = cc in subst (IsTold s) same is
-
-reset_tells : (r : ℕ × ℕ) → TellsSo (reset_entry r)
-reset_tells r s f = go (at s.sending.halves.live r.0)
-  where
-    sized : (o : Option ℕ) → option_map (λ size. reset_stream (record { id = r.0; code = r.1; final_size = size })) o ≡ Some f → IsTold s f
-    sized None due = cc
-    sized (Some size) due = one_is s (reset_stream (record { id = r.0; code = r.1; final_size = size })) f tt due
-
-    go : (o : Option SendHalf) → reset_frame r o ≡ Some f → IsTold s f
-    go None due = cc
-    go (Some h) due = sized h.reset due
-
 -- a half whose limit is told, and the streams with it
 abbrev raised_half : ℕ → RecvHalf → RecvHalf
 raised_half window h = record h { announced = raised_on window h }
@@ -113,41 +90,20 @@ raised_half window h = record h { announced = raised_on window h }
 abbrev with_raised : StreamsState → ℕ → Option RecvHalf → StreamsState
 with_raised s id o = record s { receiving = record s.receiving { halves = record s.receiving.halves { live = changed_at o (raised_half s.receiving.stream_window) s.receiving.halves.live id } } }
 
-limit_tells : (id : ℕ) → TellsSo (limit_entry id)
-limit_tells id s f = go (at s.receiving.halves.live id) refl
+limit_tells : (s : StreamsState) (id : ℕ) (h : RecvHalf) → at s.receiving.halves.live id ≡ Some h → Allows (record s { receiving = limit_told s.receiving id }) id (raised_on s.receiving.stream_window h)
+limit_tells s id h is = subst (λ o. Allows (with_raised s id o) id (raised_on s.receiving.stream_window h)) (sym is) there
   where
-    here : (h : RecvHalf) → at s.receiving.halves.live id ≡ Some h → Allows (with_raised s id (Some h)) id (raised_on s.receiving.stream_window h)
-    here h is =
+    there : Allows (with_raised s id (Some h)) id (raised_on s.receiving.stream_window h)
+    there =
         let n : ℕ = raised_on s.receiving.stream_window h in
         let enough : n ≤ (raised_half s.receiving.stream_window h).announced = omega arith in
         subst (λ o. HalfIs (n ≤ s.receiving.stream_window) (λ (x : RecvHalf). n ≤ x.announced) (Unit {0}) o (has_place s.side s.receiving.halves.places id)) (sym (at-put s.receiving.halves.live id h (raised_half s.receiving.stream_window h) is)) enough
 
-    taken : (h : RecvHalf) → at s.receiving.halves.live id ≡ Some h → (b : Bool) → (if b then Some (max_stream_data (record { id = id; limit = raised_on s.receiving.stream_window h })) else None) ≡ Some f → IsTold (with_raised s id (Some h)) f
-    taken h is true due = one_is (with_raised s id (Some h)) (max_stream_data (record { id = id; limit = raised_on s.receiving.stream_window h })) f (here h is) due
-    taken h is false due = cc
-
-    go : (o : Option RecvHalf) → at s.receiving.halves.live id ≡ o → limit_frame s.receiving.stream_window id o ≡ Some f → IsTold (with_raised s id o) f
-    go None is due = cc
-    go (Some h) is due = taken h is (takes_limits h) due
-
-all_blocked_tells : (s : StreamsState) (f : FrameValue) (b : Bool) → (if b then Some (data_blocked s.sending.limit) else None) ≡ Some f → IsTold s f
-all_blocked_tells s f true due = one_is s (data_blocked s.sending.limit) f tt due
-all_blocked_tells s f false due = cc
-
-blocked_tells : (id : ℕ) (s : StreamsState) (f : FrameValue) (o : Option ℕ) → option_map (λ limit. stream_data_blocked (record { id = id; limit = limit })) o ≡ Some f → IsTold s f
-blocked_tells id s f None due = cc
-blocked_tells id s f (Some limit) due = one_is s (stream_data_blocked (record { id = id; limit = limit })) f tt due
-
-entry_tells : (kind : ControlKind) (e : Entry) (es : List Entry) (d : Draft) → waiting kind d.end.waiting.frames ≡ e ∷ es → TellsSo e
-entry_tells kind e es d is = by_first d.end.waiting.frames TellsSo (record {
-  resets = λ r i. reset_tells r;
-  stops = λ r i s f due. one_is s (stop_sending r) f tt due;
-  all_limits = λ s f due. (let t : StreamsState = record s { receiving = record s.receiving { announced = raised_data s.receiving } } in one_is t (max_data (raised_data s.receiving)) f (omega arith) due);
-  limits = λ id i. limit_tells id;
-  counts = λ dir s f due. one_is ((count_entry dir).told s) (max_streams (record { one_way = is_one_way dir; count = raised_count dir s.opening })) f tt due;
-  all_blocked = λ s f due. all_blocked_tells s f (can_send_data_blocked s) due;
-  blocked = λ id i s f due. blocked_tells id s f (stream_data_blocked_limit s id) due;
-}) kind e es is
+-- a frame that goes tells no more than what the end holds then
+goes_told : (p : Retransmits) (s : StreamsState) (f : FrameValue) → Goes p s f → IsTold (frame_told f s) f
+goes_told p s (max_data limit) goes = omega arith
+goes_told p s (max_stream_data f) goes = subst (Allows (record s { receiving = limit_told s.receiving f.id }) f.id) (sym goes.3) (limit_tells s f.id goes.0 goes.2)
+goes_told p s f goes = tt
 
 -- ---- what an end gives
 
@@ -165,10 +121,10 @@ draft_tells before held e alone i = by_leave (Tells before) (record {
   ack = λ d filled may t. record { stays = t.stays; frames = more_told d.end.streams d.end.streams d.frames _ (stays_self before d.end.streams t.stays) t.frames tt };
   ping = λ d t. record { stays = t.stays; frames = more_told d.end.streams d.end.streams d.frames ping (stays_self before d.end.streams t.stays) t.frames tt };
   drops = λ d kind t. record { stays = t.stays; frames = t.frames };
-  control = λ d kind entry es f is due t. (
+  control = λ d kind f is t. (
       let s : StreamsState = d.end.streams in
-      let on : Stays s (entry.told s) = by_told (Stays s) (stays_kept s) kind d.end.waiting.frames entry es s is (stays_self before s t.stays) in
-      record { stays = stays_then before s (entry.told s) t.stays on; frames = more_told s (entry.told s) d.frames f on t.frames (entry_tells kind entry es d is s f due) });
+      let on : Stays s (frame_told f s) = by_told (Stays s) (stays_kept s) f s (stays_self before s t.stays) in
+      record { stays = stays_then before s (frame_told f s) t.stays on; frames = more_told s (frame_told f s) d.frames f on t.frames (goes_told d.end.waiting.frames s f is.says) });
   message = λ d m ms is fit t. record { stays = t.stays; frames = more_told d.end.streams d.end.streams d.frames (datagram m) (stays_self before d.end.streams t.stays) t.frames tt };
   stream = λ d id h room found first some is counts t. (
       let s : StreamsState = d.end.streams in

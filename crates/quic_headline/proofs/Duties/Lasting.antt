@@ -1,15 +1,13 @@
 -- What holds of the receiving half of a stream by how far it has come, whatever comes, is read or is stopped, lasts; and so it is of
 -- limits: that one was said, and that it matters no more.
-use Rattle.std.proofs.Common.{◌≡◌, ℕ, Bool, true, false, not, ◌||◌, List, ◌∷◌, Option, Some, refl}
+use Rattle.std.proofs.Common.{◌≡◌, ℕ, Bool, true, false, not, ◌||◌, List, Option, Some, refl}
 use Rattle.std.specs.Prelude.{if◌then◌else◌}
 use Rattle.std.specs.Option.{is_some}
 use Rattle.quic_wire.specs.Value.{FrameValue, StreamValue}
 use Rattle.quic_streams_parts.specs.RecvHalf.{RecvHalf, takes_limits, end_of, after_frame, with_offsets_of, with_frame, after_reset_stream, reset_by, begun, read_on, stopped_now}
 use Rattle.quic_streams_halves.specs.Halves.{Status, unknown, fresh, live, done}
-use Rattle.quic_retransmits.specs.Retransmits.{Retransmits}
 use Rattle.quic_streams_state.specs.declared.state.StreamsState.{StreamsState}
-use Rattle.quic_streams_state.specs.declared.control.ControlKind.{ControlKind}
-use Rattle.quic_streams_state.specs.Control.{Entry, waiting}
+use Rattle.quic_streams_state.specs.Control.{frame_told}
 use Rattle.quic_streams_laws.specs.Keeping.{KeepsBy}
 use Rattle.quic_streams_laws.specs.KeepingLaws.{by_accept, by_read_begun, by_next, by_stop, by_received_reset, by_stream, by_reset_frame}
 use Rattle.quic_streams_laws.specs.QuietLaws.{is_quiet, by_told}
@@ -67,8 +65,8 @@ module _ (Q : ℕ → Status RecvHalf → Type 0) (l : Lasts Q) where
       i
 
   -- and once a frame of control went
-  pub told_lasts : (kind : ControlKind) (p : Retransmits) (e : Entry) (es : List Entry) (s : StreamsState) → waiting kind p ≡ e ∷ es → AllReceiving Q s → AllReceiving Q (e.told s)
-  told_lasts kind p e es s is i = by_told P lasting kind p e es s is i
+  pub told_lasts : (f : FrameValue) (s : StreamsState) → AllReceiving Q s → AllReceiving Q (frame_told f s)
+  told_lasts f s i = by_told P lasting f s i
 
 -- ---- limits
 

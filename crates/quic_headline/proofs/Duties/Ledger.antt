@@ -7,7 +7,6 @@ use Rattle.std.specs.Ordering.{nat_cmp}
 use Rattle.std.proofs.lemmas.Bool.{cases_Bool, both_ways, or_left, or_right, or_cases, and_from, not_from_false, or_from, le-leb, lt-ltb, ltb-false}
 use Rattle.std.proofs.lemmas.List.{length-drop}
 use Rattle.quic_wire_core.specs.declared.stream_id.Side.{Side}
-use Rattle.quic_wire_core.specs.declared.stream_id.Dir.TheVariants.{Bi, Uni}
 use Rattle.quic_wire_core.specs.StreamId.{other_side}
 use Rattle.quic_recovery_core.specs.PendingAcks.{can_send}
 use Rattle.quic_send_buffer.specs.Buffered.{is_acknowledged, is_lost, is_unsent, is_in_flight, has_unsent}
@@ -19,12 +18,14 @@ use Rattle.std.specs.BTreeMap.{is_at}
 use Rattle.quic_streams_parts.specs.Queue.{Place, place_cmp, is_any as is_any_queued}
 use Rattle.quic_streams_parts.specs.SendHalf.{SendHalf, has_pending}
 use Rattle.quic_streams_parts.specs.RecvHalf.{RecvHalf, takes_limits}
-use Rattle.quic_retransmits.specs.Retransmits.{Retransmits, has_id}
+use Rattle.quic_retransmits.specs.declared.retransmits.ControlKind.TheVariants.{ResetStream, MaxData, MaxStreamData, MaxStreams}
+use Rattle.quic_retransmits.specs.Retransmits.{Retransmits, has_id, is_any}
 use Rattle.quic_streams_halves.specs.Halves.{status_from, has_place}
 use Rattle.quic_streams_state.specs.declared.state.StreamsState.{StreamsState}
 use Rattle.quic_streams_state.specs.State.{is_opened, sends_on, receives_on}
 use Rattle.quic_streams_state.specs.Limits.{takes_limits_of, can_send_flow_control}
-use Rattle.quic_streams_state.specs.Waiting.{is_any, is_empty, can_send_stream_data}
+use Rattle.quic_streams_state.specs.ControlLaws.{fills}
+use Rattle.quic_streams_state.specs.Waiting.{is_empty, can_send_stream_data}
 use Rattle.quic_streams_laws.specs.Each.{HalfIs}
 use Rattle.quic_streams_laws.specs.Content.{AllReceiving}
 use Rattle.quic_streams_laws.specs.ToldLaws.{first_is}
@@ -77,31 +78,9 @@ half_queued e queued =
     (or_right e.waiting.ping (not (is_empty e.waiting.frames e.streams) || (message_waits e || can_send_stream_data e.streams))
     (or_right (not (is_empty e.waiting.frames e.streams)) (message_waits e || can_send_stream_data e.streams) (or_right (message_waits e) (can_send_stream_data e.streams) queued)))
 
--- one of several is so
-one_of : (a b c d e f g : Bool) → not (not (a || true || b || c || d || e || f || g)) ≡ true
-one_of true b c d e f g = some b c d e f g
-  where
-    some : (b c d e f g : Bool) → not (not (true || b || c || d || e || f || g)) ≡ true
-    some b c d e f g = refl
-one_of false b c d e f g = refl
-
-some_flow : (a b c d e : Bool) → not (not (a || true || b || c || d || e)) ≡ true
-some_flow true b c d e = refl
-some_flow false b c d e = refl
-
-some_count : (a b c d e f g h i : Bool) → not (not (a || (true || b) || c || d || e || f || g || h || i)) ≡ true
-some_count true b c d e f g h i = refl
-some_count false b c d e f g h i = refl
-
-some_other : (a b c d e f g h i : Bool) → not (not (a || (b || true) || c || d || e || f || g || h || i)) ≡ true
-some_other true true c d e f g h i = refl
-some_other true false c d e f g h i = refl
-some_other false true c d e f g h i = refl
-some_other false false c d e f g h i = refl
-
 -- where a reset waits, something does
 not_empty : (p : Retransmits) (s : StreamsState) → is_any p.reset_stream ≡ true → not (is_empty p s) ≡ true
-not_empty p s any = rw any (one_of _ _ _ _ _ _ _)
+not_empty p s any = ap not (fills ResetStream p s any)
 
 any_reset : (id : ℕ) (rs : List (ℕ × ℕ)) → has_reset id rs ≡ true → is_any rs ≡ true
 any_reset id [] is = cc
@@ -115,8 +94,8 @@ reset_queued e id is =
 
 -- a limit that matters, and waits, is something that waits
 limit_any : (what : Limited) (e : End) → Matters e what → limit_waits e.waiting.frames what ≡ true → not (is_empty e.waiting.frames e.streams) ≡ true
-limit_any AllData e matters waits = rw waits refl
-limit_any (StreamData id) e matters waits = rw (listed e.waiting.frames.max_stream_data waits) (some_flow _ _ _ _ _)
+limit_any AllData e matters waits = ap not (fills MaxData e.waiting.frames e.streams waits)
+limit_any (StreamData id) e matters waits = ap not (fills MaxStreamData e.waiting.frames e.streams (listed e.waiting.frames.max_stream_data waits))
   where
     listed : (ids : List ℕ) → has_id id ids ≡ true → list_any (λ q. can_send_flow_control e.streams q) ids ≡ true
     listed [] is = cc
@@ -124,8 +103,7 @@ limit_any (StreamData id) e matters waits = rw (listed e.waiting.frames.max_stre
       | inl here ↦ or_left (can_send_flow_control e.streams q) (list_any (λ j. can_send_flow_control e.streams j) ids) (ap (can_send_flow_control e.streams) (sym (first_is id q here)) ∙ matters)
       | inr more ↦ or_right (can_send_flow_control e.streams q) (list_any (λ j. can_send_flow_control e.streams j) ids) (listed ids more)
     ]
-limit_any (StreamCount Bi) e matters waits = rw waits (some_count _ e.waiting.frames.max_stream_id.uni _ _ _ _ _ _ _)
-limit_any (StreamCount Uni) e matters waits = rw waits (some_other _ _ _ _ _ _ _ _ _)
+limit_any (StreamCount dir) e matters waits = ap not (fills (MaxStreams dir) e.waiting.frames e.streams waits)
 
 limit_queued : (e : End) (what : Limited) → Matters e what → limit_waits e.waiting.frames what ≡ true → waits e ≡ true
 limit_queued e what matters waits =

@@ -6,7 +6,7 @@ use Rattle.std.specs.Ordering.{nat_cmp}
 use Rattle.std.specs.BTreeMap.{is_at}
 use Rattle.std.proofs.lemmas.Bool.{or_left, or_right}
 use Rattle.quic_wire_core.specs.declared.stream_id.Dir.TheVariants.{Bi, Uni}
-use Rattle.quic_wire.specs.Value.{FrameValue, AckValue, ack, stream, reset_stream, stop_sending, max_data, max_stream_data, max_streams, stream_data_blocked, streams_blocked}
+use Rattle.quic_wire.specs.Value.{FrameValue, AckValue, ack, stream, reset_stream, stop_sending, max_data, max_stream_data, max_streams}
 use Rattle.quic_send_buffer.specs.declared.stream_meta.StreamMeta.{StreamMeta}
 use Rattle.quic_streams_parts.specs.Table.{Table}
 use Rattle.quic_streams_parts.specs.TableLaws.{nat_cmp-same}
@@ -288,8 +288,6 @@ module _ (took : List Packet) (own : List Sent) (what : Limited) (value : ℕ) (
   frame_tracks (max_data limit) e on = refl
   frame_tracks (max_stream_data f) e on = refl
   frame_tracks (max_streams f) e on = refl
-  frame_tracks (stream_data_blocked f) e on = refl
-  frame_tracks (streams_blocked f) e on = refl
   frame_tracks f e on = absurd on
 
   -- any frame

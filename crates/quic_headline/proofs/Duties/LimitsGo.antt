@@ -1,27 +1,28 @@
 -- What a poll makes of limits that were said: one that waits goes, no less than it was said before; and each that goes is under way.
 use Rattle.std.proofs.Common.{◌≡◌, ℕ, zero, suc, ◌+◌, ◌-◌, ◌≤◌, Bool, true, false, List, [], ◌∷◌, ◌++◌, length, replicate, Option, Some, None, refl, sym, ap, ◌∙◌, subst, ◌⊎◌, inl, inr, arith}
 use Rattle.std.specs.Prelude.{map, if◌then◌else◌, ◌&&◌}
-use Rattle.std.specs.Option.{option_map}
 use Rattle.std.specs.Ordering.{nat_cmp}
 use Rattle.std.specs.BTreeMap.{is_at}
 use Rattle.std.proofs.lemmas.Bool.{or_parts, or_cases, cases_eq}
+use Rattle.quic_wire_core.specs.declared.stream_id.Dir.{Dir}
 use Rattle.quic_wire_core.specs.declared.stream_id.Dir.TheVariants.{Bi, Uni}
 use Rattle.quic_packet.specs.Number.{truncated}
-use Rattle.quic_wire.specs.Value.{FrameValue, padding, ack, ping, stream, reset_stream, max_data, max_stream_data, max_streams, data_blocked, stream_data_blocked, asks, datagram}
+use Rattle.quic_wire.specs.Value.{FrameValue, padding, ack, ping, stream, max_data, max_stream_data, max_streams, asks, datagram}
+use Rattle.quic_wire.specs.FrameView.{is_one_way}
 use Rattle.quic_streams_parts.specs.Table.{Table, at, put}
-use Rattle.quic_streams_parts.specs.Dirs.{of}
+use Rattle.quic_streams_parts.specs.Dirs.{Flags, of, with_of}
 use Rattle.quic_streams_parts.specs.SendHalf.{SendHalf, frame_of}
 use Rattle.quic_streams_parts.specs.RecvHalf.{RecvHalf, takes_limits, raised_on}
 use Rattle.quic_streams_halves.specs.Halves.{status_from, has_place}
 use Rattle.quic_retransmits.specs.Retransmits.{Retransmits, nothing_waits, has_id, others_of}
 use Rattle.quic_streams_state.specs.declared.state.StreamsState.{StreamsState}
-use Rattle.quic_streams_state.specs.declared.control.ControlKind.{ControlKind}
-use Rattle.quic_streams_state.specs.declared.control.ControlKind.TheVariants.{MaxData, MaxStreamData, MaxStreams}
-use Rattle.quic_streams_state.specs.State.{is_opened, receives_on, Streams}
-use Rattle.quic_streams_state.specs.Limits.{raised_data, raised_count, can_send_data_blocked}
-use Rattle.quic_streams_state.specs.Waiting.{stream_data_blocked_limit}
+use Rattle.quic_retransmits.specs.declared.retransmits.ControlKind.{ControlKind}
+use Rattle.quic_retransmits.specs.declared.retransmits.ControlKind.TheVariants.{MaxData, MaxStreamData, MaxStreams}
+use Rattle.quic_streams_state.specs.State.{Opening, is_opened, receives_on, Streams}
+use Rattle.quic_streams_state.specs.Limits.{raised_data, raised_count}
 use Rattle.quic_streams_state.specs.Control.{Entry, limit_entry, data_entry, count_entry, waiting, without_first}
 use Rattle.quic_streams_state.specs.Control as control
+use Rattle.quic_streams_laws.specs.KindLaws.{first_others, flag_first, without_of}
 use Rattle.quic_streams_laws.specs.ControlWalk.{by_control}
 use Rattle.quic_streams_laws.specs.Content.{AllReceiving}
 use Rattle.quic_streams_laws.specs.KeepingLaws.{by_frame}
@@ -51,7 +52,6 @@ use Rattle.quic_machine.specs.Machine.{IsAnswer, after_call, gave}
 use Rattle.quic_headline.specs.Runs.{Packet, In}
 use Rattle.quic_headline.specs.Observer.{Sent}
 use Rattle.quic_headline.specs.Duties.{Limited, AllData, StreamData, StreamCount, limit_frame, limit_waits, AnyIn, LimitHasArrived}
-use Rattle.quic_headline.proofs.Packets.Entries.{flag_first, by_first}
 use Rattle.quic_headline.proofs.Packets.Growth.{in_more}
 use Rattle.quic_headline.proofs.Packets.Ascending.{Ascends}
 use Rattle.quic_headline.proofs.Packets.Probes.{by_ready, ready_state, draft_streams, MayLeave, by_going}
@@ -113,8 +113,8 @@ none_takes window id o h none is = go (takes_limits h) refl (sym (ap (control.li
 -- a limit that is no longer due is one of a stream that takes none any more
 dropped : (what : Limited) (kind : ControlKind) (c : control.Draft) (e : Entry) (es : List Entry) → waiting kind c.pending ≡ e ∷ es → e.frame c.state ≡ None → AllReceiving (Knows what) c.state → limit_waits c.pending what ≡ true
     → (limit_waits (without_first kind c.pending) what ≡ true) ⊎ AllReceiving (Ends what) c.state
-dropped AllData MaxData c e es is none knows waits = absurd (flag_first (λ (x : Entry). x.frame c.state ≡ None → ⊥) c.pending.max_data data_entry e es is (λ no. cc) none)
-dropped (StreamCount d) (MaxStreams dir) c e es is none knows waits = absurd (flag_first (λ (x : Entry). x.frame c.state ≡ None → ⊥) (of dir c.pending.max_stream_id) (count_entry dir) e es is (λ no. cc) none)
+dropped AllData MaxData c e es is none knows waits = let no : Some (max_data (raised_data c.state.receiving)) ≡ None = ap (λ (x : Entry). x.frame c.state) (flag_first c.pending.max_data data_entry e es is) ∙ none in cc
+dropped (StreamCount d) (MaxStreams dir) c e es is none knows waits = let no : Some (max_streams (record { one_way = is_one_way dir; count = raised_count dir c.state.opening })) ≡ None = ap (λ (x : Entry). x.frame c.state) (flag_first (of dir c.pending.max_stream_id) (count_entry dir) e es is) ∙ none in cc
 dropped (StreamData id) MaxStreamData c e es is none knows waits = go c.pending.max_stream_data refl is
   where
     go : (ids : List ℕ) → c.pending.max_stream_data ≡ ids → map limit_entry ids ≡ e ∷ es → (has_id id (others_of c.pending.max_stream_data) ≡ true) ⊎ AllReceiving (Ends (StreamData id)) c.state
@@ -145,40 +145,27 @@ reaches (StreamData id) value s t told may stays grows = λ h is.
 reaches (StreamCount Bi) value s t told may stays grows = let more = grows.3 Bi in omega arith
 reaches (StreamCount Uni) value s t told may stays grows = let more = grows.3 Uni in omega arith
 
+-- a count goes, or one of the other streams
+count_sent : (dir : Dir) (one_way : Bool) (count value : ℕ) (o : Opening) (flags : Flags) → count ≡ raised_count (control.dir_named one_way) o → value ≤ raised_count dir o → of dir flags ≡ true
+    → (of dir (with_of (control.dir_named one_way) false flags) ≡ true) ⊎ SaysFrom (max_streams (record { one_way = one_way; count = count }) ∷ []) (StreamCount dir) value
+count_sent Bi false count value o flags is reach waits = inr (record { limit = count; said = inl refl; enough = subst (λ n. value ≤ n) (sym is) reach })
+count_sent Uni true count value o flags is reach waits = inr (record { limit = count; said = inl refl; enough = subst (λ n. value ≤ n) (sym is) reach })
+count_sent Bi true count value o flags is reach waits = inl waits
+count_sent Uni false count value o flags is reach waits = inl waits
+
 -- a limit that is due goes, no less than before
-sent : (what : Limited) (kind : ControlKind) (c : control.Draft) (e : Entry) (es : List Entry) (f : FrameValue) (value : ℕ) → waiting kind c.pending ≡ e ∷ es → e.frame c.state ≡ Some f → Reaches what value c.state → limit_waits c.pending what ≡ true
-    → (limit_waits (without_first kind c.pending) what ≡ true) ⊎ SaysFrom (f ∷ []) what value
-sent AllData MaxData c e es f value is due reach waits =
-    let same : max_data (raised_data c.state.receiving) ≡ f = flag_first (λ (x : Entry). x.frame c.state ≡ Some f → max_data (raised_data c.state.receiving) ≡ f) c.pending.max_data data_entry e es is (λ is. cc) due in
-    inr (record { limit = raised_data c.state.receiving; said = inl same; enough = reach })
-sent (StreamData id) MaxStreamData c e es f value is due reach waits = go c.pending.max_stream_data refl is
-  where
-    taken : (h : RecvHalf) → at c.state.receiving.halves.live id ≡ Some h → (b : Bool) → (if b then Some (max_stream_data (record { id = id; limit = raised_on c.state.receiving.stream_window h })) else None) ≡ Some f → SaysFrom (f ∷ []) (StreamData id) value
-    taken h is true frame = let same : max_stream_data (record { id = id; limit = raised_on c.state.receiving.stream_window h }) ≡ f = cc in record { limit = raised_on c.state.receiving.stream_window h; said = inl same; enough = reach h is }
-    taken h is false frame = cc
-
-    half : (o : Option RecvHalf) → at c.state.receiving.halves.live id ≡ o → control.limit_frame c.state.receiving.stream_window id o ≡ Some f → SaysFrom (f ∷ []) (StreamData id) value
-    half None is frame = cc
-    half (Some h) is frame = taken h is (takes_limits h) frame
-
-    go : (ids : List ℕ) → c.pending.max_stream_data ≡ ids → map limit_entry ids ≡ e ∷ es → (has_id id (others_of c.pending.max_stream_data) ≡ true) ⊎ SaysFrom (f ∷ []) (StreamData id) value
-    go [] here is = cc
-    go (x ∷ xs) here is =
-        let entry : limit_entry x ≡ e = cc in
-        let frame : control.limit_frame c.state.receiving.stream_window x (at c.state.receiving.halves.live x) ≡ Some f = ap (λ (y : Entry). y.frame c.state) entry ∙ due in
-        elim (cases_eq id x) [
-          | inl same ↦ inr (half (at c.state.receiving.halves.live id) refl (subst (λ q. control.limit_frame c.state.receiving.stream_window q (at c.state.receiving.halves.live q) ≡ Some f) (sym same) frame))
-          | inr ne ↦ inl (subst (λ l. has_id id (others_of l) ≡ true) (sym here) (others_have id x xs ne (subst (λ l. has_id id l ≡ true) here waits)))
-        ]
-sent (StreamCount Bi) (MaxStreams Bi) c e es f value is due reach waits =
-    let same : max_streams (record { one_way = false; count = raised_count Bi c.state.opening }) ≡ f = flag_first (λ (x : Entry). x.frame c.state ≡ Some f → max_streams (record { one_way = false; count = raised_count Bi c.state.opening }) ≡ f) c.pending.max_stream_id.bi (count_entry Bi) e es is (λ is. cc) due in
-    inr (record { limit = raised_count Bi c.state.opening; said = inl same; enough = reach })
-sent (StreamCount Uni) (MaxStreams Uni) c e es f value is due reach waits =
-    let same : max_streams (record { one_way = true; count = raised_count Uni c.state.opening }) ≡ f = flag_first (λ (x : Entry). x.frame c.state ≡ Some f → max_streams (record { one_way = true; count = raised_count Uni c.state.opening }) ≡ f) c.pending.max_stream_id.uni (count_entry Uni) e es is (λ is. cc) due in
-    inr (record { limit = raised_count Uni c.state.opening; said = inl same; enough = reach })
-sent (StreamCount Bi) (MaxStreams Uni) c e es f value is due reach waits = inl waits
-sent (StreamCount Uni) (MaxStreams Bi) c e es f value is due reach waits = inl waits
-sent what kind c e es f value is due reach waits = inl waits
+sent : (what : Limited) (c : control.Draft) (f : FrameValue) (value : ℕ) → control.Goes c.pending c.state f → Reaches what value c.state → limit_waits c.pending what ≡ true → (limit_waits (without_of (control.kind_of f) c.pending) what ≡ true) ⊎ SaysFrom (f ∷ []) what value
+sent AllData c (max_data limit) value goes reach waits = inr (record { limit = limit; said = inl refl; enough = subst (λ n. value ≤ n) (sym goes) reach })
+sent (StreamData id) c (max_stream_data f) value goes reach waits = elim (cases_eq id f.id) [
+  | inl same ↦ inr (record {
+    limit = f.limit;
+    said = inl (ap (λ n. max_stream_data (record { id = n; limit = f.limit })) same);
+    enough = subst (λ n. value ≤ n) (sym goes.3) (reach goes.0 (ap (at c.state.receiving.halves.live) same ∙ goes.2));
+  })
+  | inr ne ↦ inl (others_have id f.id (others_of c.pending.max_stream_data) ne (subst (λ l. has_id id l ≡ true) (first_others c.pending.max_stream_data f.id goes.1) waits))
+]
+sent (StreamCount dir) c (max_streams f) value goes reach waits = count_sent dir f.one_way f.count value c.state.opening c.pending.max_stream_id goes reach waits
+sent what c f value goes reach waits = inl waits
 
 module _ (s : StreamsState) (p : Retransmits) (what : Limited) (value : ℕ) (told : IsTold s (limit_frame what value)) (may : Given s (limit_frame what value)) where
   -- frames of control went: a limit that waited waits still, matters no more, or went
@@ -199,13 +186,16 @@ module _ (s : StreamsState) (p : Retransmits) (what : Limited) (value : ℕ) (to
         | inr more ↦ inr more
       ];
     };
-    sends = λ c kind e es f is due room m. record {
-      stays = by_told (Stays s) (stays_kept s) kind c.pending e es c.state is m.stays;
-      grows = by_told (Grown s) (given.grown_kept s) kind c.pending e es c.state is m.grows;
-      knows = told_lasts (Knows what) (knows_lasts what) kind c.pending e es c.state is m.knows;
+    sends = λ c kind f is room m. record {
+      stays = by_told (Stays s) (stays_kept s) f c.state m.stays;
+      grows = by_told (Grown s) (given.grown_kept s) f c.state m.grows;
+      knows = told_lasts (Knows what) (knows_lasts what) f c.state m.knows;
       moves = λ was. elim (m.moves was) [
-        | inl waits ↦ elim (sent what kind c e es f value is due (reaches what value s c.state told may m.stays m.grows) waits) [ inl still ↦ inl still | inr goes ↦ inr (inr (says_right what value c.frames (f ∷ []) goes)) ]
-        | inr more ↦ elim more [ inl ends ↦ inr (inl (told_lasts (Ends what) (ends_lasts what) kind c.pending e es c.state is ends)) | inr said ↦ inr (inr (says_left what value c.frames (f ∷ []) said)) ]
+        | inl waits ↦ elim (subst (λ (o : Option ControlKind). (limit_waits (without_of o c.pending) what ≡ true) ⊎ SaysFrom (f ∷ []) what value) is.of_kind (sent what c f value is.says (reaches what value s c.state told may m.stays m.grows) waits)) [
+          | inl still ↦ inl still
+          | inr goes ↦ inr (inr (says_right what value c.frames (f ∷ []) goes))
+        ]
+        | inr more ↦ elim more [ inl ends ↦ inr (inl (told_lasts (Ends what) (ends_lasts what) f c.state ends)) | inr said ↦ inr (inr (says_left what value c.frames (f ∷ []) said)) ]
       ];
     };
   }) (control.no_frames used s p nothing_waits) (record { stays = here; grows = grown_same s; knows = known; moves = λ was. inl was })
@@ -273,51 +263,7 @@ module _ (e : End) (what : Limited) (value : ℕ) (told : IsTold e.streams (limi
 
 -- ---- what goes is said of a half in use
 
--- the stream of a MAX_STREAM_DATA frame
-abbrev stream_of : FrameValue → ℕ
-stream_of (max_stream_data f) = f.id
-stream_of f = 0
-
--- MAX_STREAM_DATA is due of a half in use
-due_live : (s : StreamsState) (id limit : ℕ) (kind : ControlKind) (p : Retransmits) (e : Entry) (es : List Entry) → waiting kind p ≡ e ∷ es → e.frame s ≡ Some (max_stream_data (record { id = id; limit = limit })) → (h : RecvHalf) × (at s.receiving.halves.live id ≡ Some h)
-due_live s id limit kind p e es is due = by_first p (λ (x : Entry). x.frame s ≡ Some f → (h : RecvHalf) × (at s.receiving.halves.live id ≡ Some h)) (record {
-  resets = λ r i due. absurd (no_reset r (at s.sending.halves.live r.0) due);
-  stops = λ r i due. cc;
-  all_limits = λ due. cc;
-  limits = λ x i due. half x (at s.receiving.halves.live x) refl due;
-  counts = λ dir due. cc;
-  all_blocked = λ due. absurd (no_blocked (can_send_data_blocked s) due);
-  blocked = λ x i due. absurd (no_limit x (stream_data_blocked_limit s x) due);
-}) kind e es is due
-  where
-    f : FrameValue
-    f = max_stream_data (record { id = id; limit = limit })
-
-    no_size : (r : ℕ × ℕ) (o : Option ℕ) → option_map (λ size. reset_stream (record { id = r.0; code = r.1; final_size = size })) o ≡ Some f → ⊥
-    no_size r None due = cc
-    no_size r (Some size) due = cc
-
-    no_reset : (r : ℕ × ℕ) (o : Option SendHalf) → control.reset_frame r o ≡ Some f → ⊥
-    no_reset r None due = cc
-    no_reset r (Some h) due = no_size r h.reset due
-
-    no_blocked : (b : Bool) → (if b then Some (data_blocked s.sending.limit) else None) ≡ Some f → ⊥
-    no_blocked true due = cc
-    no_blocked false due = cc
-
-    no_limit : (x : ℕ) (o : Option ℕ) → option_map (λ limit. stream_data_blocked (record { id = x; limit = limit })) o ≡ Some f → ⊥
-    no_limit x None due = cc
-    no_limit x (Some limit) due = cc
-
-    taken : (x : ℕ) (h : RecvHalf) (b : Bool) → (if b then Some (max_stream_data (record { id = x; limit = raised_on s.receiving.stream_window h })) else None) ≡ Some f → x ≡ id
-    taken x h true due = let same : max_stream_data (record { id = x; limit = raised_on s.receiving.stream_window h }) ≡ f = cc in ap stream_of same
-    taken x h false due = cc
-
-    half : (x : ℕ) (o : Option RecvHalf) → at s.receiving.halves.live x ≡ o → control.limit_frame s.receiving.stream_window x o ≡ Some f → (h : RecvHalf) × (at s.receiving.halves.live id ≡ Some h)
-    half x None is due = cc
-    half x (Some h) is due = (h, ap (at s.receiving.halves.live) (sym (taken x h (takes_limits h) due)) ∙ is)
-
--- so it is of each frame of a draft
+-- a limit of a stream is said in a draft only where the stream's half was in use
 record Sees (d : Draft) : Type 0 where
   shape : IsShaped d.end.streams
   frames : (id limit : ℕ) → In (limit_frame (StreamData id) limit) d.frames → AllReceiving (Knows (StreamData id)) d.end.streams
@@ -327,11 +273,11 @@ draft_sees held e alone shape = by_leave Sees (record {
   ack = λ d filled may b. record { shape = b.shape; frames = λ id limit i. elim (in_more (limit_frame (StreamData id) limit) (ack (ack_of d.end)) d.frames i) [ inl old ↦ b.frames id limit old | inr new ↦ cc ] };
   ping = λ d b. record { shape = b.shape; frames = λ id limit i. elim (in_more (limit_frame (StreamData id) limit) ping d.frames i) [ inl old ↦ b.frames id limit old | inr new ↦ cc ] };
   drops = λ d kind b. record { shape = b.shape; frames = b.frames };
-  control = λ d kind entry es f is due b. record {
-    shape = by_told IsShaped shape_any kind d.end.waiting.frames entry es d.end.streams is b.shape;
-    frames = λ id limit i. told_lasts (Knows (StreamData id)) (knows_lasts (StreamData id)) kind d.end.waiting.frames entry es d.end.streams is (elim (in_more (limit_frame (StreamData id) limit) f d.frames i) [
+  control = λ d kind f is b. record {
+    shape = by_told IsShaped shape_any f d.end.streams b.shape;
+    frames = λ id limit i. told_lasts (Knows (StreamData id)) (knows_lasts (StreamData id)) f d.end.streams (elim (in_more (limit_frame (StreamData id) limit) f d.frames i) [
       | inl old ↦ b.frames id limit old
-      | inr new ↦ (let live = due_live d.end.streams id limit kind d.end.waiting.frames entry es is (due ∙ ap (λ (g : FrameValue). Some g) (sym new)) in knows_at id d.end.streams live.0 b.shape live.1)
+      | inr new ↦ (let goes = subst (λ (g : FrameValue). control.Goes d.end.waiting.frames d.end.streams g) (sym new) is.says in knows_at id d.end.streams goes.0 b.shape goes.2)
     ]);
   };
   message = λ d m ms waits fit b. record { shape = b.shape; frames = λ id limit i. elim (in_more (limit_frame (StreamData id) limit) (datagram m) d.frames i) [ inl old ↦ b.frames id limit old | inr new ↦ cc ] };

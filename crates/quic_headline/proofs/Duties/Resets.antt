@@ -4,7 +4,7 @@ use Rattle.std.specs.Prelude.{if◌then◌else◌}
 use Rattle.std.specs.Option.{IsSome, is_some, option_map}
 use Rattle.std.proofs.lemmas.Bool.{or_parts, or_cases, or_left, or_right, eqb-true}
 use Rattle.std.proofs.lemmas.List.Folds.{list_any-append}
-use Rattle.quic_wire.specs.Value.{FrameValue, AckValue, ResetStreamValue, ack, stream, reset_stream, stop_sending, max_data, max_stream_data, max_streams, stream_data_blocked, streams_blocked, asks, datagram}
+use Rattle.quic_wire.specs.Value.{FrameValue, AckValue, ResetStreamValue, ack, stream, reset_stream, stop_sending, max_data, max_stream_data, max_streams, asks, datagram}
 use Rattle.quic_send_buffer.specs.declared.stream_meta.StreamMeta.{StreamMeta}
 use Rattle.quic_streams_parts.specs.declared.answers.UpdateError.{UpdateError}
 use Rattle.quic_streams_parts.specs.declared.answers.UpdateError.TheVariants as update_errors
@@ -12,14 +12,15 @@ use Rattle.quic_streams_parts.specs.Table.{Table, at}
 use Rattle.quic_streams_parts.specs.SendHalf.{SendHalf, frame_of}
 use Rattle.quic_retransmits.specs.Retransmits.{Retransmits, nothing_waits}
 use Rattle.quic_streams_state.specs.declared.state.StreamsState.{StreamsState}
-use Rattle.quic_streams_state.specs.declared.control.ControlKind.{ControlKind}
-use Rattle.quic_streams_state.specs.declared.control.ControlKind.TheVariants.{ResetStream}
+use Rattle.quic_retransmits.specs.declared.retransmits.ControlKind.{ControlKind}
+use Rattle.quic_retransmits.specs.declared.retransmits.ControlKind.TheVariants.{ResetStream}
 use Rattle.quic_streams_state.specs.State.{Streams, Sending, streams_of, sending_half}
 use Rattle.quic_streams_state.specs.Sends.{reset_half}
 use Rattle.quic_streams_state.specs.Writing.{after_reset, reset_at, is_reset_at, after_set_priority}
 use Rattle.quic_streams_state.specs.Reading.{told_bytes, after_read_begun, after_stop}
 use Rattle.quic_streams_state.specs.Control.{Entry, reset_frame, reset_entry, waiting, without_first, first_dropped, control_frames}
 use Rattle.quic_streams_state.specs.Control as control
+use Rattle.quic_streams_laws.specs.QuietLaws.{told_sending}
 use Rattle.quic_streams_laws.specs.ControlWalk.{by_control}
 use Rattle.quic_recovery_core.specs.PendingAcks.{can_send}
 use Rattle.quic_machine.specs.declared.run.Call.{Call}
@@ -55,7 +56,7 @@ use Rattle.quic_headline.proofs.Packets.MayGo.{WasReset, AreReady}
 use Rattle.quic_headline.proofs.Packets.Named.{NamesTaken, Stands, WasCarried, named_carried, by_frame, frame_fewer}
 use Rattle.quic_headline.proofs.Places.Told.{in_right}
 use Rattle.quic_headline.proofs.Halves.Waiting.{write_same, write_chunks_same, stop_same, finalize_same, received_reset_same, stream_same, reset_same, stream_acked_same, reset_acked_same}
-use Rattle.quic_headline.proofs.Halves.Pile.{resets_of, entry_moves, entry_leaves}
+use Rattle.quic_headline.proofs.Halves.Pile.{resets_of, goes_moves}
 use Rattle.quic_headline.proofs.Halves.PilePolls.{resets_more}
 use Rattle.quic_headline.proofs.Duties.Carrier.{any_either, any_member, any_put, any_sent, IsNew, ready_new}
 use Rattle.quic_headline.proofs.Duties.Tail.{AskBefore, Quiet, tail_quiet, ready_before}
@@ -206,8 +207,6 @@ module _ (took : List Packet) (id : ℕ) where
   frame_waits (max_data limit) e on i = i
   frame_waits (max_stream_data f) e on i = i
   frame_waits (max_streams f) e on i = i
-  frame_waits (stream_data_blocked f) e on i = i
-  frame_waits (streams_blocked f) e on i = i
   frame_waits f e on i = absurd on
 
   -- ---- a delivery
@@ -279,10 +278,10 @@ module _ (s : StreamsState) (p : Retransmits) (ready : AreReady s.sending.halves
   control_moved : (most used : ℕ) → Moved (control_frames most used s p nothing_waits)
   control_moved most used = by_control most Moved (record {
     drops = drop_moved;
-    sends = λ c kind e es f is due room m. (
-        let step = entry_moves kind c.pending e es c.state f is due in
+    sends = λ c kind f is room m. (
+        let step = goes_moves kind c.pending c.state f is in
         record {
-          same = entry_leaves kind c.pending e es c.state is ∙ m.same;
+          same = told_sending f c.state ∙ m.same;
           waited = λ r i. m.waited r (rw step.resets (in_right r (resets_in (f ∷ [])) (without_first kind c.pending).reset_stream i));
           moves = λ was. elim (m.moves was) [
             | inl waits ↦ elim (has_parts id (resets_in (f ∷ [])) (without_first kind c.pending).reset_stream (ap (has_reset id) (sym step.resets) ∙ waits)) [

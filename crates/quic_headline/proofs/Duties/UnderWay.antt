@@ -1,7 +1,7 @@
 -- What of an end's streams is in flight stands in a packet that it tracks: each call keeps that.
 use Rattle.std.proofs.Common.{◌≡◌, ℕ, Bool, true, false, not, List, [], ◌∷◌, ◌++◌, Option, Some, None, refl, sym, ap, ◌∙◌, subst, ◌⊎◌, inl, inr}
 use Rattle.std.proofs.lemmas.Bool.{or_parts}
-use Rattle.quic_wire.specs.Value.{FrameValue, AckValue, ack, ping, stream, reset_stream, stop_sending, max_data, max_stream_data, max_streams, stream_data_blocked, streams_blocked, asks, datagram}
+use Rattle.quic_wire.specs.Value.{FrameValue, AckValue, ack, ping, stream, reset_stream, stop_sending, max_data, max_stream_data, max_streams, asks, datagram}
 use Rattle.quic_send_buffer.specs.declared.stream_meta.StreamMeta.{StreamMeta}
 use Rattle.quic_streams_parts.specs.Table.{Table, at, put}
 use Rattle.quic_streams_parts.specs.SendHalf.{SendHalf, frame_of, meta_of, half_after}
@@ -170,8 +170,6 @@ module _ (done : ℕ → Wrote) where
   frame_stands F (max_stream_data f) e on small i =
       by_max_stream_data (AllFly F done) (fly_kept F done) e.streams f.id f.limit (λ h is above x. (limited_holds (done f.id) h x.0 f.limit above small, record { offsets = x.1.offsets; fin = x.1.fin })) i
   frame_stands F (max_streams f) e on small i = by_max_streams (AllFly F done) (fly_kept F done) (dir_named f.one_way) f.count e.streams i
-  frame_stands F (stream_data_blocked f) e on small i = i
-  frame_stands F (streams_blocked f) e on small i = i
   frame_stands F f e on small i = absurd on
 
   -- a frame on streams leaves what is tracked
@@ -182,8 +180,6 @@ module _ (done : ℕ → Wrote) where
   frame_tracks (max_data limit) e on = refl
   frame_tracks (max_stream_data f) e on = refl
   frame_tracks (max_streams f) e on = refl
-  frame_tracks (stream_data_blocked f) e on = refl
-  frame_tracks (streams_blocked f) e on = refl
   frame_tracks f e on = absurd on
 
   -- ---- a delivery
@@ -263,9 +259,9 @@ module _ (done : ℕ → Wrote) (F : Duty → Type 0) where
     ack = λ d filled may b. more_drafted d (ack (ack_of d.end) ∷ []) d.end.streams b;
     ping = λ d b. more_drafted d (ping ∷ []) d.end.streams b;
     drops = λ d kind b. b;
-    control = λ d kind entry es f is due b. (
+    control = λ d kind f is b. (
         let G : Duty → Type 0 = InDraft F (d.frames ++ f ∷ []) in
-        by_told (AllFly G done) (fly_kept G done) kind d.end.waiting.frames entry es d.end.streams is (more_drafted d (f ∷ []) d.end.streams b));
+        by_told (AllFly G done) (fly_kept G done) f d.end.streams (more_drafted d (f ∷ []) d.end.streams b));
     message = λ d m ms is fit b. more_drafted d (datagram m ∷ []) d.end.streams b;
     stream = λ d id h room found first some is counts b. half_drafted d d.end.transport.send_fairness id room h found b;
   }) held e alone (all_more F (InDraft F []) done e.streams (λ u f. inr f) i)

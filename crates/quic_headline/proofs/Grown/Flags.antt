@@ -7,7 +7,7 @@ use Rattle.std.proofs.lemmas.Bool.{cond_both}
 use Rattle.quic_wire_core.specs.declared.stream_id.Dir.{Dir}
 use Rattle.quic_wire_core.specs.declared.stream_id.Dir.TheVariants.{Bi, Uni}
 use Rattle.quic_wire_core.specs.StreamId.{dir_of, index_of}
-use Rattle.quic_wire.specs.Value.{FrameValue, StreamValue, ResetStreamValue, StopSendingValue, stream, reset_stream, stop_sending, max_data, max_stream_data, max_streams, stream_data_blocked, streams_blocked}
+use Rattle.quic_wire.specs.Value.{FrameValue, StreamValue, ResetStreamValue, StopSendingValue, stream, reset_stream, stop_sending, max_data, max_stream_data, max_streams}
 use Rattle.quic_send_buffer.specs.declared.stream_meta.StreamMeta.{StreamMeta}
 use Rattle.quic_streams_parts.specs.declared.answers.Breach.{Breach}
 use Rattle.quic_streams_parts.specs.declared.answers.WriteError.{WriteError}
@@ -265,6 +265,4 @@ module _ (K : Receiving → Counts → Counts → Counts → Bool → Flags → 
     frame_keeps (max_data limit) e on i = i
     frame_keeps (max_stream_data f) e on i = limit_unless_keeps (sending_refusal e.streams f.id) e.streams e.waiting.frames f.id f.limit i
     frame_keeps (max_streams f) e on i = counts_keep (dir_named f.one_way) f.count e.streams e.waiting.frames i
-    frame_keeps (stream_data_blocked f) e on i = i
-    frame_keeps (streams_blocked f) e on i = i
     frame_keeps f e on i = absurd on

@@ -8,7 +8,8 @@ use Rattle.std.specs.Ordering.{nat_cmp}
 use Rattle.std.proofs.lemmas.Bool.{leb-true, or_cases, cases_eq}
 use Rattle.quic_wire_core.specs.declared.stream_id.Dir.{Dir}
 use Rattle.quic_wire_core.specs.declared.stream_id.Dir.TheVariants.{Bi, Uni}
-use Rattle.quic_wire.specs.Value.{FrameValue, max_stream_data}
+use Rattle.quic_wire.specs.Value.{FrameValue, max_data, max_stream_data, max_streams}
+use Rattle.quic_wire.specs.FrameView.{is_one_way}
 use Rattle.quic_assembler.specs.declared.assembler.Chunk.{Chunk}
 use Rattle.quic_streams_parts.specs.declared.answers.ReadError.{ReadError}
 use Rattle.quic_streams_parts.specs.Table.{at, put}
@@ -17,14 +18,15 @@ use Rattle.quic_streams_parts.specs.RecvHalf.{RecvHalf, least_growth, credit, ra
 use Rattle.quic_streams_halves.specs.Halves.{changed_at, placed}
 use Rattle.quic_retransmits.specs.Retransmits.{Retransmits, nothing_waits, has_id, others_of}
 use Rattle.quic_streams_state.specs.declared.state.StreamsState.{StreamsState}
-use Rattle.quic_streams_state.specs.declared.control.ControlKind.{ControlKind}
-use Rattle.quic_streams_state.specs.declared.control.ControlKind.TheVariants.{ResetStream, StopSending, MaxData, MaxStreamData, MaxStreams, DataBlocked, StreamDataBlocked}
+use Rattle.quic_retransmits.specs.declared.retransmits.ControlKind.{ControlKind}
+use Rattle.quic_retransmits.specs.declared.retransmits.ControlKind.TheVariants.{MaxData, MaxStreamData, MaxStreams}
 use Rattle.quic_streams_state.specs.State.{Streams, Receiving, Opening, streams_of, consumed}
 use Rattle.quic_streams_state.specs.Limits.{most_streams, raised_data, raised_count, data_grew, count_grew, grew_on}
 use Rattle.quic_streams_state.specs.Opening.{announced_count}
 use Rattle.quic_streams_state.specs.Reading.{Told, told_bytes, told_by, after_read_begun, after_next, stop_answer, after_stop}
 use Rattle.quic_streams_state.specs.Control.{Entry, data_told, limit_told, limit_frame, data_entry, limit_entry, count_entry, waiting, without_first}
 use Rattle.quic_streams_state.specs.Control as control
+use Rattle.quic_streams_laws.specs.KindLaws.{GoesFirst, first_others, flag_first, without_of}
 use Rattle.quic_streams_laws.specs.ControlWalk.{by_control}
 use Rattle.quic_streams_laws.specs.Quiet.{IsQuiet, IsSentWithin}
 use Rattle.quic_streams_laws.specs.QuietLaws.{is_quiet}
@@ -51,7 +53,6 @@ use Rattle.quic_machine.specs.FrameCases as cases
 use Rattle.quic_machine.specs.CallCases.{is_delivery, by_call}
 use Rattle.quic_machine.specs.LeaveCases.{by_expired, by_event}
 use Rattle.quic_machine.specs.Machine.{IsAnswer, after_call}
-use Rattle.quic_headline.proofs.Packets.Entries.{flag_first, listed_first}
 use Rattle.quic_headline.proofs.Packets.Probes.{ready_streams, poll_streams}
 use Rattle.quic_headline.proofs.Halves.QuietSteps.{on_streams_quiet, frame_quiet}
 use Rattle.quic_headline.proofs.Grown.Streams.{Grown, grown_more, grown_kept, frame_grows_not, reset_grows_not, told_once}
@@ -222,8 +223,8 @@ Left kind p s = Waits (streams_of s (without_first kind p))
 
 -- what is no longer due is dropped
 drop_waits : (c : control.Draft) (kind : ControlKind) (e : Entry) (es : List Entry) → waiting kind c.pending ≡ e ∷ es → e.frame c.state ≡ None → Waits (streams_of c.state c.pending) → Left kind c.pending c.state
-drop_waits c MaxData e es is none w = absurd (flag_first (λ (x : Entry). x.frame c.state ≡ None → ⊥) c.pending.max_data data_entry e es is (λ no. cc) none)
-drop_waits c (MaxStreams dir) e es is none w = absurd (flag_first (λ (x : Entry). x.frame c.state ≡ None → ⊥) (of dir c.pending.max_stream_id) (count_entry dir) e es is (λ no. cc) none)
+drop_waits c MaxData e es is none w = let no : Some (max_data (raised_data c.state.receiving)) ≡ None = ap (λ (x : Entry). x.frame c.state) (flag_first c.pending.max_data data_entry e es is) ∙ none in cc
+drop_waits c (MaxStreams dir) e es is none w = let no : Some (max_streams (record { one_way = is_one_way dir; count = raised_count dir c.state.opening })) ≡ None = ap (λ (x : Entry). x.frame c.state) (flag_first (of dir c.pending.max_stream_id) (count_entry dir) e es is) ∙ none in cc
 drop_waits c MaxStreamData e es is none w = go c.pending.max_stream_data refl is
   where
     go : (ids : List ℕ) → c.pending.max_stream_data ≡ ids → map limit_entry ids ≡ e ∷ es → Left MaxStreamData c.pending c.state
@@ -248,52 +249,41 @@ count_told Bi Uni o flags was grew = was Uni grew
 count_told Uni Bi o flags was grew = was Bi grew
 count_told Uni Uni o flags was grew = let past = leb-true (raised_count Uni o + least_growth o.configured.uni) (raised_count Uni o) grew in absurd (omega arith)
 
--- what is due goes
-send_waits : (c : control.Draft) (kind : ControlKind) (e : Entry) (es : List Entry) → waiting kind c.pending ≡ e ∷ es → Waits (streams_of c.state c.pending) → Left kind c.pending (e.told c.state)
-send_waits c MaxData e es is w = flag_first (λ (x : Entry). Left MaxData c.pending (x.told c.state)) c.pending.max_data data_entry e es is (record {
-  all = record { bytes = none; counts = w.all.counts };
-  each = (grown_kept (IsListed c.pending.max_stream_data)).tells c.state w.each;
-})
+-- once a frame went: only those that tell a limit change what has to wait
+sends_wait : (c : control.Draft) (f : FrameValue) → control.Goes c.pending c.state f → Waits (streams_of c.state c.pending) → Waits (streams_of (control.frame_told f c.state) (without_of (control.kind_of f) c.pending))
+sends_wait c (max_data limit) goes w = record { all = record { bytes = none; counts = w.all.counts }; each = (grown_kept (IsListed c.pending.max_stream_data)).tells c.state w.each }
   where
     r : Receiving
     r = c.state.receiving
 
     none : data_grew (data_told r) ≡ true → false ≡ true
     none grew = let past = leb-true (raised_data r + least_growth r.window) (raised_data r) grew in absurd (omega arith)
-send_waits c (MaxStreams dir) e es is w = flag_first (λ (x : Entry). Left (MaxStreams dir) c.pending (x.told c.state)) (of dir c.pending.max_stream_id) (count_entry dir) e es is (record {
-  all = record { bytes = w.all.bytes; counts = λ d. count_told dir d c.state.opening c.pending.max_stream_id w.all.counts };
-  each = (grown_kept (IsListed c.pending.max_stream_data)).tells_count c.state dir w.each;
-})
-send_waits c MaxStreamData e es is w = go c.pending.max_stream_data refl is
-  where
-    r : Receiving
-    r = c.state.receiving
+sends_wait c (max_streams f) goes w = record {
+  all = record { bytes = w.all.bytes; counts = λ d. count_told (control.dir_named f.one_way) d c.state.opening c.pending.max_stream_id w.all.counts };
+  each = (grown_kept (IsListed c.pending.max_stream_data)).tells_count c.state (control.dir_named f.one_way) w.each;
+}
+sends_wait c (max_stream_data f) goes w =
+    let r : Receiving = c.state.receiving in
+    let ids : List ℕ = c.pending.max_stream_data in
+    let same : consumed (limit_told r f.id) ≡ consumed r = told_consumed c.state f.id (IsListed ids) w.each in
+    record {
+      all = record {
+        bytes = λ grew. w.all.bytes (sym (ap (λ n. nat_le (r.announced + least_growth r.window) (min (r.window + n) (2 ^ 62 - 1))) same) ∙ grew);
+        counts = w.all.counts;
+      };
+      each = told_once (IsListed ids) (IsListed (others_of ids)) c.state f.id (λ j ne listed. others_listed f.id (others_of ids) j ne (subst (λ l. IsListed l j) (first_others ids f.id goes.1) listed)) w.each;
+    }
+sends_wait c f goes w = record { all = record { bytes = w.all.bytes; counts = w.all.counts }; each = w.each }
 
-    go : (ids : List ℕ) → c.pending.max_stream_data ≡ ids → map limit_entry ids ≡ e ∷ es → Left MaxStreamData c.pending (e.told c.state)
-    go [] here is = cc
-    go (x ∷ xs) here is =
-        let entry : limit_entry x ≡ e = cc in
-        let same : consumed (limit_told r x) ≡ consumed r = told_consumed c.state x (IsListed c.pending.max_stream_data) w.each in
-        let left : Grown (IsListed xs) (record c.state { receiving = limit_told r x }) =
-        told_once (IsListed c.pending.max_stream_data) (IsListed xs) c.state x (λ j ne listed. others_listed x xs j ne (subst (λ l. IsListed l j) here listed)) w.each in
-        subst (λ (y : Entry). Left MaxStreamData c.pending (y.told c.state)) entry (record {
-          all = record {
-            bytes = λ grew. w.all.bytes (sym (ap (λ n. nat_le (r.announced + least_growth r.window) (min (r.window + n) (2 ^ 62 - 1))) same) ∙ grew);
-            counts = w.all.counts;
-          };
-          each = subst (λ l. Grown (IsListed (others_of l)) (record c.state { receiving = limit_told r x })) (sym here) left;
-        })
-send_waits c ResetStream e es is w = listed_first (λ (x : Entry). Left ResetStream c.pending (x.told c.state)) control.reset_entry c.pending.reset_stream e es is (λ x i. record { all = record { bytes = w.all.bytes; counts = w.all.counts }; each = w.each })
-send_waits c StopSending e es is w = listed_first (λ (x : Entry). Left StopSending c.pending (x.told c.state)) control.stop_entry c.pending.stop_sending e es is (λ x i. record { all = record { bytes = w.all.bytes; counts = w.all.counts }; each = w.each })
-send_waits c DataBlocked e es is w = flag_first (λ (x : Entry). Left DataBlocked c.pending (x.told c.state)) c.pending.data_blocked control.blocked_entry e es is (record { all = record { bytes = w.all.bytes; counts = w.all.counts }; each = w.each })
-send_waits c StreamDataBlocked e es is w =
-    listed_first (λ (x : Entry). Left StreamDataBlocked c.pending (x.told c.state)) control.stream_blocked_entry c.pending.stream_data_blocked e es is (λ x i. record { all = record { bytes = w.all.bytes; counts = w.all.counts }; each = w.each })
+-- what is due goes
+send_waits : (c : control.Draft) (kind : ControlKind) (f : FrameValue) → GoesFirst kind c.pending c.state f → Waits (streams_of c.state c.pending) → Left kind c.pending (control.frame_told f c.state)
+send_waits c kind f is w = subst (λ (o : Option ControlKind). Waits (streams_of (control.frame_told f c.state) (without_of o c.pending))) is.of_kind (sends_wait c f is.says w)
 
 -- whichever frames of control go
 control_waits : (most used : ℕ) (t : Streams) → Waits t → (let c = control.control_frames most used t.state t.pending nothing_waits in Waits (streams_of c.state c.pending))
 control_waits most used t w = by_control most (λ (c : control.Draft). Waits (streams_of c.state c.pending)) (record {
   drops = λ c kind e es is none i. drop_waits c kind e es is none i;
-  sends = λ c kind e es f is due room i. send_waits c kind e es is i;
+  sends = λ c kind f is room i. send_waits c kind f is i;
 }) (control.no_frames used t.state t.pending nothing_waits) w
 
 -- what holds of a draft

@@ -1,6 +1,6 @@
 -- All streams of an end hold what was written on them, after each frame that comes, and after what an ACK frame acknowledges or lets count as lost.
 use Rattle.std.proofs.Common.{◌≡◌, ℕ, true, List, refl}
-use Rattle.quic_wire.specs.Value.{FrameValue, stream, reset_stream, stop_sending, max_data, max_stream_data, max_streams, stream_data_blocked, streams_blocked}
+use Rattle.quic_wire.specs.Value.{FrameValue, stream, reset_stream, stop_sending, max_data, max_stream_data, max_streams}
 use Rattle.quic_send_buffer.specs.declared.stream_meta.StreamMeta.{StreamMeta}
 use Rattle.quic_streams_state.specs.State.{Streams, streams_of}
 use Rattle.quic_streams_state.specs.Taking.{after_stream, after_reset_frame, after_stop_sending, after_max_data, after_max_stream_data}
@@ -41,8 +41,6 @@ module _ (done : ℕ → Wrote) (e : End) (w : Writes done (streams_at e)) where
   frame_leaves (max_stream_data f) on small = leaves (streams_of (after_max_stream_data e.streams f.id f.limit) e.waiting.frames)
       (by_max_stream_data (Keeping done) (keeping_kept done) e.streams f.id f.limit (λ h is above. (limit_on h f.limit above, λ x. limited_holds (done f.id) h x f.limit above small)) w.keeps) refl
   frame_leaves (max_streams f) on small = leaves (streams_of (after_max_streams (dir_named f.one_way) f.count e.streams) e.waiting.frames) (by_max_streams (Keeping done) (keeping_kept done) (dir_named f.one_way) f.count e.streams w.keeps) refl
-  frame_leaves (stream_data_blocked f) on small = w
-  frame_leaves (streams_blocked f) on small = w
   frame_leaves f on small = absurd on
 
   -- ---- what is acknowledged, and what is lost

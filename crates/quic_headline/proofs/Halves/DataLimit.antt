@@ -13,7 +13,6 @@ use Rattle.quic_streams_state.specs.declared.state.StreamsState.{StreamsState}
 use Rattle.quic_streams_state.specs.State.{Streams, room, sending_half, receiving_status, done_if, without_send}
 use Rattle.quic_streams_state.specs.Taking.{joined}
 use Rattle.quic_streams_state.specs.Writing.{write_answer, grown_by, accepted_at, blocked_by_all, blocked_by_own, blocked_at, written_by, after_write, write_chunks_answer, chunks_accepted_at, after_write_chunks}
-use Rattle.quic_streams_state.specs.Control.{Entry}
 use Rattle.quic_streams_laws.specs.Written.{Wrote}
 use Rattle.quic_streams_laws.specs.Keeping.{KeepsWhere}
 use Rattle.quic_streams_laws.specs.KeepingLaws.{by_open, by_accept, by_max_streams, by_finish, by_reset, by_set_priority, by_stop_sending, by_max_data_where, by_max_stream_data, by_stream, by_reset_frame, by_read_begun, by_next, by_finalize, by_stop, by_received_reset, by_reset_acked_where, by_stream_lost, by_stream_acked_where, by_polled, by_frame}
@@ -27,7 +26,7 @@ use Rattle.quic_headline.proofs.Packets.Invariant.{IsSent}
 use Rattle.quic_headline.proofs.Packets.Growth.{step_of}
 use Rattle.quic_headline.proofs.Packets.Delivered.{Arrivals}
 use Rattle.quic_headline.proofs.Packets.Named.{by_frame as by_kind}
-use Rattle.quic_headline.proofs.Packets.Entries.{by_first}
+use Rattle.quic_streams_laws.specs.QuietLaws.{by_told}
 use Rattle.quic_headline.proofs.Packets.Group.{PacketsHold, meets}
 use Rattle.quic_headline.proofs.Places.Parties.{Party, called, came_to}
 use Rattle.quic_headline.proofs.Places.Groups.{Before, Early}
@@ -138,7 +137,7 @@ small_words = record {
   max_streams = λ dir count w s i. by_max_streams HasSmallLimit small_kept dir count s i;
   lost = λ w s m last i. by_stream_lost HasSmallLimit small_kept s m (λ h e none. tt) i;
   sends = λ fair w s id h room is i. by_frame HasSmallLimit small_kept fair s id room h is tt i;
-  tells = λ kind p e es w s is i. by_first p (λ (entry : Entry). HasSmallLimit (entry.told s)) (record { resets = λ r among. i; stops = λ r among. i; all_limits = i; limits = λ id among. i; counts = λ dir. i; all_blocked = i; blocked = λ id among. i }) kind e es is;
+  tells = λ f w s i. by_told HasSmallLimit small_kept f s i;
 }
 
 -- ---- a delivery

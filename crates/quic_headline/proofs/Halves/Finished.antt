@@ -62,7 +62,7 @@ module _ (arrived : ℕ → ℕ → Type 0) (end_arrived : ℕ → Type 0) where
     max_streams = λ dir count w s i. by_max_streams (Have w) (finished_kept arrived end_arrived w) dir count s i;
     lost = λ w s m last i. by_stream_lost (Have w) (finished_kept arrived end_arrived w) s m (λ h e none x. (lost_holds (w m.id) h x.0 m none last, as_acked m.id h (half_lost h m) refl refl x.1)) i;
     sends = λ fair w s id h room is i. by_frame (Have w) (finished_kept arrived end_arrived w) fair s id room h is (λ x. (polled_holds (w id) h x.0 room, as_acked id h (half_after h room) refl refl x.1)) i;
-    tells = λ kind p e es w s is i. by_told (Have w) (finished_kept arrived end_arrived w) kind p e es s is i;
+    tells = λ f w s i. by_told (Have w) (finished_kept arrived end_arrived w) f s i;
   }
 
   -- ---- where the same was done, or more arrived

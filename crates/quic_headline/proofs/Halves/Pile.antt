@@ -1,25 +1,19 @@
 -- RESET_STREAM and STOP_SENDING that wait or are under way: each stream's reset stands there once, of a half in use that was reset, and all have a form.
-use Rattle.std.proofs.Common.{◌≡◌, ℕ, ◌+◌, ◌<◌, ◌≤◌, ◌^◌, ◌==◌, Bool, true, false, cond, List, [], ◌∷◌, ◌++◌, filter, Option, Some, None, refl, sym, ap, ◌∙◌, subst, inl, inr, arith}
-use Rattle.std.specs.Prelude.{if◌then◌else◌, map, not}
-use Rattle.std.specs.Option.{option_map}
+use Rattle.std.proofs.Common.{◌≡◌, ℕ, ◌+◌, ◌<◌, ◌≤◌, ◌^◌, ◌==◌, Bool, true, false, cond, List, [], ◌∷◌, ◌++◌, filter, Option, refl, sym, ap, ◌∙◌, subst, inl, inr, arith}
+use Rattle.std.specs.Prelude.{if◌then◌else◌, not}
 use Rattle.std.proofs.lemmas.Bool.{eq-eqb}
-use Rattle.quic_wire.specs.Value.{FrameValue, StopSendingValue, reset_stream, stop_sending, max_data, max_stream_data, max_streams, data_blocked, stream_data_blocked}
-use Rattle.quic_wire.specs.FrameView.{is_one_way}
-use Rattle.quic_streams_parts.specs.Table.{Table, at}
-use Rattle.quic_streams_parts.specs.Dirs.{of}
+use Rattle.quic_wire.specs.Value.{FrameValue, StopSendingValue, reset_stream, stop_sending}
+use Rattle.quic_streams_parts.specs.Table.{Table}
 use Rattle.quic_streams_parts.specs.SendHalf.{SendHalf}
-use Rattle.quic_streams_parts.specs.RecvHalf.{RecvHalf, takes_limits, raised_on}
 use Rattle.quic_retransmits.specs.Retransmits.{Retransmits, others_of}
-use Rattle.quic_streams_state.specs.declared.control.ControlKind.{ControlKind}
-use Rattle.quic_streams_state.specs.declared.control.ControlKind.TheVariants.{ResetStream, StopSending, MaxData, MaxStreamData, MaxStreams, DataBlocked, StreamDataBlocked}
+use Rattle.quic_retransmits.specs.declared.retransmits.ControlKind.{ControlKind}
+use Rattle.quic_retransmits.specs.declared.retransmits.ControlKind.TheVariants.{ResetStream, StopSending}
 use Rattle.quic_streams_state.specs.declared.state.StreamsState.{StreamsState}
-use Rattle.quic_streams_state.specs.Limits.{raised_data, raised_count, can_send_data_blocked}
-use Rattle.quic_streams_state.specs.Waiting.{stream_data_blocked_limit}
-use Rattle.quic_streams_state.specs.Control.{Entry, reset_frame, reset_entry, stop_entry, data_entry, limit_frame, limit_entry, count_entry, blocked_entry, stream_blocked_entry, waiting, without_first}
+use Rattle.quic_streams_state.specs.Control.{without_first, kind_of, Goes}
+use Rattle.quic_streams_laws.specs.KindLaws.{GoesFirst, first_others, without_of}
 use Rattle.quic_machine.specs.Tracking.{TrackedPacket}
 use Rattle.quic_headline.specs.Runs.{In}
 use Rattle.quic_headline.specs.InFlight.{resets_in, stops_in}
-use Rattle.quic_headline.proofs.Packets.Entries.{by_first, listed_first, flag_first}
 use Rattle.quic_headline.proofs.Packets.MayGo.{WasReset}
 use Rattle.quic_headline.proofs.Places.Told.{in_left, in_right, in_append}
 
@@ -140,114 +134,15 @@ pub record Moves (p q : Retransmits) (f : FrameValue) : Type 0 where
   pub retired : q.retire_cids ≡ p.retire_cids
   pub frequency : q.ack_frequency ≡ p.ack_frequency
 
--- a frame that neither resets nor stops
-record IsOther (f : FrameValue) : Type 0 where
-  resets : resets_in (f ∷ []) ≡ []
-  stops : stops_in (f ∷ []) ≡ []
-
-abbrev HasOther : Entry → Type 0
-HasOther e = (s : StreamsState) (f : FrameValue) → e.frame s ≡ Some f → IsOther f
-
-other_known : (g f : FrameValue) → IsOther g → Some g ≡ Some f → IsOther f
-other_known g f is due = let same : g ≡ f = cc in subst IsOther same is
-
-limit_other : (id : ℕ) → HasOther (limit_entry id)
-limit_other id s f = go (at s.receiving.halves.live id)
-  where
-    taken : (h : RecvHalf) (b : Bool) → (if b then Some (max_stream_data (record { id = id; limit = raised_on s.receiving.stream_window h })) else None) ≡ Some f → IsOther f
-    taken h true due = other_known (max_stream_data (record { id = id; limit = raised_on s.receiving.stream_window h })) f (record { resets = refl; stops = refl }) due
-    taken h false due = cc
-
-    go : (o : Option RecvHalf) → limit_frame s.receiving.stream_window id o ≡ Some f → IsOther f
-    go None due = cc
-    go (Some h) due = taken h (takes_limits h) due
-
-blocked_other : HasOther blocked_entry
-blocked_other s f = go (can_send_data_blocked s)
-  where
-    go : (b : Bool) → (if b then Some (data_blocked s.sending.limit) else None) ≡ Some f → IsOther f
-    go true due = other_known (data_blocked s.sending.limit) f (record { resets = refl; stops = refl }) due
-    go false due = cc
-
-stream_blocked_other : (id : ℕ) → HasOther (stream_blocked_entry id)
-stream_blocked_other id s f = go (stream_data_blocked_limit s id)
-  where
-    go : (o : Option ℕ) → option_map (λ limit. stream_data_blocked (record { id = id; limit = limit })) o ≡ Some f → IsOther f
-    go None due = cc
-    go (Some limit) due = other_known (stream_data_blocked (record { id = id; limit = limit })) f (record { resets = refl; stops = refl }) due
-
--- a frame that neither resets nor stops moves nothing
-other_moves : (p q : Retransmits) (f : FrameValue) → SamePile p q → IsOther f → Moves p q f
-other_moves p q f same o = record {
-  resets = sym (ap (λ (rs : List (ℕ × ℕ)). rs ++ q.reset_stream) o.resets ∙ same.resets);
-  stops = sym (ap (λ (ss : List StopSendingValue). ss ++ q.stop_sending) o.stops ∙ same.stops);
-  ids = same.ids;
-  retired = same.retired;
-  frequency = same.frequency;
-}
+-- once it went: RESET_STREAM and STOP_SENDING stood first, and no other frame resets or stops
+moves : (p : Retransmits) (s : StreamsState) (f : FrameValue) → Goes p s f → Moves p (without_of (kind_of f) p) f
+moves p s (reset_stream f) goes = record { resets = first_others p.reset_stream (f.id, f.code) goes.1; stops = refl; ids = refl; retired = refl; frequency = refl }
+moves p s (stop_sending f) goes = record { resets = refl; stops = first_others p.stop_sending f goes; ids = refl; retired = refl; frequency = refl }
+moves p s f goes = record { resets = refl; stops = refl; ids = refl; retired = refl; frequency = refl }
 
 -- the frame of the first that waits of a kind
-pub entry_moves : (kind : ControlKind) (p : Retransmits) (e : Entry) (es : List Entry) (s : StreamsState) (f : FrameValue) → waiting kind p ≡ e ∷ es → e.frame s ≡ Some f → Moves p (without_first kind p) f
-entry_moves ResetStream p e es s f is due = go p.reset_stream refl is
-  where
-    sized : (r : ℕ × ℕ) (rs : List (ℕ × ℕ)) → p.reset_stream ≡ r ∷ rs → (o : Option ℕ) → option_map (λ size. reset_stream (record { id = r.0; code = r.1; final_size = size })) o ≡ Some f → Moves p (without_first ResetStream p) f
-    sized r rs here None due = cc
-    sized r rs here (Some size) due =
-        let same : reset_stream (record { id = r.0; code = r.1; final_size = size }) ≡ f = cc in
-        record {
-          resets = here ∙ (ap (λ (xs : List (ℕ × ℕ)). xs ++ rs) (ap (λ (g : FrameValue). resets_in (g ∷ [])) same) ∙ ap (λ (xs : List (ℕ × ℕ)). resets_in (f ∷ []) ++ others_of xs) (sym here));
-          stops = ap (λ (g : FrameValue). stops_in (g ∷ []) ++ p.stop_sending) same;
-          ids = refl;
-          retired = refl;
-          frequency = refl;
-        }
-
-    half : (r : ℕ × ℕ) (rs : List (ℕ × ℕ)) → p.reset_stream ≡ r ∷ rs → (o : Option SendHalf) → reset_frame r o ≡ Some f → Moves p (without_first ResetStream p) f
-    half r rs here None due = cc
-    half r rs here (Some h) due = sized r rs here h.reset due
-
-    go : (rs : List (ℕ × ℕ)) → p.reset_stream ≡ rs → map reset_entry rs ≡ e ∷ es → Moves p (without_first ResetStream p) f
-    go [] here is = cc
-    go (r ∷ rs) here is =
-        let same : reset_entry r ≡ e = cc in
-        half r rs here (at s.sending.halves.live r.0) (ap (λ (x : Entry). x.frame s) same ∙ due)
-entry_moves StopSending p e es s f is due = go p.stop_sending refl is
-  where
-    go : (ss : List StopSendingValue) → p.stop_sending ≡ ss → map stop_entry ss ≡ e ∷ es → Moves p (without_first StopSending p) f
-    go [] here is = cc
-    go (r ∷ ss) here is =
-        let same : stop_entry r ≡ e = cc in
-        let there : Some (stop_sending r) ≡ Some f = ap (λ (x : Entry). x.frame s) same ∙ due in
-        let frame : stop_sending r ≡ f = cc in
-        record {
-          resets = ap (λ (g : FrameValue). resets_in (g ∷ []) ++ p.reset_stream) frame;
-          stops = here ∙ (ap (λ (xs : List StopSendingValue). xs ++ ss) (ap (λ (g : FrameValue). stops_in (g ∷ [])) frame) ∙ ap (λ (xs : List StopSendingValue). stops_in (f ∷ []) ++ others_of xs) (sym here));
-          ids = refl;
-          retired = refl;
-          frequency = refl;
-        }
-entry_moves MaxData p e es s f is due = other_moves p (without_first MaxData p) f (record { resets = refl; stops = refl; ids = refl; retired = refl; frequency = refl })
-    (flag_first HasOther p.max_data data_entry e es is (λ s f due. other_known (max_data (raised_data s.receiving)) f (record { resets = refl; stops = refl }) due) s f due)
-entry_moves MaxStreamData p e es s f is due = other_moves p (without_first MaxStreamData p) f (record { resets = refl; stops = refl; ids = refl; retired = refl; frequency = refl })
-    (listed_first HasOther limit_entry p.max_stream_data e es is (λ id i. limit_other id) s f due)
-entry_moves (MaxStreams dir) p e es s f is due = other_moves p (without_first (MaxStreams dir) p) f (record { resets = refl; stops = refl; ids = refl; retired = refl; frequency = refl })
-    (flag_first HasOther (of dir p.max_stream_id) (count_entry dir) e es is (λ s f due. other_known (max_streams (record { one_way = is_one_way dir; count = raised_count dir s.opening })) f (record { resets = refl; stops = refl }) due) s f due)
-entry_moves DataBlocked p e es s f is due = other_moves p (without_first DataBlocked p) f (record { resets = refl; stops = refl; ids = refl; retired = refl; frequency = refl })
-    (flag_first HasOther p.data_blocked blocked_entry e es is blocked_other s f due)
-entry_moves StreamDataBlocked p e es s f is due = other_moves p (without_first StreamDataBlocked p) f (record { resets = refl; stops = refl; ids = refl; retired = refl; frequency = refl })
-    (listed_first HasOther stream_blocked_entry p.stream_data_blocked e es is (λ id i. stream_blocked_other id) s f due)
-
--- it leaves the sending halves as they are
-pub entry_leaves : (kind : ControlKind) (p : Retransmits) (e : Entry) (es : List Entry) (s : StreamsState) → waiting kind p ≡ e ∷ es → (e.told s).sending ≡ s.sending
-entry_leaves kind p e es s is = by_first p (λ (x : Entry). (x.told s).sending ≡ s.sending) (record {
-  resets = λ r i. refl;
-  stops = λ r i. refl;
-  all_limits = refl;
-  limits = λ id i. refl;
-  counts = λ dir. refl;
-  all_blocked = refl;
-  blocked = λ id i. refl;
-}) kind e es is
+pub goes_moves : (kind : ControlKind) (p : Retransmits) (s : StreamsState) (f : FrameValue) → GoesFirst kind p s f → Moves p (without_first kind p) f
+goes_moves kind p s f is = subst (λ (o : Option ControlKind). Moves p (without_of o p) f) is.of_kind (moves p s f is.says)
 
 -- what is dropped waits no more
 pub record Fewer (p q : Retransmits) : Type 0 where

@@ -19,6 +19,7 @@ use Rattle.quic_machine.specs.End.{End, with_closing, with_ping, number_of}
 use Rattle.quic_machine.specs.Acked.{again}
 use Rattle.quic_machine.specs.Poll.{Polled, Draft, ack_of, packet_of, tracked, record_moved, lazied, polled, goes, draft_if}
 use Rattle.quic_machine.specs.PollCases.{ready_at, draft_at, by_poll_to, composes}
+use Rattle.quic_streams_laws.specs.QuietLaws.{told_sending}
 use Rattle.quic_machine.specs.DraftLaws.{by_leave, due_alone}
 use Rattle.quic_headline.specs.Runs.{In}
 use Rattle.quic_headline.specs.InFlight.{resets_in, stops_in}
@@ -28,7 +29,7 @@ use Rattle.quic_headline.proofs.Packets.Probes.{in_put, by_ready, MayLeave, by_g
 use Rattle.quic_headline.proofs.Packets.Ascending.{Splits, put_splits, Ascends}
 use Rattle.quic_headline.proofs.Places.Told.{in_left, in_right, in_append}
 use Rattle.quic_headline.proofs.Halves.InUse.{InUse, in_use_kept}
-use Rattle.quic_headline.proofs.Halves.Pile.{times, times_append, IsPile, part_of, NothingElse, resets_of, stops_of, Moves, entry_moves, entry_leaves, without_fewer}
+use Rattle.quic_headline.proofs.Halves.Pile.{times, times_append, IsPile, part_of, NothingElse, resets_of, stops_of, Moves, goes_moves, without_fewer}
 use Rattle.quic_headline.proofs.Halves.PileSteps.{CarryNothingElse, Holds, HoldsAll, holds_part, again_step, again_all}
 
 -- ---- frames
@@ -104,10 +105,10 @@ module _ (resets : List (ℕ × ℕ)) (stops : List StopSendingValue) where
               g.pile;
           others = record { no_ids = less.ids ∙ g.others.no_ids; no_retired = less.retired ∙ g.others.no_retired; no_frequency = less.frequency ∙ g.others.no_frequency };
         });
-    control = λ d kind entry es f is due g. (
+    control = λ d kind f is g. (
         let w : Retransmits = d.end.waiting.frames in
-        let m = entry_moves kind w entry es d.end.streams f is due in
-        let same = entry_leaves kind w entry es d.end.streams is in
+        let m = goes_moves kind w d.end.streams f is in
+        let same = told_sending f d.end.streams in
         record {
           pile = subst (λ (q : Sending). IsPile q.halves.live ((without_first kind w).reset_stream ++ (resets_in (d.frames ++ f ∷ []) ++ resets)) ((without_first kind w).stop_sending ++ (stops_in (d.frames ++ f ∷ []) ++ stops))) (sym same) (moved d (without_first kind w) f m g);
           others = record { no_ids = m.ids ∙ g.others.no_ids; no_retired = m.retired ∙ g.others.no_retired; no_frequency = m.frequency ∙ g.others.no_frequency };

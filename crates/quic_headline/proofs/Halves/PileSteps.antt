@@ -4,7 +4,7 @@ use Rattle.std.specs.Prelude.{if◌then◌else◌}
 use Rattle.std.specs.Option.{is_some}
 use Rattle.std.proofs.lemmas.Bool.{eq-eqb}
 use Rattle.std.proofs.lemmas.List.{append_assoc}
-use Rattle.quic_wire.specs.Value.{FrameValue, AckValue, StreamValue, ResetStreamValue, StopSendingValue, stream, reset_stream, stop_sending, max_data, max_stream_data, max_streams, stream_data_blocked, streams_blocked}
+use Rattle.quic_wire.specs.Value.{FrameValue, AckValue, StreamValue, ResetStreamValue, StopSendingValue, stream, reset_stream, stop_sending, max_data, max_stream_data, max_streams}
 use Rattle.quic_send_buffer.specs.declared.stream_meta.StreamMeta.{StreamMeta}
 use Rattle.quic_streams_parts.specs.declared.answers.Breach.{Breach}
 use Rattle.quic_streams_parts.specs.Table.{Table}
@@ -281,8 +281,6 @@ frame_step (stop_sending f) e on h = all_on e _ (λ r u. by_stop_sending (InUse 
 frame_step (max_data limit) e on h = all_on e _ (λ r u. by_max_data_where (InUse r) (in_use_kept r) e.streams limit tt u) (same_pile e.waiting.frames) h
 frame_step (max_stream_data f) e on h = all_on e _ (λ r u. by_max_stream_data (InUse r) (in_use_kept r) e.streams f.id f.limit (λ half is above some. refl) u) (same_pile e.waiting.frames) h
 frame_step (max_streams f) e on h = all_on e _ (λ r u. by_max_streams (InUse r) (in_use_kept r) (dir_named f.one_way) f.count e.streams u) (same_pile e.waiting.frames) h
-frame_step (stream_data_blocked f) e on h = all_on e _ (λ r u. u) (same_pile e.waiting.frames) h
-frame_step (streams_blocked f) e on h = all_on e _ (λ r u. u) (same_pile e.waiting.frames) h
 frame_step f e on h = absurd on
 
 -- whatever comes

@@ -20,7 +20,7 @@ use Rattle.quic_machine.specs.Poll.{Draft, frame_room, left, no_frames, no_strea
 use Rattle.quic_machine.specs.DraftLaws.{by_messages}
 use Rattle.quic_machine.specs.PollCases.{frames_padded}
 use Rattle.quic_headline.specs.Runs.{In}
-use Rattle.quic_headline.proofs.Packets.Entries.{IsControl, entry_control}
+use Rattle.quic_headline.proofs.Packets.Entries.{IsControl, control_of}
 use Rattle.quic_headline.proofs.Packets.Kinds.{by_kinds}
 use Rattle.quic_headline.proofs.Halves.Ghosts.{SaysOf}
 use Rattle.quic_headline.proofs.Halves.Kept.{Keeping, keeping_kept}
@@ -59,7 +59,7 @@ padding_says done (suc count) = (tt, padding_says done count)
 controls_go : (most : ℕ) (d : control.Draft) → AllByRecursion IsControl d.frames → AllByRecursion IsControl (control.with_control_frames most d).frames
 controls_go most d are = by_control most (λ (c : control.Draft). AllByRecursion IsControl c.frames) (record {
   drops = λ c kind e es is due all. all;
-  sends = λ c kind e es f is due fits all. all_append IsControl c.frames (f ∷ []) all (entry_control kind c.pending e es c.state f is due, tt);
+  sends = λ c kind f is fits all. all_append IsControl c.frames (f ∷ []) all (control_of f kind is.of_kind, tt);
 }) d are
 
 -- ---- drafts

@@ -2,7 +2,7 @@
 use Rattle.std.proofs.Common.{◌≡◌, ℕ, ◌^◌, ◌<◌, Bool, true, false, List, [], ◌∷◌, length, Option, Some, None, Result, Ok, Err, refl, sym, subst, inl, inr}
 use Rattle.std.specs.Prelude.{ℤ}
 use Rattle.quic_wire_core.specs.declared.stream_id.Dir.{Dir}
-use Rattle.quic_wire.specs.Value.{FrameValue, StreamValue, ResetStreamValue, StopSendingValue, stream, reset_stream, stop_sending, max_data, max_stream_data, max_streams, stream_data_blocked, streams_blocked}
+use Rattle.quic_wire.specs.Value.{FrameValue, StreamValue, ResetStreamValue, StopSendingValue, stream, reset_stream, stop_sending, max_data, max_stream_data, max_streams}
 use Rattle.quic_assembler.specs.declared.assembler.Chunk.{Chunk}
 use Rattle.quic_send_buffer.specs.declared.stream_meta.StreamMeta.{StreamMeta}
 use Rattle.quic_streams_parts.specs.declared.answers.ReadError.{ReadError}
@@ -13,8 +13,8 @@ use Rattle.quic_streams_parts.specs.Table.{at}
 use Rattle.quic_streams_parts.specs.SendHalf.{SendHalf}
 use Rattle.quic_streams_parts.specs.RecvHalf.{RecvHalf}
 use Rattle.quic_retransmits.specs.Retransmits.{Retransmits}
-use Rattle.quic_streams_state.specs.declared.control.ControlKind.{ControlKind}
 use Rattle.quic_streams_state.specs.declared.state.StreamsState.{StreamsState}
+use Rattle.quic_streams_state.specs.Control.{frame_told}
 use Rattle.quic_streams_state.specs.State.{Streams, receiving_half}
 use Rattle.quic_streams_state.specs.Opening.{after_open, after_accept, after_max_streams}
 use Rattle.quic_streams_state.specs.Writing.{write_answer, after_write, write_chunks_answer, after_write_chunks, finish_answer, after_finish, reset_answer, after_reset, set_priority_answer, after_set_priority}
@@ -23,7 +23,6 @@ use Rattle.quic_streams_state.specs.Taking.{after_stream, after_reset_frame, aft
 use Rattle.quic_streams_state.specs.Acked.{after_stream_lost}
 use Rattle.quic_streams_state.specs.Telling.{polled}
 use Rattle.quic_streams_state.specs.Frames.{after_frame_sent}
-use Rattle.quic_streams_state.specs.Control.{Entry, waiting}
 use Rattle.quic_streams_laws.specs.Written.{Wrote, wrote_by, wrote_chunks_by, wrote_end_by, wrote_reset_by}
 use Rattle.quic_machine.specs.declared.run.Call.{Call}
 use Rattle.quic_machine.specs.declared.run.Call.TheVariants as calls
@@ -69,7 +68,7 @@ pub record Words (F : (ℕ → Wrote) → StreamsState → Type 0) : Type 0 wher
   pub lost : (done : ℕ → Wrote) (s : StreamsState) (m : StreamMeta) → (m.fin ≡ true → (done m.id).ended ≡ true) → F done s → F done (after_stream_lost s m)
   -- frames that go
   pub sends : (fair : Bool) (done : ℕ → Wrote) (s : StreamsState) (id : ℕ) (h : SendHalf) (room : ℕ) → at s.sending.halves.live id ≡ Some h → F done s → F done (after_frame_sent fair s id h room)
-  pub tells : (kind : ControlKind) (p : Retransmits) (e : Entry) (es : List Entry) (done : ℕ → Wrote) (s : StreamsState) → waiting kind p ≡ e ∷ es → F done s → F done (e.told s)
+  pub tells : (f : FrameValue) (done : ℕ → Wrote) (s : StreamsState) → F done s → F done (frame_told f s)
 
 -- those of an application alone
 pub record CallWords (F : (ℕ → Wrote) → StreamsState → Type 0) : Type 0 where
@@ -235,7 +234,7 @@ module _ (F : (ℕ → Wrote) → StreamsState → Type 0) (w : Words F) where
     ack = λ d filled may f. f;
     ping = λ d f. f;
     drops = λ d kind f. f;
-    control = λ d kind entry es frame is due f. w.tells kind d.end.waiting.frames entry es done d.end.streams is f;
+    control = λ d kind f is i. w.tells f done d.end.streams i;
     message = λ d m ms is fit f. f;
     stream = λ d id h room found first some is counts f. w.sends d.end.transport.send_fairness done d.end.streams id h room found f;
   }) e i
@@ -250,6 +249,4 @@ module _ (F : (ℕ → Wrote) → StreamsState → Type 0) (w : Words F) where
   frame_on done (max_data limit) e on small i = w.max_data done e.streams limit small i
   frame_on done (max_stream_data f) e on small i = w.max_stream_data done e.streams f.id f.limit small i
   frame_on done (max_streams f) e on small i = w.max_streams (dir_named f.one_way) f.count done e.streams i
-  frame_on done (stream_data_blocked f) e on small i = i
-  frame_on done (streams_blocked f) e on small i = i
   frame_on done f e on small i = absurd on

@@ -35,7 +35,7 @@ drafted held e alone = by_leave (λ (d : Draft). d.end.messages.queues.incoming 
   ack = λ d filled may i. i;
   ping = λ d i. i;
   drops = λ d kind i. i;
-  control = λ d kind entry es f is goes i. i;
+  control = λ d kind f is i. i;
   message = λ d x xs is fit i. i;
   stream = λ d id h room found first some is counts i. i;
 }) held e alone refl

@@ -27,7 +27,7 @@ use Rattle.quic_headline.specs.Runs.{Told}
 use Rattle.quic_headline.specs.Observer.{Sent}
 use Rattle.quic_headline.specs.Messages as messages
 use Rattle.quic_headline.specs.Messages.{sent_messages}
-use Rattle.quic_headline.proofs.Packets.Entries.{IsControl, entry_control}
+use Rattle.quic_headline.proofs.Packets.Entries.{IsControl, control_of}
 use Rattle.quic_headline.proofs.Places.Steps.{poll_answer}
 use Rattle.quic_headline.proofs.Places.Parties.{sent_by, sent_if, sents_by, told_of}
 use Rattle.quic_headline.proofs.Messages.Counted.{often, often_none, often_append, often_more, sent_more, received_leaves, messages_in, often_last, often_padded, gone, gone_append}
@@ -68,7 +68,7 @@ drafted m held e alone = by_leave (Same m e) (record {
   ack = λ d filled may i. plain_goes m e d (ack (ack_of d.end)) refl i;
   ping = λ d i. plain_goes m e d ping refl i;
   drops = λ d kind i. i;
-  control = λ d kind entry es f is goes i. plain_goes m e d f (control_none f (entry_control kind d.end.waiting.frames entry es d.end.streams f is goes)) i;
+  control = λ d kind f is i. plain_goes m e d f (control_none f (control_of f kind is.of_kind)) i;
   message = λ d x xs is fit i. message_goes m e d x xs is i;
   stream = λ d id h room found first some is counts i. plain_goes m e d (stream (frame_of id h room)) refl i;
 }) held e alone (let none = often_none m in omega arith)

@@ -103,7 +103,7 @@ taken_arrivals e now n frames i acks before = record {
 
 -- whichever frames go, the numbers stay: an ACK that names them may be lost
 draft_runs : (held : Bool) (e : End) → MayLeave held e → (draft_if held e).end.acknowledging.runs ≡ e.acknowledging.runs
-draft_runs held e alone = by_leave (λ (d : Draft). d.end.acknowledging.runs ≡ e.acknowledging.runs) (record { ack = λ d filled may same. same; ping = λ d same. same; drops = λ d kind same. same; control = λ d kind entry es f is due same. same; message = λ d m ms is fit same. same; stream = λ d id h room found first some is counts same. same }) held e alone refl
+draft_runs held e alone = by_leave (λ (d : Draft). d.end.acknowledging.runs ≡ e.acknowledging.runs) (record { ack = λ d filled may same. same; ping = λ d same. same; drops = λ d kind same. same; control = λ d kind f is same. same; message = λ d m ms is fit same. same; stream = λ d id h room found first some is counts same. same }) held e alone refl
 
 -- a poll leaves the numbers to acknowledge
 polled_runs : (p : Policy) (e : End) (now : ℕ) → (polled p e now).end.acknowledging.runs ≡ e.acknowledging.runs

@@ -17,9 +17,10 @@ use Rattle.quic_recovery_core.specs.PendingAcks.{is_filled, delay_of, can_send}
 use Rattle.quic_recovery_core.specs.declared.spaces.pending_acks.TheConstants.{LAZY_ACK_THRESHOLD}
 use Rattle.quic_streams_parts.specs.Table.{at}
 use Rattle.quic_streams_parts.specs.SendHalf.{SendHalf, HasFrame, frame_of, frame_counts}
-use Rattle.quic_streams_state.specs.declared.control.ControlKind.{ControlKind}
+use Rattle.quic_retransmits.specs.declared.retransmits.ControlKind.{ControlKind}
 use Rattle.quic_streams_state.specs.State.{Streams, streams_of}
-use Rattle.quic_streams_state.specs.Control.{Entry, waiting, without_first}
+use Rattle.quic_streams_state.specs.Control.{without_first, frame_told}
+use Rattle.quic_streams_laws.specs.KindLaws.{GoesFirst}
 use Rattle.quic_streams_state.specs.Frames.{after_frame_sent}
 use Rattle.quic_spaces.specs.Acknowledging.{written_delay, delay_at}
 use Rattle.quic_spaces.specs.Numbers.{cut_against}
@@ -38,7 +39,7 @@ pub record Spelling (K : Streams → Type 0) : Type 0 where
   -- what waits is dropped, since it is no longer due
   pub drops : (t : Streams) (kind : ControlKind) → K t → K (streams_of t.state (without_first kind t.pending))
   -- its frame goes
-  pub control : (t : Streams) (kind : ControlKind) (e : Entry) (es : List Entry) (f : FrameValue) → waiting kind t.pending ≡ e ∷ es → e.frame t.state ≡ Some f → K t → Fits f × K (streams_of (e.told t.state) (without_first kind t.pending))
+  pub control : (t : Streams) (kind : ControlKind) (f : FrameValue) → GoesFirst kind t.pending t.state f → K t → Fits f × K (streams_of (frame_told f t.state) (without_first kind t.pending))
   -- the frame of a half goes
   pub stream : (fair : Bool) (t : Streams) (id : ℕ) (h : SendHalf) (room : ℕ) → at t.state.sending.halves.live id ≡ Some h → frame_counts h room ≡ true → K t → (id < 2 ^ 62) × HasFrame h room × K (streams_of (after_frame_sent fair t.state id h room) t.pending)
 
@@ -258,9 +259,9 @@ module _ (K : Streams → Type 0) (k : Spelling K) where
   entries_go : (d : Draft) → Goes Behind d → Goes Behind (with_control_frames d)
   entries_go = by_entries (Goes Behind)
       (λ d kind g. record { streams = k.drops (streams_at d.end) kind g.streams; acks = g.acks; stands = g.stands })
-      (λ d kind e es f is due g. (
-      let one = k.control (streams_at d.end) kind e es f is due g.streams in
-      record { streams = one.1; acks = g.acks; stands = behind_fit d f (with_entry d kind e f).end g.stands one.0 }))
+      (λ d kind f is g. (
+      let one = k.control (streams_at d.end) kind f is g.streams in
+      record { streams = one.1; acks = g.acks; stands = behind_fit d f (with_entry d kind f).end g.stands one.0 }))
 
   -- messages go
   messages_go : (d : Draft) → Goes Behind d → Goes Behind (with_message_frames d)

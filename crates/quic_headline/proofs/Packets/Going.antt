@@ -1,31 +1,29 @@
 -- Where something waits, a frame goes.
-use Rattle.std.proofs.Common.{◌≡◌, ℕ, zero, suc, ◌+◌, ◌-◌, ◌<◌, ◌≤◌, Bool, true, false, ◌==◌, ◌&&◌, ◌||◌, not, List, [], ◌∷◌, ◌++◌, length, Option, Some, None, refl, sym, ap, ◌∙◌, subst, ◌⊎◌, inl, inr, arith}
+use Rattle.std.proofs.Common.{◌≡◌, ℕ, zero, suc, ◌+◌, ◌-◌, ◌<◌, ◌≤◌, Bool, true, false, ◌==◌, ◌||◌, not, List, [], ◌∷◌, ◌++◌, length, Option, Some, None, refl, sym, ap, ◌∙◌, subst, ◌⊎◌, inl, inr, arith}
 use Rattle.std.specs.Prelude.{if◌then◌else◌, map, nat_le, nat_lt, ◌*◌}
 use Rattle.std.specs.List.{list_any, fold}
-use Rattle.std.specs.Option.{is_some, option_map}
-use Rattle.std.proofs.lemmas.Bool.{le-leb, leb-true, or_cases, and_parts}
+use Rattle.std.specs.Option.{is_some}
+use Rattle.std.proofs.lemmas.Bool.{le-leb, leb-true, or_cases, and_parts, not-true}
 use Rattle.std.proofs.lemmas.List.{length-append, length-map}
-use Rattle.quic_wire_core.specs.declared.stream_id.Dir.TheVariants.{Bi, Uni}
 use Rattle.quic_wire_core.specs.Law.{length-shortest, varint_size_le}
-use Rattle.quic_wire.specs.Value.{FrameValue, StopSendingValue, ack, ping, stream, datagram, stream_data_blocked}
+use Rattle.quic_wire.specs.Value.{FrameValue, ack, ping, stream, datagram}
 use Rattle.quic_wire.specs.Writing.{frame_size, width_of}
 use Rattle.quic_recovery_core.specs.PendingAcks.{can_send}
-use Rattle.quic_retransmits.specs.Retransmits.{Retransmits, nothing_waits}
+use Rattle.quic_retransmits.specs.Retransmits.{Retransmits, nothing_waits, first_of}
 use Rattle.quic_streams_parts.specs.Table.{at}
 use Rattle.quic_streams_parts.specs.Queue.{first_queued}
 use Rattle.quic_streams_parts.specs.SendHalf.{SendHalf, frame_of, frame_counts}
-use Rattle.quic_streams_parts.specs.RecvHalf.{RecvHalf}
 use Rattle.quic_streams_state.specs.declared.state.StreamsState.{StreamsState}
-use Rattle.quic_streams_state.specs.declared.control.ControlKind.{ControlKind}
-use Rattle.quic_streams_state.specs.declared.control.ControlKind.TheVariants.{ResetStream, StopSending, MaxData, MaxStreamData, MaxStreams, DataBlocked, StreamDataBlocked}
-use Rattle.quic_streams_state.specs.declared.control.TheConstants.{CONTROL_KINDS}
+use Rattle.quic_retransmits.specs.declared.retransmits.ControlKind.{ControlKind}
+use Rattle.quic_retransmits.specs.declared.retransmits.TheConstants.{CONTROL_KINDS}
 use Rattle.quic_streams_state.specs.State.{Streams, streams_of}
-use Rattle.quic_streams_state.specs.Limits.{takes_limits_of, can_send_data_blocked, can_send_flow_control}
-use Rattle.quic_streams_state.specs.Waiting.{is_any, is_empty, can_send_stream_data, stream_data_blocked_limit}
-use Rattle.quic_streams_state.specs.Control.{Entry, reset_frame, reset_entry, stop_entry, limit_frame, limit_entry, blocked_entry, stream_blocked_entry, waiting, without_first, first_dropped, first_sent, first_and_more, with_listed, with_kind}
+use Rattle.quic_streams_state.specs.Waiting.{is_empty, can_send_stream_data}
+use Rattle.quic_streams_state.specs.Control.{Entry, reset_frame, reset_entry, waiting, first_dropped, first_sent, first_and_more, with_listed, with_kind}
+use Rattle.quic_streams_state.specs.ControlLaws.{is_due, any_due, counts_due, listed, filled, place, others_same, is_apart, are_apart, kinds_apart}
 use Rattle.quic_streams_state.specs.Control as control
 use Rattle.quic_streams_state.specs.Frames as of_streams
 use Rattle.quic_streams_state.specs.Frames.{Sent, frame_sent, frame_if, frame_and_more, stream_frames}
+use Rattle.quic_streams_laws.specs.KindLaws as kinds
 use Rattle.quic_streams_laws.specs.ControlWalk.{others_wait}
 use Rattle.quic_messages.specs.Messages.{fitting, frame_bytes}
 use Rattle.quic_spaces.specs.Numbers.{cut_against}
@@ -37,7 +35,7 @@ use Rattle.quic_machine.specs.PollCases.{ready_at, ready_leaves}
 use Rattle.quic_machine.specs.DraftLaws.{Writing, room_most, without_entry, by_entries, by_messages, by_streams, by_asking, due_alone}
 use Rattle.quic_headline.specs.Runs.{In}
 use Rattle.quic_headline.proofs.Packets.Invariant.{Acks}
-use Rattle.quic_headline.proofs.Packets.Entries.{entry_control, control_short}
+use Rattle.quic_headline.proofs.Packets.Entries.{control_of, control_short}
 use Rattle.quic_headline.proofs.Packets.Composed.{Spelling, IsSpellable, waits_lazied, draft_spells}
 use Rattle.quic_headline.proofs.Packets.Probes.{ready_acks}
 
@@ -61,101 +59,15 @@ pub record Bringing (K : Streams → Type 0) : Type 0 where
 
 -- ---- what is due
 
--- whether an entry is due
-abbrev is_due : StreamsState → Entry → Bool
-is_due s e = is_some (e.frame s)
-
--- whether one of a list is
-abbrev any_due : StreamsState → List Entry → Bool
-any_due s es = list_any (is_due s) es
-
 -- whether one of several kinds is
 abbrev any_of : StreamsState → Retransmits → List ControlKind → Bool
 any_of s p kinds = list_any (λ kind. any_due s (waiting kind p)) kinds
 
--- one of a kind
-of_kind : (s : StreamsState) (p : Retransmits) (kinds : List ControlKind) (kind : ControlKind) → In kind kinds → any_due s (waiting kind p) ≡ true → any_of s p kinds ≡ true
-of_kind s p [] kind i is = absurd i
-of_kind s p (k ∷ kinds) kind (inl same) is = let here : any_due s (waiting k p) ≡ true = ap (λ (x : ControlKind). any_due s (waiting x p)) (sym same) ∙ is in rw here refl
-of_kind s p (k ∷ kinds) kind (inr i) is = go (any_due s (waiting k p)) (of_kind s p kinds kind i is)
-  where
-    go : (b : Bool) → any_of s p kinds ≡ true → (b || any_of s p kinds) ≡ true
-    go true rest = refl
-    go false rest = rest
-
--- an entry of each that counts is due
-any_mapped : {A : Type 0} (s : StreamsState) (entry : A → Entry) (counts : A → Bool) → ((x : A) → counts x ≡ true → is_due s (entry x) ≡ true) → (xs : List A) → list_any counts xs ≡ true → any_due s (map entry xs) ≡ true
-any_mapped s entry counts each [] is = cc
-any_mapped s entry counts each (x ∷ xs) is = elim (or_cases (counts x) (list_any counts xs) is) [
-  | inl here ↦ (let due = each x here in rw due refl)
-  | inr more ↦ behind (is_due s (entry x)) (any_mapped s entry counts each xs more)
-]
-  where
-    behind : (b : Bool) → any_due s (map entry xs) ≡ true → (b || any_due s (map entry xs)) ≡ true
-    behind true rest = refl
-    behind false rest = rest
-
--- MAX_STREAM_DATA of a half that takes limits is due
-limit_due : (s : StreamsState) (id : ℕ) → can_send_flow_control s id ≡ true → is_due s (limit_entry id) ≡ true
-limit_due s id is = go (at s.receiving.halves.live id) is
-  where
-    go : (o : Option RecvHalf) → takes_limits_of o ≡ true → is_some (limit_frame s.receiving.stream_window id o) ≡ true
-    go None takes = cc
-    go (Some h) takes = rw takes refl
-
--- STREAM_DATA_BLOCKED that names a limit is due
-stream_blocked_due : (s : StreamsState) (id : ℕ) → is_some (stream_data_blocked_limit s id) ≡ true → is_due s (stream_blocked_entry id) ≡ true
-stream_blocked_due s id is = go (stream_data_blocked_limit s id) is
-  where
-    go : (o : Option ℕ) → is_some o ≡ true → is_some (option_map (λ limit. stream_data_blocked (record { id = id; limit = limit })) o) ≡ true
-    go None named = cc
-    go (Some limit) named = refl
-
--- ---- kinds
-
--- the place of a kind in the order in which they go
-place : ControlKind → ℕ
-place ResetStream = 0
-place StopSending = 1
-place MaxData = 2
-place MaxStreamData = 3
-place (MaxStreams Bi) = 4
-place (MaxStreams Uni) = 5
-place DataBlocked = 6
-place StreamDataBlocked = 7
-
--- what waits of another kind stays where the first of one is gone
-others_same : (kind other : ControlKind) (p : Retransmits) → (place kind == place other) ≡ false → waiting other (without_first kind p) ≡ waiting other p
-unfolding place
-others_same ResetStream ResetStream p apart = cc
-others_same StopSending StopSending p apart = cc
-others_same MaxData MaxData p apart = cc
-others_same MaxStreamData MaxStreamData p apart = cc
-others_same (MaxStreams Bi) (MaxStreams Bi) p apart = cc
-others_same (MaxStreams Uni) (MaxStreams Uni) p apart = cc
-others_same DataBlocked DataBlocked p apart = cc
-others_same StreamDataBlocked StreamDataBlocked p apart = cc
-others_same kind other p apart = refl
-
--- a kind is none of these
-abbrev IsApart : ControlKind → List ControlKind → Type 0
-IsApart kind [] = Unit {0}
-IsApart kind (other ∷ kinds) = ((place kind == place other) ≡ false) × IsApart kind kinds
-
--- each kind once
-abbrev AreApart : List ControlKind → Type 0
-AreApart [] = Unit {0}
-AreApart (kind ∷ kinds) = IsApart kind kinds × AreApart kinds
-
-kinds_apart : AreApart CONTROL_KINDS
-unfolding place
-kinds_apart = ((refl, (refl, (refl, (refl, (refl, (refl, (refl, tt))))))), ((refl, (refl, (refl, (refl, (refl, (refl, tt)))))), ((refl, (refl, (refl, (refl, (refl, tt))))), ((refl, (refl, (refl, (refl, tt)))), ((refl, (refl, (refl, tt))), ((refl, (refl, tt)), ((refl, tt), (tt, tt))))))))
-
 -- ---- one frame is enough
 
 -- one more frame of control is one at least
-one_sent : (kind : ControlKind) (e : Entry) (f : FrameValue) (d : control.Draft) → 0 < length (first_sent kind e f d).frames
-one_sent kind e f d = let all = length-append d.frames (f ∷ []) in omega arith
+one_sent : (kind : ControlKind) (f : FrameValue) (d : control.Draft) → 0 < length (first_sent kind f d).frames
+one_sent kind f d = let all = length-append d.frames (f ∷ []) in omega arith
 
 -- frames of control stay, whatever goes of a list behind them
 listed_more : (kind : ControlKind) (most : ℕ) (es : List Entry) (d : control.Draft) → 0 < length d.frames → 0 < length (with_listed kind most es d).frames
@@ -165,11 +77,11 @@ listed_more kind most (e ∷ es) d some = go (e.frame d.state) (λ x more. liste
     More : Type 0
     More = (x : control.Draft) → 0 < length x.frames → 0 < length (with_listed kind most es x).frames
 
-    goes : (f : FrameValue) → (b : Bool) → More → 0 < length (if b then with_listed kind most es (first_sent kind e f d) else d).frames
-    goes f true more = more (first_sent kind e f d) (one_sent kind e f d)
+    goes : (f : FrameValue) → (b : Bool) → More → 0 < length (if b then with_listed kind most es (first_sent kind f d) else d).frames
+    goes f true more = more (first_sent kind f d) (one_sent kind f d)
     goes f false more = some
 
-    go : (o : Option FrameValue) → More → 0 < length (first_and_more o (with_listed kind most es) kind most e d).frames
+    go : (o : Option FrameValue) → More → 0 < length (first_and_more o (with_listed kind most es) kind most d).frames
     go None more = more (first_dropped kind d) some
     go (Some f) more = goes f (nat_le (d.used + frame_size f) most) more
 
@@ -221,7 +133,7 @@ frames_stay = record {
   ack = λ d filled may some. one_more d (ack (ack_of d.end));
   ping = λ d some. one_more d ping;
   drops = λ d kind some. some;
-  control = λ d kind e es f is due some. one_more d f;
+  control = λ d kind f is some. one_more d f;
   message = λ d m ms is fit some. one_more d (datagram m);
   stream = λ d id h room found first left is counts some. one_more d (stream (frame_of id h room));
 }
@@ -235,7 +147,7 @@ record Untouched (e : End) (d : Draft) : Type 0 where
 
 -- frames of control go or don't
 touched_or_not : (e : End) → HasFrames (with_control_frames (no_frames e)) ⊎ Untouched e (with_control_frames (no_frames e))
-touched_or_not e = by_entries (λ (d : Draft). HasFrames d ⊎ Untouched e d) drops (λ d kind entry es f is due before. inl (one_more d f)) (no_frames e) (inr (record { bytes = refl; streams = refl; messages = refl; room = refl }))
+touched_or_not e = by_entries (λ (d : Draft). HasFrames d ⊎ Untouched e d) drops (λ d kind f is before. inl (one_more d f)) (no_frames e) (inr (record { bytes = refl; streams = refl; messages = refl; room = refl }))
   where
     drops : (d : Draft) (kind : ControlKind) → HasFrames d ⊎ Untouched e d → HasFrames (without_entry d kind) ⊎ Untouched e (without_entry d kind)
     drops d kind (inl some) = inl some
@@ -290,88 +202,17 @@ first_brings e d room u b =
     let as_many : length (map stream sent.frames) ≡ length sent.frames = length-map sent.frames stream in
     omega arith
 
--- what isn't so isn't true
-true_of : (b : Bool) → not b ≡ false → b ≡ true
-true_of true is = refl
-true_of false is = cc
-
--- what is true isn't so
-false_of : (b : Bool) → not b ≡ true → b ≡ false
-false_of true is = cc
-false_of false is = refl
-
 module _ (K : Streams → Type 0) (k : Spelling K) (c : Bringing K) where
   -- where something waits that counts, an entry is due
   any_waits : (t : Streams) → K t → is_empty t.pending t.state ≡ false → any_of t.state t.pending CONTROL_KINDS ≡ true
-  any_waits t i waits = from_frequency (true_of _ waits)
+  any_waits t i waits =
+      let none = c.others t i in
+      let some = filled t.pending t.state waits none.0 none.1 none.2 in
+      listed (λ kind. any_due t.state (waiting kind t.pending)) some.0 (counts_due some.0 t.pending t.state (first_reset t.pending.reset_stream (c.resets t i)) some.1)
     where
-      p : Retransmits
-      p = t.pending
-
-      s : StreamsState
-      s = t.state
-
-      of_all : p.max_data ≡ true → any_of s p CONTROL_KINDS ≡ true
-      of_all on = of_kind s p CONTROL_KINDS MaxData (inr (inr (inl refl))) (rw on refl)
-
-      of_blocked : (p.data_blocked && can_send_data_blocked s) ≡ true → any_of s p CONTROL_KINDS ≡ true
-      of_blocked on = let both = and_parts p.data_blocked (can_send_data_blocked s) on in of_kind s p CONTROL_KINDS DataBlocked (inr (inr (inr (inr (inr (inr (inl refl))))))) (rw (both.0, both.1) refl)
-
-      of_counts : (p.max_stream_id.bi || p.max_stream_id.uni) ≡ true → any_of s p CONTROL_KINDS ≡ true
-      of_counts on = elim (or_cases p.max_stream_id.bi p.max_stream_id.uni on) [
-        | inl bi ↦ of_kind s p CONTROL_KINDS (MaxStreams Bi) (inr (inr (inr (inr (inl refl))))) (rw bi refl)
-        | inr uni ↦ of_kind s p CONTROL_KINDS (MaxStreams Uni) (inr (inr (inr (inr (inr (inl refl)))))) (rw uni refl)
-      ]
-
-      of_resets : (rs : List (ℕ × ℕ)) → ((r : ℕ × ℕ) → In r rs → is_some (reset_frame r (at s.sending.halves.live r.0)) ≡ true) → is_any rs ≡ true → any_due s (map reset_entry rs) ≡ true
-      of_resets [] due on = cc
-      of_resets (r ∷ rs) due on = let first = due r (inl refl) in rw first refl
-
-      of_stops : (rs : List StopSendingValue) → is_any rs ≡ true → any_due s (map stop_entry rs) ≡ true
-      of_stops [] on = cc
-      of_stops (r ∷ rs) on = refl
-
-      from_all : (p.max_data || (p.data_blocked && can_send_data_blocked s)) ≡ true → any_of s p CONTROL_KINDS ≡ true
-      from_all on = elim (or_cases p.max_data _ on) [ inl x ↦ of_all x | inr x ↦ of_blocked x ]
-
-      from_counts : (p.max_data || (p.data_blocked && can_send_data_blocked s) || (p.max_stream_id.bi || p.max_stream_id.uni)) ≡ true → any_of s p CONTROL_KINDS ≡ true
-      from_counts on = elim (or_cases _ (p.max_stream_id.bi || p.max_stream_id.uni) on) [ inl x ↦ from_all x | inr x ↦ of_counts x ]
-
-      from_resets : (p.max_data || (p.data_blocked && can_send_data_blocked s) || (p.max_stream_id.bi || p.max_stream_id.uni) || is_any p.reset_stream) ≡ true → any_of s p CONTROL_KINDS ≡ true
-      from_resets on = elim (or_cases _ (is_any p.reset_stream) on) [ inl x ↦ from_counts x | inr x ↦ of_kind s p CONTROL_KINDS ResetStream (inl refl) (of_resets p.reset_stream (c.resets t i) x) ]
-
-      from_stops : (p.max_data || (p.data_blocked && can_send_data_blocked s) || (p.max_stream_id.bi || p.max_stream_id.uni) || is_any p.reset_stream || is_any p.stop_sending) ≡ true → any_of s p CONTROL_KINDS ≡ true
-      from_stops on = elim (or_cases _ (is_any p.stop_sending) on) [ inl x ↦ from_resets x | inr x ↦ of_kind s p CONTROL_KINDS StopSending (inr (inl refl)) (of_stops p.stop_sending x) ]
-
-      from_limits : (p.max_data || (p.data_blocked && can_send_data_blocked s) || (p.max_stream_id.bi || p.max_stream_id.uni) || is_any p.reset_stream || is_any p.stop_sending || list_any (λ id. can_send_flow_control s id) p.max_stream_data) ≡ true
-          → any_of s p CONTROL_KINDS ≡ true
-      from_limits on = elim (or_cases _ (list_any (λ id. can_send_flow_control s id) p.max_stream_data) on) [
-        | inl x ↦ from_stops x
-        | inr x ↦ of_kind s p CONTROL_KINDS MaxStreamData (inr (inr (inr (inl refl)))) (any_mapped s limit_entry (λ id. can_send_flow_control s id) (limit_due s) p.max_stream_data x)
-      ]
-
-      from_streams : (p.max_data || (p.data_blocked && can_send_data_blocked s) || (p.max_stream_id.bi || p.max_stream_id.uni) || is_any p.reset_stream || is_any p.stop_sending || list_any (λ id. can_send_flow_control s id) p.max_stream_data || list_any (λ id. is_some (stream_data_blocked_limit s id)) p.stream_data_blocked) ≡ true
-          → any_of s p CONTROL_KINDS ≡ true
-      from_streams on = elim (or_cases _ (list_any (λ id. is_some (stream_data_blocked_limit s id)) p.stream_data_blocked) on) [
-        | inl x ↦ from_limits x
-        | inr x ↦ of_kind s p CONTROL_KINDS StreamDataBlocked (inr (inr (inr (inr (inr (inr (inr (inl refl)))))))) (any_mapped s stream_blocked_entry (λ id. is_some (stream_data_blocked_limit s id)) (stream_blocked_due s) p.stream_data_blocked x)
-      ]
-
-      -- what has no frame doesn't wait
-      from_frequency : (p.max_data || (p.data_blocked && can_send_data_blocked s) || (p.max_stream_id.bi || p.max_stream_id.uni) || is_any p.reset_stream || is_any p.stop_sending || list_any (λ id. can_send_flow_control s id) p.max_stream_data || list_any (λ id. is_some (stream_data_blocked_limit s id)) p.stream_data_blocked || is_any p.new_cids || is_any p.retire_cids || p.ack_frequency) ≡ true
-          → any_of s p CONTROL_KINDS ≡ true
-      from_frequency on =
-          let none = c.others t i in
-          elim (or_cases _ p.ack_frequency on) [
-            | inl x ↦ elim (or_cases _ (is_any p.retire_cids) x) [
-              | inl y ↦ elim (or_cases _ (is_any p.new_cids) y) [
-                | inl z ↦ from_streams z
-                | inr z ↦ (let off = ap is_any none.0 in cc)
-              ]
-              | inr y ↦ (let off = ap is_any none.1 in cc)
-            ]
-            | inr x ↦ (let off = none.2 in cc)
-          ]
+      first_reset : (rs : List (ℕ × ℕ)) → ((r : ℕ × ℕ) → In r rs → is_some (reset_frame r (at t.state.sending.halves.live r.0)) ≡ true) → (r : ℕ × ℕ) → first_of rs ≡ Some r → is_due t.state (reset_entry r) ≡ true
+      first_reset [] due r is = cc
+      first_reset (x ∷ rs) due r is = due r (inl (let same : r ≡ x = cc in same))
 
   -- how far frames of control have come, of which none went: it is known of the streams that are left, and there is room
   record Waits (most : ℕ) (d : control.Draft) : Type 0 where
@@ -390,14 +231,15 @@ module _ (K : Streams → Type 0) (k : Spelling K) (c : Bringing K) where
       More : Type 0
       More = (x : control.Draft) → waiting kind x.pending ≡ es → Waits most x → any_due x.state es ≡ true → 0 < length (with_listed kind most es x).frames
 
-      go : (o : Option FrameValue) → e.frame d.state ≡ o → (is_some o || any_due d.state es) ≡ true → More → 0 < length (first_and_more o (with_listed kind most es) kind most e d).frames
+      go : (o : Option FrameValue) → e.frame d.state ≡ o → (is_some o || any_due d.state es) ≡ true → More → 0 < length (first_and_more o (with_listed kind most es) kind most d).frames
       go None there due more = more (first_dropped kind d) (others_wait kind d.pending e es is) (waits_on most kind d w) due
       go (Some f) there due more =
-          let fits = (k.control (streams_of d.state d.pending) kind e es f is there w.streams).0 in
-          let short = control_short f (entry_control kind d.pending e es d.state f is there) fits in
+          let known = kinds.first_goes kind d.pending e es d.state f is there in
+          let fits = (k.control (streams_of d.state d.pending) kind f known w.streams).0 in
+          let short = control_short f (control_of f kind known.of_kind) fits in
           let room = w.room in
-          let goes : nat_le (d.used + frame_size f) most ≡ true = le-leb (d.used + frame_size f) most (omega arith) in
-          rw goes (listed_more kind most es (first_sent kind e f d) (one_sent kind e f d))
+          let within : nat_le (d.used + frame_size f) most ≡ true = le-leb (d.used + frame_size f) most (omega arith) in
+          rw within (listed_more kind most es (first_sent kind f d) (one_sent kind f d))
 
   -- all of a kind was dropped, and nothing else changed
   record Dropped (most : ℕ) (kind : ControlKind) (d x : control.Draft) : Type 0 where
@@ -413,32 +255,36 @@ module _ (K : Streams → Type 0) (k : Spelling K) (c : Bringing K) where
       More : Type 0
       More = (x : control.Draft) → waiting kind x.pending ≡ es → Waits most x → any_due x.state es ≡ false → Dropped most kind x (with_listed kind most es x)
 
-      go : (o : Option FrameValue) → (is_some o || any_due d.state es) ≡ false → More → Dropped most kind d (first_and_more o (with_listed kind most es) kind most e d)
+      go : (o : Option FrameValue) → (is_some o || any_due d.state es) ≡ false → More → Dropped most kind d (first_and_more o (with_listed kind most es) kind most d)
       go None none more =
           let behind = more (first_dropped kind d) (others_wait kind d.pending e es is) (waits_on most kind d w) none in
           record { state = behind.state; others = λ other apart. behind.others other apart ∙ others_same kind other d.pending apart; waits = behind.waits }
       go (Some f) none more = cc
 
   -- what waits of kinds stays where another kind is dropped
-  any_same : (most : ℕ) (kind : ControlKind) (d x : control.Draft) → Dropped most kind d x → (kinds : List ControlKind) → IsApart kind kinds → any_of x.state x.pending kinds ≡ any_of d.state d.pending kinds
+  any_same : (most : ℕ) (kind : ControlKind) (d x : control.Draft) → Dropped most kind d x → (kinds : List ControlKind) → is_apart kind kinds ≡ true → any_of x.state x.pending kinds ≡ any_of d.state d.pending kinds
   any_same most kind d x dropped [] apart = refl
   any_same most kind d x dropped (other ∷ kinds) apart =
-      let rest = any_same most kind d x dropped kinds apart.1 in
+      let both = and_parts (not (place kind == place other)) (is_apart kind kinds) apart in
+      let rest = any_same most kind d x dropped kinds both.1 in
       let here : any_due x.state (waiting other x.pending) ≡ any_due d.state (waiting other d.pending) =
-      ap (λ (es : List Entry). any_due x.state es) (dropped.others other apart.0) ∙ ap (λ (s : StreamsState). any_due s (waiting other d.pending)) dropped.state in
+      ap (λ (es : List Entry). any_due x.state es) (dropped.others other (not-true (place kind == place other) both.0)) ∙ ap (λ (s : StreamsState). any_due s (waiting other d.pending)) dropped.state in
       rw (here, rest) refl
 
   -- of kinds with one that is due, a frame goes
-  kinds_go : (most : ℕ) (kinds : List ControlKind) (d : control.Draft) → AreApart kinds → Waits most d → any_of d.state d.pending kinds ≡ true → 0 < length (fold (with_kind most) d kinds).frames
+  kinds_go : (most : ℕ) (kinds : List ControlKind) (d : control.Draft) → are_apart kinds ≡ true → Waits most d → any_of d.state d.pending kinds ≡ true → 0 < length (fold (with_kind most) d kinds).frames
   kinds_go most [] d apart w due = cc
-  kinds_go most (kind ∷ kinds) d apart w due = go (any_due d.state (waiting kind d.pending)) refl due (λ x v on. kinds_go most kinds x apart.1 v on)
+  kinds_go most (kind ∷ kinds) d apart w due = go (any_due d.state (waiting kind d.pending)) refl due (λ x v on. kinds_go most kinds x each.1 v on)
     where
+      each : (is_apart kind kinds ≡ true) × (are_apart kinds ≡ true)
+      each = and_parts (is_apart kind kinds) (are_apart kinds) apart
+
       go : (b : Bool) → any_due d.state (waiting kind d.pending) ≡ b → (b || any_of d.state d.pending kinds) ≡ true → ((x : control.Draft) → Waits most x → any_of x.state x.pending kinds ≡ true → 0 < length (fold (with_kind most) x kinds).frames)
           → 0 < length (fold (with_kind most) (with_kind most d kind) kinds).frames
       go true here due more = kinds_more most kinds (with_kind most d kind) (listed_goes most kind (waiting kind d.pending) d refl w here)
       go false here due more =
           let dropped = listed_dropped most kind (waiting kind d.pending) d refl w here in
-          more (with_kind most d kind) dropped.waits (any_same most kind d (with_kind most d kind) dropped kinds apart.0 ∙ due)
+          more (with_kind most d kind) dropped.waits (any_same most kind d (with_kind most d kind) dropped kinds each.0 ∙ due)
 
   -- ---- what is composed
 
@@ -469,7 +315,7 @@ module _ (K : Streams → Type 0) (k : Spelling K) (c : Bringing K) where
 
       quiet : (not (is_empty e.waiting.frames e.streams) || (message_waits e || can_send_stream_data e.streams)) ≡ true → HasFrames (with_stream_frames (with_message_frames (with_control_frames (no_frames e))))
       quiet on = elim (or_cases (not (is_empty e.waiting.frames e.streams)) (message_waits e || can_send_stream_data e.streams) on) [
-        | inl some ↦ more (with_control_frames (no_frames e)) (control_goes (no_frames e) (omega arith) i (false_of (is_empty e.waiting.frames e.streams) some))
+        | inl some ↦ more (with_control_frames (no_frames e)) (control_goes (no_frames e) (omega arith) i (not-true (is_empty e.waiting.frames e.streams) some))
         | inr others ↦ elim (or_cases (message_waits e) (can_send_stream_data e.streams) others) [
           | inl some ↦ told (touched_or_not e) some
           | inr some ↦ behind (untold_or_not e) (c.queued (streams_at e) i some)

@@ -1,6 +1,6 @@
 -- What ACK frames name: an end that takes some waits for no packet more, and where the peer took what they name, each packet that is acknowledged was taken.
 use Rattle.std.proofs.Common.{◌≡◌, ℕ, Bool, true, false, not, List, [], ◌∷◌, filter, cond, Option, Some, None, refl, sym, ap, ◌∙◌, subst, inl, inr}
-use Rattle.quic_wire.specs.Value.{FrameValue, AckValue, ack, stream, reset_stream, stop_sending, max_data, max_stream_data, max_streams, stream_data_blocked, streams_blocked, new_token, handshake_done, datagram}
+use Rattle.quic_wire.specs.Value.{FrameValue, AckValue, ack, stream, reset_stream, stop_sending, max_data, max_stream_data, max_streams, new_token, handshake_done, datagram}
 use Rattle.quic_send_buffer.specs.declared.stream_meta.StreamMeta.{StreamMeta}
 use Rattle.quic_streams_parts.specs.Table.{Table}
 use Rattle.quic_machine.specs.Policy.{Policy}
@@ -245,8 +245,6 @@ by_frame (stop_sending f) e Q acks on same = on tt tt
 by_frame (max_data limit) e Q acks on same = on tt tt
 by_frame (max_stream_data f) e Q acks on same = on tt tt
 by_frame (max_streams f) e Q acks on same = on tt tt
-by_frame (stream_data_blocked f) e Q acks on same = on tt tt
-by_frame (streams_blocked f) e Q acks on same = on tt tt
 by_frame (datagram m) e Q acks on same = same tt (take_message m e).end.messages (message_leaves (λ (x : End). x ≡ with_messages e x.messages) m e refl (λ left. refl))
 by_frame (new_token t) e Q acks on same = same tt e.messages refl
 by_frame handshake_done e Q acks on same = same tt e.messages refl

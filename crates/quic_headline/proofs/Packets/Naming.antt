@@ -18,7 +18,7 @@ use Rattle.quic_spaces.specs.Numbers.{cut_against}
 use Rattle.quic_machine.specs.End.{End, number_of}
 use Rattle.quic_machine.specs.Poll.{Draft, ack_of, lazied, draft_if, with_ack, no_frames}
 use Rattle.quic_streams_parts.specs.SendHalf.{frame_of}
-use Rattle.quic_headline.proofs.Packets.Entries.{IsControl, entry_control}
+use Rattle.quic_headline.proofs.Packets.Entries.{IsControl, control_of}
 use Rattle.quic_headline.specs.Runs.{Packet, Intake, In, names}
 use Rattle.quic_headline.specs.Observer.{Sent}
 use Rattle.quic_machine.specs.Machine.{gave}
@@ -99,7 +99,7 @@ draft_acknowledges false e = by_writing (Acknowledges e.acknowledging.runs) (rec
   ack = λ d filled may k. acked_acknowledges e.acknowledging.runs d k;
   ping = λ d k. record { frames = ack_more e.acknowledging.runs d.frames ping k.frames (λ a is. cc); same = k.same };
   drops = λ d kind k. record { frames = k.frames; same = k.same };
-  control = λ d kind entry es f is goes k. record { frames = ack_more e.acknowledging.runs d.frames f k.frames (λ a ack_is. absurd (no_ack f a (entry_control kind d.end.waiting.frames entry es d.end.streams f is goes) ack_is)); same = k.same };
+  control = λ d kind f is k. record { frames = ack_more e.acknowledging.runs d.frames f k.frames (λ a ack_is. absurd (no_ack f a (control_of f kind is.of_kind) ack_is)); same = k.same };
   message = λ d m ms is fit k. record { frames = ack_more e.acknowledging.runs d.frames (datagram m) k.frames (λ a is. cc); same = k.same };
   stream = λ d id h room found first some is counts k. record { frames = ack_more e.acknowledging.runs d.frames (stream (frame_of id h room)) k.frames (λ a is. cc); same = k.same };
 }) e (record { frames = λ a i. absurd i; same = refl })

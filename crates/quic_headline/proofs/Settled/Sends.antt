@@ -9,6 +9,7 @@ use Rattle.quic_streams_parts.specs.Queue.{Place, Queue}
 use Rattle.quic_streams_parts.specs.Table.{at}
 use Rattle.quic_streams_parts.specs.SendHalf.{SendHalf, Queued, frame_of, half_after, has_pending, turned, turned_at}
 use Rattle.quic_streams_state.specs.declared.state.StreamsState.{StreamsState}
+use Rattle.quic_streams_state.specs.Control.{frame_told}
 use Rattle.quic_streams_state.specs.Frames.{after_frame_sent}
 use Rattle.quic_streams_laws.specs.Each.{HalfIs}
 use Rattle.quic_streams_laws.specs.EachLaws.{each_with, half_follows}
@@ -31,9 +32,9 @@ use Rattle.quic_headline.proofs.Places.Parties.{sent_by, sent_if}
 use Rattle.quic_headline.proofs.Places.Told.{in_left, in_last}
 use Rattle.quic_headline.proofs.Packets.Growth.{in_more}
 use Rattle.quic_headline.proofs.Duties.Flies.{frame_bytes}
-use Rattle.quic_headline.proofs.Packets.Entries.{IsControl, entry_control}
+use Rattle.quic_headline.proofs.Packets.Entries.{IsControl, control_of}
 use Rattle.quic_headline.proofs.Halves.Finished.{finished_words}
-use Rattle.quic_headline.proofs.Settled.Told.{same_told, tells_queue}
+use Rattle.quic_headline.proofs.Settled.Told.{same_told, told_queue}
 use Rattle.quic_headline.proofs.Settled.Half.{Known, KnowsMore, Tells, UnusedSettles, HalfSettles, DoneSettles, Settles, settles_kept, half_settles, settles_follow, requeued_settles, nothing_known}
 use Rattle.quic_headline.proofs.Settled.Acked.{telling}
 use Rattle.quic_headline.proofs.Settled.Words.{Settling, is_reset, retold}
@@ -125,12 +126,12 @@ module _ (arrived : ℕ → ℕ → Type 0) (end_arrived : ℕ → Type 0) (n : 
       ack = λ d filled may x. holds_less (K d.frames) (K (d.frames ++ _ ∷ [])) d.end.streams (g.apart d.frames _ tt) x;
       ping = λ d x. holds_less (K d.frames) (K (d.frames ++ _ ∷ [])) d.end.streams (g.apart d.frames _ tt) x;
       drops = λ d kind x. x;
-      control = λ d kind entry es f is due x.
+      control = λ d kind f is x.
           let s = d.end.streams in
           let t : Tells = telling n (is_reset w) s in
           let k : Known = K d.frames in
-          holds_less k (K (d.frames ++ f ∷ [])) (entry.told s) (g.apart d.frames f (control_apart f (entry_control kind d.end.waiting.frames entry es s f is due)))
-          ((finished_words arrived end_arrived).tells kind d.end.waiting.frames entry es w s is x.0, retold k n w s (entry.told s) (same_told s (entry.told s) (tells_queue kind d.end.waiting.frames entry es s is)) (by_told (Settles k t) (settles_kept k t) kind d.end.waiting.frames entry es s is x.1));
+          holds_less k (K (d.frames ++ f ∷ [])) (frame_told f s) (g.apart d.frames f (control_apart f (control_of f kind is.of_kind)))
+          ((finished_words arrived end_arrived).tells f w s x.0, retold k n w s (frame_told f s) (same_told s (frame_told f s) (told_queue f s)) (by_told (Settles k t) (settles_kept k t) f s x.1));
       message = λ d m ms is fit x. holds_less (K d.frames) (K (d.frames ++ datagram m ∷ [])) d.end.streams (g.apart d.frames (datagram m) tt) x;
       stream = λ d id h room found first some is counts x.
           let s = d.end.streams in

@@ -1,11 +1,11 @@
 -- No word about streams but an acknowledgement, and what is told, changes which streams wait to be told finished.
-use Rattle.std.proofs.Common.{◌≡◌, ℕ, ◌+◌, Bool, true, false, List, [], ◌∷◌, length, Option, Some, None, Result, Ok, Err, refl, ap, ◌∙◌, subst, arith}
+use Rattle.std.proofs.Common.{◌≡◌, ℕ, ◌+◌, Bool, true, false, List, [], ◌∷◌, length, Option, Some, None, Result, Ok, Err, refl, ap, ◌∙◌, arith}
 use Rattle.std.specs.Prelude.{zero, suc, ◌==◌, ◌&&◌, ◌||◌, not, nat_le, nat_lt, take, ℤ}
 use Rattle.std.specs.Option.{is_some}
 use Rattle.std.proofs.lemmas.Bool.{cond_both}
 use Rattle.quic_wire_core.specs.StreamId.{dir_of}
 use Rattle.quic_wire_core.specs.declared.stream_id.Dir.{Dir}
-use Rattle.quic_wire.specs.Value.{StreamValue, ResetStreamValue, StopSendingValue}
+use Rattle.quic_wire.specs.Value.{FrameValue, StreamValue, ResetStreamValue, StopSendingValue}
 use Rattle.quic_assembler.specs.declared.assembler.Chunk.{Chunk}
 use Rattle.quic_send_buffer.specs.declared.stream_meta.StreamMeta.{StreamMeta}
 use Rattle.quic_streams_parts.specs.declared.answers.Breach.{Breach}
@@ -26,9 +26,8 @@ use Rattle.quic_streams_parts.specs.SendHalf.{SendHalf}
 use Rattle.quic_streams_parts.specs.RecvHalf.{RecvHalf, after_frame, after_reset_stream}
 use Rattle.quic_streams_halves.specs.Halves.{is_done, without_half}
 use Rattle.quic_retransmits.specs.Retransmits.{Retransmits}
-use Rattle.quic_streams_state.specs.declared.control.ControlKind.{ControlKind}
-use Rattle.quic_streams_state.specs.declared.control.ControlKind.TheVariants.{ResetStream, StopSending, MaxData, MaxStreamData, MaxStreams, DataBlocked, StreamDataBlocked}
 use Rattle.quic_streams_state.specs.declared.state.StreamsState.{StreamsState}
+use Rattle.quic_streams_state.specs.Control.{frame_told}
 use Rattle.quic_streams_state.specs.State.{Streams, receiving_half, sending_half, with_recv, with_send, send_done, without_send, recv_done, done_if, receiving_status, sending_status, seen_at, room}
 use Rattle.quic_streams_state.specs.Limits.{most_streams}
 use Rattle.quic_streams_state.specs.Opening.{opened_if, opened_by, opens, after_open, after_max_streams, sending_refusal}
@@ -36,10 +35,9 @@ use Rattle.quic_streams_state.specs.Taking.{joined, part_for, readable_if, ended
 use Rattle.quic_streams_state.specs.Writing.{after_write, written_by, blocked_at, accepted_at, after_write_chunks, chunks_written_by, chunks_accepted_at, finish_answer, after_finish, finished_by, ended_at, after_reset, reset_at, after_set_priority, priority_at}
 use Rattle.quic_streams_state.specs.Reading.{Told, told_bytes, told_end, told_reset, after_next, read_by, after_read_begun, read_answer, begun_unless, begun_at, stopped_if, stopped_at, after_stop, reset_told, received_reset_answer, after_received_reset}
 use Rattle.quic_streams_state.specs.Acked.{after_stream_lost, lost_at, after_reset_acked, reset_acked_at}
-use Rattle.quic_streams_state.specs.Control.{Entry, waiting, reset_entry, stop_entry, data_entry, limit_entry, count_entry, blocked_entry, stream_blocked_entry}
 use Rattle.quic_streams_laws.specs.Keeping.{finishes_in}
 use Rattle.quic_streams_laws.specs.KeepingLaws.{finishes_append}
-use Rattle.quic_streams_laws.specs.QuietLaws.{all_any, listed_first, flag_first}
+use Rattle.quic_streams_laws.specs.QuietLaws.{by_tells}
 
 -- as often each stream waits to be told finished in both
 abbrev pub AsOften : List StreamEvent → List StreamEvent → Type 0
@@ -279,11 +277,5 @@ reset_acked_queue s p id = go (at s.sending.halves.live id)
 
 -- ---- frames that go
 
-pub tells_queue : (kind : ControlKind) (p : Retransmits) (e : Entry) (es : List Entry) (s : StreamsState) → waiting kind p ≡ e ∷ es → (e.told s).events.queue ≡ s.events.queue
-tells_queue ResetStream p e es s is = let x = listed_first (λ r. Unit {0}) reset_entry p.reset_stream e es (all_any p.reset_stream) is in subst (λ (y : Entry). (y.told s).events.queue ≡ s.events.queue) x.2 refl
-tells_queue StopSending p e es s is = let x = listed_first (λ r. Unit {0}) stop_entry p.stop_sending e es (all_any p.stop_sending) is in subst (λ (y : Entry). (y.told s).events.queue ≡ s.events.queue) x.2 refl
-tells_queue MaxData p e es s is = subst (λ (y : Entry). (y.told s).events.queue ≡ s.events.queue) (flag_first p.max_data data_entry e es is) refl
-tells_queue MaxStreamData p e es s is = let x = listed_first (λ r. Unit {0}) limit_entry p.max_stream_data e es (all_any p.max_stream_data) is in subst (λ (y : Entry). (y.told s).events.queue ≡ s.events.queue) x.2 refl
-tells_queue (MaxStreams dir) p e es s is = subst (λ (y : Entry). (y.told s).events.queue ≡ s.events.queue) (flag_first (of dir p.max_stream_id) (count_entry dir) e es is) refl
-tells_queue DataBlocked p e es s is = subst (λ (y : Entry). (y.told s).events.queue ≡ s.events.queue) (flag_first p.data_blocked blocked_entry e es is) refl
-tells_queue StreamDataBlocked p e es s is = let x = listed_first (λ r. Unit {0}) stream_blocked_entry p.stream_data_blocked e es (all_any p.stream_data_blocked) is in subst (λ (y : Entry). (y.told s).events.queue ≡ s.events.queue) x.2 refl
+pub told_queue : (f : FrameValue) (s : StreamsState) → (frame_told f s).events.queue ≡ s.events.queue
+told_queue f s = by_tells (λ (t : StreamsState). t.events.queue ≡ s.events.queue) s refl refl (λ id. refl) (λ dir. refl) f

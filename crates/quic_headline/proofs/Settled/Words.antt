@@ -4,7 +4,7 @@ use Rattle.std.specs.Prelude.{◌==◌, ◌||◌, not, if◌then◌else◌, take
 use Rattle.std.specs.List.{concat}
 use Rattle.std.specs.Option.{is_some, is_none}
 use Rattle.std.proofs.lemmas.Bool.{cond_both, both_ways}
-use Rattle.quic_wire.specs.Value.{FrameValue, stream, reset_stream, stop_sending, max_data, max_stream_data, max_streams, stream_data_blocked, streams_blocked}
+use Rattle.quic_wire.specs.Value.{FrameValue, stream, reset_stream, stop_sending, max_data, max_stream_data, max_streams}
 use Rattle.quic_send_buffer.specs.Buffered.{is_fully_acked}
 use Rattle.quic_send_buffer.specs.Source.{bytes_of, cut_to}
 use Rattle.quic_send_buffer.specs.declared.stream_meta.StreamMeta.{StreamMeta}
@@ -219,8 +219,6 @@ module _ (arrived : ℕ → ℕ → Type 0) (end_arrived : ℕ → Type 0) (k : 
   frame_settled (max_data limit) e on i = let s = e.streams in retold k n w s (after_max_data s limit) (λ q. refl) (by_max_data (Settles k (telling n (is_reset w) s)) (settles_kept k (telling n (is_reset w) s)) s limit i)
   frame_settled (max_stream_data f) e on i = let s = e.streams in retold k n w s (after_max_stream_data s f.id f.limit) (max_stream_data_told s f.id f.limit) (by_max_stream_data (Settles k (telling n (is_reset w) s)) (settles_kept k (telling n (is_reset w) s)) s f.id f.limit (λ h is above q. q) i)
   frame_settled (max_streams f) e on i = let s = e.streams in retold k n w s (after_max_streams (dir_named f.one_way) f.count s) (max_streams_told (dir_named f.one_way) f.count s) (by_max_streams (Settles k (telling n (is_reset w) s)) (settles_kept k (telling n (is_reset w) s)) (dir_named f.one_way) f.count s i)
-  frame_settled (stream_data_blocked f) e on i = i
-  frame_settled (streams_blocked f) e on i = i
   frame_settled f e on i = absurd on
 
   -- a frame on streams

@@ -1,13 +1,10 @@
 -- Where nothing waits that asks for an acknowledgement, what goes doesn't ask.
-use Rattle.std.proofs.Common.{◌≡◌, ℕ, ◌+◌, ◌-◌, ◌<◌, ◌≤◌, List, [], ◌∷◌, length, Bool, true, false, Option, Some, None, refl, sym, ap, ◌∙◌, subst, arith}
-use Rattle.std.specs.Prelude.{not, ◌&&◌, ◌||◌, ◌*◌, nat_lt, nat_le, map, if◌then◌else◌}
-use Rattle.std.specs.List.{list_any}
-use Rattle.std.specs.Option.{is_some, option_map}
-use Rattle.std.proofs.lemmas.Bool.{or_parts, and_parts, not-true, not-false, leb-true, leb-false}
-use Rattle.quic_wire_core.specs.declared.stream_id.Dir.{Dir}
-use Rattle.quic_wire_core.specs.declared.stream_id.Dir.TheVariants.{Bi, Uni}
+use Rattle.std.proofs.Common.{◌≡◌, ℕ, ◌+◌, ◌-◌, ◌<◌, ◌≤◌, List, [], ◌∷◌, length, Bool, true, false, Some, None, refl, sym, ap, ◌∙◌, subst, arith}
+use Rattle.std.specs.Prelude.{not, ◌||◌, ◌==◌, ◌*◌, nat_lt, nat_le, if◌then◌else◌}
+use Rattle.std.specs.Option.{is_some}
+use Rattle.std.proofs.lemmas.Bool.{or_left, or_parts, and_parts, both_ways, not-false, leb-true, leb-false}
 use Rattle.quic_wire_core.specs.Law.{length-shortest, varint_size_positive}
-use Rattle.quic_wire.specs.Value.{FrameValue, AckValue, ack, datagram, stream_data_blocked}
+use Rattle.quic_wire.specs.Value.{FrameValue, AckValue, ack, datagram}
 use Rattle.quic_wire.specs.AckGrammar.{GoDown, AckFits, ack_numbers}
 use Rattle.quic_wire.specs.NumbersWritten.{width_of, widths}
 use Rattle.quic_wire.specs.Writing.{frame_size}
@@ -15,17 +12,13 @@ use Rattle.quic_wire.proofs.FrameWritten.{spelling_length}
 use Rattle.quic_recovery_core.specs.PendingAcks.{is_filled, can_send}
 use Rattle.quic_messages.specs.Messages.{fitting, frame_bytes}
 use Rattle.quic_retransmits.specs.Retransmits.{Retransmits, others_of}
-use Rattle.quic_streams_parts.specs.Table.{at}
-use Rattle.quic_streams_parts.specs.Dirs.{Flags, of, with_of}
 use Rattle.quic_streams_parts.specs.Queue.{Place, first_of, first_queued}
 use Rattle.quic_streams_parts.specs.Queue as queue
-use Rattle.quic_streams_parts.specs.RecvHalf.{RecvHalf}
 use Rattle.quic_streams_state.specs.declared.state.StreamsState.{StreamsState}
-use Rattle.quic_streams_state.specs.declared.control.ControlKind.{ControlKind}
-use Rattle.quic_streams_state.specs.declared.control.ControlKind.TheVariants.{ResetStream, StopSending, MaxData, MaxStreamData, MaxStreams, DataBlocked, StreamDataBlocked}
-use Rattle.quic_streams_state.specs.Limits.{takes_limits_of, can_send_data_blocked, can_send_flow_control}
-use Rattle.quic_streams_state.specs.Waiting.{is_any, is_empty, can_send_stream_data, stream_data_blocked_limit}
-use Rattle.quic_streams_state.specs.Control.{Entry, reset_entry, stop_entry, data_entry, limit_frame, limit_entry, count_entry, blocked_entry, stream_blocked_entry, flagged, waiting, without_first}
+use Rattle.quic_retransmits.specs.declared.retransmits.ControlKind.{ControlKind}
+use Rattle.quic_streams_state.specs.Waiting.{is_empty, can_send_stream_data}
+use Rattle.quic_streams_state.specs.Control.{Entry, waiting, without_first, frame_of_first}
+use Rattle.quic_streams_state.specs.ControlLaws.{is_due, any_due, none_due, others_wait, others_same, place, same_place}
 use Rattle.quic_spaces.specs.Numbers.{cut_against}
 use Rattle.quic_machine.specs.End.{End, number_of}
 use Rattle.quic_machine.specs.Poll.{Draft, current_mtu, no_frames, frame_room, least_room, fits, ping_if, with_control_frames, with_message_frames, with_stream_frames, ack_of, with_ack, composed_if, composed, asking, message_waits, asks_to_go}
@@ -36,116 +29,33 @@ use Rattle.quic_headline.proofs.Packets.Composed.{ack_form}
 -- ---- what waits beside the bytes of streams
 
 -- Nothing of it would go.
-record NoneDue (p : Retransmits) (s : StreamsState) : Type 0 where
-  resets : is_any p.reset_stream ≡ false
-  stops : is_any p.stop_sending ≡ false
-  all_limits : p.max_data ≡ false
-  limits : list_any (λ id. can_send_flow_control s id) p.max_stream_data ≡ false
-  counts : (dir : Dir) → of dir p.max_stream_id ≡ false
-  all_blocked : (p.data_blocked && can_send_data_blocked s) ≡ false
-  blocked : list_any (λ id. is_some (stream_data_blocked_limit s id)) p.stream_data_blocked ≡ false
+abbrev NoneDue : Retransmits → StreamsState → Type 0
+NoneDue p s = (kind : ControlKind) → any_due s (waiting kind p) ≡ false
 
--- so it is where nothing waits that would be written
-none_due : (p : Retransmits) (s : StreamsState) → is_empty p s ≡ true → NoneDue p s
-none_due p s empty =
-    let frequency = or_parts _ p.ack_frequency (not-true _ empty) in
-    let retired = or_parts _ (is_any p.retire_cids) frequency.0 in
-    let ids = or_parts _ (is_any p.new_cids) retired.0 in
-    let blocked = or_parts _ (list_any (λ id. is_some (stream_data_blocked_limit s id)) p.stream_data_blocked) ids.0 in
-    let limits = or_parts _ (list_any (λ id. can_send_flow_control s id) p.max_stream_data) blocked.0 in
-    let stops = or_parts _ (is_any p.stop_sending) limits.0 in
-    let resets = or_parts _ (is_any p.reset_stream) stops.0 in
-    let counts = or_parts _ (p.max_stream_id.bi || p.max_stream_id.uni) resets.0 in
-    let all = or_parts p.max_data (p.data_blocked && can_send_data_blocked s) counts.0 in
-    let each = or_parts p.max_stream_id.bi p.max_stream_id.uni counts.1 in
-    record { resets = resets.1; stops = stops.1; all_limits = all.0; limits = limits.1; counts = λ dir. of_each dir each.0 each.1; all_blocked = all.1; blocked = blocked.1 }
-  where
-    of_each : (dir : Dir) → p.max_stream_id.bi ≡ false → p.max_stream_id.uni ≡ false → of dir p.max_stream_id ≡ false
-    of_each Bi bi uni = bi
-    of_each Uni bi uni = uni
-
--- of a list with none, none is left without its first
-no_others : {A : Type 0} (xs : List A) → is_any xs ≡ false → is_any (others_of xs) ≡ false
-no_others [] none = refl
-no_others (x ∷ xs) none = cc
-
--- nor one that passes a test
-none_pass : (f : ℕ → Bool) (xs : List ℕ) → list_any f xs ≡ false → list_any f (others_of xs) ≡ false
-none_pass f [] none = refl
-none_pass f (x ∷ xs) none = (or_parts (f x) (list_any f xs) none).1
-
--- nor a flag
-no_flags : (dir other : Dir) (f : Flags) → ((d : Dir) → of d f ≡ false) → of other (with_of dir false f) ≡ false
-no_flags Bi Bi f none = refl
-no_flags Bi Uni f none = none Uni
-no_flags Uni Bi f none = none Bi
-no_flags Uni Uni f none = refl
+-- of a list with none that is due, none is without its first
+none_behind : (s : StreamsState) (es : List Entry) → any_due s es ≡ false → any_due s (others_of es) ≡ false
+none_behind s [] none = refl
+none_behind s (e ∷ es) none = (or_parts (is_due s e) (any_due s es) none).1
 
 -- it is so still without the first of a kind
 none_without : (kind : ControlKind) (p : Retransmits) (s : StreamsState) → NoneDue p s → NoneDue (without_first kind p) s
-none_without ResetStream p s n = record { resets = no_others p.reset_stream n.resets; stops = n.stops; all_limits = n.all_limits; limits = n.limits; counts = n.counts; all_blocked = n.all_blocked; blocked = n.blocked }
-none_without StopSending p s n = record { resets = n.resets; stops = no_others p.stop_sending n.stops; all_limits = n.all_limits; limits = n.limits; counts = n.counts; all_blocked = n.all_blocked; blocked = n.blocked }
-none_without MaxData p s n = record { resets = n.resets; stops = n.stops; all_limits = refl; limits = n.limits; counts = n.counts; all_blocked = n.all_blocked; blocked = n.blocked }
-none_without MaxStreamData p s n = record { resets = n.resets; stops = n.stops; all_limits = n.all_limits; limits = none_pass (λ id. can_send_flow_control s id) p.max_stream_data n.limits; counts = n.counts; all_blocked = n.all_blocked; blocked = n.blocked }
-none_without (MaxStreams dir) p s n = record { resets = n.resets; stops = n.stops; all_limits = n.all_limits; limits = n.limits; counts = λ other. no_flags dir other p.max_stream_id n.counts; all_blocked = n.all_blocked; blocked = n.blocked }
-none_without DataBlocked p s n = record { resets = n.resets; stops = n.stops; all_limits = n.all_limits; limits = n.limits; counts = n.counts; all_blocked = refl; blocked = n.blocked }
-none_without StreamDataBlocked p s n = record { resets = n.resets; stops = n.stops; all_limits = n.all_limits; limits = n.limits; counts = n.counts; all_blocked = n.all_blocked; blocked = none_pass (λ id. is_some (stream_data_blocked_limit s id)) p.stream_data_blocked n.blocked }
-
--- ---- its frames
-
--- no entry of an empty list
-not_listed : {A : Type 0} (entry : A → Entry) (xs : List A) (e : Entry) (es : List Entry) → is_any xs ≡ false → map entry xs ≡ e ∷ es → ⊥
-not_listed entry [] e es none is = cc
-not_listed entry (x ∷ xs) e es none is = cc
-
--- nor of a flag that isn't set
-not_flagged : (b : Bool) (entry e : Entry) (es : List Entry) → b ≡ false → flagged b entry ≡ e ∷ es → ⊥
-not_flagged true entry e es none is = cc
-not_flagged false entry e es none is = cc
-
--- a frame that there is not
-no_frame : (o : Option FrameValue) (f : FrameValue) → o ≡ None → o ≡ Some f → ⊥
-no_frame o f none some = cc
-
--- the first of a list has none, where none of the list has
-not_first : (s : StreamsState) (entry : ℕ → Entry) (counts : ℕ → Bool) → ((id : ℕ) → counts id ≡ false → (entry id).frame s ≡ None) → (xs : List ℕ) (e : Entry) (es : List Entry) (f : FrameValue) → list_any counts xs ≡ false → map entry xs ≡ e ∷ es → e.frame s ≡ Some f → ⊥
-not_first s entry counts each [] e es f none is due = cc
-not_first s entry counts each (x ∷ xs) e es f none is due =
-    let first : entry x ≡ e = cc in
-    no_frame ((entry x).frame s) f (each x (or_parts (counts x) (list_any counts xs) none).0) (ap (λ (y : Entry). y.frame s) first ∙ due)
-
--- MAX_STREAM_DATA of a half that takes no limits
-no_limit : (s : StreamsState) (id : ℕ) → can_send_flow_control s id ≡ false → (limit_entry id).frame s ≡ None
-no_limit s id none = go (at s.receiving.halves.live id) none
+none_without kind p s none other = go (place kind == place other) refl
   where
-    go : (o : Option RecvHalf) → takes_limits_of o ≡ false → limit_frame s.receiving.stream_window id o ≡ None
-    go None none = refl
-    go (Some h) none = rw none refl
+    go : (b : Bool) → (place kind == place other) ≡ b → any_due s (waiting other (without_first kind p)) ≡ false
+    go true is = subst (λ (k : ControlKind). any_due s (waiting k (without_first kind p)) ≡ false) (same_place kind other is) (ap (any_due s) (others_wait kind p) ∙ none_behind s (waiting kind p) (none kind))
+    go false is = ap (any_due s) (others_same kind other p is) ∙ none other
 
--- STREAM_DATA_BLOCKED that names no limit
-no_blocked : (s : StreamsState) (id : ℕ) → is_some (stream_data_blocked_limit s id) ≡ false → (stream_blocked_entry id).frame s ≡ None
-no_blocked s id none = go (stream_data_blocked_limit s id) none
-  where
-    go : (o : Option ℕ) → is_some o ≡ false → option_map (λ limit. stream_data_blocked (record { id = id; limit = limit })) o ≡ None
-    go None none = refl
-    go (Some limit) none = cc
-
--- DATA_BLOCKED that waits, or doesn't
-no_data_blocked : (s : StreamsState) (b : Bool) (e : Entry) (es : List Entry) (f : FrameValue) → (b && can_send_data_blocked s) ≡ false → flagged b blocked_entry ≡ e ∷ es → e.frame s ≡ Some f → ⊥
-no_data_blocked s true e es f none is due =
-    let first : blocked_entry ≡ e = cc in
-    no_frame (blocked_entry.frame s) f (rw none refl) (ap (λ (y : Entry). y.frame s) first ∙ due)
-no_data_blocked s false e es f none is due = cc
-
--- so none goes
+-- none of it has a frame
 none_goes : (kind : ControlKind) (p : Retransmits) (s : StreamsState) → NoneDue p s → (e : Entry) (es : List Entry) (f : FrameValue) → waiting kind p ≡ e ∷ es → e.frame s ≡ Some f → ⊥
-none_goes ResetStream p s n e es f is due = not_listed reset_entry p.reset_stream e es n.resets is
-none_goes StopSending p s n e es f is due = not_listed stop_entry p.stop_sending e es n.stops is
-none_goes MaxData p s n e es f is due = not_flagged p.max_data data_entry e es n.all_limits is
-none_goes MaxStreamData p s n e es f is due = not_first s limit_entry (λ id. can_send_flow_control s id) (no_limit s) p.max_stream_data e es f n.limits is due
-none_goes (MaxStreams dir) p s n e es f is due = not_flagged (of dir p.max_stream_id) (count_entry dir) e es (n.counts dir) is
-none_goes DataBlocked p s n e es f is due = no_data_blocked s p.data_blocked e es f n.all_blocked is due
-none_goes StreamDataBlocked p s n e es f is due = not_first s stream_blocked_entry (λ id. is_some (stream_data_blocked_limit s id)) (no_blocked s) p.stream_data_blocked e es f n.blocked is due
+none_goes kind p s none e es f is due = both_ways (any_due s (waiting kind p)) (none kind) (ap (any_due s) is ∙ or_left (is_due s e) (any_due s es) (ap is_some due))
+
+-- nor the first of what waits
+none_first : (kind : ControlKind) (p : Retransmits) (s : StreamsState) → NoneDue p s → (f : FrameValue) → frame_of_first (waiting kind p) s ≡ Some f → ⊥
+none_first kind p s n f first = go (waiting kind p) refl first
+  where
+    go : (es : List Entry) → waiting kind p ≡ es → frame_of_first es s ≡ Some f → ⊥
+    go [] is due = cc
+    go (e ∷ es) is due = none_goes kind p s n e es f is due
 
 -- ---- drafts that don't ask
 
@@ -162,7 +72,7 @@ record IsMute (e : End) (d : Draft) : Type 0 where
 mute_control : (e : End) (d : Draft) → IsMute e d → IsMute e (with_control_frames d)
 mute_control e = by_entries (IsMute e)
     (λ d kind m. record { asks = m.asks; long = m.long; room = m.room; streams = m.streams; messages = m.messages; none = none_without kind d.end.waiting.frames d.end.streams m.none })
-    (λ d kind x es f is due m. absurd (none_goes kind d.end.waiting.frames d.end.streams m.none x es f is due))
+    (λ d kind f is m. absurd (none_first kind d.end.waiting.frames d.end.streams m.none f is.first))
 
 -- no message
 mute_messages : (e : End) → message_waits e ≡ false → (d : Draft) → IsMute e d → IsMute e (with_message_frames d)

@@ -6,7 +6,7 @@ use Rattle.std.proofs.lemmas.List.{length-append}
 use Rattle.std.proofs.lemmas.List.Folds.{list_any-append}
 use Rattle.quic_wire_core.specs.declared.shared.EcnCodepoint.TheVariants.{Ect0}
 use Rattle.quic_wire_core.specs.StreamId.{other_side}
-use Rattle.quic_wire.specs.Value.{FrameValue, ack, ping, stream, datagram, reset_stream, stop_sending, max_data, max_stream_data, max_streams, data_blocked, stream_data_blocked, asks}
+use Rattle.quic_wire.specs.Value.{FrameValue, padding, ack, ping, stream, connection_close, application_close, datagram, asks}
 use Rattle.quic_wire.specs.AckGrammar.{AckFits}
 use Rattle.quic_wire.specs.Writing.{spelling}
 use Rattle.quic_wire.proofs.FrameWritten.{spelling_length}
@@ -43,7 +43,7 @@ use Rattle.quic_headline.specs.Headline.{IsHonest, IsRun}
 use Rattle.quic_headline.specs.Observer.{sents_until}
 use Rattle.quic_headline.specs.Polls.{IsMade, ProbesPass}
 use Rattle.quic_headline.proofs.Packets.Invariant.{Acks}
-use Rattle.quic_headline.proofs.Packets.Entries.{IsControl, entry_control}
+use Rattle.quic_headline.proofs.Packets.Entries.{IsControl, control_of}
 use Rattle.quic_headline.proofs.Packets.Composed.{Spelling, ack_form}
 use Rattle.quic_headline.proofs.Packets.Going.{Bringing, control_goes}
 use Rattle.quic_headline.proofs.Packets.Flying.{asking_padded}
@@ -78,26 +78,23 @@ asks_stay = record {
   ack = λ d filled may is. still_asks d (ack (ack_of d.end)) is;
   ping = λ d is. still_asks d ping is;
   drops = λ d kind is. is;
-  control = λ d kind e es f first due is. still_asks d f is;
+  control = λ d kind f is asked. still_asks d f asked;
   message = λ d m ms first fit is. still_asks d (datagram m) is;
   stream = λ d id h room found first left at counts is. still_asks d (stream (frame_of id h room)) is;
 }
 
 -- a frame of control asks
 control_asks : (f : FrameValue) → IsControl f → asks f ≡ true
-control_asks (reset_stream f) is = refl
-control_asks (stop_sending f) is = refl
-control_asks (max_data limit) is = refl
-control_asks (max_stream_data f) is = refl
-control_asks (max_streams f) is = refl
-control_asks (data_blocked limit) is = refl
-control_asks (stream_data_blocked f) is = refl
-control_asks f is = absurd is
+control_asks padding is = absurd is
+control_asks (ack a) is = absurd is
+control_asks (connection_close c) is = absurd is
+control_asks (application_close c) is = absurd is
+control_asks f is = refl
 
 -- so frames of control do behind a draft, if any go
 control_or_none : (d : Draft) → Asks (with_control_frames d) ⊎ (length (with_control_frames d).frames ≡ length d.frames)
 control_or_none d = by_entries (λ (x : Draft). Asks x ⊎ (length x.frames ≡ length d.frames)) (λ x kind before. before)
-    (λ x kind e es f first due before. inl (last_asks x f (control_asks f (entry_control kind x.end.waiting.frames e es x.end.streams f first due)))) d (inr refl)
+    (λ x kind f is before. inl (last_asks x f (control_asks f (control_of f kind is.of_kind)))) d (inr refl)
 
 -- messages and frames of streams go behind them
 more_ask : (d : Draft) → Asks d → Asks (with_stream_frames (with_message_frames d))

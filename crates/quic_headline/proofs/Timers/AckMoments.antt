@@ -28,7 +28,7 @@ use Rattle.quic_headline.specs.Runs.{Run, Told, Packet, Intake, In, given_of, un
 use Rattle.quic_headline.specs.Observer.{Sent, Watch, first_watch, news, Lens, watch_told, lens_of}
 use Rattle.quic_headline.specs.Headline.{IsHonest}
 use Rattle.quic_headline.specs.Moments.{is_ack, acknowledges, went, arrivals_of, Debt, arrivals_behind, debt_told, first_debt, IsDueFor, AckMoments}
-use Rattle.quic_headline.proofs.Packets.Entries.{IsControl, entry_control}
+use Rattle.quic_headline.proofs.Packets.Entries.{IsControl, control_of}
 use Rattle.quic_headline.proofs.Packets.Intakes.{folded_more}
 use Rattle.quic_headline.proofs.Packets.Delivered.{Arrivals, arrived, with_taken}
 use Rattle.quic_headline.proofs.Packets.Watching.{one_new, watched_intake}
@@ -81,7 +81,7 @@ draft_stopped held e alone = by_leave Stopped (record {
   ack = λ d filled may i is. refl;
   ping = λ d i some. i (any_more d.frames _ refl some);
   drops = λ d kind i. i;
-  control = λ d kind entry es f is goes i some. i (any_more d.frames f (control_not f (entry_control kind d.end.waiting.frames entry es d.end.streams f is goes)) some);
+  control = λ d kind f is i some. i (any_more d.frames f (control_not f (control_of f kind is.of_kind)) some);
   message = λ d m ms is fit i acks. i (any_more d.frames (datagram m) refl acks);
   stream = λ d id h room found first some is counts i acks. i (any_more d.frames _ refl acks);
 }) held e alone (λ is. cc)
@@ -132,7 +132,7 @@ expired_none : (e : End) (now : ℕ) (acks loss pacing : Bool) → SetsNone e (a
 expired_none e now acks loss pacing moment set = acks_none e now acks loss moment (sym (pacing_none pacing (acks_expired acks (loss_expired loss (with_closing e (ticked e.closing now))))) ∙ set)
 
 draft_none : (held : Bool) (e : End) → MayLeave held e → SetsNone e (draft_if held e).end
-draft_none held e alone = by_leave (λ (d : Draft). SetsNone e d.end) (record { ack = λ d filled may i moment set. cc; ping = λ d i. i; drops = λ d kind i. i; control = λ d kind entry es f is goes i. i; message = λ d m ms is fit i. i; stream = λ d id h room found first some is counts i. i }) held e alone (λ moment set. set)
+draft_none held e alone = by_leave (λ (d : Draft). SetsNone e d.end) (record { ack = λ d filled may i moment set. cc; ping = λ d i. i; drops = λ d kind i. i; control = λ d kind f is i. i; message = λ d m ms is fit i. i; stream = λ d id h room found first some is counts i. i }) held e alone (λ moment set. set)
 
 -- nor does an end that is made ready
 ready_none : (e : End) (now : ℕ) → SetsNone e (ready_at e now).end

@@ -71,7 +71,7 @@ draft_follows = by_leave (λ (d : Draft). AckTimerFollows d.end) (record {
   ack = λ d filled may i. unset_follows (with_ack d).end refl;
   ping = λ d i. i;
   drops = λ d kind i. i;
-  control = λ d kind entry es f is goes i. i;
+  control = λ d kind f is i. i;
   message = λ d m ms is fit i. i;
   stream = λ d id h room found first some is counts i. i;
 })

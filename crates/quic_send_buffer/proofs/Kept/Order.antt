@@ -5,6 +5,7 @@ use Rattle.std.specs.List.Sorted.{IsPartitionedBy, IsPartitionPoint}
 use Rattle.std.proofs.lemmas.Bool.{le-leb, leb-true, leb-false, lt-ltb, le-ltb}
 use Rattle.quic_sets.specs.Parts.{Part, after}
 use Rattle.quic_send_buffer.specs.KeptBytes.{AreInTurn}
+use Rattle.quic_send_buffer.specs.Row.{others_of}
 
 -- ---- the ends rise
 
@@ -57,3 +58,9 @@ at_point o i ps p point lt e = after_some o i ps p (λ k d l. point.0 k d (omega
 
 pub past_point : (o i : ℕ) (ps : List Part) → IsPoint o i ps → length ps ≤ i → None ≡ after o ps
 past_point o i ps point le = after_none o ps (λ k d l. point.0 k d (omega arith) (omega (arith, l, le)))
+
+-- ---- of a row whose first stands apart
+
+pub others_ordered : (o : ℕ) (ps : List Part) → IsPartitionedBy (λ p. leb p.0 o) ps → IsPartitionedBy (λ p. leb p.0 o) (others_of ps)
+others_ordered o [] h = h
+others_ordered o (p ∷ ps) h = λ i j d le lt up. h (suc i) (suc j) d (omega (arith, le)) (omega (arith, lt)) up

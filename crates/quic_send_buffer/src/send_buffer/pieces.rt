@@ -7,6 +7,7 @@ ghost use Rattle.quic_send_buffer.specs.Buffered.{piece_end};
 ghost use Rattle.quic_send_buffer.specs.Source.{bytes_of, cut_to};
 ghost use Rattle.quic_send_buffer.specs.KeptBytes.{with_piece, with_each, released_to, first_end, behind, base_behind, parts_from};
 
+use super::row::Row;
 use bytes::Bytes;
 use std::alloc::{AllocError, Global};
 use std::collections::VecDeque;
@@ -17,8 +18,9 @@ use std::ops::Range;
 #[derive(Drop)]
 pub(crate) struct Pieces {
     // Each piece with the offset behind it. A queue, as pieces come behind the last and go in front
-    // alone, which costs little there; since the offsets rise, halving finds one by its offset.
-    queue: VecDeque<(u64, Bytes)>,
+    // alone, which costs little there; since the offsets rise, halving finds one by its offset. A
+    // short stream has one piece, and a row no memory of its own for that.
+    queue: Row<(u64, Bytes)>,
     // The offset of the first byte, and the one behind the last.
     base: u64,
     end: u64,
@@ -32,28 +34,24 @@ impl Model for Pieces {
 
     ghost Value = { KeptBytes };
 
-    ghost view = { λ p. record { base = p.base; bytes = bytes_of p.queue.items; lengths = lengths_of p.queue.items } };
+    ghost view = { λ p. record { base = p.base; bytes = bytes_of p.queue; lengths = lengths_of p.queue } };
 
-    ghost invariant = { λ p. AreInTurn p.base p.queue.items p.end × (p.end < 2 ^ 62) };
+    ghost invariant = { λ p. AreInTurn p.base p.queue p.end × (p.end < 2 ^ 62) };
 }
 
 // Where the first piece ends, if it ends up to an offset.
-fn first_end(pieces: &VecDeque<(u64, Bytes)>, up_to: u64) -> Option<u64>
-    ensures { result ≡ first_end up_to pieces.now.items }
+fn first_end(pieces: &Row<(u64, Bytes)>, up_to: u64) -> Option<u64>
+    ensures { result ≡ first_end up_to pieces.now }
 {
     let (end, _) = pieces.front()?;
     if *end <= up_to { Some(*end) } else { None }
 }
 
-// The first piece that ends behind an offset. It often is the first of all; else halving finds it.
-fn next_piece(pieces: &VecDeque<(u64, Bytes)>, at: u64) -> Option<(u64, &Bytes)>
+// The first piece that ends behind an offset, found by halving.
+fn next_among(pieces: &VecDeque<(u64, Bytes)>, at: u64) -> Option<(u64, &Bytes)>
     requires { IsPartitionedBy (λ p. leb p.0 at) pieces.now.items }
     ensures { option_map (λ p. (p.0, p.1.now)) result ≡ after at pieces.now.items }
 {
-    let (first_end, first) = pieces.front()?;
-    if *first_end > at {
-        return Some((*first_end, first));
-    }
     let index = pieces.partition_point(
         |p: &(u64, Bytes)| -> bool
             ensures { result ≡ leb p.now.0 at }
@@ -63,11 +61,24 @@ fn next_piece(pieces: &VecDeque<(u64, Bytes)>, at: u64) -> Option<(u64, &Bytes)>
     Some((*end, piece))
 }
 
+// The first piece that ends behind an offset. It often is the first of all; else it is among the
+// others.
+fn next_piece(pieces: &Row<(u64, Bytes)>, at: u64) -> Option<(u64, &Bytes)>
+    requires { IsPartitionedBy (λ p. leb p.0 at) pieces.now }
+    ensures { option_map (λ p. (p.0, p.1.now)) result ≡ after at pieces.now }
+{
+    let (first_end, first) = pieces.front()?;
+    if *first_end > at {
+        return Some((*first_end, first));
+    }
+    next_among(pieces.others(), at)
+}
+
 // Takes off the first pieces that end up to an offset, and says where the others begin, if the
 // first begins at `base`.
-fn drop_up_to(pieces: &mut VecDeque<(u64, Bytes)>, base: u64, up_to: u64) -> u64
-    ensures base { result ≡ base_behind up_to base pieces.old.items }
-    ensures rest { pieces.new.items ≡ behind up_to pieces.old.items }
+fn drop_up_to(pieces: &mut Row<(u64, Bytes)>, base: u64, up_to: u64) -> u64
+    ensures base { result ≡ base_behind up_to base pieces.old }
+    ensures rest { pieces.new ≡ behind up_to pieces.old }
 {
     let mut start = base;
     while let Some(end) = first_end(pieces, up_to) {
@@ -80,15 +91,15 @@ fn drop_up_to(pieces: &mut VecDeque<(u64, Bytes)>, base: u64, up_to: u64) -> u64
 // Puts the first bytes of a chunk, if there are any, behind pieces, from the offset `end` on. An
 // `Err` changes nothing.
 fn put_front(
-    pieces: &mut VecDeque<(u64, Bytes)>,
+    pieces: &mut Row<(u64, Bytes)>,
     end: u64,
     chunk: &Bytes,
     len: usize,
 ) -> Result<(), AllocError>
     requires within { len ≤ length chunk.now }
     requires small { end + len < 2 ^ 62 }
-    ensures ok { OnOk result (pieces.new.items ≡ pieces.old.items ++ parts_from end (take len chunk.now ∷ [])) }
-    ensures err { OnErr result (pieces.new.items ≡ pieces.old.items) }
+    ensures ok { OnOk result (pieces.new ≡ pieces.old ++ parts_from end (take len chunk.now ∷ [])) }
+    ensures err { OnErr result (pieces.new ≡ pieces.old) }
     ensures lacking { OnErr result (0 < len) }
 {
     if len == 0 {
@@ -102,15 +113,15 @@ fn put_front(
 // Puts the first `len` bytes of chunks behind pieces, from the offset `end` on, each chunk as a
 // piece, and says where the last ends then. An `Err` changes nothing.
 fn put_each(
-    pieces: &mut VecDeque<(u64, Bytes)>,
+    pieces: &mut Row<(u64, Bytes)>,
     end: u64,
     chunks: &[Bytes],
     len: usize,
 ) -> Result<u64, AllocError>
     requires small { end + len < 2 ^ 62 }
     ensures end { IfOk result (λ last. last ≡ end + bytes_of (cut_to len chunks.now)) }
-    ensures ok { OnOk result (pieces.new.items ≡ pieces.old.items ++ parts_from end (cut_to len chunks.now)) }
-    ensures err { OnErr result (pieces.new.items ≡ pieces.old.items) }
+    ensures ok { OnOk result (pieces.new ≡ pieces.old ++ parts_from end (cut_to len chunks.now)) }
+    ensures err { OnErr result (pieces.new ≡ pieces.old) }
     ensures lacking { OnErr result (0 < len) }
 {
     let kept = pieces.len();
@@ -134,7 +145,7 @@ impl Pieces {
         ensures { result ≡ record { base = 0; bytes = []; lengths = [] } }
     {
         Pieces {
-            queue: VecDeque::new(alloc),
+            queue: Row::new(alloc),
             base: 0,
             end: 0,
             alloc,

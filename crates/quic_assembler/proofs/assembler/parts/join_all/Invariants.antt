@@ -7,9 +7,9 @@ use Rattle.quic_assembler.proofs.assembler.parts.join_all.Given as goal
 abbrev pub invariant-loop-end : goal.invariant-loop-end
 invariant-loop-end l = record {
   small : l.at < 2 ^ 62;
-  below : AreUpTo l.at l.new.entries;
-  same : joined l.parts.entries ≡ l.new.entries ++ joined (from_after l.at l.parts.entries);
+  below : AreUpTo l.at l.new;
+  same : joined l.parts ≡ l.new ++ joined (from_after l.at l.parts);
 }
 
 abbrev pub decreases-loop-end : goal.decreases-loop-end
-decreases-loop-end l = length (from_after l.at l.parts.entries)
+decreases-loop-end l = length (from_after l.at l.parts)

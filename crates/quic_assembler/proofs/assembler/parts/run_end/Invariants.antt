@@ -9,4 +9,4 @@ invariant-loop-next l = record {
 }
 
 abbrev pub decreases-loop-next : goal.decreases-loop-next
-decreases-loop-next l = length (from_after l.last l.parts.entries)
+decreases-loop-next l = length (from_after l.last l.parts)

@@ -7,8 +7,8 @@ abbrev pub invariant-loop-next : goal.invariant-loop-next
 invariant-loop-next l = record {
   above : l.end ≤ l.last;
   small : l.last < 2 ^ 62;
-  same : in_front (l.last, l.run.items) (joined (from_after l.last l.parts.entries)) ≡ in_front (l.end, l.bytes) (joined (from_after l.end l.parts.entries));
+  same : in_front (l.last, l.run.items) (joined (from_after l.last l.parts)) ≡ in_front (l.end, l.bytes) (joined (from_after l.end l.parts));
 }
 
 abbrev pub decreases-loop-next : goal.decreases-loop-next
-decreases-loop-next l = length (from_after l.last l.parts.entries)
+decreases-loop-next l = length (from_after l.last l.parts)

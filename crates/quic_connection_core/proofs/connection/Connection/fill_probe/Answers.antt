@@ -5,7 +5,8 @@ use Rattle.quic_machine.specs.Tracking.{TrackedPacket}
 use Rattle.quic_spaces.specs.Space.{Probed}
 use Rattle.quic_machine.specs.End.{End, with_end}
 use Rattle.quic_machine.specs.Poll.{probed}
-use Rattle.quic_connection_core.proofs.Probing.{with_space, as_is, probe_fills, probe_flies, where_ok, either_way}
+use Rattle.quic_machine.specs.Lacking.{MovesRecord}
+use Rattle.quic_connection_core.proofs.Probing.{with_space, as_is, probe_fills, probe_flies, where_ok, where_lacking, either_way}
 use Rattle.quic_connection_core.proofs.connection.Connection.fill_probe.Goals as goal
 
 pub invariant_of-self : goal.invariant_of-self
@@ -39,3 +40,10 @@ returns-clause-ok g c =
     where_ok c.maybe_queue_probe.result _ _
     (λ is. ap (λ w. with_end w (with_space w.end left)) c.self.view_is ∙ ap (λ (q : Probed). with_end now (with_space now.end q)) is ∙ ap (λ (x : End). with_end now x) (fills.end ∙ ap probed whole))
     c.maybe_queue_probe.ensures.ok
+
+pub returns-clause-lacking : goal.returns-clause-lacking
+returns-clause-lacking g c =
+    let queued = c.maybe_queue_probe.ensures in
+    where_lacking c.maybe_queue_probe.result _ _ _ _
+    (λ probes nothing moves. subst (λ w. MovesRecord w.end) c.self.view_is (probes, nothing, moves))
+    queued.probes queued.nothing queued.moves

@@ -12,7 +12,7 @@ loop-chunk-init c = record {
   room = refl;
   above = omega arith;
   own = omega arith;
-  back = take_all c.len-kept.result c.args.pieces.now.items (omega arith);
+  back = take_all c.len-kept.result c.args.pieces.now (omega arith);
 }
 
 pub loop-chunk-preserved : goal.loop-chunk-preserved
@@ -22,13 +22,13 @@ loop-chunk-preserved c =
     let others = c.in-Some.others.now in
     let taken = c.min-taken.result in
     let rest : l.rest.now ≡ chunk ∷ others = search rules in
-    let put : c.put_front.new.pieces.items ≡ l.pieces.items ++ parts_from l.at (take taken chunk ∷ []) = search rules in
+    let put : c.put_front.new.pieces ≡ l.pieces ++ parts_from l.at (take taken chunk ∷ []) = search rules in
     let count : taken ≡ min l.left (length chunk) = search rules in
     record {
-      all = one_more l.at l.left taken l.pieces.items c.put_front.new.pieces.items chunk others count put ∙ ap (λ cs. l.pieces.items ++ parts_from l.at (cut_to l.left cs)) (sym rest) ∙ l.invariant.all;
+      all = one_more l.at l.left taken l.pieces c.put_front.new.pieces chunk others count put ∙ ap (λ cs. l.pieces ++ parts_from l.at (cut_to l.left cs)) (sym rest) ∙ l.invariant.all;
       count = one_count l.at l.left taken chunk others count ∙ ap (λ cs. l.at + bytes_of (cut_to l.left cs)) (sym rest) ∙ l.invariant.count;
       room = (let room = l.invariant.room in omega (arith, room, count));
       above = (let above = l.invariant.above in omega (arith, above));
-      own = (let own = l.invariant.own in let more = length-append l.pieces.items (parts_from l.at (take taken chunk ∷ [])) in omega (arith, own, more, ap length put));
-      back = one_back c.len-kept.result l.pieces.items (parts_from l.at (take taken chunk ∷ [])) c.put_front.new.pieces.items l.invariant.own put ∙ l.invariant.back;
+      own = (let own = l.invariant.own in let more = length-append l.pieces (parts_from l.at (take taken chunk ∷ [])) in omega (arith, own, more, ap length put));
+      back = one_back c.len-kept.result l.pieces (parts_from l.at (take taken chunk ∷ [])) c.put_front.new.pieces l.invariant.own put ∙ l.invariant.back;
     }

@@ -5,5 +5,5 @@ use Rattle.quic_send_buffer.proofs.send_buffer.pieces.put_front.Goals as goal
 pub returns-clause-ok : goal.returns-clause-ok
 returns-clause-ok c =
     let whole : c.args.len - 0 ≡ c.args.len = omega arith in
-    front_put c.args.pieces.now.items c.push_back.new.self.items c.args.end c.args.len c.args.chunk.now c.in_ok-piece.piece c.requires.within (omega arith)
-    (c.in_ok-piece.ensures.ok ∙ ap (λ n. take n c.args.chunk.now) whole) c.in_ok-push_back.ensures.items
+    front_put c.args.pieces.now c.push_back.new.self c.args.end c.args.len c.args.chunk.now c.in_ok-piece.piece c.requires.within (omega arith)
+    (c.in_ok-piece.ensures.ok ∙ ap (λ n. take n c.args.chunk.now) whole) c.in_ok-push_back.ensures.ok

@@ -1,8 +1,8 @@
-use Rattle.std.proofs.Common.{◌≡◌, Option, Some, None, sym, ap, ◌∙◌}
+use Rattle.std.proofs.Common.{◌≡◌, Some, None, sym, ◌∙◌}
 use Rattle.quic_wire.specs.FrameView.{stream_view}
-use Rattle.quic_streams_parts.specs.RecvHalf.{RecvHalf, end_of}
+use Rattle.quic_streams_parts.specs.RecvHalf.{end_of}
 use Rattle.quic_streams_state.specs.State.{first_window}
-use Rattle.quic_streams_state.specs.Taking.{part_for, refusal}
+use Rattle.quic_streams_state.specs.Taking.{refusal}
 use Rattle.quic_streams_state.proofs.Coming.{went}
 use Rattle.quic_streams_state.proofs.Fresh.{refused_on, is_taken_first}
 use Rattle.quic_streams_state.proofs.state.StreamsState.received_fresh.Goals as goal

@@ -1,8 +1,7 @@
-use Rattle.std.proofs.Common.{◌≡◌, Option, Some, None, true, sym, ap, ◌∙◌}
+use Rattle.std.proofs.Common.{◌≡◌, Some, None, true, sym, ap, ◌∙◌}
 use Rattle.quic_wire.specs.FrameView.{reset_stream_view}
-use Rattle.quic_streams_parts.specs.RecvHalf.{RecvHalf}
 use Rattle.quic_streams_state.specs.State.{first_window}
-use Rattle.quic_streams_state.specs.Taking.{part_for, breach_on, refusal}
+use Rattle.quic_streams_state.specs.Taking.{breach_on, refusal}
 use Rattle.quic_streams_state.proofs.Coming.{went}
 use Rattle.quic_streams_state.proofs.Fresh.{refused_on, is_reset_first}
 use Rattle.quic_streams_state.proofs.state.StreamsState.received_fresh_reset.Goals as goal

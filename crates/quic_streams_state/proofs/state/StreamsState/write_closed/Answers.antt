@@ -1,6 +1,5 @@
-use Rattle.std.proofs.Common.{◌≡◌, ℕ, true, Result, Err, length, sym, rules}
+use Rattle.std.proofs.Common.{◌≡◌, true, Err, length, sym, rules}
 use Rattle.std.specs.Option.{is_some}
-use Rattle.quic_streams_parts.specs.declared.answers.WriteError.{WriteError}
 use Rattle.quic_streams_parts.specs.declared.answers.WriteError.TheVariants as write_errors
 use Rattle.quic_streams_parts.specs.Table.{at}
 use Rattle.quic_streams_state.proofs.Buffers.{live_answer}

@@ -1,8 +1,7 @@
-use Rattle.std.proofs.Common.{◌≡◌, ◌+◌, ◌-◌, ◌≤◌, ◌<◌, length, Some, None, sym, ap, ◌∙◌, vec_len, vec_capacity, arith}
+use Rattle.std.proofs.Common.{◌+◌, ◌-◌, ◌≤◌, sym, ap, ◌∙◌, vec_len, arith}
 use Rattle.std.specs.Option.{option_map}
 use Rattle.quic_wire.specs.FrameView.{frame_view}
-use Rattle.quic_wire.specs.Writing.{spelling, frame_size}
-use Rattle.quic_streams_state.specs.Control.{waiting, frame_of_first}
+use Rattle.quic_wire.specs.Writing.{frame_size}
 use Rattle.quic_streams_state.proofs.Going.{left_stale, left_first, left_some, written_none, written_full, begins_on, on_err}
 use Rattle.quic_streams_state.proofs.state.StreamsState.write_kind.Goals as goal
 
@@ -17,8 +16,8 @@ waiting-preserved-in_default c = record {
   room = c.waiting.invariant.room;
 }
 
-pub returns-in_err-note_first-clause-lacking : goal.returns-in_err-note_first-clause-lacking
-returns-in_err-note_first-clause-lacking c =
+pub returns-in_err-note-clause-lacking : goal.returns-in_err-note-clause-lacking
+returns-in_err-note-clause-lacking c =
     let stays = c.waiting.invariant.stays in
     on_err c.from_residual.result (left_some _ _ _ c.args.kind c.args.max_size (vec_len c.waiting.out) c.waiting.self c.waiting.pending c.waiting.sent (frame_view c.in-Some.frame) c.waiting.invariant.left
     (sym c.first_frame.ensures.frame ∙ ap (option_map frame_view) c.in-Some.is) (omega (arith, c.len.ensures, c.size_of_frame.ensures, c.if-max_size-len.false)))
@@ -31,9 +30,9 @@ waiting-preserved c =
     let room = c.waiting.invariant.room in
     let fits : vec_len c.waiting.out + frame_size (frame_view c.in-Some.frame) ≤ c.args.max_size = omega (arith, c.len.ensures, c.size_of_frame.ensures, c.if-max_size-len.false) in
     record {
-      left = left_first _ _ _ c.args.kind c.args.max_size (vec_len c.waiting.out) c.waiting.self c.waiting.pending c.waiting.sent (frame_view c.in-Some.frame) c.put_frame.new.out.items (vec_len c.put_frame.new.out) c.tell_first.new.self c.drop_first-in-waiting.new.pending c.note_first.new.sent c.waiting.invariant.left
+      left = left_first _ _ _ c.args.kind c.args.max_size (vec_len c.waiting.out) c.waiting.self c.waiting.pending c.waiting.sent (frame_view c.in-Some.frame) c.put_frame.new.out.items (vec_len c.put_frame.new.out) c.tell.new.self c.drop_first-in-waiting.new.pending c.note.new.sent c.waiting.invariant.left
           (sym c.first_frame.ensures.frame ∙ ap (option_map frame_view) c.in-Some.is) fits
-          (record { told = c.tell_first.ensures; dropped = c.drop_first-in-waiting.ensures; carried = c.in_ok-note_first.ensures.ok }) c.put_frame.ensures.len c.put_frame.ensures.items;
+          (record { told = c.tell.ensures; dropped = c.drop_first-in-waiting.ensures; carried = c.in_ok-note.ensures.ok }) c.put_frame.ensures.len c.put_frame.ensures.items;
       begins = begins_on (vec_len c.args.out.now) _ _ _ _ c.waiting.invariant.begins (let ok = c.waiting.out.ok in omega arith) c.put_frame.ensures.items;
       grows = omega (arith, c.put_frame.ensures.len);
       stays = omega (arith, c.put_frame.ensures.len);

@@ -1,6 +1,6 @@
 use Rattle.std.proofs.Common.{◌≡◌, ℕ, ◌+◌, ◌≤◌, ◌<◌, List, length, ◌∷◌, get_or, drop, sym, ap, ◌∙◌, vec_len, vec_capacity, add-one, drop-cons, arith}
-use Rattle.quic_streams_state.specs.declared.control.ControlKind.{ControlKind}
-use Rattle.quic_streams_state.specs.declared.control.ControlKind.TheVariants.{ResetStream}
+use Rattle.quic_retransmits.specs.declared.retransmits.ControlKind.{ControlKind}
+use Rattle.quic_retransmits.specs.declared.retransmits.ControlKind.TheVariants.{ResetStream}
 use Rattle.quic_streams_state.proofs.Going.{left_next, left_kind, left_some_kind, begins_on, on_err}
 use Rattle.quic_streams_state.proofs.state.StreamsState.write_kinds.Goals as goal
 

@@ -8,7 +8,7 @@ invariant_of-self c =
     let i = c.self.invariant in
     let e = c.in_ok-self-inside.ensures in
     record {
-      apart = rw e (joined_apart 0 c.self.inside.map.entries i.apart);
-      counted = rw e (i.counted ∙ sym (joined_runs 0 c.self.inside.map.entries i.apart));
-      bytes = rw e (i.bytes ∙ sym (joined_bytes c.self.inside.map.entries));
+      apart = rw e (joined_apart 0 c.self.inside.map i.apart);
+      counted = rw e (i.counted ∙ sym (joined_runs 0 c.self.inside.map i.apart));
+      bytes = rw e (i.bytes ∙ sym (joined_bytes c.self.inside.map));
     }

@@ -9,4 +9,4 @@ pub returns-else-not-is_empty-clause-dry : goal.returns-else-not-is_empty-clause
 returns-else-not-is_empty-clause-dry c =
     let i = c.self.inside in
     let r = c.ends_at_last.result in
-    subst (λ (ps : List Part). IfSome r (λ n. byte_at ps c.args.at ≡ None)) c.self.view_is (last_dry r c.args.at i.map.entries c.self.invariant.apart c.ends_at_last.ensures.behind)
+    subst (λ (ps : List Part). IfSome r (λ n. byte_at ps c.args.at ≡ None)) c.self.view_is (last_dry r c.args.at i.map c.self.invariant.apart c.ends_at_last.ensures.behind)

@@ -6,4 +6,4 @@ use Rattle.quic_send_buffer.proofs.send_buffer.pieces.Pieces.end.Goals as goal
 pub returns-clause-value : goal.returns-clause-value
 returns-clause-value c =
     let v = c.self.inside in
-    subst (λ (k : KeptBytes). v.end ≡ k.base + length k.bytes) c.self.view_is (sym (end_is v.base v.end v.queue.items c.self.invariant.0))
+    subst (λ (k : KeptBytes). v.end ≡ k.base + length k.bytes) c.self.view_is (sym (end_is v.base v.end v.queue c.self.invariant.0))

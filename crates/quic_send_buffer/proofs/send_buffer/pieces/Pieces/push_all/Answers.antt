@@ -9,21 +9,21 @@ use Rattle.quic_send_buffer.proofs.send_buffer.pieces.Pieces.push_all.Goals as g
 pub put_each-requires : goal.put_each-requires
 put_each-requires c =
     let v = c.self.inside in
-    let ends = end_is v.base v.end v.queue.items c.self.invariant.0 in
+    let ends = end_is v.base v.end v.queue c.self.invariant.0 in
     let small = subst (λ (k : KeptBytes). k.base + length k.bytes + c.args.len < 2 ^ 62) (sym c.self.view_is) c.requires in
     omega (arith, ends, small)
 
 pub invariant_of-self-2 : goal.invariant_of-self-2
 invariant_of-self-2 c =
     let v = c.self.inside in
-    let ends = end_is v.base v.end v.queue.items c.self.invariant.0 in
+    let ends = end_is v.base v.end v.queue c.self.invariant.0 in
     let small = subst (λ (k : KeptBytes). k.base + length k.bytes + c.args.len < 2 ^ 62) (sym c.self.view_is) c.requires in
     let within = cut_bytes c.args.len c.args.chunks.now in
     let last = c.in_ok-self-inside.ensures.end in
-    (each_turn_at v.base v.end c.in_ok-self-inside.field-0 v.queue.items c.put_each.new.pieces.items (cut_to c.args.len c.args.chunks.now) c.self.invariant.0 last c.in_ok-self-inside.ensures.ok, omega (arith, ends, small, within, last))
+    (each_turn_at v.base v.end c.in_ok-self-inside.field-0 v.queue c.put_each.new.pieces (cut_to c.args.len c.args.chunks.now) c.self.invariant.0 last c.in_ok-self-inside.ensures.ok, omega (arith, ends, small, within, last))
 
 pub returns-clause-ok : goal.returns-clause-ok
 returns-clause-ok c =
     let v = c.self.inside in
-    each_seen_at v.base v.end v.queue.items c.put_each.new.pieces.items (cut_to c.args.len c.args.chunks.now) c.self.invariant.0 c.in_ok-self-inside.ensures.ok
+    each_seen_at v.base v.end v.queue c.put_each.new.pieces (cut_to c.args.len c.args.chunks.now) c.self.invariant.0 c.in_ok-self-inside.ensures.ok
     ∙ ap (λ (k : KeptBytes). with_each (cut_to c.args.len c.args.chunks.now) k) c.self.view_is

@@ -7,11 +7,11 @@ pub invariant_of-self : goal.invariant_of-self
 invariant_of-self c =
     let v = c.self.inside in
     let d = c.drop_up_to-self-inside in
-    (release_turn v.base v.end c.args.up_to d.result v.queue.items d.new.pieces.items c.self.invariant.0 d.ensures.base d.ensures.rest, c.self.invariant.1)
+    (release_turn v.base v.end c.args.up_to d.result v.queue d.new.pieces c.self.invariant.0 d.ensures.base d.ensures.rest, c.self.invariant.1)
 
 pub returns : goal.returns
 returns c =
     let v = c.self.inside in
     let d = c.drop_up_to-self-inside in
-    release_seen v.base v.end c.args.up_to d.result v.queue.items d.new.pieces.items c.self.invariant.0 d.ensures.base d.ensures.rest
+    release_seen v.base v.end c.args.up_to d.result v.queue d.new.pieces c.self.invariant.0 d.ensures.base d.ensures.rest
     ∙ ap (λ (k : KeptBytes). released_to c.args.up_to k) c.self.view_is
