@@ -161,27 +161,27 @@ fn join_behind<R: Abort + AllocGlobal>(rt: &R, allocations: u64) -> Result<(), F
 
 #[test]
 fn a_join_lacks_its_first_allocation(rt: HostRuntime) -> Result<(), Fail> {
-    join_behind(&rt, 14)
-}
-
-#[test]
-fn a_join_lacks_its_second_allocation(rt: HostRuntime) -> Result<(), Fail> {
     join_behind(&rt, 13)
 }
 
 #[test]
-fn a_join_lacks_its_third_allocation(rt: HostRuntime) -> Result<(), Fail> {
+fn a_join_lacks_its_second_allocation(rt: HostRuntime) -> Result<(), Fail> {
     join_behind(&rt, 12)
 }
 
 #[test]
-fn a_join_lacks_its_fourth_allocation(rt: HostRuntime) -> Result<(), Fail> {
+fn a_join_lacks_its_third_allocation(rt: HostRuntime) -> Result<(), Fail> {
     join_behind(&rt, 11)
 }
 
 #[test]
-fn a_join_lacks_its_fifth_allocation(rt: HostRuntime) -> Result<(), Fail> {
+fn a_join_lacks_its_fourth_allocation(rt: HostRuntime) -> Result<(), Fail> {
     join_behind(&rt, 10)
+}
+
+#[test]
+fn a_join_lacks_its_fifth_allocation(rt: HostRuntime) -> Result<(), Fail> {
+    join_behind(&rt, 9)
 }
 
 // Fills the gaps up to an offset, and says with which byte. Where memory lacked it is another one,
@@ -244,7 +244,7 @@ fn read_apart(rt: &impl Abort, assembler: &mut Assembler, count: u32) -> Result<
 // Each second byte is read out of order: with the 16th a full node is split. None comes again.
 #[test]
 fn a_node_is_full_at_a_read(rt: HostRuntime) -> Result<(), Fail> {
-    spend(&rt, 18);
+    spend(&rt, 19);
     let mut assembler = Assembler::new(rt.alloc());
     take(&rt, &mut assembler, Begin(false, true))?;
     read_apart(&rt, &mut assembler, 15)?;

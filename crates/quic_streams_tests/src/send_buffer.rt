@@ -197,7 +197,7 @@ fn go(rt: &impl Abort, buffer: &mut SendBuffer, first: u64, count: u64, end: u64
 // its byte goes again as one that isn't acknowledged.
 #[test]
 fn a_node_is_full_at_an_ack(rt: HostRuntime) -> Result<(), Fail> {
-    let mut buffer = acked_apart(&rt, 63, &[b'x'; 33], 15)?;
+    let mut buffer = acked_apart(&rt, 64, &[b'x'; 33], 15)?;
     if buffer.ack(31..32).is_err() {
         buffer.retransmit(0..33)?;
         go(&rt, &mut buffer, 0, 15, 33);
@@ -212,7 +212,7 @@ fn a_node_is_full_at_an_ack(rt: HostRuntime) -> Result<(), Fail> {
 // behind some of them, as the list of what was put in grows, none is filled.
 #[test]
 fn an_ack_fills_all_gaps_or_none(rt: HostRuntime) -> Result<(), Fail> {
-    let mut buffer = acked_apart(&rt, 63, &[b'x'; 15], 7)?;
+    let mut buffer = acked_apart(&rt, 64, &[b'x'; 15], 7)?;
     if buffer.ack(2..15).is_err() {
         buffer.retransmit(0..15)?;
         go(&rt, &mut buffer, 0, 7, 15);
@@ -227,7 +227,7 @@ fn an_ack_fills_all_gaps_or_none(rt: HostRuntime) -> Result<(), Fail> {
 // needs no memory: it makes no allocation that could fail before the next write's.
 #[test]
 fn an_ack_of_the_first_bytes_needs_no_memory(rt: HostRuntime) -> Result<(), Fail> {
-    let mut buffer = acked_apart(&rt, 60, &[b'x'; 13], 6)?;
+    let mut buffer = acked_apart(&rt, 61, &[b'x'; 13], 6)?;
     buffer.retransmit(0..13)?;
     buffer.ack(0..13)?;
     make(&rt, &mut buffer, Write(b"y"))?;
@@ -235,19 +235,19 @@ fn an_ack_of_the_first_bytes_needs_no_memory(rt: HostRuntime) -> Result<(), Fail
     none_fails_behind(&rt)
 }
 
-// The fifth piece is put into a full queue. Where memory lacks for its bytes, or for the queue, it
-// was not written.
+// The first piece stands by itself, and the sixth is put into a full queue. Where memory lacks for
+// its bytes, or for the queue, it was not written.
 #[test]
 fn a_queue_is_full_at_a_write(rt: HostRuntime) -> Result<(), Fail> {
-    spend(&rt, 57);
+    spend(&rt, 55);
     let mut buffer = SendBuffer::new(rt.alloc());
-    for _ in 0..4 {
+    for _ in 0..5 {
         take(&rt, &mut buffer, Write(b"x"))?;
     }
     make(&rt, &mut buffer, Write(b"yz"))?;
-    assert_eq!(rt; buffer.poll_transmit(100), (0..6, true));
-    assert_eq!(rt; buffer.get(3..6), b"x".as_slice());
-    assert_eq!(rt; buffer.get(4..6), b"yz".as_slice());
+    assert_eq!(rt; buffer.poll_transmit(100), (0..7, true));
+    assert_eq!(rt; buffer.get(4..7), b"x".as_slice());
+    assert_eq!(rt; buffer.get(5..7), b"yz".as_slice());
     none_fails_behind(&rt)
 }
 
@@ -255,7 +255,7 @@ fn a_queue_is_full_at_a_write(rt: HostRuntime) -> Result<(), Fail> {
 // that one alone goes again.
 #[test]
 fn a_node_is_full_at_a_loss(rt: HostRuntime) -> Result<(), Fail> {
-    let mut buffer = acked_apart(&rt, 57, &[b'x'; 35], 17)?;
+    let mut buffer = acked_apart(&rt, 58, &[b'x'; 35], 17)?;
     buffer.retransmit(2..3)?;
     if buffer.retransmit(0..35).is_err() {
         assert_eq!(rt; buffer.poll_transmit(100), (2..3, true));
@@ -270,7 +270,7 @@ fn a_node_is_full_at_a_loss(rt: HostRuntime) -> Result<(), Fail> {
 // another full one. Where memory lacks, also behind the cut, that run goes again as one.
 #[test]
 fn a_node_is_full_at_a_cut(rt: HostRuntime) -> Result<(), Fail> {
-    let mut buffer = acked_apart(&rt, 59, &[b'x'; 34], 15)?;
+    let mut buffer = acked_apart(&rt, 60, &[b'x'; 34], 15)?;
     buffer.retransmit(2..34)?;
     if buffer.ack(31..32).is_err() {
         go(&rt, &mut buffer, 1, 15, 34);
