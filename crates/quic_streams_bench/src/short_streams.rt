@@ -1,5 +1,6 @@
-//! Short streams from one end to another: each is opened, written and finished, goes in one frame, is accepted and read to its end,
-//! and is acknowledged, so that both ends forget it and more may be opened.
+//! Short streams from one end to another: each is opened, written and finished, goes in one frame,
+//! is accepted and read to its end, and is acknowledged, so that both ends forget it and more may
+//! be opened.
 ghost use Rattle.std.specs.Prelude.{◌<◌};
 
 use super::open_streams::{ROOM, make_room};
@@ -17,7 +18,11 @@ use std::alloc::{AllocError, Global};
 // How many bytes a short stream has.
 const SIZE: usize = 100;
 
-// What the server lets the client send: 2^62 - 1 bytes in all, and 2^30 - 1 on each one-way stream (RFC 9000, section 18.2).
+// How many go at once at most: all of them fit in one datagram.
+const MOST_AT_ONCE: u32 = 10;
+
+// What the server lets the client send: 2^62 - 1 bytes in all, and 2^30 - 1 on each one-way stream
+// (RFC 9000, section 18.2).
 const LIMITS: [u8; 16] = [
     0x04, 8, 0xff, 0xff, 0xff, 0xff, 0xff, 0xff, 0xff, 0xff, 0x07, 4, 0xbf, 0xff, 0xff, 0xff,
 ];
@@ -29,11 +34,18 @@ struct End {
     pending: Retransmits,
 }
 
+// Two ends.
+#[derive(Drop)]
+struct Ends {
+    client: End,
+    server: End,
+}
+
 // Two ends, and what is under way between them.
 #[derive(Drop)]
 struct Pair {
-    client: End,
-    server: End,
+    // On the heap, so that a pair is small.
+    ends: Box<Ends>,
     out: Vec<u8>,
     sent: Vec<StreamMeta>,
     alloc: Global,
@@ -98,7 +110,8 @@ fn take_frames(end: &mut End, payload: &[u8]) -> Result<()> {
     Ok(())
 }
 
-// Sends a datagram from one end to the other, what it carries of streams behind `sent`: whether it carries anything.
+// Sends a datagram from one end to the other, what it carries of streams behind `sent`: whether it
+// carries anything.
 fn deliver(
     alloc: Global,
     from: &mut End,
@@ -153,16 +166,36 @@ fn acknowledge(end: &mut End, sent: &mut Vec<StreamMeta>) -> Result<(), AllocErr
     Ok(())
 }
 
+// These ends on the heap. An `Err` is want of memory.
+fn boxed(alloc: Global, ends: Ends) -> Result<Box<Ends>, AllocError> {
+    Ok(Box::new(alloc, ends)?)
+}
+
+// The client learns what the server lets it do.
+fn tell_limits(client: &mut End, streams: u32) -> Result<()> {
+    let limits = TransportParameters::read(Side::Server, &LIMITS)?;
+    client.state.set_params(&limits);
+    client.state.received_max_streams(Dir::Uni, streams as u64)?;
+    Ok(())
+}
+
+// Opens so many streams and writes these bytes on each, behind which it ends or doesn't.
+fn send_each(client: &mut End, count: u32, bytes: &[u8], ends: bool) -> Result<()> {
+    for _ in 0..count {
+        send_one(client, bytes, ends)?;
+    }
+    Ok(())
+}
+
 impl Pair {
     // A client that may open so many one-way streams of a server at once, and that server.
-    fn new(alloc: Global, streams: u32) -> Result<Self> {
-        let mut client = End::new(alloc, Side::Client, VarInt::from_u32(0));
-        let limits = TransportParameters::read(Side::Server, &LIMITS)?;
-        client.state.set_params(&limits);
-        client.state.received_max_streams(Dir::Uni, streams as u64)?;
-        Ok(Pair {
-            client,
+    fn new(alloc: Global, streams: u32) -> Result<Self, AllocError> {
+        let ends = Ends {
+            client: End::new(alloc, Side::Client, VarInt::from_u32(0)),
             server: End::new(alloc, Side::Server, VarInt::from_u32(streams)),
+        };
+        Ok(Pair {
+            ends: boxed(alloc, ends)?,
             out: Vec::new(alloc),
             sent: Vec::new(alloc),
             alloc,
@@ -171,27 +204,26 @@ impl Pair {
 
     // Sends so many streams with these bytes, which end or don't.
     fn send(&mut self, count: u32, bytes: &[u8], ends: bool, tally: &mut Tally) -> Result<()> {
-        for _ in 0..count {
-            send_one(&mut self.client, bytes, ends)?;
-        }
+        send_each(&mut self.ends.as_mut().client, count, bytes, ends)?;
         for _ in 0..u64::MAX {
             if !self.go(tally)? {
                 break;
             }
         }
-        let _ = take_events(&mut self.client);
+        let _ = take_events(&mut self.ends.as_mut().client);
         Ok(())
     }
 
-    // A datagram goes to the server, which reads what came, and one comes back: whether the first carried anything.
+    // A datagram goes to the server, which reads what came, and one comes back: whether the first
+    // carried anything.
     fn go(&mut self, tally: &mut Tally) -> Result<bool> {
         let Pair {
-            client,
-            server,
+            ends,
             out,
             sent,
             alloc,
         } = &mut *self;
+        let Ends { client, server } = ends.as_mut();
         if !deliver(*alloc, client, server, out, sent)? {
             return Ok(false);
         }
@@ -201,7 +233,8 @@ impl Pair {
         Ok(true)
     }
 
-    // So many short streams go, so many at once, beside so many others that stay open with a byte each.
+    // So many short streams go, so many at once, beside so many others that stay open with a byte
+    // each.
     fn send_all(&mut self, count: u32, at_once: u32, idle: u32, tally: &mut Tally) -> Result<()>
         requires { 0 < at_once }
     {
@@ -213,7 +246,7 @@ impl Pair {
     }
 }
 
-// So many short streams go, so many at once, one at least, beside so many others that stay open.
+// So many short streams go, so many at once, from one to ten, beside so many others that stay open.
 pub(super) fn short(
     alloc: Global,
     count: u32,
@@ -222,8 +255,10 @@ pub(super) fn short(
     tally: &mut Tally,
 ) -> Result<()> {
     let at_once = at_once.max(1);
+    ensure!(at_once <= MOST_AT_ONCE, "too many at once");
     // Twice as many as are open: a count is told again once it grew by an eighth.
     let streams = at_once.saturating_add(idle).saturating_mul(2);
     let mut pair = Pair::new(alloc, streams)?;
+    tell_limits(&mut pair.ends.as_mut().client, streams)?;
     pair.send_all(count, at_once, idle, tally)
 }
