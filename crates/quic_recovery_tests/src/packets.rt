@@ -5,9 +5,22 @@ use quic_spaces::PacketSpace;
 use quic_time::Instant;
 use std::alloc::{AllocError, Global};
 use std::process::Abort;
+use std::test::Fail;
 
 pub(crate) fn at(micros: u64) -> Instant {
     Instant::from_nanos(micros.saturating_mul(1000))
+}
+
+// What comes of an act with a new space: here alone it is let go, since each function that owns one
+// is proved to let it go wherever it ends.
+pub(crate) fn with_space<F: FnOnce(&mut PacketSpace) -> Result<(), Fail>>(
+    alloc: Global,
+    act: F,
+) -> Result<(), Fail>
+    requires { F.IsAlwaysCallable act }
+{
+    let mut space = PacketSpace::new(alloc, at(0));
+    act(&mut space)
 }
 
 // A packet that carried nothing that has to be sent again.
