@@ -8,4 +8,3 @@ mod Ordered
 mod Looked
 mod Lent
 mod Parted
-mod Behind

@@ -1,7 +1,6 @@
 use super::spent::{none_fails_behind, spend};
 use Step::{Begin, Count, Insert, Read, Wait};
 use quic_assembler::{Assembler, Chunk, MOST_PIECES};
-use quic_copies::Copies;
 use std::alloc::AllocError;
 use std::process::Abort;
 use std::test::Fail;
@@ -33,25 +32,11 @@ fn is_chunk(rt: &impl Abort, chunk: Option<Chunk>, offset: u64, bytes: &[u8]) {
     assert_eq!(rt; chunk.bytes.as_slice(), bytes);
 }
 
-// Bytes come; their copy shares no memory with another.
-fn insert<R: AllocGlobal>(
-    rt: &R,
-    assembler: &mut Assembler,
-    offset: u64,
-    bytes: &[u8],
-) -> Result<(), AllocError> {
-    assembler.insert(offset, bytes, &mut Copies::new(rt.alloc()))
-}
-
-fn take<R: Abort + AllocGlobal>(
-    rt: &R,
-    assembler: &mut Assembler,
-    step: Step,
-) -> Result<(), AllocError> {
+fn take(rt: &impl Abort, assembler: &mut Assembler, step: Step) -> Result<(), AllocError> {
     match step {
         Insert(offset, bytes) => {
             assert!(rt; offset < 100_000 && bytes.len() < 100);
-            insert(rt, assembler, offset, bytes)?;
+            assembler.insert(offset, bytes)?;
         }
         Read(max, offset, bytes) => {
             assert!(rt; assembler.has_next());
@@ -70,7 +55,7 @@ fn take<R: Abort + AllocGlobal>(
 }
 
 // Where memory lacks, nothing has changed, and the step is made again.
-fn make<R: Abort + AllocGlobal>(rt: &R, assembler: &mut Assembler, step: Step) -> Result<(), Fail> {
+fn make(rt: &impl Abort, assembler: &mut Assembler, step: Step) -> Result<(), Fail> {
     let before = seen(assembler);
     if take(rt, assembler, step).is_err() {
         assert_eq!(rt; seen(assembler), before);
@@ -132,11 +117,7 @@ fn unordered_reads_give_each_byte_once(rt: HostRuntime) -> Result<(), Fail> {
 }
 
 // One-byte frames come in order.
-fn insert_in_order<R: Abort + AllocGlobal>(
-    rt: &R,
-    assembler: &mut Assembler,
-    count: u64,
-) -> Result<(), Fail> {
+fn insert_in_order(rt: &impl Abort, assembler: &mut Assembler, count: u64) -> Result<(), Fail> {
     for offset in 0..count {
         make(rt, assembler, Insert(offset, b"x"))?;
     }
@@ -155,7 +136,7 @@ fn small_frames_in_order_are_one_run(rt: HostRuntime) -> Result<(), Fail> {
 
 // Two runs of one-byte frames, 2049 in all: the last one makes them too many, and each run is
 // joined.
-fn insert_two_runs<R: Abort + AllocGlobal>(rt: &R, assembler: &mut Assembler) -> Result<(), Fail> {
+fn insert_two_runs(rt: &impl Abort, assembler: &mut Assembler) -> Result<(), Fail> {
     for offset in 5000..6025u64 {
         take(rt, assembler, Insert(offset, b"y"))?;
     }
@@ -205,13 +186,13 @@ fn a_join_lacks_its_fifth_allocation(rt: HostRuntime) -> Result<(), Fail> {
 
 // Fills the gaps up to an offset, and says with which byte. Where memory lacked it is another one,
 // since the first bytes stand: none may be of those that were put in before.
-fn fill_gaps<R: Abort + AllocGlobal>(rt: &R, assembler: &mut Assembler) -> Result<u8, Fail> {
+fn fill_gaps(rt: &impl Abort, assembler: &mut Assembler) -> Result<u8, Fail> {
     let before = seen(assembler);
-    if insert(rt, assembler, 0, &[b'x'; 25]).is_ok() {
+    if assembler.insert(0, &[b'x'; 25]).is_ok() {
         return Ok(b'x');
     }
     assert_eq!(rt; seen(assembler), before);
-    insert(rt, assembler, 0, &[b'y'; 25])?;
+    assembler.insert(0, &[b'y'; 25])?;
     Ok(b'y')
 }
 
@@ -236,11 +217,7 @@ fn a_node_is_full_at_an_insert(rt: HostRuntime) -> Result<(), Fail> {
 
 // The byte that waits at an offset is read. Where memory lacks, it wasn't given: another may come
 // in its place.
-fn read_or_bring<R: Abort + AllocGlobal>(
-    rt: &R,
-    assembler: &mut Assembler,
-    offset: u64,
-) -> Result<(), Fail> {
+fn read_or_bring(rt: &impl Abort, assembler: &mut Assembler, offset: u64) -> Result<(), Fail> {
     let before = seen(assembler);
     match assembler.read(9) {
         Ok(chunk) => is_chunk(rt, chunk, offset, b"a"),
@@ -255,11 +232,7 @@ fn read_or_bring<R: Abort + AllocGlobal>(
 }
 
 // A byte comes for each second offset, and is read.
-fn read_apart<R: Abort + AllocGlobal>(
-    rt: &R,
-    assembler: &mut Assembler,
-    count: u32,
-) -> Result<(), Fail> {
+fn read_apart(rt: &impl Abort, assembler: &mut Assembler, count: u32) -> Result<(), Fail> {
     for place in 0..count {
         let offset = 2 * u64::from(place);
         take(rt, assembler, Insert(offset, b"a"))?;

@@ -1,6 +1,0 @@
-//! Copies of bytes that share memory.
-#![tactic(auto)]
-
-mod copies;
-
-pub use copies::Copies;
