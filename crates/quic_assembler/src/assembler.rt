@@ -9,6 +9,7 @@ mod parts;
 
 use bytes::Bytes;
 use parts::Parts;
+use quic_copies::Copies;
 use quic_sets::{OffsetSet, spans};
 use std::alloc::{AllocError, Global};
 use std::collections::BTreeMap;
@@ -194,14 +195,20 @@ impl Assembler {
     /// however many parts it waits or was given. Bytes behind all that wait need only the last part
     /// looked up, where no unordered read gave any. A range that comes while nothing waits isn't
     /// noted as arrived: the next insert that has offsets of it while something waits looks up each
-    /// part and each run that was given there, and notes its own range. quinn-proto's
+    /// part and each run that was given there, and notes its own range. Bytes behind all that wait
+    /// are copied by `copies`, where copies of many streams may share memory. quinn-proto's
     /// `Assembler::insert`.
     ///
     /// # Errors
     ///
     /// [`AllocError`] where memory lacks; nothing changed. It lacks none where no byte is new and
     /// the parts needn't be joined.
-    pub fn insert(&mut self, offset: u64, bytes: &[u8]) -> Result<(), AllocError>
+    pub fn insert(
+        &mut self,
+        offset: u64,
+        bytes: &[u8],
+        copies: &mut Copies,
+    ) -> Result<(), AllocError>
         requires { offset + length bytes.now < 2 ^ 62 }
         ensures ok { OnOk result (self.new ≡ after_insert self.old offset bytes.now) }
         ensures inserted { OnOk result (IsInserted self.old offset bytes.now self.new) }
@@ -212,8 +219,9 @@ impl Assembler {
         let known = self.read.saturating_sub(offset).min(bytes.len() as u64);
         let at = offset + known;
         let waited = self.parts.is_some();
+        let new = &bytes[known as usize..];
         self.parts
-            .insert(&self.picked, &self.arrived, at, &bytes[known as usize..])?;
+            .insert(&self.picked, &self.arrived, at, new, copies)?;
         note(&mut self.arrived, waited, at, offset + bytes.len() as u64);
         Ok(())
     }

@@ -3,16 +3,14 @@ use crate::application::{PATTERN, pattern, take_events};
 use crate::fault::Fault;
 use crate::figures::Figures;
 use crate::pair::{End, Pair, Work};
-use bytes::Bytes;
-use quic_connection::SendDatagramError;
-use std::alloc::Global;
+use quic_connection::{Copies, SendDatagramError};
 use std::rt::Clock;
 use std::time::CpuClock;
 
 /// So many messages go.
 #[derive(Drop)]
 struct Messages {
-    alloc: Global,
+    copies: Copies,
     count: u64,
     ahead: u64,
     data: Vec<u8>,
@@ -29,7 +27,7 @@ impl Messages {
         if datagrams.send_buffer_space() < data.len() {
             return Ok(false);
         }
-        let message = Bytes::copy_from_slice(self.alloc, data)?;
+        let message = self.copies.copy(data)?;
         match datagrams.send(message, false) {
             Ok(()) => {
                 self.sent = self.sent.wrapping_add(1);
@@ -91,7 +89,7 @@ pub fn run<R: Clock + CpuClock + AllocGlobal>(
     let mut data = pattern(rt.alloc())?;
     data.truncate(size.min(PATTERN as u64) as usize);
     let mut work = Messages {
-        alloc: rt.alloc(),
+        copies: Copies::new(rt.alloc()),
         count,
         ahead,
         data,

@@ -22,6 +22,7 @@ pub use quic_congestion::{
     Controller, ControllerFactory, ControllerMetrics, NewReno, NewRenoConfig,
 };
 pub use quic_connection_core::{Config, Connection};
+pub use quic_copies::Copies;
 pub use quic_machine::{
     Answer, Call, ConfigError, Datagram, Delivery, DropReason, EndView, Event, Failed, IdleTimeout,
     Injection, Instant, LostReason, Nexts, ReadCall, Received, RunEvent, State, Timer, Transmit,

@@ -3,7 +3,6 @@
 //! sent ([`DatagramState`]), and what an application holds of them ([`Datagrams`]).
 #![tactic(auto)]
 
-mod copies;
 mod datagrams;
 mod errors;
 pub mod laws;

@@ -7,11 +7,11 @@ ghost use Rattle.quic_messages.specs.declared.errors.SendDatagramError.TheVarian
 ghost use Rattle.quic_messages.specs.Messages.{no_messages, bytes_of, is_taken, received_answer, after_received, oldest, after_recv, frame_bytes, fitting, after_fitting, without_longer};
 ghost use Rattle.quic_messages.specs.Sending.{send_answer, after_send};
 
-use crate::copies::Copies;
 use crate::errors::{ReceivedError, SendDatagramError};
 use crate::limits::DatagramLimits;
 use crate::message_queue::{MessageQueue, fits};
 use bytes::Bytes;
+use quic_copies::Copies;
 use quic_wire::frame::{Frame, size_of_frame};
 use std::alloc::Global;
 use std::marker::Model;

@@ -12,7 +12,8 @@ use std::alloc::{AllocError, Global};
 use std::collections::BTreeSet;
 use std::marker::Model;
 
-/// A set of stream ids. Contracts see them, ascending. An id that comes alone takes no memory.
+/// A set of stream ids. Contracts see them, ascending. An id that is put into an empty set takes no
+/// memory.
 #[derive(Drop)]
 pub struct StreamIds {
     // The only id, where it came into an empty set: `ids` has none then.
@@ -233,13 +234,17 @@ impl StreamIds {
     ///
     /// # Errors
     ///
-    /// [`AllocError`] where memory lacks; nothing changes.
+    /// [`AllocError`] where memory lacks, and the other set has an id; nothing changes.
     pub fn extend(&mut self, alloc: Global, more: &StreamIds) -> Result<Vec<u64>, AllocError>
         ensures ok { OnOk result (self.new ≡ with_ids more.now self.old) }
         ensures back { IfOk result (λ added. without_ids added.items self.new ≡ self.old) }
         ensures err { OnErr result (self.new ≡ self.old) }
+        ensures lacking { OnErr result (is_any more.now ≡ true) }
     {
         let mut added = Vec::new(alloc);
+        if more.is_empty() {
+            return Ok(added);
+        }
         spread(&mut self.lone, &mut self.ids)?;
         match more.lone {
             Some(id) => insert_noted(&mut self.ids, id, &mut added)?,

@@ -508,6 +508,10 @@ impl Retransmits {
     pub fn is_empty<S: LimitQueries>(&self, streams: &S) -> bool
         ensures { result ≡ is_empty_where (λ kind. S.gate streams.now kind) (λ kind id. S.gate_on streams.now kind id) self.now }
     {
+        // As it is mostly, which is soon told.
+        if self.is_idle() {
+            return true;
+        }
         if self.max_data {
             return false;
         }

@@ -15,6 +15,9 @@ pub(crate) fn next_after(spans: &BTreeMap<u64, u64>, at: u64) -> Option<(u64, u6
     requires { at < 2 ^ 62 }
     ensures { result ≡ option_map ends_of (next_span at spans.now.entries) }
 {
+    if spans.is_empty() {
+        return None;
+    }
     let first = at + 1;
     match spans.range(first..).next() {
         Some((end, start)) => Some((*start, *end)),

@@ -6,7 +6,7 @@
 
 pub use quic_assembler::{Assembler, Chunk, IllegalOrderedRead, MOST_PIECES};
 pub use quic_retransmits::{
-    ControlKind, LimitQueries, RetireError, Retransmits, StreamIds, ThinRetransmits,
+    CONTROL_KINDS, ControlKind, LimitQueries, RetireError, Retransmits, StreamIds, ThinRetransmits,
 };
 pub use quic_send_buffer::{
     ByteSlice, BytesArray, BytesSource, SendBuffer, ShouldTransmit, StreamMeta,
@@ -16,4 +16,4 @@ pub use quic_streams_parts::{
     Breach, ClosedStream, FinishError, ReadError, ReadableError, ReceivedError, StreamEvent,
     UpdateError, WriteError, Written,
 };
-pub use quic_streams_state::StreamsState;
+pub use quic_streams_state::{IdRule, StreamsState};

@@ -23,6 +23,7 @@ mod short_streams;
 
 use anyhow::{Context, Result, bail};
 use quic_assembler::Assembler;
+use quic_copies::Copies;
 use quic_send_buffer::SendBuffer;
 use std::alloc::{AllocError, Global};
 use std::fmt;
@@ -101,10 +102,14 @@ fn place(step: u32, count: u32) -> u64
 }
 
 // Pieces come in a shuffled order.
-fn insert_shuffled(assembler: &mut Assembler, count: u32) -> Result<(), AllocError> {
+fn insert_shuffled(
+    assembler: &mut Assembler,
+    copies: &mut Copies,
+    count: u32,
+) -> Result<(), AllocError> {
     let piece = [120u8; 10];
     for step in 0..count {
-        assembler.insert(place(step, count) * PIECE_SIZE, &piece)?;
+        assembler.insert(place(step, count) * PIECE_SIZE, &piece, copies)?;
     }
     Ok(())
 }
@@ -121,9 +126,10 @@ fn read_parts(assembler: &mut Assembler, parts: u32, tally: &mut Tally) -> Resul
 
 // Rounds in each of which so many pieces arrive in a shuffled order, and are then read in order.
 fn pieces(alloc: Global, rounds: u32, count: u32, tally: &mut Tally) -> Result<(), AllocError> {
+    let mut copies = Copies::new(alloc);
     for _ in 0..rounds {
         let mut assembler = Assembler::new(alloc);
-        insert_shuffled(&mut assembler, count)?;
+        insert_shuffled(&mut assembler, &mut copies, count)?;
         read_parts(&mut assembler, count, tally)?;
     }
     Ok(())
@@ -132,17 +138,22 @@ fn pieces(alloc: Global, rounds: u32, count: u32, tally: &mut Tally) -> Result<(
 // Frames arrive in order, and each is read when it has come.
 fn in_order(alloc: Global, mebibytes: u32, tally: &mut Tally) -> Result<(), AllocError> {
     let mut assembler = Assembler::new(alloc);
+    let mut copies = Copies::new(alloc);
     for number in 0..frames_in(mebibytes) {
-        assembler.insert(number * FRAME_SIZE as u64, &FRAME)?;
+        assembler.insert(number * FRAME_SIZE as u64, &FRAME, &mut copies)?;
         read_parts(&mut assembler, 1, tally)?;
     }
     Ok(())
 }
 
 // Frames of one byte arrive in order, and stay unread.
-fn insert_unread(assembler: &mut Assembler, count: u32) -> Result<(), AllocError> {
+fn insert_unread(
+    assembler: &mut Assembler,
+    copies: &mut Copies,
+    count: u32,
+) -> Result<(), AllocError> {
     for offset in 0..count {
-        assembler.insert(offset as u64, b"x")?;
+        assembler.insert(offset as u64, b"x", copies)?;
     }
     Ok(())
 }
@@ -150,7 +161,7 @@ fn insert_unread(assembler: &mut Assembler, count: u32) -> Result<(), AllocError
 // Frames of one byte arrive in order, and are read once all have come.
 fn unread(alloc: Global, count: u32, tally: &mut Tally) -> Result<(), AllocError> {
     let mut assembler = Assembler::new(alloc);
-    insert_unread(&mut assembler, count)?;
+    insert_unread(&mut assembler, &mut Copies::new(alloc), count)?;
     read_parts(&mut assembler, count, tally)
 }
 
@@ -160,9 +171,10 @@ const FRAME_BYTES: u32 = 1200;
 // The bytes of a frame wait one by one, and the frame comes so many times: it brings nothing that is new.
 fn known(alloc: Global, rounds: u32, tally: &mut Tally) -> Result<(), AllocError> {
     let mut assembler = Assembler::new(alloc);
-    insert_unread(&mut assembler, FRAME_BYTES)?;
+    let mut copies = Copies::new(alloc);
+    insert_unread(&mut assembler, &mut copies, FRAME_BYTES)?;
     for _ in 0..rounds {
-        assembler.insert(0, &FRAME)?;
+        assembler.insert(0, &FRAME, &mut copies)?;
     }
     read_parts(&mut assembler, FRAME_BYTES, tally)
 }

@@ -11,10 +11,11 @@ ghost use Rattle.quic_streams_halves.specs.Queued.{acked_with, acked_if_ready, i
 
 use crate::pending_streams::PendingStreams;
 use bytes::Bytes;
+use quic_copies::Copies;
 use quic_send_buffer::StreamMeta;
 use quic_streams_parts::{Place, Send, WriteError, rank_of};
 use quic_wire_core::StreamId;
-use std::alloc::{AllocError, Global};
+use std::alloc::AllocError;
 use std::slice;
 
 // A part that stands in the queue, or has nothing to send, is in the queue while it has something to
@@ -269,7 +270,7 @@ fn grow(
     half: &mut Send,
     id: StreamId,
     bytes: &[u8],
-    alloc: Global,
+    copies: &mut Copies,
     queue: &mut PendingStreams,
 ) -> Result<(), AllocError>
     requires reset { half.old.reset ≡ None }
@@ -279,7 +280,7 @@ fn grow(
     ensures err { OnErr result (half.new ≡ half.old) }
     ensures same { OnErr result (queue.new ≡ queue.old) }
 {
-    let piece = Bytes::copy_from_slice(alloc, bytes)?;
+    let piece = copies.copy(bytes)?;
     write_all(half, id, slice::from_ref(&piece), bytes.len(), queue)
 }
 
@@ -290,7 +291,7 @@ pub(crate) fn write(
     id: StreamId,
     bytes: &[u8],
     room: u64,
-    alloc: Global,
+    copies: &mut Copies,
     queue: &mut PendingStreams,
 ) -> Result<usize, WriteError>
     ensures answer { result ≢ Err write_errors.Memory → result ≡ written_to (Some half.old) room (length bytes.now) }
@@ -305,7 +306,7 @@ pub(crate) fn write(
     if taken == 0 {
         return Ok(0);
     }
-    match grow(half, id, &bytes[..taken], alloc, queue) {
+    match grow(half, id, &bytes[..taken], copies, queue) {
         Ok(()) => Ok(taken),
         Err(_) => Err(WriteError::Memory),
     }

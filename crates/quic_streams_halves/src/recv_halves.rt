@@ -4,13 +4,14 @@ ghost use Rattle.std.specs.Option.{option_copied, option_map};
 ghost use Rattle.std.specs.Result.{is_err};
 ghost use Rattle.quic_wire.specs.FrameView.{stream_view};
 ghost use Rattle.quic_streams_parts.specs.Table.{at};
-ghost use Rattle.quic_streams_parts.specs.RecvHalf.{RecvHalf, greatest_offset, end_of, breaks_final, after_frame, reset_by, stopped_now, begun, is_illegal, next_of, half_after_next};
+ghost use Rattle.quic_streams_parts.specs.RecvHalf.{RecvHalf, greatest_offset, end_of, breaks_final, with_frame, after_frame, reset_by, stopped_now, begun, is_illegal, next_of, half_after_next};
 ghost use Rattle.quic_streams_parts.specs.Lacking.{FrameMayLack, read_may_lack};
 ghost use Rattle.quic_streams_parts.specs.declared.answers.ReadError.TheVariants as read_errors;
 ghost use Rattle.quic_streams_halves.specs.Halves.{Halves, no_halves, has_place, used, changed, without_half, seen_in, consumed_in};
 
 use crate::places::Places;
 use quic_assembler::{Chunk, IllegalOrderedRead};
+use quic_copies::Copies;
 use quic_streams_parts::{Numbered, ReadError, Recv};
 use quic_wire::frame::Stream;
 use quic_wire_core::{Side, StreamId, VarInt};
@@ -26,6 +27,8 @@ pub struct RecvHalves {
     // no frame and no read has to sum them.
     seen: u64,
     consumed: u64,
+    // Frames that come in order are copied here.
+    copies: Copies,
     // For the idle part that stands in a place that waits to be used again.
     alloc: Global,
 }
@@ -52,7 +55,7 @@ fn with_term(sum: u64, before: u64, after: u64) -> u64
 
 // A part takes a frame that breaks no rule on its final size: its offsets alone where this end stopped
 // it, nothing where the peer reset it. An `Err` (want of memory) changes nothing.
-fn take_on(half: &mut Recv, frame: &Stream<'_>) -> Result<(), AllocError>
+fn take_on(half: &mut Recv, frame: &Stream<'_>, copies: &mut Copies) -> Result<(), AllocError>
     requires end { end_of (stream_view frame.now) < 2 ^ 62 }
     requires size { breaks_final half.old.final half.old.seen (end_of (stream_view frame.now)) frame.now.fin ≡ false }
     ensures ok { OnOk result (half.new ≡ after_frame half.old (stream_view frame.now)) }
@@ -66,7 +69,7 @@ fn take_on(half: &mut Recv, frame: &Stream<'_>) -> Result<(), AllocError>
     if half.reset_code().is_some() {
         return Ok(());
     }
-    half.insert(frame)
+    half.insert(frame, copies)
 }
 
 impl RecvHalves {
@@ -79,6 +82,7 @@ impl RecvHalves {
             places: Places::new(alloc),
             seen: 0,
             consumed: 0,
+            copies: Copies::new(alloc),
             alloc,
         }
     }
@@ -148,6 +152,18 @@ impl RecvHalves {
         seen
     }
 
+    /// Keeps a frame's bytes on a part that isn't in use yet, and breaks no rule on its final size. An `Err` (want of memory) changes
+    /// nothing.
+    pub fn insert_on(&mut self, half: &mut Recv, frame: &Stream<'_>) -> Result<(), AllocError>
+        requires end { end_of (stream_view frame.now) < 2 ^ 62 }
+        requires size { breaks_final half.old.final half.old.seen (end_of (stream_view frame.now)) frame.now.fin ≡ false }
+        ensures ok { OnOk result (half.new ≡ with_frame half.old (stream_view frame.now)) }
+        ensures err { OnErr result (half.new ≡ half.old) }
+        ensures same { self.new ≡ self.old }
+    {
+        half.insert(frame, &mut self.copies)
+    }
+
     /// Takes a frame on its part, if it is in use: its offsets alone where this end stopped the part,
     /// nothing where the peer reset it. An `Err` (want of memory) changes nothing.
     pub fn take(&mut self, frame: &Stream<'_>) -> Result<(), AllocError>
@@ -162,7 +178,7 @@ impl RecvHalves {
             return Ok(());
         };
         let (seen, consumed) = (half.end(), half.credit());
-        take_on(half, frame)?;
+        take_on(half, frame, &mut self.copies)?;
         self.seen = with_term(self.seen, seen, half.end());
         self.consumed = with_term(self.consumed, consumed, half.credit());
         Ok(())

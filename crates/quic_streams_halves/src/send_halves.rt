@@ -14,6 +14,7 @@ use crate::pending_streams::PendingStreams;
 use crate::places::Places;
 use crate::queued;
 use bytes::Bytes;
+use quic_copies::Copies;
 use quic_send_buffer::StreamMeta;
 use quic_streams_parts::{Numbered, Place, Send, WriteError};
 use quic_wire_core::{Side, StreamId, VarInt};
@@ -27,6 +28,8 @@ pub struct SendHalves {
     places: Places,
     // The bytes that are kept on all of them, so that no write has to sum them.
     buffered: u64,
+    // What is written is copied here.
+    copies: Copies,
     // For the idle part that stands in a place that waits to be used again.
     alloc: Global,
 }
@@ -54,6 +57,7 @@ impl SendHalves {
             live: Numbered::new(alloc),
             places: Places::new(alloc),
             buffered: 0,
+            copies: Copies::new(alloc),
             alloc,
         }
     }
@@ -77,6 +81,14 @@ impl SendHalves {
         ensures { result ≡ has_place side self.now.places id }
     {
         self.places.has(side, id)
+    }
+
+    /// A copy of bytes, to be a piece. An `Err` is want of memory.
+    pub fn piece(&mut self, bytes: &[u8]) -> Result<Bytes, AllocError>
+        ensures piece { IfOk result (λ piece. piece ≡ bytes.now) }
+        ensures same { self.new ≡ self.old }
+    {
+        self.copies.copy(bytes)
     }
 
     /// A part comes into use. An `Err` (want of memory) changes nothing.
@@ -181,7 +193,6 @@ impl SendHalves {
         id: StreamId,
         bytes: &[u8],
         room: u64,
-        alloc: Global,
         queue: &mut PendingStreams,
     ) -> Result<usize, WriteError>
         requires window { buffered_in self.old.live + room < 2 ^ 64 }
@@ -196,7 +207,7 @@ impl SendHalves {
         let Some(half) = self.live.get_mut(u64::from(id)) else {
             return Err(WriteError::ClosedStream);
         };
-        let taken = queued::write(half, id, bytes, room, alloc, queue)?;
+        let taken = queued::write(half, id, bytes, room, &mut self.copies, queue)?;
         self.buffered += taken as u64;
         Ok(taken)
     }

@@ -1,4 +1,5 @@
--- What is known of a frame that goes of what waits about streams: its kind, and what it says. Only here is what waits taken apart, kind by kind.
+-- What is known of a frame that goes of what waits about streams: its kind, and what it says. Only here is an entry's frame taken
+-- apart, kind by kind.
 use Rattle.std.proofs.Common.{◌≡◌, ℕ, Bool, true, false, List, [], ◌∷◌, Option, Some, None, refl, ap, ◌∙◌, subst}
 use Rattle.std.specs.Prelude.{if◌then◌else◌, map}
 use Rattle.std.specs.Option.{option_map}

@@ -11,7 +11,7 @@ use Rattle.quic_streams_parts.specs.TableLaws.{ids-added, ids-without, without-u
 use Rattle.quic_streams_parts.specs.Slots.{AllBelow, AllFrom}
 
 -- a number is not where another is
-other : (n k : ℕ) → (n ≡ k → ⊥) → is_at (nat_cmp n) k ≡ false
+pub other : (n k : ℕ) → (n ≡ k → ⊥) → is_at (nat_cmp n) k ≡ false
 other n k ne = unsigned_tied n k ∙ ne_eqb n k ne
 
 pub below_less : (n k : ℕ) → n < k → nat_cmp n k ≡ Less

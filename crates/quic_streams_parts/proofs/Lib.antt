@@ -8,3 +8,4 @@ mod Ordered
 mod Looked
 mod Lent
 mod Parted
+mod Behind

@@ -1,5 +1,5 @@
 //! Values by number: the latest in a ring, and those that fell out of it in an ordered map.
-ghost use Rattle.std.specs.Prelude.{◌≡◌, [], IfOk, OnOk, OnErr};
+ghost use Rattle.std.specs.Prelude.{◌≡◌, [], true, None, IfOk, OnOk, OnErr};
 ghost use Rattle.std.specs.Option.{option_copied, option_copied_mut};
 ghost use Rattle.std.specs.Borrow.{sem};
 ghost use Rattle.std.specs.List.Sorted.{IsStrictlySortedBy};
@@ -33,6 +33,17 @@ impl<T> Model for ByNumber<T> {
     ghost view = { λ m. m.earlier.entries ++ held m.ring };
 
     ghost invariant = { λ m. IsSplit m.earlier.entries m.ring };
+}
+
+/// Whether a number lies behind all that a map has: so it is with most that are asked for once their
+/// value was taken out, and a look-up among many others is spared.
+fn is_behind<T>(values: &BTreeMap<u64, T>, number: u64) -> bool
+    ensures { result ≡ true → at values.now.entries number ≡ None }
+{
+    match values.last_key_value() {
+        Some((last, _)) => *last < number,
+        None => true,
+    }
 }
 
 impl<T> ByNumber<T> {
@@ -71,6 +82,9 @@ impl<T> ByNumber<T> {
     {
         if number >= self.ring.base() {
             return self.ring.get(number);
+        }
+        if is_behind(&self.earlier, number) {
+            return None;
         }
         self.earlier.get(&number)
     }

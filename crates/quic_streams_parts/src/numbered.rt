@@ -71,7 +71,7 @@ impl<T> Numbered<T> {
         }
     }
 
-    /// Keeps a value: the one that had its number, if any, in its place.
+    /// Keeps a value. Gives the one that had its number, if any, in its place.
     ///
     /// # Errors
     ///

@@ -10,6 +10,7 @@ ghost use Rattle.quic_streams_parts.specs.declared.answers.ReadError.TheVariants
 
 use crate::answers::ReadError;
 use quic_assembler::{Assembler, Chunk, IllegalOrderedRead, MOST_PIECES};
+use quic_copies::Copies;
 use quic_wire::frame::Stream;
 use quic_wire_core::VarInt;
 use std::alloc::{AllocError, Global};
@@ -169,8 +170,9 @@ impl Recv {
         }
     }
 
-    /// Keeps a frame's bytes, which break no rule on its final size. An `Err` (want of memory) changes nothing.
-    pub fn insert(&mut self, frame: &Stream<'_>) -> Result<(), AllocError>
+    /// Keeps a frame's bytes, which break no rule on its final size, copied by `copies` where they come in order. An `Err` (want of
+    /// memory) changes nothing.
+    pub fn insert(&mut self, frame: &Stream<'_>, copies: &mut Copies) -> Result<(), AllocError>
         requires end { end_of (stream_view frame.now) < 2 ^ 62 }
         requires size { breaks_final self.old.final self.old.seen (end_of (stream_view frame.now)) frame.now.fin ≡ false }
         ensures ok { OnOk result (self.new ≡ with_frame self.old (stream_view frame.now)) }
@@ -178,7 +180,7 @@ impl Recv {
         ensures lacking { OnErr result (FrameMayLack self.old.arrived (stream_view frame.now)) }
     {
         let end = frame.offset + frame.data.len() as u64;
-        self.assembler.insert(frame.offset, frame.data)?;
+        self.assembler.insert(frame.offset, frame.data, copies)?;
         self.end = self.end.max(end);
         self.final_offset = final_after(self.final_offset, end, frame.fin);
         Ok(())

@@ -157,7 +157,8 @@ kind_of (data_blocked limit) = Some DataBlocked
 kind_of (stream_data_blocked f) = Some StreamDataBlocked
 kind_of f = None
 
--- a frame goes of what waits: it is the first of its kind, and says what is so of the streams
+-- what is known of a frame that goes of what waits: what it says is so of the streams, and of a reset, a stop and the limit of a
+-- stream, that it is the first that waits
 abbrev pub Goes : Retransmits → StreamsState → FrameValue → Type 0
 Goes p s (reset_stream f) = (h : SendHalf) × (first_of p.reset_stream ≡ Some (f.id, f.code)) × (at s.sending.halves.live f.id ≡ Some h) × (h.reset ≡ Some f.final_size)
 Goes p s (stop_sending f) = first_of p.stop_sending ≡ Some f

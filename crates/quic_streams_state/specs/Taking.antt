@@ -110,17 +110,11 @@ reset_breach s f = refusal s f.id f.final_size true
 abbrev pub after_reset_frame : StreamsState → Retransmits → ResetStreamValue → Streams
 after_reset_frame s p f = reset_unless (reset_breach s f) s p f
 
--- ---- STREAM_DATA_BLOCKED and STREAMS_BLOCKED (sections 19.13 and 19.14): they change nothing, and the first is refused on a stream on which only this end sends
-
--- the rule that STREAM_DATA_BLOCKED breaks by its id, if it breaks one
-abbrev pub stream_data_blocked_breach : StreamsState → ℕ → Option Breach
-stream_data_blocked_breach s id = if is_own s.side id && not (is_two_way (dir_of id)) then Some StreamState else None
-
--- the rule that STREAMS_BLOCKED breaks by its count, if it breaks one
-abbrev pub streams_blocked_breach : ℕ → Option Breach
-streams_blocked_breach count = max_streams_breach count
-
 -- ---- the rules of ids and counts, as a table: what a frame may name, whatever else it does
+
+-- the rule that an id breaks that may not be of a stream on which only this end sends (section 19.13), if it does
+abbrev pub not_of_own_breach : StreamsState → ℕ → Option Breach
+not_of_own_breach s id = if is_own s.side id && not (is_two_way (dir_of id)) then Some StreamState else None
 
 -- the one that a frame is held to
 abbrev pub id_rule : FrameValue → IdRule
@@ -138,7 +132,7 @@ abbrev pub broken : StreamsState → IdRule → Option Breach
 broken s Free = None
 broken s (ReceivingOf id) = receiving_refusal s id
 broken s (SendingOf id) = sending_refusal s id
-broken s (NotOfOwn id) = stream_data_blocked_breach s id
+broken s (NotOfOwn id) = not_of_own_breach s id
 broken s (Counting count) = max_streams_breach count
 
 -- ---- what comes for a sending part

@@ -1,5 +1,5 @@
 //! What has come on all streams.
-ghost use Rattle.std.specs.Prelude.{◌≡◌, ◌≢◌, ◌≤◌, ◌+◌, true, false, Some, None, Err, IsSome, IfSome, OnOk, OnErr};
+ghost use Rattle.std.specs.Prelude.{◌≡◌, ◌≢◌, ◌<◌, ◌≤◌, ◌+◌, ◌^◌, true, false, Some, None, Err, IsSome, IfSome, OnOk, OnErr};
 ghost use Rattle.std.specs.Option.{option_copied};
 ghost use Rattle.std.specs.Result.{is_err};
 ghost use Rattle.quic_streams_parts.specs.Table.{at};
@@ -7,7 +7,7 @@ ghost use Rattle.quic_streams_state.specs.Parts.{first_window, seen};
 ghost use Rattle.quic_streams_state.specs.State.{seen_at};
 ghost use Rattle.quic_streams_state.specs.Limits.{raised_data, data_grew, grew_on};
 ghost use Rattle.quic_streams_state.specs.Taking.{breach_on};
-ghost use Rattle.quic_streams_parts.specs.RecvHalf.{greatest_offset, new_recv_half, end_of, after_frame, after_reset_stream, stopped_now, begun, is_illegal, next_of, half_after_next};
+ghost use Rattle.quic_streams_parts.specs.RecvHalf.{greatest_offset, new_recv_half, end_of, breaks_final, with_frame, after_frame, after_reset_stream, stopped_now, begun, is_illegal, next_of, half_after_next};
 ghost use Rattle.quic_streams_parts.specs.Lacking.{FrameMayLack, read_may_lack};
 ghost use Rattle.quic_streams_parts.specs.declared.answers.ReadError.TheVariants as read_errors;
 ghost use Rattle.quic_streams_halves.specs.Halves.{no_halves, has_place, with_half, without_half, changed};
@@ -83,6 +83,18 @@ impl Receiving {
         ensures { result ≡ new_recv_half (first_window self.now) }
     {
         Recv::new(self.alloc, self.stream_receive_window)
+    }
+
+    /// Keeps a frame's bytes on a half that isn't in use yet, which breaks no rule on its final size. An `Err` (want of memory) changes
+    /// nothing.
+    pub fn insert_on(&mut self, half: &mut Recv, frame: &Stream<'_>) -> Result<(), AllocError>
+        requires end { end_of (stream_view frame.now) < 2 ^ 62 }
+        requires size { breaks_final half.old.final half.old.seen (end_of (stream_view frame.now)) frame.now.fin ≡ false }
+        ensures ok { OnOk result (half.new ≡ with_frame half.old (stream_view frame.now)) }
+        ensures err { OnErr result (half.new ≡ half.old) }
+        ensures same { self.new ≡ self.old }
+    {
+        self.recv.insert_on(half, frame)
     }
 
     /// The greatest offsets that arrived on all streams, summed.

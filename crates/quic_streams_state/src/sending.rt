@@ -216,10 +216,11 @@ impl Sending {
     }
 
     /// A copy of bytes, to be a piece. An `Err` is want of memory.
-    pub fn piece(&self, bytes: &[u8]) -> Result<Bytes, AllocError>
-        ensures { IfOk result (λ piece. piece ≡ bytes.now) }
+    pub fn piece(&mut self, bytes: &[u8]) -> Result<Bytes, AllocError>
+        ensures piece { IfOk result (λ piece. piece ≡ bytes.now) }
+        ensures same { self.new ≡ self.old }
     {
-        Bytes::copy_from_slice(self.alloc, bytes)
+        self.send.piece(bytes)
     }
 
     /// The first `len` bytes of chunks go behind those that were written on a half that is in use,
@@ -258,9 +259,7 @@ impl Sending {
         let _bounds = (self.send.buffered(), self.max_data.into_inner());
         let _window = self.send_window;
         let room = self.room();
-        let taken = self
-            .send
-            .write(id, bytes, room, self.alloc, &mut self.pending)?;
+        let taken = self.send.write(id, bytes, room, &mut self.pending)?;
         self.data_sent += taken as u64;
         Ok(taken)
     }

@@ -8,8 +8,8 @@ ghost use Rattle.quic_streams_parts.specs.Answered.{AnswersBreach, UnlessMemory,
 ghost use Rattle.quic_streams_halves.specs.Halves.{is_done};
 ghost use Rattle.quic_streams_state.specs.State.{StreamsState, first_window, sending_status, recv_done};
 ghost use Rattle.quic_streams_state.specs.Limits.{decided};
-ghost use Rattle.quic_streams_state.specs.Opening.{opens, opened_by, receiving_refusal};
-ghost use Rattle.quic_streams_state.specs.Taking.{part_for, breach_on, refusal, readable_if, ended_if, stream_breach, after_stream, reset_breach, after_reset_frame, stream_data_blocked_breach, streams_blocked_breach, id_rule, broken};
+ghost use Rattle.quic_streams_state.specs.Opening.{opens, opened_by, receiving_refusal, max_streams_breach};
+ghost use Rattle.quic_streams_state.specs.Taking.{part_for, breach_on, refusal, readable_if, ended_if, stream_breach, after_stream, reset_breach, after_reset_frame, id_rule, broken, not_of_own_breach};
 ghost use Rattle.quic_streams_state.specs.Received.{is_over, noted_on, FrameLacks, ResetLacks};
 
 use crate::opening::MAX_STREAM_COUNT;
@@ -54,6 +54,16 @@ impl IdRule {
     }
 }
 
+// The rule that a count above 2^60 breaks.
+fn count_breach(count: u64) -> Option<Breach>
+    ensures { result ≡ max_streams_breach count }
+{
+    if count > MAX_STREAM_COUNT {
+        return Some(Breach::FrameEncoding);
+    }
+    None
+}
+
 impl StreamsState {
     /// How a frame that is held to a rule of ids and counts breaks it: in this order `StreamState` on a stream on which this end
     /// doesn't receive or send as the rule asks, or on one of this end that isn't opened, and `StreamLimit` beyond the count that the
@@ -65,28 +75,17 @@ impl StreamsState {
             IdRule::Free => None,
             IdRule::ReceivingOf(id) => self.receiving_refusal(id),
             IdRule::SendingOf(id) => self.sending_refusal(id),
-            IdRule::NotOfOwn(id) => self.stream_data_blocked_breach(id),
-            IdRule::Counting(count) => self.streams_blocked_breach(count),
+            IdRule::NotOfOwn(id) => self.not_of_own_breach(id),
+            IdRule::Counting(count) => count_breach(count),
         }
     }
 
-    /// The rule that STREAM_DATA_BLOCKED breaks by its id, which changes nothing (RFC 9000, section 19.13): `StreamState` on a stream
-    /// on which only this end sends.
-    pub fn stream_data_blocked_breach(&self, id: StreamId) -> Option<Breach>
-        ensures { result ≡ stream_data_blocked_breach self.now id }
+    // The rule that is broken by the id of a stream on which only this end sends.
+    fn not_of_own_breach(&self, id: StreamId) -> Option<Breach>
+        ensures { result ≡ not_of_own_breach self.now id }
     {
         if is_own(self.side, id) && id.dir() == Dir::Uni {
             return Some(Breach::StreamState);
-        }
-        None
-    }
-
-    /// The rule that STREAMS_BLOCKED breaks by its count, which changes nothing (RFC 9000, section 19.14): `FrameEncoding` above 2^60.
-    pub fn streams_blocked_breach(&self, count: u64) -> Option<Breach>
-        ensures { result ≡ streams_blocked_breach count }
-    {
-        if count > MAX_STREAM_COUNT {
-            return Some(Breach::FrameEncoding);
         }
         None
     }
@@ -240,7 +239,7 @@ impl StreamsState {
         ensures err { OnErr result (self.new ≡ self.old) }
     {
         let mut half = half;
-        half.insert(frame)?;
+        self.receiving.insert_on(&mut half, frame)?;
         let tells = !self.opens(frame.id);
         self.tell_readable(tells, frame.id)?;
         if self.receiving.add(self.side, frame.id, half).is_err() {

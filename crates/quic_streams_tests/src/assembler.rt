@@ -1,6 +1,7 @@
 use super::spent::{none_fails_behind, spend};
 use Step::{Begin, Count, Insert, Read, Wait};
 use quic_assembler::{Assembler, Chunk, MOST_PIECES};
+use quic_copies::Copies;
 use std::alloc::AllocError;
 use std::process::Abort;
 use std::test::Fail;
@@ -32,11 +33,25 @@ fn is_chunk(rt: &impl Abort, chunk: Option<Chunk>, offset: u64, bytes: &[u8]) {
     assert_eq!(rt; chunk.bytes.as_slice(), bytes);
 }
 
-fn take(rt: &impl Abort, assembler: &mut Assembler, step: Step) -> Result<(), AllocError> {
+// Bytes come; their copy shares no memory with another.
+fn insert<R: AllocGlobal>(
+    rt: &R,
+    assembler: &mut Assembler,
+    offset: u64,
+    bytes: &[u8],
+) -> Result<(), AllocError> {
+    assembler.insert(offset, bytes, &mut Copies::new(rt.alloc()))
+}
+
+fn take<R: Abort + AllocGlobal>(
+    rt: &R,
+    assembler: &mut Assembler,
+    step: Step,
+) -> Result<(), AllocError> {
     match step {
         Insert(offset, bytes) => {
             assert!(rt; offset < 100_000 && bytes.len() < 100);
-            assembler.insert(offset, bytes)?;
+            insert(rt, assembler, offset, bytes)?;
         }
         Read(max, offset, bytes) => {
             assert!(rt; assembler.has_next());
@@ -55,7 +70,7 @@ fn take(rt: &impl Abort, assembler: &mut Assembler, step: Step) -> Result<(), Al
 }
 
 // Where memory lacks, nothing has changed, and the step is made again.
-fn make(rt: &impl Abort, assembler: &mut Assembler, step: Step) -> Result<(), Fail> {
+fn make<R: Abort + AllocGlobal>(rt: &R, assembler: &mut Assembler, step: Step) -> Result<(), Fail> {
     let before = seen(assembler);
     if take(rt, assembler, step).is_err() {
         assert_eq!(rt; seen(assembler), before);
@@ -117,7 +132,11 @@ fn unordered_reads_give_each_byte_once(rt: HostRuntime) -> Result<(), Fail> {
 }
 
 // One-byte frames come in order.
-fn insert_in_order(rt: &impl Abort, assembler: &mut Assembler, count: u64) -> Result<(), Fail> {
+fn insert_in_order<R: Abort + AllocGlobal>(
+    rt: &R,
+    assembler: &mut Assembler,
+    count: u64,
+) -> Result<(), Fail> {
     for offset in 0..count {
         make(rt, assembler, Insert(offset, b"x"))?;
     }
@@ -136,7 +155,7 @@ fn small_frames_in_order_are_one_run(rt: HostRuntime) -> Result<(), Fail> {
 
 // Two runs of one-byte frames, 2049 in all: the last one makes them too many, and each run is
 // joined.
-fn insert_two_runs(rt: &impl Abort, assembler: &mut Assembler) -> Result<(), Fail> {
+fn insert_two_runs<R: Abort + AllocGlobal>(rt: &R, assembler: &mut Assembler) -> Result<(), Fail> {
     for offset in 5000..6025u64 {
         take(rt, assembler, Insert(offset, b"y"))?;
     }
@@ -186,13 +205,13 @@ fn a_join_lacks_its_fifth_allocation(rt: HostRuntime) -> Result<(), Fail> {
 
 // Fills the gaps up to an offset, and says with which byte. Where memory lacked it is another one,
 // since the first bytes stand: none may be of those that were put in before.
-fn fill_gaps(rt: &impl Abort, assembler: &mut Assembler) -> Result<u8, Fail> {
+fn fill_gaps<R: Abort + AllocGlobal>(rt: &R, assembler: &mut Assembler) -> Result<u8, Fail> {
     let before = seen(assembler);
-    if assembler.insert(0, &[b'x'; 25]).is_ok() {
+    if insert(rt, assembler, 0, &[b'x'; 25]).is_ok() {
         return Ok(b'x');
     }
     assert_eq!(rt; seen(assembler), before);
-    assembler.insert(0, &[b'y'; 25])?;
+    insert(rt, assembler, 0, &[b'y'; 25])?;
     Ok(b'y')
 }
 
@@ -217,7 +236,11 @@ fn a_node_is_full_at_an_insert(rt: HostRuntime) -> Result<(), Fail> {
 
 // The byte that waits at an offset is read. Where memory lacks, it wasn't given: another may come
 // in its place.
-fn read_or_bring(rt: &impl Abort, assembler: &mut Assembler, offset: u64) -> Result<(), Fail> {
+fn read_or_bring<R: Abort + AllocGlobal>(
+    rt: &R,
+    assembler: &mut Assembler,
+    offset: u64,
+) -> Result<(), Fail> {
     let before = seen(assembler);
     match assembler.read(9) {
         Ok(chunk) => is_chunk(rt, chunk, offset, b"a"),
@@ -232,7 +255,11 @@ fn read_or_bring(rt: &impl Abort, assembler: &mut Assembler, offset: u64) -> Res
 }
 
 // A byte comes for each second offset, and is read.
-fn read_apart(rt: &impl Abort, assembler: &mut Assembler, count: u32) -> Result<(), Fail> {
+fn read_apart<R: Abort + AllocGlobal>(
+    rt: &R,
+    assembler: &mut Assembler,
+    count: u32,
+) -> Result<(), Fail> {
     for place in 0..count {
         let offset = 2 * u64::from(place);
         take(rt, assembler, Insert(offset, b"a"))?;

@@ -12,6 +12,7 @@ ghost use Rattle.quic_sets.specs.Parts.{after, undone};
 use super::Chunk;
 use super::part_map::PartMap;
 use bytes::Bytes;
+use quic_copies::Copies;
 use quic_sets::{OffsetSet, spans};
 use std::alloc::{AllocError, Global};
 use std::collections::BTreeMap;
@@ -296,20 +297,19 @@ impl Parts {
     }
 
     // Puts a part into a gap, where `touched` parts touch it.
-    fn fill_gap(&mut self, at: u64, bytes: &[u8], touched: usize) -> Result<(), AllocError>
-        requires some { 0 < length bytes.now }
-        requires small { at + length bytes.now < 2 ^ 62 }
-        requires fits { Fits (at + length bytes.now) (after at self.old) }
-        requires touched { touched ≡ touching self.old at (at + length bytes.now) }
+    fn fill_gap(&mut self, at: u64, part: Bytes, touched: usize) -> Result<(), AllocError>
+        requires some { 0 < length part }
+        requires small { at + length part < 2 ^ 62 }
+        requires fits { Fits (at + length part) (after at self.old) }
+        requires touched { touched ≡ touching self.old at (at + length part) }
         ensures apart { AreApart 0 self.new }
-        ensures ok { OnOk result (self.new ≡ insert_entry nat_cmp self.old (at + length bytes.now) bytes.now) }
+        ensures ok { OnOk result (self.new ≡ insert_entry nat_cmp self.old (at + length part) part) }
         ensures err { OnErr result (self.new ≡ self.old) }
     {
-        let end = at + bytes.len() as u64;
-        let part = Bytes::copy_from_slice(self.alloc, bytes)?;
-        self.map.keep(end, part)?;
+        let len = part.len() as u64;
+        self.map.keep(at + len, part)?;
         self.runs = self.runs + 1 - touched;
-        self.bytes += bytes.len() as u64;
+        self.bytes += len;
         Ok(())
     }
 
@@ -330,7 +330,8 @@ impl Parts {
         if !held {
             ends.push(at + count)?;
             let touched = touches(&self.map, at, joins);
-            self.fill_gap(at, &bytes[..len], touched)?;
+            let part = Bytes::copy_from_slice(self.alloc, &bytes[..len])?;
+            self.fill_gap(at, part, touched)?;
         }
         Ok(len)
     }
@@ -574,7 +575,13 @@ impl Parts {
 
     // Puts bytes behind all parts as one more, where `touched` parts end at the first of them. No
     // other part is looked up.
-    fn append(&mut self, at: u64, bytes: &[u8], touched: usize) -> Result<(), AllocError>
+    fn append(
+        &mut self,
+        at: u64,
+        bytes: &[u8],
+        touched: usize,
+        copies: &mut Copies,
+    ) -> Result<(), AllocError>
         requires some { 0 < length bytes.now }
         requires small { at + length bytes.now < 2 ^ 62 }
         requires behind { after at self.old ≡ None }
@@ -584,7 +591,7 @@ impl Parts {
     {
         let runs = self.runs();
         let waiting = self.waiting();
-        self.fill_gap(at, bytes, touched)?;
+        self.fill_gap(at, copies.copy(bytes)?, touched)?;
         let outcome = self.settle();
         if outcome.is_err() {
             self.take_out(at + bytes.len() as u64, runs, waiting);
@@ -596,7 +603,7 @@ impl Parts {
     /// part. Parts that touch are joined where there are too many and they are short. What is known
     /// to have arrived, as it waits or was given, is skipped a run at a time. Where none were given
     /// and all parts end before the frame, as they do where it comes in order, only the last part
-    /// is looked up.
+    /// is looked up, and its bytes may share memory with other copies.
     ///
     /// # Errors
     ///
@@ -607,6 +614,7 @@ impl Parts {
         arrived: &OffsetSet,
         at: u64,
         bytes: &[u8],
+        copies: &mut Copies,
     ) -> Result<(), AllocError>
         requires spans { AreSpans 0 given.now.entries }
         requires small { at + length bytes.now < 2 ^ 62 }
@@ -616,7 +624,7 @@ impl Parts {
         ensures lacking { OnErr result (HasFree given.now.entries self.old at (length bytes.now) ⊎ (is_crowded self.old ≡ true)) }
     {
         match self.last_touched(given, at, bytes) {
-            Some(touched) => self.append(at, bytes, touched),
+            Some(touched) => self.append(at, bytes, touched, copies),
             None => self.fill_or_undo(given, arrived, at, bytes),
         }
     }

@@ -846,6 +846,7 @@ fn put_control_frames(
     ensures carried { IfOk result (λ kept. made kept ≡ retransmits_in (control_part most (vec_len out.old - body) streams.old.state streams.old.pending).frames) }
     ensures front { take (vec_len out.old) out.new.items ≡ out.old.items }
 {
+    // Mostly nothing waits, and the walk over the kinds is spared.
     if streams.pending.is_idle() {
         return Ok(ThinRetransmits::new());
     }

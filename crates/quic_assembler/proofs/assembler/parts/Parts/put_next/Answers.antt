@@ -1,4 +1,5 @@
-use Rattle.std.proofs.Common.{refl, inr}
+use Rattle.std.proofs.Common.{refl, inr, ◌≡◌, ℕ, ◌+◌, List, length, nat_cmp, subst}
+use Rattle.std.specs.BTreeMap.{insert_entry}
 use Rattle.quic_assembler.proofs.Parts.Steps.{some_taken, held_gaps, put_gaps}
 use Rattle.quic_assembler.proofs.Parts.Undone.{put_back, put_none}
 use Rattle.quic_assembler.proofs.Parts.Gaps.{dry_here}
@@ -23,12 +24,12 @@ returns-in_err-fill_gap-clause-back c =
 pub returns-in_ok-fill_gap-clause-gaps : goal.returns-in_ok-fill_gap-clause-gaps
 returns-in_ok-fill_gap-clause-gaps c =
     let h = c.span-held.ensures in
-    rw (← c.self.view_is) (put_gaps 0 c.args.at _ _ _ c.self.inside.map _ c.args.bytes.now _ c.self.view_is c.self.invariant.apart c.requires.some h.held c.if-not-held.true h.count refl c.in_ok-fill_gap.ensures.ok)
+    rw (← c.self.view_is) (put_gaps 0 c.args.at _ _ _ c.self.inside.map _ c.args.bytes.now _ c.self.view_is c.self.invariant.apart c.requires.some h.held c.if-not-held.true h.count refl (subst (λ (p : List ℕ). c.fill_gap.new.self ≡ insert_entry nat_cmp c.args.self.now (c.args.at + length p) p) c.in_ok-part.ensures c.in_ok-fill_gap.ensures.ok))
 
 pub returns-in_ok-fill_gap-clause-back : goal.returns-in_ok-fill_gap-clause-back
 returns-in_ok-fill_gap-clause-back c =
     let h = c.span-held.ensures in
-    put_back c.args.at _ _ _ _ _ c.self.inside.map _ c.args.bytes.now _ c.self.view_is c.self.invariant.apart c.requires.some h.held c.if-not-held.true h.count refl c.in_ok-push.ensures.items c.in_ok-fill_gap.ensures.ok
+    put_back c.args.at _ _ _ _ _ c.self.inside.map _ c.args.bytes.now _ c.self.view_is c.self.invariant.apart c.requires.some h.held c.if-not-held.true h.count refl c.in_ok-push.ensures.items (subst (λ (p : List ℕ). c.fill_gap.new.self ≡ insert_entry nat_cmp c.args.self.now (c.args.at + length p) p) c.in_ok-part.ensures c.in_ok-fill_gap.ensures.ok)
 
 pub returns-in_err-push-clause-lacking : goal.returns-in_err-push-clause-lacking
 returns-in_err-push-clause-lacking c =
@@ -40,3 +41,12 @@ returns-in_err-fill_gap-clause-lacking c =
 
 pub returns-in_ok-fill_gap-clause-same : goal.returns-in_ok-fill_gap-clause-same
 returns-in_ok-fill_gap-clause-same c = inr (dry_here c.args.at _ c.self.inside.map _ c.self.view_is c.self.invariant.apart c.span-held.ensures.held c.if-not-held.true)
+
+pub returns-in_err-part-clause-back : goal.returns-in_err-part-clause-back
+returns-in_err-part-clause-back c =
+    let h = c.span-held.ensures in
+    put_none c.args.at _ _ _ _ _ c.self.inside.map _ c.args.bytes.now _ c.self.view_is c.self.invariant.apart c.requires.some h.held c.if-not-held.true h.count refl c.in_ok-push.ensures.items refl
+
+pub returns-in_err-part-clause-lacking : goal.returns-in_err-part-clause-lacking
+returns-in_err-part-clause-lacking c =
+    of_error c.from_residual-in_err-part.result (dry_here c.args.at _ c.self.inside.map _ c.self.view_is c.self.invariant.apart c.span-held.ensures.held c.if-not-held.true)

@@ -1,0 +1,6 @@
+//! Copies of bytes that share memory.
+#![tactic(auto)]
+
+mod copies;
+
+pub use copies::Copies;
