@@ -1,3 +1,5 @@
+ghost use Rattle.std.specs.Prelude.{◌+◌, ◌<◌, ◌^◌, length};
+
 use super::spent::{none_fails_behind, spend};
 use Step::{Begin, Count, Insert, Read, Wait};
 use quic_assembler::{Assembler, Chunk, MOST_PIECES};
@@ -39,7 +41,9 @@ fn insert<R: AllocGlobal>(
     assembler: &mut Assembler,
     offset: u64,
     bytes: &[u8],
-) -> Result<(), AllocError> {
+) -> Result<(), AllocError>
+    requires { offset + length bytes.now < 2 ^ 62 }
+{
     assembler.insert(offset, bytes, &mut Copies::new(rt.alloc()))
 }
 
