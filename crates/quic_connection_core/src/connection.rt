@@ -24,6 +24,7 @@ ghost use Rattle.quic_time.specs.Timers.{no_timers};
 mod acked;
 mod closing;
 mod ids;
+mod leaving;
 mod losses;
 mod messages;
 mod receiving;

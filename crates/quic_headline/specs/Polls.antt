@@ -17,7 +17,7 @@ use Rattle.quic_machine.specs.Closing.{ticked}
 use Rattle.quic_machine.specs.Parts.{current_mtu}
 use Rattle.quic_machine.specs.End.{End, with_closing, with_window}
 use Rattle.quic_machine.specs.Control.{paced_until, with_pacing_timer}
-use Rattle.quic_machine.specs.Poll.{probed}
+use Rattle.quic_machine.specs.Poll.{probed, asks_to_go}
 use Rattle.quic_machine.specs.Machine.{World, Policies, IsStep, policy_at, end_at, end_met, control_at, given_by, tells}
 use Rattle.quic_headline.specs.Runs.{Run, In, same_side, state_in, until, AreServed, LeadsTo, written, ended, reset}
 use Rattle.quic_headline.specs.Observer.{Sent, HoldsOffset, HoldsEnd, asks_of, watch, sents_until, acked_until}
@@ -137,9 +137,9 @@ pub record GaveAsking (r : Run) (side : Side) (i now : ℕ) (w next : World) : T
   pub went : sents_until r side (suc i) ≡ sents_until r side i ++ sent ∷ []
   pub asks : asks_of sent ≡ true
 
--- one that is no probe goes only where the window has room for it beside those in flight, and the pacer names no later moment
+-- where something waits that asks, one that is no probe goes only where the window has room for it beside those in flight, and the pacer names no later moment
 abbrev pub AskingGoesWhereLet : Run → Type 0
-AskingGoesWhereLet r = (side : Side) (i now : ℕ) (w next : World) → GaveAsking r side i now w next → (end_at side w).tracking.probes ≡ 0
+AskingGoesWhereLet r = (side : Side) (i now : ℕ) (w next : World) → GaveAsking r side i now w next → asks_to_go (end_at side w) ≡ true → (end_at side w).tracking.probes ≡ 0
     → (bytes_flying r side i + current_mtu (end_at side w).path < control_at side w []) × (pacer_names side w now ≡ None)
 
 -- where a probe waits, a poll that leaves its end open gives a datagram that asks, whatever window and pacer say; one probe fewer waits then (section 7.5)

@@ -12,6 +12,7 @@ pub mod Receive
 pub mod Poll
 pub mod Timeouts
 pub mod Calls
+pub mod Sizes
 pub mod StreamCalls
 pub mod MessageCalls
 pub mod Lacking

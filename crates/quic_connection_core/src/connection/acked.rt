@@ -22,7 +22,7 @@ ghost use Rattle.quic_connection_core.specs.Tracked.{TakesLost, acked_taken, ack
 
 use crate::connection::Connection;
 use crate::connection::losses::Losses;
-use crate::connection::telling::{tell_ack, tell_acks_ended, tell_congested};
+use crate::connection::telling::{tell_ack, tell_acks_ended, tell_congested, tell_resized};
 use quic_congestion::Controller;
 use quic_machine::Instant;
 use quic_packet::crypto::{HeaderKey, PacketKey};
@@ -305,8 +305,9 @@ impl<H: HeaderKey + Drop, K: PacketKey + Drop, R: Rng + Drop, C: Controller> Con
         ensures ok { OnOk result (self.new ≡ telling C.steps self.old (told_packets self.old.end (reverse acked.items)) (packets_acked (reverse acked.items) self.old.end)) }
         ensures others { KeepsKeys self.old self.new }
     {
-        while let Some((_, packet)) = acked.pop() {
+        while let Some((number, packet)) = acked.pop() {
             self.tell_acked(&packet);
+            self.search_acked(number, packet.size);
             self.on_packet_acked(packet)?;
         }
         Ok(())
@@ -321,6 +322,16 @@ impl<H: HeaderKey + Drop, K: PacketKey + Drop, R: Rng + Drop, C: Controller> Con
         }
         let now = self.closing.clock();
         tell_ack(&mut self.path, now, packet, self.app_limited);
+    }
+
+    /// The search for a size learns that a packet of so many bytes is acknowledged: where it is the
+    /// open probe, its size is that of datagrams from then on, of which the controller is told.
+    fn search_acked(&mut self, number: u64, size: u16)
+        ensures { (p : TrackedPacket) → p.size ≡ size → self.new ≡ telling C.steps self.old (told_probe (number, p) self.old.end.path.discovery) (search_acked (number, p) self.old.end) }
+    {
+        if self.path.mtud.on_acked(number, size) {
+            tell_resized(&mut self.path);
+        }
     }
 
     /// The congestion controller is told that all packets are acknowledged that an ACK frame named.
@@ -421,6 +432,7 @@ impl<H: HeaderKey + Drop, K: PacketKey + Drop, R: Rng + Drop, C: Controller> Con
         let mut losses = self.no_losses();
         self.on_packets_lost(&verdict, &mut losses)?;
         self.space.tracking.detected(&verdict);
+        self.judge_size(&losses);
         self.tell_lost(by_ack, &losses);
         Ok(())
     }
@@ -443,13 +455,49 @@ impl<H: HeaderKey + Drop, K: PacketKey + Drop, R: Rng + Drop, C: Controller> Con
         ensures lacking { OnErr result (lost_by verdict.now self.old.end.tracking.packets ≢ []) }
     {
         let mut low = 0;
+        let probe = self.path.mtud.in_flight_mtu_probe();
         while let Some((number, packet)) = take_lost(&mut self.space.tracking, low, verdict) {
             leave_flight(&mut self.path, &packet);
-            losses.add(self.path.generation(), number, &packet);
+            let is_probe = probe == Some(number);
+            losses.add(self.path.generation(), number, &packet, is_probe);
+            self.search_lost(number, packet.size, is_probe);
             self.on_packet_lost(&packet)?;
             low = number;
         }
         Ok(())
+    }
+
+    /// The search for a size learns that a packet of so many bytes is lost, which is its open probe or
+    /// isn't.
+    fn search_lost(&mut self, number: u64, size: u16, is_probe: bool) {
+        if is_probe {
+            self.count_lost_probe();
+            self.path.mtud.on_probe_lost();
+        } else {
+            self.count_lost(size);
+            self.path.mtud.on_non_probe_lost(number, size);
+        }
+    }
+
+    /// Where packets other than a probe were lost, the path may carry less than before: the controller
+    /// is told of the size then, and messages that are too long for it are dropped.
+    fn judge_size(&mut self, losses: &Losses) {
+        if !losses.others {
+            return;
+        }
+        let now = self.closing.clock();
+        if self.path.mtud.black_hole_detected(now) {
+            self.count_black_hole();
+            tell_resized(&mut self.path);
+            self.drop_oversized();
+        }
+    }
+
+    /// Messages are dropped that are longer than one may be now.
+    fn drop_oversized(&mut self) {
+        if let Some(most) = self.datagram_limits().max_size {
+            self.datagrams.drop_oversized(most);
+        }
     }
 
     /// The congestion controller is told of packets that were lost, where one was in flight.
@@ -475,7 +523,6 @@ impl<H: HeaderKey + Drop, K: PacketKey + Drop, R: Rng + Drop, C: Controller> Con
         ensures ok { OnOk result (self.new ≡ with_end self.old (carried_lost packet.now.carried self.old.end)) }
         ensures others { self.new ≡ with_end self.old self.new.end }
     {
-        self.count_lost(packet.size);
         on_carried_lost(&mut self.streams, packet)?;
         Ok(())
     }

@@ -20,10 +20,12 @@ use Rattle.quic_streams_laws.specs.KeepingLaws.{by_stream, by_reset_frame, by_st
 use Rattle.quic_machine.specs.Policy.{Policy}
 use Rattle.quic_machine.specs.Tracking.{TrackedPacket, Carried, dir_named, acked_by, not_acked_by, is_lost, lost_by, kept_by}
 use Rattle.quic_machine.specs.End.{End, with_streams, with_told, with_marking}
+use Rattle.quic_machine.specs.Control.{search_acked}
 use Rattle.quic_machine.specs.Acked.{without_known, reset_acked, resets_acked, stream_acked, streams_acked, packet_acked, packets_acked, stream_lost, streams_lost, again, carried_lost, packets_lost, verdict, losses_detected, measured, sampled, without_acked, after_named, losses_taken}
 use Rattle.quic_machine.specs.Receive.{take_frame, received}
 use Rattle.quic_machine.specs.FrameCases.{OnStreams, named, frame_keeps, by_received, by_marks}
 use Rattle.quic_headline.specs.Runs.{In, names}
+use Rattle.quic_headline.proofs.Packets.Searches.{by_losses}
 use Rattle.quic_headline.proofs.Packets.MayGo.{WasReset}
 use Rattle.quic_headline.proofs.Packets.Named.{in_filter}
 use Rattle.quic_headline.proofs.Places.Told.{in_left, in_right, in_append}
@@ -126,10 +128,10 @@ packets_step (p ∷ ps) e resets stops h =
     (λ id. rw (append_assoc c.retransmits.reset_stream (resets_of ps) resets) (omega arith))
     (λ q i. rw (append_assoc c.retransmits.reset_stream (resets_of ps) resets) i)
     (λ s i. rw (append_assoc c.retransmits.stop_sending (stops_of ps) stops) (in_right s c.retransmits.stop_sending (stops_of ps ++ stops) i)) h in
-    let knows : End = without_known c.largest_acked e in
+    let knows : End = without_known c.largest_acked (search_acked p e) in
     let reset : End = resets_acked c.retransmits.reset_stream knows in
-    packets_step ps (packet_acked p.1 e) resets stops (streams_step c.stream_frames reset (resets_of ps ++ resets) (stops_of ps ++ stops)
-    (resets_step c.retransmits.reset_stream knows (resets_of ps ++ resets) (stops_of ps ++ stops) (known_step c.largest_acked e _ _ rest)))
+    packets_step ps (packet_acked p e) resets stops (streams_step c.stream_frames reset (resets_of ps ++ resets) (stops_of ps ++ stops)
+    (resets_step c.retransmits.reset_stream knows (resets_of ps ++ resets) (stops_of ps ++ stops) (known_step c.largest_acked (search_acked p e) _ _ (record { pile = rest.pile; others = rest.others }))))
 
 -- STREAM frames are lost
 lost_step : (ms : List StreamMeta) (e : End) (resets : List (ℕ × ℕ)) (stops : List StopSendingValue) → Holds e resets stops → Holds (streams_lost ms e) resets stops
@@ -211,10 +213,10 @@ acked_step ps a e is h = record {
 
 -- losses are detected
 pub losses_hold : (e : End) → HoldsAll e → HoldsAll (losses_detected e)
-losses_hold e h = record {
+losses_hold e h = by_losses HoldsAll e (λ discovery queues. record {
   holds = record { pile = settled.pile; others = settled.others };
   carried = λ n t i. h.carried n t (in_filter (λ q. not (lost_of q)) (n, t) packets i);
-}
+})
   where
     packets : Table TrackedPacket
     packets = e.tracking.packets

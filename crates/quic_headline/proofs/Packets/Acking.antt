@@ -17,7 +17,8 @@ use Rattle.quic_machine.specs.End.{End, with_closing}
 use Rattle.quic_machine.specs.Opens.{own_id_length}
 use Rattle.quic_machine.specs.Receive.{asks_in, received}
 use Rattle.quic_spaces.specs.Acknowledging.{with_due}
-use Rattle.quic_machine.specs.Poll.{Draft, lazied, Polled, polled, draft_if}
+use Rattle.quic_machine.specs.Control.{Leaving}
+use Rattle.quic_machine.specs.Poll.{Draft, Polled, polled, draft_as}
 use Rattle.quic_machine.specs.Machine.{after_call}
 use Rattle.quic_headline.specs.Runs.{Packet, Intake}
 use Rattle.quic_machine.specs.Start.{IsLawful}
@@ -121,19 +122,19 @@ abbrev TellsAs : End → End → Type 0
 TellsAs e f = (f.acknowledging.runs ≡ e.acknowledging.runs) × (f.marks.came ≡ e.marks.came)
 
 -- whichever frames go, they stay: an ACK that tells them may be lost
-draft_runs : (held : Bool) (e : End) → MayLeave held e → TellsAs e (draft_if held e).end
-draft_runs held e alone = by_leave (λ (d : Draft). TellsAs e d.end) (record { ack = λ d filled may same. same; ping = λ d same. same; drops = λ d kind same. same; control = λ d kind f is same. same; message = λ d m ms is fit same. same; stream = λ d id h room found first some is counts same. same }) held e alone (refl, refl)
+draft_runs : (leaving : Leaving) (e : End) → MayLeave leaving e → TellsAs e (draft_as leaving e).end
+draft_runs leaving e alone = by_leave (λ (d : Draft). TellsAs e d.end) (record { ack = λ d filled may same. same; ping = λ d same. same; least = λ d size same. same; drops = λ d kind same. same; control = λ d kind f is same. same; message = λ d m ms is fit same. same; stream = λ d id h room found first some is counts same. same }) leaving e alone (refl, refl) (refl, refl)
 
 -- a poll leaves them
 polled_runs : (p : Policy) (e : End) (now : ℕ) → TellsAs e (polled p e now).end
 polled_runs p e now = by_poll p e now (λ (q : Polled). TellsAs e q.end) (record {
   silent = (refl, refl);
   failed = (refl, refl);
-  nothing = λ t w moment pacing limited. (refl, refl);
-  used_up = λ t w moment pacing. (refl, refl);
-  gives = λ held t w moment pacing paid tracking timers is may ready some.
-      let x : End = at_poll e now t w moment pacing e.path.app_limited in
-      draft_runs held (lazied x) (may_leave e now held x ready some);
+  nothing = λ t w moment pacing discovery limited. (refl, refl);
+  used_up = λ t w moment pacing discovery. (refl, refl);
+  gives = λ leaving t w moment pacing paid discovery tracking timers is may ready some.
+      let x : End = at_poll e now t w moment pacing discovery e.path.app_limited in
+      draft_runs leaving x (may_leave e now leaving x ready some);
 })
 
 -- ---- any call

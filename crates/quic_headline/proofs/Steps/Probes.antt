@@ -1,6 +1,6 @@
 -- Where a probe waits, a poll that leaves its end open gives a datagram that asks for an acknowledgement (RFC 9002, sections 6.2.4 and 7.5).
-use Rattle.std.proofs.Common.{◌≡◌, ℕ, ◌+◌, ◌-◌, ◌<◌, ◌≤◌, ◌^◌, List, [], ◌∷◌, ◌++◌, length, Bool, true, false, Some, None, Ok, refl, sym, ap, ◌∙◌, subst, ◌⊎◌, inl, inr, arith}
-use Rattle.std.specs.Prelude.{not, ◌||◌, ◌==◌}
+use Rattle.std.proofs.Common.{◌≡◌, ℕ, ◌+◌, ◌-◌, ◌<◌, ◌≤◌, ◌^◌, [], ◌∷◌, ◌++◌, length, Bool, true, false, Some, None, Ok, refl, sym, ap, ◌∙◌, subst, ◌⊎◌, inl, inr, arith}
+use Rattle.std.specs.Prelude.{◌&&◌, not, ◌||◌, ◌==◌}
 use Rattle.std.proofs.lemmas.Bool.{lt-ltb, or_left, or_right, and_right, and_parts, not-true, ne_eqb}
 use Rattle.std.proofs.lemmas.List.{length-append}
 use Rattle.std.proofs.lemmas.List.Folds.{list_any-append}
@@ -32,8 +32,8 @@ use Rattle.quic_machine.specs.Closing.{ticked}
 use Rattle.quic_machine.specs.Ids.{Ids}
 use Rattle.quic_machine.specs.Tracking.{Tracking, TrackedPacket, forgotten, without_packet, asking_sent, after_sent}
 use Rattle.quic_machine.specs.End.{End, number_of, with_closing, with_window, streams_at}
-use Rattle.quic_machine.specs.Control.{Gated, lets, gated_if, with_pacing_timer}
-use Rattle.quic_machine.specs.Poll.{mark_of, Polled, Draft, no_frames, frame_room, ping_if, with_control_frames, with_message_frames, with_stream_frames, with_asking, ack_of, with_ack, ack_fits, ack_if, composed_if, composed, datagram_of, asking, packet_of, probed, lazied, message_waits, asks_to_go, goes, draft_of, sends, polled_if, polled_in, polled}
+use Rattle.quic_machine.specs.Control.{searched_if, may_search, whole, Gated, lets, gated_if, with_pacing_timer}
+use Rattle.quic_machine.specs.Poll.{searched, gated, mark_of, Polled, Draft, no_frames, frame_room, ping_if, with_control_frames, with_message_frames, with_stream_frames, with_asking, ack_of, with_ack, ack_fits, ack_if, composed_if, composed, datagram_of, asking, packet_of, probed, lazied, message_waits, asks_to_go, goes, draft_of, sends, polled_if, polled_in, polled}
 use Rattle.quic_machine.specs.Machine.{World, end_at, control_at, policy_at}
 use Rattle.quic_machine.specs.DraftLaws.{Writing, HasRoom, room_most, by_entries, by_messages, by_streams}
 use Rattle.quic_machine.specs.PollCases.{ready_at, frames_padded, frames_at, by_probed, composes}
@@ -76,6 +76,7 @@ asks_stay : Writing Asks
 asks_stay = record {
   ack = λ d filled may is. still_asks d (ack (ack_of d.end)) is;
   ping = λ d is. still_asks d ping is;
+  least = λ d size is. is;
   drops = λ d kind is. is;
   control = λ d kind f is asked. still_asks d f asked;
   message = λ d m ms first fit is. still_asks d (datagram m) is;
@@ -190,11 +191,7 @@ module _ (K : Streams → Type 0) (k : Spelling K) (c : Bringing K) (p : Policy)
   something : has_probe x ≡ true
   something = probe_has (begun e now) (lt-ltb 0 e.tracking.probes waits)
 
-  -- window and pacer aren't asked
-  ungated : ready_at e now ≡ lets x
-  ungated = ap (λ (b : Bool). gated_if b x) (and_right (asks_to_go x) (x.tracking.probes == 0) (ne_eqb x.tracking.probes 0 (λ none. (let same = same_probes in omega arith))))
-
-  -- so something goes
+  -- so something goes of it
   some : goes (lets x) ≡ true
   some = or_right (can_send x.acknowledging) (asks_to_go x) (asks_more x.waiting.ping (not (is_empty x.waiting.frames x.streams)) (message_waits x || can_send_stream_data x.streams) something)
     where
@@ -202,27 +199,35 @@ module _ (K : Streams → Type 0) (k : Spelling K) (c : Bringing K) (p : Policy)
       asks_more true b d is = refl
       asks_more false b d is = or_left b d is
 
+  -- window and pacer aren't asked
+  ungated : gated x ≡ lets x
+  ungated = ap (λ (b : Bool). gated_if b x) (and_right (asks_to_go x) (x.tracking.probes == 0) (ne_eqb x.tracking.probes 0 (λ none. (let same = same_probes in omega arith))))
+
+  -- nor is the search for a size
+  let_so : ready_at e now ≡ lets x
+  let_so = ap (λ (g : Gated). searched g) ungated ∙ ap (λ (b : Bool). searched_if (not b && may_search x) (lets x)) some
+
   -- which asks
   goes_asks : Asks (composed (lazied x))
   goes_asks = composed_asks K k c (lazied x) (let there = subst (λ (p : Pending). Acks p e.marks.came) (sym same_acks) acks in record { runs = there.runs; small = there.small; counts = subst CountsFit (sym same_came) there.counts })
-      (subst (λ (ids : Ids). length ids.active.id ≤ 20) (sym same_ids) short.0, subst (λ (n : ℕ). 1200 ≤ n) (sym same_size) short.1, subst (λ (n : ℕ). n < 2 ^ 16) (sym same_size) short.2) (subst (λ (g : Gated). K (streams_at g.end)) ungated streams) something
+      (subst (λ (ids : Ids). length ids.active.id ≤ 20) (sym same_ids) short.0, subst (λ (n : ℕ). 1200 ≤ n) (sym same_size) short.1, subst (λ (n : ℕ). n < 2 ^ 16) (sym same_size) short.2) (subst (λ (g : Gated). K (streams_at g.end)) let_so streams) something
 
   -- and so do the frames of its datagram
   frames_ask : asking (frames_at e now) ≡ true
-  frames_ask = ap (λ (g : Gated). asking (frames_padded (draft_of g))) ungated ∙ asking_padded (composed (lazied x)).frames _ ∙ goes_asks
+  frames_ask = ap (λ (g : Gated). asking (frames_padded (draft_of g))) let_so ∙ asking_padded (composed (lazied x)).frames _ ∙ goes_asks
 
   -- a poll of an open end gives it, unless the numbers are used up
   polled_as : e.closing.state ≡ states.Open → polled p e now ≡ sends (can_number x.numbers) p (lets x)
   polled_as opened =
       ap (λ (s : State). polled_in s p e now) opened
-      ∙ ap (λ (g : Gated). polled_if (goes g) p g) ungated
+      ∙ ap (λ (g : Gated). polled_if (goes g) p g) let_so
       ∙ ap (λ (b : Bool). polled_if b p (lets x)) some
 
   -- one probe fewer waits behind it
   fewer : (sends true p (lets x)).end.tracking.probes + 1 ≡ e.tracking.probes
   fewer =
       let d : Draft = composed (lazied x) in
-      let tracking : d.end.tracking ≡ x.tracking = (composes false (lazied x) (λ held. cc)).tracking in
+      let tracking : d.end.tracking ≡ x.tracking = (composes whole x (λ alone. cc)).tracking in
       let there : d.end.tracking.probes ≡ x.tracking.probes = ap (λ (t : Tracking). t.probes) tracking in
       let same = same_probes in
       by_going (λ (z : End). z.tracking.probes + 1 ≡ e.tracking.probes) p d (λ pacing. (let one = one_fewer d.end.tracking (number_of d.end) (packet_of d) goes_asks in omega arith))
