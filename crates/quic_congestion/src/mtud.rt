@@ -116,15 +116,6 @@ impl MtuDiscovery {
         self.search().is_some()
     }
 
-    /// The greatest size that is looked at, in bytes: the configured one, or the peer's limit where that is less. None where the
-    /// search is disabled.
-    pub fn upper_bound(&self) -> Option<u16>
-        ensures { result ≡ search_bound self.now }
-    {
-        let state = self.state?;
-        Some(within_limit(state.upper_bound(), self.peer_limit))
-    }
-
     /// The size of a probe, in bytes, that is to go now under the next packet number. It is open then, until it is
     /// acknowledged or lost. None while one is open, between two searches, and where the search is disabled.
     pub fn poll_transmit(&mut self, now: Instant, next_packet_number: u64) -> Option<u16>

@@ -1,19 +1,16 @@
 -- Congestion control at an end (RFC 9002, section 7): what is in flight, what window and pacer hold back, and what the controller is told.
-use Rattle.std.specs.Prelude.{ℕ, ◌+◌, ◌*◌, max, Bool, true, false, not, ◌&&◌, ◌==◌, nat_le, nat_lt, if◌then◌else◌, List, [], ◌∷◌, ◌++◌, map, sum_by, Option, Some, None}
+use Rattle.std.specs.Prelude.{ℕ, ◌+◌, ◌*◌, max, Bool, true, false, ◌&&◌, ◌==◌, nat_le, nat_lt, if◌then◌else◌, List, [], ◌∷◌, ◌++◌, map, sum_by, Option, Some, None}
 use Rattle.std.specs.List.{filter, list_any}
 use Rattle.quic_time.specs.Clocks.{saturated}
 use Rattle.quic_time.specs.Rtt.{best_rtt}
 use Rattle.quic_time.specs.Timers.{Timers}
 use Rattle.quic_congestion.specs.Congestion.{Told, Sent, Acked, AcksEnded, Congested}
-use Rattle.quic_congestion.specs.Search.{Discovery, search_bound, poll_names, after_poll}
 use Rattle.quic_congestion.specs.Pacer.{Pacing, after_datagram, after_delay, delay_of}
 use Rattle.quic_streams_parts.specs.Table.{Table}
 use Rattle.quic_spaces.specs.Persistent.{Loss}
 use Rattle.quic_spaces.specs.PersistentSteps.{is_persistent_after}
 use Rattle.quic_machine.specs.Tracking.{TrackedPacket}
-use Rattle.quic_machine.specs.Parts.{current_mtu}
-use Rattle.quic_machine.specs.Sizes.{is_probe, others_of, size_fell, with_acked, told_probe, told_fell}
-use Rattle.quic_machine.specs.End.{End, number_of, with_discovery, probe_timeout}
+use Rattle.quic_machine.specs.End.{End, probe_timeout}
 
 -- ---- what is in flight (section 2)
 
@@ -33,7 +30,7 @@ bytes_in_flight e = sum_by (λ p. p.1.size) (flying e.path.generation e.tracking
 
 -- whether the window has no room for one more datagram
 abbrev pub is_window_full : End → Bool
-is_window_full e = nat_le e.path.window (bytes_in_flight e + current_mtu e.path)
+is_window_full e = nat_le e.path.window (bytes_in_flight e + e.path.size)
 
 -- the round trip over which sending is spread
 abbrev pub paced_rtt : End → ℕ
@@ -41,7 +38,7 @@ paced_rtt e = max (best_rtt e.path.rtt) 1
 
 -- the pacer, asked at the moment of the end whether one more datagram may go: the moment until which it has to wait, if it has to (section 7.7)
 abbrev pub pacer_answer : End → Option ℕ
-pacer_answer e = delay_of e.path.pacing (paced_rtt e) (current_mtu e.path) (current_mtu e.path) e.path.window e.closing.clock
+pacer_answer e = delay_of e.path.pacing (paced_rtt e) e.path.size e.path.size e.path.window e.closing.clock
 
 -- a moment counts that lies behind another
 abbrev pub if_later : ℕ → Option ℕ → Option ℕ
@@ -58,7 +55,7 @@ with_pacing e pacing = record e { path = record e.path { pacing = pacing } }
 
 -- the end after its pacer was asked
 abbrev pub pacer_asked : End → End
-pacer_asked e = with_pacing e (after_delay e.path.pacing (paced_rtt e) (current_mtu e.path) (current_mtu e.path) e.path.window e.closing.clock)
+pacer_asked e = with_pacing e (after_delay e.path.pacing (paced_rtt e) e.path.size e.path.size e.path.window e.closing.clock)
 
 -- the end after a datagram of so many bytes took its tokens
 abbrev pub paid : End → ℕ → End
@@ -72,34 +69,18 @@ with_pacing_timer e moment = record e { timers = record e.timers { pacing = mome
 abbrev pub with_app_limited : End → Bool → End
 with_app_limited e limited = record e { path = record e.path { app_limited = limited } }
 
--- what may leave in a datagram: all that waits; where what asks is held back, a due ACK alone; or PING as a probe of a size
-pub data Leaving : Type 0 where
-  whole : Leaving
-  alone : Leaving
-  probe : (size : ℕ) → Leaving
-
--- whether what asks is held back
-abbrev pub is_held : Leaving → Bool
-is_held whole = false
-is_held alone = true
-is_held (probe size) = false
-
--- what may leave, and the end that is left
+-- what becomes of what asks: it is held back or isn't, and the end that is left
 pub record Gated : Type 0 where
-  pub leaving : Leaving
+  pub held : Bool
   pub end : End
 
 -- it goes
 abbrev pub lets : End → Gated
-lets e = record { leaving = whole; end = e }
+lets e = record { held = false; end = e }
 
 -- it waits
 abbrev pub holds : End → Gated
-holds e = record { leaving = alone; end = e }
-
--- a probe of a size goes
-abbrev pub probes : ℕ → End → Gated
-probes size e = record { leaving = probe size; end = e }
+holds e = record { held = true; end = e }
 
 -- the pacer names a later moment, to which its timer is set, or doesn't
 abbrev pub by_pacer : Option ℕ → End → Gated
@@ -116,31 +97,6 @@ abbrev pub gated_if : Bool → End → Gated
 gated_if true e = by_window (is_window_full e) e
 gated_if false e = lets e
 
--- ---- a size is looked for (RFC 8899, section 5.3)
-
--- whether the window has room for the greatest size that is looked at
-abbrev pub has_window : Option ℕ → End → Bool
-has_window None e = false
-has_window (Some bound) e = nat_lt (bytes_in_flight e + bound) e.path.window
-
--- whether one may be looked for: the search isn't disabled, the peer's address is validated, and the window has room
-abbrev pub may_search : End → Bool
-may_search e = e.path.validated && has_window (search_bound e.path.discovery) e
-
--- the end after its search was asked at its moment, with the number that is next
-abbrev pub search_asked : End → End
-search_asked e = with_discovery e (after_poll e.closing.clock (number_of e) e.path.discovery)
-
--- a probe of a size goes, or none does
-abbrev pub by_search : Option ℕ → End → Gated
-by_search None e = lets e
-by_search (Some size) e = probes size e
-
--- the search is asked, or needn't be
-abbrev pub searched_if : Bool → Gated → Gated
-searched_if true g = by_search (poll_names g.end.closing.clock g.end.path.discovery) (search_asked g.end)
-searched_if false g = g
-
 -- ---- a controller, and what it is told
 
 -- a controller as an end sees it: which window it shows once it was told these, the first of them first
@@ -156,18 +112,14 @@ abbrev pub told_sent : Bool → End → ℕ → ℕ → List Told
 told_sent true e size number = Sent e.closing.clock size number ∷ []
 told_sent false e size number = []
 
--- a packet is acknowledged, which counts where it asks; as the open probe it changes the size of datagrams
+-- a packet is acknowledged, which counts where it asks
 abbrev pub told_packet : End → ℕ × TrackedPacket → List Told
-told_packet e p = (if p.1.asks then Acked e.closing.clock p.1.time_sent p.1.size e.path.app_limited e.path.rtt ∷ [] else []) ++ told_probe p e.path.discovery
-
--- the search learns of it
-abbrev pub search_acked : ℕ × TrackedPacket → End → End
-search_acked p e = with_discovery e (with_acked p e.path.discovery)
+told_packet e p = if p.1.asks then Acked e.closing.clock p.1.time_sent p.1.size e.path.app_limited e.path.rtt ∷ [] else []
 
 -- packets are acknowledged, one after another
 abbrev pub told_packets : End → Table TrackedPacket → List Told
 told_packets e [] = []
-told_packets e (p ∷ ps) = told_packet e p ++ told_packets (search_acked p e) ps
+told_packets e (p ∷ ps) = told_packet e p ++ told_packets e ps
 
 -- those that an ACK frame names are acknowledged
 abbrev pub told_acks_ended : End → List Told
@@ -177,13 +129,13 @@ told_acks_ended e = AcksEnded e.closing.clock (saturated (bytes_in_flight e)) e.
 abbrev pub persistent_period : End → ℕ
 persistent_period e = saturated (e.transport.persistent_congestion_threshold * probe_timeout e)
 
--- a packet as one that is lost: the open probe doesn't begin or end the period, as its loss shows no congestion
-abbrev pub loss_of : Discovery → ℕ × TrackedPacket → Loss
-loss_of d p = record { number = p.0; time_sent = p.1.time_sent; asks = p.1.asks && not (is_probe d p) }
+-- a packet as one that is lost
+abbrev pub loss_of : ℕ × TrackedPacket → Loss
+loss_of p = record { number = p.0; time_sent = p.1.time_sent; asks = p.1.asks }
 
 -- whether packets that are lost show persistent congestion
 abbrev pub is_persistent : End → Table TrackedPacket → Bool
-is_persistent e lost = is_persistent_after (persistent_period e) e.path.first_after_rtt (map (loss_of e.path.discovery) lost)
+is_persistent e lost = is_persistent_after (persistent_period e) e.path.first_after_rtt (map loss_of lost)
 
 -- when the last of packets went
 abbrev pub last_sent : Table TrackedPacket → ℕ
@@ -191,12 +143,10 @@ last_sent [] = 0
 last_sent (p ∷ []) = p.1.time_sent
 last_sent (p ∷ q ∷ ps) = last_sent (q ∷ ps)
 
--- packets are lost, by an ACK or by time: the size of datagrams may fall; and where one of them other than the open probe was in flight on the path, it is congested
--- (sections 7.3.2 and 7.6); only an ACK shows that congestion persists
+-- packets are lost, by an ACK or by time: where one of them was in flight on the path, it is congested (sections 7.3.2 and 7.6); only an ACK shows that congestion
+-- persists
 abbrev pub told_losses : Bool → End → Table TrackedPacket → List Told
 told_losses by_ack e lost =
-    let others = others_of e.path.discovery lost in
-    told_fell (size_fell lost e.path.discovery) e.path.discovery
-    ++ (if list_any (flies e.path.generation) others
-    then Congested e.closing.clock (last_sent others) (by_ack && is_persistent e lost) (saturated (sum_by (λ p. p.1.size) others)) ∷ []
-    else [])
+    if list_any (flies e.path.generation) lost
+    then Congested e.closing.clock (last_sent lost) (by_ack && is_persistent e lost) (saturated (sum_by (λ p. p.1.size) lost)) ∷ []
+    else []

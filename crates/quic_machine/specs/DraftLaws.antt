@@ -1,5 +1,5 @@
 -- What holds of a draft, whichever frames go; and that a datagram has a frame.
-use Rattle.std.proofs.Common.{◌≡◌, ℕ, ◌+◌, ◌-◌, ◌<◌, ◌≤◌, ◌^◌, List, [], ◌∷◌, ◌++◌, Bool, true, false, ◌&&◌, ◌||◌, not, length, Some, refl, sym, ap, ◌∙◌, subst, arith, nat_lt, ◌⊎◌, inl, inr}
+use Rattle.std.proofs.Common.{◌≡◌, ℕ, ◌+◌, ◌-◌, ◌≤◌, List, [], ◌∷◌, ◌++◌, Bool, true, false, ◌&&◌, ◌||◌, not, length, Some, refl, sym, ap, ◌∙◌, subst, arith, nat_lt, ◌⊎◌, inl, inr}
 use Rattle.std.specs.Prelude.{if◌then◌else◌, map, ◌*◌}
 use Rattle.std.specs.List.{fold}
 use Rattle.std.proofs.lemmas.Bool.{and_parts}
@@ -23,9 +23,8 @@ use Rattle.quic_recovery_core.specs.PendingAcks.{can_send, is_filled}
 use Rattle.quic_recovery_core.specs.declared.spaces.pending_acks.TheConstants.{LAZY_ACK_THRESHOLD}
 use Rattle.quic_spaces.specs.Numbers.{cut_against}
 use Rattle.quic_machine.specs.End.{End, number_of, with_streams, with_ping}
-use Rattle.quic_machine.specs.Control.{Leaving, whole, alone, probe, Gated}
-use Rattle.quic_machine.specs.Parts.{current_mtu}
-use Rattle.quic_machine.specs.Poll.{Draft, with_least, frame_room, fits, with_frame, left, ping_if, behind_control, with_control_frames, with_message, with_messages_of, with_message_frames, behind_stream, no_stream_frames, with_stream_frames, Kind, order, put, with_asking, no_frames, ack_of, with_ack, ack_fits, ack_if, composed_if, composed, lazied, goes_as, goes, draft_as}
+use Rattle.quic_machine.specs.Control.{Gated}
+use Rattle.quic_machine.specs.Poll.{Draft, frame_room, fits, with_frame, left, ping_if, behind_control, with_control_frames, with_message, with_messages_of, with_message_frames, behind_stream, no_stream_frames, with_stream_frames, Kind, order, put, with_asking, no_frames, ack_of, with_ack, ack_fits, ack_if, composed_if, composed, asks_to_go, lazied, goes, draft_if}
 use Rattle.quic_machine.specs.Poll as poll
 
 -- a number takes four bytes at most
@@ -38,16 +37,10 @@ width_few n = go (nat_lt (2 * n) 256) (nat_lt (2 * n) 65536) (nat_lt (2 * n) 167
     go false false true = omega arith
     go false false false = omega arith
 
--- a datagram has room for frames: the id to which it goes has 20 bytes at most, and the path takes 1200 (RFC 9000, sections 17.2 and 14)
-abbrev pub HasRoom : End → Type 0
-HasRoom e = (length e.ids.active.id ≤ 20) × (1200 ≤ current_mtu e.path) × (current_mtu e.path < 2 ^ 16)
-
--- how many bytes it has for them at least
-pub room_most : (e : End) → HasRoom e → 1159 ≤ frame_room e
-room_most e room =
+-- how many bytes a datagram has for frames at least
+pub room_most : (e : End) → length e.ids.active.id ≤ 20 → 1159 ≤ frame_room e
+room_most e short =
     let width = width_few (number_of e - cut_against e.numbers) in
-    let short = room.0 in
-    let size = room.1 in
     omega arith
 
 -- ---- one frame of each kind
@@ -94,8 +87,6 @@ SendsMessage P = (d : Draft) (m : List ℕ) (ms : List (List ℕ)) → d.end.mes
 pub record Writing (P : Draft → Type 0) : Type 0 where
   pub ack : (d : Draft) → is_filled d.end.acknowledging.runs ≡ true → MayAck d → P d → P (with_ack d)
   pub ping : (d : Draft) → P d → P (with_frame d ping (spelling ping) (with_ping d.end false))
-  -- the datagram has so many bytes at least
-  pub least : (d : Draft) (size : ℕ) → P d → P (with_least d size)
   pub drops : Drops P
   pub control : SendsEntry P
   pub message : SendsMessage P
@@ -206,17 +197,18 @@ by_writing P w e p = go (can_send e.acknowledging) refl
     go true due = by_asking P w (with_ack (no_frames e)) (w.ack (no_frames e) (and_parts e.acknowledging.due (is_filled e.acknowledging.runs) due).1 (inl refl) p)
     go false due = late_keeps P w (ack_fits (with_asking (no_frames e))) (with_asking (no_frames e)) refl (by_asking P w (no_frames e) p)
 
--- what goes where something goes: what is composed, a due ACK alone, or a probe of a size
-pub by_leave : (P : Draft → Type 0) → Writing P → (leaving : Leaving) (e : End) → (leaving ≡ alone → can_send (lazied e).acknowledging ≡ true) → P (no_frames (lazied e)) → P (no_frames e) → P (draft_as leaving e)
-by_leave P w whole e due p q = by_writing P w (lazied e) p
-by_leave P w alone e due p q = w.ack (no_frames (lazied e)) (and_parts (lazied e).acknowledging.due (is_filled e.acknowledging.runs) (due refl)).1 (inl refl) p
-by_leave P w (probe size) e due p q = w.ping (with_least (no_frames e) size) (w.least (no_frames e) size q)
+-- what goes where something goes: what is composed, or a due ACK alone
+pub by_leave : (P : Draft → Type 0) → Writing P → (held : Bool) (e : End) → (held ≡ true → can_send e.acknowledging ≡ true) → P (no_frames e) → P (draft_if held e)
+by_leave P w true e due p = w.ack (no_frames e) (and_parts e.acknowledging.due (is_filled e.acknowledging.runs) (due refl)).1 (inl refl) p
+by_leave P w false e due p = by_writing P w e p
 
 -- where what asks is held back, something goes only where an ACK is due
-pub due_alone : (g : Gated) → goes g ≡ true → g.leaving ≡ alone → can_send (lazied g.end).acknowledging ≡ true
-due_alone g is held = go g.end.acknowledging.due (is_filled g.end.acknowledging.runs) (subst (λ (l : Leaving). goes_as l g.end ≡ true) held is)
+pub due_alone : (g : Gated) → goes g ≡ true → g.held ≡ true → can_send (lazied g.end).acknowledging ≡ true
+due_alone g is held = go g.end.acknowledging.due (is_filled g.end.acknowledging.runs) g.held held is
   where
-    go : (due filled : Bool) → due && filled ≡ true → (due || nat_lt LAZY_ACK_THRESHOLD g.end.acknowledging.silent) && filled ≡ true
-    go true true is = refl
-    go true false is = absurd cc
-    go false filled is = absurd cc
+    go : (due filled held : Bool) → held ≡ true → (due && filled) || (not held && asks_to_go g.end) ≡ true → (due || nat_lt LAZY_ACK_THRESHOLD g.end.acknowledging.silent) && filled ≡ true
+    go true true true h is = refl
+    go true false true h is = absurd cc
+    go false true true h is = absurd cc
+    go false false true h is = absurd cc
+    go due filled false h is = absurd cc

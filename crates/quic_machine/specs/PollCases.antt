@@ -1,5 +1,5 @@
 -- What a poll comes to, as cases with what is known in each.
-use Rattle.std.proofs.Common.{◌≡◌, ℕ, ◌+◌, ◌-◌, List, [], ◌++◌, length, replicate, Bool, true, false, not, ◌&&◌, Option, Some, None, refl, sym, ap, ◌∙◌, subst}
+use Rattle.std.proofs.Common.{◌≡◌, ℕ, ◌+◌, ◌-◌, List, [], ◌++◌, length, replicate, Bool, true, false, not, Option, Some, None, refl, sym, ap, ◌∙◌, subst}
 use Rattle.std.specs.Prelude.{Result, Ok, Err, if◌then◌else◌, nat_lt}
 use Rattle.std.specs.Option.{option_to_list}
 use Rattle.quic_packet.specs.Number.{truncated}
@@ -16,27 +16,26 @@ use Rattle.quic_spaces.specs.Numbers.{cut_against, can_number}
 use Rattle.quic_machine.specs.Policy.{Policy}
 use Rattle.quic_time.specs.Timers.{Timers}
 use Rattle.quic_congestion.specs.Pacer.{Pacing}
-use Rattle.quic_congestion.specs.Search.{Discovery, poll_names}
 use Rattle.quic_recovery_core.specs.PendingAcks.{can_send}
 use Rattle.quic_streams_state.specs.Waiting.{is_empty}
 use Rattle.quic_spaces.specs.Records.{first_record}
 use Rattle.quic_machine.specs.Tracking.{TrackedPacket, Tracking}
 use Rattle.quic_machine.specs.Parts.{Waiting}
-use Rattle.quic_machine.specs.End.{End, with_closing, closed_by, number_of, with_number_given, with_loss_timer, with_ping, with_discovery}
-use Rattle.quic_machine.specs.Control.{is_window_full, paced_until, pacer_asked, Gated, lets, holds, by_pacer, by_window, gated_if, with_pacing_timer, with_app_limited, Leaving, alone, is_held, may_search, search_asked, by_search, searched_if}
-use Rattle.quic_machine.specs.Poll.{Polled, Draft, gives_nothing, gives_datagram, asking, datagram_of, datagram_size, tracked, paid_if, after_given, record_moved, probe_filled, probe_if, probed, lazied, waits, is_gated, gated, searched, ready, goes, zeros_behind, draft_as, draft_of, rests, sends, polled_if, polled_in, polled}
+use Rattle.quic_machine.specs.End.{End, with_closing, closed_by, number_of, with_number_given, with_loss_timer, with_ping}
+use Rattle.quic_machine.specs.Control.{is_window_full, paced_until, pacer_asked, Gated, lets, holds, by_pacer, by_window, gated_if, with_pacing_timer, with_app_limited}
+use Rattle.quic_machine.specs.Poll.{Polled, Draft, gives_nothing, gives_datagram, asking, datagram_of, datagram_size, tracked, paid_if, after_given, record_moved, probe_filled, probe_if, probed, lazied, is_gated, gated, ready, goes, draft_if, draft_of, rests, sends, polled_if, polled_in, polled}
 use Rattle.quic_machine.specs.Machine.{gives, gave}
 use Rattle.quic_machine.specs.DraftLaws.{Writing, by_leave}
 
 -- an end that took a moment over, with other packets tracked, and where other frames wait: what a probe changes; and with another pacer, whose timer may be set,
--- and another search for a size, and other things to say of what was sent before
-abbrev pub at_poll : End → ℕ → Tracking → Waiting → Option ℕ → Pacing → Discovery → Bool → End
-at_poll e now tracking waiting moment pacing discovery limited = record e {
+-- and other things to say of what was sent before
+abbrev pub at_poll : End → ℕ → Tracking → Waiting → Option ℕ → Pacing → Bool → End
+at_poll e now tracking waiting moment pacing limited = record e {
   closing = ticked e.closing now;
   tracking = tracking;
   waiting = waiting;
   timers = record e.timers { pacing = moment };
-  path = record e.path { pacing = pacing; discovery = discovery; app_limited = limited };
+  path = record e.path { pacing = pacing; app_limited = limited };
 }
 
 -- the end after a draft went: what is tracked, the timers, and the pacer change besides
@@ -49,7 +48,7 @@ ready_at e now = ready (with_closing e (ticked e.closing now))
 
 -- the frames of the datagram that a draft makes: the bytes 0 behind the others are PADDING
 abbrev pub frames_padded : Draft → List FrameValue
-frames_padded d = d.frames ++ replicate (zeros_behind d) padding
+frames_padded d = d.frames ++ replicate (4 - ((truncated (number_of d.end) (cut_against d.end.numbers)).width + length d.bytes)) padding
 
 -- what an end gives at a moment
 abbrev pub draft_at : End → ℕ → Draft
@@ -114,38 +113,22 @@ pub gate_leaves : (e : End) → (gated e).end ≡ record e { timers = record e.t
 gate_leaves e = by_gate e (λ (g : Gated). g.end ≡ record e { timers = record e.timers { pacing = g.end.timers.pacing }; path = record e.path { pacing = g.end.path.pacing } })
     (record { free = λ is. refl; full = λ asks is. refl; lets = λ asks room is. refl; holds = λ moment asks room is. refl })
 
--- the search for a size changes itself, and nothing else
-pub search_leaves : (g : Gated) → (searched g).end ≡ with_discovery g.end (searched g).end.path.discovery
-search_leaves g = go (not (waits g.end) && may_search g.end) (poll_names g.end.closing.clock g.end.path.discovery)
-  where
-    named : (o : Option ℕ) → (by_search o (search_asked g.end)).end ≡ with_discovery g.end (by_search o (search_asked g.end)).end.path.discovery
-    named None = refl
-    named (Some size) = refl
-
-    go : (b : Bool) (o : Option ℕ) → (searched_if b g).end ≡ with_discovery g.end (searched_if b g).end.path.discovery
-    go true o = named (poll_names g.end.closing.clock g.end.path.discovery)
-    go false o = refl
-
--- an end that took a moment over as it is left in one form, by what a poll may change of it
-abbrev pub poll_left : End → ℕ → End → End
-poll_left e now x = at_poll e now x.tracking x.waiting x.timers.pacing x.path.pacing x.path.discovery e.path.app_limited
-
--- an end is made ready: its moment, a probe, its pacer, its timer and the search for a size change, and nothing else
-pub ready_leaves : (e : End) (now : ℕ) → (ready_at e now).end ≡ poll_left e now (ready_at e now).end
+-- an end is made ready: its moment, a probe, its pacer and its timer change, and nothing else
+pub ready_leaves : (e : End) (now : ℕ) → (ready_at e now).end ≡ at_poll e now (ready_at e now).end.tracking (ready_at e now).end.waiting (ready_at e now).end.timers.pacing (ready_at e now).end.path.pacing e.path.app_limited
 ready_leaves e now =
     let x = with_pacing_timer (with_closing e (ticked e.closing now)) None in
-    both (searched (gated (probed x))).end (gated (probed x)).end (search_leaves (gated (probed x))) (gates (gated (probed x)).end (probed x) (gate_leaves (probed x)) (probe_leaves x))
+    let y = probed x in
+    let g = gate_leaves y in
+    let q = probe_leaves x in
+    g ∙ go (gated y).end.timers.pacing (gated y).end.path.pacing y q (ap (λ (z : End). z.tracking) g) (ap (λ (z : End). z.waiting) g)
   where
-    gates : (g y : End) → g ≡ record y { timers = record y.timers { pacing = g.timers.pacing }; path = record y.path { pacing = g.path.pacing } }
-        → y ≡ record (with_pacing_timer (with_closing e (ticked e.closing now)) None) { tracking = y.tracking; waiting = y.waiting } → g ≡ poll_left e now g
-    gates g y gate probe =
-        let same : g ≡ at_poll e now y.tracking y.waiting g.timers.pacing g.path.pacing e.path.discovery e.path.app_limited = gate ∙ ap (λ (z : End). record z { timers = record z.timers { pacing = g.timers.pacing }; path = record z.path { pacing = g.path.pacing } }) probe in
-        same ∙ ap (λ (z : End). at_poll e now z.tracking z.waiting g.timers.pacing g.path.pacing z.path.discovery e.path.app_limited) (sym same)
-
-    both : (r g : End) → r ≡ with_discovery g r.path.discovery → g ≡ poll_left e now g → r ≡ poll_left e now r
-    both r g search left =
-        let same : r ≡ at_poll e now g.tracking g.waiting g.timers.pacing g.path.pacing r.path.discovery e.path.app_limited = search ∙ ap (λ (z : End). with_discovery z r.path.discovery) left in
-        same ∙ ap (λ (z : End). at_poll e now z.tracking z.waiting z.timers.pacing z.path.pacing r.path.discovery e.path.app_limited) (sym same)
+    go : (moment : Option ℕ) (pacing : Pacing) (y : End) → y ≡ record (with_pacing_timer (with_closing e (ticked e.closing now)) None) { tracking = y.tracking; waiting = y.waiting }
+        → (ready_at e now).end.tracking ≡ y.tracking → (ready_at e now).end.waiting ≡ y.waiting
+        → record y { timers = record y.timers { pacing = moment }; path = record y.path { pacing = pacing } } ≡ at_poll e now (ready_at e now).end.tracking (ready_at e now).end.waiting moment pacing e.path.app_limited
+    go moment pacing y is tracking waiting =
+        ap (λ (z : End). record z { timers = record z.timers { pacing = moment }; path = record z.path { pacing = pacing } }) is
+        ∙ ap (λ (t : Tracking). at_poll e now t y.waiting moment pacing e.path.app_limited) (sym tracking)
+        ∙ ap (λ (w : Waiting). at_poll e now (ready_at e now).end.tracking w moment pacing e.path.app_limited) (sym waiting)
 
 -- ---- cases
 
@@ -167,13 +150,13 @@ pub record Polls (p : Policy) (e : End) (now : ℕ) (P : Polled → Type 0) : Ty
   pub silent : P (gives_nothing e)
   pub failed : P (record { answer = Err (record {}); datagram = None; end = e })
   -- nothing has to go, or what has to is held back
-  pub nothing : (t : Tracking) (w : Waiting) (moment : Option ℕ) (pacing : Pacing) (discovery : Discovery) (limited : Bool) → P (gives_nothing (at_poll e now t w moment pacing discovery limited))
+  pub nothing : (t : Tracking) (w : Waiting) (moment : Option ℕ) (pacing : Pacing) (limited : Bool) → P (gives_nothing (at_poll e now t w moment pacing limited))
   -- the numbers are used up: the end closes
-  pub used_up : (t : Tracking) (w : Waiting) (moment : Option ℕ) (pacing : Pacing) (discovery : Discovery) → P (gives_nothing (closed_by reasons.NumberLimit (at_poll e now t w moment pacing discovery e.path.app_limited)))
+  pub used_up : (t : Tracking) (w : Waiting) (moment : Option ℕ) (pacing : Pacing) → P (gives_nothing (closed_by reasons.NumberLimit (at_poll e now t w moment pacing e.path.app_limited)))
   -- something goes
-  pub gives : (leaving : Leaving) (t : Tracking) (w : Waiting) (moment : Option ℕ) (pacing paid : Pacing) (discovery : Discovery) (tracking : Tracking) (timers : Timers) → e.closing.state ≡ states.Open → can_number e.numbers ≡ true
-      → ready_at e now ≡ record { leaving = leaving; end = at_poll e now t w moment pacing discovery e.path.app_limited } → goes (ready_at e now) ≡ true
-      → P (gives_datagram (datagram_of p (draft_as leaving (at_poll e now t w moment pacing discovery e.path.app_limited))) (after_draft p (draft_as leaving (at_poll e now t w moment pacing discovery e.path.app_limited)) tracking timers paid))
+  pub gives : (held : Bool) (t : Tracking) (w : Waiting) (moment : Option ℕ) (pacing paid : Pacing) (tracking : Tracking) (timers : Timers) → e.closing.state ≡ states.Open → can_number e.numbers ≡ true
+      → ready_at e now ≡ record { held = held; end = at_poll e now t w moment pacing e.path.app_limited } → goes (ready_at e now) ≡ true
+      → P (gives_datagram (datagram_of p (draft_if held (lazied (at_poll e now t w moment pacing e.path.app_limited)))) (after_draft p (draft_if held (lazied (at_poll e now t w moment pacing e.path.app_limited))) tracking timers paid))
 
 module _ (p : Policy) (e : End) (now : ℕ) (P : Polled → Type 0) (c : PollsTo p e now P) where
   -- a number may be given or not
@@ -220,27 +203,27 @@ by_poll p e now P c = by_poll_to p e now P (record { silent = c.silent; failed =
     g = ready_at e now
 
     x : End
-    x = poll_left e now g.end
+    x = at_poll e now g.end.tracking g.end.waiting g.end.timers.pacing g.end.path.pacing e.path.app_limited
 
     is : g.end ≡ x
     is = ready_leaves e now
 
-    ready_is : g ≡ record { leaving = g.leaving; end = x }
+    ready_is : g ≡ record { held = g.held; end = x }
     ready_is = ap (λ (y : End). record g { end = y }) is
 
     nothing : e.closing.state ≡ states.Open → goes g ≡ false → P (gives_nothing (rests g))
-    nothing s w = subst (λ (y : End). P (gives_nothing (with_app_limited y (not (is_held g.leaving))))) (sym is) (c.nothing g.end.tracking g.end.waiting g.end.timers.pacing g.end.path.pacing g.end.path.discovery (not (is_held g.leaving)))
+    nothing s w = subst (λ (y : End). P (gives_nothing (with_app_limited y (not g.held)))) (sym is) (c.nothing g.end.tracking g.end.waiting g.end.timers.pacing g.end.path.pacing (not g.held))
 
     used_up : P (gives_nothing (closed_by reasons.NumberLimit g.end))
-    used_up = subst (λ (y : End). P (gives_nothing (closed_by reasons.NumberLimit y))) (sym is) (c.used_up g.end.tracking g.end.waiting g.end.timers.pacing g.end.path.pacing g.end.path.discovery)
+    used_up = subst (λ (y : End). P (gives_nothing (closed_by reasons.NumberLimit y))) (sym is) (c.used_up g.end.tracking g.end.waiting g.end.timers.pacing g.end.path.pacing)
 
     gives : e.closing.state ≡ states.Open → can_number e.numbers ≡ true → goes g ≡ true → P (gives_datagram (datagram_of p (draft_of g)) (after_given p (draft_of g)))
     gives s n goes =
-        let d : Draft = draft_as g.leaving x in
+        let d : Draft = draft_if g.held (lazied x) in
         let left : End = after_given p d in
-        let given = c.gives g.leaving g.end.tracking g.end.waiting g.end.timers.pacing g.end.path.pacing left.path.pacing g.end.path.discovery left.tracking left.timers s n ready_is goes in
+        let given = c.gives g.held g.end.tracking g.end.waiting g.end.timers.pacing g.end.path.pacing left.path.pacing left.tracking left.timers s n ready_is goes in
         let plain : after_draft p d left.tracking left.timers left.path.pacing ≡ left = sym (given_leaves p d) in
-        subst (λ (y : End). P (gives_datagram (datagram_of p (draft_as g.leaving y)) (after_given p (draft_as g.leaving y)))) (sym is) (subst (λ (y : End). P (gives_datagram (datagram_of p d) y)) plain given)
+        subst (λ (y : End). P (gives_datagram (datagram_of p (draft_if g.held (lazied y))) (after_given p (draft_if g.held (lazied y))))) (sym is) (subst (λ (y : End). P (gives_datagram (datagram_of p d) y)) plain given)
 
 -- ---- how many datagrams are given
 
@@ -259,7 +242,7 @@ gives_as p e now (Err f) = refl
 pub poll_count : (p : Policy) (e : End) (now : ℕ) → length (gives p e (calls.Poll now) (answers.Poll (polled p e now).answer)) ≡ (if gave (answers.Poll (polled p e now).answer) then 1 else 0)
 poll_count p e now =
     ap length (gives_as p e now (polled p e now).answer)
-    ∙ by_poll p e now (λ x. length (given_as x.answer x.datagram) ≡ (if gave (answers.Poll x.answer) then 1 else 0)) (record { silent = refl; failed = refl; nothing = λ t w moment pacing discovery limited. refl; used_up = λ t w moment pacing discovery. refl; gives = λ leaving t w moment pacing paid discovery tracking timers s n is goes. refl })
+    ∙ by_poll p e now (λ x. length (given_as x.answer x.datagram) ≡ (if gave (answers.Poll x.answer) then 1 else 0)) (record { silent = refl; failed = refl; nothing = λ t w moment pacing limited. refl; used_up = λ t w moment pacing. refl; gives = λ held t w moment pacing paid tracking timers s n is goes. refl })
 
 -- ---- what a poll leaves as it was
 
@@ -280,14 +263,11 @@ writing : (e : End) → Writing (λ (d : Draft). Composes e d.end)
 writing e = record {
   ack = λ d filled may c. record { ids = c.ids; numbers = c.numbers; filter = c.filter; closing = c.closing; tracking = c.tracking; loss = c.loss; pacing = c.pacing; path = c.path; transport = c.transport; peer = c.peer };
   ping = λ d c. record { ids = c.ids; numbers = c.numbers; filter = c.filter; closing = c.closing; tracking = c.tracking; loss = c.loss; pacing = c.pacing; path = c.path; transport = c.transport; peer = c.peer };
-  least = λ d size c. record { ids = c.ids; numbers = c.numbers; filter = c.filter; closing = c.closing; tracking = c.tracking; loss = c.loss; pacing = c.pacing; path = c.path; transport = c.transport; peer = c.peer };
   drops = λ d kind c. record { ids = c.ids; numbers = c.numbers; filter = c.filter; closing = c.closing; tracking = c.tracking; loss = c.loss; pacing = c.pacing; path = c.path; transport = c.transport; peer = c.peer };
   control = λ d kind f is c. record { ids = c.ids; numbers = c.numbers; filter = c.filter; closing = c.closing; tracking = c.tracking; loss = c.loss; pacing = c.pacing; path = c.path; transport = c.transport; peer = c.peer };
   message = λ d m ms is fit c. record { ids = c.ids; numbers = c.numbers; filter = c.filter; closing = c.closing; tracking = c.tracking; loss = c.loss; pacing = c.pacing; path = c.path; transport = c.transport; peer = c.peer };
   stream = λ d id h room found first some is counts c. record { ids = c.ids; numbers = c.numbers; filter = c.filter; closing = c.closing; tracking = c.tracking; loss = c.loss; pacing = c.pacing; path = c.path; transport = c.transport; peer = c.peer };
 }
 
-pub composes : (leaving : Leaving) (e : End) → (leaving ≡ alone → can_send (lazied e).acknowledging ≡ true) → Composes e (draft_as leaving e).end
-composes leaving e due = by_leave (λ (d : Draft). Composes e d.end) (writing e) leaving e due
-    (record { ids = refl; numbers = refl; filter = refl; closing = refl; tracking = refl; loss = refl; pacing = refl; path = refl; transport = refl; peer = refl })
-    (record { ids = refl; numbers = refl; filter = refl; closing = refl; tracking = refl; loss = refl; pacing = refl; path = refl; transport = refl; peer = refl })
+pub composes : (held : Bool) (e : End) → (held ≡ true → can_send e.acknowledging ≡ true) → Composes e (draft_if held e).end
+composes held e due = by_leave (λ (d : Draft). Composes e d.end) (writing e) held e due (record { ids = refl; numbers = refl; filter = refl; closing = refl; tracking = refl; loss = refl; pacing = refl; path = refl; transport = refl; peer = refl })

@@ -47,8 +47,6 @@ pub enum Setting {
     Uni(VarInt),
     /// How many bytes of messages are kept unread: 0 where the end takes none.
     Messages(usize),
-    /// Whether a greater size of datagrams is looked for.
-    Search(bool),
     /// The random word that the end is given each time.
     Word(u64),
     /// The seed of the generator whose words the end is given.
@@ -338,7 +336,6 @@ fn setting_of(name: &str, words: &mut LineWords) -> Result<Setting, LineError>
         "bidi" => Ok(Setting::Bidi(words.count()?)),
         "uni" => Ok(Setting::Uni(words.count()?)),
         "messages" => Ok(Setting::Messages(words.index()?)),
-        "search" => Ok(Setting::Search(words.number()? != 0)),
         "word" => Ok(Setting::Word(words.number()?)),
         "pcg" => Ok(Setting::Pcg(words.number()?)),
         _ => Err(LineError::BadCommand),

@@ -1,6 +1,6 @@
 //! What the congestion controller of a path is told (RFC 9002, section 7).
 ghost use Rattle.std.specs.Prelude.{◌≡◌, Option};
-ghost use Rattle.quic_congestion.specs.Congestion.{KeepsRoom, Sent, Acked, AcksEnded, Congested, Resized, after_call};
+ghost use Rattle.quic_congestion.specs.Congestion.{KeepsRoom, Sent, Acked, AcksEnded, Congested, after_call};
 
 use quic_congestion::Controller;
 use quic_machine::Instant;
@@ -64,12 +64,4 @@ pub(crate) fn tell_congested<C: Controller>(
 {
     path.congestion
         .on_congestion_event(now, sent, persistent, lost);
-}
-
-/// The size of datagrams on the path changed.
-pub(crate) fn tell_resized<C: Controller>(path: &mut PathData<C>)
-    ensures told { path.new ≡ record path.old { congestion = after_call C.steps (Resized path.old.discovery.size) path.old.congestion } }
-{
-    let size = path.current_mtu();
-    path.congestion.on_mtu_update(size);
 }

@@ -10,7 +10,7 @@ use Rattle.quic_machine.specs.Policy.{Policy}
 use Rattle.quic_machine.specs.Closing.{Closing, ticked}
 use Rattle.quic_spaces.specs.Numbers.{Numbers, cut_against, kept_numbers, can_number}
 use Rattle.quic_machine.specs.End.{End, with_closing}
-use Rattle.quic_machine.specs.Poll.{Polled, after_given, goes, draft_of, sends, polled_if, polled_in, polled}
+use Rattle.quic_machine.specs.Poll.{Polled, after_given, lazied, goes, draft_of, sends, polled_if, polled_in, polled}
 use Rattle.quic_machine.specs.Machine.{after_call}
 use Rattle.quic_machine.specs.CallCases.{is_delivery, is_poll, by_plain_call}
 use Rattle.quic_machine.specs.LeaveCases.{at_losses, by_expired}
@@ -39,7 +39,7 @@ module _ (p : Policy) (e : End) (now : ℕ) where
   -- an end that is ready at this moment, from which something goes or doesn't
   sends_case : (g : Gated) → g.end.closing ≡ ticked e.closing now → g.end.numbers ≡ e.numbers → e.closing.state ≡ states.Open → goes g ≡ true → (b : Bool) → can_number g.end.numbers ≡ b → PollCloses e (sends b p g)
   sends_case g closing numbers still_open some true is =
-      let same : (after_given p (draft_of g)).closing ≡ ticked e.closing now = by_going (λ (x : End). x.closing ≡ ticked e.closing now) p (draft_of g) (λ pacing. (composes g.leaving g.end (due_alone g some)).closing ∙ closing) in
+      let same : (after_given p (draft_of g)).closing ≡ ticked e.closing now = by_going (λ (x : End). x.closing ≡ ticked e.closing now) p (draft_of g) (λ pacing. (composes g.held (lazied g.end) (due_alone g some)).closing ∙ closing) in
       keeps (record { reason = ap (λ (c : Closing). c.reason) same; state = ap (λ (c : Closing). c.state) same })
   sends_case g closing numbers still_open some false is = uses_up still_open (ap can_number (sym numbers) ∙ is) (ap (λ (n : Numbers). n.next) numbers) refl refl
 
@@ -79,7 +79,7 @@ other_keeps p e theirs call a silent apart = by_plain_call p e theirs (Keeps e) 
   heard = λ path same. record { reason = refl; state = refl };
   times = λ now acks loss pacing set. by_expired e now (Keeps e) (λ pending tracking timers runs packets. record { reason = refl; state = refl }) (λ pending timers runs. losses now pending timers) acks loss pacing;
   polls = λ now set. cc;
-  hears = λ now mark d set. cc;
+  hears = λ now d set. cc;
   tells = λ told. record { reason = refl; state = refl };
 })
   where

@@ -1,8 +1,9 @@
 -- A poll that gives nothing and leaves its end open leaves it with nothing to give but what window or pacer hold back.
-use Rattle.std.proofs.Common.{◌≡◌, ℕ, ◌<◌, Bool, true, false, [], Option, Some, None, Ok, refl, sym, ap, ◌∙◌, arith}
+use Rattle.std.proofs.Common.{◌≡◌, ℕ, ◌<◌, Bool, true, false, not, List, [], Option, Some, None, Ok, refl, sym, ap, ◌∙◌, ◌⊎◌, inl, inr, arith}
 use Rattle.std.specs.Prelude.{if◌then◌else◌, ◌&&◌, nat_lt}
-use Rattle.std.proofs.lemmas.Bool.{ltb-true, or_parts, both_ways}
+use Rattle.std.proofs.lemmas.Bool.{ltb-true, and_parts, or_parts, both_ways}
 use Rattle.quic_recovery_core.specs.PendingAcks.{can_send}
+use Rattle.quic_congestion.specs.Congestion.{Told}
 use Rattle.quic_machine.specs.declared.answers.State.{State}
 use Rattle.quic_machine.specs.declared.answers.State.TheVariants as states
 use Rattle.quic_machine.specs.Closing.{ticked}
@@ -12,7 +13,6 @@ use Rattle.quic_machine.specs.End.{End, with_closing}
 use Rattle.quic_machine.specs.Control.{is_window_full, pacer_answer, if_later, paced_until, pacer_asked, Gated, lets, holds, with_pacing_timer}
 use Rattle.quic_machine.specs.Poll.{probed, asks_to_go, is_gated, gated, goes, rests, sends, polled_if, polled_in, polled, told_if, told_polled_in, told_polled}
 use Rattle.quic_machine.specs.PollCases.{ready_at, ready_leaves, by_gate}
-use Rattle.quic_headline.proofs.Packets.Searches.{by_search}
 
 -- ---- a poll that gives nothing
 
@@ -74,10 +74,7 @@ named_later now moment (Some m) is = go (nat_lt now m) refl is
 
 -- where nothing goes of an end that is ready, what asks is held back
 pub rests_held : (e : End) (now : ℕ) → goes (ready_at e now) ≡ false → asks_to_go (rests (ready_at e now)) ≡ true → IsHeld (rests (ready_at e now))
-rests_held e now = by_search (gated y) (λ (g : Gated). goes g ≡ false → asks_to_go (rests g) ≡ true → IsHeld (rests g))
-    (by_gate y (λ (g : Gated). goes g ≡ false → asks_to_go (rests g) ≡ true → IsHeld (rests g)) (record { free = free; full = when_full; lets = let_go; holds = held_back }))
-    (λ silent none asks. absurd (both_ways (asks_to_go (gated y).end) (or_parts (can_send (gated y).end.acknowledging) (asks_to_go (gated y).end) silent).1 asks))
-    (λ size silent none asks. cc)
+rests_held e now = by_gate y (λ (g : Gated). goes g ≡ false → asks_to_go (rests g) ≡ true → IsHeld (rests g)) (record { free = free; full = when_full; lets = let_go; holds = held_back })
   where
     y : End
     y = probed (with_pacing_timer (with_closing e (ticked e.closing now)) None)

@@ -1,26 +1,26 @@
 -- What asks for an acknowledgement and is no probe goes only where the window has room for it, and the pacer names no later moment (RFC 9002, sections 7 and 7.7).
-use Rattle.std.proofs.Common.{◌≡◌, ℕ, ◌+◌, ◌<◌, [], ◌∷◌, Bool, true, false, Some, None, Ok, sym, ap, ◌∙◌, subst, arith}
-use Rattle.std.specs.Prelude.{Option, Result, ◌==◌, ◌&&◌}
-use Rattle.std.proofs.lemmas.Bool.{le-ltb, leb-false, eq-eqb, and_from, or_parts, both_ways}
+use Rattle.std.proofs.Common.{◌≡◌, ℕ, ◌+◌, ◌<◌, [], ◌∷◌, Bool, true, false, Some, None, Ok, sym, ap, ◌∙◌, subst, inl, inr, arith}
+use Rattle.std.specs.Prelude.{Option, Result, ◌==◌}
+use Rattle.std.proofs.lemmas.Bool.{le-ltb, leb-false, eq-eqb, and_cases, and_parts, and_from, or_cases, or_left, both_ways}
 use Rattle.std.proofs.lemmas.List.{append_cancel_left}
 use Rattle.quic_wire_core.specs.StreamId.{other_side}
-use Rattle.quic_recovery_core.specs.PendingAcks.{can_send}
+use Rattle.quic_recovery_core.specs.PendingAcks.{Pending, is_filled, can_send, after_lazy}
 use Rattle.quic_machine.specs.declared.answers.State.TheVariants as states
 use Rattle.quic_machine.specs.declared.answers.Failed.{Failed}
 use Rattle.quic_machine.specs.declared.answers.Transmit.{Transmit}
 use Rattle.quic_machine.specs.declared.run.Call.TheVariants as calls
 use Rattle.quic_machine.specs.declared.run.Answer.TheVariants as answers
 use Rattle.quic_machine.specs.Policy.{Policy}
-use Rattle.quic_machine.specs.Parts.{current_mtu}
 use Rattle.quic_machine.specs.End.{End, with_window}
 use Rattle.quic_machine.specs.Control.{bytes_in_flight, paced_until, Gated, lets}
-use Rattle.quic_machine.specs.Poll.{waits, searched, Polled, asking, probe_if, probed, asks_to_go, is_gated, gated, goes, draft_of, polled}
+use Rattle.quic_machine.specs.Poll.{Polled, composed, asking, probe_if, probed, lazied, asks_to_go, is_gated, gated, goes, draft_of, polled}
 use Rattle.quic_machine.specs.Machine.{World, end_at, control_at, policy_at}
-use Rattle.quic_machine.specs.PollCases.{gate_leaves, ready_at, draft_at, by_gate, by_poll_to}
+use Rattle.quic_machine.specs.PollCases.{ready_at, draft_at, by_gate, by_poll_to}
 use Rattle.quic_headline.specs.Runs.{Run}
 use Rattle.quic_headline.specs.Observer.{Sent, asks_of, Watch, sents_until}
 use Rattle.quic_headline.specs.Headline.{IsHonest, IsRun}
-use Rattle.quic_headline.specs.Polls.{bytes_flying, AskingGoesWhereLet}
+use Rattle.quic_headline.specs.Polls.{bytes_flying, size_at, AskingGoesWhereLet}
+use Rattle.quic_headline.proofs.Packets.Invariant.{Acks}
 use Rattle.quic_headline.proofs.Packets.Flying.{asking_padded}
 use Rattle.quic_headline.proofs.Packets.Group.{PacketsHold}
 use Rattle.quic_headline.proofs.Packets.Sight.{Sight}
@@ -31,7 +31,7 @@ use Rattle.quic_headline.proofs.Places.Steps.{poll_answer}
 use Rattle.quic_headline.proofs.Held.Flight.{bytes_asking, bytes_of_end}
 use Rattle.quic_headline.proofs.Steps.Made.{made_served, polling, PollHolds, poll_holds, observed_poll, sents_more}
 use Rattle.quic_headline.proofs.Steps.Probes.{begun}
-use Rattle.quic_headline.proofs.Packets.Searches.{by_search}
+use Rattle.quic_headline.proofs.Steps.Idle.{mute_composed}
 
 -- ---- a poll that gives a datagram
 
@@ -58,24 +58,37 @@ giving p e now t = by_poll_to p e now (λ (q : Polled). q.answer ≡ Ok (Some t)
 
 -- The window of an end has room for one more datagram, and its pacer names no later moment.
 record IsLet (e : End) : Type 0 where
-  room : bytes_in_flight e + current_mtu e.path < e.path.window
+  room : bytes_in_flight e + e.path.size < e.path.window
   unpaced : paced_until e ≡ None
 
--- where something waits that asks, no probe waits and what goes asks, both let it
-let_go : (e : End) → asks_to_go e ≡ true → e.tracking.probes ≡ 0 → goes (searched (gated e)) ≡ true → asking (draft_of (searched (gated e))).frames ≡ true → IsLet e
-let_go e asks none = by_search (gated e) (λ (g : Gated). goes g ≡ true → asking (draft_of g).frames ≡ true → IsLet e) (by_gate e (λ (g : Gated). goes g ≡ true → asking (draft_of g).frames ≡ true → IsLet e) (record {
-  free = λ is some frames. absurd (free is);
-  full = λ gate is some frames. (let clash : ◌≡◌ {A = Bool} false true = frames in cc);
-  lets = λ gate room unpaced some frames. record { room = leb-false e.path.window (bytes_in_flight e + current_mtu e.path) room; unpaced = unpaced };
-  holds = λ moment gate room is some frames. (let clash : ◌≡◌ {A = Bool} false true = frames in cc);
-})) (λ silent some frames. absurd (waiting silent)) (λ size silent some frames. absurd (waiting silent))
-  where
-    free : is_gated e ≡ false → ⊥
-    free is = both_ways (asks_to_go e && (e.tracking.probes == 0)) is (and_from (asks_to_go e) (e.tracking.probes == 0) asks (eq-eqb e.tracking.probes 0 none))
+-- a due ACK stays due
+lazy_due : (p : Pending) → can_send p ≡ true → can_send (after_lazy p) ≡ true
+lazy_due p due = let both = and_parts p.due (is_filled p.runs) due in and_from (after_lazy p).due (is_filled p.runs) (or_left p.due _ both.0) both.1
 
-    -- no size is looked for
-    waiting : waits (gated e).end ≡ false → ⊥
-    waiting silent = both_ways (asks_to_go (gated e).end) (or_parts (can_send (gated e).end.acknowledging) (asks_to_go (gated e).end) silent).1 (ap (λ (x : End). asks_to_go x) (gate_leaves e) ∙ asks)
+-- where no probe waits and what goes asks, both let it
+let_go : (e : End) → Acks e.acknowledging → e.tracking.probes ≡ 0 → goes (gated e) ≡ true → asking (draft_of (gated e)).frames ≡ true → IsLet e
+let_go e acks none = by_gate e (λ (g : Gated). goes g ≡ true → asking (draft_of g).frames ≡ true → IsLet e) (record {
+  free = λ is some asks. absurd (idle (nothing is) some asks);
+  full = λ gate is some asks. (let clash : ◌≡◌ {A = Bool} false true = asks in cc);
+  lets = λ gate room unpaced some asks. record { room = leb-false e.path.window (bytes_in_flight e + e.path.size) room; unpaced = unpaced };
+  holds = λ moment gate room is some asks. (let clash : ◌≡◌ {A = Bool} false true = asks in cc);
+})
+  where
+    nothing : is_gated e ≡ false → asks_to_go e ≡ false
+    nothing is = elim (and_cases (asks_to_go e) (e.tracking.probes == 0) is) [
+      | inl silent ↦ silent
+      | inr probes ↦ absurd (both_ways (e.tracking.probes == 0) probes (eq-eqb e.tracking.probes 0 none))
+    ]
+
+    -- where nothing asks to go, an ACK goes alone
+    idle : asks_to_go e ≡ false → goes (lets e) ≡ true → asking (composed (lazied e)).frames ≡ true → ⊥
+    idle silent some asks = both_ways (asking (composed (lazied e)).frames) (mute_composed (lazied e) (record { runs = acks.runs; small = acks.small }) (lazy_due e.acknowledging due) silent) asks
+      where
+        due : can_send e.acknowledging ≡ true
+        due = elim (or_cases (can_send e.acknowledging) (asks_to_go e) some) [
+          | inl is ↦ is
+          | inr is ↦ absurd (both_ways (asks_to_go e) silent is)
+        ]
 
 -- where no probe waits, nothing changes for one
 unprobed : (e : End) → e.tracking.probes ≡ 0 → probed e ≡ e
@@ -88,11 +101,10 @@ only_one s t is = cc
 -- ---- the clause
 
 module _ (H : Way) (g : Group Nothing (And (And PacketsHold H) Sight)) (r : Run) (end : World) (honest : IsHonest r) (run : IsRun r end) where
-  -- where something waits that asks, what asks and is no probe goes only where the window has room for it beside what is in flight, and the pacer names no later
-  -- moment
+  -- what asks and is no probe goes only where the window has room for it beside what is in flight, and the pacer names no later moment
   pub asking_goes_where_let : AskingGoesWhereLet r
-  asking_goes_where_let side i now w next gave waiting none = (
-    subst (λ (n : ℕ). n + current_mtu e.path < control_at side w []) flight room,
+  asking_goes_where_let side i now w next gave none = (
+    subst (λ (n : ℕ). n + size_at r side < control_at side w []) flight (subst (λ (n : ℕ). bytes_in_flight e + n < control_at side w []) h.gives.0.0.size room),
     free.unpaced,
   )
     where
@@ -131,10 +143,10 @@ module _ (H : Way) (g : Group Nothing (And (And PacketsHold H) Sight)) (r : Run)
       quiet = unprobed (begun e now) none
 
       free : IsLet (probed (begun e now))
-      free = let_go (probed (begun e now)) (ap (λ (z : End). asks_to_go z) quiet ∙ waiting) (ap (λ (z : End). z.tracking.probes) quiet ∙ none) gives.some asks
+      free = let_go (probed (begun e now)) (subst (λ (z : End). Acks z.acknowledging) (sym quiet) h.takes.0.0.acks) (ap (λ (z : End). z.tracking.probes) quiet ∙ none) gives.some asks
 
-      room : bytes_in_flight e + current_mtu e.path < control_at side w []
-      room = subst (λ (z : End). bytes_in_flight z + current_mtu z.path < z.path.window) quiet free.room
+      room : bytes_in_flight e + e.path.size < control_at side w []
+      room = subst (λ (z : End). bytes_in_flight z + z.path.size < z.path.window) quiet free.room
 
       -- the observer counts the bytes in flight as the end does
       flight : bytes_in_flight e ≡ bytes_flying r side i
