@@ -193,7 +193,8 @@ parameters_of s = record {
   min_ack_delay = if s.ack_frequency_support then Some 1000 else None;
 }
 
--- the settings of an end as it can be configured: windows are variable-length integers
+-- the settings of an end as it can be configured: windows are variable-length integers, and a datagram has 1200 bytes at least (RFC 9000, section 14)
 pub record IsInRange (s : Settings) : Type 0 where
   pub receive_window : s.receive_window < 2 ^ 62
   pub stream_receive_window : s.stream_receive_window < 2 ^ 62
+  pub initial_mtu : 1200 ≤ s.initial_mtu

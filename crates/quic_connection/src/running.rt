@@ -484,8 +484,8 @@ fn end_view<H: HeaderKey + Drop, K: PacketKey + Drop, R: Rng + Drop, C: Controll
         reason: end.lost().map(LostReason::copied),
         validated: end.is_validated(),
         timers: timers(end),
-        window: Some(end.window()),
-        current_mtu: None,
+        window: end.window(),
+        current_mtu: end.current_mtu(),
     }
 }
 

@@ -3,6 +3,7 @@ pub mod Closing
 pub mod Control
 pub mod Ids
 pub mod Parts
+pub mod PathLaws
 pub mod Tracking
 pub mod End
 pub mod Opens

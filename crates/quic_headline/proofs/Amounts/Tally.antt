@@ -227,7 +227,7 @@ module _ (t : Tally) where
         heard = λ path same. i;
         times = λ now acks loss pacing set. by_expired e now (λ (f : End). Tallies t f.streams) (λ pending tracking timers runs packets. i) (λ pending timers runs. expiry_stays (λ (s : Streams). Tallies t s.state) e now (losing e.tracking.packets) i pending timers) acks loss pacing;
         polls = λ now set. poll_tallies p e now i;
-        hears = λ now d set. cc;
+        hears = λ now mark d set. cc;
         tells = λ asks. by_event e (λ (f : End). Tallies t f.streams) i (λ told. by_polled (Tallies t) tallies_kept e.streams i);
       })
 
@@ -241,7 +241,7 @@ module _ (t : Tally) where
     lost = lost_tallies;
     again = λ carried e i. i;
     tracked = λ u e i. i;
-    measured = λ r first e i. i;
+    measured = λ r first e i. i; marked = λ m marking e i. i;
   }
 
 -- ---- where as much is told

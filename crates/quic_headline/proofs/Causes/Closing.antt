@@ -79,7 +79,7 @@ other_keeps p e theirs call a silent apart = by_plain_call p e theirs (Keeps e) 
   heard = λ path same. record { reason = refl; state = refl };
   times = λ now acks loss pacing set. by_expired e now (Keeps e) (λ pending tracking timers runs packets. record { reason = refl; state = refl }) (λ pending timers runs. losses now pending timers) acks loss pacing;
   polls = λ now set. cc;
-  hears = λ now d set. cc;
+  hears = λ now mark d set. cc;
   tells = λ told. record { reason = refl; state = refl };
 })
   where

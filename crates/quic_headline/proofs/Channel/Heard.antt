@@ -146,7 +146,7 @@ module _ (t : StreamsState) where
     lost = λ m e i. by_stream_lost (Heard t) heard_kept e.streams m (λ h is none a. a) i;
     again = λ carried e i. i;
     tracked = λ u e i. i;
-    measured = λ r first e i. i;
+    measured = λ r first e i. i; marked = λ m marking e i. i;
   }
 
   -- any call but a delivery
@@ -165,7 +165,7 @@ module _ (t : StreamsState) where
         heard = λ path same. i;
         times = λ now acks loss pacing set. by_expired e now (λ (f : End). Heard t f.streams) (λ pending tracking timers runs packets. i) (λ pending timers runs. losses_keep (λ (x : End). Heard t x.streams) settles (with_closing e (ticked e.closing now)) i) acks loss pacing;
         polls = λ now set. poll_heard p e now i;
-        hears = λ now d set. cc;
+        hears = λ now mark d set. cc;
         tells = λ asks. by_event e (λ (f : End). Heard t f.streams) i (λ told. by_polled (Heard t) heard_kept e.streams i);
       })
 

@@ -28,7 +28,7 @@ opened_receives e = record {
     on_streams = λ f g on i. frame_leaves (WasOpen e) f g on (λ t. i);
     message = λ m f i. i;
   });
-  takes = λ n asks f i. i;
+  takes = λ n asks mark f i. i;
   closes = λ reason f i opened. cc;
 }
 
@@ -56,6 +56,6 @@ was_open p e theirs call a = by_plain_call p e theirs (WasOpen e) call a (record
   heard = λ path same opened. opened;
   times = λ now acks loss pacing is. opened_expired e now acks loss pacing;
   polls = λ now is. opened_polled p e now;
-  hears = λ now d is. by_received (WasOpen e) (opened_receives e) p e now d (λ opened. opened);
+  hears = λ now mark d is. by_received (WasOpen e) (opened_receives e) p e now mark d (λ opened. opened);
   tells = λ told opened. opened;
 })
