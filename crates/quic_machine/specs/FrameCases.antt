@@ -13,6 +13,7 @@ use Rattle.quic_send_buffer.specs.declared.stream_meta.StreamMeta.{StreamMeta}
 use Rattle.quic_recovery_core.specs.Duplicates.{is_duplicate}
 use Rattle.quic_streams_state.specs.State.{Streams}
 use Rattle.quic_streams_parts.specs.Table.{Table}
+use Rattle.quic_machine.specs.Arrival.{Arrival}
 use Rattle.quic_machine.specs.declared.answers.State.{State}
 use Rattle.quic_machine.specs.declared.answers.State.TheVariants as states
 use Rattle.quic_machine.specs.declared.answers.DropReason.TheVariants as drops
@@ -272,37 +273,37 @@ module _ (P : End → Type 0) (c : Receives P) where
   ends_keep (Some fault) asks n mark e i = c.closes (reason_of fault) e i
 
   -- a packet whose number is new
-  state_keeps : (state : State) (o : Opening) (now : ℕ) (mark : Option EcnCodepoint) (e : End) → P e → P (by_state state o now mark (with_numbers e (number_opened e.numbers o.number))).end
-  state_keeps states.Open o now mark e i =
-      let taken = take_payload o.first (items o.payload) (begun e now o.number) in
-      ends_keep taken.fault (asks_in (items o.payload)) o.number mark taken.end (payload_keeps o.first (items o.payload) (begun e now o.number) (c.begins now o.number e i))
-  state_keeps states.Closing o now mark e i = c.notes o.number e i
-  state_keeps states.Drained o now mark e i = c.notes o.number e i
-  state_keeps states.Failed o now mark e i = c.notes o.number e i
+  state_keeps : (state : State) (o : Opening) (arrival : Arrival) (e : End) → P e → P (by_state state o arrival (with_numbers e (number_opened e.numbers o.number))).end
+  state_keeps states.Open o arrival e i =
+      let taken = take_payload o.first (items o.payload) (begun e arrival.now o.number) in
+      ends_keep taken.fault (asks_in (items o.payload)) o.number arrival.mark taken.end (payload_keeps o.first (items o.payload) (begun e arrival.now o.number) (c.begins arrival.now o.number e i))
+  state_keeps states.Closing o arrival e i = c.notes o.number e i
+  state_keeps states.Drained o arrival e i = c.notes o.number e i
+  state_keeps states.Failed o arrival e i = c.notes o.number e i
 
   -- a packet that opened
-  opened_keeps : (o : Opening) (now : ℕ) (mark : Option EcnCodepoint) (e : End) → P e → P (opened_to o now mark e).end
-  opened_keeps o now mark e i = go (key_phase o.first) (is_duplicate e.numbers.opened o.number)
+  opened_keeps : (o : Opening) (arrival : Arrival) (e : End) → P e → P (opened_to o arrival e).end
+  opened_keeps o arrival e i = go (key_phase o.first) (is_duplicate e.numbers.opened o.number)
     where
-      go : (a b : Bool) → P (if a then dropped drops.KeyPhase e else (if b then dropped drops.Duplicate e else by_state e.closing.state o now mark (with_numbers e (number_opened e.numbers o.number)))).end
+      go : (a b : Bool) → P (if a then dropped drops.KeyPhase e else (if b then dropped drops.Duplicate e else by_state e.closing.state o arrival (with_numbers e (number_opened e.numbers o.number)))).end
       go true b = i
       go false true = i
-      go false false = state_keeps e.closing.state o now mark e i
+      go false false = state_keeps e.closing.state o arrival e i
 
-  packet_keeps : (o : Option Opening) (now : ℕ) (mark : Option EcnCodepoint) (e : End) → P e → P (opened_as o now mark e).end
-  packet_keeps None now mark e i = i
-  packet_keeps (Some o) now mark e i = opened_keeps o now mark e i
+  packet_keeps : (o : Option Opening) (arrival : Arrival) (e : End) → P e → P (opened_as o arrival e).end
+  packet_keeps None arrival e i = i
+  packet_keeps (Some o) arrival e i = opened_keeps o arrival e i
 
-  headed_keeps : (r : Result (List ℕ) HeaderError) (p : Policy) (e : End) (now : ℕ) (mark : Option EcnCodepoint) (d : List ℕ) → P e → P (headed r p e now mark d).end
-  headed_keeps (Err error) p e now mark d i = i
-  headed_keeps (Ok id) p e now mark d i = packet_keeps (opening p e d) now mark e i
+  headed_keeps : (r : Result (List ℕ) HeaderError) (p : Policy) (e : End) (arrival : Arrival) (d : List ℕ) → P e → P (headed r p e arrival d).end
+  headed_keeps (Err error) p e arrival d i = i
+  headed_keeps (Ok id) p e arrival d i = packet_keeps (opening p e d) arrival e i
 
-  received_keeps : (state : State) (p : Policy) (e : End) (now : ℕ) (mark : Option EcnCodepoint) (d : List ℕ) → P e → P (received_in state p e now mark d).end
-  received_keeps states.Failed p e now mark d i = i
-  received_keeps states.Drained p e now mark d i = i
-  received_keeps states.Open p e now mark d i = headed_keeps (decoded (fixed_length_id own_id_length) (known e.ids) d) p e now mark d i
-  received_keeps states.Closing p e now mark d i = headed_keeps (decoded (fixed_length_id own_id_length) (known e.ids) d) p e now mark d i
+  received_keeps : (state : State) (p : Policy) (e : End) (arrival : Arrival) (d : List ℕ) → P e → P (received_in state p e arrival d).end
+  received_keeps states.Failed p e arrival d i = i
+  received_keeps states.Drained p e arrival d i = i
+  received_keeps states.Open p e arrival d i = headed_keeps (decoded (fixed_length_id own_id_length) (known e.ids) d) p e arrival d i
+  received_keeps states.Closing p e arrival d i = headed_keeps (decoded (fixed_length_id own_id_length) (known e.ids) d) p e arrival d i
 
   -- what each step keeps holds after a datagram
-  pub by_received : (p : Policy) (e : End) (now : ℕ) (mark : Option EcnCodepoint) (d : List ℕ) → P e → P (received p e now mark d).end
-  by_received p e now mark d i = received_keeps e.closing.state p e now mark d i
+  pub by_received : (p : Policy) (e : End) (arrival : Arrival) (d : List ℕ) → P e → P (received p e arrival d).end
+  by_received p e arrival d i = received_keeps e.closing.state p e arrival d i

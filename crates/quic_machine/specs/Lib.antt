@@ -8,6 +8,7 @@ pub mod Tracking
 pub mod End
 pub mod Opens
 pub mod Acked
+pub mod Arrival
 pub mod Receive
 pub mod Poll
 pub mod Timeouts

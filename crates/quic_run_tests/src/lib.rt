@@ -17,6 +17,8 @@ mod frames;
 mod lacking;
 pub mod laws;
 #[cfg(test)]
+mod marks;
+#[cfg(test)]
 mod messages;
 #[cfg(test)]
 mod numbers;

@@ -21,6 +21,7 @@ use Rattle.quic_wire.specs.Items.{frame_at, items_within, items}
 use Rattle.quic_packet.specs.Number.{truncated, number_bytes}
 use Rattle.quic_packet.specs.Keys.{Protection}
 use Rattle.quic_packet.specs.Datagram.{Opening, datagram_of, sent}
+use Rattle.quic_machine.specs.Arrival.{arriving}
 use Rattle.quic_machine.specs.declared.answers.State.TheVariants as states
 use Rattle.quic_machine.specs.declared.answers.Received.{Received}
 use Rattle.quic_machine.specs.declared.answers.Received.TheVariants as receives
@@ -297,7 +298,7 @@ hello_opening = record { first = 0x40; number = 0; payload = hello_payload }
 
 -- what the server makes of a datagram at moment 0
 abbrev pub at_server : End → List ℕ → Received
-at_server server datagram = (received worked_policies.server server 0 None datagram).answer
+at_server server datagram = (received worked_policies.server server (arriving 0 None) datagram).answer
 
 -- a datagram of so many bytes that went at moment 0 with the bytes of stream 0 from one offset up to
 -- another, and with its end or not

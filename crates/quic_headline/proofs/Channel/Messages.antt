@@ -230,15 +230,15 @@ module _ (window : Option ℕ) where
     on_messages = λ on answer. message_call_leaves window e sized i call a;
     pings = i;
     heard = λ path same. i;
-    times = λ now acks loss pacing set. by_expired e now (Waits window) (λ pending tracking timers runs packets. i) (λ pending timers runs. losses_keep (Waits window) settling (with_closing e (ticked e.closing now)) i) acks loss pacing;
+    times = λ now expiry set. by_expired e now (Waits window) (λ pending tracking timers runs packets. i) (λ pending timers runs. losses_keep (Waits window) settling (with_closing e (ticked e.closing now)) i) expiry;
     polls = λ now set. (poll_takes window p e now i).0;
-    hears = λ now mark d set. by_received (Waits window) (record {
+    hears = λ arrival d set. by_received (Waits window) (record {
       notes = λ n x j. j;
       begins = λ time n x j. j;
       frame = frame_leaves;
       takes = λ n asks mark x j. j;
       closes = λ reason x j. j;
-    }) p e now mark d i;
+    }) p e arrival d i;
     tells = λ asks. by_event e (Waits window) i (λ was_told. i);
   })
 

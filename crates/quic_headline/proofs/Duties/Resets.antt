@@ -489,8 +489,8 @@ module _ (took : List Packet) (sents : List Sent) (id : ℕ) where
     on_messages = λ on answer. i;
     pings = i;
     heard = λ path same. i;
-    times = λ now acks loss pacing set. by_expired e now (ResetStands took id) (λ pending tracking timers runs packets. rw packets i) (λ pending timers runs. detected_stands took id (with_closing e (ticked e.closing now)) i) acks loss pacing;
+    times = λ now expiry set. by_expired e now (ResetStands took id) (λ pending tracking timers runs packets. rw packets i) (λ pending timers runs. detected_stands took id (with_closing e (ticked e.closing now)) i) expiry;
     polls = λ now set. polled_stands took sents id e now ascends were before new p (ready now) i;
-    hears = λ now mark d set. cc;
+    hears = λ arrival d set. cc;
     tells = λ asks. by_event e (ResetStands took id) i (λ told. i);
   })

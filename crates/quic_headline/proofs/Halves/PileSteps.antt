@@ -4,7 +4,6 @@ use Rattle.std.specs.Prelude.{if◌then◌else◌}
 use Rattle.std.specs.Option.{is_some}
 use Rattle.std.proofs.lemmas.Bool.{eq-eqb}
 use Rattle.std.proofs.lemmas.List.{append_assoc}
-use Rattle.quic_wire_core.specs.declared.shared.EcnCodepoint.{EcnCodepoint}
 use Rattle.quic_wire.specs.Value.{FrameValue, AckValue, StreamValue, ResetStreamValue, StopSendingValue, stream, reset_stream, stop_sending, max_data, max_stream_data, max_streams}
 use Rattle.quic_send_buffer.specs.declared.stream_meta.StreamMeta.{StreamMeta}
 use Rattle.quic_streams_parts.specs.declared.answers.Breach.{Breach}
@@ -17,6 +16,7 @@ use Rattle.quic_streams_state.specs.State.{Streams}
 use Rattle.quic_streams_state.specs.Taking as taking
 use Rattle.quic_streams_state.specs.Acked.{sent_half, acked_at, after_stream_acked, reset_acked_at, after_reset_acked}
 use Rattle.quic_streams_laws.specs.KeepingLaws.{by_stream, by_reset_frame, by_stop_sending, by_max_data_where, by_max_stream_data, by_max_streams, by_stream_lost, by_stream_acked_where, by_reset_acked_where}
+use Rattle.quic_machine.specs.Arrival.{Arrival}
 use Rattle.quic_machine.specs.Policy.{Policy}
 use Rattle.quic_machine.specs.Tracking.{TrackedPacket, Carried, dir_named, acked_by, not_acked_by, is_lost, lost_by, kept_by}
 use Rattle.quic_machine.specs.End.{End, with_streams, with_told, with_marking}
@@ -286,7 +286,7 @@ frame_step (max_streams f) e on h = all_on e _ (λ r u. by_max_streams (InUse r)
 frame_step f e on h = absurd on
 
 -- whatever comes
-pub received_holds : (p : Policy) (e : End) (now : ℕ) (mark : Option EcnCodepoint) (d : List ℕ) → HoldsAll e → HoldsAll (received p e now mark d).end
+pub received_holds : (p : Policy) (e : End) (arrival : Arrival) (d : List ℕ) → HoldsAll e → HoldsAll (received p e arrival d).end
 received_holds = by_received HoldsAll (record {
   notes = λ n e h. again_all e _ refl refl refl h;
   begins = λ now n e h. again_all e _ refl refl refl h;

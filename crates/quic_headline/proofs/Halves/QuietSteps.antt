@@ -136,9 +136,9 @@ module _ (P : StreamsState → Type 0) (q : IsQuiet P) where
     on_messages = λ on answer. i;
     pings = i;
     heard = λ path same. i;
-    times = λ now acks loss pacing set. by_expired e now (λ (f : End). P f.streams) (λ pending tracking timers runs packets. i) (λ pending timers runs. losses_keep (λ (x : End). P x.streams) settles (with_closing e (ticked e.closing now)) i) acks loss pacing;
+    times = λ now expiry set. by_expired e now (λ (f : End). P f.streams) (λ pending tracking timers runs packets. i) (λ pending timers runs. losses_keep (λ (x : End). P x.streams) settles (with_closing e (ticked e.closing now)) i) expiry;
     polls = λ now set. poll_quiet p e now i;
-    hears = λ now mark d set. cc;
+    hears = λ arrival d set. cc;
     tells = λ asks. by_event e (λ (f : End). P f.streams) i (λ told. q.polls e.streams i);
   })
 

@@ -2,6 +2,7 @@
 use Rattle.std.proofs.Common.{◌≡◌, ℕ, ◌+◌, ◌-◌, ◌≤◌, false, List, [], ◌∷◌, ◌++◌, length, replicate, Option, Some, None, Ok, refl, sym, ap, ◌∙◌, subst, arith, Bool, true}
 use Rattle.std.specs.Prelude.{slice_get}
 use Rattle.std.proofs.lemmas.List.{append_assoc, append-nil}
+use Rattle.quic_machine.specs.Arrival.{delivered_by}
 use Rattle.quic_machine.specs.declared.run.Delivery.{Delivery}
 use Rattle.quic_packet.specs.Number.{truncated}
 use Rattle.quic_wire.specs.Value.{FrameValue, padding, ping, ack, stream, datagram}
@@ -83,7 +84,7 @@ delivery_leaves p e delivery (Some d) = by_received (λ (f : End). f.messages.qu
   frame = λ f x same. frame_messages (λ (q : Messages). q.outgoing ≡ e.messages.queues.outgoing) f x same (λ y is. received_leaves x.transport.datagram_receive_buffer_size y x.messages.queues ∙ same);
   takes = λ n asks mark x same. same;
   closes = λ reason x same. same;
-}) p e delivery.now delivery.ecn d refl
+}) p e (delivered_by delivery) d refl
 
 -- ---- any call
 

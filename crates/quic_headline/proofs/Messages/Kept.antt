@@ -42,8 +42,8 @@ module _ (P : Messages → Type 0) where
     on_messages = λ on answer. cc;
     pings = same;
     heard = λ path is. same;
-    times = λ now acks loss pacing set. by_expired e now (λ (f : End). P f.messages.queues) (λ pending tracking timers runs packets. same) (λ pending timers runs. losses_keep (λ (f : End). P f.messages.queues) settles (with_closing e (ticked e.closing now)) same) acks loss pacing;
+    times = λ now expiry set. by_expired e now (λ (f : End). P f.messages.queues) (λ pending tracking timers runs packets. same) (λ pending timers runs. losses_keep (λ (f : End). P f.messages.queues) settles (with_closing e (ticked e.closing now)) same) expiry;
     polls = λ now set. cc;
-    hears = λ now mark d set. cc;
+    hears = λ arrival d set. cc;
     tells = λ asks. by_event e (λ (f : End). P f.messages.queues) same (λ told. same);
   })

@@ -8,6 +8,7 @@ use Rattle.quic_wire.specs.Value.{FrameValue}
 use Rattle.quic_recovery_core.specs.Duplicates.{Seen}
 use Rattle.quic_recovery_core.specs.PendingAcks.{Pending, none_pending, after_insert, with_wait, asking_counted, after_packet, starts_wait}
 use Rattle.quic_recovery_core.proofs.AckRunSteps.{at_most_kept, kept_numbers}
+use Rattle.quic_machine.specs.Arrival.{Arrival}
 use Rattle.quic_machine.specs.declared.run.Call.{Call}
 use Rattle.quic_machine.specs.declared.run.Answer.{Answer}
 use Rattle.quic_machine.specs.Policy.{Policy, CanOpen}
@@ -84,11 +85,11 @@ acks_arrivals e now n frames i small acks = record {
     after = (keeps_frames frames (begun e now n)).acks acks
 
 -- a datagram of an honest end is delivered
-pub acks_delivered : (p q : Policy) (id : List ℕ) (n reference : ℕ) (frames : List FrameValue) (d : List ℕ) → IsGiven p id n reference frames d → (e : End) (now : ℕ) (mark : Option EcnCodepoint) (i : Intake)
+pub acks_delivered : (p q : Policy) (id : List ℕ) (n reference : ℕ) (frames : List FrameValue) (d : List ℕ) → IsGiven p id n reference frames d → (e : End) (arrival : Arrival) (i : Intake)
     → CanOpen p q → IsLawful p → length id ≡ own_id_length → known e.ids ≡ i.ids → KnowsIn e.closing.state e.numbers i
-    → Acks e.acknowledging e.marks.came → Acks (received q e now mark d).end.acknowledging (received q e now mark d).end.marks.came
-acks_delivered p q id n reference frames d g e now mark i mates lawful long ids k acks =
-    by_arrival p q id n reference frames d g e now mark i (λ o j. Acks o.end.acknowledging o.end.marks.came) mates lawful long ids k (acks_arrivals e now n frames i g.small acks)
+    → Acks e.acknowledging e.marks.came → Acks (received q e arrival d).end.acknowledging (received q e arrival d).end.marks.came
+acks_delivered p q id n reference frames d g e arrival i mates lawful long ids k acks =
+    by_arrival p q id n reference frames d g e arrival i (λ o j. Acks o.end.acknowledging o.end.marks.came) mates lawful long ids k (acks_arrivals e arrival.now n frames i g.small acks)
 
 -- in each case of a delivery the numbers to acknowledge are those of packets that were taken
 pub taken_arrivals : (e : End) (now n : ℕ) (frames : List FrameValue) (i : Intake) → Acks e.acknowledging e.marks.came → AreTaken e.acknowledging.runs i.took → Arrivals e now n frames i (λ o j. AreTaken o.end.acknowledging.runs j.took)
@@ -146,9 +147,9 @@ runs_step q e theirs call a other = by_plain_call q e theirs (TellsAs e) call a 
   on_messages = λ m. (refl, refl);
   pings = (refl, refl);
   heard = λ path same. (refl, refl);
-  times = λ now acks loss pacing is. by_expired e now (TellsAs e) (λ pending tracking timers runs packets. (runs, refl)) (λ pending timers runs. (runs, (settles_losses (with_closing e (ticked e.closing now))).came)) acks loss pacing;
+  times = λ now expiry is. by_expired e now (TellsAs e) (λ pending tracking timers runs packets. (runs, refl)) (λ pending timers runs. (runs, (settles_losses (with_closing e (ticked e.closing now))).came)) expiry;
   polls = λ now is. polled_runs q e now;
-  hears = λ now mark d is. cc;
+  hears = λ arrival d is. cc;
   tells = λ told. (refl, refl);
 })
 

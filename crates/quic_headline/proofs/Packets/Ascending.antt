@@ -5,9 +5,9 @@ use Rattle.std.specs.declared.cmp.Ordering.{Ordering}
 use Rattle.std.specs.declared.cmp.Ordering.TheVariants.{Less, Equal, Greater}
 use Rattle.std.specs.BTreeMap.{is_at}
 use Rattle.std.proofs.lemmas.Cmp.{ranked}
-use Rattle.quic_wire_core.specs.declared.shared.EcnCodepoint.{EcnCodepoint}
 use Rattle.quic_wire.specs.Value.{AckValue}
 use Rattle.quic_streams_parts.specs.Table.{Table, put, added, without}
+use Rattle.quic_machine.specs.Arrival.{Arrival}
 use Rattle.quic_machine.specs.Policy.{Policy}
 use Rattle.quic_machine.specs.Closing.{ticked}
 use Rattle.quic_machine.specs.Tracking.{Tracking, TrackedPacket, without_packet, forgotten, after_sent, without_record, names, acked_by, is_lost}
@@ -135,7 +135,7 @@ ascends_named (p ∷ ps) rises k e a =
     by_marks rises (length (p ∷ ps)) k (losses_taken (p ∷ ps) rises k e) Ascends (λ m marking. kept)
 
 -- whatever comes
-pub ascends_received : (p : Policy) (e : End) (now : ℕ) (mark : Option EcnCodepoint) (d : List ℕ) → Ascends e → Ascends (received p e now mark d).end
+pub ascends_received : (p : Policy) (e : End) (arrival : Arrival) (d : List ℕ) → Ascends e → Ascends (received p e arrival d).end
 ascends_received = by_received Ascends (record {
   notes = λ n x a. a;
   begins = λ now n x a. a;
@@ -192,8 +192,8 @@ ascends_call p e theirs call answer a = by_plain_call p e theirs Ascends call an
   on_messages = λ m. a;
   pings = a;
   heard = λ path same. a;
-  times = λ now acks loss pacing is. by_expired e now Ascends (λ pending tracking timers runs packets. subst (λ (ps : Table TrackedPacket). Ascending 0 ps) (sym packets) a) (λ pending timers runs. ascends_losses (with_closing e (ticked e.closing now)) a) acks loss pacing;
+  times = λ now expiry is. by_expired e now Ascends (λ pending tracking timers runs packets. subst (λ (ps : Table TrackedPacket). Ascending 0 ps) (sym packets) a) (λ pending timers runs. ascends_losses (with_closing e (ticked e.closing now)) a) expiry;
   polls = λ now is. ascends_polled p e now a;
-  hears = λ now mark d is. ascends_received p e now mark d a;
+  hears = λ arrival d is. ascends_received p e arrival d a;
   tells = λ told. a;
 })

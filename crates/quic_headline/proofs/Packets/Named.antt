@@ -1,9 +1,9 @@
 -- What ACK frames name: an end that takes some waits for no packet more, and where the peer took what they name, each packet that is acknowledged was taken.
 use Rattle.std.proofs.Common.{◌≡◌, ℕ, Bool, true, false, not, List, [], ◌∷◌, filter, cond, Option, Some, None, refl, sym, ap, ◌∙◌, subst, inl, inr, length}
-use Rattle.quic_wire_core.specs.declared.shared.EcnCodepoint.{EcnCodepoint}
 use Rattle.quic_wire.specs.Value.{FrameValue, AckValue, ack, stream, reset_stream, stop_sending, max_data, max_stream_data, max_streams, new_token, handshake_done, datagram}
 use Rattle.quic_send_buffer.specs.declared.stream_meta.StreamMeta.{StreamMeta}
 use Rattle.quic_streams_parts.specs.Table.{Table}
+use Rattle.quic_machine.specs.Arrival.{Arrival}
 use Rattle.quic_machine.specs.Policy.{Policy}
 use Rattle.quic_time.specs.Rtt.{Rtt}
 use Rattle.quic_time.specs.Timers.{Timers}
@@ -77,18 +77,18 @@ frame_fewer e = frame_keeps (WaitsForFewer e) (record {
 })
 
 -- whatever comes adds none
-pub received_fewer : (p : Policy) (e : End) (now : ℕ) (mark : Option EcnCodepoint) (d : List ℕ) → WaitsForFewer e (received p e now mark d).end
-received_fewer p e now mark d = by_received (WaitsForFewer e) (record {
+pub received_fewer : (p : Policy) (e : End) (arrival : Arrival) (d : List ℕ) → WaitsForFewer e (received p e arrival d).end
+received_fewer p e arrival d = by_received (WaitsForFewer e) (record {
   notes = λ n x w. w;
   begins = λ now n x w. w;
   frame = frame_fewer e;
   takes = λ n asks mark x w. w;
   closes = λ reason x w. w;
-}) p e now mark d (λ n t i. i)
+}) p e arrival d (λ n t i. i)
 
 -- so each tracked packet was given still
-pub tracked_received : (p : Policy) (e : End) (now : ℕ) (mark : Option EcnCodepoint) (d : List ℕ) (sents : List Sent) → AreTracked sents e.tracking.packets → AreTracked sents (received p e now mark d).end.tracking.packets
-tracked_received p e now mark d sents before n t i = before n t (received_fewer p e now mark d n t i)
+pub tracked_received : (p : Policy) (e : End) (arrival : Arrival) (d : List ℕ) (sents : List Sent) → AreTracked sents e.tracking.packets → AreTracked sents (received p e arrival d).end.tracking.packets
+tracked_received p e arrival d sents before n t i = before n t (received_fewer p e arrival d n t i)
 
 -- ---- what an ACK frame acknowledges, and what counts as lost
 

@@ -2,12 +2,12 @@
 use Rattle.std.proofs.Common.{◌≡◌, ℕ, Bool, true, false, List, [], ◌∷◌, Option, Some, None, refl, sym, ap, ◌∙◌, subst, arith}
 use Rattle.std.specs.Prelude.{max, nat_le, unwrap_or}
 use Rattle.std.proofs.lemmas.Bool.{leb-false, or_parts}
-use Rattle.quic_wire_core.specs.declared.shared.EcnCodepoint.{EcnCodepoint}
 use Rattle.quic_sets.specs.Runs.{Has}
 use Rattle.quic_wire.specs.Value.{FrameValue, AckValue, ack, datagram}
 use Rattle.quic_recovery_core.specs.PendingAcks.{Pending, after_subtract}
 use Rattle.quic_spaces.specs.Marks.{Counts}
 use Rattle.quic_recovery_core.proofs.AckRunSteps.{above_kept, in_above}
+use Rattle.quic_machine.specs.Arrival.{Arrival}
 use Rattle.quic_machine.specs.declared.run.Call.{Call}
 use Rattle.quic_machine.specs.declared.run.Call.TheVariants as calls
 use Rattle.quic_machine.specs.declared.run.Answer.{Answer}
@@ -270,14 +270,14 @@ stays_frame e (datagram m) x s = message_leaves (Stays e) m x s (λ left. s)
 stays_frame e f x s = s
 
 -- whatever comes leaves them
-pub stays_received : (p : Policy) (e : End) (now : ℕ) (mark : Option EcnCodepoint) (d : List ℕ) → Stays e (received p e now mark d).end
-stays_received p e now mark d = by_received (Stays e) (record {
+pub stays_received : (p : Policy) (e : End) (arrival : Arrival) (d : List ℕ) → Stays e (received p e arrival d).end
+stays_received p e arrival d = by_received (Stays e) (record {
   notes = λ n x s. record { ids = s.ids; generation = s.generation; size = s.size; transport = s.transport; peer = s.peer; filter = s.filter; next = s.next; behind = s.behind };
   begins = λ now n x s. record { ids = s.ids; generation = s.generation; size = s.size; transport = s.transport; peer = s.peer; filter = s.filter; next = s.next; behind = s.behind };
   frame = stays_frame e;
   takes = λ n asks mark x s. record { ids = s.ids; generation = s.generation; size = s.size; transport = s.transport; peer = s.peer; filter = s.filter; next = s.next; behind = s.behind };
   closes = λ reason x s. record { ids = s.ids; generation = s.generation; size = s.size; transport = s.transport; peer = s.peer; filter = s.filter; next = s.next; behind = s.behind };
-}) p e now mark d (stays_same e)
+}) p e arrival d (stays_same e)
 
 -- losses that are detected at a moment leave them
 stays_losses : (e : End) (now : ℕ) (acks : Pending) (timers : Timers) → Stays e (at_losses e now acks timers)
@@ -294,9 +294,9 @@ stays_call p e theirs call a other = by_plain_call p e theirs (Stays e) call a (
   on_messages = λ m. stays_same e;
   pings = stays_same e;
   heard = λ path same. stays_like e e (record e { path = path }) refl same.generation (ap (λ (d : Discovery). d.size) same.discovery) refl refl refl refl (stays_same e);
-  times = λ now acks loss pacing is. by_expired e now (Stays e) (λ pending tracking timers runs packets. stays_like e e (at_timeout e now pending tracking timers) refl refl refl refl refl refl refl (stays_same e)) (λ pending timers runs. stays_losses e now pending timers) acks loss pacing;
+  times = λ now expiry is. by_expired e now (Stays e) (λ pending tracking timers runs packets. stays_like e e (at_timeout e now pending tracking timers) refl refl refl refl refl refl refl (stays_same e)) (λ pending timers runs. stays_losses e now pending timers) expiry;
   polls = λ now is. cc;
-  hears = λ now mark d is. stays_received p e now mark d;
+  hears = λ arrival d is. stays_received p e arrival d;
   tells = λ told. stays_like e e (at_event e told) refl refl refl refl refl refl refl (stays_same e);
 })
 

@@ -465,9 +465,9 @@ leaves_call p e theirs call a apart silent other = by_plain_call p e theirs (Lea
   on_messages = λ m. record { state = refl; clock = refl; numbers = refl; tracking = refl; transport = refl; peer = refl; path = refl; rtt = refl };
   pings = record { state = refl; clock = refl; numbers = refl; tracking = refl; transport = refl; peer = refl; path = refl; rtt = refl };
   heard = λ path is. record { state = refl; clock = refl; numbers = refl; tracking = refl; transport = refl; peer = refl; path = is.generation; rtt = is.rtt };
-  times = λ now acks loss pacing is. cc;
+  times = λ now expiry is. cc;
   polls = λ now is. cc;
-  hears = λ now mark d is. cc;
+  hears = λ arrival d is. cc;
   tells = λ told. record { state = refl; clock = refl; numbers = refl; tracking = refl; transport = refl; peer = refl; path = refl; rtt = refl };
 })
 

@@ -118,10 +118,10 @@ module _ (arrived : ℕ → ℕ → Type 0) (end_arrived : ℕ → Type 0) (k : 
           on_messages = λ on answer. i;
           pings = i;
           heard = λ path same. i;
-          times = λ now acks loss pacing set. by_expired e now (λ (f : End). Settling arrived end_arrived k n w f.streams) (λ pending tracking timers runs packets. i)
-              (λ pending timers runs. expiry_stays (λ (t : Streams). Settling arrived end_arrived k n w t.state) e now (losing e.tracking.packets ends) i pending timers) acks loss pacing;
+          times = λ now expiry set. by_expired e now (λ (f : End). Settling arrived end_arrived k n w f.streams) (λ pending tracking timers runs packets. i)
+              (λ pending timers runs. expiry_stays (λ (t : Streams). Settling arrived end_arrived k n w t.state) e now (losing e.tracking.packets ends) i pending timers) expiry;
           polls = λ now set. cc;
-          hears = λ now mark d set. cc;
+          hears = λ arrival d set. cc;
           tells = λ asks. cc;
         }))
 

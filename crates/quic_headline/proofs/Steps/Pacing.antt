@@ -129,9 +129,9 @@ module _ (o : Option ℕ) where
     on_messages = λ m. i;
     pings = i;
     heard = λ path same. i;
-    times = λ now acks loss pacing is. expired_paces pacing (acks_expired acks (loss_expired loss (with_closing e (ticked e.closing now)))) (acks_pace acks (loss_expired loss (with_closing e (ticked e.closing now))) (lost_paces loss (with_closing e (ticked e.closing now)) i));
+    times = λ now expiry is. expired_paces expiry.pacing (acks_expired expiry.acks (loss_expired expiry.loss (with_closing e (ticked e.closing now)))) (acks_pace expiry.acks (loss_expired expiry.loss (with_closing e (ticked e.closing now))) (lost_paces expiry.loss (with_closing e (ticked e.closing now)) i));
     polls = λ now is. cc;
-    hears = λ now mark d is. by_received (Paces o) receives p e now mark d i;
+    hears = λ arrival d is. by_received (Paces o) receives p e arrival d i;
     tells = λ told. i;
   })
 

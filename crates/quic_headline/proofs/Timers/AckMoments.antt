@@ -20,7 +20,7 @@ use Rattle.quic_machine.specs.End.{End, with_closing, with_ack_timer, with_loss_
 use Rattle.quic_machine.specs.Receive.{asks_in, after_taken, Outcome}
 use Rattle.quic_spaces.specs.Acknowledging.{with_due}
 use Rattle.quic_machine.specs.Poll.{Polled, Draft, lazied, polled, draft_if}
-use Rattle.quic_machine.specs.Timeouts.{loss_judged, acks_expired, loss_expired, pacing_expired}
+use Rattle.quic_machine.specs.Timeouts.{Expiry, loss_judged, acks_expired, loss_expired, pacing_expired}
 use Rattle.quic_machine.specs.Machine.{World, IsAnswer, after_call, fails, gave, end_at}
 use Rattle.quic_machine.specs.CallCases.{is_delivery, by_plain_call}
 use Rattle.quic_machine.specs.LeaveCases.{at_expiry}
@@ -131,8 +131,8 @@ pacing_none : (pacing : Bool) (e : End) → (with_loss_timer (pacing_expired pac
 pacing_none true e = refl
 pacing_none false e = refl
 
-expired_none : (e : End) (now : ℕ) (acks loss pacing : Bool) → SetsNone e (at_expiry e now acks loss pacing)
-expired_none e now acks loss pacing moment set = acks_none e now acks loss moment (sym (pacing_none pacing (acks_expired acks (loss_expired loss (with_closing e (ticked e.closing now))))) ∙ set)
+expired_none : (e : End) (now : ℕ) (expiry : Expiry) → SetsNone e (at_expiry e now expiry)
+expired_none e now expiry moment set = acks_none e now expiry.acks expiry.loss moment (sym (pacing_none expiry.pacing (acks_expired expiry.acks (loss_expired expiry.loss (with_closing e (ticked e.closing now))))) ∙ set)
 
 draft_none : (held : Bool) (e : End) → MayLeave held e → SetsNone e (draft_if held e).end
 draft_none held e alone = by_leave (λ (d : Draft). SetsNone e d.end) (record { ack = λ d filled may i moment set. cc; ping = λ d i. i; drops = λ d kind i. i; control = λ d kind f is i. i; message = λ d m ms is fit i. i; stream = λ d id h room found first some is counts i. i }) held e alone (λ moment set. set)
@@ -160,9 +160,9 @@ call_none p e theirs call a apart = by_plain_call p e theirs (SetsNone e) call a
   on_messages = λ m moment set. set;
   pings = λ moment set. set;
   heard = λ path same moment set. set;
-  times = λ now acks loss pacing is. expired_none e now acks loss pacing;
+  times = λ now expiry is. expired_none e now expiry;
   polls = λ now is. polled_none p e now;
-  hears = λ now mark d is. (let clash : true ≡ false = sym is ∙ apart in cc);
+  hears = λ arrival d is. (let clash : true ≡ false = sym is ∙ apart in cc);
   tells = λ told moment set. set;
 })
 

@@ -18,7 +18,7 @@ use Rattle.quic_machine.specs.End.{End, with_closing, closed_by, with_loss_timer
 use Rattle.quic_machine.specs.Receive.{timers_after}
 use Rattle.quic_spaces.specs.Acknowledging.{with_due}
 use Rattle.quic_machine.specs.Poll.{Polled, Draft, with_ack, lazied, polled, draft_if}
-use Rattle.quic_machine.specs.Timeouts.{loss_judged, acks_expired, loss_expired, pacing_expired}
+use Rattle.quic_machine.specs.Timeouts.{Expiry, loss_judged, acks_expired, loss_expired, pacing_expired}
 use Rattle.quic_machine.specs.Machine.{World, Policies, after_call, Follows}
 use Rattle.quic_headline.specs.Headline.{AckTimerFollows, AckTimersFollow}
 use Rattle.quic_machine.specs.DraftLaws.{by_leave, due_alone}
@@ -107,10 +107,10 @@ pacing_follows : (pacing : Bool) (e : End) → AckTimerFollows e → AckTimerFol
 pacing_follows true e i = i
 pacing_follows false e i = i
 
-expired_follows : (e : End) (now : ℕ) (acks loss pacing : Bool) → AckTimerFollows e → AckTimerFollows (at_expiry e now acks loss pacing)
-expired_follows e now acks loss pacing i =
+expired_follows : (e : End) (now : ℕ) (expiry : Expiry) → AckTimerFollows e → AckTimerFollows (at_expiry e now expiry)
+expired_follows e now expiry i =
     let begun : End = with_closing e (ticked e.closing now) in
-    pacing_follows pacing (acks_expired acks (loss_expired loss begun)) (acks_follow acks loss begun i)
+    pacing_follows expiry.pacing (acks_expired expiry.acks (loss_expired expiry.loss begun)) (acks_follow expiry.acks expiry.loss begun i)
 
 -- what any call leaves
 call_follows : (p : Policy) (e : End) (theirs : List (List ℕ)) (call : Call) (a : Answer) → AckTimerFollows e → AckTimerFollows (after_call p e theirs call a)
@@ -120,9 +120,9 @@ call_follows p e theirs call a i = by_plain_call p e theirs AckTimerFollows call
   on_messages = λ m. i;
   pings = i;
   heard = λ path same. i;
-  times = λ now acks loss pacing is. expired_follows e now acks loss pacing i;
+  times = λ now expiry is. expired_follows e now expiry i;
   polls = λ now is. polled_follows p e now i;
-  hears = λ now mark d is. by_received AckTimerFollows receives p e now mark d i;
+  hears = λ arrival d is. by_received AckTimerFollows receives p e arrival d i;
   tells = λ told. i;
 })
 

@@ -17,6 +17,7 @@ use Rattle.quic_packet.specs.declared.packet.HeaderError.{HeaderError}
 use Rattle.quic_wire.specs.Value.{FrameValue, AckValue}
 use Rattle.quic_wire.specs.Items.{items}
 use Rattle.quic_wire.specs.declared.frame.InvalidFrame.{InvalidFrame}
+use Rattle.quic_machine.specs.Arrival.{Arrival}
 use Rattle.quic_machine.specs.declared.answers.State.{State}
 use Rattle.quic_machine.specs.declared.answers.State.TheVariants as states
 use Rattle.quic_machine.specs.declared.answers.DropReason.TheVariants as drops
@@ -37,7 +38,7 @@ use Rattle.quic_machine.specs.End.{End, with_closing, closed_by, with_numbers, n
 use Rattle.quic_machine.specs.Acked.{verdict, losses_detected, measured, sampled, without_acked, after_named, after_acked, losses_taken}
 use Rattle.quic_machine.specs.Receive.{Fault, violation, reason_of, take_frame, take_items, take_payload, is_empty, asks_in, after_taken, dropped, ends_as, by_state, opened_to, opened_as, opening, headed, received_in, received}
 use Rattle.quic_machine.specs.Poll.{Polled, Draft, packet_of, after_given, record_moved, lazied, draft_if, polled}
-use Rattle.quic_machine.specs.Timeouts.{acks_expired, loss_judged, loss_expired, pacing_expired}
+use Rattle.quic_machine.specs.Timeouts.{Expiry, acks_expired, loss_judged, loss_expired, pacing_expired}
 use Rattle.quic_machine.specs.Control.{Gated}
 use Rattle.quic_machine.specs.Machine.{World, Policies, after_call, Follows}
 use Rattle.quic_machine.specs.LeaveCases.{at_expiry}
@@ -78,40 +79,40 @@ module _ (P Q : End → Type 0) (c : Hears P Q) where
   ends_hear (Some fault) asks n mark e i = c.closes (reason_of fault) e i
 
   -- a packet whose number is new
-  state_hears : (state : State) (o : Opening) (now : ℕ) (mark : Option EcnCodepoint) (e : End) → P e → P (by_state state o now mark (with_numbers e (number_opened e.numbers o.number))).end
-  state_hears states.Open o now mark e i =
-      let taken = take_payload o.first (items o.payload) (begun e now o.number) in
-      ends_hear taken.fault (asks_in (items o.payload)) o.number mark taken.end (payload_hears o.first (items o.payload) (begun e now o.number) (c.begins now o.number e i))
-  state_hears states.Closing o now mark e i = c.notes o.number e i
-  state_hears states.Drained o now mark e i = c.notes o.number e i
-  state_hears states.Failed o now mark e i = c.notes o.number e i
+  state_hears : (state : State) (o : Opening) (arrival : Arrival) (e : End) → P e → P (by_state state o arrival (with_numbers e (number_opened e.numbers o.number))).end
+  state_hears states.Open o arrival e i =
+      let taken = take_payload o.first (items o.payload) (begun e arrival.now o.number) in
+      ends_hear taken.fault (asks_in (items o.payload)) o.number arrival.mark taken.end (payload_hears o.first (items o.payload) (begun e arrival.now o.number) (c.begins arrival.now o.number e i))
+  state_hears states.Closing o arrival e i = c.notes o.number e i
+  state_hears states.Drained o arrival e i = c.notes o.number e i
+  state_hears states.Failed o arrival e i = c.notes o.number e i
 
   -- a packet that opened
-  opened_hears : (o : Opening) (now : ℕ) (mark : Option EcnCodepoint) (e : End) → P e → P (opened_to o now mark e).end
-  opened_hears o now mark e i = go (key_phase o.first) (is_duplicate e.numbers.opened o.number)
+  opened_hears : (o : Opening) (arrival : Arrival) (e : End) → P e → P (opened_to o arrival e).end
+  opened_hears o arrival e i = go (key_phase o.first) (is_duplicate e.numbers.opened o.number)
     where
-      go : (a b : Bool) → P (if a then dropped drops.KeyPhase e else (if b then dropped drops.Duplicate e else by_state e.closing.state o now mark (with_numbers e (number_opened e.numbers o.number)))).end
+      go : (a b : Bool) → P (if a then dropped drops.KeyPhase e else (if b then dropped drops.Duplicate e else by_state e.closing.state o arrival (with_numbers e (number_opened e.numbers o.number)))).end
       go true b = i
       go false true = i
-      go false false = state_hears e.closing.state o now mark e i
+      go false false = state_hears e.closing.state o arrival e i
 
-  packet_hears : (o : Option Opening) (now : ℕ) (mark : Option EcnCodepoint) (e : End) → P e → P (opened_as o now mark e).end
-  packet_hears None now mark e i = i
-  packet_hears (Some o) now mark e i = opened_hears o now mark e i
+  packet_hears : (o : Option Opening) (arrival : Arrival) (e : End) → P e → P (opened_as o arrival e).end
+  packet_hears None arrival e i = i
+  packet_hears (Some o) arrival e i = opened_hears o arrival e i
 
-  headed_hears : (r : Result (List ℕ) HeaderError) (p : Policy) (e : End) (now : ℕ) (mark : Option EcnCodepoint) (d : List ℕ) → P e → P (headed r p e now mark d).end
-  headed_hears (Result.Err error) p e now mark d i = i
-  headed_hears (Result.Ok id) p e now mark d i = packet_hears (opening p e d) now mark e i
+  headed_hears : (r : Result (List ℕ) HeaderError) (p : Policy) (e : End) (arrival : Arrival) (d : List ℕ) → P e → P (headed r p e arrival d).end
+  headed_hears (Result.Err error) p e arrival d i = i
+  headed_hears (Result.Ok id) p e arrival d i = packet_hears (opening p e d) arrival e i
 
-  received_hears : (state : State) (p : Policy) (e : End) (now : ℕ) (mark : Option EcnCodepoint) (d : List ℕ) → P e → P (received_in state p e now mark d).end
-  received_hears states.Failed p e now mark d i = i
-  received_hears states.Drained p e now mark d i = i
-  received_hears states.Open p e now mark d i = headed_hears (decoded (fixed_length_id own_id_length) (known e.ids) d) p e now mark d i
-  received_hears states.Closing p e now mark d i = headed_hears (decoded (fixed_length_id own_id_length) (known e.ids) d) p e now mark d i
+  received_hears : (state : State) (p : Policy) (e : End) (arrival : Arrival) (d : List ℕ) → P e → P (received_in state p e arrival d).end
+  received_hears states.Failed p e arrival d i = i
+  received_hears states.Drained p e arrival d i = i
+  received_hears states.Open p e arrival d i = headed_hears (decoded (fixed_length_id own_id_length) (known e.ids) d) p e arrival d i
+  received_hears states.Closing p e arrival d i = headed_hears (decoded (fixed_length_id own_id_length) (known e.ids) d) p e arrival d i
 
   -- what holds after a datagram
-  pub by_hearing : (p : Policy) (e : End) (now : ℕ) (mark : Option EcnCodepoint) (d : List ℕ) → P e → P (received p e now mark d).end
-  by_hearing p e now mark d i = received_hears e.closing.state p e now mark d i
+  pub by_hearing : (p : Policy) (e : End) (arrival : Arrival) (d : List ℕ) → P e → P (received p e arrival d).end
+  by_hearing p e arrival d i = received_hears e.closing.state p e arrival d i
 
 -- ---- what is tracked
 
@@ -359,8 +360,8 @@ judged_stands e (Some moment) i opened =
     let s = i (ap (λ (c : Closing). c.state) (sym quiet.closing) ∙ opened) in
     subst (λ (n : Numbers). Stands n.next (losses_detected e).tracking) (sym quiet.numbers) (stands_detected e.numbers.next (verdict e) e.tracking s.lies s.asked)
 
-expired_stands : (e : End) (now : ℕ) (acks loss pacing : Bool) → LossStands e → LossStands (at_expiry e now acks loss pacing)
-expired_stands e now acks loss pacing i = after pacing (acks_expired acks (loss_expired loss begun)) (acked acks (loss_expired loss begun) (judged loss))
+expired_stands : (e : End) (now : ℕ) (expiry : Expiry) → LossStands e → LossStands (at_expiry e now expiry)
+expired_stands e now expiry i = after expiry.pacing (acks_expired expiry.acks (loss_expired expiry.loss begun)) (acked expiry.acks (loss_expired expiry.loss begun) (judged expiry.loss))
   where
     begun : End
     begun = with_closing e (ticked e.closing now)
@@ -385,9 +386,9 @@ call_stands p e theirs call a i = by_plain_call p e theirs LossStands call a (re
   on_messages = λ m opened. (let s = i opened in record { stands = s.stands; set = s.set });
   pings = λ opened. (let s = i opened in record { stands = s.stands; set = s.set });
   heard = λ path same opened. (let s = i opened in record { stands = s.stands; set = s.set ∙ ap (λ (r : Rtt). loss_moment (saturated (rtt_timeout r + peer_delay e)) e.tracking) (sym same.rtt) });
-  times = λ now acks loss pacing is. expired_stands e now acks loss pacing i;
+  times = λ now expiry is. expired_stands e now expiry i;
   polls = λ now is. polled_stands p e now i;
-  hears = λ now mark d is. by_hearing LossStands FrameStands hears p e now mark d i;
+  hears = λ arrival d is. by_hearing LossStands FrameStands hears p e arrival d i;
   tells = λ told opened. (let s = i opened in record { stands = s.stands; set = s.set });
 })
 
