@@ -58,25 +58,33 @@ count_crates() {
     END { visit(root); print count }' "$top/crates.txt"
 }
 
-# Passes the toolchain's progress on: which crate it has come to, and what it says of itself. Crates
-# that it kept from an earlier run are left out.
+# Says to which crate the proof has come, of how many at most: crates that an earlier run kept are
+# left out.
+tell_crate() {
+  told=$SECONDS
+  say "crate $at of $all at most, after $((SECONDS - begun)) seconds: $crate"
+}
+
+# Passes the toolchain's progress on as it comes: which crate it has come to, once a minute that it
+# is still there, and what it says of itself.
 tell_progress() {
-  local line crate last='' at=0 all
+  local line crate='' name at=0 all told=$SECONDS
   all=$(count_crates)
-  while read -r line; do
+  while read -t 10 -r line || [ $? -gt 128 ]; do
+    name=$crate
     case $line in
-      'rt: chose --jobs '*) crate=${line##* } ;;
-      'rt: '*)
-        say "${line#rt: }"
-        continue
-        ;;
-      *::*': proved') crate=${line#* } crate=${crate%%::*} ;;
-      *) continue ;;
+      'rt: chose --jobs '*) name=${line##* } ;;
+      'rt: running '*) ;;
+      'rt: '*) say "${line#rt: }" ;;
+      *::*': proved') name=${line#* } name=${name%%::*} ;;
     esac
-    if [ "$crate" != "$last" ]; then
-      last=$crate at=$((at + 1))
-      say "crate $at of $all at most, after $((SECONDS - begun)) seconds: $crate"
+    if [ "$name" != "$crate" ]; then
+      crate=$name at=$((at + 1))
+      tell_crate
+    elif [ -n "$crate" ] && [ $((SECONDS - told)) -ge 60 ]; then
+      tell_crate
     fi
+    line=''
   done
 }
 
@@ -87,7 +95,7 @@ prove() {
   (cd "$top/crates/$program" && rt run < /dev/null) 2>&1 | tee "$work/proving" | tell_progress
   status=${PIPESTATUS[0]}
   if [ "$status" != 0 ]; then
-    grep -v ': proved$' "$work/proving" >&2
+    grep -v -E ': proved$|^rt: chose ' "$work/proving" >&2
     refuse "the program isn't proved (status $status)"
   fi
 }
@@ -121,9 +129,10 @@ explain() {
 }
 
 # Runs the proved build on standard input. Of one that isn't a file ./quic-run keeps a copy as it is
-# read, to explain a bad command; ./quic-peer keeps none, as programs drive it.
+# read, to explain a bad command: what the program reads stands there before. ./quic-peer keeps none,
+# as programs drive it.
 run_kept() {
-  local status
+  local copying status
   if [ -n "$file" ]; then
     "$kept" 2> "$work/said"
     status=$?
@@ -134,9 +143,11 @@ run_kept() {
     file=$work/input
     : > "$file"
     exec 3<&0
-    "$kept" < <(exec tee "$file" <&3) 2> "$work/said"
+    exec 4< <(exec tee /dev/fd/5 <&3 5>&1 > "$file")
+    copying=$!
+    "$kept" <&4 2> "$work/said"
     status=$?
-    kill "$!" 2>/dev/null
+    kill "$copying" 2>/dev/null
   fi
   cat "$work/said" >&2
   explain
@@ -191,7 +202,7 @@ open_input() {
 
 # run_program [--proved] [FILE], run_program --is-proved, run_program --help: what the script does.
 run_program() {
-  local now proved=no file='' work kept=$top/out/$program
+  local now proved=no file='' kept=$top/out/$program
   case ${1-} in
     -h | --help)
       help

@@ -125,7 +125,7 @@ def shown(text):
 def text_of(line):
     """The text of a line, of which the words stand one blank apart."""
     if len(line) > LONGEST:
-        raise Bad(f"it has {len(line)} bytes, and a line has {LONGEST} at most")
+        raise Bad(f"it is too long: a line has {LONGEST} bytes at most")
     if line.endswith(b"\r"):
         raise Bad("it ends in a carriage return, and lines end in a line feed alone")
     try:

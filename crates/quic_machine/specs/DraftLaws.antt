@@ -19,8 +19,7 @@ use Rattle.quic_streams_state.specs.Control as control
 use Rattle.quic_streams_state.specs.Frames as of_streams
 use Rattle.quic_streams_laws.specs.KindLaws.{GoesFirst}
 use Rattle.quic_streams_laws.specs.ControlWalk.{GoesOn, by_control, by_stream_frames}
-use Rattle.quic_recovery_core.specs.PendingAcks.{can_send, is_filled}
-use Rattle.quic_recovery_core.specs.declared.spaces.pending_acks.TheConstants.{LAZY_ACK_THRESHOLD}
+use Rattle.quic_recovery_core.specs.PendingAcks.{lazy_threshold, can_send, is_filled}
 use Rattle.quic_spaces.specs.Numbers.{cut_against}
 use Rattle.quic_machine.specs.End.{End, number_of, with_streams, with_ping}
 use Rattle.quic_machine.specs.Control.{Gated}
@@ -213,7 +212,7 @@ by_leave P w false e due p = by_writing P w e p
 pub due_alone : (g : Gated) → goes g ≡ true → g.held ≡ true → can_send (lazied g.end).acknowledging ≡ true
 due_alone g is held = go g.end.acknowledging.due (is_filled g.end.acknowledging.runs) g.held held is
   where
-    go : (due filled held : Bool) → held ≡ true → (due && filled) || (not held && asks_to_go g.end) ≡ true → (due || nat_lt LAZY_ACK_THRESHOLD g.end.acknowledging.silent) && filled ≡ true
+    go : (due filled held : Bool) → held ≡ true → (due && filled) || (not held && asks_to_go g.end) ≡ true → (due || nat_lt lazy_threshold g.end.acknowledging.silent) && filled ≡ true
     go true true true h is = refl
     go true false true h is = absurd cc
     go false true true h is = absurd cc

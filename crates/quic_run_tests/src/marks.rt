@@ -1,5 +1,5 @@
-//! What a client makes of counts of marks (RFC 9000, section 13.4.2.1), also of those that no honest
-//! peer tells. What a path does to marks is in cases of `quic_run`.
+//! What a client makes of counts of marks (RFC 9000, section 13.4.2.1), also of those that no
+//! honest peer tells. What a path does to marks is in cases of `quic_run`.
 use crate::frames::{End, sealed_under, with_end};
 use quic_connection::{Failed, Instant, Received, TransportConfig};
 use quic_wire_core::{EcnCodepoint, Side};

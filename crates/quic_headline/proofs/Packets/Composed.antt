@@ -13,8 +13,7 @@ use Rattle.quic_wire.proofs.FrameWritten.{stream_form, spelling_form, stream_len
 use Rattle.quic_wire.proofs.AckSet.{set_fits}
 use Rattle.quic_send_buffer.specs.Buffered as buffered
 use Rattle.quic_send_buffer.specs.Buffered.{Buffered, next_start, sent_end, writes_length}
-use Rattle.quic_recovery_core.specs.PendingAcks.{is_filled, delay_of, can_send}
-use Rattle.quic_recovery_core.specs.declared.spaces.pending_acks.TheConstants.{LAZY_ACK_THRESHOLD}
+use Rattle.quic_recovery_core.specs.PendingAcks.{lazy_threshold, is_filled, delay_of, can_send}
 use Rattle.quic_streams_parts.specs.Table.{at}
 use Rattle.quic_streams_parts.specs.SendHalf.{SendHalf, HasFrame, frame_of, frame_counts}
 use Rattle.quic_retransmits.specs.declared.retransmits.ControlKind.{ControlKind}
@@ -52,7 +51,7 @@ pub record IsSpellable (g : Gated) : Type 0 where
 
 -- what waits waits still where an acknowledgement becomes due
 pub waits_lazied : (e : End) → waits e ≡ true → waits (lazied e) ≡ true
-waits_lazied e on = go e.acknowledging.due (nat_lt LAZY_ACK_THRESHOLD e.acknowledging.silent) (is_filled e.acknowledging.runs) on
+waits_lazied e on = go e.acknowledging.due (nat_lt lazy_threshold e.acknowledging.silent) (is_filled e.acknowledging.runs) on
   where
     go : (due lazy filled : Bool) → ((due && filled) || asks_to_go e) ≡ true → (((due || lazy) && filled) || asks_to_go e) ≡ true
     go true lazy filled on = on

@@ -9,13 +9,12 @@ use Rattle.quic_wire_core.specs.Law.{length-shortest, varint_size_le}
 use Rattle.quic_wire.specs.Value.{FrameValue, ack, ping, stream, datagram}
 use Rattle.quic_wire.specs.Writing.{frame_size, width_of}
 use Rattle.quic_recovery_core.specs.PendingAcks.{can_send}
-use Rattle.quic_retransmits.specs.Retransmits.{Retransmits, nothing_waits, first_of}
+use Rattle.quic_retransmits.specs.Retransmits.{Retransmits, nothing_waits, first_of, control_kinds}
 use Rattle.quic_streams_parts.specs.Table.{at}
 use Rattle.quic_streams_parts.specs.Queue.{first_queued}
 use Rattle.quic_streams_parts.specs.SendHalf.{SendHalf, frame_of, frame_counts}
 use Rattle.quic_streams_state.specs.declared.state.StreamsState.{StreamsState}
 use Rattle.quic_retransmits.specs.declared.retransmits.ControlKind.{ControlKind}
-use Rattle.quic_retransmits.specs.declared.retransmits.TheConstants.{CONTROL_KINDS}
 use Rattle.quic_streams_state.specs.State.{Streams, streams_of}
 use Rattle.quic_streams_state.specs.Waiting.{is_empty, can_send_stream_data}
 use Rattle.quic_streams_state.specs.Control.{Entry, reset_frame, reset_entry, waiting, first_dropped, first_sent, first_and_more, with_listed, with_kind}
@@ -204,7 +203,7 @@ first_brings e d room u b =
 
 module _ (K : Streams → Type 0) (k : Spelling K) (c : Bringing K) where
   -- where something waits that counts, an entry is due
-  any_waits : (t : Streams) → K t → is_empty t.pending t.state ≡ false → any_of t.state t.pending CONTROL_KINDS ≡ true
+  any_waits : (t : Streams) → K t → is_empty t.pending t.state ≡ false → any_of t.state t.pending control_kinds ≡ true
   any_waits t i waits =
       let none = c.others t i in
       let some = filled t.pending t.state waits none.0 none.1 none.2 in
@@ -292,7 +291,7 @@ module _ (K : Streams → Type 0) (k : Spelling K) (c : Bringing K) where
   pub control_goes : (d : Draft) → length d.bytes + 25 ≤ frame_room d.end → K (streams_at d.end) → is_empty d.end.waiting.frames d.end.streams ≡ false
       → 0 < length (control.control_frames (frame_room d.end) (length d.bytes) d.end.streams d.end.waiting.frames nothing_waits).frames
   control_goes d room i waits =
-      kinds_go (frame_room d.end) CONTROL_KINDS (control.no_frames (length d.bytes) d.end.streams d.end.waiting.frames nothing_waits) kinds_apart (record { streams = i; room = room }) (any_waits (streams_at d.end) i waits)
+      kinds_go (frame_room d.end) control_kinds (control.no_frames (length d.bytes) d.end.streams d.end.waiting.frames nothing_waits) kinds_apart (record { streams = i; room = room }) (any_waits (streams_at d.end) i waits)
 
   -- where something waits that asks, a frame goes
   asking_goes : (e : End) → 1159 ≤ frame_room e → K (streams_at e) → asks_to_go e ≡ true → HasFrames (with_asking (no_frames e))
