@@ -11,12 +11,12 @@ pub record Arrival : Type 0 where
 
 -- one that comes at this moment, with this mark
 abbrev pub arriving : ℕ → Option EcnCodepoint → Arrival
-arriving arrival = record { now = now; mark = mark }
+arriving moment codepoint = record { now = moment; mark = codepoint }
 
 -- how a delivery comes
 abbrev pub delivered_by : Delivery → Arrival
-delivered_by delivery = arriving (delivered_by delivery)
+delivered_by delivery = arriving delivery.now delivery.ecn
 
 -- how an injection comes
 abbrev pub injected_by : Injection → Arrival
-injected_by injection = arriving (injected_by injection)
+injected_by injection = arriving injection.now injection.ecn

@@ -219,9 +219,9 @@ module _ (p q : Policy) (id : List ℕ) (n reference : ℕ) (frames : List Frame
   at_closing : e.closing.state ≡ states.Closing → P (headed (decoded (fixed_length_id own_id_length) (known e.ids) d) q e arrival d) i
   at_closing state = subst (λ (o : Outcome). P o i) (sym headed_given) (known_closing (is_known id i.ids) state)
 
-  taken_or_refused : e.closing.state ≡ states.Open → is_again n i.opened ≡ false → (f : Option Fault) → (arrived e now n frames).fault ≡ f
-      → P (ends_as f (asks_in (map Ok frames)) n mark (arrived e now n frames).end) (came_by false n frames (answers.Deliver (ends_as f (asks_in (map Ok frames)) n mark (arrived e now n frames).end).answer) i)
-  taken_or_refused state new None is = cases.takes state new is mark
+  taken_or_refused : e.closing.state ≡ states.Open → is_again n i.opened ≡ false → (f : Option Fault) → (arrived e arrival.now n frames).fault ≡ f
+      → P (ends_as f (asks_in (map Ok frames)) n arrival.mark (arrived e arrival.now n frames).end) (came_by false n frames (answers.Deliver (ends_as f (asks_in (map Ok frames)) n arrival.mark (arrived e arrival.now n frames).end).answer) i)
+  taken_or_refused state new None is = cases.takes state new is arrival.mark
   taken_or_refused state new (Some f) is = cases.refuses state new f is
 
   open_tested : (b again : Bool) → e.closing.state ≡ states.Open → e.numbers.opened ≡ seen_after i.opened → is_again n i.opened ≡ again
