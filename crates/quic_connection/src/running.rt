@@ -16,6 +16,7 @@ ghost use Rattle.quic_headline.specs.Messages.{MessagesAtMostOnce};
 ghost use Rattle.quic_headline.specs.InFlight.{TracksInFlight};
 ghost use Rattle.quic_headline.specs.Moments.{LossMoments, LossTimerQuiet, AckMoments};
 ghost use Rattle.quic_headline.specs.Polls.{PollsSendWhatWaits, PollsSendMessages, PacerSetsItsTimer, AskingGoesWhereLet, ProbesPass, WindowIsOfHistory};
+ghost use Rattle.quic_headline.specs.Rest.{DeliveredAtRest, NothingOwedAtRest};
 ghost use Rattle.quic_connection_core.specs.Telling.{windows_of, KeepsKeys};
 ghost use Rattle.quic_connection.specs.Ends.{world_of, first_world, world_left, policies_of, kept, AreOf, GoesOn, GoOn, OnHonest, AtEachPlace};
 ghost use Rattle.quic_connection_core.specs.Drawn.{words_of};
@@ -526,7 +527,11 @@ fn view<H: HeaderKey + Drop, K: PacketKey + Drop, R: Rng + Drop, C: Controller>(
 /// that it gave and that are neither acknowledged, nor lost by number or by time, nor forgotten,
 /// shows its loss timer set to the moment that is due for them and its own round trips, and not set
 /// once all that ask were named, and its timer of acknowledgements to one that is due for a packet
-/// that it took and hasn't acknowledged since.
+/// that it took and hasn't acknowledged since. An end rests where its last call was a poll that gave
+/// nothing, and it is open, its path validated, and none of its timers of losses, of acknowledgements
+/// and of the pacer set: then all that it wrote, on streams that it didn't reset, has arrived, and it
+/// owes no acknowledgement, where the controllers keep their law and their windows hold two datagrams
+/// at first (`HaveRoom`), as those of [`Ends::new`] do.
 ///
 /// At each place, also where memory lacks, and with any keys, an open end of two that were made for
 /// one another has its loss timer set exactly where it tracks a datagram that asks; and one that
@@ -600,6 +605,10 @@ pub fn run<H: HeaderKey + Drop, K: PacketKey + Drop, R: Rng + Drop, C: Controlle
     ensures number_limit { OnHonest H.protection K.aead R.stream (windows_of C.steps C.window_of) ends events.now result NumberLimit }
     ensures taken_or_too_many { OnHonest H.protection K.aead R.stream (windows_of C.steps C.window_of) ends events.now result
         TakenOrTooMany }
+    ensures delivered_at_rest { OnHonest H.protection K.aead R.stream (windows_of C.steps C.window_of) ends events.now result
+        DeliveredAtRest }
+    ensures nothing_owed_at_rest { OnHonest H.protection K.aead R.stream (windows_of C.steps C.window_of) ends events.now result
+        NothingOwedAtRest }
 {
     // What every run of the machine keeps: laws, which do nothing.
     headline::ordered_prefix();
@@ -635,6 +644,8 @@ pub fn run<H: HeaderKey + Drop, K: PacketKey + Drop, R: Rng + Drop, C: Controlle
     headline::too_many_pieces();
     headline::number_limit();
     headline::taken_or_too_many();
+    headline::delivered_at_rest();
+    headline::nothing_owed_at_rest();
     show_codes(events);
     run_events(alloc, ends, events)
 }

@@ -11,3 +11,4 @@ pub mod Grown
 pub mod Messages
 pub mod Held
 pub mod Steps
+pub mod Rest

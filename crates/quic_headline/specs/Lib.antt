@@ -9,3 +9,4 @@ pub mod Moments
 pub mod Grown
 pub mod Messages
 pub mod Polls
+pub mod Rest

@@ -14,6 +14,7 @@ ghost use Rattle.quic_headline.specs.InFlight.{TracksInFlight};
 ghost use Rattle.quic_headline.specs.Causes.{NoBlame, NumberLimit, TooManyPieces, TakenOrTooMany};
 ghost use Rattle.quic_headline.specs.Moments.{LossMoments, LossTimerQuiet, AckMoments};
 ghost use Rattle.quic_headline.specs.Polls.{PollsSendWhatWaits, PollsSendMessages, PacerSetsItsTimer, AskingGoesWhereLet, ProbesPass, WindowIsOfHistory};
+ghost use Rattle.quic_headline.specs.Rest.{DeliveredAtRest, NothingOwedAtRest};
 ghost use Rattle.quic_machine.specs.Start.{AreStarted};
 ghost use Rattle.quic_headline.specs.Headline.{IsHonest, IsRun, OrderedPrefix, Slices, Once, EndAfterAll, BlockedOnlyWithoutBytes, AcceptsAll, FinishedMeansArrived, FinishedIsTold, AcknowledgedWereTaken, NamesWereTaken, OpensExactly, NewestOpens, LossTimersFollow, AckTimersFollow, NumbersRise};
 
@@ -238,4 +239,20 @@ pub fn probes_pass()
 /// shows once it was told what the calls up to there tell (RFC 9002, section 7).
 pub fn window_is_of_history()
     ensures { (r : Run) (end : World) → IsHonest r → IsRun r end → WindowIsOfHistory r }
+{}
+
+/// Where an end rests, each byte that was written on a stream that it didn't reset has arrived, and
+/// so has the end of each such stream that was finished. An end rests where its last call was a poll
+/// that gave nothing, and the view shows it open, its path validated, and the timers of losses, of
+/// acknowledgements and of the pacer not set; the other end may do anything meanwhile. It wants of
+/// the controllers that they keep room for two datagrams (RFC 9002, section 7.2).
+pub fn delivered_at_rest()
+    ensures { (r : Run) (end : World) → IsHonest r → IsRun r end → DeliveredAtRest r }
+{}
+
+/// Where an end rests so, it owes no acknowledgement: of each ack-eliciting packet that it took, an
+/// ACK frame went since, or the peer acknowledged a datagram whose ACK frame has a greatest number
+/// that isn't below it (RFC 9000, sections 13.2.1 and 13.2.4).
+pub fn nothing_owed_at_rest()
+    ensures { (r : Run) (end : World) → IsHonest r → IsRun r end → NothingOwedAtRest r }
 {}

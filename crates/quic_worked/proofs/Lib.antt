@@ -33,3 +33,4 @@ mod HeldRun
 mod LimitedRun
 mod UsedUpRun
 mod MessageRuns
+mod RestedRun

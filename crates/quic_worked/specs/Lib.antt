@@ -17,3 +17,4 @@ pub mod Measured
 pub mod Probed
 pub mod Messages
 pub mod Held
+pub mod Rested

@@ -18,5 +18,6 @@ pub mod picked;
 pub mod probed;
 pub mod raised;
 pub mod reordered;
+pub mod rested;
 pub mod timed;
 pub mod worked;

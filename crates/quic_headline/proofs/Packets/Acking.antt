@@ -55,7 +55,7 @@ wait_runs true p now is = rw is refl
 wait_runs false p now is = rw is refl
 
 -- a packet that came changes when an acknowledgement is due, and no number
-packet_runs : (p : Pending) (now n : ℕ) (asking : Bool) (seen : Seen) → (after_packet p now n asking seen).runs ≡ p.runs
+pub packet_runs : (p : Pending) (now n : ℕ) (asking : Bool) (seen : Seen) → (after_packet p now n asking seen).runs ≡ p.runs
 packet_runs p now n true seen = wait_runs (starts_wait (asking_counted p n seen)) (asking_counted p n seen) now refl
 packet_runs p now n false seen = refl
 
@@ -118,7 +118,7 @@ taken_arrivals e now n frames i acks before = record {
 -- ---- a poll
 
 -- an end that has the numbers and the marks of another to tell
-abbrev TellsAs : End → End → Type 0
+abbrev pub TellsAs : End → End → Type 0
 TellsAs e f = (f.acknowledging.runs ≡ e.acknowledging.runs) × (f.marks.came ≡ e.marks.came)
 
 -- whichever frames go, they stay: an ACK that tells them may be lost
@@ -140,7 +140,7 @@ polled_runs p e now = by_poll p e now (λ (q : Polled). TellsAs e q.end) (record
 -- ---- any call
 
 -- a call that is no delivery leaves them, though losses are detected
-runs_step : (q : Policy) (e : End) (theirs : List (List ℕ)) (call : Call) (a : Answer) → is_delivery call ≡ false → TellsAs e (after_call q e theirs call a)
+pub runs_step : (q : Policy) (e : End) (theirs : List (List ℕ)) (call : Call) (a : Answer) → is_delivery call ≡ false → TellsAs e (after_call q e theirs call a)
 runs_step q e theirs call a other = by_plain_call q e theirs (TellsAs e) call a (record {
   same = (refl, refl);
   on_streams = λ t. (refl, refl);

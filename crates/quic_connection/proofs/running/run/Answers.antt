@@ -234,3 +234,17 @@ returns-clause-taken_or_too_many g c =
     let keys : Policies = policies_of g.H.HeaderKey.protection g.K.PacketKey.aead g.R.Rng.stream c.args.ends in
     let r : Run = run_of keys (windows_of g.C.Controller.steps g.C.Controller.window_of) c.args.ends c.args.events.now o.answers.items o.views.items o.given in
     λ honest. c.taken_or_too_many.ensures r (world_of (windows_of g.C.Controller.steps g.C.Controller.window_of) o.ends o.given) honest (record { codes = c.show_codes.ensures; follows = c.run_events.ensures.follows; from_client = refl; from_server = refl })
+
+pub returns-clause-delivered_at_rest : goal.returns-clause-delivered_at_rest
+returns-clause-delivered_at_rest g c =
+    let o = c.run_events.result in
+    let keys : Policies = policies_of g.H.HeaderKey.protection g.K.PacketKey.aead g.R.Rng.stream c.args.ends in
+    let r : Run = run_of keys (windows_of g.C.Controller.steps g.C.Controller.window_of) c.args.ends c.args.events.now o.answers.items o.views.items o.given in
+    λ honest. c.delivered_at_rest.ensures r (world_of (windows_of g.C.Controller.steps g.C.Controller.window_of) o.ends o.given) honest (record { codes = c.show_codes.ensures; follows = c.run_events.ensures.follows; from_client = refl; from_server = refl })
+
+pub returns-clause-nothing_owed_at_rest : goal.returns-clause-nothing_owed_at_rest
+returns-clause-nothing_owed_at_rest g c =
+    let o = c.run_events.result in
+    let keys : Policies = policies_of g.H.HeaderKey.protection g.K.PacketKey.aead g.R.Rng.stream c.args.ends in
+    let r : Run = run_of keys (windows_of g.C.Controller.steps g.C.Controller.window_of) c.args.ends c.args.events.now o.answers.items o.views.items o.given in
+    λ honest. c.nothing_owed_at_rest.ensures r (world_of (windows_of g.C.Controller.steps g.C.Controller.window_of) o.ends o.given) honest (record { codes = c.show_codes.ensures; follows = c.run_events.ensures.follows; from_client = refl; from_server = refl })
