@@ -17,6 +17,10 @@ ghost use Rattle.quic_headline.specs.InFlight.{TracksInFlight};
 ghost use Rattle.quic_headline.specs.Moments.{LossMoments, LossTimerQuiet, AckMoments};
 ghost use Rattle.quic_headline.specs.Polls.{PollsSendWhatWaits, PollsSendMessages, PacerSetsItsTimer, AskingGoesWhereLet, ProbesPass, WindowIsOfHistory};
 ghost use Rattle.quic_headline.specs.Rest.{DeliveredAtRest, NothingOwedAtRest};
+ghost use Rattle.quic_headline.specs.Resets.{ResetsAreTold};
+ghost use Rattle.quic_headline.specs.Ids.{IdsAreNew, AcceptedWereOpened};
+ghost use Rattle.quic_headline.specs.Reasons.{ClosedHasAReason};
+ghost use Rattle.quic_headline.specs.Views.{ViewsTell};
 ghost use Rattle.quic_connection_core.specs.Telling.{windows_of, KeepsKeys};
 ghost use Rattle.quic_connection.specs.Ends.{world_of, first_world, world_left, policies_of, kept, AreOf, GoesOn, GoOn, OnHonest, AtEachPlace};
 ghost use Rattle.quic_connection_core.specs.Drawn.{words_of};
@@ -533,6 +537,10 @@ fn view<H: HeaderKey + Drop, K: PacketKey + Drop, R: Rng + Drop, C: Controller>(
 /// owes no acknowledgement, where the controllers keep their law and their windows hold two datagrams
 /// at first (`HaveRoom`), as those of [`Ends::new`] do.
 ///
+/// Nor is a stream opened or accepted twice, or accepted where no frame opened it; a reset is told
+/// only with the code that the other end's application gave; each view shows why an end isn't open,
+/// unless it failed; and what is answered of timers is what views show of them.
+///
 /// At each place, also where memory lacks, and with any keys, an open end of two that were made for
 /// one another has its loss timer set exactly where it tracks a datagram that asks; and one that
 /// began so has its timer of acknowledgements set only where a packet that asks came since the last
@@ -557,6 +565,11 @@ pub fn run<H: HeaderKey + Drop, K: PacketKey + Drop, R: Rng + Drop, C: Controlle
         result
         BlockedOnlyWithoutBytes }
     ensures accepts_all { OnHonest H.protection K.aead R.stream (windows_of C.steps C.window_of) ends events.now result AcceptsAll }
+    ensures ids_are_new { OnHonest H.protection K.aead R.stream (windows_of C.steps C.window_of) ends events.now result IdsAreNew }
+    ensures accepted_were_opened { OnHonest H.protection K.aead R.stream (windows_of C.steps C.window_of) ends events.now result
+        AcceptedWereOpened }
+    ensures resets_are_told { OnHonest H.protection K.aead R.stream (windows_of C.steps C.window_of) ends events.now result
+        ResetsAreTold }
     ensures finished_means_arrived { OnHonest H.protection K.aead R.stream (windows_of C.steps C.window_of) ends events.now result
         FinishedMeansArrived }
     ensures finished_is_told { OnHonest H.protection K.aead R.stream (windows_of C.steps C.window_of) ends events.now result
@@ -594,12 +607,15 @@ pub fn run<H: HeaderKey + Drop, K: PacketKey + Drop, R: Rng + Drop, C: Controlle
     ensures newest_opens { OnHonest H.protection K.aead R.stream (windows_of C.steps C.window_of) ends events.now result NewestOpens }
     ensures loss_timer_quiet { OnHonest H.protection K.aead R.stream (windows_of C.steps C.window_of) ends events.now result
         LossTimerQuiet }
+    ensures views_tell { OnHonest H.protection K.aead R.stream (windows_of C.steps C.window_of) ends events.now result ViewsTell }
     ensures loss_timers_follow { AtEachPlace H.protection K.aead R.stream (windows_of C.steps C.window_of) ends events.now result
         AreStarted LossTimersFollow }
     ensures ack_timers_follow { AtEachPlace H.protection K.aead R.stream (windows_of C.steps C.window_of) ends events.now result
         AckTimersFollow AckTimersFollow }
     ensures numbers_rise { OnHonest H.protection K.aead R.stream (windows_of C.steps C.window_of) ends events.now result NumbersRise }
     ensures no_blame { OnHonest H.protection K.aead R.stream (windows_of C.steps C.window_of) ends events.now result NoBlame }
+    ensures closed_has_a_reason { OnHonest H.protection K.aead R.stream (windows_of C.steps C.window_of) ends events.now result
+        ClosedHasAReason }
     ensures too_many_pieces { OnHonest H.protection K.aead R.stream (windows_of C.steps C.window_of) ends events.now result
         TooManyPieces }
     ensures number_limit { OnHonest H.protection K.aead R.stream (windows_of C.steps C.window_of) ends events.now result NumberLimit }
@@ -617,6 +633,9 @@ pub fn run<H: HeaderKey + Drop, K: PacketKey + Drop, R: Rng + Drop, C: Controlle
     headline::end_after_all();
     headline::blocked_only_without_bytes();
     headline::accepts_all();
+    headline::ids_are_new();
+    headline::accepted_were_opened();
+    headline::resets_are_told();
     headline::finished_means_arrived();
     headline::finished_is_told();
     headline::duties_stand();
@@ -637,10 +656,12 @@ pub fn run<H: HeaderKey + Drop, K: PacketKey + Drop, R: Rng + Drop, C: Controlle
     headline::opens_exactly();
     headline::newest_opens();
     headline::loss_timer_quiet();
+    headline::views_tell();
     headline::loss_timers_follow();
     headline::ack_timers_follow();
     headline::numbers_rise();
     headline::no_blame();
+    headline::closed_has_a_reason();
     headline::too_many_pieces();
     headline::number_limit();
     headline::taken_or_too_many();

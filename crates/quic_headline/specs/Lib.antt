@@ -10,3 +10,7 @@ pub mod Grown
 pub mod Messages
 pub mod Polls
 pub mod Rest
+pub mod Resets
+pub mod Ids
+pub mod Reasons
+pub mod Views

@@ -15,6 +15,10 @@ ghost use Rattle.quic_headline.specs.Causes.{NoBlame, NumberLimit, TooManyPieces
 ghost use Rattle.quic_headline.specs.Moments.{LossMoments, LossTimerQuiet, AckMoments};
 ghost use Rattle.quic_headline.specs.Polls.{PollsSendWhatWaits, PollsSendMessages, PacerSetsItsTimer, AskingGoesWhereLet, ProbesPass, WindowIsOfHistory};
 ghost use Rattle.quic_headline.specs.Rest.{DeliveredAtRest, NothingOwedAtRest};
+ghost use Rattle.quic_headline.specs.Resets.{ResetsAreTold};
+ghost use Rattle.quic_headline.specs.Ids.{IdsAreNew, AcceptedWereOpened};
+ghost use Rattle.quic_headline.specs.Reasons.{ClosedHasAReason};
+ghost use Rattle.quic_headline.specs.Views.{ViewsTell};
 ghost use Rattle.quic_machine.specs.Start.{AreStarted};
 ghost use Rattle.quic_headline.specs.Headline.{IsHonest, IsRun, OrderedPrefix, Slices, Once, EndAfterAll, BlockedOnlyWithoutBytes, AcceptsAll, FinishedMeansArrived, FinishedIsTold, AcknowledgedWereTaken, NamesWereTaken, OpensExactly, NewestOpens, LossTimersFollow, AckTimersFollow, NumbersRise};
 
@@ -49,6 +53,24 @@ pub fn blocked_only_without_bytes()
 /// was accepted.
 pub fn accepts_all()
     ensures { (r : Run) (end : World) → IsHonest r → IsRun r end → AcceptsAll r }
+{}
+
+/// A stream that a call opens or accepts at an end, no call before opened or accepted there
+/// (RFC 9000, section 2.1).
+pub fn ids_are_new()
+    ensures { (r : Run) (end : World) → IsHonest r → IsRun r end → IdsAreNew r }
+{}
+
+/// A stream is accepted only where a frame that came opened it, or one of its kind above it: in a
+/// packet that was taken, or in the one at which the end closed (RFC 9000, sections 2.1 and 3.2).
+pub fn accepted_were_opened()
+    ensures { (r : Run) (end : World) → IsHonest r → IsRun r end → AcceptedWereOpened r }
+{}
+
+/// A read tells a reset, and so does a call that asks for one, only of a stream that the other end's
+/// application reset before, and with the code that it gave (RFC 9000, sections 3.2 and 19.4).
+pub fn resets_are_told()
+    ensures { (r : Run) (end : World) → IsHonest r → IsRun r end → ResetsAreTold r }
 {}
 
 /// Each message is received at one end at most as often as the other sent it, and whole (RFC 9221,
@@ -86,11 +108,23 @@ pub fn no_blame()
     ensures { (r : Run) (end : World) → IsHonest r → IsRun r end → NoBlame r }
 {}
 
+/// A view shows a reason of an end that closes or is drained, and none of one that is open or failed
+/// (RFC 9000, section 10), also where memory lacks.
+pub fn closed_has_a_reason()
+    ensures { (r : Run) (end : World) → IsHonest r → IsRun r end → ClosedHasAReason r }
+{}
+
 /// A packet of the other end that comes to an open end under a number that is no duplicate is taken
 /// whole, and answered so; or it comes to too many pieces of a stream, as above, and is answered
 /// INTERNAL_ERROR. So it is the rules of receiving that say which packets an end takes.
 pub fn taken_or_too_many()
     ensures { (r : Run) (end : World) → IsHonest r → IsRun r end → TakenOrTooMany r }
+{}
+
+/// A call that asks when a timer expires is answered what the view behind it shows of that timer, and
+/// one that asks for the next timeout the earliest moment that it shows, also where memory lacks.
+pub fn views_tell()
+    ensures { (r : Run) (end : World) → IsHonest r → IsRun r end → ViewsTell r }
 {}
 
 /// At an open end the loss timer is set exactly while a datagram that asks is waited for (RFC 9002,

@@ -32,5 +32,7 @@ mod ProbedRun
 mod HeldRun
 mod LimitedRun
 mod UsedUpRun
+mod SilentEnd
+mod AskedTimers
 mod MessageRuns
 mod RestedRun
