@@ -10,14 +10,14 @@ use std::time::CpuClock;
 const BATCH: u64 = 2;
 
 /// Both ends of a connection at rest, without the lanes between them.
-fn at_rest(alloc: Global, limits: Limits) -> Result<Box<BothEnds>, Fault> {
+fn at_rest(alloc: Global, limits: &Limits) -> Result<Box<BothEnds>, Fault> {
     let mut pair = Pair::new(alloc, limits, BATCH)?;
     pair.settle()?;
     Ok(pair.ends)
 }
 
 /// So many connections at rest.
-fn all_at_rest(alloc: Global, limits: Limits, count: u64) -> Result<Vec<Box<BothEnds>>, Fault> {
+fn all_at_rest(alloc: Global, limits: &Limits, count: u64) -> Result<Vec<Box<BothEnds>>, Fault> {
     let mut kept = Vec::new(alloc);
     for _ in 0..count {
         if kept.push(at_rest(alloc, limits)?).is_err() {
@@ -35,6 +35,6 @@ pub fn run<R: Clock + CpuClock + AllocGlobal>(
 ) -> Result<Figures, Fault> {
     pair.begin();
     let watch = Watch::start(rt)?;
-    let kept = all_at_rest(rt.alloc(), pair.limits, count)?;
+    let kept = all_at_rest(rt.alloc(), &pair.limits, count)?;
     pair.figures(rt, &watch, kept.len() as u64, 0)
 }

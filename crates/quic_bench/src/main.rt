@@ -135,7 +135,7 @@ fn work<R: Runtime + CpuClock + AllocGlobal>(
 /// Does a task, and prints its figures.
 fn perform<R: Runtime + CpuClock + AllocGlobal>(rt: &R, form: Form, task: &Task) -> Result<()> {
     let limits = task.limits()?;
-    let mut pair = Pair::new(rt.alloc(), limits, task.network.batch)?;
+    let mut pair = Pair::new(rt.alloc(), &limits, task.network.batch)?;
     repeat(rt, form, &mut pair, task)
 }
 

@@ -39,13 +39,23 @@ pub struct Network {
 }
 
 /// What each end lets the other do.
-#[derive(Clone, Copy)]
+#[derive(Drop)]
 pub struct Limits {
     /// How many streams of each kind the peer may have open at once.
     pub streams: VarInt,
     /// How many bytes the peer may send on a stream before any is read. Eight times as many may be
     /// written that aren't acknowledged.
     pub window: VarInt,
+}
+
+impl Limits {
+    /// The same limits.
+    fn copied(&self) -> Self {
+        Limits {
+            streams: self.streams,
+            window: self.window,
+        }
+    }
 }
 
 /// What the applications of both ends do.
@@ -112,7 +122,7 @@ fn id_of(side: Side) -> ConnectionId {
 }
 
 /// The settings of an end. Datagrams keep the size of the lanes.
-fn transport(limits: Limits) -> TransportConfig {
+fn transport(limits: &Limits) -> TransportConfig {
     let mut transport = TransportConfig::default();
     transport.initial_mtu(LANE_MTU);
     transport.min_mtu(LANE_MTU);
@@ -125,7 +135,7 @@ fn transport(limits: Limits) -> TransportConfig {
 }
 
 /// What an end with these limits is made of.
-fn making(side: Side, limits: Limits) -> Making<NewRenoConfig, PlainHeaderKey, PlainKey, Words> {
+fn making(side: Side, limits: &Limits) -> Making<NewRenoConfig, PlainHeaderKey, PlainKey, Words> {
     Making {
         config: Config::new(transport(limits), NewRenoConfig::default()),
         id: id_of(side),
@@ -136,7 +146,7 @@ fn making(side: Side, limits: Limits) -> Making<NewRenoConfig, PlainHeaderKey, P
 }
 
 /// Two ends at the moment 0.
-fn new_ends(alloc: Global, limits: Limits) -> Result<BothEnds, ConfigError> {
+fn new_ends(alloc: Global, limits: &Limits) -> Result<BothEnds, ConfigError> {
     let now = Instant::from_nanos(0);
     let client = making(Side::Client, limits);
     let server = making(Side::Server, limits);
@@ -150,13 +160,13 @@ fn boxed(alloc: Global, ends: BothEnds) -> Result<Box<BothEnds>, AllocError> {
 
 impl Pair {
     /// Two ends at the moment 0, which take so many datagrams before they may send.
-    pub fn new(alloc: Global, limits: Limits, batch: u64) -> Result<Self, Fault> {
+    pub fn new(alloc: Global, limits: &Limits, batch: u64) -> Result<Self, Fault> {
         let ends = boxed(alloc, new_ends(alloc, limits)?)?;
         Ok(Pair {
             ends,
             up: Lane::new(alloc),
             down: Lane::new(alloc),
-            limits,
+            limits: limits.copied(),
             batch,
             now: 0,
             start: 0,

@@ -129,7 +129,7 @@ pub fn run<R: Clock + CpuClock + AllocGlobal>(
 }
 
 /// So many streams that are to be opened and to stay open.
-fn idle(count: u64) -> Idle {
+fn to_hold(count: u64) -> Idle {
     Idle {
         count,
         opened: 0,
@@ -143,7 +143,7 @@ pub fn hold_open(pair: &mut Pair, count: u64) -> Result<(), Fault> {
     if count == 0 {
         return Ok(());
     }
-    pair.run(&mut idle(count))
+    pair.run(&mut to_hold(count))
 }
 
 /// So many streams are opened, have a byte each, and stay open.
@@ -152,5 +152,5 @@ pub fn run_idle<R: Clock + CpuClock>(
     pair: &mut Pair,
     count: u64,
 ) -> Result<Figures, Fault> {
-    pair.measure(rt, &mut idle(count))
+    pair.measure(rt, &mut to_hold(count))
 }

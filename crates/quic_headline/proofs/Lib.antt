@@ -12,3 +12,4 @@ pub mod Messages
 pub mod Held
 pub mod Steps
 pub mod Rest
+pub mod Isolated

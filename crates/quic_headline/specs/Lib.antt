@@ -14,3 +14,4 @@ pub mod Resets
 pub mod Ids
 pub mod Reasons
 pub mod Views
+pub mod Isolated

@@ -13,6 +13,7 @@ ghost use Rattle.quic_headline.specs.Messages.{MessagesAtMostOnce};
 ghost use Rattle.quic_headline.specs.InFlight.{TracksInFlight};
 ghost use Rattle.quic_headline.specs.Causes.{NoBlame, NumberLimit, TooManyPieces, TakenOrTooMany};
 ghost use Rattle.quic_headline.specs.Moments.{LossMoments, LossTimerQuiet, AckMoments};
+ghost use Rattle.quic_headline.specs.Isolated.{Isolated, IsolatedByAnswers, IsolatedByLists};
 ghost use Rattle.quic_headline.specs.Polls.{PollsSendWhatWaits, PollsSendMessages, PacerSetsItsTimer, AskingGoesWhereLet, ProbesPass, WindowIsOfHistory};
 ghost use Rattle.quic_headline.specs.Rest.{DeliveredAtRest, NothingOwedAtRest};
 ghost use Rattle.quic_headline.specs.Resets.{ResetsAreTold};
@@ -289,4 +290,26 @@ pub fn delivered_at_rest()
 /// that isn't below it (RFC 9000, sections 13.2.1 and 13.2.4).
 pub fn nothing_owed_at_rest()
     ensures { (r : Run) (end : World) → IsHonest r → IsRun r end → NothingOwedAtRest r }
+{}
+
+/// A run less any choice of its idle events, which are injections and deliveries that their end
+/// dropped while it wasn't closing, is a run again: the calls that stay are answered as they were,
+/// the views behind them are the same, both ends gave the same datagrams, and the same ends are
+/// left. So datagrams that don't open, and repeated ones, change nothing (RFC 9000, sections 5.2,
+/// 12.2 and 12.3). It wants no premise, and holds where memory lacks too.
+pub fn isolated()
+    ensures { (r : Run) (end : World) → IsRun r end → Isolated r end }
+{}
+
+/// So it is of all injections, and all deliveries that were dropped since they didn't open, for
+/// their header, the key or the key phase, or came before.
+pub fn isolated_by_answers()
+    ensures { (r : Run) (end : World) → IsRun r end → IsolatedByAnswers r end }
+{}
+
+/// So it is of all injections, and all deliveries of datagrams that by the run's lists don't open at
+/// their end, or came before: in each run of two ends that were made for one another, whatever
+/// their keys, at each place up to which memory served.
+pub fn isolated_by_lists()
+    ensures { (r : Run) (end : World) → AreStarted r.start → IsRun r end → IsolatedByLists r }
 {}

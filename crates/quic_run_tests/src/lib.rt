@@ -12,6 +12,8 @@ mod config;
 #[cfg(test)]
 mod ends;
 #[cfg(test)]
+mod erasing;
+#[cfg(test)]
 mod frames;
 #[cfg(test)]
 mod lacking;

@@ -28,7 +28,7 @@ use Rattle.quic_worked.proofs.WorkedRun.{parameters_say, opens as opens_first, w
 
 -- ---- the premises
 
-held_started : AreStarted held_start
+pub held_started : AreStarted held_start
 held_started = record {
   client_making = record (making client_id) { windows = narrow_windows };
   server_making = record (making server_id) { windows = narrow_windows };
@@ -49,15 +49,15 @@ held_is_honest = record { start = held_started; keys = are_keys; ids = own_ids h
 
 -- ---- the machine's run
 
-opens : IsStep worked_policies held_start opens_stream (answers.Open (Some 0)) (once_held 1)
+pub opens : IsStep worked_policies held_start opens_stream (answers.Open (Some 0)) (once_held 1)
 unfolding once_held
 opens = record { answer = refl; end = refl; control = refl; others = refl; lacking = tt }
 
-writes : IsStep worked_policies (once_held 1) (writes_bytes (replicate 4000 0x61)) (answers.Write (Ok 4000)) (once_held 2)
+pub writes : IsStep worked_policies (once_held 1) (writes_bytes (replicate 4000 0x61)) (answers.Write (Ok 4000)) (once_held 2)
 unfolding once_held
 writes = record { answer = inl refl; end = refl; control = refl; others = refl; lacking = λ lacks. cc }
 
-gives : IsStep worked_policies (once_held 2) (asks_at Client 0) (gives_bytes 1200) (once_held 3)
+pub gives : IsStep worked_policies (once_held 2) (asks_at Client 0) (gives_bytes 1200) (once_held 3)
 unfolding once_held
 gives = record { answer = inl refl; end = refl; control = refl; others = refl; lacking = tt }
 
@@ -81,15 +81,15 @@ holds_again : IsStep worked_policies (once_held 7) (asks_at Client 1024000000) g
 unfolding once_held
 holds_again = record { answer = inl refl; end = refl; control = refl; others = refl; lacking = tt }
 
-unset_seen : held_view (view_with None None) ≡ view_of (once_held 1)
+pub unset_seen : held_view (view_with None None) ≡ view_of (once_held 1)
 unfolding once_held
 unset_seen = refl
 
-written_seen : held_view (view_with None None) ≡ view_of (once_held 2)
+pub written_seen : held_view (view_with None None) ≡ view_of (once_held 2)
 unfolding once_held
 written_seen = refl
 
-given_seen : full_view ≡ view_of (once_held 3)
+pub given_seen : full_view ≡ view_of (once_held 3)
 unfolding once_held
 given_seen = refl
 

@@ -66,7 +66,7 @@ both_sent = record { client = sent_view; server = sent_view }
 abbrev one_heard : View
 one_heard = record { client = waiting_view; server = sent_view }
 
-opens : IsStep worked_policies limited_start opens_stream (answers.Open (Some 0)) limited_opened
+pub opens : IsStep worked_policies limited_start opens_stream (answers.Open (Some 0)) limited_opened
 opens = record { answer = refl; end = refl; control = refl; others = refl; lacking = tt }
 
 opens_both : IsStep worked_policies limited_opened opens_stream (answers.Open (Some 4)) limited_both

@@ -122,7 +122,7 @@ client_rests = record { answer = inl refl; end = refl; control = refl; others = 
 
 server_rests : IsStep worked_policies (once_rested 9) (asks_at Server 40000000) gives_nothing (once_rested 10)
 unfolding once_rested
-server_rests = record { answer = inl refl; end = refl; control = refl; others = refl; lacking = tt }
+server_rests = record { answer = inl refl; end = refl; control = still_roomy; others = refl; lacking = tt }
 
 opened_seen : still_view ≡ view_of (once_rested 1)
 unfolding once_rested

@@ -18,3 +18,6 @@ pub mod Probed
 pub mod Messages
 pub mod Held
 pub mod Rested
+pub mod Isolated
+pub mod Paced
+pub mod Faults

@@ -1,7 +1,7 @@
 -- A run in which both ends come to rest: the client's datagram with a whole stream comes to the server, which acknowledges it once 25 ms have passed; the client
 -- takes the acknowledgement, and neither has anything left to give. And runs of machines that come to rest too early, or not at all. The controllers show a window
 -- that holds two datagrams of whichever size.
-use Rattle.std.specs.Prelude.{ℕ, List, [], ◌∷◌, ◌++◌, replicate, take, Option, Some, None, Ok}
+use Rattle.std.specs.Prelude.{ℕ, true, List, [], ◌∷◌, ◌++◌, replicate, take, Option, Some, None, Ok}
 use Rattle.quic_wire_core.specs.declared.stream_id.Side.TheVariants.{Client, Server}
 use Rattle.quic_wire.specs.Value.{stream}
 use Rattle.quic_congestion.specs.Congestion.{Told}

@@ -57,8 +57,8 @@ pub fn used_up_numbers_close()
     ensures numbers { NumberLimit last_run }
 {}
 
-/// In that run the view shows why the client closed. A client that is drained at its first poll, and
-/// shows no reason, is none of the machine's.
+/// In that run the view shows why the client closed. A client that is drained at its first poll,
+/// and shows no reason, is none of the machine's.
 pub fn silent_end_shows()
     ensures meets { ClosedHasAReason last_run }
     ensures reasons { ClosedHasAReason drains_silently → ⊥ }

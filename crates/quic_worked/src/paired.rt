@@ -54,8 +54,8 @@ pub fn reset_stream_is_told()
         → IsNoRun (told_of_reset read) }
 {}
 
-/// The client opens each of its streams once, and the server accepts each once. A machine that opens
-/// one twice is wrong, and so is one that accepts one twice.
+/// The client opens each of its streams once, and the server accepts each once. A machine that
+/// opens one twice is wrong, and so is one that accepts one twice.
 pub fn ids_are_given_once()
     ensures right { (read : ReadCall) → ReadsSecond second_bounds read → IdsAreNew (paired_run read) }
     ensures opened { (read : ReadCall) → IdsAreNew (opened_twice read) → ⊥ }

@@ -1,5 +1,5 @@
-//! A run in which both ends come to rest, computed, and runs of machines that rest too early, or not
-//! at all. Each function does nothing: its contract is the law.
+//! A run in which both ends come to rest, computed, and runs of machines that rest too early, or
+//! not at all. Each function does nothing: its contract is the law.
 ghost use Rattle.std.specs.Prelude.{◌≡◌, [], ◌∷◌};
 ghost use Rattle.quic_wire_core.specs.declared.stream_id.Side.TheVariants.{Client, Server};
 ghost use Rattle.quic_headline.specs.Runs.{HasArrived, EndHasArrived};
@@ -51,8 +51,8 @@ pub fn unanswered_rest_shows()
 {}
 
 /// A client whose loss timer stays set once all that it gave was acknowledged, and one that shows
-/// the timer of its pacer set and gives nothing, don't rest. The machine's loss timer stops, and its
-/// pacer lets the datagram go.
+/// the timer of its pacer set and gives nothing, don't rest. The machine's loss timer stops, and
+/// its pacer lets the datagram go.
 pub fn restless_shows()
     ensures quiet { LossTimerQuiet timed_on → ⊥ }
     ensures timed { Rests timed_on Client 10 → ⊥ }

@@ -7,6 +7,7 @@ ghost use Rattle.quic_time.specs.Timers.{no_timers};
 ghost use Rattle.quic_wire.specs.FrameView.{frame_view, item_view};
 ghost use Rattle.quic_machine.specs.End.{with_end, policy_of, closed_by, HasFailed};
 ghost use Rattle.quic_machine.specs.Opens.{own_id_length, would_open};
+ghost use Rattle.quic_machine.specs.Arrival.{arriving};
 ghost use Rattle.quic_machine.specs.Receive.{is_above, names_ungiven, received, opened_to, processed, fault_of_breach, plain_error, take_ack, take_frame, take_item, take_items, take_payload, told_received, told_opened, told_processed, told_payload, told_items, told_item, told_ack, item_asks, asks_in, opening, error_of, reason_of, drop_of, violation};
 ghost use Rattle.quic_connection_core.specs.Drawn.{words_of};
 ghost use Rattle.quic_connection_core.specs.Telling.{telling, KeepsKeys};

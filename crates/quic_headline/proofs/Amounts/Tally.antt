@@ -241,7 +241,8 @@ module _ (t : Tally) where
     lost = lost_tallies;
     again = λ carried e i. i;
     tracked = λ u e i. i;
-    measured = λ r first e i. i; marked = λ m marking e i. i;
+    measured = λ r first e i. i;
+    marked = λ m marking e i. i;
   }
 
 -- ---- where as much is told

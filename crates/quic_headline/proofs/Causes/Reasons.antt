@@ -15,7 +15,7 @@ use Rattle.quic_machine.specs.Closing.{ticked}
 use Rattle.quic_machine.specs.End.{End, with_closing, with_loss_timer}
 use Rattle.quic_machine.specs.Start.{AreStarted}
 use Rattle.quic_machine.specs.Poll.{Polled, Draft, lazied, polled, draft_if}
-use Rattle.quic_machine.specs.Timeouts.{loss_judged, acks_expired, loss_expired, pacing_expired}
+use Rattle.quic_machine.specs.Timeouts.{Expiry, loss_judged, acks_expired, loss_expired, pacing_expired}
 use Rattle.quic_machine.specs.Machine.{World, Policies, HasStopped, IsStep, after_call, view_of, Follows}
 use Rattle.quic_machine.specs.DraftLaws.{by_leave, due_alone}
 use Rattle.quic_machine.specs.LeaveCases.{at_expiry}
@@ -89,10 +89,10 @@ pacing_keeps : (pacing : Bool) (e : End) → IsExplained e → IsExplained (with
 pacing_keeps true e i = i
 pacing_keeps false e i = i
 
-expired_keeps : (e : End) (now : ℕ) (acks loss pacing : Bool) → IsExplained e → IsExplained (at_expiry e now acks loss pacing)
-expired_keeps e now acks loss pacing i =
+expired_keeps : (e : End) (now : ℕ) (expiry : Expiry) → IsExplained e → IsExplained (at_expiry e now expiry)
+expired_keeps e now expiry i =
     let begun : End = with_closing e (ticked e.closing now) in
-    pacing_keeps pacing (acks_expired acks (loss_expired loss begun)) (acks_keep acks loss begun i)
+    pacing_keeps expiry.pacing (acks_expired expiry.acks (loss_expired expiry.loss begun)) (acks_keep expiry.acks expiry.loss begun i)
 
 -- what any call leaves
 call_keeps : (p : Policy) (e : End) (theirs : List (List ℕ)) (call : Call) (a : Answer) → IsExplained e → IsExplained (after_call p e theirs call a)
@@ -102,9 +102,9 @@ call_keeps p e theirs call a i = by_plain_call p e theirs IsExplained call a (re
   on_messages = λ m. i;
   pings = i;
   heard = λ path same. i;
-  times = λ now acks loss pacing is. expired_keeps e now acks loss pacing i;
+  times = λ now expiry is. expired_keeps e now expiry i;
   polls = λ now is. polled_keeps p e now i;
-  hears = λ now mark d is. by_received IsExplained receives p e now mark d i;
+  hears = λ arrival d is. by_received IsExplained receives p e arrival d i;
   tells = λ told. i;
 })
 

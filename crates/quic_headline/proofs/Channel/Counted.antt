@@ -238,7 +238,8 @@ module _ (K : Side → Counts → Counts → Type 0) where
     lost = λ m e i. lost_counts (sent_half e.streams m.id) e.streams m i;
     again = λ carried e i. i;
     tracked = λ t e i. i;
-    measured = λ r first e i. i; marked = λ m marking e i. i;
+    measured = λ r first e i. i;
+    marked = λ m marking e i. i;
   }
 
   -- any call but a delivery

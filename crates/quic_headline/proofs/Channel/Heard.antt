@@ -146,7 +146,8 @@ module _ (t : StreamsState) where
     lost = λ m e i. by_stream_lost (Heard t) heard_kept e.streams m (λ h is none a. a) i;
     again = λ carried e i. i;
     tracked = λ u e i. i;
-    measured = λ r first e i. i; marked = λ m marking e i. i;
+    measured = λ r first e i. i;
+    marked = λ m marking e i. i;
   }
 
   -- any call but a delivery

@@ -206,7 +206,8 @@ module _ (window : Option ℕ) where
     lost = λ m e i. i;
     again = λ carried e i. i;
     tracked = λ t e i. i;
-    measured = λ r first e i. i; marked = λ m marking e i. i;
+    measured = λ r first e i. i;
+    marked = λ m marking e i. i;
   }
 
   frame_leaves : (f : FrameValue) (e : End) → Waits window e → Waits window (take_frame f e).end

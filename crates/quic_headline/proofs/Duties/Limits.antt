@@ -114,7 +114,8 @@ module _ (what : Limited) where
     lost = λ m e w. lost_keeps (WaitsIn what) (decides what) e.streams e.waiting.frames m w;
     again = λ c e w. waits_in what (streams_of e.streams (merged e.waiting.frames c.retransmits)) (merged_left what e.waiting.frames c.retransmits (waits_of what (streams_at e) w));
     tracked = λ t e w. w;
-    measured = λ r first e w. w; marked = λ m marking e w. w;
+    measured = λ r first e w. w;
+    marked = λ m marking e w. w;
   }
 
   pub frame_waits : (f : FrameValue) (e : End) → IsWaiting what (streams_at e) → IsWaiting what (streams_at (take_frame f e).end)

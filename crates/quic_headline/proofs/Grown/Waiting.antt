@@ -168,7 +168,8 @@ settles = record {
       waits_of ids _ (lost_keeps (Flagged ids) (decides ids) e.streams e.waiting.frames m (flags_of (streams_at e) w)) ((quiet (IsListed ids)).lost e.streams m w.each));
   again = λ c e w. waits_told (IsListed e.waiting.frames.max_stream_data) _ w.each (told_merged e.streams e.waiting.frames c.retransmits (told_of_waits (streams_at e) w));
   tracked = λ t e w. w;
-  measured = λ r first e w. w; marked = λ m marking e w. w;
+  measured = λ r first e w. w;
+  marked = λ m marking e w. w;
 }
 
 -- one on streams

@@ -77,5 +77,6 @@ settles_leave done took sents taken sent = record {
   lost = λ c m e was i w. lost_leaves done e w m ((sent c was).ends m i);
   again = λ c e was w. again_leaves done e w c (sent c was);
   tracked = λ t e w. w;
-  measured = λ r first e w. w; marked = λ m marking e w. w;
+  measured = λ r first e w. w;
+  marked = λ m marking e w. w;
 }

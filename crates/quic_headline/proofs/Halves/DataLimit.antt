@@ -159,7 +159,8 @@ settling = record {
   lost = λ m e i. small_words.lost ended_all e.streams m (λ fin. refl) i;
   again = λ carried e i. i;
   tracked = λ t e i. i;
-  measured = λ r first e i. i; marked = λ m marking e i. i;
+  measured = λ r first e i. i;
+  marked = λ m marking e i. i;
 }
 
 -- a frame with a small limit

@@ -124,7 +124,8 @@ module _ (took : List Packet) (sents : List Sent) (stands : Stands took sents) (
     lost = λ c m e was among i. (finished_words arrived end_arrived).lost wrote e.streams m (b.ended c m was among) i;
     again = λ c e was i. i;
     tracked = λ t e i. i;
-    measured = λ r first e i. i; marked = λ m marking e i. i;
+    measured = λ r first e i. i;
+    marked = λ m marking e i. i;
   }
 
   -- so do all frames of a packet, taken or refused, whose ACK frames name packets that were taken

@@ -123,7 +123,8 @@ module _ (P : StreamsState → Type 0) (q : IsQuiet P) where
     lost = λ m e i. q.lost e.streams m i;
     again = λ carried e i. i;
     tracked = λ t e i. i;
-    measured = λ r first e i. i; marked = λ m marking e i. i;
+    measured = λ r first e i. i;
+    marked = λ m marking e i. i;
   }
 
   -- ---- any call by which nothing comes and nothing is read

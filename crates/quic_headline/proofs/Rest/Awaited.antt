@@ -23,7 +23,7 @@ use Rattle.quic_machine.specs.End.{End, with_closing, closed_by, with_ack_timer,
 use Rattle.quic_machine.specs.Receive.{timers_after}
 use Rattle.quic_spaces.specs.Acknowledging.{ack_due, with_due}
 use Rattle.quic_machine.specs.Poll.{Polled, Draft, lazied, polled, draft_if}
-use Rattle.quic_machine.specs.Timeouts.{loss_judged, acks_expired, loss_expired, pacing_expired}
+use Rattle.quic_machine.specs.Timeouts.{Expiry, loss_judged, acks_expired, loss_expired, pacing_expired}
 use Rattle.quic_machine.specs.Machine.{World, Policies, after_call, Follows}
 use Rattle.quic_machine.specs.DraftLaws.{by_leave, due_alone}
 use Rattle.quic_machine.specs.LeaveCases.{at_expiry}
@@ -141,10 +141,10 @@ pacing_awaited : (pacing : Bool) (e : End) → IsAwaited e → IsAwaited (with_l
 pacing_awaited true e i = i
 pacing_awaited false e i = i
 
-expired_awaited : (e : End) (now : ℕ) (acks loss pacing : Bool) → IsAwaited e → IsAwaited (at_expiry e now acks loss pacing)
-expired_awaited e now acks loss pacing i =
+expired_awaited : (e : End) (now : ℕ) (expiry : Expiry) → IsAwaited e → IsAwaited (at_expiry e now expiry)
+expired_awaited e now expiry i =
     let begun : End = with_closing e (ticked e.closing now) in
-    pacing_awaited pacing (acks_expired acks (loss_expired loss begun)) (acks_awaited acks loss begun i)
+    pacing_awaited expiry.pacing (acks_expired expiry.acks (loss_expired expiry.loss begun)) (acks_awaited expiry.acks expiry.loss begun i)
 
 call_awaited : (p : Policy) (e : End) (theirs : List (List ℕ)) (call : Call) (a : Answer) → IsAwaited e → IsAwaited (after_call p e theirs call a)
 call_awaited p e theirs call a i = by_plain_call p e theirs IsAwaited call a (record {
@@ -153,9 +153,9 @@ call_awaited p e theirs call a i = by_plain_call p e theirs IsAwaited call a (re
   on_messages = λ m. i;
   pings = i;
   heard = λ path same. i;
-  times = λ now acks loss pacing is. expired_awaited e now acks loss pacing i;
+  times = λ now expiry is. expired_awaited e now expiry i;
   polls = λ now is. polled_awaited p e now i;
-  hears = λ now mark d is. by_received IsAwaited receives p e now mark d i;
+  hears = λ arrival d is. by_received IsAwaited receives p e arrival d i;
   tells = λ told. i;
 })
 

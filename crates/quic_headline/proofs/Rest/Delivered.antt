@@ -1,17 +1,15 @@
 -- Where an end rests, what was written there has arrived: each duty waits, is under way or has come, and nothing waits nor is under way.
-use Rattle.std.proofs.Common.{◌≡◌, ℕ, ◌<◌, List, [], ◌∷◌, map, take, length, Bool, true, false, ◌||◌, Option, Some, None, refl, sym, ap, ◌∙◌, subst, ◌⊎◌, inl, inr}
+use Rattle.std.proofs.Common.{◌≡◌, ℕ, List, [], ◌∷◌, map, true, false, refl, sym, ap, ◌∙◌, inl, inr}
 use Rattle.std.specs.List.{list_any}
 use Rattle.std.proofs.lemmas.Bool.{or_parts}
 use Rattle.quic_wire_core.specs.declared.stream_id.Side.{Side}
 use Rattle.quic_wire_core.specs.StreamId.{other_side}
-use Rattle.quic_wire.specs.Value.{FrameValue, ack, stream, asks}
-use Rattle.quic_send_buffer.specs.declared.stream_meta.StreamMeta.{StreamMeta}
+use Rattle.quic_wire.specs.Value.{FrameValue, stream, asks}
 use Rattle.quic_streams_parts.specs.Table.{Table}
 use Rattle.quic_machine.specs.Tracking.{TrackedPacket, asks_any}
-use Rattle.quic_machine.specs.Poll.{waits}
 use Rattle.quic_machine.specs.Machine.{World, end_at}
-use Rattle.quic_headline.specs.Runs.{Run, In, LeadsTo, AreServed, written, ended, reset, until, HasArrived, EndHasArrived}
-use Rattle.quic_headline.specs.Observer.{Sent, asks_of, took, sents_until, watch}
+use Rattle.quic_headline.specs.Runs.{Run, In, AreServed, until}
+use Rattle.quic_headline.specs.Observer.{Sent, took, sents_until, watch}
 use Rattle.quic_headline.specs.InFlight.{all_offsets, waited_for, but_for_record}
 use Rattle.quic_headline.specs.Headline.{IsHonest, IsRun}
 use Rattle.quic_headline.specs.Duties.{Duty, Offset, Fin, IsOwed, AnyIn, StandsIn, IsCarried, HasCome, IsSomewhere}

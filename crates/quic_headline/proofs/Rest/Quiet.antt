@@ -1,7 +1,6 @@
 -- An end that rests has nothing left to do: nothing of it waits, nor is held back, and it waits for nothing that asks for an acknowledgement.
-use Rattle.std.proofs.Common.{◌≡◌, ℕ, zero, suc, ◌+◌, ◌*◌, ◌<◌, ◌≤◌, List, [], ◌∷◌, ◌++◌, take, length, Bool, true, false, ◌||◌, ◌&&◌, ◌==◌, Option, Some, None, Ok, refl, sym, ap, ◌∙◌, subst, arith}
+use Rattle.std.proofs.Common.{◌≡◌, ℕ, zero, suc, ◌+◌, ◌*◌, ◌≤◌, List, [], ◌∷◌, take, Bool, true, false, ◌&&◌, ◌==◌, Option, Some, None, refl, sym, ap, ◌∙◌, subst, arith}
 use Rattle.std.specs.Prelude.{slice_get, sum_by, if◌then◌else◌}
-use Rattle.std.specs.List.{filter}
 use Rattle.std.specs.Option.{is_some}
 use Rattle.std.proofs.lemmas.Bool.{leb-true, or_parts, or_from}
 use Rattle.std.proofs.lemmas.List.{append-nil}
@@ -13,19 +12,15 @@ use Rattle.quic_streams_parts.specs.Table.{Table}
 use Rattle.quic_recovery_core.specs.PendingAcks.{can_send}
 use Rattle.quic_congestion.specs.Congestion.{Told}
 use Rattle.quic_machine.specs.declared.answers.State.TheVariants as states
-use Rattle.quic_machine.specs.declared.run.Call.{Call}
-use Rattle.quic_machine.specs.declared.run.Call.TheVariants as calls
-use Rattle.quic_machine.specs.declared.run.Answer.TheVariants as answers
 use Rattle.quic_machine.specs.declared.run.View.{View}
 use Rattle.quic_machine.specs.Parts.{current_mtu}
 use Rattle.quic_machine.specs.Tracking.{TrackedPacket, asks_any}
 use Rattle.quic_machine.specs.End.{End}
 use Rattle.quic_machine.specs.Control.{flying, bytes_in_flight, is_window_full}
-use Rattle.quic_machine.specs.Poll.{asks_to_go, waits, rests}
-use Rattle.quic_machine.specs.PollCases.{ready_at}
+use Rattle.quic_machine.specs.Poll.{asks_to_go}
 use Rattle.quic_machine.specs.Machine.{World, end_at, control_at, view_of}
 use Rattle.quic_machine.specs.RunLaws.{one_run}
-use Rattle.quic_headline.specs.Runs.{Run, LeadsTo, AreServed, until, state_in}
+use Rattle.quic_headline.specs.Runs.{Run, LeadsTo, AreServed, state_in}
 use Rattle.quic_headline.specs.Headline.{IsHonest, IsRun, LossTimerFollows}
 use Rattle.quic_headline.specs.Moments.{timers_in}
 use Rattle.quic_headline.specs.Polls.{GaveNothing, window_in}

@@ -1,7 +1,7 @@
 -- The window of an end holds two of its datagrams: of each size that datagrams take, the controller was told, or the path began with a greater one.
-use Rattle.std.proofs.Common.{◌≡◌, ℕ, suc, ◌*◌, ◌≤◌, List, [], ◌∷◌, ◌++◌, take, length, Bool, true, false, not, ◌||◌, ◌&&◌, ◌==◌, Option, Some, None, Result, Ok, Err, refl, sym, ap, ◌∙◌, subst, arith}
+use Rattle.std.proofs.Common.{◌≡◌, ℕ, ◌*◌, ◌≤◌, List, [], ◌∷◌, ◌++◌, take, length, Bool, true, false, not, ◌||◌, ◌&&◌, ◌==◌, Option, Some, None, Result, Ok, Err, refl, sym, ap, subst, arith}
 use Rattle.std.specs.Prelude.{if◌then◌else◌, slice_get, sum_by}
-use Rattle.std.specs.List.{All, list_any}
+use Rattle.std.specs.List.{list_any}
 use Rattle.std.proofs.lemmas.Bool.{or_parts}
 use Rattle.std.proofs.lemmas.List.Elements.{All-nil, All-cons, All-head, All-tail}
 use Rattle.quic_wire_core.specs.declared.stream_id.Side.{Side}
@@ -39,13 +39,13 @@ use Rattle.quic_machine.specs.Tracking.{TrackedPacket, lost_by, acked_by}
 use Rattle.quic_machine.specs.End.{End, with_closing, with_numbers}
 use Rattle.quic_machine.specs.Control.{Control, Gated, flies, told_sent, told_packet, told_packets, told_acks_ended, told_losses, last_sent, is_persistent}
 use Rattle.quic_machine.specs.Acked.{verdict, told_detected, told_grown, told_taken, told_seen, told_marks, told_of_losses, told_named, told_acked, counts_answer, sampled, measured, without_acked, losses_taken}
-use Rattle.quic_machine.specs.Receive.{Fault, Progress, is_above, names_ungiven, is_empty, take_item, take_items, told_ack, told_item, told_unless, told_items, told_payload, told_processed, told_by_state, told_opened, told_opened_as, told_headed, told_received_in, told_received, opening}
-use Rattle.quic_machine.specs.Poll.{ready, goes, asking, datagram_size, draft_of, told_draft, told_if, told_polled_in, told_polled}
+use Rattle.quic_machine.specs.Receive.{Fault, Progress, is_above, names_ungiven, is_empty, take_item, told_ack, told_item, told_unless, told_items, told_payload, told_by_state, told_opened, told_opened_as, told_headed, told_received_in, opening}
+use Rattle.quic_machine.specs.Poll.{ready, goes, asking, datagram_size, draft_of, told_if, told_polled_in}
 use Rattle.quic_machine.specs.End.{number_of}
-use Rattle.quic_machine.specs.Timeouts.{told_judged, told_expired, told_timed_out_in, told_timed_out}
+use Rattle.quic_machine.specs.Timeouts.{told_judged, told_expired, told_timed_out_in}
 use Rattle.quic_machine.specs.Start.{AreStarted, IsController}
 use Rattle.quic_machine.specs.FrameCases.{named}
-use Rattle.quic_machine.specs.Machine.{World, Policies, IsStep, IsLeft, after_call, reads_window, end_left, end_at, end_met, control_at, given_by, policy_at, fails, tells, told_delivered}
+use Rattle.quic_machine.specs.Machine.{World, Policies, IsStep, IsLeft, after_call, reads_window, end_left, end_at, control_at, fails, tells, told_delivered}
 use Rattle.quic_headline.specs.Runs.{Run, AreServed}
 use Rattle.quic_headline.specs.Headline.{IsHonest}
 use Rattle.quic_headline.specs.Amounts.{making_at}

@@ -23,7 +23,7 @@ use Rattle.quic_machine.specs.End.{End, with_closing}
 use Rattle.quic_machine.specs.Acked.{verdict, losses_detected}
 use Rattle.quic_machine.specs.Receive.{asks_in, after_taken, Outcome}
 use Rattle.quic_machine.specs.Poll.{Polled, Draft, lazied, polled, draft_if}
-use Rattle.quic_machine.specs.Timeouts.{loss_judged, acks_expired, loss_expired, pacing_expired}
+use Rattle.quic_machine.specs.Timeouts.{Expiry, loss_judged, acks_expired, loss_expired, pacing_expired}
 use Rattle.quic_machine.specs.Machine.{IsAnswer, after_call, fails, gave}
 use Rattle.quic_machine.specs.CallCases.{is_delivery, is_poll, by_plain_call}
 use Rattle.quic_machine.specs.LeaveCases.{at_expiry}
@@ -101,8 +101,8 @@ judged_counts : (o : Option ℕ) (e : End) → CountsAs e (loss_judged o e)
 judged_counts None e = refl
 judged_counts (Some moment) e = packets_lost_keep (CountsAs e) (λ m x i. i) (λ c x i. i) (lost_by (verdict e) e.tracking.packets) e refl
 
-expired_counts : (e : End) (now : ℕ) (acks loss pacing : Bool) → CountsAs e (at_expiry e now acks loss pacing)
-expired_counts e now acks loss pacing = go acks loss pacing
+expired_counts : (e : End) (now : ℕ) (expiry : Expiry) → CountsAs e (at_expiry e now expiry)
+expired_counts e now expiry = go expiry.acks expiry.loss expiry.pacing
   where
     begins : End
     begins = with_closing e (ticked e.closing now)
@@ -125,9 +125,9 @@ quiet_counts p e theirs call a apart silent = by_plain_call p e theirs (CountsAs
   on_messages = λ m. refl;
   pings = refl;
   heard = λ path same. refl;
-  times = λ now acks loss pacing is. expired_counts e now acks loss pacing;
+  times = λ now expiry is. expired_counts e now expiry;
   polls = λ now is. (let clash : true ≡ false = sym is ∙ silent in cc);
-  hears = λ now mark d is. (let clash : true ≡ false = sym is ∙ apart in cc);
+  hears = λ arrival d is. (let clash : true ≡ false = sym is ∙ apart in cc);
   tells = λ told. refl;
 })
 

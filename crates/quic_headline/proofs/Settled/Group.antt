@@ -338,7 +338,8 @@ module _ (took : List Packet) (sents : List Sent) (n : ℕ → ℕ) (w : ℕ →
     lost = λ c m e was among i. lost_holds Any AnyEnd n w nothing_known m e (sent_ended sents w says was.sent was.among m (carried_stream c was.sent.frames was.is m among)) i;
     again = λ c e was i. i;
     tracked = λ t e i. i;
-    measured = λ r first e i. i; marked = λ m marking e i. i;
+    measured = λ r first e i. i;
+    marked = λ m marking e i. i;
   }
     where
       carried_ended : (c : Carried) (m : StreamMeta) → WasCarried took c → In m c.stream_frames → m.fin ≡ true → (w m.id).ended ≡ true

@@ -228,6 +228,27 @@ returns-clause-ack_timers_follow g c =
     let keys : Policies = policies_of g.H.HeaderKey.protection g.K.PacketKey.aead g.R.Rng.stream c.args.ends in
     λ first i w leads. c.ack_timers_follow.ensures.runs keys (first_world (windows_of g.C.Controller.steps g.C.Controller.window_of) c.args.ends) w (take i c.args.events.now) (take i o.answers.items) (take i o.views.items) leads first
 
+pub returns-clause-isolated : goal.returns-clause-isolated
+returns-clause-isolated g c =
+    let o = c.run_events.result in
+    let keys : Policies = policies_of g.H.HeaderKey.protection g.K.PacketKey.aead g.R.Rng.stream c.args.ends in
+    let r : Run = run_of keys (windows_of g.C.Controller.steps g.C.Controller.window_of) c.args.ends c.args.events.now o.answers.items o.views.items o.given in
+    c.isolated.ensures r (world_of (windows_of g.C.Controller.steps g.C.Controller.window_of) o.ends o.given) (record { codes = c.show_codes.ensures; follows = c.run_events.ensures.follows; from_client = refl; from_server = refl })
+
+pub returns-clause-isolated_by_answers : goal.returns-clause-isolated_by_answers
+returns-clause-isolated_by_answers g c =
+    let o = c.run_events.result in
+    let keys : Policies = policies_of g.H.HeaderKey.protection g.K.PacketKey.aead g.R.Rng.stream c.args.ends in
+    let r : Run = run_of keys (windows_of g.C.Controller.steps g.C.Controller.window_of) c.args.ends c.args.events.now o.answers.items o.views.items o.given in
+    c.isolated_by_answers.ensures r (world_of (windows_of g.C.Controller.steps g.C.Controller.window_of) o.ends o.given) (record { codes = c.show_codes.ensures; follows = c.run_events.ensures.follows; from_client = refl; from_server = refl })
+
+pub returns-clause-isolated_by_lists : goal.returns-clause-isolated_by_lists
+returns-clause-isolated_by_lists g c =
+    let o = c.run_events.result in
+    let keys : Policies = policies_of g.H.HeaderKey.protection g.K.PacketKey.aead g.R.Rng.stream c.args.ends in
+    let r : Run = run_of keys (windows_of g.C.Controller.steps g.C.Controller.window_of) c.args.ends c.args.events.now o.answers.items o.views.items o.given in
+    λ started. c.isolated_by_lists.ensures r (world_of (windows_of g.C.Controller.steps g.C.Controller.window_of) o.ends o.given) started (record { codes = c.show_codes.ensures; follows = c.run_events.ensures.follows; from_client = refl; from_server = refl })
+
 pub returns-clause-numbers_rise : goal.returns-clause-numbers_rise
 returns-clause-numbers_rise g c =
     let o = c.run_events.result in
