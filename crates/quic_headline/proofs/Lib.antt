@@ -13,3 +13,4 @@ pub mod Held
 pub mod Steps
 pub mod Rest
 pub mod Isolated
+pub mod Unread

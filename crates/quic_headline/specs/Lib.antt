@@ -15,3 +15,4 @@ pub mod Ids
 pub mod Reasons
 pub mod Views
 pub mod Isolated
+pub mod Unread

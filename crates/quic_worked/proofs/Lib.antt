@@ -40,3 +40,4 @@ mod AskedTimers
 mod MessageRuns
 mod RestedRun
 mod IsolatedRuns
+mod BlockedRun

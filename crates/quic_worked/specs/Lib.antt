@@ -21,3 +21,4 @@ pub mod Rested
 pub mod Isolated
 pub mod Paced
 pub mod Faults
+pub mod Blocked

@@ -3,6 +3,7 @@
 #![tactic(auto)]
 
 pub mod acknowledged;
+pub mod blocked;
 pub mod broken;
 pub mod chunked;
 pub mod closed;
