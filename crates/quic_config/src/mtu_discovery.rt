@@ -1,6 +1,7 @@
 //! How the size search is configured.
 ghost use Rattle.std.specs.Prelude.{◌≡◌, ◌≤◌, max, min};
-ghost use Rattle.quic_config.specs.Configs.{default_search, max_udp_payload};
+ghost use Rattle.quic_config.specs.Configs.{default_search};
+ghost use Rattle.quic_config.specs.declared.mtu_discovery.TheConstants.{MAX_UDP_PAYLOAD};
 
 use quic_time::Duration;
 use std::marker::Model;
@@ -19,7 +20,8 @@ pub struct MtuDiscoveryConfig {
 
 impl Model for MtuDiscoveryConfig {
     ghost use Rattle.std.specs.Prelude.{◌≤◌};
-    ghost use Rattle.quic_config.specs.Configs.{SearchSettings, max_udp_payload};
+    ghost use Rattle.quic_config.specs.Configs.{SearchSettings};
+    ghost use Rattle.quic_config.specs.declared.mtu_discovery.TheConstants.{MAX_UDP_PAYLOAD};
 
     ghost Value = { SearchSettings };
 
@@ -30,7 +32,7 @@ impl Model for MtuDiscoveryConfig {
       least_change = c.minimum_change;
     } };
 
-    ghost invariant = { λ c. (c.upper_bound ≤ max_udp_payload) × (2 ≤ c.minimum_change) };
+    ghost invariant = { λ c. (c.upper_bound ≤ MAX_UDP_PAYLOAD) × (2 ≤ c.minimum_change) };
 
     ghost inverse = { λ s. record {
       interval = s.interval;
@@ -51,7 +53,7 @@ impl MtuDiscoveryConfig {
     /// The greatest size that is looked for, in bytes.
     pub fn size_bound(&self) -> u16
         ensures value { result ≡ self.now.upper_bound }
-        ensures bound { result ≤ max_udp_payload }
+        ensures bound { result ≤ MAX_UDP_PAYLOAD }
     {
         self.upper_bound
     }
@@ -71,6 +73,14 @@ impl MtuDiscoveryConfig {
         self.minimum_change
     }
 
+    /// The same, of which the steps are seen.
+    pub(crate) fn stepped(self) -> Self
+        ensures same { result ≡ self }
+        ensures steps { 2 ≤ self.least_change }
+    {
+        self
+    }
+
     /// How long after the end of a search the next one begins.
     pub fn interval(&mut self, value: Duration) -> &mut Self
         ensures same_reference { result.ghost_name ≡ self.entry.ghost_name }
@@ -83,7 +93,7 @@ impl MtuDiscoveryConfig {
     /// The greatest size that is looked for, in bytes; more than 65527 counts as 65527.
     pub fn upper_bound(&mut self, value: u16) -> &mut Self
         ensures same_reference { result.ghost_name ≡ self.entry.ghost_name }
-        ensures value { result.now ≡ record self.old { upper_bound = min value max_udp_payload } }
+        ensures value { result.now ≡ record self.old { upper_bound = min value MAX_UDP_PAYLOAD } }
     {
         self.upper_bound = value.min(MAX_UDP_PAYLOAD);
         self

@@ -7,7 +7,6 @@ ghost use Rattle.quic_machine.specs.Policy.{KeysCanOpen};
 ghost use Rattle.quic_machine.specs.End.{MadeFrom, refusal_of};
 ghost use Rattle.quic_machine.specs.Start.{AreStarted, AreControlled, AreKeys};
 ghost use Rattle.quic_machine.specs.declared.answers.ConfigError.TheVariants as config_errors;
-ghost use Rattle.quic_headline.specs.Rest.{HaveRoom};
 ghost use Rattle.quic_connection_core.specs.Drawn.{words_of, after_words};
 ghost use Rattle.quic_connection_core.specs.Telling.{windows_of, windows_at, IsRoomy};
 ghost use Rattle.quic_connection.specs.Ends.{first_world, policies_of, in_order, controller_for, refusal_for, IsRefused};
@@ -153,8 +152,6 @@ impl<H: HeaderKey + Drop, K: PacketKey + Drop, R: Rng + Drop, C: Controller> End
             server.id client.id ≡ None) }
         ensures controlled { IfOk result (λ ends.
             AreControlled (first_world (windows_of C.steps C.window_of) ends)) }
-        ensures have_room { IfOk result (λ ends.
-            HaveRoom (first_world (windows_of C.steps C.window_of) ends)) }
         ensures started { IfOk result (λ ends. AreStarted (first_world (windows_of C.steps C.window_of) ends)) }
         ensures keys { IfOk result (λ ends.
             KeysCanOpen H.protection K.aead client.keys server.keys

@@ -6,5 +6,4 @@ pub mod Frames
 pub mod Group
 pub mod Kept
 pub mod Opens
-pub mod NewIds
 pub mod Clause

@@ -8,4 +8,3 @@ pub mod Shown
 pub mod Judged
 pub mod Pieces
 pub mod Blameless
-pub mod Reasons

@@ -11,6 +11,3 @@ pub mod Grown
 pub mod Messages
 pub mod Held
 pub mod Steps
-pub mod Rest
-pub mod Isolated
-pub mod Unread

@@ -8,4 +8,3 @@ pub mod Starts
 pub mod LossMoments
 pub mod AckMoments
 pub mod Quiet
-pub mod Shown

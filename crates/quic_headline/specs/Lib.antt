@@ -9,10 +9,4 @@ pub mod Moments
 pub mod Grown
 pub mod Messages
 pub mod Polls
-pub mod Rest
-pub mod Resets
-pub mod Ids
-pub mod Reasons
-pub mod Views
-pub mod Isolated
-pub mod Unread
+pub mod Sizes

@@ -13,7 +13,6 @@ use Rattle.quic_send_buffer.specs.declared.stream_meta.StreamMeta.{StreamMeta}
 use Rattle.quic_recovery_core.specs.Duplicates.{is_duplicate}
 use Rattle.quic_streams_state.specs.State.{Streams}
 use Rattle.quic_streams_parts.specs.Table.{Table}
-use Rattle.quic_machine.specs.Arrival.{Arrival}
 use Rattle.quic_machine.specs.declared.answers.State.{State}
 use Rattle.quic_machine.specs.declared.answers.State.TheVariants as states
 use Rattle.quic_machine.specs.declared.answers.DropReason.TheVariants as drops
@@ -29,8 +28,12 @@ use Rattle.quic_messages.specs.declared.errors.ReceivedError.{ReceivedError}
 use Rattle.quic_messages.specs.Messages.{received_answer}
 use Rattle.quic_machine.specs.Parts.{Messaging}
 use Rattle.quic_machine.specs.Tracking.{Tracking, TrackedPacket, Carried, acked_by, Verdict, lost_by, after_detection}
-use Rattle.quic_machine.specs.End.{End, with_closing, closed_by, with_numbers, with_streams, with_messages, with_tracking, with_rtt, with_told, with_marking}
+use Rattle.quic_machine.specs.End.{End, with_closing, closed_by, with_numbers, with_streams, with_messages, with_tracking, with_rtt, with_told, with_marking, with_discovery, with_queued}
 use Rattle.quic_machine.specs.Opens.{own_id_length}
+use Rattle.quic_messages.specs.Messages.{without_longer}
+use Rattle.quic_congestion.specs.Search.{Discovery}
+use Rattle.quic_machine.specs.MessageCalls.{most_message}
+use Rattle.quic_machine.specs.Sizes.{is_resized, with_acked, search_acked, after_lost, without_longer_if, shortened, with_searched}
 use Rattle.quic_machine.specs.Acked.{without_known, reset_acked, resets_acked, stream_acked, streams_acked, packet_acked, packets_acked, stream_lost, streams_lost, again, carried_lost, packets_lost, lost_as, verdict, losses_detected, measured, sampled, without_acked, counts_judged, counts_answer, counts_seen, marks_seen, losses_taken, after_named, after_acked}
 use Rattle.quic_machine.specs.Receive.{Fault, violation, reason_of, Progress, goes_on, is_above, names_ungiven, message_taken, message_judged, take_message, take_frame, take_item, unless_fault, take_items, is_empty, take_payload, asks_in, after_taken, dropped, ends_as, by_state, opened_to, opened_as, opening, headed, received_in, received}
 
@@ -84,12 +87,27 @@ pub record Settling (P : End → Type 0) : Type 0 where
   pub acked : (m : StreamMeta) (e : End) → P e → P (stream_acked m e)
   pub lost : (m : StreamMeta) (e : End) → P e → P (stream_lost m e)
   pub again : (carried : Carried) (e : End) → P e → P (again carried e)
+  -- the search for a size learns of it, and messages that are too long are dropped
+  pub searched : (d : Discovery) (e : End) → P e → P (with_discovery e d)
+  pub shortens : (most : ℕ) (e : End) → P e → P (with_queued e (without_longer most e.messages.queues))
   -- fewer packets are tracked
   pub tracked : (t : Tracking) (e : End) → P e → P (with_tracking e t)
   -- the round trip is measured
   pub measured : (r : Rtt) (first : Option ℕ) (e : End) → P e → P (with_rtt e r first)
   -- the peer's counts of marks are kept, and marking may end
   pub marked : (counts : Counts) (marking : Bool) (e : End) → P e → P (with_marking (with_told e counts) marking)
+
+-- with another search messages that are too long are dropped, or none is
+pub by_searched : (d : Discovery) (e : End) (P : End → Type 0) → P (with_discovery e d) → ((most : ℕ) → P (with_queued (with_discovery e d) (without_longer most e.messages.queues))) → P (with_searched d e)
+by_searched d e P same shorter = go (is_resized e.path.discovery d)
+  where
+    lasts : (o : Option ℕ) → P (without_longer_if o (with_discovery e d))
+    lasts None = same
+    lasts (Some most) = shorter most
+
+    go : (b : Bool) → P (shortened b (with_discovery e d))
+    go true = lasts (most_message (with_discovery e d))
+    go false = same
 
 module _ (P : End → Type 0) (c : Settling P) where
   -- what the peer knows of, if anything
@@ -101,13 +119,19 @@ module _ (P : End → Type 0) (c : Settling P) where
   packets_acked_keep : (ps : Table TrackedPacket) (e : End) → P e → P (packets_acked ps e)
   packets_acked_keep [] e i = i
   packets_acked_keep (p ∷ ps) e i =
-      let known : End = without_known p.1.carried.largest_acked e in
-      let resets = resets_acked_keep P c.reset p.1.carried.retransmits.reset_stream known (known_keeps p.1.carried.largest_acked e i) in
-      packets_acked_keep ps (packet_acked p.1 e) (streams_acked_keep P c.acked p.1.carried.stream_frames (resets_acked p.1.carried.retransmits.reset_stream known) resets)
+      let heard : End = search_acked p e in
+      let known : End = without_known p.1.carried.largest_acked heard in
+      let resets = resets_acked_keep P c.reset p.1.carried.retransmits.reset_stream known (known_keeps p.1.carried.largest_acked heard (c.searched (with_acked p e.path.discovery) e i)) in
+      packets_acked_keep ps (packet_acked p e) (streams_acked_keep P c.acked p.1.carried.stream_frames (resets_acked p.1.carried.retransmits.reset_stream known) resets)
 
   -- packets are lost
   lost_keeps : (v : Verdict) (e : End) → P e → P (lost_as v e)
-  lost_keeps v e i = c.tracked (after_detection v e.tracking) (packets_lost (lost_by v e.tracking.packets) e) (packets_lost_keep P c.lost c.again (lost_by v e.tracking.packets) e i)
+  lost_keeps v e i =
+      let lost = lost_by v e.tracking.packets in
+      let left : End = with_tracking (packets_lost lost e) (after_detection v e.tracking) in
+      let d : Discovery = after_lost left.closing.clock lost left.path.discovery in
+      let told : P (with_discovery left d) = c.searched d left (c.tracked (after_detection v e.tracking) (packets_lost lost e) (packets_lost_keep P c.lost c.again lost e i)) in
+      by_searched d left P told (λ most. c.shortens most (with_discovery left d) told)
 
   -- losses are detected
   pub losses_keep : (e : End) → P e → P (losses_detected e)
@@ -273,37 +297,37 @@ module _ (P : End → Type 0) (c : Receives P) where
   ends_keep (Some fault) asks n mark e i = c.closes (reason_of fault) e i
 
   -- a packet whose number is new
-  state_keeps : (state : State) (o : Opening) (arrival : Arrival) (e : End) → P e → P (by_state state o arrival (with_numbers e (number_opened e.numbers o.number))).end
-  state_keeps states.Open o arrival e i =
-      let taken = take_payload o.first (items o.payload) (begun e arrival.now o.number) in
-      ends_keep taken.fault (asks_in (items o.payload)) o.number arrival.mark taken.end (payload_keeps o.first (items o.payload) (begun e arrival.now o.number) (c.begins arrival.now o.number e i))
-  state_keeps states.Closing o arrival e i = c.notes o.number e i
-  state_keeps states.Drained o arrival e i = c.notes o.number e i
-  state_keeps states.Failed o arrival e i = c.notes o.number e i
+  state_keeps : (state : State) (o : Opening) (now : ℕ) (mark : Option EcnCodepoint) (e : End) → P e → P (by_state state o now mark (with_numbers e (number_opened e.numbers o.number))).end
+  state_keeps states.Open o now mark e i =
+      let taken = take_payload o.first (items o.payload) (begun e now o.number) in
+      ends_keep taken.fault (asks_in (items o.payload)) o.number mark taken.end (payload_keeps o.first (items o.payload) (begun e now o.number) (c.begins now o.number e i))
+  state_keeps states.Closing o now mark e i = c.notes o.number e i
+  state_keeps states.Drained o now mark e i = c.notes o.number e i
+  state_keeps states.Failed o now mark e i = c.notes o.number e i
 
   -- a packet that opened
-  opened_keeps : (o : Opening) (arrival : Arrival) (e : End) → P e → P (opened_to o arrival e).end
-  opened_keeps o arrival e i = go (key_phase o.first) (is_duplicate e.numbers.opened o.number)
+  opened_keeps : (o : Opening) (now : ℕ) (mark : Option EcnCodepoint) (e : End) → P e → P (opened_to o now mark e).end
+  opened_keeps o now mark e i = go (key_phase o.first) (is_duplicate e.numbers.opened o.number)
     where
-      go : (a b : Bool) → P (if a then dropped drops.KeyPhase e else (if b then dropped drops.Duplicate e else by_state e.closing.state o arrival (with_numbers e (number_opened e.numbers o.number)))).end
+      go : (a b : Bool) → P (if a then dropped drops.KeyPhase e else (if b then dropped drops.Duplicate e else by_state e.closing.state o now mark (with_numbers e (number_opened e.numbers o.number)))).end
       go true b = i
       go false true = i
-      go false false = state_keeps e.closing.state o arrival e i
+      go false false = state_keeps e.closing.state o now mark e i
 
-  packet_keeps : (o : Option Opening) (arrival : Arrival) (e : End) → P e → P (opened_as o arrival e).end
-  packet_keeps None arrival e i = i
-  packet_keeps (Some o) arrival e i = opened_keeps o arrival e i
+  packet_keeps : (o : Option Opening) (now : ℕ) (mark : Option EcnCodepoint) (e : End) → P e → P (opened_as o now mark e).end
+  packet_keeps None now mark e i = i
+  packet_keeps (Some o) now mark e i = opened_keeps o now mark e i
 
-  headed_keeps : (r : Result (List ℕ) HeaderError) (p : Policy) (e : End) (arrival : Arrival) (d : List ℕ) → P e → P (headed r p e arrival d).end
-  headed_keeps (Err error) p e arrival d i = i
-  headed_keeps (Ok id) p e arrival d i = packet_keeps (opening p e d) arrival e i
+  headed_keeps : (r : Result (List ℕ) HeaderError) (p : Policy) (e : End) (now : ℕ) (mark : Option EcnCodepoint) (d : List ℕ) → P e → P (headed r p e now mark d).end
+  headed_keeps (Err error) p e now mark d i = i
+  headed_keeps (Ok id) p e now mark d i = packet_keeps (opening p e d) now mark e i
 
-  received_keeps : (state : State) (p : Policy) (e : End) (arrival : Arrival) (d : List ℕ) → P e → P (received_in state p e arrival d).end
-  received_keeps states.Failed p e arrival d i = i
-  received_keeps states.Drained p e arrival d i = i
-  received_keeps states.Open p e arrival d i = headed_keeps (decoded (fixed_length_id own_id_length) (known e.ids) d) p e arrival d i
-  received_keeps states.Closing p e arrival d i = headed_keeps (decoded (fixed_length_id own_id_length) (known e.ids) d) p e arrival d i
+  received_keeps : (state : State) (p : Policy) (e : End) (now : ℕ) (mark : Option EcnCodepoint) (d : List ℕ) → P e → P (received_in state p e now mark d).end
+  received_keeps states.Failed p e now mark d i = i
+  received_keeps states.Drained p e now mark d i = i
+  received_keeps states.Open p e now mark d i = headed_keeps (decoded (fixed_length_id own_id_length) (known e.ids) d) p e now mark d i
+  received_keeps states.Closing p e now mark d i = headed_keeps (decoded (fixed_length_id own_id_length) (known e.ids) d) p e now mark d i
 
   -- what each step keeps holds after a datagram
-  pub by_received : (p : Policy) (e : End) (arrival : Arrival) (d : List ℕ) → P e → P (received p e arrival d).end
-  by_received p e arrival d i = received_keeps e.closing.state p e arrival d i
+  pub by_received : (p : Policy) (e : End) (now : ℕ) (mark : Option EcnCodepoint) (d : List ℕ) → P e → P (received p e now mark d).end
+  by_received p e now mark d i = received_keeps e.closing.state p e now mark d i

@@ -1,7 +1,6 @@
 -- Where a call may lack memory.
 use Rattle.std.specs.Prelude.{ℕ, ◌≡◌, ◌≢◌, ◌⊎◌, Bool, true, false, nat_lt, List, [], ◌∷◌, length, slice_get, Option, Some, None, IsSome, IfSome, Result, Ok, Err}
 use Rattle.quic_assembler.specs.declared.assembler.Chunk.{Chunk}
-use Rattle.quic_machine.specs.Arrival.{delivered_by}
 use Rattle.quic_machine.specs.declared.answers.Failed.{Failed}
 use Rattle.quic_machine.specs.declared.answers.Received.{Received}
 use Rattle.quic_machine.specs.declared.answers.Received.TheVariants as receives
@@ -85,7 +84,7 @@ StreamCallLacks is_open s p call a = Unit {0}
 -- there is such a datagram, and its frames are taken
 abbrev pub DeliveryTakes : Policy → End → Delivery → Option (List ℕ) → Type 0
 DeliveryTakes p e delivery None = ⊥
-DeliveryTakes p e delivery (Some d) = TakesFrames (received p e (delivered_by delivery) d).answer
+DeliveryTakes p e delivery (Some d) = TakesFrames (received p e delivery.now delivery.ecn d).answer
 
 -- a probe takes what has to be sent again of a packet
 abbrev pub MovesRecord : End → Type 0

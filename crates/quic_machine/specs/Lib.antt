@@ -8,11 +8,11 @@ pub mod Tracking
 pub mod End
 pub mod Opens
 pub mod Acked
-pub mod Arrival
 pub mod Receive
 pub mod Poll
 pub mod Timeouts
 pub mod Calls
+pub mod Sizes
 pub mod StreamCalls
 pub mod MessageCalls
 pub mod Lacking

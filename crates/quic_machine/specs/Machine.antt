@@ -4,7 +4,6 @@ use Rattle.std.specs.Option.{option_to_list}
 use Rattle.quic_wire_core.specs.declared.stream_id.Side.{Side}
 use Rattle.quic_wire_core.specs.declared.stream_id.Side.TheVariants.{Client, Server}
 use Rattle.quic_wire_core.specs.StreamId.{other_side}
-use Rattle.quic_machine.specs.Arrival.{delivered_by, injected_by}
 use Rattle.quic_machine.specs.declared.answers.State.TheVariants as states
 use Rattle.quic_machine.specs.declared.answers.Received.TheVariants as receives
 use Rattle.quic_machine.specs.declared.run.RunEvent.{RunEvent}
@@ -36,12 +35,12 @@ use Rattle.quic_machine.specs.Lacking.{LacksWhere}
 -- what a delivery is answered: no call is made where there is no such datagram
 abbrev pub IsDelivered : Policy → End → Delivery → Option (List ℕ) → Answer → Type 0
 IsDelivered p e delivery None a = a ≡ answers.NoDatagram
-IsDelivered p e delivery (Some d) a = (a ≡ answers.Deliver (received p e (delivered_by delivery) d).answer) ⊎ (a ≡ answers.Deliver receives.Failed)
+IsDelivered p e delivery (Some d) a = (a ≡ answers.Deliver (received p e delivery.now delivery.ecn d).answer) ⊎ (a ≡ answers.Deliver receives.Failed)
 
 -- what an injection is answered: no call is made where it opens
 abbrev pub injected_if : Bool → Policy → End → Injection → Answer
 injected_if true p e injection = answers.Opens
-injected_if false p e injection = answers.Inject (received p e (injected_by injection) injection.bytes).answer
+injected_if false p e injection = answers.Inject (received p e injection.now injection.ecn injection.bytes).answer
 
 -- what a call on streams may be answered
 abbrev pub AnswersOnStreams : End → Call → Answer → Type 0
@@ -68,12 +67,12 @@ IsAnswer p e theirs call a = AnswersOnStreams e call a
 -- the end after a delivery
 abbrev pub after_delivered : Policy → End → Delivery → Option (List ℕ) → End
 after_delivered p e delivery None = e
-after_delivered p e delivery (Some d) = (received p e (delivered_by delivery) d).end
+after_delivered p e delivery (Some d) = (received p e delivery.now delivery.ecn d).end
 
 -- the end after an injection
 abbrev pub after_injected_if : Bool → Policy → End → Injection → End
 after_injected_if true p e injection = e
-after_injected_if false p e injection = (received p e (injected_by injection) injection.bytes).end
+after_injected_if false p e injection = (received p e injection.now injection.ecn injection.bytes).end
 
 -- what a call leaves, by its answer, where memory served
 abbrev pub after_call : Policy → End → List (List ℕ) → Call → Answer → End

@@ -13,7 +13,6 @@ use Rattle.quic_packet.specs.Datagram.{Opening, opened_packet}
 use Rattle.quic_wire.specs.declared.frame.InvalidFrame.{InvalidFrame}
 use Rattle.quic_packet.specs.declared.packet.HeaderError.{HeaderError}
 use Rattle.quic_packet.specs.declared.packet.HeaderError.TheVariants as headers
-use Rattle.quic_machine.specs.Arrival.{Arrival}
 use Rattle.quic_machine.specs.declared.answers.State.{State}
 use Rattle.quic_machine.specs.declared.answers.State.TheVariants as states
 use Rattle.quic_streams_parts.specs.declared.answers.Breach.{Breach}
@@ -269,27 +268,27 @@ abbrev pub asks_in : List (Result FrameValue InvalidFrame) → Bool
 asks_in is = list_any item_asks is
 
 -- a packet that opened at an open end, under a number that didn't come before
-abbrev pub processed : Opening → Arrival → End → Outcome
-processed o arrival e = judged (take_payload o.first (items o.payload) (with_closing e (ticked e.closing arrival.now))) (asks_in (items o.payload)) o.number arrival.mark
+abbrev pub processed : Opening → ℕ → Option EcnCodepoint → End → Outcome
+processed o now mark e = judged (take_payload o.first (items o.payload) (with_closing e (ticked e.closing now))) (asks_in (items o.payload)) o.number mark
 
 -- a closing end reads nothing of the packet
-abbrev pub by_state : State → Opening → Arrival → End → Outcome
-by_state states.Open o arrival e = processed o arrival e
-by_state states.Closing o arrival e = dropped drops.Closing e
-by_state states.Drained o arrival e = dropped drops.Drained e
-by_state states.Failed o arrival e = dropped drops.Failed e
+abbrev pub by_state : State → Opening → ℕ → Option EcnCodepoint → End → Outcome
+by_state states.Open o now mark e = processed o now mark e
+by_state states.Closing o now mark e = dropped drops.Closing e
+by_state states.Drained o now mark e = dropped drops.Drained e
+by_state states.Failed o now mark e = dropped drops.Failed e
 
 -- a packet that opened: its key phase is 0, and its number is new
-abbrev pub opened_to : Opening → Arrival → End → Outcome
-opened_to o arrival e =
+abbrev pub opened_to : Opening → ℕ → Option EcnCodepoint → End → Outcome
+opened_to o now mark e =
     if key_phase o.first then dropped drops.KeyPhase e
     else (if is_duplicate e.numbers.opened o.number then dropped drops.Duplicate e
-    else by_state e.closing.state o arrival (with_numbers e (number_opened e.numbers o.number)))
+    else by_state e.closing.state o now mark (with_numbers e (number_opened e.numbers o.number)))
 
 -- what a packet comes to, where it opened
-abbrev pub opened_as : Option Opening → Arrival → End → Outcome
-opened_as None arrival e = dropped drops.NotOpened e
-opened_as (Some o) arrival e = opened_to o arrival e
+abbrev pub opened_as : Option Opening → ℕ → Option EcnCodepoint → End → Outcome
+opened_as None now mark e = dropped drops.NotOpened e
+opened_as (Some o) now mark e = opened_to o now mark e
 
 -- what a datagram opens to at an end, behind an own id
 abbrev pub opening : Policy → End → List ℕ → Option Opening
@@ -303,20 +302,20 @@ drop_of headers.FixedBit = drops.FixedBit
 drop_of headers.UnknownId = drops.UnknownId
 
 -- what a datagram comes to, by what its header says
-abbrev pub headed : Result (List ℕ) HeaderError → Policy → End → Arrival → List ℕ → Outcome
-headed (Err error) p e arrival d = dropped (drop_of error) e
-headed (Ok id) p e arrival d = opened_as (opening p e d) arrival e
+abbrev pub headed : Result (List ℕ) HeaderError → Policy → End → ℕ → Option EcnCodepoint → List ℕ → Outcome
+headed (Err error) p e now mark d = dropped (drop_of error) e
+headed (Ok id) p e now mark d = opened_as (opening p e d) now mark e
 
 -- an end that is drained or has failed drops all
-abbrev pub received_in : State → Policy → End → Arrival → List ℕ → Outcome
-received_in states.Failed p e arrival d = dropped drops.Failed e
-received_in states.Drained p e arrival d = dropped drops.Drained e
-received_in states.Open p e arrival d = headed (decoded (fixed_length_id own_id_length) (known e.ids) d) p e arrival d
-received_in states.Closing p e arrival d = headed (decoded (fixed_length_id own_id_length) (known e.ids) d) p e arrival d
+abbrev pub received_in : State → Policy → End → ℕ → Option EcnCodepoint → List ℕ → Outcome
+received_in states.Failed p e now mark d = dropped drops.Failed e
+received_in states.Drained p e now mark d = dropped drops.Drained e
+received_in states.Open p e now mark d = headed (decoded (fixed_length_id own_id_length) (known e.ids) d) p e now mark d
+received_in states.Closing p e now mark d = headed (decoded (fixed_length_id own_id_length) (known e.ids) d) p e now mark d
 
--- what an end makes of a datagram that comes
-abbrev pub received : Policy → End → Arrival → List ℕ → Outcome
-received p e arrival d = received_in e.closing.state p e arrival d
+-- what an end makes of a datagram that comes at a moment, with a mark or with none
+abbrev pub received : Policy → End → ℕ → Option EcnCodepoint → List ℕ → Outcome
+received p e now mark d = received_in e.closing.state p e now mark d
 
 -- ---- what the controller is told (RFC 9002, section 7)
 

@@ -1,7 +1,7 @@
 use quic_recovery_core::Dedup;
 use quic_spaces::Acknowledging;
-use quic_time::Instant;
 use quic_wire::frame::EcnCounts;
+use quic_time::Instant;
 use std::alloc::AllocError;
 use std::process::Abort;
 use std::test::Fail;

@@ -3,7 +3,6 @@
 #![tactic(auto)]
 
 mod ids;
-pub mod laws;
 mod lists;
 mod queries;
 mod retransmits;

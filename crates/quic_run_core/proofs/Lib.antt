@@ -7,4 +7,3 @@ pub mod Taking
 pub mod Running
 pub mod Making
 pub mod Given
-mod Kept

@@ -14,4 +14,3 @@ pub mod Reading
 pub mod Outcomes
 pub mod Opened
 pub mod Refusals
-pub mod Erased

@@ -4,7 +4,7 @@ use Rattle.quic_wire_core.specs.declared.stream_id.Side.{Side}
 use Rattle.quic_wire_core.specs.declared.stream_id.Side.TheVariants.{Client, Server}
 use Rattle.quic_wire.specs.Value.{FrameValue, StreamValue, stream}
 use Rattle.quic_congestion.specs.Congestion.{Sent}
-use Rattle.quic_config.specs.Transport.{default_settings}
+use Rattle.quic_worked.specs.Settings.{plain_settings}
 use Rattle.quic_machine.specs.declared.run.Answer.TheVariants as answers
 use Rattle.quic_machine.specs.End.{IsMade}
 use Rattle.quic_machine.specs.Control.{bytes_in_flight, is_window_full}
@@ -28,14 +28,14 @@ use Rattle.quic_worked.proofs.WorkedRun.{parameters_say, opens as opens_first, w
 
 -- ---- the premises
 
-pub held_started : AreStarted held_start
+held_started : AreStarted held_start
 held_started = record {
   client_making = record (making client_id) { windows = narrow_windows };
   server_making = record (making server_id) { windows = narrow_windows };
-  client_is = record { range = record { receive_window = lit< tt; stream_receive_window = lit< tt; initial_mtu = lit≤ tt }; says = parameters_say; id = refl };
-  server_is = record { range = record { receive_window = lit< tt; stream_receive_window = lit< tt; initial_mtu = lit≤ tt }; says = parameters_say; id = refl };
-  client = subst (λ read. IsMade Client default_settings narrow_windows read client_id server_id 0 true 63 held_start.client) (sym parameters_say) refl;
-  server = subst (λ read. IsMade Server default_settings narrow_windows read server_id client_id 0 true 63 held_start.server) (sym parameters_say) refl;
+  client_is = record { range = record { receive_window = lit< tt; stream_receive_window = lit< tt; bounds = record { bidi = lit≤ tt; uni = lit≤ tt; divides = lit< tt; initial = lit≤ tt; least = lit≤ tt }; search = tt }; sizes = lit≤ tt; says = parameters_say; id = refl };
+  server_is = record { range = record { receive_window = lit< tt; stream_receive_window = lit< tt; bounds = record { bidi = lit≤ tt; uni = lit≤ tt; divides = lit< tt; initial = lit≤ tt; least = lit≤ tt }; search = tt }; sizes = lit≤ tt; says = parameters_say; id = refl };
+  client = subst (λ read. IsMade Client plain_settings narrow_windows read client_id server_id 0 true 63 held_start.client) (sym parameters_say) refl;
+  server = subst (λ read. IsMade Server plain_settings narrow_windows read server_id client_id 0 true 63 held_start.server) (sym parameters_say) refl;
   client_gave = refl;
   server_gave = refl;
 }
@@ -49,15 +49,15 @@ held_is_honest = record { start = held_started; keys = are_keys; ids = own_ids h
 
 -- ---- the machine's run
 
-pub opens : IsStep worked_policies held_start opens_stream (answers.Open (Some 0)) (once_held 1)
+opens : IsStep worked_policies held_start opens_stream (answers.Open (Some 0)) (once_held 1)
 unfolding once_held
 opens = record { answer = refl; end = refl; control = refl; others = refl; lacking = tt }
 
-pub writes : IsStep worked_policies (once_held 1) (writes_bytes (replicate 4000 0x61)) (answers.Write (Ok 4000)) (once_held 2)
+writes : IsStep worked_policies (once_held 1) (writes_bytes (replicate 4000 0x61)) (answers.Write (Ok 4000)) (once_held 2)
 unfolding once_held
 writes = record { answer = inl refl; end = refl; control = refl; others = refl; lacking = λ lacks. cc }
 
-pub gives : IsStep worked_policies (once_held 2) (asks_at Client 0) (gives_bytes 1200) (once_held 3)
+gives : IsStep worked_policies (once_held 2) (asks_at Client 0) (gives_bytes 1200) (once_held 3)
 unfolding once_held
 gives = record { answer = inl refl; end = refl; control = refl; others = refl; lacking = tt }
 
@@ -81,15 +81,15 @@ holds_again : IsStep worked_policies (once_held 7) (asks_at Client 1024000000) g
 unfolding once_held
 holds_again = record { answer = inl refl; end = refl; control = refl; others = refl; lacking = tt }
 
-pub unset_seen : held_view (view_with None None) ≡ view_of (once_held 1)
+unset_seen : held_view (view_with None None) ≡ view_of (once_held 1)
 unfolding once_held
 unset_seen = refl
 
-pub written_seen : held_view (view_with None None) ≡ view_of (once_held 2)
+written_seen : held_view (view_with None None) ≡ view_of (once_held 2)
 unfolding once_held
 written_seen = refl
 
-pub given_seen : full_view ≡ view_of (once_held 3)
+given_seen : full_view ≡ view_of (once_held 3)
 unfolding once_held
 given_seen = refl
 

@@ -69,15 +69,15 @@ no_changed_again read by = behind_sent (never_behind_lost (behind refl gives_aga
 
 -- ---- an acknowledgement of one number more
 
-pub waits_once : IsStep worked_policies once_taken server_waits (answers.Timeout (Ok tt)) once_due
+waits_once : IsStep worked_policies once_taken server_waits (answers.Timeout (Ok tt)) once_due
 unfolding once_taken
 waits_once = record { answer = inl refl; end = refl; control = refl; others = refl; lacking = tt }
 
-pub names_once : IsStep worked_policies once_due server_polled (gives_bytes 32) once_named
+names_once : IsStep worked_policies once_due server_polled (gives_bytes 32) once_named
 unfolding once_named
 names_once = record { answer = inl refl; end = refl; control = refl; others = refl; lacking = tt }
 
-pub takes_name : IsStep worked_policies once_named client_delivered (answers.Deliver receives.Taken) once_acked
+takes_name : IsStep worked_policies once_named client_delivered (answers.Deliver receives.Taken) once_acked
 unfolding once_acked
 takes_name = record { answer = inl refl; end = refl; control = refl; others = refl; lacking = tt }
 
@@ -145,7 +145,7 @@ no_silence read = behind_sent (behind refl takes (behind refl waits_once (behind
 pub twice_told : (read : ReadCall) → FinishedIsTold (asked_run read (tells_finished ∷ tells_finished ∷ [])) → ⊥
 twice_told read h = let most : 2 ≤ 1 = (h Client 0 10 refl).0 in omega (arith, most)
 
-pub tells_once : IsStep worked_policies once_acked asks_event tells_finished once_told
+tells_once : IsStep worked_policies once_acked asks_event tells_finished once_told
 unfolding once_acked
 tells_once = record { answer = refl; end = refl; control = refl; others = refl; lacking = tt }
 

@@ -77,24 +77,6 @@ early_limit = record {
   from_server = [];
 }
 
--- ---- an end that closes silently
-
--- what is seen of an end that is drained, and shows no reason
-abbrev pub silent_view : EndView
-silent_view = record { state = states.Drained; reason = None; validated = true; timers = replicate 9 None; window = steady_window; current_mtu = 1200 }
-
--- a client that is drained at its first poll, for no reason
-abbrev pub drains_silently : Run
-drains_silently = record {
-  keys = worked_policies;
-  start = started;
-  events = asks_datagram ∷ [];
-  answers = answers.Poll (Ok None) ∷ [];
-  views = record { client = silent_view; server = open_view } ∷ [];
-  from_client = [];
-  from_server = [];
-}
-
 -- ---- numbers that are used up
 
 -- both ends, of which the client gives two numbers more at most: no new end is so, which has given none

@@ -3,25 +3,20 @@
 #![tactic(auto)]
 
 pub mod acknowledged;
-pub mod blocked;
 pub mod broken;
 pub mod chunked;
 pub mod closed;
 pub mod credit;
 pub mod exchange;
-pub mod faults;
 pub mod held;
-pub mod isolated;
 pub mod limited;
 pub mod machines;
 pub mod measured;
 pub mod messages;
-pub mod paced;
 pub mod paired;
 pub mod picked;
 pub mod probed;
 pub mod raised;
 pub mod reordered;
-pub mod rested;
 pub mod timed;
 pub mod worked;

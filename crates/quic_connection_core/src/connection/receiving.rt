@@ -7,7 +7,6 @@ ghost use Rattle.quic_time.specs.Timers.{no_timers};
 ghost use Rattle.quic_wire.specs.FrameView.{frame_view, item_view};
 ghost use Rattle.quic_machine.specs.End.{with_end, policy_of, closed_by, HasFailed};
 ghost use Rattle.quic_machine.specs.Opens.{own_id_length, would_open};
-ghost use Rattle.quic_machine.specs.Arrival.{arriving};
 ghost use Rattle.quic_machine.specs.Receive.{is_above, names_ungiven, received, opened_to, processed, fault_of_breach, plain_error, take_ack, take_frame, take_item, take_items, take_payload, told_received, told_opened, told_processed, told_payload, told_items, told_item, told_ack, item_asks, asks_in, opening, error_of, reason_of, drop_of, violation};
 ghost use Rattle.quic_connection_core.specs.Drawn.{words_of};
 ghost use Rattle.quic_connection_core.specs.Telling.{telling, KeepsKeys};
@@ -116,14 +115,14 @@ impl<H: HeaderKey + Drop, K: PacketKey + Drop, R: Rng + Drop, C: Controller> Con
         ecn: Option<EcnCodepoint>,
         datagram: &mut [u8],
     ) -> Received
-        ensures answer { result ≢ Received.Failed → result ≡ (received (policy_of H.protection K.aead (words_of R.stream) self.old) self.old.end (arriving now ecn) datagram.old).answer }
+        ensures answer { result ≢ Received.Failed → result ≡ (received (policy_of H.protection K.aead (words_of R.stream) self.old) self.old.end now ecn datagram.old).answer }
         ensures end { result ≢ Received.Failed → self.new ≡ telling C.steps self.old
             (told_received (policy_of H.protection K.aead (words_of R.stream) self.old) self.old.end now datagram.old)
-            (received (policy_of H.protection K.aead (words_of R.stream) self.old) self.old.end (arriving now ecn) datagram.old).end }
+            (received (policy_of H.protection K.aead (words_of R.stream) self.old) self.old.end now ecn datagram.old).end }
         ensures failed { result ≡ Received.Failed → HasFailed self.old self.new }
         ensures before { result ≡ Received.Failed → self.old.end.closing.state ≢ State.Failed }
         ensures stopped { result ≡ Received.Failed → self.new.end.timers ≡ no_timers }
-        ensures lacking { result ≡ Received.Failed → TakesFrames (received (policy_of H.protection K.aead (words_of R.stream) self.old) self.old.end (arriving now ecn) datagram.old).answer }
+        ensures lacking { result ≡ Received.Failed → TakesFrames (received (policy_of H.protection K.aead (words_of R.stream) self.old) self.old.end now ecn datagram.old).answer }
     {
         self.stats.udp_rx.on_datagram(datagram.len());
         self.take_datagram(now, ecn, datagram)
@@ -136,14 +135,14 @@ impl<H: HeaderKey + Drop, K: PacketKey + Drop, R: Rng + Drop, C: Controller> Con
         ecn: Option<EcnCodepoint>,
         datagram: &mut [u8],
     ) -> Received
-        ensures answer { result ≢ Received.Failed → result ≡ (received (policy_of H.protection K.aead (words_of R.stream) self.old) self.old.end (arriving now ecn) datagram.old).answer }
+        ensures answer { result ≢ Received.Failed → result ≡ (received (policy_of H.protection K.aead (words_of R.stream) self.old) self.old.end now ecn datagram.old).answer }
         ensures end { result ≢ Received.Failed → self.new ≡ telling C.steps self.old
             (told_received (policy_of H.protection K.aead (words_of R.stream) self.old) self.old.end now datagram.old)
-            (received (policy_of H.protection K.aead (words_of R.stream) self.old) self.old.end (arriving now ecn) datagram.old).end }
+            (received (policy_of H.protection K.aead (words_of R.stream) self.old) self.old.end now ecn datagram.old).end }
         ensures failed { result ≡ Received.Failed → HasFailed self.old self.new }
         ensures before { result ≡ Received.Failed → self.old.end.closing.state ≢ State.Failed }
         ensures stopped { result ≡ Received.Failed → self.new.end.timers ≡ no_timers }
-        ensures lacking { result ≡ Received.Failed → TakesFrames (received (policy_of H.protection K.aead (words_of R.stream) self.old) self.old.end (arriving now ecn) datagram.old).answer }
+        ensures lacking { result ≡ Received.Failed → TakesFrames (received (policy_of H.protection K.aead (words_of R.stream) self.old) self.old.end now ecn datagram.old).answer }
     {
         match self.state() {
             State::Failed => return Received::Dropped(DropReason::Failed),
@@ -213,11 +212,11 @@ impl<H: HeaderKey + Drop, K: PacketKey + Drop, R: Rng + Drop, C: Controller> Con
         payload: &[u8],
     ) -> Received
         requires { opened.now.number < 2 ^ 62 }
-        ensures answer { result ≢ Received.Failed → result ≡ (opened_to (record { first = opened.now.first; number = opened.now.number; payload = payload.now }) (arriving now ecn) self.old.end).answer }
-        ensures end { result ≢ Received.Failed → self.new ≡ telling C.steps self.old (told_opened (record { first = opened.now.first; number = opened.now.number; payload = payload.now }) now self.old.end) (opened_to (record { first = opened.now.first; number = opened.now.number; payload = payload.now }) (arriving now ecn) self.old.end).end }
+        ensures answer { result ≢ Received.Failed → result ≡ (opened_to (record { first = opened.now.first; number = opened.now.number; payload = payload.now }) now ecn self.old.end).answer }
+        ensures end { result ≢ Received.Failed → self.new ≡ telling C.steps self.old (told_opened (record { first = opened.now.first; number = opened.now.number; payload = payload.now }) now self.old.end) (opened_to (record { first = opened.now.first; number = opened.now.number; payload = payload.now }) now ecn self.old.end).end }
         ensures failed { result ≡ Received.Failed → HasFailed self.old self.new }
         ensures stopped { result ≡ Received.Failed → self.new.end.timers ≡ no_timers }
-        ensures lacking { result ≡ Received.Failed → TakesFrames (opened_to (record { first = opened.now.first; number = opened.now.number; payload = payload.now }) (arriving now ecn) self.old.end).answer }
+        ensures lacking { result ≡ Received.Failed → TakesFrames (opened_to (record { first = opened.now.first; number = opened.now.number; payload = payload.now }) now ecn self.old.end).answer }
     {
         if opened.key_phase() {
             return Received::Dropped(DropReason::KeyPhase);
@@ -242,11 +241,11 @@ impl<H: HeaderKey + Drop, K: PacketKey + Drop, R: Rng + Drop, C: Controller> Con
         payload: &[u8],
     ) -> Received
         requires { opened.now.number < 2 ^ 62 }
-        ensures answer { result ≢ Received.Failed → result ≡ (processed (record { first = opened.now.first; number = opened.now.number; payload = payload.now }) (arriving now ecn) self.old.end).answer }
-        ensures end { result ≢ Received.Failed → self.new ≡ telling C.steps self.old (told_processed (record { first = opened.now.first; number = opened.now.number; payload = payload.now }) now self.old.end) (processed (record { first = opened.now.first; number = opened.now.number; payload = payload.now }) (arriving now ecn) self.old.end).end }
+        ensures answer { result ≢ Received.Failed → result ≡ (processed (record { first = opened.now.first; number = opened.now.number; payload = payload.now }) now ecn self.old.end).answer }
+        ensures end { result ≢ Received.Failed → self.new ≡ telling C.steps self.old (told_processed (record { first = opened.now.first; number = opened.now.number; payload = payload.now }) now self.old.end) (processed (record { first = opened.now.first; number = opened.now.number; payload = payload.now }) now ecn self.old.end).end }
         ensures failed { result ≡ Received.Failed → HasFailed self.old self.new }
         ensures stopped { result ≡ Received.Failed → self.new.end.timers ≡ no_timers }
-        ensures lacking { result ≡ Received.Failed → TakesFrames (processed (record { first = opened.now.first; number = opened.now.number; payload = payload.now }) (arriving now ecn) self.old.end).answer }
+        ensures lacking { result ≡ Received.Failed → TakesFrames (processed (record { first = opened.now.first; number = opened.now.number; payload = payload.now }) now ecn self.old.end).answer }
     {
         self.tick(now);
         match self.take_packet(ecn, opened, payload) {

@@ -72,7 +72,7 @@ pending_queued s id h orderly found pending = go h.place refl (orderly.queue.pen
     go (Some p) is some = standing_queued s.sending.queue.entries (is_at (place_cmp p)) id (orderly.queue.stand.placed id p (ap place_of found ∙ is))
 
 -- so the end waits to be polled
-pub half_queued : (e : End) → can_send_stream_data e.streams ≡ true → waits e ≡ true
+half_queued : (e : End) → can_send_stream_data e.streams ≡ true → waits e ≡ true
 half_queued e queued =
     or_right (can_send e.acknowledging) (asks_to_go e)
     (or_right e.waiting.ping (not (is_empty e.waiting.frames e.streams) || (message_waits e || can_send_stream_data e.streams))
@@ -86,7 +86,7 @@ any_reset : (id : ℕ) (rs : List (ℕ × ℕ)) → has_reset id rs ≡ true →
 any_reset id [] is = cc
 any_reset id (r ∷ rs) is = refl
 
-pub reset_queued : (e : End) (id : ℕ) → has_reset id e.waiting.frames.reset_stream ≡ true → waits e ≡ true
+reset_queued : (e : End) (id : ℕ) → has_reset id e.waiting.frames.reset_stream ≡ true → waits e ≡ true
 reset_queued e id is =
     or_right (can_send e.acknowledging) (asks_to_go e)
     (or_right e.waiting.ping (not (is_empty e.waiting.frames e.streams) || (message_waits e || can_send_stream_data e.streams))
@@ -105,7 +105,7 @@ limit_any (StreamData id) e matters waits = ap not (fills MaxStreamData e.waitin
     ]
 limit_any (StreamCount dir) e matters waits = ap not (fills (MaxStreams dir) e.waiting.frames e.streams waits)
 
-pub limit_queued : (e : End) (what : Limited) → Matters e what → limit_waits e.waiting.frames what ≡ true → waits e ≡ true
+limit_queued : (e : End) (what : Limited) → Matters e what → limit_waits e.waiting.frames what ≡ true → waits e ≡ true
 limit_queued e what matters waits =
     or_right (can_send e.acknowledging) (asks_to_go e)
     (or_right e.waiting.ping (not (is_empty e.waiting.frames e.streams) || (message_waits e || can_send_stream_data e.streams))

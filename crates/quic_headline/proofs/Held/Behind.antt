@@ -1,12 +1,11 @@
 -- Behind a poll that gave nothing and left its end open: what its end still has to give is held back, as the view shows.
-use Rattle.std.proofs.Common.{◌≡◌, ℕ, zero, suc, ◌+◌, ◌<◌, ◌≤◌, true, false, List, [], ◌∷◌, ◌++◌, take, Option, Some, None, Ok, Err, refl, sym, ap, ◌∙◌, subst, ◌⊎◌, inl, inr, arith}
-use Rattle.std.specs.Prelude.{slice_get, not, ◌&&◌}
-use Rattle.std.proofs.lemmas.Bool.{leb-true, or_parts}
+use Rattle.std.proofs.Common.{◌≡◌, ℕ, zero, suc, ◌+◌, ◌<◌, ◌≤◌, true, List, [], ◌∷◌, ◌++◌, take, Option, Some, None, Ok, Err, refl, sym, ap, ◌∙◌, subst, ◌⊎◌, inl, inr, arith}
+use Rattle.std.specs.Prelude.{slice_get}
+use Rattle.std.proofs.lemmas.Bool.{leb-true}
 use Rattle.quic_wire_core.specs.declared.stream_id.Side.{Side}
 use Rattle.quic_wire_core.specs.declared.stream_id.Side.TheVariants.{Client, Server}
 use Rattle.quic_wire_core.specs.StreamId.{other_side}
 use Rattle.quic_time.specs.Timers.{each_timer}
-use Rattle.quic_recovery_core.specs.PendingAcks.{can_send}
 use Rattle.quic_congestion.specs.Congestion.{Told}
 use Rattle.quic_machine.specs.declared.answers.State.TheVariants as states
 use Rattle.quic_machine.specs.declared.run.RunEvent.{RunEvent}
@@ -18,7 +17,7 @@ use Rattle.quic_machine.specs.declared.run.View.{View}
 use Rattle.quic_machine.specs.Parts.{current_mtu}
 use Rattle.quic_machine.specs.Policy.{Policy}
 use Rattle.quic_machine.specs.End.{End, with_window}
-use Rattle.quic_machine.specs.Control.{Control, Gated, after_told, bytes_in_flight, is_window_full}
+use Rattle.quic_machine.specs.Control.{Control, after_told, bytes_in_flight, is_window_full}
 use Rattle.quic_machine.specs.Poll.{Polled, asks_to_go, rests, polled, told_polled}
 use Rattle.quic_machine.specs.PollCases.{ready_at}
 use Rattle.quic_machine.specs.Machine.{World, Policies, IsStep, Follows, policy_at, end_at, control_at, view_of}
@@ -68,7 +67,7 @@ last_step k (suc i) w end (e ∷ events) (b ∷ answers) (v ∷ views) event a a
 -- ---- what a view shows
 
 -- the window that a controller shows
-pub window_shown : (side : Side) (w : World) → window_in (view_of w) side ≡ control_at side w []
+window_shown : (side : Side) (w : World) → window_in (view_of w) side ≡ control_at side w []
 window_shown Client w = refl
 window_shown Server w = refl
 
@@ -109,12 +108,6 @@ module _ (r : Run) (side : Side) (i now : ℕ) (v : View) (w : World) (leads : L
   -- it rests
   at_rest : end_at side w ≡ rests (ready_at met now)
   at_rest = left ∙ still.leaves
-
-  -- and no acknowledgement is due
-  pub none_due : can_send (end_at side w).acknowledging ≡ false
-  none_due =
-      let g : Gated = ready_at met now in
-      ap (λ (e : End). can_send e.acknowledging) at_rest ∙ (or_parts (can_send g.end.acknowledging) (not g.held && asks_to_go g.end) still.none).0
 
   -- the view shows the window that it read
   pub window_at : window_in v side ≡ (end_at side w).path.window

@@ -118,10 +118,10 @@ module _ (arrived : ℕ → ℕ → Type 0) (end_arrived : ℕ → Type 0) (k : 
           on_messages = λ on answer. i;
           pings = i;
           heard = λ path same. i;
-          times = λ now expiry set. by_expired e now (λ (f : End). Settling arrived end_arrived k n w f.streams) (λ pending tracking timers runs packets. i)
-              (λ pending timers runs. expiry_stays (λ (t : Streams). Settling arrived end_arrived k n w t.state) e now (losing e.tracking.packets ends) i pending timers) expiry;
+          times = λ now acks loss pacing set. by_expired e now (λ (f : End). Settling arrived end_arrived k n w f.streams) (λ pending tracking timers runs packets. i)
+              (λ pending timers runs. expiry_stays (λ (t : Streams). Settling arrived end_arrived k n w t.state) e now (losing e.tracking.packets ends) i pending timers) acks loss pacing;
           polls = λ now set. cc;
-          hears = λ arrival d set. cc;
+          hears = λ now mark d set. cc;
           tells = λ asks. cc;
         }))
 
@@ -298,6 +298,8 @@ module _ (sents : List Sent) (w : ℕ → Wrote) (says : (s : Sent) → In s sen
   open_loses : (n : ℕ → ℕ) → Loses (λ flying acked e. AllSent sents flying × Open sents w n acked e)
   open_loses n = record {
     tracked = λ flying acked t e i. i;
+    searched = λ flying acked d e i. i;
+    shortens = λ flying acked most e i. i;
     loses = λ flying acked gone left ps e inside stays waits i. (
       (λ s j. i.0 s (stays s j)),
       lost_all (λ id o. HoldsOffset acked id o) (λ id. HoldsEnd acked id) (known_of sents acked) n ps e (flying_ended flying gone ps i.0 inside waits) i.1,
@@ -337,6 +339,8 @@ module _ (took : List Packet) (sents : List Sent) (n : ℕ → ℕ) (w : ℕ →
     acked = λ c m e was among i. acked_holds Any AnyEnd n w nothing_known nothing_known m e (knows_none m) (record { bytes = λ o from below. tt; end = λ fin. tt; ended = carried_ended c m was among }) i;
     lost = λ c m e was among i. lost_holds Any AnyEnd n w nothing_known m e (sent_ended sents w says was.sent was.among m (carried_stream c was.sent.frames was.is m among)) i;
     again = λ c e was i. i;
+    searched = λ discovery e i. i;
+    shortens = λ most e i. i;
     tracked = λ t e i. i;
     measured = λ r first e i. i;
     marked = λ m marking e i. i;

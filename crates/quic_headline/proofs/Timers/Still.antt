@@ -1,13 +1,12 @@
 -- An end that is open behind a call was open before it.
 use Rattle.std.proofs.Common.{◌≡◌, ℕ, Bool, List, sym, ap, ◌∙◌}
-use Rattle.quic_machine.specs.Timeouts.{Expiry}
 use Rattle.quic_machine.specs.declared.answers.State.TheVariants as states
 use Rattle.quic_machine.specs.declared.run.Call.{Call}
 use Rattle.quic_machine.specs.declared.run.Answer.{Answer}
 use Rattle.quic_machine.specs.Policy.{Policy}
 use Rattle.quic_machine.specs.Closing.{Closing, ticked}
 use Rattle.quic_machine.specs.End.{End, with_closing}
-use Rattle.quic_machine.specs.Poll.{Polled, lazied, polled}
+use Rattle.quic_machine.specs.Poll.{Polled, polled}
 use Rattle.quic_machine.specs.Machine.{after_call}
 use Rattle.quic_machine.specs.CallCases.{by_plain_call}
 use Rattle.quic_machine.specs.LeaveCases.{at_expiry, by_expired}
@@ -33,18 +32,18 @@ opened_receives e = record {
   closes = λ reason f i opened. cc;
 }
 
-opened_expired : (e : End) (now : ℕ) (expiry : Expiry) → WasOpen e (at_expiry e now expiry)
+opened_expired : (e : End) (now : ℕ) (acks loss pacing : Bool) → WasOpen e (at_expiry e now acks loss pacing)
 opened_expired e now = by_expired e now (WasOpen e) (λ pending tracking timers runs packets opened. opened) (λ pending timers runs opened. ap (λ (c : Closing). c.state) (sym (settles_losses (with_closing e (ticked e.closing now))).closing) ∙ opened)
 
 opened_polled : (p : Policy) (e : End) (now : ℕ) → WasOpen e (polled p e now).end
 opened_polled p e now = by_poll p e now (λ (q : Polled). WasOpen e q.end) (record {
   silent = λ opened. opened;
   failed = λ opened. opened;
-  nothing = λ t w moment pacing limited opened. opened;
-  used_up = λ t w moment pacing opened. cc;
-  gives = λ held t w moment pacing paid tracking timers is may ready some opened.
-      let x : End = at_poll e now t w moment pacing e.path.app_limited in
-      ap (λ (c : Closing). c.state) (sym (composes held (lazied x) (may_leave e now held x ready some)).closing) ∙ opened;
+  nothing = λ c opened. opened;
+  used_up = λ c opened. cc;
+  gives = λ leaving c left is may ready some opened.
+      let x : End = at_poll e now c in
+      ap (λ (c : Closing). c.state) (sym (composes leaving x (may_leave e now leaving x ready)).closing) ∙ opened;
 })
 
 -- behind any call
@@ -55,8 +54,8 @@ was_open p e theirs call a = by_plain_call p e theirs (WasOpen e) call a (record
   on_messages = λ m opened. opened;
   pings = λ opened. opened;
   heard = λ path same opened. opened;
-  times = λ now expiry is. opened_expired e now expiry;
+  times = λ now acks loss pacing is. opened_expired e now acks loss pacing;
   polls = λ now is. opened_polled p e now;
-  hears = λ arrival d is. by_received (WasOpen e) (opened_receives e) p e arrival d (λ opened. opened);
+  hears = λ now mark d is. by_received (WasOpen e) (opened_receives e) p e now mark d (λ opened. opened);
   tells = λ told opened. opened;
 })

@@ -1,0 +1,160 @@
+//! The search for a greater size of datagrams (RFC 8899; RFC 9000, section 14.3).
+ghost use Rattle.std.specs.Prelude.{◌≡◌, None};
+ghost use Rattle.quic_congestion.specs.Search.{open_probe, after_probe_lost, after_packet_lost, after_question};
+ghost use Rattle.quic_machine.specs.Control.{with_app_limited};
+ghost use Rattle.quic_machine.specs.End.{with_end, with_discovery};
+ghost use Rattle.quic_machine.specs.MessageCalls.{most_message};
+ghost use Rattle.quic_machine.specs.Poll.{searched_if};
+ghost use Rattle.quic_machine.specs.Sizes.{may_search, search_names, search_asked, told_size, told_probe, search_acked, with_one_lost, with_searched, without_longer_if};
+ghost use Rattle.quic_machine.specs.Tracking.{TrackedPacket};
+ghost use Rattle.quic_connection_core.specs.Leaving.{Leaves, rested};
+ghost use Rattle.quic_connection_core.specs.Losses.{asked_if};
+ghost use Rattle.quic_connection_core.specs.Telling.{telling};
+
+use crate::connection::Connection;
+use crate::connection::leaving::Leaving;
+use crate::connection::losses::Losses;
+use crate::connection::telling::tell_resized;
+use quic_congestion::Controller;
+use quic_packet::crypto::{HeaderKey, PacketKey};
+use rand_core::Rng;
+
+impl<H: HeaderKey + Drop, K: PacketKey + Drop, R: Rng + Drop, C: Controller> Connection<
+    H,
+    K,
+    R,
+    C,
+> {
+    /// Whether a greater size may be looked for: the search is on, the peer's address is validated,
+    /// and the window has room for the greatest size that is looked at.
+    fn may_search(&self) -> bool
+        ensures { result ≡ may_search self.now.end }
+    {
+        match self.path.mtud.upper_bound() {
+            Some(bound) if self.path.validated => {
+                let bound = u128::from(bound);
+                self.bytes_in_flight().saturating_add(bound) < u128::from(self.window)
+            }
+            Some(_) | None => false,
+        }
+    }
+
+    /// A probe of the size that the search names, where one may be looked for and it names one.
+    pub(crate) fn search(&mut self) -> Option<Leaving>
+        ensures leaving { Leaves result (searched_if (may_search self.old.end) self.old.end).leaving }
+        ensures end { self.new ≡ with_end self.old (rested (searched_if (may_search self.old.end) self.old.end)) }
+    {
+        if !self.may_search() {
+            return self.rest();
+        }
+        match self.ask_search() {
+            Some(size) => Some(Leaving::Probe(size)),
+            None => self.rest(),
+        }
+    }
+
+    /// The size that the search names at this moment, if it names one: a probe of it is open then,
+    /// under the next number.
+    fn ask_search(&mut self) -> Option<u16>
+        ensures named { result ≡ search_names self.old.end }
+        ensures end { self.new ≡ with_end self.old (search_asked self.old.end) }
+    {
+        let now = self.closing.clock();
+        let number = self.number();
+        self.path.mtud.poll_transmit(now, number)
+    }
+
+    /// Nothing goes, for want of anything to send.
+    fn rest(&mut self) -> Option<Leaving>
+        ensures none { result ≡ None }
+        ensures end { self.new ≡ with_end self.old (with_app_limited self.old.end true) }
+    {
+        self.app_limited = true;
+        None
+    }
+
+    /// The search for a size learns that a packet of so many bytes is acknowledged: as the open probe
+    /// it has the size of datagrams from then on, of which the controller is told where it changed.
+    pub(crate) fn search_acked(&mut self, number: u64, size: u16)
+        ensures { (p : TrackedPacket) → p.size ≡ size → self.new ≡ telling C.steps self.old (told_probe (number, p) self.old.end.path.discovery) (search_acked (number, p) self.old.end) }
+    {
+        let before = self.path.current_mtu();
+        self.path.mtud.on_acked(number, size);
+        tell_resized(&mut self.path, before);
+    }
+
+    /// The number of the open probe of a size, if one is open.
+    pub(crate) fn open_probe(&self) -> Option<u64>
+        ensures { result ≡ open_probe self.now.end.path.discovery }
+    {
+        self.path.mtud.in_flight_mtu_probe()
+    }
+
+    /// The search for a size learns that a packet of so many bytes is lost, which is its open probe or
+    /// isn't.
+    pub(crate) fn search_lost(&mut self, number: u64, size: u16, is_probe: bool)
+        ensures { (p : TrackedPacket) → p.size ≡ size → self.new ≡ with_end self.old (with_discovery self.old.end (with_one_lost is_probe (number, p) self.old.end.path.discovery)) }
+    {
+        if is_probe {
+            self.probe_lost();
+            return;
+        }
+        self.other_lost(number, size);
+    }
+
+    /// The search learns that its open probe is lost.
+    fn probe_lost(&mut self)
+        ensures { self.new ≡ with_end self.old (with_discovery self.old.end (after_probe_lost self.old.end.path.discovery)) }
+    {
+        self.count_lost_probe();
+        self.path.mtud.on_probe_lost();
+    }
+
+    /// The search learns that another packet of so many bytes is lost.
+    fn other_lost(&mut self, number: u64, size: u16)
+        ensures { self.new ≡ with_end self.old (with_discovery self.old.end (after_packet_lost number size self.old.end.path.discovery)) }
+    {
+        self.count_lost(size);
+        self.path.mtud.on_non_probe_lost(number, size);
+    }
+
+    /// Where packets other than a probe were lost, the path may carry less than before: where the size
+    /// of datagrams fell, the controller is told of it, and messages that are too long are dropped.
+    pub(crate) fn judge_size(&mut self, losses: &Losses)
+        ensures { let discovery = asked_if losses.now.others self.old.end.closing.clock self.old.end.path.discovery in
+            self.new ≡ telling C.steps self.old (told_size self.old.end.path.discovery discovery) (with_searched discovery self.old.end) }
+    {
+        if !losses.others {
+            return;
+        }
+        let before = self.path.current_mtu();
+        self.ask_size();
+        if self.path.current_mtu() != before {
+            self.drop_oversized();
+        }
+    }
+
+    /// The search is asked whether the path carries less than before: the controller is told of a size
+    /// that fell.
+    fn ask_size(&mut self)
+        ensures { let discovery = after_question self.old.end.closing.clock self.old.end.path.discovery in
+            self.new ≡ telling C.steps self.old (told_size self.old.end.path.discovery discovery) (with_discovery self.old.end discovery) }
+    {
+        let now = self.closing.clock();
+        let before = self.path.current_mtu();
+        let fell = self.path.mtud.black_hole_detected(now);
+        tell_resized(&mut self.path, before);
+        if fell {
+            self.count_black_hole();
+        }
+    }
+
+    /// Messages are dropped that are longer than one may be now.
+    fn drop_oversized(&mut self)
+        ensures { self.new ≡ with_end self.old (without_longer_if (most_message self.old.end) self.old.end) }
+    {
+        if let Some(most) = self.datagram_limits().max_size {
+            self.datagrams.drop_oversized(most);
+        }
+    }
+}
