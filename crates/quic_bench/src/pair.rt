@@ -108,8 +108,6 @@ fn making(side: Side, streams: VarInt) -> Making<NewRenoConfig, PlainHeaderKey, 
     transport.initial_mtu(DATAGRAM_SIZE);
     transport.min_mtu(DATAGRAM_SIZE);
     transport.max_concurrent_uni_streams(streams);
-    // The size of datagrams stays, so that as many go in each run.
-    transport.mtu_discovery_config(None);
     Making {
         config: Config::new(transport, NewRenoConfig::default()),
         id: id_of(side),

@@ -73,14 +73,6 @@ impl MtuDiscoveryConfig {
         self.minimum_change
     }
 
-    /// The same, of which the steps are seen.
-    pub(crate) fn stepped(self) -> Self
-        ensures same { result ≡ self }
-        ensures steps { 2 ≤ self.least_change }
-    {
-        self
-    }
-
     /// How long after the end of a search the next one begins.
     pub fn interval(&mut self, value: Duration) -> &mut Self
         ensures same_reference { result.ghost_name ≡ self.entry.ghost_name }

@@ -1,5 +1,5 @@
 //! What an end offers its peer, how much it buffers, and how it sends (quinn-proto's `config::transport`).
-ghost use Rattle.std.specs.Prelude.{◌≡◌, ◌<◌, ◌≤◌, min, max, ◌^◌, true, IfSome};
+ghost use Rattle.std.specs.Prelude.{◌≡◌, ◌<◌, ◌≤◌, min, max, ◌^◌, true};
 ghost use Rattle.quic_config.specs.Transport.{default_transport, told_timeout, told_frame_size, first_mtu};
 
 use crate::ack_frequency::AckFrequencyConfig;
@@ -79,7 +79,7 @@ pub struct TransportConfig {
 }
 
 impl Model for TransportConfig {
-    ghost use Rattle.std.specs.Prelude.{◌≤◌, ◌<◌, ◌^◌, IfSome};
+    ghost use Rattle.std.specs.Prelude.{◌≤◌, ◌<◌, ◌^◌};
     ghost use Rattle.quic_config.specs.Transport.{TransportSettings, AreInBounds};
 
     ghost Value = { TransportSettings };
@@ -107,8 +107,7 @@ impl Model for TransportConfig {
     } };
 
     ghost invariant = { λ c.
-        AreInBounds c.max_concurrent_bidi_streams c.max_concurrent_uni_streams c.time_threshold.1 c.initial_mtu c.min_mtu
-        × IfSome c.mtu_discovery_config (λ search. 2 ≤ search.least_change) };
+        AreInBounds c.max_concurrent_bidi_streams c.max_concurrent_uni_streams c.time_threshold.1 c.initial_mtu c.min_mtu };
 
     ghost inverse = { λ s. record {
       receive_window = s.receive_window;
@@ -270,7 +269,7 @@ impl TransportConfig {
         ensures same_reference { result.ghost_name ≡ self.entry.ghost_name }
         ensures value { result.now ≡ record self.old { mtu_discovery_config = value } }
     {
-        self.mtu_discovery_config = value.map(MtuDiscoveryConfig::stepped);
+        self.mtu_discovery_config = value;
         self
     }
 
@@ -417,8 +416,7 @@ impl TransportConfig {
 
     /// How a greater size of datagrams is looked for; `None` looks for none.
     pub fn get_mtu_discovery_config(&self) -> Option<MtuDiscoveryConfig>
-        ensures value { result ≡ self.now.mtu_discovery_config }
-        ensures steps { IfSome result (λ search. 2 ≤ search.least_change) }
+        ensures { result ≡ self.now.mtu_discovery_config }
     {
         self.mtu_discovery_config
     }
@@ -454,13 +452,12 @@ impl TransportConfig {
 
 impl TransportConfig {
     ghost use Rattle.quic_parameters.specs.Parameters.{AreInRange};
-    ghost use Rattle.quic_config.specs.Transport.{settings_with, parameters_of, IsInRange};
+    ghost use Rattle.quic_config.specs.Transport.{settings_with, parameters_of};
 
     /// What the peer is told of these settings by an end that can be asked when to acknowledge (RFC 9000, section 18.2).
     pub fn transport_parameters(&self) -> TransportParameters
         ensures value { result ≡ parameters_of (settings_with self.now true) }
         ensures in_range { AreInRange (parameters_of (settings_with self.now true)) }
-        ensures range { IsInRange (settings_with self.now true) }
     {
         let stream_window = bounded(self.stream_receive_window);
         TransportParameters {

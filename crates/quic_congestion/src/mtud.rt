@@ -1,7 +1,7 @@
 //! Looks for the greatest size of a datagram that a path carries.
 ghost use Rattle.std.specs.Prelude.{◌≡◌, ◌≤◌, false};
 ghost use Rattle.std.specs.Option.{is_some};
-ghost use Rattle.quic_congestion.specs.Search.{new_discovery, disabled_discovery, after_reset, search_bound, search_of, is_searching, open_probe, after_limit, poll_names, after_poll, acknowledged_probe, after_ack, probe_acknowledged, packet_acknowledged, after_probe_lost, after_packet_lost, finds_black_hole, after_question};
+ghost use Rattle.quic_congestion.specs.Search.{new_discovery, disabled_discovery, after_reset, search_of, is_searching, open_probe, after_limit, poll_names, after_poll, acknowledged_probe, after_ack, probe_acknowledged, packet_acknowledged, after_probe_lost, after_packet_lost, finds_black_hole, after_question};
 
 mod black_hole;
 mod enabled;
@@ -114,15 +114,6 @@ impl MtuDiscovery {
         ensures { result ≡ is_searching self.now }
     {
         self.search().is_some()
-    }
-
-    /// The greatest size that is looked at, in bytes: the configured one, or the peer's limit where that is less. None where the
-    /// search is disabled.
-    pub fn upper_bound(&self) -> Option<u16>
-        ensures { result ≡ search_bound self.now }
-    {
-        let state = self.state?;
-        Some(within_limit(state.upper_bound(), self.peer_limit))
     }
 
     /// The size of a probe, in bytes, that is to go now under the next packet number. It is open then, until it is

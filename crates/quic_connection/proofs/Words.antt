@@ -3,9 +3,6 @@ use Rattle.std.proofs.Common.{◌≡◌, ◌≤◌, ℕ, ◌-◌, Bool, true, fa
 use Rattle.std.specs.Option.{option_to_list}
 use Rattle.std.specs.declared.alloc.AllocError.{AllocError}
 use Rattle.std.specs.Prelude.{◌≢◌, ◌⊎◌, ◌++◌, IfOk, OnOk, OnErr, Result, Ok, Err, if◌then◌else◌, slice_get, is_some}
-use Rattle.quic_wire_core.specs.declared.shared.EcnCodepoint.{EcnCodepoint}
-use Rattle.quic_machine.specs.declared.run.Delivery.{Delivery}
-use Rattle.quic_machine.specs.declared.run.Injection.{Injection}
 use Rattle.rand_core.specs.Stream.{Stream}
 use Rattle.quic_wire_core.specs.declared.stream_id.Side.{Side}
 use Rattle.quic_wire_core.specs.declared.stream_id.Side.TheVariants.{Client, Server}
@@ -33,11 +30,12 @@ use Rattle.quic_machine.specs.End.{End, ConnectionValue, HasFailed, with_window,
 use Rattle.quic_machine.specs.Receive.{Outcome, is_above, names_ungiven, take_frame, headed, received_in, received, told_headed, told_received_in, told_received}
 use Rattle.quic_machine.specs.Opens.{opens_behind, would_open, own_id_length}
 use Rattle.quic_machine.specs.Control.{with_app_limited}
-use Rattle.quic_machine.specs.Poll.{Polled, gives_datagram, datagram_of, datagram_size, asking, paid_if, tracked, goes, sends, polled_if, polled_in, polled}
+use Rattle.quic_machine.specs.Poll.{Polled, gives_datagram, datagram_of, datagram_size, asking, paid_if, tracked, lazied, goes, sends, polled_if, polled_in, polled}
 use Rattle.quic_machine.specs.Control.{Control, after_told}
+use Rattle.quic_machine.specs.DraftLaws.{due_alone}
 use Rattle.quic_machine.specs.FrameCases.{Settling, losses_keep, named, ack_taken, acked_keeps, message_leaves, by_received}
 use Rattle.quic_machine.specs.LeaveCases.{by_expired}
-use Rattle.quic_machine.specs.PollCases.{ready_at, ready_leaves, draft_at, may_leave_at, composes, by_poll_to}
+use Rattle.quic_machine.specs.PollCases.{ready_at, ready_leaves, draft_at, composes, by_poll_to}
 use Rattle.quic_machine.specs.CallCases.{is_poll, by_plain_call}
 use Rattle.quic_machine.specs.Machine.{World, Policies, IsAnswer, IsDelivered, injected_if, IsLeft, IsTold, IsStep, after_call, after_delivered, after_injected_if, tells, told_delivered, gives, fails, changed, policy_at, end_at, end_met, reads_window, control_at, given_by}
 use Rattle.quic_machine.specs.Lacking.{GivesOrHasFailed, TakesFrames, MovesRecord, DeliveryTakes, LacksWhere}
@@ -55,10 +53,10 @@ abbrev Quiet : End → End → Type 0
 Quiet e f = (f.filter ≡ e.filter) × (f.closing.state ≢ states.Failed → e.closing.state ≢ states.Failed)
 
 settling : (e : End) → Settling (Quiet e)
-settling e = record { known = λ n x q. q; reset = λ id x q. q; acked = λ m x q. q; lost = λ m x q. q; again = λ c x q. q; searched = λ d x q. q; shortens = λ most x q. q; tracked = λ t x q. q; measured = λ r first x q. q; marked = λ m marking x q. q }
+settling e = record { known = λ n x q. q; reset = λ id x q. q; acked = λ m x q. q; lost = λ m x q. q; again = λ c x q. q; tracked = λ t x q. q; measured = λ r first x q. q }
 
 filter_settling : (e : End) → Settling (λ (f : End). f.filter ≡ e.filter)
-filter_settling e = record { known = λ n x q. q; reset = λ id x q. q; acked = λ m x q. q; lost = λ m x q. q; again = λ c x q. q; searched = λ d x q. q; shortens = λ most x q. q; tracked = λ t x q. q; measured = λ r first x q. q; marked = λ m marking x q. q }
+filter_settling e = record { known = λ n x q. q; reset = λ id x q. q; acked = λ m x q. q; lost = λ m x q. q; again = λ c x q. q; tracked = λ t x q. q; measured = λ r first x q. q }
 
 filter_ack : (b : Bool) (a : AckValue) (e x : End) → x.filter ≡ e.filter → (ack_taken b a x).end.filter ≡ e.filter
 filter_ack true a e x q = q
@@ -69,19 +67,19 @@ filter_frame e (ack a) x q = filter_ack (names_ungiven a x) a e x q
 filter_frame e (datagram m) x q = message_leaves (λ (f : End). f.filter ≡ e.filter) m x q (λ left. q)
 filter_frame e f x q = q
 
-filter_received : (p : Policy) (e : End) (now : ℕ) (mark : Option EcnCodepoint) (d : List ℕ) → (received p e now mark d).end.filter ≡ e.filter
-filter_received p e now mark d = by_received (λ (f : End). f.filter ≡ e.filter) (record {
+filter_received : (p : Policy) (e : End) (now : ℕ) (d : List ℕ) → (received p e now d).end.filter ≡ e.filter
+filter_received p e now d = by_received (λ (f : End). f.filter ≡ e.filter) (record {
   notes = λ n x q. q;
   begins = λ now n x q. q;
   frame = filter_frame e;
-  takes = λ n asks mark x q. q;
+  takes = λ n asks x q. q;
   closes = λ reason x q. q;
-}) p e now mark d refl
+}) p e now d refl
 
-failed_received : (p : Policy) (e : End) (now : ℕ) (mark : Option EcnCodepoint) (d : List ℕ) → (received p e now mark d).end.closing.state ≢ states.Failed → e.closing.state ≢ states.Failed
-failed_received p e now mark d = go e.closing.state refl
+failed_received : (p : Policy) (e : End) (now : ℕ) (d : List ℕ) → (received p e now d).end.closing.state ≢ states.Failed → e.closing.state ≢ states.Failed
+failed_received p e now d = go e.closing.state refl
   where
-    go : (s : State) → e.closing.state ≡ s → (received_in s p e now mark d).end.closing.state ≢ states.Failed → e.closing.state ≢ states.Failed
+    go : (s : State) → e.closing.state ≡ s → (received_in s p e now d).end.closing.state ≢ states.Failed → e.closing.state ≢ states.Failed
     go states.Failed is kept = kept
     go states.Open is kept = λ failed. (let no : states.Open ≡ states.Failed = sym is ∙ failed in cc)
     go states.Closing is kept = λ failed. (let no : states.Closing ≡ states.Failed = sym is ∙ failed in cc)
@@ -96,7 +94,7 @@ quiet_call p e theirs call a other = by_plain_call p e theirs (Quiet e) call a (
   heard = λ path is. same;
   times = λ now acks loss pacing is. by_expired e now (Quiet e) (λ pending tracking timers runs packets. same) (λ pending timers runs. losses_keep (Quiet e) (settling e) (with_closing e (ticked e.closing now)) same) acks loss pacing;
   polls = λ now is. cc;
-  hears = λ now mark d is. (filter_received p e now mark d, failed_received p e now mark d);
+  hears = λ now d is. (filter_received p e now d, failed_received p e now d);
   tells = λ told. same;
 })
   where
@@ -136,8 +134,10 @@ given_drawn false f word = omega arith
 ready_filter : (e : End) (now : ℕ) → (ready_at e now).end.filter ≡ e.filter
 ready_filter e now = ap (λ (x : End). x.filter) (ready_leaves e now)
 
-draft_filter : (e : End) (now : ℕ) → (draft_at e now).end.filter ≡ e.filter
-draft_filter e now = (composes (ready_at e now).leaving (ready_at e now).end (may_leave_at e now)).filter ∙ ready_filter e now
+draft_filter : (e : End) (now : ℕ) → goes (ready_at e now) ≡ true → (draft_at e now).end.filter ≡ e.filter
+draft_filter e now some =
+    let g = ready_at e now in
+    (composes g.held (lazied g.end) (due_alone g some)).filter ∙ ready_filter e now
 
 paid_filter : (b : Bool) (x : End) (size : ℕ) → (paid_if b x size).filter ≡ x.filter
 paid_filter true x size = refl
@@ -150,7 +150,7 @@ poll_draws p e now = by_poll_to p e now (λ x. e.filter.drawn ≤ x.end.filter.d
   nothing = λ is_open none. (let same = ap (λ (f : Filter). f.drawn) (ready_filter e now) in omega arith);
   used_up = let same = ap (λ (f : Filter). f.drawn) (ready_filter e now) in omega arith;
   gives = λ is_open can some. (let d = draft_at e now in
-      let same = ap (λ (f : Filter). f.drawn) (draft_filter e now) in
+      let same = ap (λ (f : Filter). f.drawn) (draft_filter e now some) in
       let paid = ap (λ (f : Filter). f.drawn) (paid_filter (asking d.frames) (with_number_given (p.words d.end.filter.drawn) (tracked d)) (datagram_size d)) in
       let more = given_drawn (is_skipped d.end.filter d.end.numbers.next) d.end.filter (p.words d.end.filter.drawn) in omega arith);
 })
@@ -221,16 +221,16 @@ call_goes stream p control old new theirs call r keys polls left same = go (is_p
 -- ---- a policy that does the same at an end
 
 -- what comes opens to the same, whatever words there are
-headed_with : (r : Result (List ℕ) HeaderError) (p : Policy) (words : ℕ → ℕ) (e : End) (now : ℕ) (mark : Option EcnCodepoint) (d : List ℕ) → headed r (record p { words = words }) e now mark d ≡ headed r p e now mark d
-headed_with (Err x) p words e now mark d = refl
-headed_with (Ok id) p words e now mark d = refl
+headed_with : (r : Result (List ℕ) HeaderError) (p : Policy) (words : ℕ → ℕ) (e : End) (now : ℕ) (d : List ℕ) → headed r (record p { words = words }) e now d ≡ headed r p e now d
+headed_with (Err x) p words e now d = refl
+headed_with (Ok id) p words e now d = refl
 
-received_with : (p : Policy) (words : ℕ → ℕ) (e : End) (now : ℕ) (mark : Option EcnCodepoint) (d : List ℕ) → received (record p { words = words }) e now mark d ≡ received p e now mark d
-received_with p words e now mark d = go e.closing.state
+received_with : (p : Policy) (words : ℕ → ℕ) (e : End) (now : ℕ) (d : List ℕ) → received (record p { words = words }) e now d ≡ received p e now d
+received_with p words e now d = go e.closing.state
   where
-    go : (s : State) → received_in s (record p { words = words }) e now mark d ≡ received_in s p e now mark d
-    go states.Open = headed_with (decoded (fixed_length_id own_id_length) (known e.ids) d) p words e now mark d
-    go states.Closing = headed_with (decoded (fixed_length_id own_id_length) (known e.ids) d) p words e now mark d
+    go : (s : State) → received_in s (record p { words = words }) e now d ≡ received_in s p e now d
+    go states.Open = headed_with (decoded (fixed_length_id own_id_length) (known e.ids) d) p words e now d
+    go states.Closing = headed_with (decoded (fixed_length_id own_id_length) (known e.ids) d) p words e now d
     go states.Drained = refl
     go states.Failed = refl
 
@@ -262,7 +262,7 @@ polled_with p words e now same = state e.closing.state refl
     q = record p { words = words }
 
     word : e.closing.state ≡ states.Open → goes (ready_at e now) ≡ true → words (draft_at e now).end.filter.drawn ≡ p.words (draft_at e now).end.filter.drawn
-    word o some = ap (λ (f : Filter). words f.drawn) (draft_filter e now) ∙ same (λ failed. (let no : states.Open ≡ states.Failed = sym o ∙ failed in cc)) ∙ sym (ap (λ (f : Filter). p.words f.drawn) (draft_filter e now))
+    word o some = ap (λ (f : Filter). words f.drawn) (draft_filter e now some) ∙ same (λ failed. (let no : states.Open ≡ states.Failed = sym o ∙ failed in cc)) ∙ sym (ap (λ (f : Filter). p.words f.drawn) (draft_filter e now some))
 
     number : e.closing.state ≡ states.Open → goes (ready_at e now) ≡ true → (b : Bool) → sends b q (ready_at e now) ≡ sends b p (ready_at e now)
     number o some true =
@@ -288,43 +288,43 @@ module _ (p : Policy) (words : ℕ → ℕ) (e : End) (same : e.closing.state �
   other = record p { words = words }
 
   -- a delivery is answered the same, and leaves the same
-  delivered_with : (delivery : Delivery) (o : Option (List ℕ)) (a : Answer) → IsDelivered p e delivery o a → IsDelivered other e delivery o a
-  delivered_with delivery None a h = h
-  delivered_with delivery (Some d) a h = subst (λ (x : Outcome). (a ≡ answers.Deliver x.answer) ⊎ (a ≡ answers.Deliver receives.Failed)) (sym (received_with p words e delivery.now delivery.ecn d)) h
+  delivered_with : (now : ℕ) (o : Option (List ℕ)) (a : Answer) → IsDelivered p e now o a → IsDelivered other e now o a
+  delivered_with now None a h = h
+  delivered_with now (Some d) a h = subst (λ (x : Outcome). (a ≡ answers.Deliver x.answer) ⊎ (a ≡ answers.Deliver receives.Failed)) (sym (received_with p words e now d)) h
 
-  after_delivered_with : (delivery : Delivery) (o : Option (List ℕ)) → after_delivered other e delivery o ≡ after_delivered p e delivery o
-  after_delivered_with delivery None = refl
-  after_delivered_with delivery (Some d) = ap (λ (x : Outcome). x.end) (received_with p words e delivery.now delivery.ecn d)
+  after_delivered_with : (now : ℕ) (o : Option (List ℕ)) → after_delivered other e now o ≡ after_delivered p e now o
+  after_delivered_with now None = refl
+  after_delivered_with now (Some d) = ap (λ (x : Outcome). x.end) (received_with p words e now d)
 
-  takes_with : (delivery : Delivery) (o : Option (List ℕ)) → DeliveryTakes p e delivery o → DeliveryTakes other e delivery o
-  takes_with delivery None h = h
-  takes_with delivery (Some d) h = subst (λ (x : Outcome). TakesFrames x.answer) (sym (received_with p words e delivery.now delivery.ecn d)) h
+  takes_with : (now : ℕ) (o : Option (List ℕ)) → DeliveryTakes p e now o → DeliveryTakes other e now o
+  takes_with now None h = h
+  takes_with now (Some d) h = subst (λ (x : Outcome). TakesFrames x.answer) (sym (received_with p words e now d)) h
 
   -- so is an injection
-  injected_with : (b : Bool) (i : Injection) → injected_if b other e i ≡ injected_if b p e i
-  injected_with true i = refl
-  injected_with false i = ap (λ (x : Outcome). answers.Inject x.answer) (received_with p words e i.now i.ecn i.bytes)
+  injected_with : (b : Bool) (now : ℕ) (d : List ℕ) → injected_if b other e now d ≡ injected_if b p e now d
+  injected_with true now d = refl
+  injected_with false now d = ap (λ (x : Outcome). answers.Inject x.answer) (received_with p words e now d)
 
-  after_injected_with : (b : Bool) (i : Injection) → after_injected_if b other e i ≡ after_injected_if b p e i
-  after_injected_with true i = refl
-  after_injected_with false i = ap (λ (x : Outcome). x.end) (received_with p words e i.now i.ecn i.bytes)
+  after_injected_with : (b : Bool) (now : ℕ) (d : List ℕ) → after_injected_if b other e now d ≡ after_injected_if b p e now d
+  after_injected_with true now d = refl
+  after_injected_with false now d = ap (λ (x : Outcome). x.end) (received_with p words e now d)
 
   -- any call
   answer_with : (theirs : List (List ℕ)) (call : Call) (a : Answer) → IsAnswer p e theirs call a → IsAnswer other e theirs call a
   answer_with theirs (calls.Poll now) a h = subst (λ (x : Polled). (a ≡ answers.Poll x.answer) ⊎ (a ≡ answers.Poll (Err (record {})))) (sym (polled_with p words e now same)) h
-  answer_with theirs (calls.Deliver delivery) a h = delivered_with delivery (slice_get theirs delivery.index) a h
+  answer_with theirs (calls.Deliver delivery) a h = delivered_with delivery.now (slice_get theirs delivery.index) a h
   answer_with theirs (calls.Inject injection) a h =
       h
-      ∙ sym (injected_with (would_open p e injection.bytes) injection)
-      ∙ ap (λ (b : Bool). injected_if b other e injection) (sym (opens_with p words e injection.bytes))
+      ∙ sym (injected_with (would_open p e injection.bytes) injection.now injection.bytes)
+      ∙ ap (λ (b : Bool). injected_if b other e injection.now injection.bytes) (sym (opens_with p words e injection.bytes))
   answer_with theirs call a h = h
 
   after_with : (theirs : List (List ℕ)) (call : Call) (a : Answer) → after_call other e theirs call a ≡ after_call p e theirs call a
   after_with theirs (calls.Poll now) a = ap (λ (x : Polled). x.end) (polled_with p words e now same)
-  after_with theirs (calls.Deliver delivery) a = after_delivered_with delivery (slice_get theirs delivery.index)
+  after_with theirs (calls.Deliver delivery) a = after_delivered_with delivery.now (slice_get theirs delivery.index)
   after_with theirs (calls.Inject injection) a =
-      ap (λ (b : Bool). after_injected_if b other e injection) (opens_with p words e injection.bytes)
-      ∙ after_injected_with (would_open p e injection.bytes) injection
+      ap (λ (b : Bool). after_injected_if b other e injection.now injection.bytes) (opens_with p words e injection.bytes)
+      ∙ after_injected_with (would_open p e injection.bytes) injection.now injection.bytes
   after_with theirs call a = refl
 
   -- what the controller is told
@@ -342,7 +342,7 @@ module _ (p : Policy) (words : ℕ → ℕ) (e : End) (same : e.closing.state �
 
   lacks_with : (theirs : List (List ℕ)) (call : Call) (a : Answer) → LacksWhere p e theirs call a → LacksWhere other e theirs call a
   lacks_with theirs (calls.Poll now) (answers.Poll (Err x)) h = subst (λ (y : Polled). GivesOrHasFailed y.answer ⊎ ((e.closing.state ≡ states.Open) × MovesRecord e)) (sym (polled_with p words e now same)) h
-  lacks_with theirs (calls.Deliver delivery) (answers.Deliver receives.Failed) h = takes_with delivery (slice_get theirs delivery.index) h
+  lacks_with theirs (calls.Deliver delivery) (answers.Deliver receives.Failed) h = takes_with delivery.now (slice_get theirs delivery.index) h
   lacks_with theirs call a h = h
 
 -- which words are drawn isn't changed by reading the window

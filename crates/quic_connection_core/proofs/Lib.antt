@@ -22,4 +22,3 @@ pub mod Gates
 mod Items
 mod Told
 mod Rooms
-pub mod Marks

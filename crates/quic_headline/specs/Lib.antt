@@ -9,4 +9,3 @@ pub mod Moments
 pub mod Grown
 pub mod Messages
 pub mod Polls
-pub mod Sizes

@@ -1,12 +1,10 @@
 -- What polls give, and what they hold back (RFC 9002, sections 7, 7.5 and 7.7): an open end gives what waits, unless the congestion window or the pacer holds it back;
 -- and the controller shows the window that comes of what it was told.
-use Rattle.std.specs.Prelude.{ℕ, suc, ◌+◌, ◌<◌, ◌≤◌, ◌≡◌, ◌⊎◌, true, false, List, [], ◌∷◌, ◌++◌, filter, length, replicate, sum_by, slice_get, take, Option, Some, None, Ok, if◌then◌else◌}
+use Rattle.std.specs.Prelude.{ℕ, suc, ◌+◌, ◌<◌, ◌≤◌, ◌≡◌, ◌⊎◌, true, List, [], ◌∷◌, ◌++◌, filter, length, sum_by, slice_get, take, Option, Some, None, Ok, if◌then◌else◌}
 use Rattle.quic_wire_core.specs.declared.stream_id.Side.{Side}
 use Rattle.quic_wire_core.specs.declared.stream_id.Side.TheVariants.{Client, Server}
 use Rattle.quic_wire_core.specs.StreamId.{other_side}
-use Rattle.quic_wire.specs.Value.{ping, padding}
 use Rattle.quic_congestion.specs.Congestion as congestion
-use Rattle.quic_congestion.specs.Search.{Discovery, search_bound, open_probe, poll_names}
 use Rattle.quic_machine.specs.declared.answers.Transmit.{Transmit}
 use Rattle.quic_machine.specs.declared.answers.State.TheVariants as states
 use Rattle.quic_machine.specs.declared.run.RunEvent.{RunEvent}
@@ -16,10 +14,9 @@ use Rattle.quic_machine.specs.declared.run.Answer.{Answer}
 use Rattle.quic_machine.specs.declared.run.Answer.TheVariants as answers
 use Rattle.quic_machine.specs.declared.run.View.{View}
 use Rattle.quic_machine.specs.Closing.{ticked}
-use Rattle.quic_machine.specs.Parts.{current_mtu}
 use Rattle.quic_machine.specs.End.{End, with_closing, with_window}
 use Rattle.quic_machine.specs.Control.{paced_until, with_pacing_timer}
-use Rattle.quic_machine.specs.Poll.{probed, waits}
+use Rattle.quic_machine.specs.Poll.{probed}
 use Rattle.quic_machine.specs.Machine.{World, Policies, IsStep, policy_at, end_at, end_met, control_at, given_by, tells}
 use Rattle.quic_headline.specs.Runs.{Run, In, same_side, state_in, until, AreServed, LeadsTo, written, ended, reset}
 use Rattle.quic_headline.specs.Observer.{Sent, HoldsOffset, HoldsEnd, asks_of, watch, sents_until, acked_until}
@@ -29,14 +26,9 @@ use Rattle.quic_headline.specs.Moments.{timers_in}
 -- ---- what is seen of an end
 
 -- the congestion window of an end in a view
-abbrev pub window_in : View → Side → ℕ
+abbrev pub window_in : View → Side → Option ℕ
 window_in v Client = v.client.window
 window_in v Server = v.server.window
-
--- how many bytes a datagram of an end has at most, in a view
-abbrev pub mtu_in : View → Side → ℕ
-mtu_in v Client = v.client.current_mtu
-mtu_in v Server = v.server.current_mtu
 
 -- the timer of the pacer in a view: the seventh of the nine
 abbrev pub pacing_timer : View → Side → Option (Option ℕ)
@@ -58,9 +50,15 @@ flying r side i = (watch r side i).flight.flying
 abbrev pub bytes_flying : Run → Side → ℕ → ℕ
 bytes_flying r side i = sum_by (λ s. s.size) (filter asks_of (flying r side i))
 
--- the window that a view shows has no room for one more datagram beside those in flight
-abbrev pub IsFull : Run → Side → ℕ → View → Type 0
-IsFull r side i v = window_in v side ≤ bytes_flying r side i + mtu_in v side
+-- how many bytes a datagram of an end has at most; until it searches for more, these are those that it began with
+abbrev pub size_at : Run → Side → ℕ
+size_at r side = (end_at side r.start).path.size
+
+-- The window that a view shows has no room for one more datagram beside those in flight.
+pub record IsFull (r : Run) (side : Side) (i : ℕ) (v : View) : Type 0 where
+  pub window : ℕ
+  pub shown : window_in v side ≡ Some window
+  pub full : window ≤ bytes_flying r side i + size_at r side
 
 -- A view shows the timer of the pacer set to a moment that is later than each that the end took over.
 pub record IsPaced (r : Run) (side : Side) (i : ℕ) (v : View) : Type 0 where
@@ -131,43 +129,18 @@ PacingBehind side call w next = (pacing_at side next ≡ None) ⊎ (pacing_at si
 abbrev pub PacerSetsItsTimer : Run → Type 0
 PacerSetsItsTimer r = (i : ℕ) (side : Side) (call : Call) (a : Answer) (w next : World) → IsMade r i side call a w next → (end_at side w).closing.state ≡ states.Open → PacingBehind side call w next
 
--- A poll gave a datagram.
-pub record GaveOne (r : Run) (side : Side) (i now : ℕ) (w next : World) : Type 0 where
+-- A poll gave a datagram that asks for an acknowledgement.
+pub record GaveAsking (r : Run) (side : Side) (i now : ℕ) (w next : World) : Type 0 where
   pub transmit : Transmit
   pub made : IsMade r i side (calls.Poll now) (answers.Poll (Ok (Some transmit))) w next
   pub sent : Sent
   pub went : sents_until r side (suc i) ≡ sents_until r side i ++ sent ∷ []
+  pub asks : asks_of sent ≡ true
 
--- It asks for an acknowledgement.
-pub record GaveAsking (r : Run) (side : Side) (i now : ℕ) (w next : World) : Type 0 where
-  pub one : GaveOne r side i now w next
-  pub asks : asks_of one.sent ≡ true
-
--- the search for the size of datagrams at an end
-abbrev pub search_at : Side → World → Discovery
-search_at side w = (end_at side w).path.discovery
-
--- A datagram is a probe of a size (RFC 8899, section 5.3; RFC 9000, section 14.4): PING and zeros, alone; it has exactly the size that the search of its end names at the
--- moment of the poll, under the number that is open behind it, where none was; no less than the current size, and no more than the greatest that is looked at. It went
--- where nothing waited, to a validated address, and the window had room for the greatest size that is looked at.
-pub record IsSizeProbe (r : Run) (side : Side) (i : ℕ) (w next : World) (s : Sent) : Type 0 where
-  pub zeros : ℕ
-  pub alone : s.frames ≡ ping ∷ replicate zeros padding
-  pub named : poll_names (watch r side (suc i)).clock (search_at side w) ≡ Some s.size
-  pub none_open : open_probe (search_at side w) ≡ None
-  pub opened : open_probe (search_at side next) ≡ Some s.number
-  pub bound : ℕ
-  pub is_bound : search_bound (search_at side w) ≡ Some bound
-  pub between : ((search_at side w).size ≤ s.size) × (s.size ≤ bound)
-  pub idle : waits (end_at side w) ≡ false
-  pub validated : (end_at side w).path.validated ≡ true
-  pub room : bytes_flying r side i + bound < control_at side w []
-
--- what asks goes, where no probe of losses waits, only where the window has room for one more datagram beside those in flight and the pacer names no later moment, or
--- as a probe of a size
+-- one that is no probe goes only where the window has room for it beside those in flight, and the pacer names no later moment
 abbrev pub AskingGoesWhereLet : Run → Type 0
-AskingGoesWhereLet r = (side : Side) (i now : ℕ) (w next : World) (gave : GaveAsking r side i now w next) → (end_at side w).tracking.probes ≡ 0
-    → ((bytes_flying r side i + current_mtu (end_at side w).path < control_at side w []) × (pacer_names side w now ≡ None)) ⊎ IsSizeProbe r side i w next gave.one.sent
+AskingGoesWhereLet r = (side : Side) (i now : ℕ) (w next : World) → GaveAsking r side i now w next → (end_at side w).tracking.probes ≡ 0
+    → (bytes_flying r side i + size_at r side < control_at side w []) × (pacer_names side w now ≡ None)
 
 -- where a probe waits, a poll that leaves its end open gives a datagram that asks, whatever window and pacer say; one probe fewer waits then (section 7.5)
 abbrev pub ProbesPass : Run → Type 0
@@ -192,4 +165,4 @@ IsHistory r side i w told = WasTold side r.keys r.start (take i r.events) (take 
 
 -- the window that a view shows is that which the controller, as it was when the run began, shows once it was told what the calls up to there tell
 abbrev pub WindowIsOfHistory : Run → Type 0
-WindowIsOfHistory r = (side : Side) (i : ℕ) (v : View) → AreServed r (suc i) → slice_get r.views i ≡ Some v → (w : World) × (told : List congestion.Told) × IsHistory r side (suc i) w told × (window_in v side ≡ control_at side r.start told)
+WindowIsOfHistory r = (side : Side) (i : ℕ) (v : View) → AreServed r (suc i) → slice_get r.views i ≡ Some v → (w : World) × (told : List congestion.Told) × IsHistory r side (suc i) w told × (window_in v side ≡ Some (control_at side r.start told))

@@ -14,7 +14,6 @@ ghost use Rattle.quic_headline.specs.InFlight.{TracksInFlight};
 ghost use Rattle.quic_headline.specs.Causes.{NoBlame, NumberLimit, TooManyPieces, TakenOrTooMany};
 ghost use Rattle.quic_headline.specs.Moments.{LossMoments, LossTimerQuiet, AckMoments};
 ghost use Rattle.quic_headline.specs.Polls.{PollsSendWhatWaits, PollsSendMessages, PacerSetsItsTimer, AskingGoesWhereLet, ProbesPass, WindowIsOfHistory};
-ghost use Rattle.quic_headline.specs.Sizes.{DatagramsAreSized};
 ghost use Rattle.quic_machine.specs.Start.{AreStarted};
 ghost use Rattle.quic_headline.specs.Headline.{IsHonest, IsRun, OrderedPrefix, Slices, Once, EndAfterAll, BlockedOnlyWithoutBytes, AcceptsAll, FinishedMeansArrived, FinishedIsTold, AcknowledgedWereTaken, NamesWereTaken, OpensExactly, NewestOpens, LossTimersFollow, AckTimersFollow, NumbersRise};
 
@@ -223,18 +222,10 @@ pub fn pacer_sets_its_timer()
     ensures { (r : Run) (end : World) → IsHonest r → IsRun r end → PacerSetsItsTimer r }
 {}
 
-/// Where no probe of losses waits, an ack-eliciting datagram goes only where the congestion window
-/// has room for one more beside those in flight, and the pacer names no later moment (RFC 9002,
-/// sections 7 and 7.7), or as a probe of a size where nothing waits: PING and zeros alone, of the
-/// size that is looked for, where the window has room for the greatest one (RFC 8899, section 5.3).
+/// An ack-eliciting datagram that is no probe goes only where the congestion window has room for it
+/// beside those in flight, and the pacer names no later moment (RFC 9002, sections 7 and 7.7).
 pub fn asking_goes_where_let()
     ensures { (r : Run) (end : World) → IsHonest r → IsRun r end → AskingGoesWhereLet r }
-{}
-
-/// A datagram has as many bytes as the answer says: at most the current size, or it is a probe of a
-/// size, and has exactly the one that is looked for (RFC 9000, section 14).
-pub fn datagrams_are_sized()
-    ensures { (r : Run) (end : World) → IsHonest r → IsRun r end → DatagramsAreSized r }
 {}
 
 /// Where a probe waits at an open end, a poll that leaves it open gives an ack-eliciting datagram,

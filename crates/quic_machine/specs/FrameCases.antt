@@ -1,8 +1,7 @@
 -- What a datagram that comes leaves, as cases: of the packets that an ACK frame names or that are lost, of frames, and of the packet that has them.
-use Rattle.std.proofs.Common.{◌≡◌, ℕ, Bool, true, false, not, ◌||◌, ◌==◌, List, [], ◌∷◌, map, length, Option, Some, None, Result, Ok, Err, refl, sym, ◌∙◌}
+use Rattle.std.proofs.Common.{◌≡◌, ℕ, Bool, true, false, not, ◌||◌, ◌==◌, List, [], ◌∷◌, map, Option, Some, None, Result, Ok, Err, refl, sym, ◌∙◌}
 use Rattle.std.specs.Prelude.{if◌then◌else◌}
 use Rattle.quic_wire.specs.Value.{FrameValue, AckValue, ack, stream, reset_stream, stop_sending, max_data, max_stream_data, max_streams, new_token, handshake_done, datagram}
-use Rattle.quic_wire_core.specs.declared.shared.EcnCodepoint.{EcnCodepoint}
 use Rattle.quic_wire.specs.Items.{items}
 use Rattle.quic_wire.specs.declared.frame.InvalidFrame.{InvalidFrame}
 use Rattle.quic_packet.specs.Header.{key_phase, reserved_bits}
@@ -21,20 +20,14 @@ use Rattle.quic_machine.specs.Policy.{Policy}
 use Rattle.quic_machine.specs.Closing.{ticked}
 use Rattle.quic_machine.specs.Ids.{known}
 use Rattle.quic_spaces.specs.Numbers.{number_opened, number_named}
-use Rattle.quic_spaces.specs.Marks.{Counts}
-use Rattle.quic_spaces.specs.declared.space.EcnError.{EcnError}
 use Rattle.quic_time.specs.Rtt.{Rtt}
 use Rattle.quic_messages.specs.declared.errors.ReceivedError.{ReceivedError}
 use Rattle.quic_messages.specs.Messages.{received_answer}
 use Rattle.quic_machine.specs.Parts.{Messaging}
 use Rattle.quic_machine.specs.Tracking.{Tracking, TrackedPacket, Carried, acked_by, Verdict, lost_by, after_detection}
-use Rattle.quic_machine.specs.End.{End, with_closing, closed_by, with_numbers, with_streams, with_messages, with_tracking, with_rtt, with_told, with_marking, with_discovery, with_queued}
+use Rattle.quic_machine.specs.End.{End, with_closing, closed_by, with_numbers, with_streams, with_messages, with_tracking, with_rtt}
 use Rattle.quic_machine.specs.Opens.{own_id_length}
-use Rattle.quic_messages.specs.Messages.{without_longer}
-use Rattle.quic_congestion.specs.Search.{Discovery}
-use Rattle.quic_machine.specs.MessageCalls.{most_message}
-use Rattle.quic_machine.specs.Sizes.{is_resized, with_acked, search_acked, after_lost, without_longer_if, shortened, with_searched}
-use Rattle.quic_machine.specs.Acked.{without_known, reset_acked, resets_acked, stream_acked, streams_acked, packet_acked, packets_acked, stream_lost, streams_lost, again, carried_lost, packets_lost, lost_as, verdict, losses_detected, measured, sampled, without_acked, counts_judged, counts_answer, counts_seen, marks_seen, losses_taken, after_named, after_acked}
+use Rattle.quic_machine.specs.Acked.{without_known, reset_acked, resets_acked, stream_acked, streams_acked, packet_acked, packets_acked, stream_lost, streams_lost, again, carried_lost, packets_lost, lost_as, verdict, losses_detected, measured, sampled, without_acked, after_named, after_acked}
 use Rattle.quic_machine.specs.Receive.{Fault, violation, reason_of, Progress, goes_on, is_above, names_ungiven, message_taken, message_judged, take_message, take_frame, take_item, unless_fault, take_items, is_empty, take_payload, asks_in, after_taken, dropped, ends_as, by_state, opened_to, opened_as, opening, headed, received_in, received}
 
 -- ---- packets that are acknowledged, and those that are lost
@@ -63,21 +56,6 @@ module _ (P : End → Type 0) (lost : (m : StreamMeta) (e : End) → P e → P (
   packets_lost_keep waits (p ∷ ps) e i =
       packets_lost_keep waits ps (carried_lost p.1.carried e) (waits p.1.carried (streams_lost p.1.carried.stream_frames e) (streams_lost_keep p.1.carried.stream_frames e i))
 
--- what holds of an end whatever marks the peer counted, and whether or not datagrams are marked, holds where counts came
-pub by_marks : (rises : Bool) (newly : ℕ) (a : AckValue) (e : End) (P : End → Type 0) → ((counts : Counts) (marking : Bool) → P (with_marking (with_told e counts) marking)) → P (marks_seen rises newly a e)
-by_marks rises newly a e P all = go e.path.marking rises a.ecn
-  where
-    judged : (r : Result Bool EcnError) (counts : Counts) → P (counts_judged r counts e)
-    judged (Ok grew) counts = all counts e.path.marking
-    judged (Err error) counts = all e.marks.told false
-
-    go : (marking rises : Bool) (o : Option Counts) → P (counts_seen marking rises newly o e)
-    go true true None = all e.marks.told false
-    go true false None = all e.marks.told false
-    go true true (Some counts) = judged (counts_answer e newly counts) counts
-    go true false (Some counts) = all e.marks.told e.path.marking
-    go false rises o = all e.marks.told e.path.marking
-
 -- what an ACK frame makes of an end, step by step
 pub record Settling (P : End → Type 0) : Type 0 where
   -- numbers that the peer knows of need no more acknowledgement
@@ -87,27 +65,10 @@ pub record Settling (P : End → Type 0) : Type 0 where
   pub acked : (m : StreamMeta) (e : End) → P e → P (stream_acked m e)
   pub lost : (m : StreamMeta) (e : End) → P e → P (stream_lost m e)
   pub again : (carried : Carried) (e : End) → P e → P (again carried e)
-  -- the search for a size learns of it, and messages that are too long are dropped
-  pub searched : (d : Discovery) (e : End) → P e → P (with_discovery e d)
-  pub shortens : (most : ℕ) (e : End) → P e → P (with_queued e (without_longer most e.messages.queues))
   -- fewer packets are tracked
   pub tracked : (t : Tracking) (e : End) → P e → P (with_tracking e t)
   -- the round trip is measured
   pub measured : (r : Rtt) (first : Option ℕ) (e : End) → P e → P (with_rtt e r first)
-  -- the peer's counts of marks are kept, and marking may end
-  pub marked : (counts : Counts) (marking : Bool) (e : End) → P e → P (with_marking (with_told e counts) marking)
-
--- with another search messages that are too long are dropped, or none is
-pub by_searched : (d : Discovery) (e : End) (P : End → Type 0) → P (with_discovery e d) → ((most : ℕ) → P (with_queued (with_discovery e d) (without_longer most e.messages.queues))) → P (with_searched d e)
-by_searched d e P same shorter = go (is_resized e.path.discovery d)
-  where
-    lasts : (o : Option ℕ) → P (without_longer_if o (with_discovery e d))
-    lasts None = same
-    lasts (Some most) = shorter most
-
-    go : (b : Bool) → P (shortened b (with_discovery e d))
-    go true = lasts (most_message (with_discovery e d))
-    go false = same
 
 module _ (P : End → Type 0) (c : Settling P) where
   -- what the peer knows of, if anything
@@ -119,19 +80,13 @@ module _ (P : End → Type 0) (c : Settling P) where
   packets_acked_keep : (ps : Table TrackedPacket) (e : End) → P e → P (packets_acked ps e)
   packets_acked_keep [] e i = i
   packets_acked_keep (p ∷ ps) e i =
-      let heard : End = search_acked p e in
-      let known : End = without_known p.1.carried.largest_acked heard in
-      let resets = resets_acked_keep P c.reset p.1.carried.retransmits.reset_stream known (known_keeps p.1.carried.largest_acked heard (c.searched (with_acked p e.path.discovery) e i)) in
-      packets_acked_keep ps (packet_acked p e) (streams_acked_keep P c.acked p.1.carried.stream_frames (resets_acked p.1.carried.retransmits.reset_stream known) resets)
+      let known : End = without_known p.1.carried.largest_acked e in
+      let resets = resets_acked_keep P c.reset p.1.carried.retransmits.reset_stream known (known_keeps p.1.carried.largest_acked e i) in
+      packets_acked_keep ps (packet_acked p.1 e) (streams_acked_keep P c.acked p.1.carried.stream_frames (resets_acked p.1.carried.retransmits.reset_stream known) resets)
 
   -- packets are lost
   lost_keeps : (v : Verdict) (e : End) → P e → P (lost_as v e)
-  lost_keeps v e i =
-      let lost = lost_by v e.tracking.packets in
-      let left : End = with_tracking (packets_lost lost e) (after_detection v e.tracking) in
-      let d : Discovery = after_lost left.closing.clock lost left.path.discovery in
-      let told : P (with_discovery left d) = c.searched d left (c.tracked (after_detection v e.tracking) (packets_lost lost e) (packets_lost_keep P c.lost c.again lost e i)) in
-      by_searched d left P told (λ most. c.shortens most (with_discovery left d) told)
+  lost_keeps v e i = c.tracked (after_detection v e.tracking) (packets_lost (lost_by v e.tracking.packets) e) (packets_lost_keep P c.lost c.again (lost_by v e.tracking.packets) e i)
 
   -- losses are detected
   pub losses_keep : (e : End) → P e → P (losses_detected e)
@@ -150,9 +105,7 @@ module _ (P : End → Type 0) (c : Settling P) where
       let timed = sampled (measured rises a (p ∷ ps)) a left in
       let found = losses_detected timed in
       let stays : P left = c.tracked left.tracking (packets_acked (p ∷ ps) e) (packets_acked_keep (p ∷ ps) e i) in
-      let taken = losses_taken (p ∷ ps) rises a e in
-      let kept : P taken = c.tracked taken.tracking found (losses_keep timed (sampled_keeps (measured rises a (p ∷ ps)) a left stays)) in
-      by_marks rises (length (p ∷ ps)) a taken P (λ counts marking. c.marked counts marking taken kept)
+      c.tracked (after_named (p ∷ ps) rises a e).tracking found (losses_keep timed (sampled_keeps (measured rises a (p ∷ ps)) a left stays))
 
   -- an ACK frame, whose greatest number is counted already
   pub acked_keeps : (rises : Bool) (a : AckValue) (e : End) → P e → P (after_acked rises a e)
@@ -279,7 +232,7 @@ pub record Receives (P : End → Type 0) : Type 0 where
   pub begins : (now n : ℕ) (e : End) → P e → P (begun e now n)
   pub frame : (f : FrameValue) (e : End) → P e → P (take_frame f e).end
   -- all was taken, or a frame was at fault
-  pub takes : (n : ℕ) (asks : Bool) (mark : Option EcnCodepoint) (e : End) → P e → P (after_taken n asks mark e)
+  pub takes : (n : ℕ) (asks : Bool) (e : End) → P e → P (after_taken n asks e)
   pub closes : (reason : LostReason) (e : End) → P e → P (closed_by reason e)
 
 module _ (P : End → Type 0) (c : Receives P) where
@@ -292,42 +245,42 @@ module _ (P : End → Type 0) (c : Receives P) where
       go false = items_keep P c.frame is e i
 
   -- all frames were taken, or one was at fault
-  ends_keep : (fault : Option Fault) (asks : Bool) (n : ℕ) (mark : Option EcnCodepoint) (e : End) → P e → P (ends_as fault asks n mark e).end
-  ends_keep None asks n mark e i = c.takes n asks mark e i
-  ends_keep (Some fault) asks n mark e i = c.closes (reason_of fault) e i
+  ends_keep : (fault : Option Fault) (asks : Bool) (n : ℕ) (e : End) → P e → P (ends_as fault asks n e).end
+  ends_keep None asks n e i = c.takes n asks e i
+  ends_keep (Some fault) asks n e i = c.closes (reason_of fault) e i
 
   -- a packet whose number is new
-  state_keeps : (state : State) (o : Opening) (now : ℕ) (mark : Option EcnCodepoint) (e : End) → P e → P (by_state state o now mark (with_numbers e (number_opened e.numbers o.number))).end
-  state_keeps states.Open o now mark e i =
+  state_keeps : (state : State) (o : Opening) (now : ℕ) (e : End) → P e → P (by_state state o now (with_numbers e (number_opened e.numbers o.number))).end
+  state_keeps states.Open o now e i =
       let taken = take_payload o.first (items o.payload) (begun e now o.number) in
-      ends_keep taken.fault (asks_in (items o.payload)) o.number mark taken.end (payload_keeps o.first (items o.payload) (begun e now o.number) (c.begins now o.number e i))
-  state_keeps states.Closing o now mark e i = c.notes o.number e i
-  state_keeps states.Drained o now mark e i = c.notes o.number e i
-  state_keeps states.Failed o now mark e i = c.notes o.number e i
+      ends_keep taken.fault (asks_in (items o.payload)) o.number taken.end (payload_keeps o.first (items o.payload) (begun e now o.number) (c.begins now o.number e i))
+  state_keeps states.Closing o now e i = c.notes o.number e i
+  state_keeps states.Drained o now e i = c.notes o.number e i
+  state_keeps states.Failed o now e i = c.notes o.number e i
 
   -- a packet that opened
-  opened_keeps : (o : Opening) (now : ℕ) (mark : Option EcnCodepoint) (e : End) → P e → P (opened_to o now mark e).end
-  opened_keeps o now mark e i = go (key_phase o.first) (is_duplicate e.numbers.opened o.number)
+  opened_keeps : (o : Opening) (now : ℕ) (e : End) → P e → P (opened_to o now e).end
+  opened_keeps o now e i = go (key_phase o.first) (is_duplicate e.numbers.opened o.number)
     where
-      go : (a b : Bool) → P (if a then dropped drops.KeyPhase e else (if b then dropped drops.Duplicate e else by_state e.closing.state o now mark (with_numbers e (number_opened e.numbers o.number)))).end
+      go : (a b : Bool) → P (if a then dropped drops.KeyPhase e else (if b then dropped drops.Duplicate e else by_state e.closing.state o now (with_numbers e (number_opened e.numbers o.number)))).end
       go true b = i
       go false true = i
-      go false false = state_keeps e.closing.state o now mark e i
+      go false false = state_keeps e.closing.state o now e i
 
-  packet_keeps : (o : Option Opening) (now : ℕ) (mark : Option EcnCodepoint) (e : End) → P e → P (opened_as o now mark e).end
-  packet_keeps None now mark e i = i
-  packet_keeps (Some o) now mark e i = opened_keeps o now mark e i
+  packet_keeps : (o : Option Opening) (now : ℕ) (e : End) → P e → P (opened_as o now e).end
+  packet_keeps None now e i = i
+  packet_keeps (Some o) now e i = opened_keeps o now e i
 
-  headed_keeps : (r : Result (List ℕ) HeaderError) (p : Policy) (e : End) (now : ℕ) (mark : Option EcnCodepoint) (d : List ℕ) → P e → P (headed r p e now mark d).end
-  headed_keeps (Err error) p e now mark d i = i
-  headed_keeps (Ok id) p e now mark d i = packet_keeps (opening p e d) now mark e i
+  headed_keeps : (r : Result (List ℕ) HeaderError) (p : Policy) (e : End) (now : ℕ) (d : List ℕ) → P e → P (headed r p e now d).end
+  headed_keeps (Err error) p e now d i = i
+  headed_keeps (Ok id) p e now d i = packet_keeps (opening p e d) now e i
 
-  received_keeps : (state : State) (p : Policy) (e : End) (now : ℕ) (mark : Option EcnCodepoint) (d : List ℕ) → P e → P (received_in state p e now mark d).end
-  received_keeps states.Failed p e now mark d i = i
-  received_keeps states.Drained p e now mark d i = i
-  received_keeps states.Open p e now mark d i = headed_keeps (decoded (fixed_length_id own_id_length) (known e.ids) d) p e now mark d i
-  received_keeps states.Closing p e now mark d i = headed_keeps (decoded (fixed_length_id own_id_length) (known e.ids) d) p e now mark d i
+  received_keeps : (state : State) (p : Policy) (e : End) (now : ℕ) (d : List ℕ) → P e → P (received_in state p e now d).end
+  received_keeps states.Failed p e now d i = i
+  received_keeps states.Drained p e now d i = i
+  received_keeps states.Open p e now d i = headed_keeps (decoded (fixed_length_id own_id_length) (known e.ids) d) p e now d i
+  received_keeps states.Closing p e now d i = headed_keeps (decoded (fixed_length_id own_id_length) (known e.ids) d) p e now d i
 
   -- what each step keeps holds after a datagram
-  pub by_received : (p : Policy) (e : End) (now : ℕ) (mark : Option EcnCodepoint) (d : List ℕ) → P e → P (received p e now mark d).end
-  by_received p e now mark d i = received_keeps e.closing.state p e now mark d i
+  pub by_received : (p : Policy) (e : End) (now : ℕ) (d : List ℕ) → P e → P (received p e now d).end
+  by_received p e now d i = received_keeps e.closing.state p e now d i

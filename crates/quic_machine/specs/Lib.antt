@@ -3,7 +3,6 @@ pub mod Closing
 pub mod Control
 pub mod Ids
 pub mod Parts
-pub mod PathLaws
 pub mod Tracking
 pub mod End
 pub mod Opens
@@ -12,7 +11,6 @@ pub mod Receive
 pub mod Poll
 pub mod Timeouts
 pub mod Calls
-pub mod Sizes
 pub mod StreamCalls
 pub mod MessageCalls
 pub mod Lacking

@@ -1,13 +1,13 @@
 -- Two ends that were made for one another, and keys that are lawful.
-use Rattle.std.specs.Prelude.{ℕ, ◌≡◌, ◌≤◌, Bool, List, [], length, Ok}
+use Rattle.std.specs.Prelude.{ℕ, ◌≡◌, Bool, List, [], length, Ok}
 use Rattle.quic_packet.specs.Keys.{KeepsForm, KeepsLength, AddsTag}
 use Rattle.quic_congestion.specs.Congestion.{Told, AreSized, last_size, HasRoom}
 use Rattle.quic_wire_core.specs.declared.stream_id.Side.TheVariants.{Client, Server}
 use Rattle.quic_parameters.specs.ParametersRead.{parameters_at}
-use Rattle.quic_config.specs.Transport.{Settings, IsInRange, parameters_of, first_mtu}
+use Rattle.quic_config.specs.Transport.{Settings, IsInRange, parameters_of, transport_of, first_mtu}
 use Rattle.quic_machine.specs.Parts.{Windows}
 use Rattle.quic_machine.specs.Policy.{Policy, CanOpen}
-use Rattle.quic_machine.specs.End.{MadeFrom, most_payload}
+use Rattle.quic_machine.specs.End.{MadeFrom}
 use Rattle.quic_machine.specs.Opens.{own_id_length}
 use Rattle.quic_machine.specs.Control.{Control}
 use Rattle.quic_machine.specs.Machine.{World, Policies}
@@ -28,8 +28,6 @@ pub record IsMaking (m : Making) : Type 0 where
   pub range : IsInRange m.settings
   pub says : parameters_at m.parameters ≡ Ok (parameters_of m.settings)
   pub id : length m.id ≡ own_id_length
-  -- no path has to carry more than a UDP payload has
-  pub sizes : m.settings.min_mtu ≤ most_payload
 
 -- One client and one server, each made from the other's parameter bytes and first id; neither has given anything.
 pub record AreStarted (w : World) : Type 0 where
@@ -62,5 +60,5 @@ pub record IsController (control : Control) (size present : ℕ) : Type 0 where
 
 -- so do the controllers of two ends
 pub record AreControlled (w : World) : Type 0 where
-  pub client : IsController w.client_control (first_mtu w.client.transport) w.client.path.window
-  pub server : IsController w.server_control (first_mtu w.server.transport) w.server.path.window
+  pub client : IsController w.client_control w.client.path.size w.client.path.window
+  pub server : IsController w.server_control w.server.path.size w.server.path.window

@@ -4,7 +4,7 @@ use Rattle.quic_wire_core.specs.declared.stream_id.Side.{Side}
 use Rattle.quic_wire_core.specs.declared.stream_id.Side.TheVariants.{Client, Server}
 use Rattle.quic_wire.specs.Value.{FrameValue, StreamValue, stream}
 use Rattle.quic_congestion.specs.Congestion.{Sent}
-use Rattle.quic_worked.specs.Settings.{plain_settings}
+use Rattle.quic_config.specs.Transport.{default_settings}
 use Rattle.quic_machine.specs.declared.run.Answer.TheVariants as answers
 use Rattle.quic_machine.specs.End.{IsMade}
 use Rattle.quic_machine.specs.Control.{bytes_in_flight, is_window_full}
@@ -13,7 +13,7 @@ use Rattle.quic_machine.specs.Machine.{World, IsStep, Follows, view_of}
 use Rattle.quic_headline.specs.Runs.{In}
 use Rattle.quic_headline.specs.Observer.{Sent as SentAs, HoldsOffset, acked_until}
 use Rattle.quic_headline.specs.Headline.{IsHonest, IsRun}
-use Rattle.quic_headline.specs.Polls.{GaveNothing, IsFull, IsPaced, IsByteToGo, PollsSendWhatWaits, WindowIsOfHistory, flying, bytes_flying}
+use Rattle.quic_headline.specs.Polls.{GaveNothing, IsFull, IsPaced, IsByteToGo, PollsSendWhatWaits, WindowIsOfHistory, flying, bytes_flying, size_at}
 use Rattle.quic_worked.specs.Worked.{worked_policies, told_in, client_id, server_id, client_gives, once_written, once_sent, opens_stream, asks_datagram, gives_bytes, view_with, open_view}
 use Rattle.quic_worked.specs.Broken.{IsNoRun}
 use Rattle.quic_worked.specs.Reordered.{writes_bytes}
@@ -32,10 +32,10 @@ held_started : AreStarted held_start
 held_started = record {
   client_making = record (making client_id) { windows = narrow_windows };
   server_making = record (making server_id) { windows = narrow_windows };
-  client_is = record { range = record { receive_window = lit< tt; stream_receive_window = lit< tt; bounds = record { bidi = lit≤ tt; uni = lit≤ tt; divides = lit< tt; initial = lit≤ tt; least = lit≤ tt }; search = tt }; sizes = lit≤ tt; says = parameters_say; id = refl };
-  server_is = record { range = record { receive_window = lit< tt; stream_receive_window = lit< tt; bounds = record { bidi = lit≤ tt; uni = lit≤ tt; divides = lit< tt; initial = lit≤ tt; least = lit≤ tt }; search = tt }; sizes = lit≤ tt; says = parameters_say; id = refl };
-  client = subst (λ read. IsMade Client plain_settings narrow_windows read client_id server_id 0 true 63 held_start.client) (sym parameters_say) refl;
-  server = subst (λ read. IsMade Server plain_settings narrow_windows read server_id client_id 0 true 63 held_start.server) (sym parameters_say) refl;
+  client_is = record { range = record { receive_window = lit< tt; stream_receive_window = lit< tt }; says = parameters_say; id = refl };
+  server_is = record { range = record { receive_window = lit< tt; stream_receive_window = lit< tt }; says = parameters_say; id = refl };
+  client = subst (λ read. IsMade Client default_settings narrow_windows read client_id server_id 0 true 63 held_start.client) (sym parameters_say) refl;
+  server = subst (λ read. IsMade Server default_settings narrow_windows read server_id client_id 0 true 63 held_start.server) (sym parameters_say) refl;
   client_gave = refl;
   server_gave = refl;
 }
@@ -211,7 +211,11 @@ unfolding once_held
 so_many = refl
 
 pub window_is_full : IsFull held_run Client 4 full_view
-window_is_full = let same : bytes_flying held_run Client 4 + 1200 ≡ 2400 = ap (λ (n : ℕ). n + 1200) so_many in subst (λ (n : ℕ). 2400 ≤ n) (sym same) (lit≤ tt)
+window_is_full = record {
+  window = 2400;
+  shown = refl;
+  full = let same : bytes_flying held_run Client 4 + size_at held_run Client ≡ 2400 = ap (λ (n : ℕ). n + 1200) so_many in subst (λ (n : ℕ). 2400 ≤ n) (sym same) (lit≤ tt);
+}
 
 -- ---- what goes wrong
 
@@ -230,7 +234,11 @@ first_waits = record { written = lit< tt; kept = refl; not_flying = λ h. h.amon
 
 -- its window has room, and it has no timer
 not_full : IsFull silent_run Client 3 (record { client = open_view; server = open_view }) → ⊥
-not_full f = let most : 12000 ≤ 1200 = f in omega (arith, most)
+not_full f =
+    let shown : ◌≡◌ {A = Option ℕ} (Some 12000) (Some f.window) = f.shown in
+    let is : ◌≡◌ {A = ℕ} 12000 f.window = cc in
+    let most : 12000 ≤ 1200 = subst (λ (n : ℕ). n ≤ 1200) (sym is) f.full in
+    omega (arith, most)
 
 not_paced : IsPaced silent_run Client 3 (record { client = open_view; server = open_view }) → ⊥
 not_paced p = let shown : ◌≡◌ {A = Option (Option ℕ)} (Some None) (Some (Some p.moment)) = p.shown in cc
@@ -256,12 +264,12 @@ silent_is_honest = honest silent_run silent_own
 -- ---- a client that shows another window
 
 pub seems_full : IsFull shrunk_run Client 3 shrunk_view
-seems_full = lit≤ tt
+seems_full = record { window = 1; shown = refl; full = lit≤ tt }
 
 pub shrunk_window : WindowIsOfHistory shrunk_run → ⊥
 shrunk_window h =
     let told = h Client 0 shrunk_view refl refl in
-    let shows : ◌≡◌ {A = ℕ} 1 12000 = told.3 in
+    let shows : ◌≡◌ {A = Option ℕ} (Some 1) (Some 12000) = told.3 in
     cc
 
 pub shrunk_is_none : IsNoRun shrunk_run

@@ -22,8 +22,8 @@ closed_view reason = record {
   reason = Some reason;
   validated = true;
   timers = replicate 9 None;
-  window = steady_window;
-  current_mtu = 1200;
+  window = Some steady_window;
+  current_mtu = None;
 }
 
 -- the server is handed the client's datagram, answers with an error, and closes for a reason

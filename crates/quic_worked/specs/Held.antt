@@ -4,8 +4,7 @@
 use Rattle.std.specs.Prelude.{ℕ, true, List, [], ◌∷◌, ◌++◌, replicate, take, Some, None, Ok}
 use Rattle.quic_wire_core.specs.declared.stream_id.Side.TheVariants.{Client, Server}
 use Rattle.quic_congestion.specs.Congestion.{Told}
-use Rattle.quic_config.specs.Transport.{parameters_of}
-use Rattle.quic_worked.specs.Settings.{plain_settings}
+use Rattle.quic_config.specs.Transport.{default_settings, parameters_of}
 use Rattle.quic_machine.specs.declared.run.RunEvent.{RunEvent}
 use Rattle.quic_machine.specs.declared.run.Answer.{Answer}
 use Rattle.quic_machine.specs.declared.run.Answer.TheVariants as answers
@@ -38,8 +37,8 @@ narrow_windows = record { initial = narrow_window; present = narrow_window }
 -- both ends, before anything was given
 abbrev pub held_start : World
 held_start = record {
-  client = new_end Client plain_settings narrow_windows (parameters_of plain_settings) client_id server_id 0 true 63;
-  server = new_end Server plain_settings narrow_windows (parameters_of plain_settings) server_id client_id 0 true 63;
+  client = new_end Client default_settings narrow_windows (parameters_of default_settings) client_id server_id 0 true 63;
+  server = new_end Server default_settings narrow_windows (parameters_of default_settings) server_id client_id 0 true 63;
   from_client = [];
   from_server = [];
   client_control = narrow_control;
@@ -99,7 +98,7 @@ third_payload = (0x01 ∷ 0x0c ∷ 0x00 ∷ 0x49 ∷ 0x25 ∷ []) ++ replicate 1
 
 -- what is seen of both, where the client's loss timer is set so
 abbrev pub held_view : EndView → View
-held_view client = record { client = record client { window = narrow_window }; server = record (view_with None None) { window = narrow_window } }
+held_view client = record { client = record client { window = Some narrow_window }; server = record (view_with None None) { window = Some narrow_window } }
 
 -- so it is once a full datagram is in flight
 abbrev pub full_view : View
@@ -141,7 +140,7 @@ silent_run = record {
 
 -- the client shows a window of one byte, whatever its controller shows
 abbrev pub shrunk_view : View
-shrunk_view = record { client = record open_view { window = 1 }; server = open_view }
+shrunk_view = record { client = record open_view { window = Some 1 }; server = open_view }
 
 -- so nothing seems to fit, and the same poll gives nothing
 abbrev pub shrunk_run : Run

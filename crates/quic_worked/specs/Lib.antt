@@ -17,4 +17,3 @@ pub mod Measured
 pub mod Probed
 pub mod Messages
 pub mod Held
-pub mod Settings

@@ -10,8 +10,7 @@ use Rattle.quic_wire_core.specs.declared.stream_id.Side.TheVariants.{Client, Ser
 use Rattle.quic_wire_core.specs.declared.stream_id.Dir.{Dir}
 use Rattle.quic_wire_core.specs.declared.stream_id.Dir.TheVariants.{Bi}
 use Rattle.quic_wire_core.specs.declared.shared.EcnCodepoint.TheVariants.{Ect0}
-use Rattle.quic_config.specs.Transport.{Settings, parameters_of}
-use Rattle.quic_worked.specs.Settings.{plain_settings}
+use Rattle.quic_config.specs.Transport.{Settings, default_settings, parameters_of}
 use Rattle.quic_sets.specs.Offsets.{without_offsets, parts_from}
 use Rattle.quic_sets.specs.Pieces.{pieces}
 use Rattle.quic_wire.specs.Value.{StreamValue}
@@ -180,12 +179,12 @@ worked_parameters =
 -- first that is left out
 abbrev pub client_made : End
 client_made =
-    new_end Client plain_settings steady (parameters_of plain_settings) client_id server_id 0 true 63
+    new_end Client default_settings steady (parameters_of default_settings) client_id server_id 0 true 63
 
 -- the server before the first event
 abbrev pub server_made : End
 server_made =
-    new_end Server plain_settings steady (parameters_of plain_settings) server_id client_id 0 true 63
+    new_end Server default_settings steady (parameters_of default_settings) server_id client_id 0 true 63
 
 -- both ends, before anything was given
 abbrev pub started : World
@@ -228,7 +227,7 @@ within limit e = record e { streams = record e.streams { sending = record e.stre
 
 -- settings by which the peer may open no two-way stream
 abbrev pub no_two_way : Settings
-no_two_way = record plain_settings { max_bidi = 0 }
+no_two_way = record default_settings { max_bidi = 0 }
 
 -- the stream that an end opens, if it may
 abbrev pub end_opens : Dir → End → Option ℕ
@@ -298,7 +297,7 @@ hello_opening = record { first = 0x40; number = 0; payload = hello_payload }
 
 -- what the server makes of a datagram at moment 0
 abbrev pub at_server : End → List ℕ → Received
-at_server server datagram = (received worked_policies.server server 0 None datagram).answer
+at_server server datagram = (received worked_policies.server server 0 datagram).answer
 
 -- a datagram of so many bytes that went at moment 0 with the bytes of stream 0 from one offset up to
 -- another, and with its end or not
@@ -394,10 +393,6 @@ all_nexts = gives_chunk hello ∷ Ok None ∷ []
 abbrev pub gives_bytes : ℕ → Answer
 gives_bytes size = answers.Poll (Ok (Some (record { size = size; ecn = Some Ect0 })))
 
--- the same, once the peer or the path keeps no marks
-abbrev pub gives_unmarked : ℕ → Answer
-gives_unmarked size = answers.Poll (Ok (Some (record { size = size; ecn = None })))
-
 -- a write lacks memory
 abbrev pub write_lacks : Answer
 write_lacks = answers.Write (Err write_errors.Memory)
@@ -482,8 +477,8 @@ view_with loss moment = record {
   reason = None;
   validated = true;
   timers = loss ∷ replicate 7 None ++ moment ∷ [];
-  window = steady_window;
-  current_mtu = 1200;
+  window = Some steady_window;
+  current_mtu = None;
 }
 
 -- what is seen of an open end that has no timer set

@@ -24,8 +24,7 @@ ghost use Rattle.quic_machine.specs.declared.answers.Received.TheVariants.{Taken
 ghost use Rattle.quic_machine.specs.declared.answers.Received.TheVariants as receives;
 ghost use Rattle.quic_machine.specs.declared.run.ReadCall.{ReadCall};
 ghost use Rattle.quic_machine.specs.declared.run.Answer.TheVariants as answers;
-ghost use Rattle.quic_config.specs.Transport.{parameters_of};
-ghost use Rattle.quic_worked.specs.Settings.{plain_settings};
+ghost use Rattle.quic_config.specs.Transport.{default_settings, parameters_of};
 ghost use Rattle.quic_recovery_core.specs.Duplicates.{is_duplicate};
 ghost use Rattle.quic_recovery_core.specs.DuplicateRuns.{seen_after};
 ghost use Rattle.quic_streams_state.specs.Writing.{finish_answer};
@@ -43,9 +42,9 @@ ghost use Rattle.quic_worked.specs.Worked.{steady_window, steady, unprotected_he
 
 /// Each end is made of the other's parameters and first id, at moment 0 on a validated path.
 pub fn ends_are_made()
-    ensures client { MadeFrom Client plain_settings steady worked_parameters client_id server_id 0
+    ensures client { MadeFrom Client default_settings steady worked_parameters client_id server_id 0
         true 63 client_made }
-    ensures server { MadeFrom Server plain_settings steady worked_parameters server_id client_id 0
+    ensures server { MadeFrom Server default_settings steady worked_parameters server_id client_id 0
         true 63 server_made }
 {}
 
@@ -190,7 +189,7 @@ pub fn broken_rules_are_found()
     ensures other_end { at_server once_taken.server (from_client 1 (0x09 ∷ 0x00 ∷ 0x61 ∷ []))
         ≡ Closed (plain_error 6) }
     ensures beyond_count { at_server
-        (new_end Server no_two_way steady (parameters_of plain_settings) server_id client_id 0
+        (new_end Server no_two_way steady (parameters_of default_settings) server_id client_id 0
         true 63)
         hello_datagram ≡ Closed (plain_error 4) }
     ensures none { at_server server_made (from_client 0 (0x40 ∷ 0x00 ∷ 0x01 ∷ [])) ≡ Taken }
@@ -203,7 +202,7 @@ pub fn calls_are_bounded()
     ensures second_open { end_opens Bi once_opened.client ≡ Some 4 }
     ensures one_way { end_opens Uni once_opened.client ≡ Some 2 }
     ensures no_count { end_opens Bi
-        (new_end Client plain_settings steady (parameters_of no_two_way) client_id server_id 0
+        (new_end Client default_settings steady (parameters_of no_two_way) client_id server_id 0
         true 63)
         ≡ None }
     ensures server_open { end_opens Bi server_made ≡ Some 1 }
@@ -235,17 +234,17 @@ pub fn calls_are_bounded()
         ≡ Ok None }
     ensures last_number { (client_gives (numbered_from (2 ^ 31 - 17) once_ended.client) 0).answer
         ≡ Ok (Some (record { size = 37; ecn = Some Ect0 })) }
-    ensures bad_parameters { refusal_of plain_settings steady_window
+    ensures bad_parameters { refusal_of default_settings steady_window
         (parameters_at (0x04 ∷ 0x01 ∷ [])) client_id server_id ≡ Some Parameters }
-    ensures short_id { refusal_of plain_settings steady_window (parameters_at worked_parameters)
+    ensures short_id { refusal_of default_settings steady_window (parameters_at worked_parameters)
         (take 7 client_id) server_id ≡ Some IdLength }
-    ensures no_peer_id { refusal_of plain_settings steady_window
+    ensures no_peer_id { refusal_of default_settings steady_window
         (parameters_at worked_parameters) client_id [] ≡ Some IdLength }
-    ensures big_datagrams { refusal_of (record plain_settings { initial_mtu = 65528 })
+    ensures big_datagrams { refusal_of (record default_settings { initial_mtu = 65528 })
         steady_window (parameters_at worked_parameters) client_id server_id ≡ Some Size }
-    ensures small_window { refusal_of plain_settings 2399 (parameters_at worked_parameters)
+    ensures small_window { refusal_of default_settings 2399 (parameters_at worked_parameters)
         client_id server_id ≡ Some Window }
-    ensures no_refusal { refusal_of plain_settings steady_window
+    ensures no_refusal { refusal_of default_settings steady_window
         (parameters_at worked_parameters) client_id server_id ≡ None }
 {}
 

@@ -11,16 +11,13 @@ ghost use Rattle.quic_streams_parts.specs.Table.{at};
 ghost use Rattle.quic_sent_packets.specs.Packets.{asks_any, from};
 ghost use Rattle.quic_paths.specs.InFlight.{CanLeave, no_flight, flight_of};
 ghost use Rattle.quic_machine.specs.End.{with_end, with_tracking, with_rtt};
-ghost use Rattle.quic_machine.specs.Sizes.{told_packets};
-ghost use Rattle.quic_congestion.specs.Search.{is_number, open_probe};
-ghost use Rattle.quic_wire.specs.AckView.{counts_view};
-ghost use Rattle.quic_machine.specs.Control.{bytes_in_flight, last_sent, persistent_period, told_packet, told_acks_ended};
-ghost use Rattle.quic_machine.specs.Tracking.{lost_by, acked_by, not_acked_by};
-ghost use Rattle.quic_machine.specs.Acked.{without_known, carried_acked, carried_lost, packets_acked, verdict, losses_detected, told_delay, first_measured, counts_answer, counts_judged, marks_seen, told_grown, told_seen, after_acked, told_detected, told_acked};
+ghost use Rattle.quic_machine.specs.Control.{bytes_in_flight, persistent_period, told_packet, told_packets, told_acks_ended};
+ghost use Rattle.quic_machine.specs.Tracking.{lost_by, kept_by, acked_by, not_acked_by};
+ghost use Rattle.quic_machine.specs.Acked.{without_known, carried_acked, carried_lost, packets_acked, packets_lost, verdict, losses_detected, told_delay, first_measured, after_acked, told_detected, told_acked};
 ghost use Rattle.quic_connection_core.specs.Flying.{flying_packets, is_flying, flight_left, less, HasAll};
 ghost use Rattle.quic_connection_core.specs.Losses.{none_lost, all_lost, told_lost};
 ghost use Rattle.quic_connection_core.specs.Telling.{telling, KeepsKeys};
-ghost use Rattle.quic_connection_core.specs.Tracked.{TakesLost, acked_taken, acked_told, acked_count, sampled_at, after_losses, with_resets_acked, with_frames_acked, with_carried_acked, with_frames_lost, with_carried_lost};
+ghost use Rattle.quic_connection_core.specs.Tracked.{TakesLost, sampled_at, after_losses, with_resets_acked, with_frames_acked, with_carried_acked, with_frames_lost, with_carried_lost};
 
 use crate::connection::Connection;
 use crate::connection::losses::Losses;
@@ -36,7 +33,7 @@ use quic_spaces::{Tracking, Verdict};
 use quic_streams_handles::EndStreams;
 use quic_streams_state::StreamsState;
 use quic_time::Duration;
-use quic_wire::frame::{Ack, EcnCounts};
+use quic_wire::frame::Ack;
 use rand_core::Rng;
 use std::alloc::AllocError;
 
@@ -131,16 +128,6 @@ fn if_measured(rises: bool, sent: Option<Instant>, acked: &[(u64, SentPacket)]) 
     if rises && asks_any(acked) { sent } else { None }
 }
 
-/// When the packet of the greatest number went, which stands first.
-fn last_sent(acked: &[(u64, SentPacket)]) -> Instant
-    ensures { result ≡ last_sent (reverse acked.now) }
-{
-    match acked.first() {
-        Some((_, packet)) => packet.time_sent,
-        None => Instant::from_nanos(0),
-    }
-}
-
 /// So many bytes, as far as 64 bits hold them.
 fn saturated(bytes: u128) -> u64
     ensures { result ≡ saturated bytes }
@@ -163,16 +150,6 @@ fn take_lost(tracking: &mut Tracking, low: u64, verdict: &Verdict) -> Option<(u6
     let _packet = tracking.packets().get(number);
     let packet = tracking.take(number)?;
     Some((number, packet))
-}
-
-/// Whether this is the number of a probe, if there is one.
-fn is_number(number: u64, probe: Option<u64>) -> bool
-    ensures { result ≡ is_number number probe }
-{
-    match probe {
-        Some(probe) => probe == number,
-        None => false,
-    }
 }
 
 /// A packet is no longer in flight, if it was.
@@ -210,80 +187,25 @@ impl<H: HeaderKey + Drop, K: PacketKey + Drop, R: Rng + Drop, C: Controller> Con
 > {
     /// Takes an ACK frame whose greatest number is counted already, and lies above all that were
     /// named before or doesn't. The tracked packets that it names are acknowledged, the round trip
-    /// is measured where it can be, packets that are late by number or by time are lost, and its
-    /// counts of marks are judged. One that names no tracked packet changes nothing. An error is want
-    /// of memory; the end is of no more use then.
+    /// is measured where it can be, and packets that are late by number or by time are lost. One
+    /// that names no tracked packet changes nothing. An error is want of memory; the end is of no
+    /// more use then.
     pub(crate) fn on_ack_received(&mut self, frame: &Ack<'_>, rises: bool) -> Result<(), AllocError>
         ensures ok { OnOk result (self.new ≡ telling C.steps self.old (told_acked rises frame.now self.old.end) (after_acked rises frame.now self.old.end)) }
-        ensures others { KeepsKeys self.old self.new }
-    {
-        if let Some(acked) = self.take_acked(frame, rises)? {
-            let (newly, last) = acked;
-            self.see_marks(frame, rises, newly, last);
-        }
-        Ok(())
-    }
-
-    /// The same, but for the counts of marks: how many packets are newly acknowledged, and when the
-    /// last of them went, if there are some.
-    fn take_acked(
-        &mut self,
-        frame: &Ack<'_>,
-        rises: bool,
-    ) -> Result<Option<(u64, Instant)>, AllocError>
-        ensures ok { let named = acked_by frame.now self.old.end.tracking.packets in
-            OnOk result (self.new ≡ telling C.steps self.old (acked_told named rises frame.now self.old.end) (acked_taken named rises frame.now self.old.end)) }
-        ensures count { IfOk result (λ count. count ≡ acked_count (acked_by frame.now self.old.end.tracking.packets)) }
         ensures others { KeepsKeys self.old self.new }
     {
         let sent = self.sent_at(frame.largest());
         let acked = self.take_named(frame)?;
         if acked.is_empty() {
-            return Ok(None);
+            return Ok(());
         }
         let sent = if_measured(rises, sent, &acked);
-        let newly = acked.len() as u64;
-        let last = last_sent(&acked);
         self.on_packets_acked(acked)?;
         self.end_acks();
         self.update_rtt(frame, sent);
         self.detect_lost_packets(true)?;
         self.space.tracking.answered();
-        Ok(Some((newly, last)))
-    }
-
-    /// Judges the counts of marks of an ACK frame, while datagrams are marked: it newly acknowledged
-    /// so many packets, the last of which went at this moment. They are judged where its greatest
-    /// number lies above all that were named before. Where none come, or they can't be right, nothing
-    /// is marked any more; where that of CE grew, the path is congested (RFC 9000, section 13.4.2; RFC
-    /// 9002, section 7.1).
-    fn see_marks(&mut self, frame: &Ack<'_>, rises: bool, newly: u64, last: Instant)
-        ensures { self.new ≡ telling C.steps self.old (told_seen self.old.end.path.marking rises newly frame.now.ecn last self.old.end) (marks_seen rises newly frame.now self.old.end) }
-    {
-        if !self.path.sending_ecn {
-            return;
-        }
-        match frame.ecn() {
-            None => self.path.sending_ecn = false,
-            Some(counts) if rises => self.judge_marks(&counts, newly, last),
-            Some(_) => {}
-        }
-    }
-
-    /// The same of counts that are judged.
-    fn judge_marks(&mut self, counts: &EcnCounts, newly: u64, last: Instant)
-        ensures { let answer = counts_answer self.old.end newly (counts_view counts.now) in
-            self.new ≡ telling C.steps self.old (told_grown answer self.old.end.closing.clock last) (counts_judged answer (counts_view counts.now) self.old.end) }
-    {
-        match self.space.detect_ecn(newly, counts) {
-            Ok(false) => {}
-            Ok(true) => {
-                self.count_congestion();
-                let now = self.closing.clock();
-                tell_congested(&mut self.path, now, last, false, 0);
-            }
-            Err(_) => self.path.sending_ecn = false,
-        }
+        Ok(())
     }
 
     /// Takes out the tracked packets that an ACK frame names, the greatest number first: they are
@@ -317,9 +239,8 @@ impl<H: HeaderKey + Drop, K: PacketKey + Drop, R: Rng + Drop, C: Controller> Con
         ensures ok { OnOk result (self.new ≡ telling C.steps self.old (told_packets self.old.end (reverse acked.items)) (packets_acked (reverse acked.items) self.old.end)) }
         ensures others { KeepsKeys self.old self.new }
     {
-        while let Some((number, packet)) = acked.pop() {
+        while let Some((_, packet)) = acked.pop() {
             self.tell_acked(&packet);
-            self.search_acked(number, packet.size);
             self.on_packet_acked(packet)?;
         }
         Ok(())
@@ -434,7 +355,6 @@ impl<H: HeaderKey + Drop, K: PacketKey + Drop, R: Rng + Drop, C: Controller> Con
         let mut losses = self.no_losses();
         self.on_packets_lost(&verdict, &mut losses)?;
         self.space.tracking.detected(&verdict);
-        self.judge_size(&losses);
         self.tell_lost(by_ack, &losses);
         Ok(())
     }
@@ -451,19 +371,16 @@ impl<H: HeaderKey + Drop, K: PacketKey + Drop, R: Rng + Drop, C: Controller> Con
     /// The packets that a verdict finds lost are: what they carried goes again, and they count
     /// among these losses.
     fn on_packets_lost(&mut self, verdict: &Verdict, losses: &mut Losses) -> Result<(), AllocError>
-        ensures ok { OnOk result (self.new ≡ with_end self.old (after_losses (open_probe self.old.end.path.discovery) verdict.now self.old.end)) }
-        ensures losses { OnOk result (losses.new ≡ all_lost self.old.end.path.generation (open_probe self.old.end.path.discovery) losses.old (lost_by verdict.now self.old.end.tracking.packets)) }
+        ensures ok { OnOk result (self.new ≡ with_end self.old (after_losses verdict.now self.old.end)) }
+        ensures losses { OnOk result (losses.new ≡ all_lost self.old.end.path.generation losses.old (lost_by verdict.now self.old.end.tracking.packets)) }
         ensures others { self.new ≡ with_end self.old self.new.end }
         ensures lacking { OnErr result (lost_by verdict.now self.old.end.tracking.packets ≢ []) }
     {
-        let probe = self.open_probe();
         let mut low = 0;
         while let Some((number, packet)) = take_lost(&mut self.space.tracking, low, verdict) {
             leave_flight(&mut self.path, &packet);
-            let is_probe = is_number(number, probe);
-            losses.add(self.path.generation(), number, &packet, is_probe);
+            losses.add(self.path.generation(), number, &packet);
             self.on_packet_lost(&packet)?;
-            self.search_lost(number, packet.size, is_probe);
             low = number;
         }
         Ok(())
@@ -492,6 +409,7 @@ impl<H: HeaderKey + Drop, K: PacketKey + Drop, R: Rng + Drop, C: Controller> Con
         ensures ok { OnOk result (self.new ≡ with_end self.old (carried_lost packet.now.carried self.old.end)) }
         ensures others { self.new ≡ with_end self.old self.new.end }
     {
+        self.count_lost(packet.size);
         on_carried_lost(&mut self.streams, packet)?;
         Ok(())
     }

@@ -1,7 +1,6 @@
 //! What is counted of a connection.
 ghost use Rattle.std.specs.Prelude.{◌≡◌};
 ghost use Rattle.quic_time.specs.Rtt.{best_rtt};
-ghost use Rattle.quic_machine.specs.Parts.{current_mtu};
 
 use crate::connection::Connection;
 use quic_congestion::Controller;
@@ -14,7 +13,7 @@ impl<H, K, R, C: Controller> Connection<H, K, R, C> {
     pub fn stats(&self) -> ConnectionStats
         ensures rtt { result.path.rtt ≡ best_rtt self.now.end.path.rtt }
         ensures min_rtt { result.path.min_rtt ≡ self.now.end.path.rtt.least }
-        ensures size { result.path.current_mtu ≡ current_mtu self.now.end.path }
+        ensures size { result.path.current_mtu ≡ self.now.end.path.size }
         ensures window { result.path.cwnd ≡ C.window_of self.now.control }
     {
         let mut stats = self.stats;
@@ -56,30 +55,6 @@ impl<H, K, R, C: Controller> Connection<H, K, R, C> {
         let path = &mut self.stats.path;
         path.lost_packets = path.lost_packets.saturating_add(1);
         path.lost_bytes = path.lost_bytes.saturating_add(u64::from(size));
-    }
-
-    /// A probe of a size goes.
-    pub(crate) fn count_probe(&mut self)
-        ensures { self.new ≡ self.old }
-    {
-        let path = &mut self.stats.path;
-        path.sent_plpmtud_probes = path.sent_plpmtud_probes.saturating_add(1);
-    }
-
-    /// A probe of a size is lost.
-    pub(crate) fn count_lost_probe(&mut self)
-        ensures { self.new ≡ self.old }
-    {
-        let path = &mut self.stats.path;
-        path.lost_plpmtud_probes = path.lost_plpmtud_probes.saturating_add(1);
-    }
-
-    /// The path carries less than before.
-    pub(crate) fn count_black_hole(&mut self)
-        ensures { self.new ≡ self.old }
-    {
-        let path = &mut self.stats.path;
-        path.black_holes_detected = path.black_holes_detected.saturating_add(1);
     }
 
     /// The congestion controller is told of congestion.

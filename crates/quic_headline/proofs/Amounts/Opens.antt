@@ -98,7 +98,7 @@ module _ (B : Way) (w : IsWriting B) (x y : Party) (call : Call) (a : Answer) (c
     none = λ delivery is. here;
     comes = λ delivery is s among. (
         let all : P (passed s.frames (begun x.end delivery.now s.number)).end.streams = frames_keep (λ (e : End). P e.streams) frame s.frames (begun x.end delivery.now s.number) here in
-        record { ignored = λ reason. here; noted = λ state reason. here; takes = λ state new none mark. all; refuses = λ state new f fault. all });
+        record { ignored = λ reason. here; noted = λ state reason. here; takes = λ state new none. all; refuses = λ state new f fault. all });
   })
     where
       P : StreamsState → Type 0
@@ -113,7 +113,7 @@ module _ (B : Way) (w : IsWriting B) (x y : Party) (call : Call) (a : Answer) (c
     none = λ delivery is. i.side;
     comes = λ delivery is s among. (
         let all : P (passed s.frames (begun x.end delivery.now s.number)).end.streams = frames_keep (λ (e : End). P e.streams) frame s.frames (begun x.end delivery.now s.number) i.side in
-        record { ignored = λ reason. i.side; noted = λ state reason. i.side; takes = λ state new none mark. all; refuses = λ state new f fault. all });
+        record { ignored = λ reason. i.side; noted = λ state reason. i.side; takes = λ state new none. all; refuses = λ state new f fault. all });
   })
     where
       P : StreamsState → Type 0

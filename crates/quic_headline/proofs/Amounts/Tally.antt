@@ -195,7 +195,6 @@ module _ (t : Tally) where
   composed_tallies e i = by_writing (λ (d : Draft). Tallies t d.end.streams) (record {
     ack = λ d filled may j. j;
     ping = λ d j. j;
-    probes = λ f size j. j;
     drops = λ d kind j. j;
     control = λ d kind f is j. by_told (Tallies t) tallies_kept f d.end.streams j;
     message = λ d m ms is fit j. j;
@@ -228,7 +227,7 @@ module _ (t : Tally) where
         heard = λ path same. i;
         times = λ now acks loss pacing set. by_expired e now (λ (f : End). Tallies t f.streams) (λ pending tracking timers runs packets. i) (λ pending timers runs. expiry_stays (λ (s : Streams). Tallies t s.state) e now (losing e.tracking.packets) i pending timers) acks loss pacing;
         polls = λ now set. poll_tallies p e now i;
-        hears = λ now mark d set. cc;
+        hears = λ now d set. cc;
         tells = λ asks. by_event e (λ (f : End). Tallies t f.streams) i (λ told. by_polled (Tallies t) tallies_kept e.streams i);
       })
 
@@ -241,11 +240,8 @@ module _ (t : Tally) where
     acked = λ m e i. by_stream_acked_where (Tallies t) tallies_kept e.streams e.waiting.frames m (λ h is none. acked_goes m.id h m) (λ h is none all. tt) (λ h all. inr all) i;
     lost = lost_tallies;
     again = λ carried e i. i;
-    searched = λ discovery e i. i;
-    shortens = λ most e i. i;
     tracked = λ u e i. i;
     measured = λ r first e i. i;
-    marked = λ m marking e i. i;
   }
 
 -- ---- where as much is told

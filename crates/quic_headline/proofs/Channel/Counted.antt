@@ -206,7 +206,6 @@ module _ (K : Side → Counts → Counts → Type 0) where
   composed_counts e i = by_writing (λ (d : Draft). Counted d.end.streams) (record {
     ack = λ d filled may j. j;
     ping = λ d j. j;
-    probes = λ f size j. j;
     drops = λ d kind j. j;
     control = λ d kind f is j. by_tells Counted d.end.streams j j (λ id. j) (λ dir. j) f;
     message = λ d m ms is fit j. j;
@@ -238,11 +237,8 @@ module _ (K : Side → Counts → Counts → Type 0) where
     acked = λ m e i. acked_counts (sent_half e.streams m.id) e.streams e.waiting.frames m i;
     lost = λ m e i. lost_counts (sent_half e.streams m.id) e.streams m i;
     again = λ carried e i. i;
-    searched = λ discovery e i. i;
-    shortens = λ most e i. i;
     tracked = λ t e i. i;
     measured = λ r first e i. i;
-    marked = λ m marking e i. i;
   }
 
   -- any call but a delivery
@@ -264,7 +260,7 @@ module _ (K : Side → Counts → Counts → Type 0) where
         heard = λ path same. i;
         times = λ now acks loss pacing set. by_expired e now (λ (f : End). Counted f.streams) (λ pending tracking timers runs packets. i) (λ pending timers runs. losses_keep (λ (x : End). Counted x.streams) settling (with_closing e (ticked e.closing now)) i) acks loss pacing;
         polls = λ now set. poll_counts p e now i;
-        hears = λ now mark d set. cc;
+        hears = λ now d set. cc;
         tells = λ asks. by_event e (λ (f : End). Counted f.streams) i (λ told. polled_counts e.streams i);
       })
 

@@ -1,6 +1,6 @@
 -- A limit that was said waits to be said anew, stands in a datagram that is tracked, or came, each no less than it was said; or it matters
 -- no more. Each frame that comes keeps that, and calls take nothing off what waits.
-use Rattle.std.proofs.Common.{◌≡◌, ℕ, ◌≤◌, Bool, true, false, not, cond, List, [], ◌∷◌, filter, Option, Some, None, Ok, refl, sym, ap, ◌∙◌, subst, ◌⊎◌, inl, inr, length}
+use Rattle.std.proofs.Common.{◌≡◌, ℕ, ◌≤◌, Bool, true, false, not, cond, List, [], ◌∷◌, filter, Option, Some, None, Ok, refl, sym, ap, ◌∙◌, subst, ◌⊎◌, inl, inr}
 use Rattle.std.specs.List.{list_any}
 use Rattle.std.specs.Ordering.{nat_cmp}
 use Rattle.std.specs.BTreeMap.{is_at}
@@ -26,15 +26,14 @@ use Rattle.quic_machine.specs.Tracking.{Tracking, TrackedPacket, Carried, carrie
 use Rattle.quic_machine.specs.End.{End, streams_at}
 use Rattle.quic_machine.specs.Calls.{after_nexts}
 use Rattle.quic_machine.specs.StreamCalls.{after_on_streams}
-use Rattle.quic_machine.specs.Acked.{stream_lost, streams_lost, carried_lost, packets_lost, verdict, losses_detected, measured, sampled, without_acked, after_named, losses_taken}
+use Rattle.quic_machine.specs.Acked.{stream_lost, streams_lost, carried_lost, packets_lost, verdict, losses_detected, measured, sampled, without_acked, after_named}
 use Rattle.quic_machine.specs.Receive.{is_above, names_ungiven, take_frame, Outcome}
-use Rattle.quic_machine.specs.FrameCases.{OnStreams, Settling, named, ack_taken, acked_keeps, begun, passed, frames_leave, by_marks}
+use Rattle.quic_machine.specs.FrameCases.{OnStreams, Settling, named, ack_taken, acked_keeps, begun, passed, frames_leave}
 use Rattle.quic_machine.specs.FrameCases as cases
 use Rattle.quic_headline.specs.Runs.{Packet, Intake, In}
 use Rattle.quic_headline.specs.Observer.{Sent}
 use Rattle.quic_headline.specs.InFlight.{is_max_data, is_max_streams, limits_in, again_in}
 use Rattle.quic_headline.specs.Duties.{Limited, AllData, StreamData, StreamCount, limit_frame, limit_waits, IsInFlight, LimitHasArrived}
-use Rattle.quic_headline.proofs.Packets.Searches.{by_losses}
 use Rattle.quic_headline.proofs.Packets.Carried.{carried_same}
 use Rattle.quic_headline.proofs.Packets.Delivered.{Arrivals, arrived}
 use Rattle.quic_headline.proofs.Packets.Named.{NamesTaken, Stands, by_frame}
@@ -114,11 +113,8 @@ module _ (what : Limited) where
     acked = λ m e w. acked_flags (WaitsIn what) (decides what) e.streams e.waiting.frames m w;
     lost = λ m e w. lost_keeps (WaitsIn what) (decides what) e.streams e.waiting.frames m w;
     again = λ c e w. waits_in what (streams_of e.streams (merged e.waiting.frames c.retransmits)) (merged_left what e.waiting.frames c.retransmits (waits_of what (streams_at e) w));
-    searched = λ discovery e w. w;
-    shortens = λ most e w. w;
     tracked = λ t e w. w;
     measured = λ r first e w. w;
-    marked = λ m marking e w. w;
   }
 
   pub frame_waits : (f : FrameValue) (e : End) → IsWaiting what (streams_at e) → IsWaiting what (streams_at (take_frame f e).end)
@@ -227,13 +223,13 @@ module _ (took : List Packet) (own : List Sent) (what : Limited) (value : ℕ) w
       here = (i.flies.sent.number, i.flies.packet)
 
       go : (lost : Bool) → is_lost (verdict e) here ≡ lost → LimitStands took own what value (losses_detected e)
-      go true is = by_losses (LimitStands took own what value) e (λ discovery queues. inr (inl (losses_wait what (lost_by (verdict e) e.tracking.packets) e (inr (here.0, here.1, filter_has (is_lost (verdict e)) here e.tracking.packets i.flies.tracked is, i.again)))))
-      go false is = by_losses (LimitStands took own what value) e (λ discovery queues. inr (inr (inl (still e.tracking.packets (kept_by (verdict e) e.tracking.packets) i (filter_has (λ q. not (is_lost (verdict e) q)) here e.tracking.packets i.flies.tracked (ap not is))))))
+      go true is = inr (inl (losses_wait what (lost_by (verdict e) e.tracking.packets) e (inr (here.0, here.1, filter_has (is_lost (verdict e)) here e.tracking.packets i.flies.tracked is, i.again))))
+      go false is = inr (inr (inl (still e.tracking.packets (kept_by (verdict e) e.tracking.packets) i (filter_has (λ q. not (is_lost (verdict e) q)) here e.tracking.packets i.flies.tracked (ap not is)))))
 
   pub detected_more : (e : End) → (limit_waits e.waiting.frames what ≡ true) ⊎ FliesFrom own e.tracking.packets what value ⊎ LimitHasArrived took what value → LimitStands took own what value (losses_detected e)
-  detected_more e (inl waits) = by_losses (LimitStands took own what value) e (λ discovery queues. inr (inl (losses_wait what (lost_by (verdict e) e.tracking.packets) e (inl waits))))
+  detected_more e (inl waits) = inr (inl (losses_wait what (lost_by (verdict e) e.tracking.packets) e (inl waits)))
   detected_more e (inr (inl flies)) = detected_flies e flies
-  detected_more e (inr (inr came)) = by_losses (LimitStands took own what value) e (λ discovery queues. inr (inr (inr came)))
+  detected_more e (inr (inr came)) = inr (inr (inr came))
 
   -- a round trip is measured, if one is
   sampled_flies : (o : Option TrackedPacket) (a : AckValue) (e : End) → FliesFrom own e.tracking.packets what value → FliesFrom own (sampled o a e).tracking.packets what value
@@ -244,7 +240,7 @@ module _ (took : List Packet) (own : List Sent) (what : Limited) (value : ℕ) (
   -- an ACK frame that names these packets
   named_flies : (ps : Table TrackedPacket) (rises : Bool) (a : AckValue) (e : End) → NamesTaken took a → FliesFrom own e.tracking.packets what value → LimitStands took own what value (after_named ps rises a e)
   named_flies [] rises a e takes i = inr (inr (inl i))
-  named_flies (p ∷ ps) rises a e takes i = by_marks rises (length (p ∷ ps)) a taken (LimitStands took own what value) (λ m marking. go (names a number) refl)
+  named_flies (p ∷ ps) rises a e takes i = go (names a number) refl
     where
       number : ℕ
       number = i.flies.sent.number
@@ -255,10 +251,7 @@ module _ (took : List Packet) (own : List Sent) (what : Limited) (value : ℕ) (
       o : Option TrackedPacket
       o = measured rises a (p ∷ ps)
 
-      taken : End
-      taken = losses_taken (p ∷ ps) rises a e
-
-      go : (acked : Bool) → names a number ≡ acked → LimitStands took own what value taken
+      go : (acked : Bool) → names a number ≡ acked → LimitStands took own what value (after_named (p ∷ ps) rises a e)
       go true on =
           let arrived = takes number on in
           let found = stands.taken arrived.packet arrived.was_taken in
@@ -322,7 +315,7 @@ module _ (took : List Packet) (own : List Sent) (what : Limited) (value : ℕ) (
   arrivals_stated e now n frames came takes i = record {
     ignored = λ reason. i;
     noted = λ state reason. record { knows = i.knows; stand = i.stand };
-    takes = λ state new none mark. record { knows = after.1.knows; stand = after.1.stand };
+    takes = λ state new none. record { knows = after.1.knows; stand = after.1.stand };
     refuses = λ state new f is. record { knows = after.1.knows; stand = after.1.stand };
   }
     where

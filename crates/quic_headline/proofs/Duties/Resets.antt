@@ -29,16 +29,16 @@ use Rattle.quic_machine.specs.declared.run.Answer.{Answer}
 use Rattle.quic_machine.specs.declared.run.Answer.TheVariants as answers
 use Rattle.quic_machine.specs.Policy.{Policy}
 use Rattle.quic_machine.specs.Closing.{ticked}
-use Rattle.quic_machine.specs.Tracking.{after_detection, Tracking, TrackedPacket, Carried, carried_in, retransmits_in, without_record, names, acked_by, is_lost, lost_by}
+use Rattle.quic_machine.specs.Tracking.{Tracking, TrackedPacket, Carried, carried_in, retransmits_in, without_record, names, acked_by, is_lost, lost_by}
 use Rattle.quic_machine.specs.End.{End, with_closing, streams_at, number_of}
 use Rattle.quic_machine.specs.Calls.{after_nexts, is_open}
 use Rattle.quic_machine.specs.StreamCalls.{IsStreamAnswer, if_ok, after_on_streams}
-use Rattle.quic_machine.specs.Acked.{without_known, reset_acked, resets_acked, stream_acked, streams_acked, packet_acked, packets_acked, stream_lost, streams_lost, carried_lost, packets_lost, verdict, losses_detected, measured, sampled, without_acked, after_named, losses_taken}
+use Rattle.quic_machine.specs.Acked.{without_known, reset_acked, resets_acked, stream_acked, streams_acked, packet_acked, packets_acked, stream_lost, streams_lost, carried_lost, packets_lost, verdict, losses_detected, measured, sampled, without_acked, after_named}
 use Rattle.quic_machine.specs.Receive.{is_above, names_ungiven, take_frame, Outcome}
-use Rattle.quic_machine.specs.Poll.{Polled, Draft, no_frames, ack_of, with_ping_frame, ping_if, with_control_frames, with_asking, with_ack, ack_fits, ack_if, composed_if, composed, asking, frame_room, lazied, packet_of, tracked, record_moved, polled, with_message, with_message_frames, goes, draft_as, whole, alone, probe, Leaving, nothing}
-use Rattle.quic_machine.specs.DraftLaws.{with_half_frame, by_streams, by_messages, MayLeave}
-use Rattle.quic_machine.specs.PollCases.{ready_at, ready_leaves, draft_at, by_poll_to, composes, may_leave_at}
-use Rattle.quic_machine.specs.FrameCases.{OnStreams, named, ack_taken, begun, passed, frames_leave, by_marks}
+use Rattle.quic_machine.specs.Poll.{Polled, Draft, no_frames, ack_of, with_ping_frame, ping_if, with_control_frames, with_asking, with_ack, ack_fits, ack_if, composed_if, composed, asking, frame_room, lazied, packet_of, tracked, record_moved, polled, with_message, with_message_frames, goes, draft_if}
+use Rattle.quic_machine.specs.DraftLaws.{with_half_frame, by_streams, by_messages, due_alone}
+use Rattle.quic_machine.specs.PollCases.{ready_at, ready_leaves, draft_at, by_poll_to, composes}
+use Rattle.quic_machine.specs.FrameCases.{OnStreams, named, ack_taken, begun, passed, frames_leave}
 use Rattle.quic_machine.specs.CallCases.{is_delivery, by_call}
 use Rattle.quic_machine.specs.LeaveCases.{by_expired, by_event}
 use Rattle.quic_machine.specs.Machine.{after_call}
@@ -46,10 +46,9 @@ use Rattle.quic_headline.specs.Runs.{Packet, Intake, In, reset_by, ResetHasArriv
 use Rattle.quic_headline.specs.Observer.{Sent}
 use Rattle.quic_headline.specs.InFlight.{resets_in}
 use Rattle.quic_headline.specs.Duties.{Reset, has_reset, IsCarried}
-use Rattle.quic_headline.proofs.Packets.Searches.{by_losses}
 use Rattle.quic_headline.proofs.Packets.Invariant.{IsCarriedFrom, AreTracked, carried_again}
 use Rattle.quic_headline.proofs.Packets.Ascending.{Ascends}
-use Rattle.quic_headline.proofs.Packets.Probes.{by_ready, ready_tracked, by_going}
+use Rattle.quic_headline.proofs.Packets.Probes.{by_ready, ready_tracked, MayLeave, by_going}
 use Rattle.quic_headline.proofs.Packets.Given.{draft_number}
 use Rattle.quic_headline.proofs.Packets.Carried.{carried_same}
 use Rattle.quic_headline.proofs.Packets.Delivered.{Arrivals, arrived}
@@ -61,7 +60,6 @@ use Rattle.quic_headline.proofs.Halves.Pile.{resets_of, goes_moves}
 use Rattle.quic_headline.proofs.Halves.PilePolls.{resets_more}
 use Rattle.quic_headline.proofs.Duties.Carrier.{any_either, any_member, any_put, any_sent, IsNew, ready_new}
 use Rattle.quic_headline.proofs.Duties.Tail.{AskBefore, Quiet, tail_quiet, ready_before}
-use Rattle.quic_machine.specs.Sizes.{search_acked}
 
 -- ---- lists of resets
 
@@ -127,8 +125,8 @@ packets_wait : (ps : Table TrackedPacket) (e : End) → waiting_of (packets_acke
 packets_wait [] e = refl
 packets_wait (p ∷ ps) e =
     let c : Carried = p.1.carried in
-    let knows : End = without_known c.largest_acked (search_acked p e) in
-    packets_wait ps (packet_acked p e) ∙ streams_wait c.stream_frames (resets_acked c.retransmits.reset_stream knows) ∙ resets_wait c.retransmits.reset_stream knows ∙ known_wait c.largest_acked (search_acked p e)
+    let knows : End = without_known c.largest_acked e in
+    packets_wait ps (packet_acked p.1 e) ∙ streams_wait c.stream_frames (resets_acked c.retransmits.reset_stream knows) ∙ resets_wait c.retransmits.reset_stream knows ∙ known_wait c.largest_acked e
 
 lost_wait : (ms : List StreamMeta) (e : End) → (streams_lost ms e).waiting ≡ e.waiting
 lost_wait [] e = refl
@@ -171,15 +169,9 @@ module _ (took : List Packet) (id : ℕ) where
 
   -- losses that are detected
   detected_stands : (e : End) → ResetStands took id e → ResetStands took id (losses_detected e)
-  detected_stands e i = by_losses (ResetStands took id) e (λ discovery queues. go i)
-    where
-      lost : Table TrackedPacket
-      lost = lost_by (verdict e) e.tracking.packets
-
-      go : ResetStands took id e → (has_reset id (waiting_of (packets_lost lost e)) ≡ true) ⊎ IsCarried (after_detection (verdict e) e.tracking).packets (Reset id) ⊎ ResetHasArrived took id
-      go (inl waits) = inl (losses_wait lost e id (inl waits))
-      go (inr (inl flying)) = elim (any_either HasIt (is_lost (verdict e)) e.tracking.packets flying) [ inl gone ↦ inl (losses_wait lost e id (inr gone)) | inr kept ↦ inr (inl kept) ]
-      go (inr (inr came)) = inr (inr came)
+  detected_stands e (inl waits) = inl (losses_wait (lost_by (verdict e) e.tracking.packets) e id (inl waits))
+  detected_stands e (inr (inl flying)) = elim (any_either HasIt (is_lost (verdict e)) e.tracking.packets flying) [ inl gone ↦ inl (losses_wait (lost_by (verdict e) e.tracking.packets) e id (inr gone)) | inr kept ↦ inr (inl kept) ]
+  detected_stands e (inr (inr came)) = inr (inr came)
 
   -- a round trip is measured, if one is
   sampled_stands : (o : Option TrackedPacket) (a : AckValue) (e : End) → ResetStands took id e → ResetStands took id (sampled o a e)
@@ -192,7 +184,7 @@ module _ (took : List Packet) (id : ℕ) where
   named_stands (p ∷ ps) rises a e is was i =
       let o : Option TrackedPacket = measured rises a (p ∷ ps) in
       let left : End = without_acked (p ∷ ps) a e in
-      by_marks rises (length (p ∷ ps)) a (losses_taken (p ∷ ps) rises a e) (ResetStands took id) (λ m marking. detected_stands (sampled o a left) (sampled_stands o a left (go i)))
+      detected_stands (sampled o a left) (sampled_stands o a left (go i))
     where
       packets : Table TrackedPacket
       packets = e.tracking.packets
@@ -245,7 +237,7 @@ module _ (took : List Packet) (id : ℕ) where
 
     -- each case of a delivery
     pub arrivals_stand : (e : End) (now n : ℕ) (frames : List FrameValue) (came : Intake) → ((a : AckValue) → In (ack a) frames → NamesTaken took a) → AreTracked sents e.tracking.packets → ResetStands took id e → Arrivals e now n frames came (λ (o : Outcome) (j : Intake). ResetStands took id o.end)
-    arrivals_stand e now n frames came takes tracked i = record { ignored = λ reason. i; noted = λ state reason. i; takes = λ state new none mark. after; refuses = λ state new f is. after }
+    arrivals_stand e now n frames came takes tracked i = record { ignored = λ reason. i; noted = λ state reason. i; takes = λ state new none. after; refuses = λ state new f is. after }
       where
         after : ResetStands took id (arrived e now n frames).end
         after = frames_stand frames (begun e now n) takes tracked i
@@ -349,12 +341,10 @@ module _ (e : End) (ready : AreReady e.streams.sending.halves.live e.waiting.fra
       go true = asking_moved (with_ack (no_frames e)) (record { streams = refl; waits = refl })
       go false = late (ack_fits (with_asking (no_frames e))) (with_asking (no_frames e)) (asking_moved (no_frames e) (record { streams = refl; waits = refl }))
 
--- so it is of what goes, where that is composed, or is a due ACK or a probe of a size alone, and where nothing goes
-draft_moved : (e : End) (ready : AreReady e.streams.sending.halves.live e.waiting.frames) (id : ℕ) (was : has_reset id (waiting_of e) ≡ true) → (leaving : Leaving) → IsMoved e ready id was (draft_as leaving e)
-draft_moved e ready id was whole = composed_moved (lazied e) ready id was
-draft_moved e ready id was alone = inl was
-draft_moved e ready id was (probe size) = inl was
-draft_moved e ready id was (nothing held) = inl was
+  -- or a due ACK alone
+  draft_moved : (held : Bool) → IsMoved (draft_if held e)
+  draft_moved true = inl was
+  draft_moved false = composed_moved
 
 -- frames that don't ask reset nothing
 none_resets : (fs : List FrameValue) (id : ℕ) → asking fs ≡ false → has_reset id (resets_in fs) ≡ true → ⊥
@@ -384,7 +374,7 @@ module _ (took : List Packet) (sents : List Sent) (id : ℕ) where
   module _ (e : End) (now : ℕ) (ascends : Ascends e) (were : AreTracked sents e.tracking.packets) (before : AskBefore sents e.tracking.greatest_asking) (new : IsNew e.tracking.packets (number_of e)) where
     -- where something waits for each probe: what a probe carries waits
     ready_stands : ResetStands took id e → ResetStands took id (ready_at e now).end
-    ready_stands i = by_ready (ResetStands took id) e now i i (λ p among. moved p among i) (λ moment pacing discovery x j. j)
+    ready_stands i = by_ready (ResetStands took id) e now i i (λ p among. moved p among i) (λ moment pacing x j. j)
       where
         moved : (p : ℕ × TrackedPacket) → In p e.tracking.packets → ResetStands took id e → ResetStands took id (record_moved (Some p) (with_closing e (ticked e.closing now)))
         moved p among (inl waits) = inl (has_front id (waiting_of e) p.1.carried.retransmits.reset_stream waits)
@@ -406,19 +396,19 @@ module _ (took : List Packet) (sents : List Sent) (id : ℕ) where
       where
         gives : goes (ready_at e now) ≡ true → ResetStands took id (tracked (draft_at e now))
         gives some =
-            let leaving : Leaving = (ready_at e now).leaving in
+            let held : Bool = (ready_at e now).held in
             let r : End = (ready_at e now).end in
             let d : Draft = draft_at e now in
-            let due : MayLeave leaving r = may_leave_at e now in
-            let same = composes leaving r due in
+            let alone : MayLeave held (lazied r) = due_alone (ready_at e now) some in
+            let same = composes held (lazied r) alone in
             let tracks : r.tracking ≡ d.end.tracking = sym same.tracking in
-            let number : number_of e ≡ number_of d.end = sym (draft_number leaving r due ∙ ap (λ (x : End). number_of x) (ready_leaves e now)) in
+            let number : number_of e ≡ number_of d.end = sym (draft_number held (lazied r) alone ∙ ap (λ (x : End). number_of x) (ready_leaves e now)) in
             given_stands d
             (subst (λ (t : Tracking). AreTracked sents t.packets) tracks (ready_tracked sents e now were))
             (subst (λ (t : Tracking). AskBefore sents t.greatest_asking) tracks (ready_before sents e now before))
             (subst (λ (n : ℕ). IsNew d.end.tracking.packets n) number (subst (λ (t : Tracking). IsNew t.packets (number_of e)) tracks (ready_new e now (number_of e) new)))
             (elim (ready_stands i) [
-              | inl waits ↦ inl (draft_moved r ready id waits leaving)
+              | inl waits ↦ inl (draft_moved (lazied r) ready id waits held)
               | inr more ↦ inr (subst (λ (x : Tracking). IsCarried x.packets (Reset id) ⊎ ResetHasArrived took id) tracks more)
             ])
 
@@ -501,6 +491,6 @@ module _ (took : List Packet) (sents : List Sent) (id : ℕ) where
     heard = λ path same. i;
     times = λ now acks loss pacing set. by_expired e now (ResetStands took id) (λ pending tracking timers runs packets. rw packets i) (λ pending timers runs. detected_stands took id (with_closing e (ticked e.closing now)) i) acks loss pacing;
     polls = λ now set. polled_stands took sents id e now ascends were before new p (ready now) i;
-    hears = λ now mark d set. cc;
+    hears = λ now d set. cc;
     tells = λ asks. by_event e (ResetStands took id) i (λ told. i);
   })

@@ -1,7 +1,6 @@
 -- What was sent since the last datagram that asks asks for nothing: a packet that is forgotten carried nothing that has to reach the peer.
-use Rattle.std.proofs.Common.{◌≡◌, ℕ, ◌<◌, Bool, true, false, List, [], ◌∷◌, ◌++◌, Option, Some, None, refl, sym, ap, ◌∙◌, subst, inl, inr, arith, length}
+use Rattle.std.proofs.Common.{◌≡◌, ℕ, ◌<◌, Bool, true, false, List, [], ◌∷◌, ◌++◌, Option, Some, None, refl, sym, ap, ◌∙◌, subst, inl, inr, arith}
 use Rattle.std.proofs.lemmas.Bool.{le-ltb}
-use Rattle.quic_wire_core.specs.declared.shared.EcnCodepoint.{EcnCodepoint}
 use Rattle.quic_wire.specs.Value.{AckValue}
 use Rattle.quic_streams_parts.specs.Table.{Table}
 use Rattle.quic_machine.specs.declared.run.Call.{Call}
@@ -12,18 +11,19 @@ use Rattle.quic_machine.specs.Policy.{Policy}
 use Rattle.quic_machine.specs.Closing.{ticked}
 use Rattle.quic_machine.specs.Tracking.{Tracking, TrackedPacket, is_behind, asking_sent, acked_by}
 use Rattle.quic_machine.specs.End.{End, with_closing, with_loss_timer, number_of}
-use Rattle.quic_machine.specs.Acked.{sampled, measured, without_acked, after_named, losses_taken}
+use Rattle.quic_machine.specs.Acked.{measured, without_acked, after_named}
 use Rattle.quic_machine.specs.Receive.{received}
-use Rattle.quic_machine.specs.Poll.{Polled, Draft, asking, polled, goes, tracked, Ready}
-use Rattle.quic_machine.specs.PollCases.{ready_at, ready_leaves, draft_at, by_poll_to, composes, may_leave_at}
+use Rattle.quic_machine.specs.Poll.{Polled, Draft, asking, lazied, polled, goes, tracked}
+use Rattle.quic_machine.specs.PollCases.{ready_at, ready_leaves, draft_at, by_poll_to, composes}
 use Rattle.quic_machine.specs.Timeouts.{acks_expired, loss_judged, loss_expired, pacing_expired}
 use Rattle.quic_machine.specs.LeaveCases.{at_expiry}
-use Rattle.quic_machine.specs.FrameCases.{named, frame_keeps, frame_leaves, by_received, by_marks}
+use Rattle.quic_machine.specs.FrameCases.{named, frame_keeps, frame_leaves, by_received}
 use Rattle.quic_machine.specs.CallCases.{is_poll, by_plain_call}
 use Rattle.quic_machine.specs.Machine.{IsAnswer, after_call, fails, gave}
+use Rattle.quic_machine.specs.Control.{Gated}
+use Rattle.quic_machine.specs.DraftLaws.{due_alone}
 use Rattle.quic_headline.specs.Runs.{In}
 use Rattle.quic_headline.specs.Observer.{Sent, asks_of}
-use Rattle.quic_headline.proofs.Packets.Searches.{by_losses}
 use Rattle.quic_headline.proofs.Packets.Invariant.{IsCarriedFrom, AreTracked}
 use Rattle.quic_headline.proofs.Packets.Named.{sampled_tracking}
 use Rattle.quic_headline.proofs.Packets.Probes.{by_ready, by_going}
@@ -74,10 +74,10 @@ Stays greatest e = e.tracking.greatest_asking ≡ greatest
 -- an ACK frame that names these leaves it
 named_stays : (greatest : Option ℕ) (ps : Table TrackedPacket) (rises : Bool) (a : AckValue) (e : End) → Stays greatest e → Stays greatest (after_named ps rises a e)
 named_stays greatest [] rises a e i = i
-named_stays greatest (p ∷ ps) rises a e i = by_marks rises (length (p ∷ ps)) a (losses_taken (p ∷ ps) rises a e) (Stays greatest) (λ m marking. by_losses (λ (x : End). x.tracking.greatest_asking ≡ greatest) (sampled (measured rises a (p ∷ ps)) a (without_acked (p ∷ ps) a e)) (λ discovery queues. ap (λ (t : Tracking). t.greatest_asking) (sampled_tracking (measured rises a (p ∷ ps)) a (without_acked (p ∷ ps) a e)) ∙ i))
+named_stays greatest (p ∷ ps) rises a e i = ap (λ (t : Tracking). t.greatest_asking) (sampled_tracking (measured rises a (p ∷ ps)) a (without_acked (p ∷ ps) a e)) ∙ i
 
 -- so does whatever comes
-received_stays : (greatest : Option ℕ) (p : Policy) (e : End) (now : ℕ) (mark : Option EcnCodepoint) (d : List ℕ) → Stays greatest e → Stays greatest (received p e now mark d).end
+received_stays : (greatest : Option ℕ) (p : Policy) (e : End) (now : ℕ) (d : List ℕ) → Stays greatest e → Stays greatest (received p e now d).end
 received_stays greatest = by_received (Stays greatest) (record {
   notes = λ n x i. i;
   begins = λ now n x i. i;
@@ -86,7 +86,7 @@ received_stays greatest = by_received (Stays greatest) (record {
     on_streams = λ f x on i. frame_leaves (Stays greatest) f x on (λ streams. i);
     message = λ m x i. i;
   });
-  takes = λ n asks mark x i. i;
+  takes = λ n asks x i. i;
   closes = λ reason x i. i;
 })
 
@@ -99,7 +99,7 @@ expired_stays e now acks loss pacing = after acks pacing (loss_expired loss begi
 
     judges : (o : Option ℕ) → Stays e.tracking.greatest_asking (loss_judged o begins)
     judges None = refl
-    judges (Some moment) = by_losses (Stays e.tracking.greatest_asking) begins (λ discovery queues. refl)
+    judges (Some moment) = refl
 
     expires : (loss : Bool) → Stays e.tracking.greatest_asking (loss_expired loss begins)
     expires true = judges e.tracking.loss_time
@@ -121,7 +121,7 @@ other_stays p e theirs call a apart = by_plain_call p e theirs (Stays e.tracking
   heard = λ path same. refl;
   times = λ now acks loss pacing is. expired_stays e now acks loss pacing;
   polls = λ now is. cc;
-  hears = λ now mark d is. received_stays e.tracking.greatest_asking p e now mark d refl;
+  hears = λ now d is. received_stays e.tracking.greatest_asking p e now d refl;
   tells = λ told. refl;
 })
 
@@ -151,7 +151,7 @@ before_none sents greatest before u i = elim (in_append u sents [] i) [ inl old 
 
 -- an end that is ready to give leaves the greatest that asks
 pub ready_before : (sents : List Sent) (e : End) (now : ℕ) → AskBefore sents e.tracking.greatest_asking → AskBefore sents (ready_at e now).end.tracking.greatest_asking
-ready_before sents e now before = by_ready (λ (x : End). AskBefore sents x.tracking.greatest_asking) e now before before (λ q i. before) (λ moment pacing discovery x i. i)
+ready_before sents e now before = by_ready (λ (x : End). AskBefore sents x.tracking.greatest_asking) e now before before (λ q i. before) (λ moment pacing x i. i)
 
 -- after a poll
 before_polled : (p : Policy) (e : End) (now : ℕ) (sents : List Sent) → ((s : Sent) → In s sents → s.number < e.numbers.next) → AskBefore sents e.tracking.greatest_asking
@@ -170,11 +170,11 @@ before_polled p e now sents below before =
 
     gives : goes (ready_at e now) ≡ true → AskBefore (sents ++ sent_by e now ∷ []) (tracked (draft_at e now)).tracking.greatest_asking
     gives some =
-        let g : Ready = ready_at e now in
+        let g : Gated = ready_at e now in
         let d : Draft = draft_at e now in
-        let number : number_of e ≡ number_of d.end = sym (draft_number g.leaving g.end (may_leave_at e now) ∙ ap (λ (x : End). number_of x) (ready_leaves e now)) in
+        let number : number_of e ≡ number_of d.end = sym (draft_number g.held (lazied g.end) (due_alone g some) ∙ ap (λ (x : End). number_of x) (ready_leaves e now)) in
         let near = (allocated_near e.filter e.numbers.next).0 in
-        let here : AskBefore sents d.end.tracking.greatest_asking = subst (λ (t : Tracking). AskBefore sents t.greatest_asking) (sym (composes g.leaving g.end (may_leave_at e now)).tracking) ready in
+        let here : AskBefore sents d.end.tracking.greatest_asking = subst (λ (t : Tracking). AskBefore sents t.greatest_asking) (sym (composes g.held (lazied g.end) (due_alone g some)).tracking) ready in
         before_sent sents (sent_by e now) (asking d.frames) (number_of d.end) d.end.closing.clock _ number (asking_padded d.frames _) (λ u i. (let less = below u i in omega arith)) here
 
 -- any call that lacks no memory

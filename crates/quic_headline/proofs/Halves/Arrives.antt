@@ -76,9 +76,6 @@ settles_leave done took sents taken sent = record {
   acked = λ c m e was i w. acked_leaves done e w m ((taken c was).ends m i);
   lost = λ c m e was i w. lost_leaves done e w m ((sent c was).ends m i);
   again = λ c e was w. again_leaves done e w c (sent c was);
-  searched = λ discovery e w. w;
-  shortens = λ most e w. w;
   tracked = λ t e w. w;
   measured = λ r first e w. w;
-  marked = λ m marking e w. w;
 }

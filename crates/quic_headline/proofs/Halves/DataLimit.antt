@@ -158,11 +158,8 @@ settling = record {
   acked = λ m e i. by_stream_acked_where HasSmallLimit small_kept e.streams e.waiting.frames m (λ h is none. tt) (λ h is none all. tt) (λ h all. tt) i;
   lost = λ m e i. small_words.lost ended_all e.streams m (λ fin. refl) i;
   again = λ carried e i. i;
-  searched = λ discovery e i. i;
-  shortens = λ most e i. i;
   tracked = λ t e i. i;
   measured = λ r first e i. i;
-  marked = λ m marking e i. i;
 }
 
 -- a frame with a small limit
@@ -182,7 +179,7 @@ small_arrivals : (e : End) (now n : ℕ) (frames : List FrameValue) (came : Inta
 small_arrivals e now n frames came small i = record {
   ignored = λ reason. i;
   noted = λ state reason. i;
-  takes = λ state new none mark. small_frames frames (begun e now n) small i;
+  takes = λ state new none. small_frames frames (begun e now n) small i;
   refuses = λ state new f is. small_frames frames (begun e now n) small i;
 }
 

@@ -386,7 +386,7 @@ step_holds p e theirs call a wrote holds few small is ascends h = by_call p e th
   heard = λ path same. again_all e _ refl refl refl h;
   times = λ now acks loss pacing set. by_expired e now HoldsAll (λ pending tracking timers runs packets. again_all e _ refl refl packets h) (λ pending timers runs. expired now pending timers) acks loss pacing;
   polls = λ now set. polled_holds p e now ascends h;
-  hears = λ now mark d set. received_holds p e now mark d h;
+  hears = λ now d set. received_holds p e now d h;
   tells = λ asks. by_event e HoldsAll (again_all e _ refl refl refl h) (λ told. told_holds told);
 })
   where

@@ -1,10 +1,9 @@
 -- What comes and what goes leave a pile of RESET_STREAM and STOP_SENDING: those that wait, and those that tracked packets carried.
-use Rattle.std.proofs.Common.{◌≡◌, ℕ, ◌+◌, ◌≤◌, ◌==◌, Bool, true, false, not, cond, List, [], ◌∷◌, ◌++◌, filter, Option, Some, None, refl, sym, ap, subst, inl, inr, arith, length}
+use Rattle.std.proofs.Common.{◌≡◌, ℕ, ◌+◌, ◌≤◌, ◌==◌, Bool, true, false, not, cond, List, [], ◌∷◌, ◌++◌, filter, Option, Some, None, refl, sym, ap, subst, inl, inr, arith}
 use Rattle.std.specs.Prelude.{if◌then◌else◌}
 use Rattle.std.specs.Option.{is_some}
 use Rattle.std.proofs.lemmas.Bool.{eq-eqb}
 use Rattle.std.proofs.lemmas.List.{append_assoc}
-use Rattle.quic_wire_core.specs.declared.shared.EcnCodepoint.{EcnCodepoint}
 use Rattle.quic_wire.specs.Value.{FrameValue, AckValue, StreamValue, ResetStreamValue, StopSendingValue, stream, reset_stream, stop_sending, max_data, max_stream_data, max_streams}
 use Rattle.quic_send_buffer.specs.declared.stream_meta.StreamMeta.{StreamMeta}
 use Rattle.quic_streams_parts.specs.declared.answers.Breach.{Breach}
@@ -19,18 +18,16 @@ use Rattle.quic_streams_state.specs.Acked.{sent_half, acked_at, after_stream_ack
 use Rattle.quic_streams_laws.specs.KeepingLaws.{by_stream, by_reset_frame, by_stop_sending, by_max_data_where, by_max_stream_data, by_max_streams, by_stream_lost, by_stream_acked_where, by_reset_acked_where}
 use Rattle.quic_machine.specs.Policy.{Policy}
 use Rattle.quic_machine.specs.Tracking.{TrackedPacket, Carried, dir_named, acked_by, not_acked_by, is_lost, lost_by, kept_by}
-use Rattle.quic_machine.specs.End.{End, with_streams, with_told, with_marking}
-use Rattle.quic_machine.specs.Acked.{without_known, reset_acked, resets_acked, stream_acked, streams_acked, packet_acked, packets_acked, stream_lost, streams_lost, again, carried_lost, packets_lost, verdict, losses_detected, measured, sampled, without_acked, after_named, losses_taken}
+use Rattle.quic_machine.specs.End.{End, with_streams}
+use Rattle.quic_machine.specs.Acked.{without_known, reset_acked, resets_acked, stream_acked, streams_acked, packet_acked, packets_acked, stream_lost, streams_lost, again, carried_lost, packets_lost, verdict, losses_detected, measured, sampled, without_acked, after_named}
 use Rattle.quic_machine.specs.Receive.{take_frame, received}
-use Rattle.quic_machine.specs.FrameCases.{OnStreams, named, frame_keeps, by_received, by_marks}
+use Rattle.quic_machine.specs.FrameCases.{OnStreams, named, frame_keeps, by_received}
 use Rattle.quic_headline.specs.Runs.{In, names}
-use Rattle.quic_headline.proofs.Packets.Searches.{by_losses}
 use Rattle.quic_headline.proofs.Packets.MayGo.{WasReset}
 use Rattle.quic_headline.proofs.Packets.Named.{in_filter}
 use Rattle.quic_headline.proofs.Places.Told.{in_left, in_right, in_append}
 use Rattle.quic_headline.proofs.Halves.InUse.{InUse, in_use_kept, acked_free}
 use Rattle.quic_headline.proofs.Halves.Pile.{times, times_append, times_in, IsPile, part_of, NothingElse, SamePile, else_same, resets_of, stops_of, times_split, resets_among, stops_among}
-use Rattle.quic_machine.specs.Sizes.{search_acked}
 
 -- ---- an end
 
@@ -128,10 +125,10 @@ packets_step (p ∷ ps) e resets stops h =
     (λ id. rw (append_assoc c.retransmits.reset_stream (resets_of ps) resets) (omega arith))
     (λ q i. rw (append_assoc c.retransmits.reset_stream (resets_of ps) resets) i)
     (λ s i. rw (append_assoc c.retransmits.stop_sending (stops_of ps) stops) (in_right s c.retransmits.stop_sending (stops_of ps ++ stops) i)) h in
-    let knows : End = without_known c.largest_acked (search_acked p e) in
+    let knows : End = without_known c.largest_acked e in
     let reset : End = resets_acked c.retransmits.reset_stream knows in
-    packets_step ps (packet_acked p e) resets stops (streams_step c.stream_frames reset (resets_of ps ++ resets) (stops_of ps ++ stops)
-    (resets_step c.retransmits.reset_stream knows (resets_of ps ++ resets) (stops_of ps ++ stops) (known_step c.largest_acked (search_acked p e) _ _ (record { pile = rest.pile; others = rest.others }))))
+    packets_step ps (packet_acked p.1 e) resets stops (streams_step c.stream_frames reset (resets_of ps ++ resets) (stops_of ps ++ stops)
+    (resets_step c.retransmits.reset_stream knows (resets_of ps ++ resets) (stops_of ps ++ stops) (known_step c.largest_acked e _ _ rest)))
 
 -- STREAM frames are lost
 lost_step : (ms : List StreamMeta) (e : End) (resets : List (ℕ × ℕ)) (stops : List StopSendingValue) → Holds e resets stops → Holds (streams_lost ms e) resets stops
@@ -213,10 +210,10 @@ acked_step ps a e is h = record {
 
 -- losses are detected
 pub losses_hold : (e : End) → HoldsAll e → HoldsAll (losses_detected e)
-losses_hold e h = by_losses HoldsAll e (λ discovery queues. record {
+losses_hold e h = record {
   holds = record { pile = settled.pile; others = settled.others };
   carried = λ n t i. h.carried n t (in_filter (λ q. not (lost_of q)) (n, t) packets i);
-})
+}
   where
     packets : Table TrackedPacket
     packets = e.tracking.packets
@@ -246,8 +243,7 @@ named_step (p ∷ ps) rises a e is h =
     let o = measured rises a (p ∷ ps) in
     let left : End = without_acked (p ∷ ps) a e in
     let found : End = losses_detected (sampled o a left) in
-    let taken : End = losses_taken (p ∷ ps) rises a e in
-    by_marks rises (length (p ∷ ps)) a taken HoldsAll (λ m marking. again_all found (with_marking (with_told taken m) marking) refl refl refl (losses_hold (sampled o a left) (sampled_hold o a left (acked_step (p ∷ ps) a e is h))))
+    again_all found (after_named (p ∷ ps) rises a e) refl refl refl (losses_hold (sampled o a left) (sampled_hold o a left (acked_step (p ∷ ps) a e is h)))
 
 -- ---- frames that come
 
@@ -288,7 +284,7 @@ frame_step (max_streams f) e on h = all_on e _ (λ r u. by_max_streams (InUse r)
 frame_step f e on h = absurd on
 
 -- whatever comes
-pub received_holds : (p : Policy) (e : End) (now : ℕ) (mark : Option EcnCodepoint) (d : List ℕ) → HoldsAll e → HoldsAll (received p e now mark d).end
+pub received_holds : (p : Policy) (e : End) (now : ℕ) (d : List ℕ) → HoldsAll e → HoldsAll (received p e now d).end
 received_holds = by_received HoldsAll (record {
   notes = λ n e h. again_all e _ refl refl refl h;
   begins = λ now n e h. again_all e _ refl refl refl h;
@@ -297,6 +293,6 @@ received_holds = by_received HoldsAll (record {
     on_streams = λ f e on h. frame_step f e on h;
     message = λ m e h. again_all e _ refl refl refl h;
   });
-  takes = λ n asks mark e h. again_all e _ refl refl refl h;
+  takes = λ n asks e h. again_all e _ refl refl refl h;
   closes = λ reason e h. again_all e _ refl refl refl h;
 })

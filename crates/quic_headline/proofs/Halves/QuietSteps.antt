@@ -122,11 +122,8 @@ module _ (P : StreamsState → Type 0) (q : IsQuiet P) where
     acked = λ m e i. q.acked e.streams e.waiting.frames m i;
     lost = λ m e i. q.lost e.streams m i;
     again = λ carried e i. i;
-    searched = λ discovery e i. i;
-    shortens = λ most e i. i;
     tracked = λ t e i. i;
     measured = λ r first e i. i;
-    marked = λ m marking e i. i;
   }
 
   -- ---- any call by which nothing comes and nothing is read
@@ -141,7 +138,7 @@ module _ (P : StreamsState → Type 0) (q : IsQuiet P) where
     heard = λ path same. i;
     times = λ now acks loss pacing set. by_expired e now (λ (f : End). P f.streams) (λ pending tracking timers runs packets. i) (λ pending timers runs. losses_keep (λ (x : End). P x.streams) settles (with_closing e (ticked e.closing now)) i) acks loss pacing;
     polls = λ now set. poll_quiet p e now i;
-    hears = λ now mark d set. cc;
+    hears = λ now d set. cc;
     tells = λ asks. by_event e (λ (f : End). P f.streams) i (λ told. q.polls e.streams i);
   })
 

@@ -1,29 +1,29 @@
 -- The tracked packets stand by ascending numbers, whatever comes and whatever call is made.
-use Rattle.std.proofs.Common.{◌≡◌, ℕ, ◌+◌, ◌<◌, ◌≤◌, Bool, true, false, not, cond, List, [], ◌∷◌, ◌++◌, map, filter, Option, Some, None, refl, sym, ap, ◌∙◌, subst, inl, inr, arith, length}
+use Rattle.std.proofs.Common.{◌≡◌, ℕ, ◌+◌, ◌<◌, ◌≤◌, Bool, true, false, not, cond, List, [], ◌∷◌, ◌++◌, map, filter, Option, Some, None, refl, sym, ap, ◌∙◌, subst, inl, inr, arith}
 use Rattle.std.specs.Ordering.{nat_cmp, is_eq, match_ordering}
 use Rattle.std.specs.declared.cmp.Ordering.{Ordering}
 use Rattle.std.specs.declared.cmp.Ordering.TheVariants.{Less, Equal, Greater}
 use Rattle.std.specs.BTreeMap.{is_at}
 use Rattle.std.proofs.lemmas.Cmp.{ranked}
-use Rattle.quic_wire_core.specs.declared.shared.EcnCodepoint.{EcnCodepoint}
 use Rattle.quic_wire.specs.Value.{AckValue}
 use Rattle.quic_streams_parts.specs.Table.{Table, put, added, without}
 use Rattle.quic_machine.specs.Policy.{Policy}
 use Rattle.quic_machine.specs.Closing.{ticked}
 use Rattle.quic_machine.specs.Tracking.{Tracking, TrackedPacket, without_packet, forgotten, after_sent, without_record, names, acked_by, is_lost}
 use Rattle.quic_machine.specs.End.{End, with_closing, number_of}
-use Rattle.quic_machine.specs.Acked.{verdict, losses_detected, measured, sampled, without_acked, after_named, losses_taken}
+use Rattle.quic_machine.specs.Acked.{verdict, losses_detected, measured, sampled, without_acked, after_named}
 use Rattle.quic_machine.specs.Receive.{received}
-use Rattle.quic_machine.specs.Poll.{Polled, Draft, packet_of, tracked, polled, goes, Ready}
-use Rattle.quic_machine.specs.PollCases.{ready_at, by_poll_to, composes, draft_at, may_leave_at}
+use Rattle.quic_machine.specs.Poll.{Polled, Draft, packet_of, tracked, lazied, polled, goes}
+use Rattle.quic_machine.specs.PollCases.{ready_at, by_poll_to, composes, draft_at}
 use Rattle.quic_machine.specs.LeaveCases.{by_expired}
-use Rattle.quic_machine.specs.FrameCases.{named, frame_keeps, frame_leaves, by_received, by_marks}
+use Rattle.quic_machine.specs.FrameCases.{named, frame_keeps, frame_leaves, by_received}
 use Rattle.quic_machine.specs.CallCases.{by_plain_call}
 use Rattle.quic_machine.specs.Machine.{after_call}
 use Rattle.quic_machine.specs.declared.run.Call.{Call}
 use Rattle.quic_machine.specs.declared.run.Answer.{Answer}
+use Rattle.quic_machine.specs.Control.{Gated}
+use Rattle.quic_machine.specs.DraftLaws.{due_alone}
 use Rattle.quic_headline.specs.Runs.{In}
-use Rattle.quic_headline.proofs.Packets.Searches.{by_losses}
 use Rattle.quic_headline.proofs.Packets.Named.{sampled_tracking}
 use Rattle.quic_headline.proofs.Packets.Probes.{by_ready, by_going}
 use Rattle.quic_headline.proofs.Packets.TrackedSteps.{asking_packets}
@@ -122,7 +122,7 @@ Ascends e = Ascending 0 e.tracking.packets
 
 -- losses leave some
 pub ascends_losses : (e : End) → Ascends e → Ascends (losses_detected e)
-ascends_losses e a = by_losses Ascends e (λ discovery queues. ascends_filter (λ q. not (is_lost (verdict e) q)) 0 e.tracking.packets a)
+ascends_losses e a = ascends_filter (λ q. not (is_lost (verdict e) q)) 0 e.tracking.packets a
 
 -- an ACK frame that names these
 ascends_named : (ps : Table TrackedPacket) (rises : Bool) (k : AckValue) (e : End) → Ascends e → Ascends (after_named ps rises k e)
@@ -130,11 +130,10 @@ ascends_named [] rises k e a = a
 ascends_named (p ∷ ps) rises k e a =
     let o = measured rises k (p ∷ ps) in
     let left = without_acked (p ∷ ps) k e in
-    let kept = ascends_losses (sampled o k left) (subst (λ (t : Tracking). Ascending 0 t.packets) (sym (sampled_tracking o k left)) (ascends_filter (λ q. not (names k q.0)) 0 e.tracking.packets a)) in
-    by_marks rises (length (p ∷ ps)) k (losses_taken (p ∷ ps) rises k e) Ascends (λ m marking. kept)
+    ascends_losses (sampled o k left) (subst (λ (t : Tracking). Ascending 0 t.packets) (sym (sampled_tracking o k left)) (ascends_filter (λ q. not (names k q.0)) 0 e.tracking.packets a))
 
 -- whatever comes
-pub ascends_received : (p : Policy) (e : End) (now : ℕ) (mark : Option EcnCodepoint) (d : List ℕ) → Ascends e → Ascends (received p e now mark d).end
+pub ascends_received : (p : Policy) (e : End) (now : ℕ) (d : List ℕ) → Ascends e → Ascends (received p e now d).end
 ascends_received = by_received Ascends (record {
   notes = λ n x a. a;
   begins = λ now n x a. a;
@@ -143,13 +142,13 @@ ascends_received = by_received Ascends (record {
     on_streams = λ f x on a. frame_leaves Ascends f x on (λ streams. a);
     message = λ m x a. a;
   });
-  takes = λ n asks mark x a. a;
+  takes = λ n asks x a. a;
   closes = λ reason x a. a;
 })
 
 -- an end that is ready to give
 pub ascends_ready : (e : End) (now : ℕ) → Ascends e → Ascends (ready_at e now).end
-ascends_ready e now a = by_ready Ascends e now a a (λ p i. ascends_put 0 e.tracking.packets p.0 (without_record p.1) a) (λ moment pacing discovery x b. b)
+ascends_ready e now a = by_ready Ascends e now a a (λ p i. ascends_put 0 e.tracking.packets p.0 (without_record p.1) a) (λ moment pacing x b. b)
 
 -- one more is sent, before which the oldest may be forgotten
 ascends_sent : (t : Tracking) (n : ℕ) (p : TrackedPacket) → Ascending 0 t.packets → Ascending 0 (after_sent t n p).packets
@@ -171,7 +170,7 @@ ascends_polled p e now a = by_poll_to p e now (λ (q : Polled). Ascends q.end) (
   gives = λ is may some. by_going Ascends p d (λ pacing. gives some);
 })
   where
-    g : Ready
+    g : Gated
     g = ready_at e now
 
     ready : Ascends g.end
@@ -181,7 +180,7 @@ ascends_polled p e now a = by_poll_to p e now (λ (q : Polled). Ascends q.end) (
     d = draft_at e now
 
     gives : goes g ≡ true → Ascends (tracked d)
-    gives some = ascends_sent d.end.tracking (number_of d.end) (packet_of d) (subst (λ (t : Tracking). Ascending 0 t.packets) (sym (composes g.leaving g.end (may_leave_at e now)).tracking) ready)
+    gives some = ascends_sent d.end.tracking (number_of d.end) (packet_of d) (subst (λ (t : Tracking). Ascending 0 t.packets) (sym (composes g.held (lazied g.end) (due_alone g some)).tracking) ready)
 
 -- any call
 pub ascends_call : (p : Policy) (e : End) (theirs : List (List ℕ)) (call : Call) (answer : Answer) → Ascends e → Ascends (after_call p e theirs call answer)
@@ -193,6 +192,6 @@ ascends_call p e theirs call answer a = by_plain_call p e theirs Ascends call an
   heard = λ path same. a;
   times = λ now acks loss pacing is. by_expired e now Ascends (λ pending tracking timers runs packets. subst (λ (ps : Table TrackedPacket). Ascending 0 ps) (sym packets) a) (λ pending timers runs. ascends_losses (with_closing e (ticked e.closing now)) a) acks loss pacing;
   polls = λ now is. ascends_polled p e now a;
-  hears = λ now mark d is. ascends_received p e now mark d a;
+  hears = λ now d is. ascends_received p e now d a;
   tells = λ told. a;
 })

@@ -1,7 +1,6 @@
 -- What an end knows of what came goes on with each datagram.
 use Rattle.std.proofs.Common.{◌≡◌, ℕ, ◌+◌, List, length, Option, Some, None, refl, sym, ap, ◌∙◌, subst, arith}
 use Rattle.std.specs.Prelude.{max}
-use Rattle.quic_wire_core.specs.declared.shared.EcnCodepoint.{EcnCodepoint}
 use Rattle.quic_wire.specs.Value.{FrameValue}
 use Rattle.quic_machine.specs.declared.answers.State.{State}
 use Rattle.quic_machine.specs.declared.answers.State.TheVariants as states
@@ -77,7 +76,7 @@ pub knows_arrivals : (e : End) (now n : ℕ) (frames : List FrameValue) (i : Int
 knows_arrivals e now n frames i k = record {
   ignored = λ reason. k;
   noted = λ state reason. knows_noted e.closing.state e.numbers n i state k;
-  takes = λ state new none mark. taken none;
+  takes = λ state new none. taken none;
   refuses = λ state new f is. refused;
 }
   where
@@ -93,8 +92,8 @@ knows_arrivals e now n frames i k = record {
         (knows_in_taken e.closing.state e.numbers left.numbers i n frames k keeps.numbers (named_frames frames (begun e now n) none))
 
 -- a datagram of an honest end is delivered: the end that it leaves knows what came then
-pub knows_delivered : (p q : Policy) (id : List ℕ) (n reference : ℕ) (frames : List FrameValue) (d : List ℕ) → IsGiven p id n reference frames d → (e : End) (now : ℕ) (mark : Option EcnCodepoint) (i : Intake)
+pub knows_delivered : (p q : Policy) (id : List ℕ) (n reference : ℕ) (frames : List FrameValue) (d : List ℕ) → IsGiven p id n reference frames d → (e : End) (now : ℕ) (i : Intake)
     → CanOpen p q → IsLawful p → length id ≡ own_id_length → known e.ids ≡ i.ids → KnowsIn e.closing.state e.numbers i
-    → KnowsIn (received q e now mark d).end.closing.state (received q e now mark d).end.numbers (and_handed e.closing.state (Some d) q (answers.Deliver (received q e now mark d).answer) i)
-knows_delivered p q id n reference frames d g e now mark i mates lawful long ids k =
-    by_arrival p q id n reference frames d g e now mark i (λ o j. KnowsIn o.end.closing.state o.end.numbers j) mates lawful long ids k (knows_arrivals e now n frames i k)
+    → KnowsIn (received q e now d).end.closing.state (received q e now d).end.numbers (and_handed e.closing.state (Some d) q (answers.Deliver (received q e now d).answer) i)
+knows_delivered p q id n reference frames d g e now i mates lawful long ids k =
+    by_arrival p q id n reference frames d g e now i (λ o j. KnowsIn o.end.closing.state o.end.numbers j) mates lawful long ids k (knows_arrivals e now n frames i k)

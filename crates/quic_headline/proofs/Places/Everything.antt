@@ -11,7 +11,6 @@ use Rattle.quic_headline.specs.Messages.{MessagesAtMostOnce}
 use Rattle.quic_headline.specs.Headline.{IsHonest, IsRun, OrderedPrefix, Slices, Once, EndAfterAll, BlockedOnlyWithoutBytes, AcceptsAll, FinishedMeansArrived, AcknowledgedWereTaken, NamesWereTaken, OpensExactly, NewestOpens, NumbersRise}
 use Rattle.quic_headline.specs.Moments.{LossMoments, LossTimerQuiet, AckMoments}
 use Rattle.quic_headline.specs.Polls.{AskingGoesWhereLet, ProbesPass}
-use Rattle.quic_headline.specs.Sizes.{DatagramsAreSized}
 use Rattle.quic_machine.specs.PollCases.{ready_at}
 use Rattle.quic_headline.proofs.Packets.Probes.{ready_state}
 use Rattle.quic_headline.proofs.Packets.MayGo.{AreReady}
@@ -40,7 +39,6 @@ use Rattle.quic_headline.proofs.Grown.Clause.{GrownWait, grown_group}
 use Rattle.quic_headline.proofs.Grown.Clause as grown
 use Rattle.quic_headline.proofs.Steps.Probes as probes
 use Rattle.quic_headline.proofs.Steps.Asking as asking
-use Rattle.quic_headline.proofs.Steps.Sized as sized
 
 -- what waits to go of streams, as a group over the packets and what is written
 pub record IsReadying (Ready : Way) : Type 1 where
@@ -204,9 +202,6 @@ module _ (Ready : Way) (ready : IsReadying Ready) where
 
     pub asking_goes_where_let : AskingGoesWhereLet r
     asking_goes_where_let = asking.asking_goes_where_let Streams all r end honest run
-
-    pub datagrams_are_sized : DatagramsAreSized r
-    datagrams_are_sized = sized.datagrams_are_sized Streams (streams_spell Rest goes) all r end honest run
 
     pub probes_pass : ProbesPass r
     probes_pass = probes.probes_pass Streams (streams_spell Rest goes) all r end honest run

@@ -8,7 +8,6 @@ use Rattle.quic_headline.specs.InFlight.{TracksInFlight}
 use Rattle.quic_headline.specs.Causes.{NumberLimit}
 use Rattle.quic_headline.specs.Moments.{LossMoments, LossTimerQuiet, AckMoments}
 use Rattle.quic_headline.specs.Polls.{PacerSetsItsTimer, AskingGoesWhereLet, ProbesPass, WindowIsOfHistory}
-use Rattle.quic_headline.specs.Sizes.{DatagramsAreSized}
 use Rattle.quic_headline.specs.Headline.{IsHonest, IsRun, OrderedPrefix, Slices, Once, EndAfterAll, BlockedOnlyWithoutBytes, AcceptsAll, FinishedMeansArrived, AcknowledgedWereTaken, NamesWereTaken, OpensExactly, NewestOpens, NumbersRise}
 use Rattle.quic_headline.proofs.Halves.Ready.{Ready, ready_probes, ready_group}
 use Rattle.quic_headline.proofs.Places.Everything as everything
@@ -99,9 +98,6 @@ window_is_of_history r end honest run = windows.window_is_of_history r end run
 
 pub asking_goes_where_let : (r : Run) (end : World) → IsHonest r → IsRun r end → AskingGoesWhereLet r
 asking_goes_where_let = everything.asking_goes_where_let Ready ready
-
-pub datagrams_are_sized : (r : Run) (end : World) → IsHonest r → IsRun r end → DatagramsAreSized r
-datagrams_are_sized = everything.datagrams_are_sized Ready ready
 
 pub probes_pass : (r : Run) (end : World) → IsHonest r → IsRun r end → ProbesPass r
 probes_pass = everything.probes_pass Ready ready

@@ -86,7 +86,7 @@ first_lead (suc i) k w (e ∷ events) (a ∷ answers) (v ∷ views) end f = let 
 -- ---- the clause
 
 -- a view shows the windows of both ends
-window_there : (side : Side) (w : World) → window_in (view_of w) side ≡ control_at side w []
+window_there : (side : Side) (w : World) → window_in (view_of w) side ≡ Some (control_at side w [])
 window_there Client w = refl
 window_there Server w = refl
 
@@ -99,5 +99,5 @@ window_is_of_history r end run side i v served there =
       lead.0,
       h.told,
       h.was,
-      ap (λ (u : View). window_in u side) seen ∙ window_there side lead.0 ∙ h.shows [] ∙ ap (λ (ts : List Told). control_at side r.start ts) (append-nil h.told),
+      ap (λ (u : View). window_in u side) seen ∙ window_there side lead.0 ∙ ap (λ (n : ℕ). Some n) (h.shows [] ∙ ap (λ (ts : List Told). control_at side r.start ts) (append-nil h.told)),
     )

@@ -1,11 +1,10 @@
 -- At an open end the loss timer is set to the moment of what is tracked, and is set exactly while a packet that asks is: each call keeps that.
-use Rattle.std.proofs.Common.{◌≡◌, ℕ, ◌+◌, ◌≤◌, ◌⊎◌, Bool, true, false, not, ◌||◌, ◌==◌, List, [], ◌∷◌, ◌++◌, Option, Some, None, Result, refl, sym, ap, ◌∙◌, subst, inl, inr, arith, length}
+use Rattle.std.proofs.Common.{◌≡◌, ℕ, ◌+◌, ◌≤◌, ◌⊎◌, Bool, true, false, not, ◌||◌, ◌==◌, List, [], ◌∷◌, ◌++◌, Option, Some, None, Result, refl, sym, ap, ◌∙◌, subst, inl, inr, arith}
 use Rattle.std.specs.Prelude.{if◌then◌else◌, nat_lt}
 use Rattle.std.specs.Option.{is_some}
 use Rattle.std.specs.Ordering.{nat_cmp}
 use Rattle.std.specs.BTreeMap.{is_at}
 use Rattle.std.proofs.lemmas.Bool.{le-ltb}
-use Rattle.quic_wire_core.specs.declared.shared.EcnCodepoint.{EcnCodepoint}
 use Rattle.quic_recovery_core.specs.Duplicates.{is_duplicate}
 use Rattle.quic_time.specs.Clocks.{saturated}
 use Rattle.quic_time.specs.Rtt.{Rtt}
@@ -32,27 +31,26 @@ use Rattle.quic_machine.specs.Ids.{known}
 use Rattle.quic_machine.specs.Opens.{own_id_length}
 use Rattle.quic_machine.specs.Closing.{Closing, ticked}
 use Rattle.quic_spaces.specs.Numbers.{Numbers, number_opened}
-use Rattle.quic_machine.specs.Tracking.{after_answered, Tracking, TrackedPacket, asks_any, without_record, is_behind, tail_of, forgets, forgotten, oldest, without_packet, asking_sent, after_sent, Verdict, is_lost, kept_by, loss_moment, moment_or, probe_moment, after_detection, acked_by, not_acked_by, names}
+use Rattle.quic_machine.specs.Tracking.{Tracking, TrackedPacket, asks_any, without_record, is_behind, tail_of, forgets, forgotten, oldest, without_packet, asking_sent, after_sent, Verdict, is_lost, kept_by, loss_moment, moment_or, probe_moment, after_detection, acked_by, not_acked_by, names}
 use Rattle.quic_machine.specs.End.{End, with_closing, closed_by, with_numbers, number_of, with_ping, peer_delay, probe_timeout, with_loss_timer, with_window}
-use Rattle.quic_machine.specs.Acked.{verdict, losses_detected, measured, sampled, without_acked, after_named, after_acked, losses_taken}
+use Rattle.quic_machine.specs.Acked.{verdict, losses_detected, measured, sampled, without_acked, after_named, after_acked}
 use Rattle.quic_machine.specs.Receive.{Fault, violation, reason_of, take_frame, take_items, take_payload, is_empty, asks_in, after_taken, dropped, ends_as, by_state, opened_to, opened_as, opening, headed, received_in, received}
-use Rattle.quic_machine.specs.Poll.{Polled, Draft, packet_of, after_given, record_moved, draft_as, polled, Leaving, Ready}
+use Rattle.quic_machine.specs.Poll.{Polled, Draft, packet_of, after_given, record_moved, lazied, draft_if, polled}
 use Rattle.quic_machine.specs.Timeouts.{acks_expired, loss_judged, loss_expired, pacing_expired}
+use Rattle.quic_machine.specs.Control.{Gated}
 use Rattle.quic_machine.specs.Machine.{World, Policies, after_call, Follows}
 use Rattle.quic_machine.specs.LeaveCases.{at_expiry}
 use Rattle.quic_machine.specs.CallCases.{by_plain_call}
-use Rattle.quic_machine.specs.FrameCases.{Settling, named, begun, acked_keeps, losses_keep, frame_keeps, frame_leaves, items_keep, by_marks}
-use Rattle.quic_machine.specs.PollCases.{ready_at, by_poll_to, Composes, composes, may_leave_at}
+use Rattle.quic_machine.specs.FrameCases.{Settling, named, begun, acked_keeps, losses_keep, frame_keeps, frame_leaves, items_keep}
+use Rattle.quic_machine.specs.PollCases.{ready_at, by_poll_to, Composes, composes}
 use Rattle.quic_headline.specs.Runs.{In}
 use Rattle.quic_headline.specs.Headline.{LossTimerFollows, LossTimersFollow}
-use Rattle.quic_headline.proofs.Packets.Searches.{by_losses}
 use Rattle.quic_headline.proofs.Packets.Named.{in_filter, filter_chose}
-use Rattle.quic_headline.proofs.Packets.Probes.{in_put, by_ready, by_going}
+use Rattle.quic_headline.proofs.Packets.Probes.{in_put, by_ready, MayLeave, may_leave, by_going}
 use Rattle.quic_headline.proofs.Packets.Given.{allocated_near}
 use Rattle.quic_headline.proofs.Packets.Growth.{in_more}
 use Rattle.quic_headline.proofs.Packets.Numbered.{Lies, lies_below, lies_filter, lies_remove, lies_put, lies_push, one_key, added_last, in_remove, oldest_in, asks_last, asks_remove, asks_put, late_asks, is_at_same}
 use Rattle.quic_headline.proofs.Timers.BothEnds.{AtBoth, run_keeps}
-use Rattle.quic_machine.specs.DraftLaws.{MayLeave}
 
 -- ---- a datagram, where frames keep less
 
@@ -61,7 +59,7 @@ pub record Hears (P Q : End → Type 0) : Type 0 where
   pub notes : (n : ℕ) (e : End) → P e → P (with_numbers e (number_opened e.numbers n))
   pub begins : (now n : ℕ) (e : End) → P e → Q (begun e now n)
   pub frame : (f : FrameValue) (e : End) → Q e → Q (take_frame f e).end
-  pub takes : (n : ℕ) (asks : Bool) (mark : Option EcnCodepoint) (e : End) → Q e → P (after_taken n asks mark e)
+  pub takes : (n : ℕ) (asks : Bool) (e : End) → Q e → P (after_taken n asks e)
   pub closes : (reason : LostReason) (e : End) → Q e → P (closed_by reason e)
 
 module _ (P Q : End → Type 0) (c : Hears P Q) where
@@ -74,45 +72,45 @@ module _ (P Q : End → Type 0) (c : Hears P Q) where
       go false = items_keep Q c.frame is e i
 
   -- all frames were taken, or one was at fault
-  ends_hear : (fault : Option Fault) (asks : Bool) (n : ℕ) (mark : Option EcnCodepoint) (e : End) → Q e → P (ends_as fault asks n mark e).end
-  ends_hear None asks n mark e i = c.takes n asks mark e i
-  ends_hear (Some fault) asks n mark e i = c.closes (reason_of fault) e i
+  ends_hear : (fault : Option Fault) (asks : Bool) (n : ℕ) (e : End) → Q e → P (ends_as fault asks n e).end
+  ends_hear None asks n e i = c.takes n asks e i
+  ends_hear (Some fault) asks n e i = c.closes (reason_of fault) e i
 
   -- a packet whose number is new
-  state_hears : (state : State) (o : Opening) (now : ℕ) (mark : Option EcnCodepoint) (e : End) → P e → P (by_state state o now mark (with_numbers e (number_opened e.numbers o.number))).end
-  state_hears states.Open o now mark e i =
+  state_hears : (state : State) (o : Opening) (now : ℕ) (e : End) → P e → P (by_state state o now (with_numbers e (number_opened e.numbers o.number))).end
+  state_hears states.Open o now e i =
       let taken = take_payload o.first (items o.payload) (begun e now o.number) in
-      ends_hear taken.fault (asks_in (items o.payload)) o.number mark taken.end (payload_hears o.first (items o.payload) (begun e now o.number) (c.begins now o.number e i))
-  state_hears states.Closing o now mark e i = c.notes o.number e i
-  state_hears states.Drained o now mark e i = c.notes o.number e i
-  state_hears states.Failed o now mark e i = c.notes o.number e i
+      ends_hear taken.fault (asks_in (items o.payload)) o.number taken.end (payload_hears o.first (items o.payload) (begun e now o.number) (c.begins now o.number e i))
+  state_hears states.Closing o now e i = c.notes o.number e i
+  state_hears states.Drained o now e i = c.notes o.number e i
+  state_hears states.Failed o now e i = c.notes o.number e i
 
   -- a packet that opened
-  opened_hears : (o : Opening) (now : ℕ) (mark : Option EcnCodepoint) (e : End) → P e → P (opened_to o now mark e).end
-  opened_hears o now mark e i = go (key_phase o.first) (is_duplicate e.numbers.opened o.number)
+  opened_hears : (o : Opening) (now : ℕ) (e : End) → P e → P (opened_to o now e).end
+  opened_hears o now e i = go (key_phase o.first) (is_duplicate e.numbers.opened o.number)
     where
-      go : (a b : Bool) → P (if a then dropped drops.KeyPhase e else (if b then dropped drops.Duplicate e else by_state e.closing.state o now mark (with_numbers e (number_opened e.numbers o.number)))).end
+      go : (a b : Bool) → P (if a then dropped drops.KeyPhase e else (if b then dropped drops.Duplicate e else by_state e.closing.state o now (with_numbers e (number_opened e.numbers o.number)))).end
       go true b = i
       go false true = i
-      go false false = state_hears e.closing.state o now mark e i
+      go false false = state_hears e.closing.state o now e i
 
-  packet_hears : (o : Option Opening) (now : ℕ) (mark : Option EcnCodepoint) (e : End) → P e → P (opened_as o now mark e).end
-  packet_hears None now mark e i = i
-  packet_hears (Some o) now mark e i = opened_hears o now mark e i
+  packet_hears : (o : Option Opening) (now : ℕ) (e : End) → P e → P (opened_as o now e).end
+  packet_hears None now e i = i
+  packet_hears (Some o) now e i = opened_hears o now e i
 
-  headed_hears : (r : Result (List ℕ) HeaderError) (p : Policy) (e : End) (now : ℕ) (mark : Option EcnCodepoint) (d : List ℕ) → P e → P (headed r p e now mark d).end
-  headed_hears (Result.Err error) p e now mark d i = i
-  headed_hears (Result.Ok id) p e now mark d i = packet_hears (opening p e d) now mark e i
+  headed_hears : (r : Result (List ℕ) HeaderError) (p : Policy) (e : End) (now : ℕ) (d : List ℕ) → P e → P (headed r p e now d).end
+  headed_hears (Result.Err error) p e now d i = i
+  headed_hears (Result.Ok id) p e now d i = packet_hears (opening p e d) now e i
 
-  received_hears : (state : State) (p : Policy) (e : End) (now : ℕ) (mark : Option EcnCodepoint) (d : List ℕ) → P e → P (received_in state p e now mark d).end
-  received_hears states.Failed p e now mark d i = i
-  received_hears states.Drained p e now mark d i = i
-  received_hears states.Open p e now mark d i = headed_hears (decoded (fixed_length_id own_id_length) (known e.ids) d) p e now mark d i
-  received_hears states.Closing p e now mark d i = headed_hears (decoded (fixed_length_id own_id_length) (known e.ids) d) p e now mark d i
+  received_hears : (state : State) (p : Policy) (e : End) (now : ℕ) (d : List ℕ) → P e → P (received_in state p e now d).end
+  received_hears states.Failed p e now d i = i
+  received_hears states.Drained p e now d i = i
+  received_hears states.Open p e now d i = headed_hears (decoded (fixed_length_id own_id_length) (known e.ids) d) p e now d i
+  received_hears states.Closing p e now d i = headed_hears (decoded (fixed_length_id own_id_length) (known e.ids) d) p e now d i
 
   -- what holds after a datagram
-  pub by_hearing : (p : Policy) (e : End) (now : ℕ) (mark : Option EcnCodepoint) (d : List ℕ) → P e → P (received p e now mark d).end
-  by_hearing p e now mark d i = received_hears e.closing.state p e now mark d i
+  pub by_hearing : (p : Policy) (e : End) (now : ℕ) (d : List ℕ) → P e → P (received p e now d).end
+  by_hearing p e now d i = received_hears e.closing.state p e now d i
 
 -- ---- what is tracked
 
@@ -238,11 +236,8 @@ quiet_settles e = record {
   acked = λ m x q. record { numbers = q.numbers; closing = q.closing };
   lost = λ m x q. record { numbers = q.numbers; closing = q.closing };
   again = λ c x q. record { numbers = q.numbers; closing = q.closing };
-  searched = λ discovery x q. record { numbers = q.numbers; closing = q.closing };
-  shortens = λ most x q. record { numbers = q.numbers; closing = q.closing };
   tracked = λ t x q. record { numbers = q.numbers; closing = q.closing };
   measured = λ r first x q. record { numbers = q.numbers; closing = q.closing };
-  marked = λ m marking x q. record { numbers = q.numbers; closing = q.closing };
 }
 
 -- a round trip that is measured leaves what is tracked
@@ -253,8 +248,7 @@ sampled_tracking (Some p) a e = refl
 -- an ACK frame that names these packets
 stands_named : (next : ℕ) (ps : Table TrackedPacket) (rises : Bool) (a : AckValue) (e : End) → Stands next e.tracking → Stands next (after_named ps rises a e).tracking
 stands_named next [] rises a e s = s
-stands_named next (p ∷ ps) rises a e s = by_marks rises (length (p ∷ ps)) a (losses_taken (p ∷ ps) rises a e) (λ (x : End). Stands next x.tracking)
-    (λ m marking. by_losses (λ (x : End). Stands next (after_answered x.tracking)) timed (λ discovery queues. record { lies = found.lies; asked = found.asked; late = found.late }))
+stands_named next (p ∷ ps) rises a e s = record { lies = found.lies; asked = found.asked; late = found.late }
   where
     timed : End
     timed = sampled (measured rises a (p ∷ ps)) a (without_acked (p ∷ ps) a e)
@@ -282,7 +276,7 @@ hears = record {
   notes = λ n e i opened. (let s = i opened in record { stands = record { lies = s.stands.lies; asked = s.stands.asked; late = s.stands.late }; set = s.set });
   begins = λ now n e i opened. (i opened).stands;
   frame = frame_keeps FrameStands (record { ack = ack_stands; on_streams = λ f e on i. frame_leaves FrameStands f e on (λ t. i); message = λ m e i. i });
-  takes = λ n asks mark e i opened. record { stands = i opened; set = refl };
+  takes = λ n asks e i opened. record { stands = i opened; set = refl };
   closes = λ reason e i. closed_stands reason e;
 }
 
@@ -315,7 +309,7 @@ moved_stands next p t i s = (
 
 -- an end is ready
 pub ready_stands : (e : End) (now : ℕ) → LossStands e → LossStands (ready_at e now).end
-ready_stands e now i = by_ready LossStands e now same pings moves (λ moment pacing discovery x j opened. (let s = j opened in record { stands = s.stands; set = s.set }))
+ready_stands e now i = by_ready LossStands e now same pings moves (λ moment pacing x j opened. (let s = j opened in record { stands = s.stands; set = s.set }))
   where
     same : LossStands (with_closing e (ticked e.closing now))
     same opened = let s = i opened in record { stands = s.stands; set = s.set }
@@ -330,17 +324,17 @@ ready_stands e now i = by_ready LossStands e now same pings moves (λ moment pac
         record { stands = moved.0; set = s.set ∙ sym (moved.1 (probe_timeout e)) }
 
 -- a datagram goes
-given_stands : (p : Policy) (leaving : Leaving) (e : End) → MayLeave leaving e → LossStands e → LossStands (after_given p (draft_as leaving e))
-given_stands p leaving e due i = by_going LossStands p d (λ pacing opened.
+given_stands : (p : Policy) (held : Bool) (e : End) → MayLeave held e → LossStands e → LossStands (after_given p (draft_if held e))
+given_stands p held e due i = by_going LossStands p d (λ pacing opened.
     let before = (i (ap (λ (x : Closing). x.state) (sym c.closing) ∙ opened)).stands in
     let ready : Stands d.end.numbers.next d.end.tracking = subst (λ (n : Numbers). Stands n.next d.end.tracking) (sym c.numbers) (subst (λ (t : Tracking). Stands e.numbers.next t) (sym c.tracking) before) in
     record { stands = stands_sent d.end.numbers.next (number_of d.end) d.end.tracking (packet_of d) (allocated_near d.end.filter d.end.numbers.next).0 ready; set = refl })
   where
     d : Draft
-    d = draft_as leaving e
+    d = draft_if held e
 
     c : Composes e d.end
-    c = composes leaving e due
+    c = composes held e due
 
 polled_stands : (p : Policy) (e : End) (now : ℕ) → LossStands e → LossStands (polled p e now).end
 polled_stands p e now i = by_poll_to p e now (λ (q : Polled). LossStands q.end) (record {
@@ -349,8 +343,8 @@ polled_stands p e now i = by_poll_to p e now (λ (q : Polled). LossStands q.end)
   nothing = λ is none opened. (let s = ready_stands e now i opened in record { stands = s.stands; set = s.set });
   used_up = closed_stands reasons.NumberLimit (ready_at e now).end;
   gives = λ is may some.
-      let g : Ready = ready_at e now in
-      given_stands p g.leaving g.end (may_leave_at e now) (λ opened. (let s = ready_stands e now i opened in record { stands = s.stands; set = s.set }));
+      let g : Gated = ready_at e now in
+      given_stands p g.held (lazied g.end) (may_leave e now g.held g.end refl some) (λ opened. (let s = ready_stands e now i opened in record { stands = s.stands; set = s.set }));
 })
 
 -- ---- any call
@@ -361,7 +355,7 @@ judged_stands e None i opened = let s = i opened in record { lies = s.lies; aske
 judged_stands e (Some moment) i opened =
     let quiet : IsQuiet e (losses_detected e) = losses_keep (IsQuiet e) (quiet_settles e) e (record { numbers = refl; closing = refl }) in
     let s = i (ap (λ (c : Closing). c.state) (sym quiet.closing) ∙ opened) in
-    subst (λ (n : Numbers). Stands n.next (losses_detected e).tracking) (sym quiet.numbers) (by_losses (λ (x : End). Stands e.numbers.next x.tracking) e (λ discovery queues. stands_detected e.numbers.next (verdict e) e.tracking s.lies s.asked))
+    subst (λ (n : Numbers). Stands n.next (losses_detected e).tracking) (sym quiet.numbers) (stands_detected e.numbers.next (verdict e) e.tracking s.lies s.asked)
 
 expired_stands : (e : End) (now : ℕ) (acks loss pacing : Bool) → LossStands e → LossStands (at_expiry e now acks loss pacing)
 expired_stands e now acks loss pacing i = after pacing (acks_expired acks (loss_expired loss begun)) (acked acks (loss_expired loss begun) (judged loss))
@@ -391,7 +385,7 @@ call_stands p e theirs call a i = by_plain_call p e theirs LossStands call a (re
   heard = λ path same opened. (let s = i opened in record { stands = s.stands; set = s.set ∙ ap (λ (r : Rtt). loss_moment (saturated (rtt_timeout r + peer_delay e)) e.tracking) (sym same.rtt) });
   times = λ now acks loss pacing is. expired_stands e now acks loss pacing i;
   polls = λ now is. polled_stands p e now i;
-  hears = λ now mark d is. by_hearing LossStands FrameStands hears p e now mark d i;
+  hears = λ now d is. by_hearing LossStands FrameStands hears p e now d i;
   tells = λ told opened. (let s = i opened in record { stands = s.stands; set = s.set });
 })
 

@@ -10,4 +10,4 @@ pub returns-clause-control : goal.returns-clause-control
 returns-clause-control g c =
     let p : Policy = policy_of g.H.HeaderKey.protection g.K.PacketKey.aead (words_of g.R.Rng.stream) c.args.end.now in
     let none : would_open p c.args.end.now.end c.deref_mut-2.result.now ≡ false = search rules in
-    injection_told g.C.Controller.steps g.C.Controller.window_of p c.args.end.now c.receive.new.self c.args.injection.now c.args.injection.now.now c.args.injection.now.ecn c.deref_mut-2.result.now c.receive.result none c.receive.ensures.lacking c.receive.ensures.end
+    injection_told g.C.Controller.steps g.C.Controller.window_of p c.args.end.now c.receive.new.self c.args.injection.now c.args.injection.now.now c.deref_mut-2.result.now c.receive.result none c.receive.ensures.lacking c.receive.ensures.end

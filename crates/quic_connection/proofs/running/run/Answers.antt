@@ -118,13 +118,6 @@ returns-clause-asking_goes_where_let g c =
     let r : Run = run_of keys (windows_of g.C.Controller.steps g.C.Controller.window_of) c.args.ends c.args.events.now o.answers.items o.views.items o.given in
     λ honest. c.asking_goes_where_let.ensures r (world_of (windows_of g.C.Controller.steps g.C.Controller.window_of) o.ends o.given) honest (record { codes = c.show_codes.ensures; follows = c.run_events.ensures.follows; from_client = refl; from_server = refl })
 
-pub returns-clause-datagrams_are_sized : goal.returns-clause-datagrams_are_sized
-returns-clause-datagrams_are_sized g c =
-    let o = c.run_events.result in
-    let keys : Policies = policies_of g.H.HeaderKey.protection g.K.PacketKey.aead g.R.Rng.stream c.args.ends in
-    let r : Run = run_of keys (windows_of g.C.Controller.steps g.C.Controller.window_of) c.args.ends c.args.events.now o.answers.items o.views.items o.given in
-    λ honest. c.datagrams_are_sized.ensures r (world_of (windows_of g.C.Controller.steps g.C.Controller.window_of) o.ends o.given) honest (record { codes = c.show_codes.ensures; follows = c.run_events.ensures.follows; from_client = refl; from_server = refl })
-
 pub returns-clause-probes_pass : goal.returns-clause-probes_pass
 returns-clause-probes_pass g c =
     let o = c.run_events.result in
