@@ -1,13 +1,13 @@
 #!/usr/bin/env python3
-"""Moves a file between the two ends of a connection over UDP on loopback, there and back.
+"""Moves a file between the two endpoints of a connection over UDP on loopback, there and back.
 
-    ./quic-peer --proved < /dev/null    # once: proves and builds the program
+    ./quic-peer --proved < /dev/null    # once: proves and builds the program, in up to an hour
     python3 examples/transfer.py FILE
 
-Each end is a `quic-peer` process with a socket of its own, driven by the lines of docs/PEER.md. The
-client writes the file to a stream, and the server sends back what it read there; then the digests
-are compared. In place of a handshake this program hands each end the other's parameters and id. The
-keys of the ends are stand-ins that hide nothing.
+Each endpoint is a `quic-peer` process with a socket of its own, driven by the lines of
+docs/PEER.md. The client writes the file to a stream, and the server sends back what it read there;
+then the digests are compared. In place of a handshake this program hands each endpoint the other's
+parameters and connection ID. The keys are stand-ins that hide nothing.
 """
 import hashlib
 import os
@@ -25,8 +25,12 @@ LONGEST_WAIT = 1_000_000_000
 START = time.monotonic_ns()
 
 
+class Failed(Exception):
+    """Why the file can't be moved, in one line."""
+
+
 def now():
-    """The moment, in nanoseconds from the start of the program."""
+    """The time, in nanoseconds from the start of the program."""
     return time.monotonic_ns() - START
 
 
@@ -39,8 +43,8 @@ def bound_socket():
     return bound
 
 
-def waiting(bound):
-    """The datagrams that wait at a socket, as many as are taken in one turn."""
+def received(bound):
+    """The datagrams that came to a socket, as many as are taken in one turn."""
     for _ in range(BURST):
         try:
             yield bound.recv(2048)
@@ -48,8 +52,8 @@ def waiting(bound):
             return
 
 
-class End:
-    """One end of a connection: its process, its socket, and which streams can go on."""
+class Endpoint:
+    """One endpoint of a connection: its process, its socket, and which streams can go on."""
 
     def __init__(self, side):
         self.side = side
@@ -66,18 +70,27 @@ class End:
 
     def ask(self, *words):
         """Writes a line, and gives the words of its answer behind the first."""
-        self.process.stdin.write((" ".join(map(str, words)) + "\n").encode())
-        self.process.stdin.flush()
+        try:
+            self.process.stdin.write((" ".join(map(str, words)) + "\n").encode())
+            self.process.stdin.flush()
+        except BrokenPipeError:
+            self.gone()
         answer = self.process.stdout.readline().decode().split()
-        if answer[:1] != [words[0]] or answer[1:2] in (["failed"], ["memory"]):
-            raise RuntimeError(f"{self.side}: {words[0]} is answered {answer}")
+        if not answer:
+            self.gone()
+        if answer[0] != words[0] or answer[1:2] in (["failed"], ["memory"]):
+            raise Failed(f"endpoint {self.side} answers {' '.join(answer)} to {words[0]}")
         return answer[1:]
 
+    def gone(self):
+        """The process of the endpoint has ended, and nobody asked it to."""
+        raise Failed(f"endpoint {self.side} went away, with status {self.process.wait()}")
+
     def begin(self, other, peer):
-        """Makes the end for the other one, whose datagrams come from this address."""
+        """Makes the endpoint for the other one, whose datagrams come from this address."""
         made = self.ask("new", self.side, self.id, other.id, now(), other.parameters)
         if made != ["ok"]:
-            raise RuntimeError(f"{self.side}: not made: {made}")
+            raise Failed(f"endpoint {self.side} isn't made: {made[0]}")
         self.peer = peer
 
     def sockets(self):
@@ -85,28 +98,28 @@ class End:
 
     def next(self):
         """When a timer expires, if one is set."""
-        (moment,) = self.ask("next")
-        return None if moment == "none" else int(moment)
+        (timer,) = self.ask("next")
+        return None if timer == "none" else int(timer)
 
     def turn(self):
         """Takes what came and what is due, and sends: whether there may be more to do at once."""
-        datagrams = list(waiting(self.socket))
+        datagrams = list(received(self.socket))
         for datagram in datagrams:
             self.ask("receive", now(), "-", datagram.hex() or "-")
-        moment = self.next()
-        if moment is not None and moment <= now():
+        timer = self.next()
+        if timer is not None and timer <= now():
             self.ask("timeout", now())
         self.hear()
         return self.send() or bool(datagrams)
 
     def hear(self):
-        """Notes what the end tells of streams; one that the peer opened is accepted."""
+        """Notes the events of streams; one that the peer opened is accepted."""
         while True:
             event = self.ask("event")
             if event == ["none"]:
                 return
             if event[0] == "lost":
-                raise RuntimeError(f"{self.side}: lost: {event[1]}")
+                raise Failed(f"endpoint {self.side} lost the connection: {event[1]}")
             if event[0] == "opened":
                 self.readable.update(self.ask("accept", event[1]))
             if event[0] == "readable":
@@ -125,7 +138,7 @@ class End:
         return True
 
     def write(self, stream, data, start):
-        """Writes what lies behind the start, as far as it is taken: where it ends."""
+        """Writes what lies behind the start, as far as it is taken: up to which offset."""
         while stream in self.writable and start < len(data):
             (taken,) = self.ask("write", stream, data[start : start + PIECE].hex())
             if taken == "blocked":
@@ -150,19 +163,24 @@ class End:
         """Ends the process, which has run all its lines."""
         self.process.stdin.close()
         if self.process.wait() != 0:
-            raise RuntimeError(f"{self.side}: status {self.process.returncode}")
+            self.gone()
+
+    def stop(self):
+        """Ends the process, wherever it is."""
+        self.process.kill()
+        self.process.wait()
 
 
 def wait(parties):
-    """Waits until a datagram comes at a party, or a moment for which one waits."""
-    moments = [moment for moment in (party.next() for party in parties) if moment is not None]
-    left = min(moments + [now() + LONGEST_WAIT]) - now()
+    """Waits until a datagram comes at a party, or a timer of one expires."""
+    timers = [timer for timer in (party.next() for party in parties) if timer is not None]
+    left = min(timers + [now() + LONGEST_WAIT]) - now()
     sockets = [bound for party in parties for bound in party.sockets()]
     select.select(sockets, [], [], max(left, 0) / 1e9)
 
 
 def move(parties, sender, receiver, stream, data):
-    """Moves bytes from one end to the other on a stream: what came."""
+    """Moves bytes from one endpoint to the other on a stream: what came."""
     came, written, finished = bytearray(), 0, False
     sender.writable.add(stream)
     begun = now()
@@ -188,33 +206,66 @@ def there_and_back(parties, client, server, data):
     return len(set(digests)) == 1
 
 
-def two_ends():
+def contents(path):
+    """The bytes of a file."""
+    try:
+        with open(path, "rb") as file:
+            return file.read()
+    except OSError as error:
+        raise Failed(f"{path}: {error.strerror}")
+
+
+def two_endpoints():
     """A client and a server, which aren't made yet."""
     if subprocess.run([PROGRAM, "--is-proved"]).returncode != 0:
-        sys.exit("first prove and build the program: ./quic-peer --proved < /dev/null")
-    client, server = End("c"), End("s")
+        raise Failed(
+            "there is no proved build: first run ./quic-peer --proved < /dev/null, which takes up to an hour"
+        )
+    client, server = Endpoint("c"), Endpoint("s")
     print(client.notice)
     return client, server
 
 
-def run(parties, client, server, path):
-    """Moves a file there and back between two ends that were made: the exit status."""
-    with open(path, "rb") as file:
-        same = there_and_back(parties, client, server, file.read())
+def run(parties, client, server, data):
+    """Moves bytes there and back between two endpoints that were made: the exit status."""
+    same = there_and_back(parties, client, server, data)
     client.close()
     server.close()
     print("the digests are the same" if same else "THE DIGESTS DIFFER")
     return 0 if same else 1
 
 
-def main():
-    if len(sys.argv) != 2:
-        sys.exit("usage: transfer.py FILE")
-    client, server = two_ends()
-    client.begin(server, server.socket.getsockname())
-    server.begin(client, client.socket.getsockname())
-    return run([client, server], client, server, sys.argv[1])
+def transfer(path):
+    """Moves this file there and back: the exit status."""
+    data = contents(path)
+    client, server = two_endpoints()
+    try:
+        client.begin(server, server.socket.getsockname())
+        server.begin(client, client.socket.getsockname())
+        return run([client, server], client, server, data)
+    finally:
+        client.stop()
+        server.stop()
+
+
+def main(name, usage, least, most, act):
+    """Acts on the arguments, of which there are so many. What fails is said in one line."""
+    words = sys.argv[1:]
+    if words in (["-h"], ["--help"]):
+        print(usage.strip())
+        return 0
+    if not least <= len(words) <= most:
+        print(usage.strip(), file=sys.stderr)
+        return 2
+    try:
+        return act(*words)
+    except Failed as failed:
+        print(f"{name}: {failed}", file=sys.stderr)
+        return 1
+    except KeyboardInterrupt:
+        print(f"{name}: interrupted", file=sys.stderr)
+        return 130
 
 
 if __name__ == "__main__":
-    sys.exit(main())
+    sys.exit(main("transfer.py", __doc__, 1, 1, transfer))

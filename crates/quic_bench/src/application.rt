@@ -5,6 +5,7 @@ use quic_connection::{
     Chunk, Chunks, Dir, Event, ReadError, ReadableError, StreamEvent, StreamId, WriteError,
 };
 use std::alloc::{AllocError, Global};
+use std::mem;
 
 /// After so many bytes the pattern begins anew.
 pub const PATTERN: usize = 65536;
@@ -19,14 +20,14 @@ pub fn pattern(alloc: Global) -> Result<Vec<u8>, AllocError> {
     Ok(bytes)
 }
 
-/// Opens a one-way stream, unless the peer's limit is reached.
-pub fn open(end: &mut End) -> Option<StreamId> {
-    end.streams().open(Dir::Uni)
+/// Opens a stream of a kind, unless the peer's limit is reached.
+pub fn open(end: &mut End, dir: Dir) -> Option<StreamId> {
+    end.streams().open(dir)
 }
 
-/// Accepts a stream that the peer opened, if one is left.
-fn accept(end: &mut End) -> Option<StreamId> {
-    end.streams().accept(Dir::Uni)
+/// Accepts a stream of a kind that the peer opened, if one is left.
+fn accept(end: &mut End, dir: Dir) -> Option<StreamId> {
+    end.streams().accept(dir)
 }
 
 /// Writes on a stream: how many bytes were taken, 0 where none may be.
@@ -38,46 +39,65 @@ pub fn write(end: &mut End, id: StreamId, data: &[u8]) -> Result<usize, Fault> {
     }
 }
 
+/// Writes on a stream all of these bytes, and ends it.
+pub fn write_all(end: &mut End, id: StreamId, data: &[u8]) -> Result<(), Fault> {
+    if write(end, id, data)? != data.len() {
+        return Err(Fault::WriteBlocked);
+    }
+    finish(end, id)
+}
+
 /// Ends a stream.
 pub fn finish(end: &mut End, id: StreamId) -> Result<(), Fault> {
     end.send_stream(id).finish()?;
     Ok(())
 }
 
-/// Takes all events: whether one says that a stream takes bytes again.
-pub fn take_events(end: &mut End) -> Result<bool, Fault> {
-    let mut is_writable = false;
+/// Takes all events of an end that reads nothing.
+pub fn take_events(end: &mut End) -> Result<(), Fault> {
     for _ in 0..u64::MAX {
         match end.poll() {
             Some(Event::Lost(_)) => return Err(Fault::Lost),
-            Some(Event::Stream(StreamEvent::Writable { .. })) => is_writable = true,
             Some(Event::Stream(_) | Event::Message) => {}
             None => break,
         }
     }
-    Ok(is_writable)
+    Ok(())
 }
 
-/// Goes through the streams that became readable.
+/// Goes through the streams that became readable, and notes what other events say.
 #[derive(Drop)]
-pub struct Readable {
-    // Whether opened streams may be there to be accepted.
-    accepts: bool,
+pub struct Events {
+    // The kind of which opened streams may be there to be accepted.
+    accepts: Option<Dir>,
+    // Whether a stream takes bytes again.
+    is_writable: bool,
+    /// How many streams the peer has wholly, their ends too.
+    pub finished: u64,
 }
 
-impl Readable {
-    /// None is known yet.
+impl Events {
+    /// None came yet.
     pub fn new() -> Self {
-        Readable { accepts: false }
+        Events {
+            accepts: None,
+            is_writable: false,
+            finished: 0,
+        }
+    }
+
+    /// Whether a stream takes bytes again, by an event that was taken since this was asked last.
+    pub fn take_writable(&mut self) -> bool {
+        mem::replace(&mut self.is_writable, false)
     }
 
     /// The next stream that became readable, newly opened ones too; none once all events are taken.
     pub fn next(&mut self, end: &mut End) -> Result<Option<StreamId>, Fault> {
         for _ in 0..u64::MAX {
-            if self.accepts {
-                match accept(end) {
+            if let Some(dir) = self.accepts {
+                match accept(end, dir) {
                     Some(id) => return Ok(Some(id)),
-                    None => self.accepts = false,
+                    None => self.accepts = None,
                 }
             }
             let Some(event) = end.poll() else {
@@ -93,36 +113,62 @@ impl Readable {
     /// Takes an event: the stream that it says is readable.
     fn take(&mut self, event: &Event) -> Result<Option<StreamId>, Fault> {
         match event {
-            Event::Stream(StreamEvent::Opened { .. }) => {
-                self.accepts = true;
-                Ok(None)
+            Event::Stream(StreamEvent::Opened { dir }) => self.accepts = Some(*dir),
+            Event::Stream(StreamEvent::Readable { id }) => return Ok(Some(*id)),
+            Event::Stream(StreamEvent::Writable { .. }) => self.is_writable = true,
+            Event::Stream(StreamEvent::Finished { .. }) => {
+                self.finished = self.finished.wrapping_add(1);
             }
-            Event::Stream(StreamEvent::Readable { id }) => Ok(Some(*id)),
-            Event::Stream(_) | Event::Message => Ok(None),
-            Event::Lost(_) => Err(Fault::Lost),
+            Event::Stream(_) | Event::Message => {}
+            Event::Lost(_) => return Err(Fault::Lost),
         }
+        Ok(None)
     }
 }
 
 /// Reads streams, and counts what comes.
 #[derive(Drop)]
 pub struct Reader {
-    /// What is to come of a lone stream, if it is compared.
-    pub expected: Option<Vec<u8>>,
+    // What is to come of a lone stream, if it is compared.
+    expected: Option<Vec<u8>>,
+    // How many bytes a read takes at most.
+    piece: usize,
     /// How many bytes came.
     pub bytes: u64,
+    /// How many streams were read to their ends.
+    pub ended: u64,
     /// A checksum of the offsets and the last bytes of all pieces.
     pub checksum: u64,
 }
 
 impl Reader {
-    /// One that compares the bytes of a lone stream with a pattern, if there is one.
-    pub fn new(expected: Option<Vec<u8>>) -> Self {
+    /// One that takes what is there at once.
+    pub fn new() -> Self {
+        Reader::of_pieces(None, usize::MAX)
+    }
+
+    /// One that takes so many bytes at most at once, and compares the bytes of a lone stream with a
+    /// pattern, if there is one.
+    pub fn of_pieces(expected: Option<Vec<u8>>, piece: usize) -> Self {
         Reader {
             expected,
+            piece,
             bytes: 0,
+            ended: 0,
             checksum: 0,
         }
+    }
+
+    /// Reads all streams that became readable: whether one ended.
+    pub fn read_all(&mut self, end: &mut End, events: &mut Events) -> Result<bool, Fault> {
+        let mut has_ended = false;
+        for _ in 0..u64::MAX {
+            let Some(id) = events.next(end)? else {
+                break;
+            };
+            has_ended |= self.read(end, id)?;
+        }
+        Ok(has_ended)
     }
 
     /// Reads in order all that is there: whether the stream ended.
@@ -131,6 +177,7 @@ impl Reader {
             Ok(mut chunks) => {
                 let ended = self.take_all(&mut chunks)?;
                 let _ = chunks.finalize();
+                self.ended = self.ended.wrapping_add(u64::from(ended));
                 Ok(ended)
             }
             // A late event of a stream that was read to its end.
@@ -142,7 +189,7 @@ impl Reader {
     /// Takes all pieces that are there: whether the stream ended.
     fn take_all(&mut self, chunks: &mut Chunks<'_>) -> Result<bool, Fault> {
         for _ in 0..u64::MAX {
-            match chunks.next(usize::MAX) {
+            match chunks.next(self.piece) {
                 Ok(Some(chunk)) => self.take(&chunk)?,
                 Ok(None) => return Ok(true),
                 Err(ReadError::Blocked) => break,

@@ -1,67 +1,74 @@
-//! One stream is written from a buffer, and read whenever it is readable.
-use crate::application::{PATTERN, Readable, Reader, finish, open, pattern, take_events, write};
+//! One stream is written from a buffer, and read whenever it is readable, or once all has come.
+use crate::application::{Events, PATTERN, Reader, pattern};
 use crate::fault::Fault;
 use crate::figures::Figures;
 use crate::pair::{End, Pair, Work};
-use quic_connection::StreamId;
+use crate::sender::Sender;
+use crate::streams::hold_open;
 use std::rt::Clock;
 use std::time::CpuClock;
 
-/// So many bytes go on one stream.
-#[derive(Drop)]
-struct Bulk {
-    id: StreamId,
-    source: Vec<u8>,
-    bytes: u64,
-    sent: u64,
-    // Whether a write was blocked, and the stream doesn't take bytes again yet: each write that is
-    // blocked tells the peer so.
-    is_blocked: bool,
-    is_finished: bool,
-    readable: Readable,
-    reader: Reader,
+/// How one stream is written and read.
+#[derive(Clone, Copy)]
+pub struct Plan {
+    /// How many bytes go.
+    pub bytes: u64,
+    /// Whether they are compared.
+    pub is_verified: bool,
+    /// How many bytes a write has at most.
+    pub write: usize,
+    /// How many bytes a read takes at most.
+    pub read: usize,
+    /// Whether nothing is read before the client knows that all has come.
+    pub waits: bool,
+    /// How many other streams are held open.
+    pub idle: u64,
 }
 
-impl Bulk {
-    /// Writes what may be written at once of what is left: how many bytes.
-    fn write_piece(&mut self, end: &mut End) -> Result<u64, Fault> {
-        let at = (self.sent % PATTERN as u64) as usize;
-        let left = self.bytes.saturating_sub(self.sent);
-        let piece = left.min(PATTERN as u64) as usize;
-        let data = self.source.get(at..at.saturating_add(piece)).unwrap_or(&[]);
-        let count = write(end, self.id, data)? as u64;
-        self.sent = self.sent.saturating_add(count);
-        Ok(count)
+impl Plan {
+    /// So many bytes are written and read as they may be.
+    pub fn of(bytes: u64) -> Self {
+        Plan {
+            bytes,
+            is_verified: false,
+            write: PATTERN,
+            read: usize::MAX,
+            waits: false,
+            idle: 0,
+        }
     }
+
+    /// Whether it has an end with a window of so many bytes.
+    pub fn can_be_done(&self, window: u64) -> bool {
+        self.write > 0 && self.read > 0 && (!self.waits || self.bytes <= window)
+    }
+}
+
+/// Bytes go on one stream.
+#[derive(Drop)]
+struct Bulk {
+    waits: bool,
+    source: Vec<u8>,
+    sender: Sender,
+    client: Events,
+    server: Events,
+    reader: Reader,
 }
 
 impl Work for Bulk {
     fn client(&mut self, end: &mut End) -> Result<(), Fault> {
-        if take_events(end)? {
-            self.is_blocked = false;
+        let _ = self.client.next(end)?;
+        if self.client.take_writable() {
+            self.sender.unblock();
         }
-        for _ in 0..u64::MAX {
-            if self.is_finished || self.is_blocked {
-                break;
-            }
-            self.is_blocked = self.write_piece(end)? == 0;
-            if self.sent >= self.bytes {
-                finish(end, self.id)?;
-                self.is_finished = true;
-            }
-        }
-        Ok(())
+        self.sender.send(end, &self.source)
     }
 
     fn server(&mut self, end: &mut End) -> Result<bool, Fault> {
-        let mut has_ended = false;
-        for _ in 0..u64::MAX {
-            let Some(id) = self.readable.next(end)? else {
-                break;
-            };
-            has_ended |= self.reader.read(end, id)?;
+        if self.waits && self.client.finished == 0 {
+            return Ok(false);
         }
-        Ok(has_ended)
+        self.reader.read_all(end, &mut self.server)
     }
 
     fn units(&self) -> u64 {
@@ -73,27 +80,29 @@ impl Work for Bulk {
     }
 }
 
-/// So many bytes go on one stream, and are compared or not.
+/// What is to come, if it is compared.
+fn expected<R: AllocGlobal>(rt: &R, plan: &Plan) -> Result<Option<Vec<u8>>, Fault> {
+    if plan.is_verified {
+        Ok(Some(pattern(rt.alloc())?))
+    } else {
+        Ok(None)
+    }
+}
+
+/// One stream is written and read.
 pub fn run<R: Clock + CpuClock + AllocGlobal>(
     rt: &R,
     pair: &mut Pair,
-    bytes: u64,
-    is_verified: bool,
+    plan: &Plan,
 ) -> Result<Figures, Fault> {
-    let expected = if is_verified {
-        Some(pattern(rt.alloc())?)
-    } else {
-        None
-    };
+    hold_open(pair, plan.idle)?;
     let mut work = Bulk {
-        id: open(&mut pair.ends.as_mut().client).ok_or(Fault::NoStream)?,
+        waits: plan.waits,
         source: pattern(rt.alloc())?,
-        bytes,
-        sent: 0,
-        is_blocked: false,
-        is_finished: false,
-        readable: Readable::new(),
-        reader: Reader::new(expected),
+        sender: Sender::open(&mut pair.ends.as_mut().client, plan.bytes, plan.write)?,
+        client: Events::new(),
+        server: Events::new(),
+        reader: Reader::of_pieces(expected(rt, plan)?, plan.read),
     };
     pair.measure(rt, &mut work)
 }

@@ -27,6 +27,17 @@ impl Watch {
     }
 }
 
+/// How much memory the process held at a moment, in KiB.
+#[derive(Clone, Copy)]
+pub struct Memory(u64);
+
+impl Memory {
+    /// How much it holds, as the system tells it; 0 where it doesn't.
+    pub fn now<R: Files + Alloc>(rt: &R) -> Self {
+        Memory(told_kb(rt, "VmRSS:"))
+    }
+}
+
 /// What a piece of work came to.
 #[derive(Clone, Copy)]
 pub struct Figures {
@@ -49,8 +60,8 @@ pub struct Figures {
 }
 
 impl Figures {
-    /// Prints what varies and what doesn't, on a line.
-    pub fn print_all<R: Print + Files + Alloc>(&self, rt: &R) -> io::Result<()> {
+    /// Prints what varies and what doesn't, on a line. The process held so much memory before.
+    pub fn print_all<R: Print + Files + Alloc>(&self, rt: &R, before: Memory) -> io::Result<()> {
         let Figures {
             ns,
             cpu_ns,
@@ -61,9 +72,10 @@ impl Figures {
             virtual_us,
             ..
         } = *self;
-        let peak_kb = peak_kb(rt);
+        let peak_kb = told_kb(rt, "VmHWM:");
+        let grown_kb = peak_kb.saturating_sub(before.0);
         println!(rt;
-            "ns={ns} cpu_ns={cpu_ns} units={units} data={data} back={back} lost={lost} virtual_us={virtual_us} peak_kb={peak_kb}"
+            "ns={ns} cpu_ns={cpu_ns} units={units} data={data} back={back} lost={lost} virtual_us={virtual_us} peak_kb={peak_kb} grown_kb={grown_kb}"
         )
     }
 
@@ -84,16 +96,20 @@ impl Figures {
     }
 }
 
-/// The most memory that the process has held, in KiB, as the system tells it; 0 where it doesn't.
-fn peak_kb<R: Files + Alloc>(rt: &R) -> u64 {
+/// A size of the process by its name, in KiB, as the system tells it; 0 where it doesn't.
+fn told_kb<R: Files + Alloc>(rt: &R, name: &str) -> u64 {
     match std::fs::read_to_string(rt, "/proc/self/status") {
-        Ok(status) => peak_in(status.as_str()).unwrap_or(0),
+        Ok(status) => told_in(status.as_str(), name).unwrap_or(0),
         Err(_) => 0,
     }
 }
 
-/// The number in the line of the greatest size.
-fn peak_in(status: &str) -> Option<u64> {
-    let line = status.lines().find(|line| line.starts_with("VmHWM:"))?;
-    line.split_whitespace().nth(1)?.parse::<u64>().ok()
+/// The number in the line of this name.
+fn told_in(status: &str, name: &str) -> Option<u64> {
+    for line in status.lines() {
+        if line.starts_with(name) {
+            return line.split_whitespace().nth(1)?.parse::<u64>().ok();
+        }
+    }
+    None
 }

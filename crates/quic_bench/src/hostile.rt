@@ -3,7 +3,7 @@ use crate::application::{open, pattern, write};
 use crate::fault::Fault;
 use crate::figures::{Figures, Watch};
 use crate::pair::{Pair, receive};
-use quic_connection::{DropReason, Instant, Received};
+use quic_connection::{Dir, DropReason, Instant, Received};
 use std::alloc::AllocError;
 use std::rt::Clock;
 use std::time::CpuClock;
@@ -15,7 +15,7 @@ const FRAME: usize = 1100;
 fn taken_datagram<R: AllocGlobal>(rt: &R, pair: &mut Pair) -> Result<Vec<u8>, Fault> {
     let data = pattern(rt.alloc())?;
     let client = &mut pair.ends.as_mut().client;
-    let id = open(client).ok_or(Fault::NoStream)?;
+    let id = open(client, Dir::Uni).ok_or(Fault::NoStream)?;
     write(client, id, data.get(..FRAME).unwrap_or(&[]))?;
     let now = Instant::from_nanos(pair.now);
     let mut datagram = Vec::new(rt.alloc());
@@ -23,7 +23,9 @@ fn taken_datagram<R: AllocGlobal>(rt: &R, pair: &mut Pair) -> Result<Vec<u8>, Fa
         return Err(Fault::NoDatagram);
     }
     let mut copy = Vec::from_slice(rt.alloc(), &datagram)?;
-    receive(&mut pair.ends.as_mut().server, pair.now, None, &mut copy)?;
+    if !receive(&mut pair.ends.as_mut().server, pair.now, None, &mut copy)? {
+        return Err(Fault::Dropped(DropReason::Duplicate));
+    }
     Ok(datagram)
 }
 

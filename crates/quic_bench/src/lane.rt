@@ -10,8 +10,9 @@ pub const ONE_WAY: u64 = 10_000_000;
 /// How long a late one is.
 const LATE: u64 = 13_000_000;
 
-/// The room of a buffer, which no datagram exceeds.
-const BUFFER_SIZE: usize = 1500;
+/// The most bytes of a datagram that goes through; a longer one is lost. It is the room of a buffer
+/// too.
+pub const LANE_MTU: u16 = 1200;
 
 /// The most buffers that are kept to be used again.
 const MAX_SPARE: usize = 4096;
@@ -71,6 +72,11 @@ impl Lane {
         self.late_share = late_share;
     }
 
+    /// A datagram came too late for its end to tell whether it came before: it counts as lost.
+    pub fn came_too_late(&mut self) {
+        self.lost = self.lost.wrapping_add(1);
+    }
+
     /// Nothing was sent yet.
     pub fn reset_counts(&mut self) {
         self.sent = 0;
@@ -90,7 +96,7 @@ impl Lane {
     pub fn buffer(&mut self) -> Result<Vec<u8>, AllocError> {
         match self.spare.pop() {
             Some(buffer) => Ok(buffer),
-            None => Vec::with_capacity(self.alloc, BUFFER_SIZE),
+            None => Vec::with_capacity(self.alloc, usize::from(LANE_MTU)),
         }
     }
 
@@ -112,7 +118,7 @@ impl Lane {
     ) -> Result<(), AllocError> {
         let word = self.draw();
         self.sent = self.sent.wrapping_add(1);
-        if word % 1000 < self.loss {
+        if word % 1000 < self.loss || bytes.len() > usize::from(LANE_MTU) {
             self.lost = self.lost.wrapping_add(1);
             self.give_back(bytes);
         } else if (word >> 32) % 1000 < self.late_share {

@@ -1,30 +1,43 @@
 //! Measures the whole connection core: a client and a server in one thread, in virtual time.
 //!
 //! `quic_bench WORKLOAD [NAME=VALUE]..`, values whole numbers, does one workload and prints a line
-//! of figures: `ns=` and `cpu_ns=` that it took, `units=` (bytes, streams, messages or datagrams),
-//! `data=` and `back=` (datagrams that client and server sent), `lost=`, `virtual_us=` and
-//! `peak_kb=` of the process. Set-up is left out. The workloads:
+//! of figures: `ns=` and `cpu_ns=` that it took, `units=` (bytes, streams, messages, requests,
+//! connections or datagrams), `data=` and `back=` (datagrams that client and server sent), `lost=`,
+//! `virtual_us=`, `peak_kb=` of the process, and `grown_kb=`, by how much that exceeds what it held
+//! before. Set-up is left out. The workloads:
 //!
-//! - `bulk bytes= verify=`: so many bytes go on one stream, and are compared if `verify` isn't 0.
-//! - `growth bytes= times=`: the same so many times on one connection, a line for each.
+//! - `bulk bytes= verify= write= read= idle=`: so many bytes go on one stream, and are compared if
+//!   `verify` isn't 0; a write has at most `write` bytes and a read `read`, and `idle` other streams
+//!   stay open.
+//! - `unread`, with the same names: nothing is read before all is acknowledged.
+//! - `duplex bytes=`: so many bytes go each way at the same time.
+//! - `growth bytes= times=`: as `bulk`, so many times on one connection, a line for each.
 //! - `streams count= size= open= idle=`: so many streams of so many bytes, `open` at once, beside
 //!   `idle` that stay open.
+//! - `idle count=`: so many streams are opened, have a byte each, and stay open.
+//! - `requests count= size= answer= open=`: so many two-way streams, `open` at once, with `size`
+//!   bytes one way and then `answer` bytes the other way.
 //! - `messages count= size= ahead=`: so many messages, of which `ahead` at most are under way.
+//! - `connections count=`: so many connections of two ends each come to rest and are kept.
 //! - `hostile count= repeats=`: so many datagrams that don't open, but for so many of 1000 that
 //!   repeat one which was taken.
 //! - `floor count=`: so many datagrams through a lane alone, in whole hundreds.
 //!
-//! All take `loss=` and `reorder=` (how many of 1000 datagrams are lost, or come late), `seed=`, and
-//! `batch=`, how many datagrams an end takes before it may send; `hostile` and `floor` do nothing
-//! with these. A workload or name that it doesn't know ends it with status 2, and so does work that
-//! can't be done: that loses messages or each datagram, takes none at once, or has pieces of more
-//! than 65,536 bytes.
+//! All take `loss=` and `reorder=` (how many of 1000 datagrams are lost, or come late), `seed=`,
+//! `batch=`, how many datagrams an end takes before it may send, and `window=`, how many bytes may
+//! come of a stream before any is read; `hostile`, `floor` and `connections` do nothing with most
+//! of these. A datagram counts as lost that comes too late for its end to tell whether it came
+//! before. A workload or name that it doesn't know ends it with status 2, and so does work that
+//! can't be done: that loses messages or each datagram, takes none at once, writes or reads no
+//! byte at a time, has pieces of more than 65,536 bytes, or leaves more unread than the window.
 //!
 //! `quic_bench check` does a little of each, and prints counts and a checksum that don't vary.
 #![tactic(auto)]
 
 mod application;
 mod bulk;
+mod connections;
+mod duplex;
 mod fault;
 mod figures;
 mod floor;
@@ -32,11 +45,14 @@ mod hostile;
 mod lane;
 mod messages;
 mod pair;
+mod requests;
+mod sender;
 mod streams;
 mod task;
 
+use crate::bulk::Plan;
 use crate::fault::Fault;
-use crate::figures::Figures;
+use crate::figures::{Figures, Memory};
 use crate::pair::Pair;
 use crate::task::{Task, Workload};
 use anyhow::Result;
@@ -47,13 +63,18 @@ use std::time::CpuClock;
 
 /// What `check` does: each line is a task. With 17,000 streams beside an idle one, its id falls out of
 /// the ring in which the others stand.
-const CHECKS: [&str; 9] = [
+const CHECKS: [&str; 14] = [
     "bulk bytes=300001 verify=1",
     "bulk bytes=300001 verify=1 loss=50 reorder=50 seed=7",
+    "bulk bytes=20001 verify=1 write=50 read=50 idle=3",
+    "unread bytes=100000 window=100000",
+    "duplex bytes=100000",
     "growth bytes=100000 times=2 batch=32",
     "streams count=200 size=100 open=10",
     "streams count=200 size=100 open=10 idle=200",
     "streams count=17000 size=1 open=100 idle=1",
+    "idle count=200",
+    "requests count=200 open=10",
     "messages count=500 size=100 ahead=100",
     "hostile count=1000 repeats=300",
     "floor count=1000",
@@ -67,9 +88,15 @@ enum Form {
 }
 
 /// Prints figures of a workload.
-fn show<R: Runtime>(rt: &R, form: Form, name: &str, figures: &Figures) -> Result<()> {
+fn show<R: Runtime>(
+    rt: &R,
+    form: Form,
+    name: &str,
+    figures: &Figures,
+    before: Memory,
+) -> Result<()> {
     match form {
-        Form::All => figures.print_all(rt)?,
+        Form::All => figures.print_all(rt, before)?,
         Form::Counts => figures.print_counts(rt, name)?,
     }
     Ok(())
@@ -82,14 +109,23 @@ fn work<R: Runtime + CpuClock + AllocGlobal>(
     workload: Workload,
 ) -> Result<Figures, Fault> {
     match workload {
-        Workload::Bulk { bytes, is_verified } => bulk::run(rt, pair, bytes, is_verified),
-        Workload::Growth { bytes, .. } => bulk::run(rt, pair, bytes, false),
+        Workload::Bulk { plan } => bulk::run(rt, pair, &plan),
+        Workload::Growth { bytes, .. } => bulk::run(rt, pair, &Plan::of(bytes)),
         Workload::Streams {
             count,
             size,
             open,
             idle,
         } => streams::run(rt, pair, count, size, open, idle),
+        Workload::Requests {
+            count,
+            size,
+            answer,
+            open,
+        } => requests::run(rt, pair, count, size, answer, open),
+        Workload::Duplex { bytes } => duplex::run(rt, pair, bytes),
+        Workload::Idle { count } => streams::run_idle(rt, pair, count),
+        Workload::Connections { count } => connections::run(rt, pair, count),
         Workload::Messages { count, size, ahead } => { messages::run(rt, pair, count, size, ahead) }
         Workload::Hostile { count, repeats } => hostile::run(rt, pair, count, repeats),
         Workload::Floor { count } => floor::run(rt, pair, count),
@@ -98,8 +134,8 @@ fn work<R: Runtime + CpuClock + AllocGlobal>(
 
 /// Does a task, and prints its figures.
 fn perform<R: Runtime + CpuClock + AllocGlobal>(rt: &R, form: Form, task: &Task) -> Result<()> {
-    let streams = task.streams()?;
-    let mut pair = Pair::new(rt.alloc(), streams, task.network.batch)?;
+    let limits = task.limits()?;
+    let mut pair = Pair::new(rt.alloc(), &limits, task.network.batch)?;
     repeat(rt, form, &mut pair, task)
 }
 
@@ -110,10 +146,12 @@ fn repeat<R: Runtime + CpuClock + AllocGlobal>(
     pair: &mut Pair,
     task: &Task,
 ) -> Result<()> {
-    pair.settle(task.network)?;
+    pair.settle()?;
+    pair.disturb(task.network);
     for _ in 0..task.times() {
+        let before = Memory::now(rt);
         let figures = work(rt, pair, task.workload)?;
-        show(rt, form, task.name(), &figures)?;
+        show(rt, form, task.name(), &figures, before)?;
     }
     Ok(())
 }

@@ -48,7 +48,7 @@ impl Messages {
 
 impl Work for Messages {
     fn client(&mut self, end: &mut End) -> Result<(), Fault> {
-        let _ = take_events(end)?;
+        take_events(end)?;
         let most = self.received.saturating_add(self.ahead).min(self.count);
         for _ in self.sent..most {
             if !self.send_one(end)? {
@@ -59,7 +59,7 @@ impl Work for Messages {
     }
 
     fn server(&mut self, end: &mut End) -> Result<bool, Fault> {
-        let _ = take_events(end)?;
+        take_events(end)?;
         for _ in 0..u64::MAX {
             let Some(message) = end.datagrams().recv() else {
                 break;

@@ -4,10 +4,10 @@
 //! until it gives nothing. Then the next moment is the least of timers and arrivals.
 use crate::fault::Fault;
 use crate::figures::{Figures, Watch};
-use crate::lane::{Datagram, Lane, ONE_WAY, earlier};
+use crate::lane::{Datagram, LANE_MTU, Lane, ONE_WAY, earlier};
 use quic_connection::{
-    Config, ConfigError, Connection, EcnCodepoint, Ends, Instant, Making, NewReno, NewRenoConfig,
-    Received, TransportConfig,
+    Config, ConfigError, Connection, DropReason, EcnCodepoint, Ends, Instant, Making, NewReno,
+    NewRenoConfig, Received, TransportConfig,
 };
 use quic_run_core::Words;
 use quic_run_core::key::{PlainHeaderKey, PlainKey, keys_for};
@@ -20,13 +20,10 @@ use std::time::CpuClock;
 pub type End = Connection<PlainHeaderKey, PlainKey, Words, NewReno>;
 
 /// Two of them.
-type BothEnds = Ends<PlainHeaderKey, PlainKey, Words, NewReno>;
+pub type BothEnds = Ends<PlainHeaderKey, PlainKey, Words, NewReno>;
 
 /// Every random word of an end.
 const RANDOM_WORD: u64 = 63;
-
-/// The bytes of a datagram.
-const DATAGRAM_SIZE: u16 = 1200;
 
 /// The network between the ends, and how the ends are driven.
 #[derive(Clone, Copy)]
@@ -39,6 +36,26 @@ pub struct Network {
     pub seed: u64,
     /// How many datagrams an end takes before it may send.
     pub batch: u64,
+}
+
+/// What each end lets the other do.
+#[derive(Drop)]
+pub struct Limits {
+    /// How many streams of each kind the peer may have open at once.
+    pub streams: VarInt,
+    /// How many bytes the peer may send on a stream before any is read. Eight times as many may be
+    /// written that aren't acknowledged.
+    pub window: VarInt,
+}
+
+impl Limits {
+    /// The same limits.
+    fn copied(&self) -> Self {
+        Limits {
+            streams: self.streams,
+            window: self.window,
+        }
+    }
 }
 
 /// What the applications of both ends do.
@@ -87,6 +104,8 @@ pub struct Pair {
     pub up: Lane,
     /// From the server to the client.
     pub down: Lane,
+    /// What each end lets the other do.
+    pub limits: Limits,
     batch: u64,
     /// The moment, in nanoseconds.
     pub now: u64,
@@ -102,14 +121,23 @@ fn id_of(side: Side) -> ConnectionId {
     }
 }
 
-/// What an end is made of that lets its peer have so many one-way streams open at once.
-fn making(side: Side, streams: VarInt) -> Making<NewRenoConfig, PlainHeaderKey, PlainKey, Words> {
+/// The settings of an end. Datagrams keep the size of the lanes.
+fn transport(limits: &Limits) -> TransportConfig {
     let mut transport = TransportConfig::default();
-    transport.initial_mtu(DATAGRAM_SIZE);
-    transport.min_mtu(DATAGRAM_SIZE);
-    transport.max_concurrent_uni_streams(streams);
+    transport.initial_mtu(LANE_MTU);
+    transport.min_mtu(LANE_MTU);
+    transport.mtu_discovery_config(None);
+    transport.max_concurrent_uni_streams(limits.streams);
+    transport.max_concurrent_bidi_streams(limits.streams);
+    transport.stream_receive_window(limits.window);
+    transport.send_window(limits.window.into_inner().saturating_mul(8));
+    transport
+}
+
+/// What an end with these limits is made of.
+fn making(side: Side, limits: &Limits) -> Making<NewRenoConfig, PlainHeaderKey, PlainKey, Words> {
     Making {
-        config: Config::new(transport, NewRenoConfig::default()),
+        config: Config::new(transport(limits), NewRenoConfig::default()),
         id: id_of(side),
         keys: keys_for(side),
         random: Words::word(RANDOM_WORD),
@@ -118,10 +146,10 @@ fn making(side: Side, streams: VarInt) -> Making<NewRenoConfig, PlainHeaderKey, 
 }
 
 /// Two ends at the moment 0.
-fn new_ends(alloc: Global, streams: VarInt) -> Result<BothEnds, ConfigError> {
+fn new_ends(alloc: Global, limits: &Limits) -> Result<BothEnds, ConfigError> {
     let now = Instant::from_nanos(0);
-    let client = making(Side::Client, streams);
-    let server = making(Side::Server, streams);
+    let client = making(Side::Client, limits);
+    let server = making(Side::Server, limits);
     Ends::new(alloc, now, client, server)
 }
 
@@ -132,25 +160,29 @@ fn boxed(alloc: Global, ends: BothEnds) -> Result<Box<BothEnds>, AllocError> {
 
 impl Pair {
     /// Two ends at the moment 0, which take so many datagrams before they may send.
-    pub fn new(alloc: Global, streams: VarInt, batch: u64) -> Result<Self, Fault> {
-        let ends = boxed(alloc, new_ends(alloc, streams)?)?;
+    pub fn new(alloc: Global, limits: &Limits, batch: u64) -> Result<Self, Fault> {
+        let ends = boxed(alloc, new_ends(alloc, limits)?)?;
         Ok(Pair {
             ends,
             up: Lane::new(alloc),
             down: Lane::new(alloc),
+            limits: limits.copied(),
             batch,
             now: 0,
             start: 0,
         })
     }
 
-    /// Each end learns the round trip from a PING, as from a handshake, both come to rest, and the
-    /// network becomes what it is to be.
-    pub fn settle(&mut self, network: Network) -> Result<(), Fault> {
+    /// Each end learns the round trip from a PING, as from a handshake, and both come to rest.
+    pub fn settle(&mut self) -> Result<(), Fault> {
         let ends = self.ends.as_mut();
         ends.client.ping();
         ends.server.ping();
-        self.run_until(20 * ONE_WAY, &mut Rest)?;
+        self.run_until(20 * ONE_WAY, &mut Rest)
+    }
+
+    /// The network becomes what it is to be.
+    pub fn disturb(&mut self, network: Network) {
         let Network {
             loss,
             reorder,
@@ -159,7 +191,6 @@ impl Pair {
         } = network;
         self.up.disturb(seed, loss, reorder);
         self.down.disturb(!seed, loss, reorder);
-        Ok(())
     }
 
     /// Begins to count anew.
@@ -273,22 +304,26 @@ fn take(end: &mut End, inbox: &mut Lane, now: u64, batch: u64) -> Result<bool, F
             break;
         };
         let Datagram { ecn, mut bytes, .. } = datagram;
-        receive(end, now, ecn, &mut bytes)?;
+        if !receive(end, now, ecn, &mut bytes)? {
+            inbox.came_too_late();
+        }
         inbox.give_back(bytes);
     }
     expire(end, now)?;
     Ok(inbox.is_due(now))
 }
 
-/// Takes a datagram. None comes twice, so that each has to be taken.
+/// Takes a datagram: whether it was taken. None comes twice, so that one that may have come before
+/// is so late that the end can't tell.
 pub fn receive(
     end: &mut End,
     now: u64,
     ecn: Option<EcnCodepoint>,
     bytes: &mut [u8],
-) -> Result<(), Fault> {
+) -> Result<bool, Fault> {
     match end.receive(Instant::from_nanos(now), ecn, bytes) {
-        Received::Taken => Ok(()),
+        Received::Taken => Ok(true),
+        Received::Dropped(DropReason::Duplicate) => Ok(false),
         answer => Err(answer.into()),
     }
 }

@@ -1,8 +1,9 @@
 //! Streams are opened, written, finished and read to their ends, beside others that stay open.
-use crate::application::{PATTERN, Readable, Reader, finish, open, pattern, take_events, write};
+use crate::application::{Events, PATTERN, Reader, open, pattern, take_events, write, write_all};
 use crate::fault::Fault;
 use crate::figures::Figures;
 use crate::pair::{End, Pair, Work};
+use quic_connection::Dir;
 use std::rt::Clock;
 use std::time::CpuClock;
 
@@ -11,30 +12,33 @@ use std::time::CpuClock;
 struct Idle {
     count: u64,
     opened: u64,
-    readable: Readable,
+    events: Events,
     reader: Reader,
+}
+
+impl Idle {
+    /// Opens a stream and writes its byte.
+    fn open_one(&mut self, end: &mut End) -> Result<(), Fault> {
+        let id = open(end, Dir::Uni).ok_or(Fault::NoStream)?;
+        if write(end, id, &[1])? != 1 {
+            return Err(Fault::WriteBlocked);
+        }
+        self.opened = self.opened.wrapping_add(1);
+        Ok(())
+    }
 }
 
 impl Work for Idle {
     fn client(&mut self, end: &mut End) -> Result<(), Fault> {
-        let _ = take_events(end)?;
+        take_events(end)?;
         for _ in self.opened..self.count {
-            let id = open(end).ok_or(Fault::NoStream)?;
-            if write(end, id, &[1])? != 1 {
-                return Err(Fault::WriteBlocked);
-            }
-            self.opened = self.opened.wrapping_add(1);
+            self.open_one(end)?;
         }
         Ok(())
     }
 
     fn server(&mut self, end: &mut End) -> Result<bool, Fault> {
-        for _ in 0..u64::MAX {
-            let Some(id) = self.readable.next(end)? else {
-                break;
-            };
-            self.reader.read(end, id)?;
-        }
+        self.reader.read_all(end, &mut self.events)?;
         Ok(self.reader.bytes == self.count)
     }
 
@@ -54,22 +58,17 @@ struct Streams {
     at_once: u64,
     data: Vec<u8>,
     opened: u64,
-    ended: u64,
-    readable: Readable,
+    events: Events,
     reader: Reader,
 }
 
 impl Streams {
     /// Opens a stream, writes all its bytes and finishes it: whether one may be opened.
     fn send_one(&mut self, end: &mut End) -> Result<bool, Fault> {
-        let Some(id) = open(end) else {
+        let Some(id) = open(end, Dir::Uni) else {
             return Ok(false);
         };
-        let data = self.data.as_slice();
-        if write(end, id, data)? != data.len() {
-            return Err(Fault::WriteBlocked);
-        }
-        finish(end, id)?;
+        write_all(end, id, &self.data)?;
         self.opened = self.opened.wrapping_add(1);
         Ok(true)
     }
@@ -77,8 +76,12 @@ impl Streams {
 
 impl Work for Streams {
     fn client(&mut self, end: &mut End) -> Result<(), Fault> {
-        let _ = take_events(end)?;
-        let most = self.ended.saturating_add(self.at_once).min(self.count);
+        take_events(end)?;
+        let most = self
+            .reader
+            .ended
+            .saturating_add(self.at_once)
+            .min(self.count);
         for _ in self.opened..most {
             if !self.send_one(end)? {
                 break;
@@ -88,19 +91,12 @@ impl Work for Streams {
     }
 
     fn server(&mut self, end: &mut End) -> Result<bool, Fault> {
-        for _ in 0..u64::MAX {
-            let Some(id) = self.readable.next(end)? else {
-                break;
-            };
-            if self.reader.read(end, id)? {
-                self.ended = self.ended.wrapping_add(1);
-            }
-        }
-        Ok(self.ended == self.count)
+        self.reader.read_all(end, &mut self.events)?;
+        Ok(self.reader.ended == self.count)
     }
 
     fn units(&self) -> u64 {
-        self.ended
+        self.reader.ended
     }
 
     fn checksum(&self) -> u64 {
@@ -126,22 +122,35 @@ pub fn run<R: Clock + CpuClock + AllocGlobal>(
         at_once,
         data,
         opened: 0,
-        ended: 0,
-        readable: Readable::new(),
-        reader: Reader::new(None),
+        events: Events::new(),
+        reader: Reader::new(),
     };
     pair.measure(rt, &mut work)
 }
 
+/// So many streams that are to be opened and to stay open.
+fn to_hold(count: u64) -> Idle {
+    Idle {
+        count,
+        opened: 0,
+        events: Events::new(),
+        reader: Reader::new(),
+    }
+}
+
 /// Opens so many streams that stay open, if any.
-fn hold_open(pair: &mut Pair, count: u64) -> Result<(), Fault> {
+pub fn hold_open(pair: &mut Pair, count: u64) -> Result<(), Fault> {
     if count == 0 {
         return Ok(());
     }
-    pair.run(&mut Idle {
-        count,
-        opened: 0,
-        readable: Readable::new(),
-        reader: Reader::new(None),
-    })
+    pair.run(&mut to_hold(count))
+}
+
+/// So many streams are opened, have a byte each, and stay open.
+pub fn run_idle<R: Clock + CpuClock>(
+    rt: &R,
+    pair: &mut Pair,
+    count: u64,
+) -> Result<Figures, Fault> {
+    pair.measure(rt, &mut to_hold(count))
 }

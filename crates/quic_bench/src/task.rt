@@ -1,19 +1,22 @@
 //! What is asked for: a workload, with its names and values.
 use crate::application::PATTERN;
-use crate::pair::Network;
+use crate::bulk::Plan;
+use crate::pair::{Limits, Network};
 use anyhow::Result;
 use quic_wire_core::VarInt;
 use std::alloc::{AllocError, Global};
 use std::collections::BTreeMap;
 use std::str::SplitWhitespace;
 
+/// How many bytes may come of a stream before any is read, unless it is said.
+const DEFAULT_WINDOW: u64 = 1_250_000;
+
 /// A workload, with its values.
 #[derive(Clone, Copy)]
 pub enum Workload {
-    /// So many bytes on one stream, compared or not.
+    /// Bytes on one stream.
     Bulk {
-        bytes: u64,
-        is_verified: bool,
+        plan: Plan,
     },
     /// So many bytes on one stream after another.
     Growth {
@@ -26,6 +29,26 @@ pub enum Workload {
         size: u64,
         open: u64,
         idle: u64,
+    },
+    /// So many requests of so many bytes on two-way streams, so many open at once, each with an
+    /// answer of so many.
+    Requests {
+        count: u64,
+        size: u64,
+        answer: u64,
+        open: u64,
+    },
+    /// So many bytes each way.
+    Duplex {
+        bytes: u64,
+    },
+    /// So many streams that are opened and stay open.
+    Idle {
+        count: u64,
+    },
+    /// So many connections that come to rest.
+    Connections {
+        count: u64,
     },
     /// So many messages of so many bytes, so many at most under way.
     Messages {
@@ -51,6 +74,8 @@ pub struct Task {
     pub workload: Workload,
     /// The network between the ends.
     pub network: Network,
+    /// How many bytes may come of a stream before any is read.
+    window: u64,
 }
 
 /// Values by their names, as far as they weren't taken yet.
@@ -80,12 +105,46 @@ impl Values {
         self.given.remove(name).unwrap_or(default)
     }
 
+    /// How one stream goes of this many bytes, unless they say another number.
+    fn plan(&mut self, bytes: u64, waits: bool) -> Plan {
+        Plan {
+            bytes: self.take("bytes", bytes),
+            is_verified: self.take("verify", 0) != 0,
+            write: self.take("write", PATTERN as u64).min(PATTERN as u64) as usize,
+            read: self.take("read", u64::MAX) as usize,
+            waits,
+            idle: self.take("idle", 0),
+        }
+    }
+
+    /// Requests, as they say.
+    fn requests(&mut self) -> Workload {
+        Workload::Requests {
+            count: self.take("count", 100_000),
+            size: self.take("size", 200),
+            answer: self.take("answer", 2000),
+            open: self.take("open", 100),
+        }
+    }
+
     /// The workload of this name with its values, if there is one.
     fn workload(&mut self, name: &str) -> Option<Workload> {
         Some(match name {
             "bulk" => Workload::Bulk {
+                plan: self.plan(64 << 20, false),
+            },
+            "unread" => Workload::Bulk {
+                plan: self.plan(1_200_000, true),
+            },
+            "requests" => self.requests(),
+            "duplex" => Workload::Duplex {
                 bytes: self.take("bytes", 64 << 20),
-                is_verified: self.take("verify", 0) != 0,
+            },
+            "idle" => Workload::Idle {
+                count: self.take("count", 10_000),
+            },
+            "connections" => Workload::Connections {
+                count: self.take("count", 1000),
             },
             "growth" => Workload::Growth {
                 bytes: self.take("bytes", 16 << 20),
@@ -137,8 +196,11 @@ impl Task {
         let Some(workload) = values.workload(name) else {
             return Ok(None);
         };
-        let network = values.network();
-        let task = Task { workload, network };
+        let task = Task {
+            workload,
+            network: values.network(),
+            window: values.take("window", DEFAULT_WINDOW),
+        };
         if values.given.is_empty() && task.can_be_done() {
             Ok(Some(task))
         } else {
@@ -154,22 +216,35 @@ impl Task {
             return false;
         }
         match self.workload {
+            Workload::Bulk { plan } => plan.can_be_done(self.window),
             Workload::Streams { size, .. } => size <= PATTERN as u64,
+            Workload::Requests { size, answer, .. } => {
+                size <= PATTERN as u64 && answer <= PATTERN as u64
+            }
             Workload::Messages { size, .. } => size <= PATTERN as u64 && loss == 0,
             _ => true,
         }
     }
 
-    /// How many streams the server lets the client have open at once. Beside idle ones it allows
+    /// What each end lets the other do.
+    pub fn limits(&self) -> Result<Limits> {
+        Ok(Limits {
+            streams: VarInt::from_u64(self.streams())?,
+            window: VarInt::from_u64(self.window)?,
+        })
+    }
+
+    /// How many streams of each kind an end lets the other have open at once. Beside idle ones it allows
     /// twice as many as are open: a limit is told anew only once it grew by an eighth of its count,
     /// and the ends of the few others don't raise it so far.
-    pub fn streams(&self) -> Result<VarInt> {
-        let streams = match self.workload {
-            Workload::Streams { open, idle: 0, .. } => open,
+    fn streams(&self) -> u64 {
+        match self.workload {
+            Workload::Streams { open, idle: 0, .. } | Workload::Requests { open, .. } => open,
             Workload::Streams { open, idle, .. } => open.saturating_add(idle).saturating_mul(2),
+            Workload::Bulk { plan } => plan.idle.saturating_add(100),
+            Workload::Idle { count } => count,
             _ => 100,
-        };
-        Ok(VarInt::from_u64(streams)?)
+        }
     }
 
     /// How often the work is done on one connection.
@@ -183,7 +258,11 @@ impl Task {
     /// The name of the workload.
     pub fn name(&self) -> &'static str {
         match self.workload {
-            Workload::Bulk { .. } => "bulk",
+            Workload::Bulk { plan } => if plan.waits { "unread" } else { "bulk" },
+            Workload::Requests { .. } => "requests",
+            Workload::Duplex { .. } => "duplex",
+            Workload::Idle { .. } => "idle",
+            Workload::Connections { .. } => "connections",
             Workload::Growth { .. } => "growth",
             Workload::Streams { .. } => "streams",
             Workload::Messages { .. } => "messages",

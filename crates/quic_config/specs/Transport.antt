@@ -1,9 +1,7 @@
 -- The settings of an end's transport, and what its peer is told of them.
 use Rattle.std.specs.Prelude.{ℕ, ◌/◌, ◌^◌, ◌<◌, ◌≤◌, Bool, true, false, min, max, Option, Some, None, if◌then◌else◌}
 use Rattle.quic_parameters.specs.Parameters.{ParameterValues}
-use Rattle.quic_config.specs.declared.mtu_discovery.TheConstants.{MAX_UDP_PAYLOAD}
-use Rattle.quic_config.specs.declared.transport.TheConstants.{IDS_KEPT}
-use Rattle.quic_config.specs.Configs.{SearchSettings, FrequencySettings, default_search}
+use Rattle.quic_config.specs.Configs.{SearchSettings, FrequencySettings, default_search, max_udp_payload, ids_kept}
 
 -- the whole milliseconds of a time in nanoseconds
 abbrev pub millis_of : ℕ → ℕ
@@ -179,7 +177,7 @@ told_frame_size (Some size) = min size 65535
 abbrev pub parameters_of : Settings → ParameterValues
 parameters_of s = record {
   max_idle_timeout = told_timeout s.max_idle_timeout;
-  max_udp_payload_size = MAX_UDP_PAYLOAD;
+  max_udp_payload_size = max_udp_payload;
   initial_max_data = s.receive_window;
   initial_max_stream_data_bidi_local = s.stream_receive_window;
   initial_max_stream_data_bidi_remote = s.stream_receive_window;
@@ -188,12 +186,13 @@ parameters_of s = record {
   initial_max_streams_uni = s.max_uni;
   ack_delay_exponent = 3;
   max_ack_delay = 25;
-  active_connection_id_limit = IDS_KEPT;
+  active_connection_id_limit = ids_kept;
   max_datagram_frame_size = told_frame_size s.datagram_receive_buffer_size;
   min_ack_delay = if s.ack_frequency_support then Some 1000 else None;
 }
 
--- the settings of an end as it can be configured: windows are variable-length integers
+-- the settings of an end as it can be configured: windows are variable-length integers, and a datagram has 1200 bytes at least (RFC 9000, section 14)
 pub record IsInRange (s : Settings) : Type 0 where
   pub receive_window : s.receive_window < 2 ^ 62
   pub stream_receive_window : s.stream_receive_window < 2 ^ 62
+  pub initial_mtu : 1200 ≤ s.initial_mtu

@@ -1,7 +1,6 @@
 //! How the size search is configured.
 ghost use Rattle.std.specs.Prelude.{◌≡◌, ◌≤◌, max, min};
-ghost use Rattle.quic_config.specs.Configs.{default_search};
-ghost use Rattle.quic_config.specs.declared.mtu_discovery.TheConstants.{MAX_UDP_PAYLOAD};
+ghost use Rattle.quic_config.specs.Configs.{default_search, max_udp_payload};
 
 use quic_time::Duration;
 use std::marker::Model;
@@ -20,8 +19,7 @@ pub struct MtuDiscoveryConfig {
 
 impl Model for MtuDiscoveryConfig {
     ghost use Rattle.std.specs.Prelude.{◌≤◌};
-    ghost use Rattle.quic_config.specs.Configs.{SearchSettings};
-    ghost use Rattle.quic_config.specs.declared.mtu_discovery.TheConstants.{MAX_UDP_PAYLOAD};
+    ghost use Rattle.quic_config.specs.Configs.{SearchSettings, max_udp_payload};
 
     ghost Value = { SearchSettings };
 
@@ -32,7 +30,7 @@ impl Model for MtuDiscoveryConfig {
       least_change = c.minimum_change;
     } };
 
-    ghost invariant = { λ c. (c.upper_bound ≤ MAX_UDP_PAYLOAD) × (2 ≤ c.minimum_change) };
+    ghost invariant = { λ c. (c.upper_bound ≤ max_udp_payload) × (2 ≤ c.minimum_change) };
 
     ghost inverse = { λ s. record {
       interval = s.interval;
@@ -53,7 +51,7 @@ impl MtuDiscoveryConfig {
     /// The greatest size that is looked for, in bytes.
     pub fn size_bound(&self) -> u16
         ensures value { result ≡ self.now.upper_bound }
-        ensures bound { result ≤ MAX_UDP_PAYLOAD }
+        ensures bound { result ≤ max_udp_payload }
     {
         self.upper_bound
     }
@@ -85,7 +83,7 @@ impl MtuDiscoveryConfig {
     /// The greatest size that is looked for, in bytes; more than 65527 counts as 65527.
     pub fn upper_bound(&mut self, value: u16) -> &mut Self
         ensures same_reference { result.ghost_name ≡ self.entry.ghost_name }
-        ensures value { result.now ≡ record self.old { upper_bound = min value MAX_UDP_PAYLOAD } }
+        ensures value { result.now ≡ record self.old { upper_bound = min value max_udp_payload } }
     {
         self.upper_bound = value.min(MAX_UDP_PAYLOAD);
         self

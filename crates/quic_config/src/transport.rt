@@ -455,9 +455,11 @@ impl TransportConfig {
     ghost use Rattle.quic_config.specs.Transport.{settings_with, parameters_of};
 
     /// What the peer is told of these settings by an end that can be asked when to acknowledge (RFC 9000, section 18.2).
+    /// A path begins with 1200 bytes at least, of which the peer is told nothing.
     pub fn transport_parameters(&self) -> TransportParameters
         ensures value { result ≡ parameters_of (settings_with self.now true) }
         ensures in_range { AreInRange (parameters_of (settings_with self.now true)) }
+        ensures size { 1200 ≤ self.now.initial_mtu }
     {
         let stream_window = bounded(self.stream_receive_window);
         TransportParameters {

@@ -1,7 +1,18 @@
 -- How sending is spread over time: a pacer holds tokens, one for each byte that may go at once (RFC 9002, section 7.7).
 -- Times are in nanoseconds, windows and lengths in bytes.
 use Rattle.std.specs.Prelude.{ℕ, ◌+◌, ◌-◌, ◌*◌, ◌/◌, ◌^◌, ◌≤◌, max, min, Bool, ◌&&◌, ◌||◌, ◌==◌, nat_le, nat_lt, List, [], ◌∷◌, Option, Some, None, if◌then◌else◌, sum}
-use Rattle.quic_congestion.specs.declared.pacing.TheConstants.{BURST_INTERVAL_NANOS, MIN_BURST_SIZE, MAX_BURST_SIZE}
+
+-- in what time the window gives what a full pacer lets go, in nanoseconds. RFC 9002, section 7.7, names no numbers: these are our choice
+abbrev pub burst_interval : ℕ
+burst_interval = 2000000
+
+-- how many datagrams it lets go at least
+abbrev pub least_burst : ℕ
+least_burst = 10
+
+-- and at most
+abbrev pub most_burst : ℕ
+most_burst = 256
 
 -- the tokens of a pacer, how many it holds at most, the window and the size of datagrams for which that was reckoned, and
 -- the moment when tokens last came
@@ -15,13 +26,13 @@ pub record Pacing : Type 0 where
 -- what a pacer holds at most: what goes in 2 ms where the window goes in a round trip (of 1 ns at least), but at least 10
 -- datagrams and at most 256
 abbrev pub capacity_of : ℕ → ℕ → ℕ → ℕ
-capacity_of rtt window size = max (MIN_BURST_SIZE * size) (min (window * BURST_INTERVAL_NANOS / max rtt 1) (MAX_BURST_SIZE * size))
+capacity_of rtt window size = max (least_burst * size) (min (window * burst_interval / max rtt 1) (most_burst * size))
 
 -- the tokens and the capacity of a pacer keep their bounds
 pub record IsPacing (p : Pacing) : Type 0 where
   pub fits : p.tokens ≤ p.capacity
-  pub least : MIN_BURST_SIZE * p.size ≤ p.capacity
-  pub most : p.capacity ≤ MAX_BURST_SIZE * p.size
+  pub least : least_burst * p.size ≤ p.capacity
+  pub most : p.capacity ≤ most_burst * p.size
 
 -- a pacer that is full
 abbrev pub new_pacing : ℕ → ℕ → ℕ → ℕ → Pacing

@@ -1,8 +1,9 @@
 -- The search for the greatest size of a datagram that a path carries (RFC 8899, section 5.3).
-use Rattle.std.specs.Prelude.{ℕ, ◌+◌, ◌-◌, ◌/◌, ◌^◌, ◌==◌, ltb, leb, min, max, Bool, false, cond, List, [], ◌∷◌, Option, Some, None}
+use Rattle.std.specs.Prelude.{ℕ, ◌+◌, ◌-◌, ◌/◌, ◌^◌, ◌==◌, ltb, leb, min, max, Bool, true, false, cond, List, [], ◌∷◌, Option, Some, None}
 use Rattle.std.specs.Option.{is_some, option_map, option_and_then}
 use Rattle.std.specs.Int.{abs_diff}
 use Rattle.quic_config.specs.Configs.{SearchSettings}
+use Rattle.quic_config.specs.Transport.{TransportSettings, first_mtu}
 use Rattle.quic_congestion.specs.Bursts.{Bursts, no_bursts, is_black_hole, after_told, after_lost, after_acknowledged, after_probe}
 
 -- ---- one search
@@ -179,6 +180,20 @@ new_discovery size least limit settings =
 -- a size without a search
 abbrev pub disabled_discovery : ℕ → ℕ → Discovery
 disabled_discovery size least = record { size = size; limit = None; plan = None; bursts = no_bursts least }
+
+-- with a search, where one is configured
+abbrev pub discovery_by : Option SearchSettings → ℕ → ℕ → Option ℕ → Discovery
+discovery_by None size least limit = disabled_discovery size least
+discovery_by (Some settings) size least limit = new_discovery size least limit settings
+
+-- a search that is configured, where it is allowed
+abbrev pub allowed_search : Bool → Option SearchSettings → Option SearchSettings
+allowed_search true settings = settings
+allowed_search false settings = None
+
+-- on a path that is made by the settings of a transport
+abbrev pub first_discovery : Bool → Option ℕ → TransportSettings → Discovery
+first_discovery allowed limit t = discovery_by (allowed_search allowed t.mtu_discovery_config) (first_mtu t) t.min_mtu limit
 
 -- everything begins anew, but for the configuration and the peer's limit
 abbrev pub after_reset : ℕ → ℕ → Discovery → Discovery

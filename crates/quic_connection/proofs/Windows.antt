@@ -9,6 +9,7 @@ use Rattle.quic_packet.specs.Destination.{decoded, fixed_length_id}
 use Rattle.quic_packet.specs.declared.packet.HeaderError.{HeaderError}
 use Rattle.quic_spaces.specs.Numbers.{expected, number_opened}
 use Rattle.quic_recovery_core.specs.Duplicates.{is_duplicate}
+use Rattle.quic_machine.specs.Arrival.{Arrival, delivered_by}
 use Rattle.quic_machine.specs.declared.answers.State.{State}
 use Rattle.quic_machine.specs.declared.answers.State.TheVariants as states
 use Rattle.quic_machine.specs.declared.answers.Failed.{Failed}
@@ -66,24 +67,24 @@ received_tells states.Open p e now d none = headed_tells (decoded (fixed_length_
 received_tells states.Closing p e now d none = headed_tells (decoded (fixed_length_id own_id_length) (known e.ids) d) p e now d none
 
 -- and is dropped
-packet_drops : (o : Option Opening) (now : ℕ) (e : End) → is_some (in_phase o) ≡ false → TakesFrames (opened_as o now e).answer → ⊥
-packet_drops None now e none takes = takes
-packet_drops (Some o) now e none takes = go (key_phase o.first) none takes
+packet_drops : (o : Option Opening) (arrival : Arrival) (e : End) → is_some (in_phase o) ≡ false → TakesFrames (opened_as o arrival e).answer → ⊥
+packet_drops None arrival e none takes = takes
+packet_drops (Some o) arrival e none takes = go (key_phase o.first) none takes
   where
     go : (b : Bool) → is_some (if b then None else Some o) ≡ false
-        → TakesFrames (if b then dropped drops.KeyPhase e else (if is_duplicate e.numbers.opened o.number then dropped drops.Duplicate e else by_state e.closing.state o now (with_numbers e (number_opened e.numbers o.number)))).answer → ⊥
+        → TakesFrames (if b then dropped drops.KeyPhase e else (if is_duplicate e.numbers.opened o.number then dropped drops.Duplicate e else by_state e.closing.state o arrival (with_numbers e (number_opened e.numbers o.number)))).answer → ⊥
     go true none takes = takes
     go false none takes = cc
 
-headed_drops : (r : Result (List ℕ) HeaderError) (p : Policy) (e : End) (now : ℕ) (d : List ℕ) → is_some (opens_behind r p (expected e.numbers) d) ≡ false → TakesFrames (headed r p e now d).answer → ⊥
-headed_drops (Err error) p e now d none takes = takes
-headed_drops (Ok id) p e now d none takes = packet_drops (opening p e d) now e none takes
+headed_drops : (r : Result (List ℕ) HeaderError) (p : Policy) (e : End) (arrival : Arrival) (d : List ℕ) → is_some (opens_behind r p (expected e.numbers) d) ≡ false → TakesFrames (headed r p e arrival d).answer → ⊥
+headed_drops (Err error) p e arrival d none takes = takes
+headed_drops (Ok id) p e arrival d none takes = packet_drops (opening p e d) arrival e none takes
 
-received_drops : (state : State) (p : Policy) (e : End) (now : ℕ) (d : List ℕ) → would_open p e d ≡ false → TakesFrames (received_in state p e now d).answer → ⊥
-received_drops states.Failed p e now d none takes = takes
-received_drops states.Drained p e now d none takes = takes
-received_drops states.Open p e now d none takes = headed_drops (decoded (fixed_length_id own_id_length) (known e.ids) d) p e now d none takes
-received_drops states.Closing p e now d none takes = headed_drops (decoded (fixed_length_id own_id_length) (known e.ids) d) p e now d none takes
+received_drops : (state : State) (p : Policy) (e : End) (arrival : Arrival) (d : List ℕ) → would_open p e d ≡ false → TakesFrames (received_in state p e arrival d).answer → ⊥
+received_drops states.Failed p e arrival d none takes = takes
+received_drops states.Drained p e arrival d none takes = takes
+received_drops states.Open p e arrival d none takes = headed_drops (decoded (fixed_length_id own_id_length) (known e.ids) d) p e arrival d none takes
+received_drops states.Closing p e arrival d none takes = headed_drops (decoded (fixed_length_id own_id_length) (known e.ids) d) p e arrival d none takes
 
 -- ---- what a call tells
 
@@ -104,26 +105,31 @@ module _ {H K R C : Type 0} (steps : Steps C) (window : C → ℕ) (p : Policy) 
   poll_answers now (Err x) is = inr refl
 
   -- a moment
+  pub timeout_answers : (now : ℕ) (r : Result (Unit {0}) Failed) → OnOk r (r ≡ (timed_out old.end now).answer)
+      → IsAnswer p (reads_window (windows_of steps window old.control) (calls.Timeout now) old.end) [] (calls.Timeout now) (answers.Timeout r)
+  timeout_answers now (Ok x) is = inl (ap answers.Timeout is)
+  timeout_answers now (Err x) is = inr refl
+
   pub timeout_told : (now : ℕ) (r : Result (Unit {0}) Failed) → OnOk r (new ≡ telling steps old (told_timed_out old.end now) (timed_out old.end now).end)
       → IsTold (fails (answers.Timeout r)) p (windows_of steps window old.control) old.end [] (calls.Timeout now) (windows_of steps window new.control)
   timeout_told now (Ok x) left = windows_left (told_timed_out old.end now) (timed_out old.end now).end left
   timeout_told now (Err x) left = tt
 
   -- a datagram of the other end
-  received_left : (now : ℕ) (d : List ℕ) (r : Received) → r ≢ receives.Failed → (r ≢ receives.Failed → new ≡ telling steps old (told_received p old.end now d) (received p old.end now d).end)
-      → windows_of steps window new.control ≡ after_told (windows_of steps window old.control) (told_received p old.end now d)
-  received_left now d r kept left = windows_left (told_received p old.end now d) (received p old.end now d).end (left kept)
+  received_left : (arrival : Arrival) (d : List ℕ) (r : Received) → r ≢ receives.Failed → (r ≢ receives.Failed → new ≡ telling steps old (told_received p old.end arrival.now d) (received p old.end arrival d).end)
+      → windows_of steps window new.control ≡ after_told (windows_of steps window old.control) (told_received p old.end arrival.now d)
+  received_left arrival d r kept left = windows_left (told_received p old.end arrival.now d) (received p old.end arrival d).end (left kept)
 
   pub delivery_told : (theirs : List (List ℕ)) (delivery : Delivery) (d : List ℕ) (r : Received) → slice_get theirs delivery.index ≡ Some d
-      → (r ≢ receives.Failed → new ≡ telling steps old (told_received p old.end delivery.now d) (received p old.end delivery.now d).end)
+      → (r ≢ receives.Failed → new ≡ telling steps old (told_received p old.end delivery.now d) (received p old.end (delivered_by delivery) d).end)
       → IsTold (fails (answers.Deliver r)) p (windows_of steps window old.control) old.end theirs (calls.Deliver delivery) (windows_of steps window new.control)
   delivery_told theirs delivery d r is left = go r left
     where
-      told : (r : Received) → r ≢ receives.Failed → (r ≢ receives.Failed → new ≡ telling steps old (told_received p old.end delivery.now d) (received p old.end delivery.now d).end)
+      told : (r : Received) → r ≢ receives.Failed → (r ≢ receives.Failed → new ≡ telling steps old (told_received p old.end delivery.now d) (received p old.end (delivered_by delivery) d).end)
           → windows_of steps window new.control ≡ after_told (windows_of steps window old.control) (told_delivered p old.end delivery.now (slice_get theirs delivery.index))
-      told r kept left = received_left delivery.now d r kept left ∙ ap (λ (o : Option (List ℕ)). after_told (windows_of steps window old.control) (told_delivered p old.end delivery.now o)) (sym is)
+      told r kept left = received_left (delivered_by delivery) d r kept left ∙ ap (λ (o : Option (List ℕ)). after_told (windows_of steps window old.control) (told_delivered p old.end delivery.now o)) (sym is)
 
-      go : (r : Received) → (r ≢ receives.Failed → new ≡ telling steps old (told_received p old.end delivery.now d) (received p old.end delivery.now d).end)
+      go : (r : Received) → (r ≢ receives.Failed → new ≡ telling steps old (told_received p old.end delivery.now d) (received p old.end (delivered_by delivery) d).end)
           → IsTold (fails (answers.Deliver r)) p (windows_of steps window old.control) old.end theirs (calls.Deliver delivery) (windows_of steps window new.control)
       go receives.Failed left = tt
       go receives.Taken left = told receives.Taken (λ failed. cc) left
@@ -131,9 +137,9 @@ module _ {H K R C : Type 0} (steps : Steps C) (window : C → ℕ) (p : Policy) 
       go (receives.Closed error) left = told (receives.Closed error) (λ failed. cc) left
 
   -- bytes that don't open
-  pub injection_told : (injection : Injection) (now : ℕ) (d : List ℕ) (r : Received) → would_open p old.end d ≡ false → (r ≡ receives.Failed → TakesFrames (received p old.end now d).answer)
-      → (r ≢ receives.Failed → new ≡ telling steps old (told_received p old.end now d) (received p old.end now d).end)
+  pub injection_told : (injection : Injection) (arrival : Arrival) (d : List ℕ) (r : Received) → would_open p old.end d ≡ false → (r ≡ receives.Failed → TakesFrames (received p old.end arrival d).answer)
+      → (r ≢ receives.Failed → new ≡ telling steps old (told_received p old.end arrival.now d) (received p old.end arrival d).end)
       → IsTold false p (windows_of steps window old.control) old.end [] (calls.Inject injection) (windows_of steps window new.control)
-  injection_told injection now d r none takes left =
-      received_left now d r (λ failed. received_drops old.end.closing.state p old.end now d none (takes failed)) left
-      ∙ ap (after_told (windows_of steps window old.control)) (received_tells old.end.closing.state p old.end now d none)
+  injection_told injection arrival d r none takes left =
+      received_left arrival d r (λ failed. received_drops old.end.closing.state p old.end arrival d none (takes failed)) left
+      ∙ ap (after_told (windows_of steps window old.control)) (received_tells old.end.closing.state p old.end arrival.now d none)

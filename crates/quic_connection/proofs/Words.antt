@@ -3,6 +3,9 @@ use Rattle.std.proofs.Common.{◌≡◌, ◌≤◌, ℕ, ◌-◌, Bool, true, fa
 use Rattle.std.specs.Option.{option_to_list}
 use Rattle.std.specs.declared.alloc.AllocError.{AllocError}
 use Rattle.std.specs.Prelude.{◌≢◌, ◌⊎◌, ◌++◌, IfOk, OnOk, OnErr, Result, Ok, Err, if◌then◌else◌, slice_get, is_some}
+use Rattle.quic_machine.specs.Arrival.{Arrival, delivered_by, injected_by}
+use Rattle.quic_machine.specs.declared.run.Delivery.{Delivery}
+use Rattle.quic_machine.specs.declared.run.Injection.{Injection}
 use Rattle.rand_core.specs.Stream.{Stream}
 use Rattle.quic_wire_core.specs.declared.stream_id.Side.{Side}
 use Rattle.quic_wire_core.specs.declared.stream_id.Side.TheVariants.{Client, Server}
@@ -53,10 +56,10 @@ abbrev Quiet : End → End → Type 0
 Quiet e f = (f.filter ≡ e.filter) × (f.closing.state ≢ states.Failed → e.closing.state ≢ states.Failed)
 
 settling : (e : End) → Settling (Quiet e)
-settling e = record { known = λ n x q. q; reset = λ id x q. q; acked = λ m x q. q; lost = λ m x q. q; again = λ c x q. q; tracked = λ t x q. q; measured = λ r first x q. q }
+settling e = record { known = λ n x q. q; reset = λ id x q. q; acked = λ m x q. q; lost = λ m x q. q; again = λ c x q. q; tracked = λ t x q. q; measured = λ r first x q. q; marked = λ m marking x q. q }
 
 filter_settling : (e : End) → Settling (λ (f : End). f.filter ≡ e.filter)
-filter_settling e = record { known = λ n x q. q; reset = λ id x q. q; acked = λ m x q. q; lost = λ m x q. q; again = λ c x q. q; tracked = λ t x q. q; measured = λ r first x q. q }
+filter_settling e = record { known = λ n x q. q; reset = λ id x q. q; acked = λ m x q. q; lost = λ m x q. q; again = λ c x q. q; tracked = λ t x q. q; measured = λ r first x q. q; marked = λ m marking x q. q }
 
 filter_ack : (b : Bool) (a : AckValue) (e x : End) → x.filter ≡ e.filter → (ack_taken b a x).end.filter ≡ e.filter
 filter_ack true a e x q = q
@@ -67,19 +70,19 @@ filter_frame e (ack a) x q = filter_ack (names_ungiven a x) a e x q
 filter_frame e (datagram m) x q = message_leaves (λ (f : End). f.filter ≡ e.filter) m x q (λ left. q)
 filter_frame e f x q = q
 
-filter_received : (p : Policy) (e : End) (now : ℕ) (d : List ℕ) → (received p e now d).end.filter ≡ e.filter
-filter_received p e now d = by_received (λ (f : End). f.filter ≡ e.filter) (record {
+filter_received : (p : Policy) (e : End) (arrival : Arrival) (d : List ℕ) → (received p e arrival d).end.filter ≡ e.filter
+filter_received p e arrival d = by_received (λ (f : End). f.filter ≡ e.filter) (record {
   notes = λ n x q. q;
   begins = λ now n x q. q;
   frame = filter_frame e;
-  takes = λ n asks x q. q;
+  takes = λ n asks mark x q. q;
   closes = λ reason x q. q;
-}) p e now d refl
+}) p e arrival d refl
 
-failed_received : (p : Policy) (e : End) (now : ℕ) (d : List ℕ) → (received p e now d).end.closing.state ≢ states.Failed → e.closing.state ≢ states.Failed
-failed_received p e now d = go e.closing.state refl
+failed_received : (p : Policy) (e : End) (arrival : Arrival) (d : List ℕ) → (received p e arrival d).end.closing.state ≢ states.Failed → e.closing.state ≢ states.Failed
+failed_received p e arrival d = go e.closing.state refl
   where
-    go : (s : State) → e.closing.state ≡ s → (received_in s p e now d).end.closing.state ≢ states.Failed → e.closing.state ≢ states.Failed
+    go : (s : State) → e.closing.state ≡ s → (received_in s p e arrival d).end.closing.state ≢ states.Failed → e.closing.state ≢ states.Failed
     go states.Failed is kept = kept
     go states.Open is kept = λ failed. (let no : states.Open ≡ states.Failed = sym is ∙ failed in cc)
     go states.Closing is kept = λ failed. (let no : states.Closing ≡ states.Failed = sym is ∙ failed in cc)
@@ -92,9 +95,9 @@ quiet_call p e theirs call a other = by_plain_call p e theirs (Quiet e) call a (
   on_messages = λ m. same;
   pings = same;
   heard = λ path is. same;
-  times = λ now acks loss pacing is. by_expired e now (Quiet e) (λ pending tracking timers runs packets. same) (λ pending timers runs. losses_keep (Quiet e) (settling e) (with_closing e (ticked e.closing now)) same) acks loss pacing;
+  times = λ now expiry is. by_expired e now (Quiet e) (λ pending tracking timers runs packets. same) (λ pending timers runs. losses_keep (Quiet e) (settling e) (with_closing e (ticked e.closing now)) same) expiry;
   polls = λ now is. cc;
-  hears = λ now d is. (filter_received p e now d, failed_received p e now d);
+  hears = λ arrival d is. (filter_received p e arrival d, failed_received p e arrival d);
   tells = λ told. same;
 })
   where
@@ -221,16 +224,16 @@ call_goes stream p control old new theirs call r keys polls left same = go (is_p
 -- ---- a policy that does the same at an end
 
 -- what comes opens to the same, whatever words there are
-headed_with : (r : Result (List ℕ) HeaderError) (p : Policy) (words : ℕ → ℕ) (e : End) (now : ℕ) (d : List ℕ) → headed r (record p { words = words }) e now d ≡ headed r p e now d
-headed_with (Err x) p words e now d = refl
-headed_with (Ok id) p words e now d = refl
+headed_with : (r : Result (List ℕ) HeaderError) (p : Policy) (words : ℕ → ℕ) (e : End) (arrival : Arrival) (d : List ℕ) → headed r (record p { words = words }) e arrival d ≡ headed r p e arrival d
+headed_with (Err x) p words e arrival d = refl
+headed_with (Ok id) p words e arrival d = refl
 
-received_with : (p : Policy) (words : ℕ → ℕ) (e : End) (now : ℕ) (d : List ℕ) → received (record p { words = words }) e now d ≡ received p e now d
-received_with p words e now d = go e.closing.state
+received_with : (p : Policy) (words : ℕ → ℕ) (e : End) (arrival : Arrival) (d : List ℕ) → received (record p { words = words }) e arrival d ≡ received p e arrival d
+received_with p words e arrival d = go e.closing.state
   where
-    go : (s : State) → received_in s (record p { words = words }) e now d ≡ received_in s p e now d
-    go states.Open = headed_with (decoded (fixed_length_id own_id_length) (known e.ids) d) p words e now d
-    go states.Closing = headed_with (decoded (fixed_length_id own_id_length) (known e.ids) d) p words e now d
+    go : (s : State) → received_in s (record p { words = words }) e arrival d ≡ received_in s p e arrival d
+    go states.Open = headed_with (decoded (fixed_length_id own_id_length) (known e.ids) d) p words e arrival d
+    go states.Closing = headed_with (decoded (fixed_length_id own_id_length) (known e.ids) d) p words e arrival d
     go states.Drained = refl
     go states.Failed = refl
 
@@ -288,43 +291,43 @@ module _ (p : Policy) (words : ℕ → ℕ) (e : End) (same : e.closing.state �
   other = record p { words = words }
 
   -- a delivery is answered the same, and leaves the same
-  delivered_with : (now : ℕ) (o : Option (List ℕ)) (a : Answer) → IsDelivered p e now o a → IsDelivered other e now o a
-  delivered_with now None a h = h
-  delivered_with now (Some d) a h = subst (λ (x : Outcome). (a ≡ answers.Deliver x.answer) ⊎ (a ≡ answers.Deliver receives.Failed)) (sym (received_with p words e now d)) h
+  delivered_with : (delivery : Delivery) (o : Option (List ℕ)) (a : Answer) → IsDelivered p e delivery o a → IsDelivered other e delivery o a
+  delivered_with delivery None a h = h
+  delivered_with delivery (Some d) a h = subst (λ (x : Outcome). (a ≡ answers.Deliver x.answer) ⊎ (a ≡ answers.Deliver receives.Failed)) (sym (received_with p words e (delivered_by delivery) d)) h
 
-  after_delivered_with : (now : ℕ) (o : Option (List ℕ)) → after_delivered other e now o ≡ after_delivered p e now o
-  after_delivered_with now None = refl
-  after_delivered_with now (Some d) = ap (λ (x : Outcome). x.end) (received_with p words e now d)
+  after_delivered_with : (delivery : Delivery) (o : Option (List ℕ)) → after_delivered other e delivery o ≡ after_delivered p e delivery o
+  after_delivered_with delivery None = refl
+  after_delivered_with delivery (Some d) = ap (λ (x : Outcome). x.end) (received_with p words e (delivered_by delivery) d)
 
-  takes_with : (now : ℕ) (o : Option (List ℕ)) → DeliveryTakes p e now o → DeliveryTakes other e now o
-  takes_with now None h = h
-  takes_with now (Some d) h = subst (λ (x : Outcome). TakesFrames x.answer) (sym (received_with p words e now d)) h
+  takes_with : (delivery : Delivery) (o : Option (List ℕ)) → DeliveryTakes p e delivery o → DeliveryTakes other e delivery o
+  takes_with delivery None h = h
+  takes_with delivery (Some d) h = subst (λ (x : Outcome). TakesFrames x.answer) (sym (received_with p words e (delivered_by delivery) d)) h
 
   -- so is an injection
-  injected_with : (b : Bool) (now : ℕ) (d : List ℕ) → injected_if b other e now d ≡ injected_if b p e now d
-  injected_with true now d = refl
-  injected_with false now d = ap (λ (x : Outcome). answers.Inject x.answer) (received_with p words e now d)
+  injected_with : (b : Bool) (i : Injection) → injected_if b other e i ≡ injected_if b p e i
+  injected_with true i = refl
+  injected_with false i = ap (λ (x : Outcome). answers.Inject x.answer) (received_with p words e (injected_by i) i.bytes)
 
-  after_injected_with : (b : Bool) (now : ℕ) (d : List ℕ) → after_injected_if b other e now d ≡ after_injected_if b p e now d
-  after_injected_with true now d = refl
-  after_injected_with false now d = ap (λ (x : Outcome). x.end) (received_with p words e now d)
+  after_injected_with : (b : Bool) (i : Injection) → after_injected_if b other e i ≡ after_injected_if b p e i
+  after_injected_with true i = refl
+  after_injected_with false i = ap (λ (x : Outcome). x.end) (received_with p words e (injected_by i) i.bytes)
 
   -- any call
   answer_with : (theirs : List (List ℕ)) (call : Call) (a : Answer) → IsAnswer p e theirs call a → IsAnswer other e theirs call a
   answer_with theirs (calls.Poll now) a h = subst (λ (x : Polled). (a ≡ answers.Poll x.answer) ⊎ (a ≡ answers.Poll (Err (record {})))) (sym (polled_with p words e now same)) h
-  answer_with theirs (calls.Deliver delivery) a h = delivered_with delivery.now (slice_get theirs delivery.index) a h
+  answer_with theirs (calls.Deliver delivery) a h = delivered_with delivery (slice_get theirs delivery.index) a h
   answer_with theirs (calls.Inject injection) a h =
       h
-      ∙ sym (injected_with (would_open p e injection.bytes) injection.now injection.bytes)
-      ∙ ap (λ (b : Bool). injected_if b other e injection.now injection.bytes) (sym (opens_with p words e injection.bytes))
+      ∙ sym (injected_with (would_open p e injection.bytes) injection)
+      ∙ ap (λ (b : Bool). injected_if b other e injection) (sym (opens_with p words e injection.bytes))
   answer_with theirs call a h = h
 
   after_with : (theirs : List (List ℕ)) (call : Call) (a : Answer) → after_call other e theirs call a ≡ after_call p e theirs call a
   after_with theirs (calls.Poll now) a = ap (λ (x : Polled). x.end) (polled_with p words e now same)
-  after_with theirs (calls.Deliver delivery) a = after_delivered_with delivery.now (slice_get theirs delivery.index)
+  after_with theirs (calls.Deliver delivery) a = after_delivered_with delivery (slice_get theirs delivery.index)
   after_with theirs (calls.Inject injection) a =
-      ap (λ (b : Bool). after_injected_if b other e injection.now injection.bytes) (opens_with p words e injection.bytes)
-      ∙ after_injected_with (would_open p e injection.bytes) injection.now injection.bytes
+      ap (λ (b : Bool). after_injected_if b other e injection) (opens_with p words e injection.bytes)
+      ∙ after_injected_with (would_open p e injection.bytes) injection
   after_with theirs call a = refl
 
   -- what the controller is told
@@ -342,7 +345,7 @@ module _ (p : Policy) (words : ℕ → ℕ) (e : End) (same : e.closing.state �
 
   lacks_with : (theirs : List (List ℕ)) (call : Call) (a : Answer) → LacksWhere p e theirs call a → LacksWhere other e theirs call a
   lacks_with theirs (calls.Poll now) (answers.Poll (Err x)) h = subst (λ (y : Polled). GivesOrHasFailed y.answer ⊎ ((e.closing.state ≡ states.Open) × MovesRecord e)) (sym (polled_with p words e now same)) h
-  lacks_with theirs (calls.Deliver delivery) (answers.Deliver receives.Failed) h = takes_with delivery.now (slice_get theirs delivery.index) h
+  lacks_with theirs (calls.Deliver delivery) (answers.Deliver receives.Failed) h = takes_with delivery (slice_get theirs delivery.index) h
   lacks_with theirs call a h = h
 
 -- which words are drawn isn't changed by reading the window

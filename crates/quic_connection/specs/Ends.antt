@@ -107,6 +107,10 @@ OnHonest protection aead stream windows ends events o P =
     let r = run_of (policies_of protection aead stream ends) windows ends events o.answers.items o.views.items o.given in
     IsHonest r → P r
 
+-- a fact of the run of these ends over these events that came out so, and of the ends that it left, whatever the ends, the keys and the applications
+abbrev pub OnRun : {H K R C : Type 0} → (H → Protection) → (K → Aead) → (R → Stream) → (C → Control) → Ends H K R C → List RunEvent → Outcome H K R C → (Run → World → Type 0) → Type 0
+OnRun protection aead stream windows ends events o P = P (run_of (policies_of protection aead stream ends) windows ends events o.answers.items o.views.items o.given) (world_left windows o)
+
 -- a fact of both ends at each place of the run, where this one holds of the first ends
 abbrev pub AtEachPlace : {H K R C : Type 0} → (H → Protection) → (K → Aead) → (R → Stream) → (C → Control) → Ends H K R C → List RunEvent → Outcome H K R C → (World → Type 0) → (World → Type 0) → Type 0
 AtEachPlace protection aead stream windows ends events o Begins P =

@@ -2,11 +2,12 @@
 ghost use Rattle.std.specs.Prelude.{◌≡◌, ◌≢◌, length, Ok, IfOk, IfErr, OnOk};
 ghost use Rattle.quic_parameters.specs.ParametersWritten.{written_parameters};
 ghost use Rattle.quic_parameters.specs.ParametersRead.{parameters_at};
-ghost use Rattle.quic_config.specs.Transport.{parameters_of, IsInRange};
+ghost use Rattle.quic_config.specs.Transport.{parameters_of, first_mtu, IsInRange};
 ghost use Rattle.quic_machine.specs.Policy.{KeysCanOpen};
 ghost use Rattle.quic_machine.specs.End.{MadeFrom, refusal_of};
 ghost use Rattle.quic_machine.specs.Start.{AreStarted, AreControlled, AreKeys};
 ghost use Rattle.quic_machine.specs.declared.answers.ConfigError.TheVariants as config_errors;
+ghost use Rattle.quic_headline.specs.Rest.{HaveRoom};
 ghost use Rattle.quic_connection_core.specs.Drawn.{words_of, after_words};
 ghost use Rattle.quic_connection_core.specs.Telling.{windows_of, windows_at, IsRoomy};
 ghost use Rattle.quic_connection.specs.Ends.{first_world, policies_of, in_order, controller_for, refusal_for, IsRefused};
@@ -71,7 +72,7 @@ fn end_for<
         MadeFrom side own.config.settings (windows_at C.initial_of C.window_of c.control)
         peer_parameters.entry.now own.id peer_id now own.validated (words_of R.stream own.random 0) c.end) }
     ensures control { IfOk result (λ c. c.control ≡ controller_for F.built own.config now) }
-    ensures roomy { IfOk result (λ c. IsRoomy C.size_of C.window_of c.control c.end.path.size) }
+    ensures roomy { IfOk result (λ c. IsRoomy C.size_of C.window_of c.control (first_mtu c.end.transport)) }
     ensures keys { IfOk result (λ c. c.keys ≡ own.keys) }
     ensures random { IfOk result (λ c. R.stream c.random ≡ after_words 1 (R.stream own.random)) }
     ensures refusal { IfErr result (λ e.
@@ -152,6 +153,8 @@ impl<H: HeaderKey + Drop, K: PacketKey + Drop, R: Rng + Drop, C: Controller> End
             server.id client.id ≡ None) }
         ensures controlled { IfOk result (λ ends.
             AreControlled (first_world (windows_of C.steps C.window_of) ends)) }
+        ensures have_room { IfOk result (λ ends.
+            HaveRoom (first_world (windows_of C.steps C.window_of) ends)) }
         ensures started { IfOk result (λ ends. AreStarted (first_world (windows_of C.steps C.window_of) ends)) }
         ensures keys { IfOk result (λ ends.
             KeysCanOpen H.protection K.aead client.keys server.keys

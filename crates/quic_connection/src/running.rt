@@ -14,10 +14,16 @@ ghost use Rattle.quic_headline.specs.Duties.{DutiesStand};
 ghost use Rattle.quic_headline.specs.Grown.{GrownLimitsWait};
 ghost use Rattle.quic_headline.specs.Messages.{MessagesAtMostOnce};
 ghost use Rattle.quic_headline.specs.InFlight.{TracksInFlight};
+ghost use Rattle.quic_headline.specs.Isolated.{Isolated, IsolatedByAnswers, IsolatedByLists};
 ghost use Rattle.quic_headline.specs.Moments.{LossMoments, LossTimerQuiet, AckMoments};
 ghost use Rattle.quic_headline.specs.Polls.{PollsSendWhatWaits, PollsSendMessages, PacerSetsItsTimer, AskingGoesWhereLet, ProbesPass, WindowIsOfHistory};
+ghost use Rattle.quic_headline.specs.Rest.{DeliveredAtRest, NothingOwedAtRest};
+ghost use Rattle.quic_headline.specs.Resets.{ResetsAreTold};
+ghost use Rattle.quic_headline.specs.Ids.{IdsAreNew, AcceptedWereOpened};
+ghost use Rattle.quic_headline.specs.Reasons.{ClosedHasAReason};
+ghost use Rattle.quic_headline.specs.Views.{ViewsTell};
 ghost use Rattle.quic_connection_core.specs.Telling.{windows_of, KeepsKeys};
-ghost use Rattle.quic_connection.specs.Ends.{world_of, first_world, world_left, policies_of, kept, AreOf, GoesOn, GoOn, OnHonest, AtEachPlace};
+ghost use Rattle.quic_connection.specs.Ends.{world_of, first_world, world_left, policies_of, kept, AreOf, GoesOn, GoOn, OnHonest, OnRun, AtEachPlace};
 ghost use Rattle.quic_connection_core.specs.Drawn.{words_of};
 ghost use Rattle.quic_connection.specs.declared.running.Given.{Given};
 
@@ -484,8 +490,8 @@ fn end_view<H: HeaderKey + Drop, K: PacketKey + Drop, R: Rng + Drop, C: Controll
         reason: end.lost().map(LostReason::copied),
         validated: end.is_validated(),
         timers: timers(end),
-        window: Some(end.window()),
-        current_mtu: None,
+        window: end.window(),
+        current_mtu: end.current_mtu(),
     }
 }
 
@@ -526,12 +532,23 @@ fn view<H: HeaderKey + Drop, K: PacketKey + Drop, R: Rng + Drop, C: Controller>(
 /// that it gave and that are neither acknowledged, nor lost by number or by time, nor forgotten,
 /// shows its loss timer set to the moment that is due for them and its own round trips, and not set
 /// once all that ask were named, and its timer of acknowledgements to one that is due for a packet
-/// that it took and hasn't acknowledged since.
+/// that it took and hasn't acknowledged since. An end rests where its last call was a poll that
+/// gave nothing, and it is open, its path validated, and none of its timers of losses, of
+/// acknowledgements and of the pacer set: then all that it wrote, on streams that it didn't reset,
+/// has arrived, and it owes no acknowledgement, where the controllers keep their law and their
+/// windows hold two datagrams at first (`HaveRoom`), as those of [`Ends::new`] do.
+///
+/// Nor is a stream opened or accepted twice, or accepted where no frame opened it; a reset is told
+/// only with the code that the other end's application gave; each view shows why an end isn't open,
+/// unless it failed; and what is answered of timers is what views show of them.
 ///
 /// At each place, also where memory lacks, and with any keys, an open end of two that were made for
 /// one another has its loss timer set exactly where it tracks a datagram that asks; and one that
 /// began so has its timer of acknowledgements set only where a packet that asks came since the last
-/// acknowledgement went.
+/// acknowledgement went. And the run less any of its injections, and any deliveries that an end
+/// dropped while it wasn't closing, is a run again, with the same answers, views and datagrams, and
+/// the same ends: what doesn't open, and what came before, changes nothing (RFC 9000, sections 5.2,
+/// 12.2 and 12.3).
 pub fn run<H: HeaderKey + Drop, K: PacketKey + Drop, R: Rng + Drop, C: Controller>(
     alloc: Global,
     ends: Ends<H, K, R, C>,
@@ -552,6 +569,11 @@ pub fn run<H: HeaderKey + Drop, K: PacketKey + Drop, R: Rng + Drop, C: Controlle
         result
         BlockedOnlyWithoutBytes }
     ensures accepts_all { OnHonest H.protection K.aead R.stream (windows_of C.steps C.window_of) ends events.now result AcceptsAll }
+    ensures ids_are_new { OnHonest H.protection K.aead R.stream (windows_of C.steps C.window_of) ends events.now result IdsAreNew }
+    ensures accepted_were_opened { OnHonest H.protection K.aead R.stream (windows_of C.steps C.window_of) ends events.now result
+        AcceptedWereOpened }
+    ensures resets_are_told { OnHonest H.protection K.aead R.stream (windows_of C.steps C.window_of) ends events.now result
+        ResetsAreTold }
     ensures finished_means_arrived { OnHonest H.protection K.aead R.stream (windows_of C.steps C.window_of) ends events.now result
         FinishedMeansArrived }
     ensures finished_is_told { OnHonest H.protection K.aead R.stream (windows_of C.steps C.window_of) ends events.now result
@@ -589,17 +611,29 @@ pub fn run<H: HeaderKey + Drop, K: PacketKey + Drop, R: Rng + Drop, C: Controlle
     ensures newest_opens { OnHonest H.protection K.aead R.stream (windows_of C.steps C.window_of) ends events.now result NewestOpens }
     ensures loss_timer_quiet { OnHonest H.protection K.aead R.stream (windows_of C.steps C.window_of) ends events.now result
         LossTimerQuiet }
+    ensures views_tell { OnHonest H.protection K.aead R.stream (windows_of C.steps C.window_of) ends events.now result ViewsTell }
     ensures loss_timers_follow { AtEachPlace H.protection K.aead R.stream (windows_of C.steps C.window_of) ends events.now result
         AreStarted LossTimersFollow }
     ensures ack_timers_follow { AtEachPlace H.protection K.aead R.stream (windows_of C.steps C.window_of) ends events.now result
         AckTimersFollow AckTimersFollow }
+    ensures isolated { OnRun H.protection K.aead R.stream (windows_of C.steps C.window_of) ends events.now result Isolated }
+    ensures isolated_by_answers { OnRun H.protection K.aead R.stream (windows_of C.steps C.window_of) ends events.now result
+        IsolatedByAnswers }
+    ensures isolated_by_lists { OnRun H.protection K.aead R.stream (windows_of C.steps C.window_of) ends events.now result
+        (λ r end. AreStarted r.start → IsolatedByLists r) }
     ensures numbers_rise { OnHonest H.protection K.aead R.stream (windows_of C.steps C.window_of) ends events.now result NumbersRise }
     ensures no_blame { OnHonest H.protection K.aead R.stream (windows_of C.steps C.window_of) ends events.now result NoBlame }
+    ensures closed_has_a_reason { OnHonest H.protection K.aead R.stream (windows_of C.steps C.window_of) ends events.now result
+        ClosedHasAReason }
     ensures too_many_pieces { OnHonest H.protection K.aead R.stream (windows_of C.steps C.window_of) ends events.now result
         TooManyPieces }
     ensures number_limit { OnHonest H.protection K.aead R.stream (windows_of C.steps C.window_of) ends events.now result NumberLimit }
     ensures taken_or_too_many { OnHonest H.protection K.aead R.stream (windows_of C.steps C.window_of) ends events.now result
         TakenOrTooMany }
+    ensures delivered_at_rest { OnHonest H.protection K.aead R.stream (windows_of C.steps C.window_of) ends events.now result
+        DeliveredAtRest }
+    ensures nothing_owed_at_rest { OnHonest H.protection K.aead R.stream (windows_of C.steps C.window_of) ends events.now result
+        NothingOwedAtRest }
 {
     // What every run of the machine keeps: laws, which do nothing.
     headline::ordered_prefix();
@@ -608,6 +642,9 @@ pub fn run<H: HeaderKey + Drop, K: PacketKey + Drop, R: Rng + Drop, C: Controlle
     headline::end_after_all();
     headline::blocked_only_without_bytes();
     headline::accepts_all();
+    headline::ids_are_new();
+    headline::accepted_were_opened();
+    headline::resets_are_told();
     headline::finished_means_arrived();
     headline::finished_is_told();
     headline::duties_stand();
@@ -628,13 +665,20 @@ pub fn run<H: HeaderKey + Drop, K: PacketKey + Drop, R: Rng + Drop, C: Controlle
     headline::opens_exactly();
     headline::newest_opens();
     headline::loss_timer_quiet();
+    headline::views_tell();
     headline::loss_timers_follow();
     headline::ack_timers_follow();
+    headline::isolated();
+    headline::isolated_by_answers();
+    headline::isolated_by_lists();
     headline::numbers_rise();
     headline::no_blame();
+    headline::closed_has_a_reason();
     headline::too_many_pieces();
     headline::number_limit();
     headline::taken_or_too_many();
+    headline::delivered_at_rest();
+    headline::nothing_owed_at_rest();
     show_codes(events);
     run_events(alloc, ends, events)
 }

@@ -22,3 +22,4 @@ pub mod Gates
 mod Items
 mod Told
 mod Rooms
+pub mod Marks

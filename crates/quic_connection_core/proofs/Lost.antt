@@ -9,10 +9,10 @@ use Rattle.quic_streams_parts.specs.Table.{Table, at}
 use Rattle.quic_sent_packets.specs.Packets.{from}
 use Rattle.quic_machine.specs.Tracking.{TrackedPacket, Carried, Tracking, asks_any, Verdict, lost_by, kept_by, acked_by, not_acked_by}
 use Rattle.quic_machine.specs.End.{End, with_tracking}
-use Rattle.quic_machine.specs.Acked.{without_known, reset_acked, resets_acked, streams_acked, stream_acked, packet_acked, packets_acked, stream_lost, streams_lost, again, carried_lost, packets_lost, verdict, losses_detected, measured, sampled, answered, without_acked, after_named, after_acked}
+use Rattle.quic_machine.specs.Acked.{without_known, reset_acked, resets_acked, streams_acked, stream_acked, packet_acked, packets_acked, stream_lost, streams_lost, again, carried_lost, packets_lost, verdict, losses_detected, measured, sampled, answered, without_acked, losses_taken}
 use Rattle.quic_machine.specs.Timeouts.{loss_judged, loss_expired}
 use Rattle.quic_connection_core.specs.Losses.{Lost, one_lost, all_lost}
-use Rattle.quic_connection_core.specs.Tracked.{TakesLost, after_losses, sampled_at}
+use Rattle.quic_connection_core.specs.Tracked.{TakesLost, after_losses, acked_taken, sampled_at}
 use Rattle.quic_connection_core.proofs.Tracked.{all_kept, none_named, moment_measured}
 
 -- ---- what is lost looks at nothing that is tracked
@@ -139,11 +139,11 @@ pub reversed_none : {A : Type 0} (xs : List A) → reverse xs ≡ [] → xs ≡ 
 reversed_none xs none = sym (reverse-reverse xs) ∙ ap reverse none
 
 -- an ACK frame that names no tracked packet changes nothing
-pub named_none : (rises : Bool) (a : AckValue) (e : End) (acked : Table TrackedPacket) → acked_by a e.tracking.packets ≡ reverse acked → acked ≡ [] → with_tracking e (record e.tracking { packets = not_acked_by a e.tracking.packets }) ≡ after_acked rises a e
+pub named_none : (rises : Bool) (a : AckValue) (e : End) (acked : Table TrackedPacket) → acked_by a e.tracking.packets ≡ reverse acked → acked ≡ [] → with_tracking e (record e.tracking { packets = not_acked_by a e.tracking.packets }) ≡ acked_taken (acked_by a e.tracking.packets) rises a e
 named_none rises a e acked is none =
     let empty : acked_by a e.tracking.packets ≡ [] = is ∙ ap reverse none in
     ap (λ (ps : Table TrackedPacket). with_tracking e (record e.tracking { packets = ps })) (none_named a e.tracking.packets empty)
-    ∙ ap (λ (ps : Table TrackedPacket). after_named ps rises a e) (sym empty)
+    ∙ ap (λ (ps : Table TrackedPacket). acked_taken ps rises a e) (sym empty)
 
 -- the sample of a packet is that of the moment at which it went
 pub sample_of : (o : Option TrackedPacket) (a : AckValue) (e : End) → sampled_at (option_map (λ (p : TrackedPacket). p.time_sent) o) a e ≡ sampled o a e
@@ -154,7 +154,7 @@ sample_of (Some p) a e = refl
 pub named_some : (rises : Bool) (a : AckValue) (e f : End) (acked : Table TrackedPacket) (sent : Option ℕ) → GoDown a.largest a.ranges → acked_by a e.tracking.packets ≡ reverse acked → (acked ≡ [] → ⊥)
     → f ≡ packets_acked (reverse acked) (with_tracking e (record e.tracking { packets = not_acked_by a e.tracking.packets }))
     → sent ≡ cond (rises && asks_any acked) (option_map (λ p. p.time_sent) (at e.tracking.packets a.largest)) None
-    → answered (losses_detected (sampled_at sent a f)) ≡ after_acked rises a e
+    → answered (losses_detected (sampled_at sent a f)) ≡ acked_taken (acked_by a e.tracking.packets) rises a e
 named_some rises a e f acked sent down is some acks measures =
     ap (λ (x : End). answered (losses_detected (sampled_at sent a x))) moved
     ∙ ap (λ (o : Option ℕ). answered (losses_detected (sampled_at o a (without_acked named a e)))) (measures ∙ moment_measured rises a e.tracking.packets acked down is)
@@ -171,11 +171,11 @@ named_some rises a e f acked sent down is some acks measures =
     moved : f ≡ without_acked named a e
     moved = acks ∙ ap (λ (ps : Table TrackedPacket). packets_acked ps (with_tracking e left)) (sym is) ∙ packets_acked_beside named e left
 
-    by_named : (ps : Table TrackedPacket) → named ≡ ps → answered (losses_detected (sampled (measured rises a named) a (without_acked named a e))) ≡ after_acked rises a e
+    by_named : (ps : Table TrackedPacket) → named ≡ ps → answered (losses_detected (sampled (measured rises a named) a (without_acked named a e))) ≡ acked_taken named rises a e
     by_named [] none = absurd (some (reversed_none acked (sym is ∙ none)))
     by_named (p ∷ ps) first =
         ap (λ (xs : Table TrackedPacket). answered (losses_detected (sampled (measured rises a xs) a (without_acked xs a e)))) first
-        ∙ ap (λ (xs : Table TrackedPacket). after_named xs rises a e) (sym first)
+        ∙ ap (λ (xs : Table TrackedPacket). acked_taken xs rises a e) (sym first)
 
 -- a list of no length has nothing
 pub nothing_in : {A : Type 0} (xs : List A) → length xs ≡ 0 → xs ≡ []

@@ -18,13 +18,19 @@ use Rattle.quic_spaces.specs.Records.{first_record}
 use Rattle.quic_spaces.specs.declared.space.PacketSpace.{PacketSpace}
 use Rattle.quic_spaces.specs.Space.{Probed, after_probe_queued, probe_queued}
 use Rattle.quic_spaces.specs.Space as space
+use Rattle.quic_wire.specs.AckView.{counts_view}
+use Rattle.quic_machine.specs.Parts.{Marks}
 use Rattle.quic_machine.specs.Tracking.{TrackedPacket}
 use Rattle.quic_machine.specs.End.{End}
 use Rattle.quic_machine.specs.Poll.{record_moved, probe_filled, probe_if, probed}
 
+-- the counts of marks of a space
+abbrev pub marks_of : PacketSpace → Marks
+marks_of s = record { came = counts_view s.ecn_counters; told = counts_view s.ecn_feedback }
+
 -- the end whose space this is, and beside whose bytes of streams this waits
 abbrev pub with_space : End → Probed → End
-with_space e q = record e { numbers = q.space.numbers; acknowledging = q.space.acknowledging; tracking = q.space.tracking; waiting = record { ping = q.space.ping_pending; frames = q.pending } }
+with_space e q = record e { numbers = q.space.numbers; acknowledging = q.space.acknowledging; marks = marks_of q.space; tracking = q.space.tracking; waiting = record { ping = q.space.ping_pending; frames = q.pending } }
 
 -- both as they are
 abbrev pub as_is : PacketSpace → Retransmits → Probed
@@ -52,7 +58,7 @@ fills e s p plain = record { end = go (nat_lt 0 s.tracking.probes); plain = none
     marked = record s { immediate_ack_pending = s.immediate_ack_pending || false }
 
     record_case : (o : Option (ℕ × TrackedPacket)) → with_space e (space.record_moved o marked p) ≡ record_moved o (with_space e (as_is s p))
-    record_case None = ap (λ (ping : Bool). record e { numbers = s.numbers; acknowledging = s.acknowledging; tracking = s.tracking; waiting = record { ping = ping; frames = p } }) (waits s.ping_pending s.immediate_ack_pending plain)
+    record_case None = ap (λ (ping : Bool). record e { numbers = s.numbers; acknowledging = s.acknowledging; marks = marks_of s; tracking = s.tracking; waiting = record { ping = ping; frames = p } }) (waits s.ping_pending s.immediate_ack_pending plain)
     record_case (Some r) = refl
 
     empty_case : (b : Bool) → with_space e (space.probe_filled b marked p e.streams) ≡ probe_filled b (with_space e (as_is s p))

@@ -6,9 +6,8 @@ use Rattle.std.proofs.lemmas.Bool.{le-leb, lt-leb}
 use Rattle.std.proofs.lemmas.Bool.Decides.{leb_tells}
 use Rattle.quic_wire.specs.Value.{FrameValue}
 use Rattle.quic_wire.specs.Writing.{frame_size}
-use Rattle.quic_retransmits.specs.Retransmits.{Retransmits, nothing_waits}
+use Rattle.quic_retransmits.specs.Retransmits.{Retransmits, nothing_waits, control_kinds}
 use Rattle.quic_retransmits.specs.declared.retransmits.ControlKind.{ControlKind}
-use Rattle.quic_retransmits.specs.declared.retransmits.TheConstants.{CONTROL_KINDS}
 use Rattle.quic_streams_state.specs.declared.state.StreamsState.{StreamsState}
 use Rattle.quic_streams_state.specs.Control.{Entry, Draft, waiting, no_frames, first_dropped, first_sent, first_and_more, with_listed, with_kind, control_frames}
 use Rattle.quic_connection_core.specs.Frames.{control_part}
@@ -47,7 +46,7 @@ kinds_shifted n most (kind ∷ kinds) d = ap (λ (x : Draft). fold (with_kind (n
 
 -- the frames of all kinds, behind more bytes, where as many more may be taken
 control_shifted : (n most used : ℕ) (s : StreamsState) (p sent : Retransmits) → control_frames (n + most) (n + used) s p sent ≡ shifted n (control_frames most used s p sent)
-control_shifted n most used s p sent = kinds_shifted n most CONTROL_KINDS (no_frames used s p sent)
+control_shifted n most used s p sent = kinds_shifted n most control_kinds (no_frames used s p sent)
 
 -- they are those that go into the payload that begins there
 pub control_is : (body most len : ℕ) (s : StreamsState) (p sent : Retransmits) → body ≤ len → sent ≡ nothing_waits → control_frames (body + most) len s p sent ≡ shifted body (control_part most (len - body) s p)

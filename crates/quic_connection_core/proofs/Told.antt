@@ -1,9 +1,9 @@
 -- What a controller is told of packets, one after another.
-use Rattle.std.proofs.Common.{◌≡◌, ℕ, Bool, true, ◌&&◌, cond, List, [], ◌∷◌, ◌++◌, reverse, Option, Some, None, refl, sym, ap, ◌∙◌}
+use Rattle.std.proofs.Common.{◌≡◌, ℕ, Bool, true, ◌&&◌, cond, List, [], ◌∷◌, ◌++◌, length, reverse, slice_get, unwrap_or, Option, Some, None, refl, sym, ap, ◌∙◌}
 use Rattle.std.specs.Option.{option_map}
 use Rattle.quic_wire.specs.Value.{AckValue}
 use Rattle.quic_wire.specs.AckGrammar.{GoDown}
-use Rattle.std.proofs.lemmas.List.{reverse-append, append_assoc}
+use Rattle.std.proofs.lemmas.List.{length-reverse, reverse-append, append_assoc}
 use Rattle.std.proofs.lemmas.List.Sums.{fold-append}
 use Rattle.quic_send_buffer.specs.declared.stream_meta.StreamMeta.{StreamMeta}
 use Rattle.quic_congestion.specs.Congestion.{Told, Steps, after_call, after_calls}
@@ -11,11 +11,12 @@ use Rattle.quic_streams_parts.specs.Table.{Table, at}
 use Rattle.quic_machine.specs.Closing.{Closing}
 use Rattle.quic_machine.specs.Parts.{Path}
 use Rattle.quic_machine.specs.Tracking.{TrackedPacket, Carried, Tracking, asks_any, acked_by, not_acked_by}
-use Rattle.quic_machine.specs.End.{End, ConnectionValue, with_end, with_tracking}
-use Rattle.quic_machine.specs.Control.{told_packet, told_packets, told_acks_ended}
-use Rattle.quic_machine.specs.Acked.{without_known, reset_acked, resets_acked, stream_acked, streams_acked, carried_acked, packets_acked, stream_lost, streams_lost, carried_lost, packets_lost, measured, sampled, without_acked, told_detected, told_named, told_acked}
+use Rattle.quic_machine.specs.End.{End, ConnectionValue, with_end, with_tracking, number_of}
+use Rattle.quic_machine.specs.Poll.{Draft, asking, datagram_size, told_draft}
+use Rattle.quic_machine.specs.Control.{last_sent, told_sent, told_packet, told_packets, told_acks_ended}
+use Rattle.quic_machine.specs.Acked.{without_known, reset_acked, resets_acked, stream_acked, streams_acked, carried_acked, packets_acked, stream_lost, streams_lost, carried_lost, packets_lost, measured, sampled, without_acked, told_detected, told_of_losses, told_named, told_seen, told_marks, losses_taken, marks_seen, after_named}
 use Rattle.quic_connection_core.specs.Telling.{telling, KeepsKeys}
-use Rattle.quic_connection_core.specs.Tracked.{sampled_at}
+use Rattle.quic_connection_core.specs.Tracked.{sampled_at, acked_taken, acked_told, acked_count}
 use Rattle.quic_connection_core.proofs.Tracked.{moment_measured}
 use Rattle.quic_connection_core.proofs.Lost.{packets_acked_beside, sample_of, reversed_none}
 
@@ -74,6 +75,29 @@ packets_lost_keep (p ∷ ps) e = both_keep e (carried_lost p.1.carried e) (packe
 
 pub told_parts : {C : Type 0} (steps : Steps C) (c : C) (before later : List Told) → after_calls steps (after_calls steps c before) later ≡ after_calls steps c (before ++ later)
 told_parts steps c before later = sym (fold-append (λ d call. after_call steps call d) c before later)
+
+-- ---- when packets went
+
+-- the last of a list
+last_behind : (ps : Packets) (x : ℕ × TrackedPacket) → last_sent (ps ++ x ∷ []) ≡ x.1.time_sent
+last_behind [] x = refl
+last_behind (p ∷ []) x = refl
+last_behind (p ∷ q ∷ ps) x = last_behind (q ∷ ps) x
+
+-- the first of a list is the last of it backwards
+pub first_sent : (ps : Packets) (x : ℕ × TrackedPacket) → Some x ≡ slice_get ps 0 → x.1.time_sent ≡ last_sent (reverse ps)
+first_sent [] x is = cc
+first_sent (p ∷ ps) x is =
+    let same : x ≡ p = ap (λ (o : Option (ℕ × TrackedPacket)). unwrap_or o x) is in
+    ap (λ (y : ℕ × TrackedPacket). y.1.time_sent) same ∙ sym (last_behind (reverse ps) p) ∙ ap last_sent (sym (reverse-append (p ∷ []) ps))
+
+-- how many there are, and when the last of them went, where they come backwards
+pub counted : (named acked : Packets) (newly last : ℕ) → named ≡ reverse acked → (acked ≡ [] → ⊥) → newly ≡ length acked → last ≡ last_sent (reverse acked) → Some (newly, last) ≡ acked_count named
+counted [] acked newly last is some many when = absurd (some (reversed_none acked (sym is)))
+counted (p ∷ ps) acked newly last is some many when =
+    let all : newly ≡ length (p ∷ ps) = many ∙ sym (length-reverse acked) ∙ ap length (sym is) in
+    let moment : last ≡ last_sent (p ∷ ps) = when ∙ ap last_sent (sym is) in
+    rw (all, moment) refl
 
 -- ---- packets that are acknowledged, the last of a list first
 
@@ -142,7 +166,7 @@ told_beside (p ∷ ps) e t = ap (λ (l : List Told). told_packet e p ++ l) (told
 pub named_told : (rises : Bool) (a : AckValue) (e f : End) (acked : Packets) (sent : Option ℕ) → GoDown a.largest a.ranges → acked_by a e.tracking.packets ≡ reverse acked → (acked ≡ [] → ⊥)
     → f ≡ packets_acked (reverse acked) (with_tracking e (record e.tracking { packets = not_acked_by a e.tracking.packets }))
     → sent ≡ cond (rises && asks_any acked) (option_map (λ p. p.time_sent) (at e.tracking.packets a.largest)) None
-    → told_packets (with_tracking e (record e.tracking { packets = not_acked_by a e.tracking.packets })) (reverse acked) ++ (told_acks_ended f ++ told_detected true (sampled_at sent a f)) ≡ told_acked rises a e
+    → told_packets (with_tracking e (record e.tracking { packets = not_acked_by a e.tracking.packets })) (reverse acked) ++ (told_acks_ended f ++ told_detected true (sampled_at sent a f)) ≡ acked_told (acked_by a e.tracking.packets) rises a e
 named_told rises a e f acked sent down is some acks measures =
     ap (λ (x : End). told_packets (with_tracking e left) (reverse acked) ++ (told_acks_ended x ++ told_detected true (sampled_at sent a x))) moved
     ∙ ap (λ (o : Option ℕ). told_packets (with_tracking e left) (reverse acked) ++ (told_acks_ended w ++ told_detected true (sampled_at o a w))) (measures ∙ moment_measured rises a e.tracking.packets acked down is)
@@ -163,17 +187,49 @@ named_told rises a e f acked sent down is some acks measures =
     moved : f ≡ w
     moved = acks ∙ ap (λ (ps : Packets). packets_acked ps (with_tracking e left)) (sym is) ∙ packets_acked_beside named e left
 
-    by_named : (ps : Packets) → named ≡ ps → told_packets e named ++ (told_acks_ended w ++ told_detected true (sampled (measured rises a named) a w)) ≡ told_acked rises a e
+    by_named : (ps : Packets) → named ≡ ps → told_packets e named ++ (told_acks_ended w ++ told_detected true (sampled (measured rises a named) a w)) ≡ acked_told named rises a e
     by_named [] none = absurd (some (reversed_none acked (sym is ∙ none)))
     by_named (p ∷ ps) first =
         ap (λ (xs : Packets). told_packets e xs ++ (told_acks_ended (without_acked xs a e) ++ told_detected true (sampled (measured rises a xs) a (without_acked xs a e)))) first
         ∙ sym (append_assoc (told_packets e (p ∷ ps)) (told_acks_ended (without_acked (p ∷ ps) a e)) (told_detected true (sampled (measured rises a (p ∷ ps)) a (without_acked (p ∷ ps) a e))))
-        ∙ ap (λ (xs : Packets). told_named xs rises a e) (sym first)
+        ∙ ap (λ (xs : Packets). acked_told xs rises a e) (sym first)
 
 -- one that names none
-pub told_none : (rises : Bool) (a : AckValue) (e : End) (acked : Packets) → acked_by a e.tracking.packets ≡ reverse acked → acked ≡ [] → [] ≡ told_acked rises a e
-told_none rises a e acked is none = ap (λ (ps : Packets). told_named ps rises a e) (sym (is ∙ ap reverse none))
+pub told_none : (rises : Bool) (a : AckValue) (e : End) (acked : Packets) → acked_by a e.tracking.packets ≡ reverse acked → acked ≡ [] → [] ≡ acked_told (acked_by a e.tracking.packets) rises a e
+told_none rises a e acked is none = ap (λ (ps : Packets). acked_told ps rises a e) (sym (is ∙ ap reverse none))
 
 -- a controller that is told of acknowledged packets, that they end, and of others that are lost
 pub told_thrice : {C : Type 0} (steps : Steps C) (c : C) (acks ends losses : List Told) → after_calls steps (after_calls steps (after_calls steps c acks) ends) losses ≡ after_calls steps c (acks ++ (ends ++ losses))
 told_thrice steps c acks ends losses = told_parts steps (after_calls steps c acks) ends losses ∙ told_parts steps c acks (ends ++ losses)
+
+-- ---- counts of marks behind an ACK frame
+
+-- where some packets are newly acknowledged, counts are judged behind them
+pub marks_behind : {H K R C : Type 0} (steps : Steps C) (w : ConnectionValue H K R C) (rises : Bool) (a : AckValue) (named : Packets) (newly last : ℕ) → acked_count named ≡ Some (newly, last)
+    → (let left = acked_taken named rises a w.end in
+    telling steps (telling steps w (acked_told named rises a w.end) left) (told_seen left.path.marking rises newly a.ecn last left) (marks_seen rises newly a left)) ≡ telling steps w (told_named named rises a w.end) (after_named named rises a w.end)
+marks_behind steps w rises a [] newly last is = cc
+marks_behind steps w rises a (p ∷ ps) newly last is =
+    let ps' : Packets = p ∷ ps in
+    let left : End = losses_taken ps' rises a w.end in
+    let many : newly ≡ length ps' = sym (ap (λ (o : Option (ℕ × ℕ)). (unwrap_or o (0, 0)).0) is) in
+    let when : last ≡ last_sent ps' = sym (ap (λ (o : Option (ℕ × ℕ)). (unwrap_or o (0, 0)).1) is) in
+    let told : List Told = told_of_losses ps' rises a w.end in
+    rw many (rw when (ap (λ c. record w { control = c; end = marks_seen rises (length ps') a left }) (told_parts steps w.control told (told_marks rises ps' a left))))
+
+-- where none is, none are
+pub marks_nowhere : {H K R C : Type 0} (steps : Steps C) (w : ConnectionValue H K R C) (rises : Bool) (a : AckValue) (named : Packets) → acked_count named ≡ None
+    → telling steps w (acked_told named rises a w.end) (acked_taken named rises a w.end) ≡ telling steps w (told_named named rises a w.end) (after_named named rises a w.end)
+marks_nowhere steps w rises a [] is = refl
+marks_nowhere steps w rises a (p ∷ ps) is = cc
+
+-- ---- a datagram that goes
+
+-- what is told of the end that a draft leaves, by its size and whether it asks, is what is told of the draft
+pub told_of_draft : {H K R C : Type 0} (steps : Steps C) (w x : ConnectionValue H K R C) (d : Draft) (asks : Bool) (size : ℕ) (after : C) → x ≡ with_end w d.end → asks ≡ asking d.frames → size ≡ datagram_size d
+    → after ≡ after_calls steps x.control (told_sent asks x.end size (number_of x.end)) → after ≡ after_calls steps w.control (told_draft d)
+told_of_draft steps w x d asks size after end asked sized is =
+    is
+    ∙ ap (λ v. after_calls steps v.control (told_sent asks v.end size (number_of v.end))) end
+    ∙ ap (λ (b : Bool). after_calls steps w.control (told_sent b d.end size (number_of d.end))) asked
+    ∙ ap (λ (n : ℕ). after_calls steps w.control (told_sent (asking d.frames) d.end n (number_of d.end))) sized

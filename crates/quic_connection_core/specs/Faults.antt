@@ -8,6 +8,7 @@ use Rattle.quic_streams_handles.specs.declared.end_streams.EndStreams.{EndStream
 use Rattle.quic_streams_state.specs.State.{streams_of}
 use Rattle.quic_congestion.specs.Congestion.{Told, Steps, after_calls}
 use Rattle.quic_machine.specs.End.{End, ConnectionValue, with_streams}
+use Rattle.quic_wire_core.specs.declared.shared.EcnCodepoint.{EcnCodepoint}
 use Rattle.quic_machine.specs.Receive.{Fault, broke, too_many_pieces, fault_of_breach, Progress, take_frame, after_taken}
 use Rattle.quic_connection_core.specs.declared.connection.receiving.Trouble.{Trouble}
 use Rattle.quic_connection_core.specs.declared.connection.receiving.Trouble.TheVariants as troubles
@@ -29,9 +30,9 @@ TakesAllAs (Ok asks) p asking e = (asks ≡ asking) × (p ≡ record { end = e; 
 TakesAllAs (Err trouble) p asking e = IfSome (fault_view trouble) (λ fault. p ≡ record { end = e; fault = Some fault })
 
 -- the same, where the number is taken behind the frames of its packet
-abbrev pub TakesPacketAs : Result (Unit {0}) Trouble → Progress → Bool → ℕ → End → Type 0
-TakesPacketAs (Ok x) p asking n e = (p.fault ≡ None) × (e ≡ after_taken n asking p.end)
-TakesPacketAs (Err trouble) p asking n e = IfSome (fault_view trouble) (λ fault. p ≡ record { end = e; fault = Some fault })
+abbrev pub TakesPacketAs : Result (Unit {0}) Trouble → Progress → Bool → ℕ → Option EcnCodepoint → End → Type 0
+TakesPacketAs (Ok x) p asking n mark e = (p.fault ≡ None) × (e ≡ after_taken n asking mark p.end)
+TakesPacketAs (Err trouble) p asking n mark e = IfSome (fault_view trouble) (λ fault. p ≡ record { end = e; fault = Some fault })
 
 -- unless memory lacked, a controller was told this
 abbrev pub TellsAs : {A H K R C : Type 0} → Result A Trouble → Steps C → ConnectionValue H K R C → List Told → ConnectionValue H K R C → Type 0

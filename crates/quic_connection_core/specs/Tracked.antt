@@ -1,5 +1,5 @@
 -- Which tracked packets are acknowledged and which are found lost, and what that makes of an end and of its streams alone.
-use Rattle.std.specs.Prelude.{◌≡◌, ◌≢◌, ℕ, ◌-◌, true, List, [], ◌∷◌, Option, Some, None, IsSome}
+use Rattle.std.specs.Prelude.{◌≡◌, ◌≢◌, ℕ, ◌-◌, Bool, true, List, [], ◌∷◌, length, Option, Some, None, IsSome}
 use Rattle.quic_wire.specs.Value.{AckValue}
 use Rattle.quic_send_buffer.specs.declared.stream_meta.StreamMeta.{StreamMeta}
 use Rattle.quic_retransmits.specs.Retransmits.{merged}
@@ -11,7 +11,10 @@ use Rattle.quic_time.specs.Rtt.{with_sample}
 use Rattle.quic_time.specs.Timers.{has_come}
 use Rattle.quic_machine.specs.Tracking.{TrackedPacket, Carried, Tracking, Verdict, lost_by, kept_by}
 use Rattle.quic_machine.specs.End.{End, with_tracking, with_rtt}
-use Rattle.quic_machine.specs.Acked.{verdict, packets_lost, told_delay, first_measured}
+use Rattle.quic_congestion.specs.Congestion.{Told}
+use Rattle.quic_streams_parts.specs.Table.{Table}
+use Rattle.quic_machine.specs.Control.{last_sent}
+use Rattle.quic_machine.specs.Acked.{verdict, packets_lost, told_delay, first_measured, losses_taken, told_of_losses}
 
 -- ---- packets that are lost
 
@@ -63,3 +66,20 @@ with_frames_lost (m ∷ ms) s = with_frames_lost ms (after_stream_lost s m)
 -- what a packet carried is lost
 abbrev pub with_carried_lost : Carried → Streams → Streams
 with_carried_lost c t = streams_of (with_frames_lost c.stream_frames t.state) (merged t.pending c.retransmits)
+
+-- ---- an ACK frame
+
+-- the end once the packets that an ACK frame names, which are these, are acknowledged and others are lost; counts of marks aren't judged yet
+abbrev pub acked_taken : Table TrackedPacket → Bool → AckValue → End → End
+acked_taken [] rises a e = e
+acked_taken (p ∷ ps) rises a e = losses_taken (p ∷ ps) rises a e
+
+-- what the controller is told of them
+abbrev pub acked_told : Table TrackedPacket → Bool → AckValue → End → List Told
+acked_told [] rises a e = []
+acked_told (p ∷ ps) rises a e = told_of_losses (p ∷ ps) rises a e
+
+-- how many they are, and when the last of them went, if there are some
+abbrev pub acked_count : Table TrackedPacket → Option (ℕ × ℕ)
+acked_count [] = None
+acked_count (p ∷ ps) = Some (length (p ∷ ps), last_sent (p ∷ ps))

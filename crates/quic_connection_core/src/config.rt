@@ -1,5 +1,5 @@
 //! What both ends of a connection are made from.
-ghost use Rattle.std.specs.Prelude.{◌≡◌, IfOk, Ok, true};
+ghost use Rattle.std.specs.Prelude.{◌≡◌, IfOk, Ok, true, ◌≤◌};
 ghost use Rattle.quic_parameters.specs.Parameters.{AreInRange};
 ghost use Rattle.quic_parameters.specs.ParametersWritten.{IsWriteOrder, written_parameters};
 ghost use Rattle.quic_parameters.specs.ParametersRead.{parameters_at};
@@ -16,11 +16,11 @@ use std::marker::Model;
 /// An end acts on the windows for what it receives, on the send window, on the counts of streams
 /// that the peer may have open at once, on whether streams of one priority take turns, on how many
 /// bytes of messages may wait to be read and to be sent, on the thresholds by which packets count
-/// as lost, on the round trip that is assumed at first, and on how many probe timeouts of losses
-/// are persistent congestion. The size that a path begins with is the one for which window and
-/// pacer reckon; datagrams themselves have at most 1200 bytes yet. It tells the peer of the other
-/// settings that have a transport parameter, and doesn't act on them: it has no idle timeout, and
-/// an ACK_FREQUENCY frame changes nothing.
+/// as lost, on the round trip that is assumed at first, on how many probe timeouts of losses are
+/// persistent congestion, and on the sizes of datagrams: they have as many bytes as a path begins
+/// with, or as the peer takes where that is less. It looks for no greater size yet. It tells the
+/// peer of the other settings that have a transport parameter, and doesn't act on them: it has no
+/// idle timeout, and an ACK_FREQUENCY frame changes nothing.
 #[derive(Clone, Copy, Debug, Drop)]
 pub struct Config<F> {
     transport: TransportConfig,
@@ -88,6 +88,7 @@ impl<F> Config<F> {
     fn parameters(&self) -> TransportParameters
         ensures value { result ≡ parameters_of self.now.settings }
         ensures in_range { AreInRange (parameters_of self.now.settings) }
+        ensures size { 1200 ≤ self.now.settings.initial_mtu }
     {
         let told = self.transport.transport_parameters();
         if self.ack_frequency_support {

@@ -1,13 +1,16 @@
 //! One end of a connection (RFC 9000).
-ghost use Rattle.std.specs.Prelude.{◌≡◌, ◌≢◌, ◌*◌, ◌<◌, ◌^◌, ◌↔◌, ◌||◌, not, false, IfOk, OnOk, OnErr, IfErr, IsTrue, Some, None, option_copied, if◌then◌else◌};
+ghost use Rattle.std.specs.Prelude.{◌≡◌, ◌≢◌, ◌*◌, ◌<◌, ◌^◌, ◌↔◌, ◌||◌, not, true, false, IfOk, OnOk, OnErr, IfErr, IsTrue, Some, None, option_copied, if◌then◌else◌};
 ghost use Rattle.quic_parameters.specs.Parameters.{AreInRange};
 ghost use Rattle.quic_parameters.specs.ParametersRead.{parameters_at};
 ghost use Rattle.quic_config.specs.Transport.{Settings, transport_of, first_mtu};
 ghost use Rattle.quic_machine.specs.declared.answers.State.TheVariants as states;
 ghost use Rattle.quic_machine.specs.End.{MadeFrom, refusal_of, with_end, with_closing, closed_by, with_numbers, with_loss_timer, with_ping, side_of, first_streams, are_sizes_wrong, peer_delay, probe_timeout, HasFailed};
 ghost use Rattle.quic_spaces.specs.Filter.{first_filter};
+ghost use Rattle.quic_spaces.specs.Marks.{is_congested};
 ghost use Rattle.quic_connection_core.specs.Drawn.{words_of, after_words};
-ghost use Rattle.quic_connection_core.specs.Telling.{IsRoomy, reading, windows_at};
+ghost use Rattle.quic_connection_core.specs.Telling.{IsRoomy, path_limited, reading, windows_at};
+ghost use Rattle.quic_paths.specs.Paths.{new_path};
+ghost use Rattle.quic_machine.specs.Parts.{current_mtu};
 ghost use Rattle.quic_retransmits.specs.Retransmits.{nothing_waits};
 ghost use Rattle.quic_machine.specs.Closing.{ticked};
 ghost use Rattle.quic_machine.specs.Poll.{asks_to_go, message_waits};
@@ -46,7 +49,7 @@ use quic_stats::ConnectionStats;
 use quic_streams_handles::{EndStreams, RecvStream, SendStream, Streams};
 use quic_streams_state::StreamsState;
 use quic_time::{Duration, Timer, TimerTable};
-use quic_wire_core::{ConnectionId, Side, StreamId};
+use quic_wire_core::{ConnectionId, EcnCodepoint, Side, StreamId};
 use rand_core::Rng;
 use std::alloc::{AllocError, Global};
 use std::marker::Model;
@@ -89,12 +92,40 @@ fn are_sizes_wrong(transport: &TransportConfig, theirs: &TransportParameters) ->
         || u64::from(least) > theirs.max_udp_payload_size.into_inner()
 }
 
+/// The path with which a connection begins, made now: its datagrams have no more bytes than a peer
+/// takes that told this (RFC 9000, section 18.2).
+fn first_path<C: Controller, F: ControllerFactory<Controller = C>>(
+    now: Instant,
+    transport: &TransportConfig,
+    factory: &F,
+    theirs: &TransportParameters,
+) -> PathData<C>
+    requires { AreInRange theirs.now }
+    ensures { let controller = F.built factory.now now (first_mtu transport.now) in
+        result ≡ path_limited theirs.now.max_udp_payload_size (new_path true None 0 now transport.now controller (C.initial_of controller)) }
+{
+    let mut path = PathData::new(true, None, 0, now, transport, factory);
+    let limit = theirs.max_udp_payload_size.into_inner() as u16;
+    path.mtud.on_peer_max_udp_payload_size_received(limit);
+    path
+}
+
 /// How long a peer that told this may hold an acknowledgement back (RFC 9000, section 18.2).
 fn told_ack_delay(theirs: &TransportParameters) -> Duration
     requires { AreInRange theirs.now }
     ensures { result ≡ theirs.now.max_ack_delay * 1000000 }
 {
     Duration::from_nanos(theirs.max_ack_delay.into_inner() * 1_000_000)
+}
+
+/// Whether a packet came with the mark CE: a router on the path had too much to carry.
+fn is_congested(ecn: Option<EcnCodepoint>) -> bool
+    ensures { result ≡ is_congested ecn }
+{
+    match ecn {
+        Some(EcnCodepoint::Ce) => true,
+        Some(EcnCodepoint::Ect0 | EcnCodepoint::Ect1) | None => false,
+    }
 }
 
 /// Which packet number is left out first, by a word of the random source.
@@ -144,9 +175,11 @@ pub struct Connection<H, K, R, C: Controller> {
 impl<H, K, R, C: Controller> Model for Connection<H, K, R, C> {
     ghost use Rattle.std.specs.Prelude.{◌≡◌, ◌≤◌, false};
     ghost use Rattle.quic_parameters.specs.Parameters.{AreInRange};
+    ghost use Rattle.quic_wire.specs.AckView.{counts_view};
     ghost use Rattle.quic_machine.specs.End.{ConnectionValue};
     ghost use Rattle.quic_congestion.specs.Congestion.{HasRoom};
-    ghost use Rattle.quic_connection_core.specs.Telling.{IsRoomy};
+    ghost use Rattle.quic_config.specs.Transport.{first_mtu};
+    ghost use Rattle.quic_connection_core.specs.Telling.{IsRoomy, AreSizes};
     ghost use Rattle.quic_connection_core.specs.Flying.{IsInFlight};
 
     ghost Value = { ConnectionValue H K R C };
@@ -161,17 +194,19 @@ impl<H, K, R, C: Controller> Model for Connection<H, K, R, C> {
         numbers = c.space.numbers;
         filter = c.filter;
         acknowledging = c.space.acknowledging;
+        marks = record { came = counts_view c.space.ecn_counters; told = counts_view c.space.ecn_feedback };
         timers = c.timers;
         tracking = c.space.tracking;
         path = record {
           validated = c.path.validated;
           generation = c.path.generation;
-          size = c.path.size;
+          discovery = c.path.discovery;
           rtt = c.path.rtt;
           first_after_rtt = c.path.first_after_rtt;
           window = c.window;
           pacing = c.path.pacing;
           app_limited = c.app_limited;
+          marking = c.path.marks;
         };
         transport = c.transport;
         peer_params = c.peer_params;
@@ -181,13 +216,14 @@ impl<H, K, R, C: Controller> Model for Connection<H, K, R, C> {
       };
     } };
 
-    // Nothing asks for IMMEDIATE_ACK yet. Two datagrams fit the window. In flight is what is
-    // tracked, asks, and went on the path.
+    // Nothing asks for IMMEDIATE_ACK yet. Two datagrams of the size that the path began with, which
+    // is what the controller was told, fit the window. In flight is what is tracked, asks, and went
+    // on the path.
     ghost invariant = { λ c. (c.space.immediate_ack_pending ≡ false)
         × AreInRange c.peer_params
-        × (1200 ≤ c.path.size)
-        × IsRoomy C.size_of C.window_of c.path.congestion c.path.size
-        × HasRoom c.path.size c.window
+        × AreSizes c.transport c.path.discovery
+        × IsRoomy C.size_of C.window_of c.path.congestion (first_mtu c.transport)
+        × HasRoom (first_mtu c.transport) c.window
         × IsInFlight c.path.generation c.space.numbers.next c.space.tracking.packets c.path.in_flight };
 }
 
@@ -224,7 +260,7 @@ impl<H: HeaderKey + Drop, K: PacketKey + Drop, R: Rng + Drop, C: Controller> Con
     ) -> Result<Connection<H, K, R, C>, ConfigError>
         ensures made { IfOk result (λ c. MadeFrom side config.now.settings (windows_at C.initial_of C.window_of c.control) peer_parameters.now own_id peer_id now validated (words_of R.stream random 0) c.end) }
         ensures control { IfOk result (λ c. c.control ≡ F.built config.now.factory now (first_mtu (transport_of config.now.settings))) }
-        ensures roomy { IfOk result (λ c. IsRoomy C.size_of C.window_of c.control c.end.path.size) }
+        ensures roomy { IfOk result (λ c. IsRoomy C.size_of C.window_of c.control (first_mtu c.end.transport)) }
         ensures keys { IfOk result (λ c. c.keys ≡ keys) }
         ensures random { IfOk result (λ c. R.stream c.random ≡ after_words 1 (R.stream random)) }
         ensures refusal { IfErr result (λ e. Some e ≡ refusal_of config.now.settings (C.window_of (F.built config.now.factory now (first_mtu (transport_of config.now.settings)))) (parameters_at peer_parameters.now) own_id peer_id) }
@@ -240,7 +276,7 @@ impl<H: HeaderKey + Drop, K: PacketKey + Drop, R: Rng + Drop, C: Controller> Con
         if are_sizes_wrong(&transport, &theirs) {
             return Err(ConfigError::Size);
         }
-        let mut path = PathData::new(0, now, &transport, config.factory());
+        let mut path = first_path(now, &transport, config.factory(), &theirs);
         let window = path.congestion.window();
         let mtu = transport.get_initial_mtu();
         if window < 2 * u64::from(mtu) {
@@ -306,6 +342,13 @@ impl<H: HeaderKey + Drop, K: PacketKey + Drop, R: Rng + Drop, C: Controller> Con
         self.path.congestion.window()
     }
 
+    /// The bytes of the greatest datagram that the path to the peer takes (RFC 9000, section 14).
+    pub fn current_mtu(&self) -> u16
+        ensures { result ≡ current_mtu self.now.end.path }
+    {
+        self.path.current_mtu()
+    }
+
     /// Why the end isn't open: what closed it, or none where nothing did. A failed end has no
     /// reason.
     pub fn lost(&self) -> Option<&LostReason>
@@ -339,19 +382,29 @@ impl<H: HeaderKey + Drop, K: PacketKey + Drop, R: Rng + Drop, C: Controller> Con
     }
 
     /// The whole payload of a packet of this number was taken, which asks for an acknowledgement or
-    /// doesn't: its number is to be acknowledged. An error is want of memory, and nothing has
+    /// doesn't, and came with this mark: its number is to be acknowledged. An error is want of memory, and nothing has
     /// changed.
-    fn take_number(&mut self, number: u64, asks: bool) -> Result<(), AllocError>
+    fn take_number(
+        &mut self,
+        number: u64,
+        asks: bool,
+        ecn: Option<EcnCodepoint>,
+    ) -> Result<(), AllocError>
         requires { number < 2 ^ 62 }
-        ensures ok { OnOk result (self.new ≡ with_end self.old (after_taken number asks self.old.end)) }
+        ensures ok { OnOk result (self.new ≡ with_end self.old (after_taken number asks ecn self.old.end)) }
         ensures err { OnErr result (self.new ≡ self.old) }
     {
         let now = self.closing.clock();
         let space = &mut self.space;
-        let waits = space
-            .acknowledging
-            .take(number, now, asks, space.numbers.dedup())?;
+        let waits = space.acknowledging.take(
+            number,
+            now,
+            asks,
+            is_congested(ecn),
+            space.numbers.dedup(),
+        )?;
         space.numbers.take(number);
+        space.on_mark(ecn);
         if waits {
             self.timers.set(Timer::MaxAckDelay, ack_due(now));
         }

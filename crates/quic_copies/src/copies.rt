@@ -5,23 +5,29 @@ use bytes::{Bytes, BytesMut};
 use std::alloc::{AllocError, Global};
 use std::marker::Model;
 
-/// How many bytes a block has.
+/// How many bytes a block has at most.
 const BLOCK_SIZE: usize = 1024;
 
-/// Fewer bytes have memory of their own, so that a copy that is kept holds no more than 16 times
-/// its bytes.
-const LEAST_SHARED: usize = 64;
+/// How often the bytes of a copy its block has at most, so that a copy that is kept holds no more
+/// memory than that.
+const COPIES_IN_BLOCK: usize = 16;
+
+/// Fewer bytes have memory of their own, as a block of so few would be little more than what the
+/// allocator keeps beside it.
+const LEAST_SHARED: usize = 8;
 
 /// More bytes have memory of their own, as few of them would share a block.
 const MOST_SHARED: usize = 256;
 
-/// Copies bytes into blocks of memory, of which copies of 64 to 256 bytes share one: so few
-/// allocations are made. A block is kept as long as a copy in it is, and is used again where none
-/// is left.
+/// Copies bytes into blocks of memory, of which copies of 8 to 256 bytes share one: so few
+/// allocations are made. A block is kept as long as a copy in it is, has at most 16 times the bytes
+/// of each, and is used again where none is left.
 #[derive(Drop)]
 pub struct Copies {
     // What is left of the last block; no byte waits in it.
     block: BytesMut,
+    // How many bytes that block had.
+    block_size: usize,
     alloc: Global,
 }
 
@@ -40,11 +46,21 @@ fn is_shared(len: usize) -> bool {
     LEAST_SHARED <= len && len <= MOST_SHARED
 }
 
+// How many bytes the block of a copy of so many has at most: at least so many.
+fn most_of_block(len: usize) -> usize {
+    if len < BLOCK_SIZE / COPIES_IN_BLOCK {
+        len * COPIES_IN_BLOCK
+    } else {
+        BLOCK_SIZE.max(len)
+    }
+}
+
 impl Copies {
     /// No block yet: this takes no memory.
     pub fn new(alloc: Global) -> Self {
         Copies {
             block: BytesMut::new(alloc),
+            block_size: 0,
             alloc,
         }
     }
@@ -64,13 +80,22 @@ impl Copies {
         }
     }
 
+    // Sees to it that a copy of so many bytes may go into the block: there is room, and the block
+    // isn't too large for it. An `Err` is want of memory.
+    fn make_room(&mut self, len: usize) -> Result<(), AllocError> {
+        let most = most_of_block(len);
+        if self.block_size > most || !self.block.try_reclaim(len) {
+            self.block = BytesMut::with_capacity(self.alloc, most)?;
+            self.block_size = most;
+        }
+        Ok(())
+    }
+
     // A copy in a block. An `Err` is want of memory.
     fn copy_into_block(&mut self, bytes: &[u8]) -> Result<Bytes, AllocError>
         ensures { IfOk result (λ copied. copied ≡ bytes.now) }
     {
-        if self.block.capacity() < bytes.len() {
-            self.block.reserve(bytes.len().max(BLOCK_SIZE))?;
-        }
+        self.make_room(bytes.len())?;
         self.block.extend_from_slice(bytes)?;
         let copied = self.block.freeze_to(bytes.len());
         if copied.is_err() {

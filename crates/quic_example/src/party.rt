@@ -3,8 +3,8 @@
 use crate::End;
 use anyhow::{Result, bail};
 use quic_connection::{
-    Duration, EcnCodepoint, Event, Instant, ReadError, Side, StreamEvent, StreamId, Transmit,
-    WriteError,
+    Duration, EcnCodepoint, Event, Instant, ReadError, ReadableError, Side, StreamEvent, StreamId,
+    Transmit, WriteError,
 };
 use std::collections::VecDeque;
 
@@ -96,7 +96,12 @@ impl Party {
 
     /// Reads what has come on a stream. Once it was read to its end, the server answers.
     fn read(&mut self, rt: &impl Print, id: StreamId) -> Result<()> {
-        let mut chunks = self.end.recv_stream(id).read(true)?;
+        let mut chunks = match self.end.recv_stream(id).read(true) {
+            Ok(chunks) => chunks,
+            // `StreamEvent::Readable` may come behind the read that met the end.
+            Err(ReadableError::ClosedStream) => return Ok(()),
+            Err(error) => return Err(error.into()),
+        };
         for _ in 0..MANY {
             match chunks.next(1200) {
                 Ok(Some(chunk)) => println!(rt; "  {} reads {:?}", self.side, chunk.bytes)?,

@@ -6,4 +6,5 @@ pub mod Frames
 pub mod Group
 pub mod Kept
 pub mod Opens
+pub mod NewIds
 pub mod Clause

@@ -8,3 +8,4 @@ pub mod Shown
 pub mod Judged
 pub mod Pieces
 pub mod Blameless
+pub mod Reasons

@@ -1,6 +1,7 @@
 -- What passes between honest ends: each frame that one gave breaks no rule at the other, but that of pieces.
 pub mod Passing
 pub mod Counted
+pub mod Openers
 pub mod Given
 pub mod Stops
 pub mod Names

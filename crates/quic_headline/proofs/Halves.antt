@@ -21,6 +21,7 @@ pub mod ReadCalls
 pub mod Ends
 pub mod ReadGroup
 pub mod ReadClauses
+pub mod ResetClause
 pub mod Arrived
 pub mod Says
 pub mod Small

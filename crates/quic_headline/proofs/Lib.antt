@@ -11,3 +11,5 @@ pub mod Grown
 pub mod Messages
 pub mod Held
 pub mod Steps
+pub mod Rest
+pub mod Isolated

@@ -8,3 +8,4 @@ pub mod Starts
 pub mod LossMoments
 pub mod AckMoments
 pub mod Quiet
+pub mod Shown

@@ -9,3 +9,9 @@ pub mod Moments
 pub mod Grown
 pub mod Messages
 pub mod Polls
+pub mod Rest
+pub mod Resets
+pub mod Ids
+pub mod Reasons
+pub mod Views
+pub mod Isolated

@@ -14,6 +14,7 @@ use Rattle.quic_machine.specs.declared.run.Answer.{Answer}
 use Rattle.quic_machine.specs.declared.run.Answer.TheVariants as answers
 use Rattle.quic_machine.specs.declared.run.View.{View}
 use Rattle.quic_machine.specs.Closing.{ticked}
+use Rattle.quic_machine.specs.Parts.{current_mtu}
 use Rattle.quic_machine.specs.End.{End, with_closing, with_window}
 use Rattle.quic_machine.specs.Control.{paced_until, with_pacing_timer}
 use Rattle.quic_machine.specs.Poll.{probed}
@@ -26,9 +27,14 @@ use Rattle.quic_headline.specs.Moments.{timers_in}
 -- ---- what is seen of an end
 
 -- the congestion window of an end in a view
-abbrev pub window_in : View → Side → Option ℕ
+abbrev pub window_in : View → Side → ℕ
 window_in v Client = v.client.window
 window_in v Server = v.server.window
+
+-- how many bytes a datagram of an end has at most, in a view
+abbrev pub mtu_in : View → Side → ℕ
+mtu_in v Client = v.client.current_mtu
+mtu_in v Server = v.server.current_mtu
 
 -- the timer of the pacer in a view: the seventh of the nine
 abbrev pub pacing_timer : View → Side → Option (Option ℕ)
@@ -50,15 +56,9 @@ flying r side i = (watch r side i).flight.flying
 abbrev pub bytes_flying : Run → Side → ℕ → ℕ
 bytes_flying r side i = sum_by (λ s. s.size) (filter asks_of (flying r side i))
 
--- how many bytes a datagram of an end has at most; until it searches for more, these are those that it began with
-abbrev pub size_at : Run → Side → ℕ
-size_at r side = (end_at side r.start).path.size
-
--- The window that a view shows has no room for one more datagram beside those in flight.
-pub record IsFull (r : Run) (side : Side) (i : ℕ) (v : View) : Type 0 where
-  pub window : ℕ
-  pub shown : window_in v side ≡ Some window
-  pub full : window ≤ bytes_flying r side i + size_at r side
+-- the window that a view shows has no room for one more datagram beside those in flight
+abbrev pub IsFull : Run → Side → ℕ → View → Type 0
+IsFull r side i v = window_in v side ≤ bytes_flying r side i + mtu_in v side
 
 -- A view shows the timer of the pacer set to a moment that is later than each that the end took over.
 pub record IsPaced (r : Run) (side : Side) (i : ℕ) (v : View) : Type 0 where
@@ -140,7 +140,7 @@ pub record GaveAsking (r : Run) (side : Side) (i now : ℕ) (w next : World) : T
 -- one that is no probe goes only where the window has room for it beside those in flight, and the pacer names no later moment
 abbrev pub AskingGoesWhereLet : Run → Type 0
 AskingGoesWhereLet r = (side : Side) (i now : ℕ) (w next : World) → GaveAsking r side i now w next → (end_at side w).tracking.probes ≡ 0
-    → (bytes_flying r side i + size_at r side < control_at side w []) × (pacer_names side w now ≡ None)
+    → (bytes_flying r side i + current_mtu (end_at side w).path < control_at side w []) × (pacer_names side w now ≡ None)
 
 -- where a probe waits, a poll that leaves its end open gives a datagram that asks, whatever window and pacer say; one probe fewer waits then (section 7.5)
 abbrev pub ProbesPass : Run → Type 0
@@ -165,4 +165,4 @@ IsHistory r side i w told = WasTold side r.keys r.start (take i r.events) (take 
 
 -- the window that a view shows is that which the controller, as it was when the run began, shows once it was told what the calls up to there tell
 abbrev pub WindowIsOfHistory : Run → Type 0
-WindowIsOfHistory r = (side : Side) (i : ℕ) (v : View) → AreServed r (suc i) → slice_get r.views i ≡ Some v → (w : World) × (told : List congestion.Told) × IsHistory r side (suc i) w told × (window_in v side ≡ Some (control_at side r.start told))
+WindowIsOfHistory r = (side : Side) (i : ℕ) (v : View) → AreServed r (suc i) → slice_get r.views i ≡ Some v → (w : World) × (told : List congestion.Told) × IsHistory r side (suc i) w told × (window_in v side ≡ control_at side r.start told)

@@ -22,7 +22,6 @@ use Rattle.quic_machine.specs.declared.run.Answer.{Answer}
 use Rattle.quic_machine.specs.declared.run.Answer.TheVariants as answers
 use Rattle.quic_machine.specs.declared.run.View.{View}
 use Rattle.quic_machine.specs.Ids.{own_id}
-use Rattle.quic_spaces.specs.Numbers.{duplicate_span}
 use Rattle.quic_machine.specs.Policy.{Policy}
 use Rattle.quic_machine.specs.Opens.{opens}
 use Rattle.quic_machine.specs.Machine.{World, Policies, end_at, fails, gave, Follows}
@@ -250,9 +249,9 @@ abbrev pub expected_behind : List Packet → ℕ
 expected_behind [] = 0
 expected_behind (p ∷ ps) = max (p.number + 1) (expected_behind ps)
 
--- whether a number is a duplicate behind others: one of them, or a whole span or more below one (RFC 9000, section 12.3)
+-- whether a number is a duplicate behind others: one of them, or 129 or more below one (RFC 9000, section 12.3, which names no number: 129 is our choice)
 abbrev pub is_again : ℕ → List ℕ → Bool
-is_again n numbers = list_any (λ m. (m == n) || nat_le (n + duplicate_span) m) numbers
+is_again n numbers = list_any (λ m. (m == n) || nat_le (n + 129) m) numbers
 
 -- the frames among the items of a payload
 abbrev pub frames_of : List (Result FrameValue InvalidFrame) → List FrameValue

@@ -13,7 +13,13 @@ ghost use Rattle.quic_headline.specs.Messages.{MessagesAtMostOnce};
 ghost use Rattle.quic_headline.specs.InFlight.{TracksInFlight};
 ghost use Rattle.quic_headline.specs.Causes.{NoBlame, NumberLimit, TooManyPieces, TakenOrTooMany};
 ghost use Rattle.quic_headline.specs.Moments.{LossMoments, LossTimerQuiet, AckMoments};
+ghost use Rattle.quic_headline.specs.Isolated.{Isolated, IsolatedByAnswers, IsolatedByLists};
 ghost use Rattle.quic_headline.specs.Polls.{PollsSendWhatWaits, PollsSendMessages, PacerSetsItsTimer, AskingGoesWhereLet, ProbesPass, WindowIsOfHistory};
+ghost use Rattle.quic_headline.specs.Rest.{DeliveredAtRest, NothingOwedAtRest};
+ghost use Rattle.quic_headline.specs.Resets.{ResetsAreTold};
+ghost use Rattle.quic_headline.specs.Ids.{IdsAreNew, AcceptedWereOpened};
+ghost use Rattle.quic_headline.specs.Reasons.{ClosedHasAReason};
+ghost use Rattle.quic_headline.specs.Views.{ViewsTell};
 ghost use Rattle.quic_machine.specs.Start.{AreStarted};
 ghost use Rattle.quic_headline.specs.Headline.{IsHonest, IsRun, OrderedPrefix, Slices, Once, EndAfterAll, BlockedOnlyWithoutBytes, AcceptsAll, FinishedMeansArrived, FinishedIsTold, AcknowledgedWereTaken, NamesWereTaken, OpensExactly, NewestOpens, LossTimersFollow, AckTimersFollow, NumbersRise};
 
@@ -48,6 +54,24 @@ pub fn blocked_only_without_bytes()
 /// was accepted.
 pub fn accepts_all()
     ensures { (r : Run) (end : World) → IsHonest r → IsRun r end → AcceptsAll r }
+{}
+
+/// A stream that a call opens or accepts at an end, no call before opened or accepted there
+/// (RFC 9000, section 2.1).
+pub fn ids_are_new()
+    ensures { (r : Run) (end : World) → IsHonest r → IsRun r end → IdsAreNew r }
+{}
+
+/// A stream is accepted only where a frame that came opened it, or one of its kind above it: in a
+/// packet that was taken, or in the one at which the end closed (RFC 9000, sections 2.1 and 3.2).
+pub fn accepted_were_opened()
+    ensures { (r : Run) (end : World) → IsHonest r → IsRun r end → AcceptedWereOpened r }
+{}
+
+/// A read tells a reset, and so does a call that asks for one, only of a stream that the other end's
+/// application reset before, and with the code that it gave (RFC 9000, sections 3.2 and 19.4).
+pub fn resets_are_told()
+    ensures { (r : Run) (end : World) → IsHonest r → IsRun r end → ResetsAreTold r }
 {}
 
 /// Each message is received at one end at most as often as the other sent it, and whole (RFC 9221,
@@ -85,11 +109,23 @@ pub fn no_blame()
     ensures { (r : Run) (end : World) → IsHonest r → IsRun r end → NoBlame r }
 {}
 
+/// A view shows a reason of an end that closes or is drained, and none of one that is open or failed
+/// (RFC 9000, section 10), also where memory lacks.
+pub fn closed_has_a_reason()
+    ensures { (r : Run) (end : World) → IsHonest r → IsRun r end → ClosedHasAReason r }
+{}
+
 /// A packet of the other end that comes to an open end under a number that is no duplicate is taken
 /// whole, and answered so; or it comes to too many pieces of a stream, as above, and is answered
 /// INTERNAL_ERROR. So it is the rules of receiving that say which packets an end takes.
 pub fn taken_or_too_many()
     ensures { (r : Run) (end : World) → IsHonest r → IsRun r end → TakenOrTooMany r }
+{}
+
+/// A call that asks when a timer expires is answered what the view behind it shows of that timer, and
+/// one that asks for the next timeout the earliest moment that it shows, also where memory lacks.
+pub fn views_tell()
+    ensures { (r : Run) (end : World) → IsHonest r → IsRun r end → ViewsTell r }
 {}
 
 /// At an open end the loss timer is set exactly while a datagram that asks is waited for (RFC 9002,
@@ -238,4 +274,42 @@ pub fn probes_pass()
 /// shows once it was told what the calls up to there tell (RFC 9002, section 7).
 pub fn window_is_of_history()
     ensures { (r : Run) (end : World) → IsHonest r → IsRun r end → WindowIsOfHistory r }
+{}
+
+/// Where an end rests, each byte that was written on a stream that it didn't reset has arrived, and
+/// so has the end of each such stream that was finished. An end rests where its last call was a poll
+/// that gave nothing, and the view shows it open, its path validated, and the timers of losses, of
+/// acknowledgements and of the pacer not set; the other end may do anything meanwhile. It wants of
+/// the controllers that they keep room for two datagrams (RFC 9002, section 7.2).
+pub fn delivered_at_rest()
+    ensures { (r : Run) (end : World) → IsHonest r → IsRun r end → DeliveredAtRest r }
+{}
+
+/// Where an end rests so, it owes no acknowledgement: of each ack-eliciting packet that it took, an
+/// ACK frame went since, or the peer acknowledged a datagram whose ACK frame has a greatest number
+/// that isn't below it (RFC 9000, sections 13.2.1 and 13.2.4).
+pub fn nothing_owed_at_rest()
+    ensures { (r : Run) (end : World) → IsHonest r → IsRun r end → NothingOwedAtRest r }
+{}
+
+/// A run less any choice of its idle events, which are injections and deliveries that their end
+/// dropped while it wasn't closing, is a run again: the calls that stay are answered as they were,
+/// the views behind them are the same, both ends gave the same datagrams, and the same ends are
+/// left. So datagrams that don't open, and repeated ones, change nothing (RFC 9000, sections 5.2,
+/// 12.2 and 12.3). It wants no premise, and holds where memory lacks too.
+pub fn isolated()
+    ensures { (r : Run) (end : World) → IsRun r end → Isolated r end }
+{}
+
+/// So it is of all injections, and all deliveries that were dropped since they didn't open, for
+/// their header, the key or the key phase, or came before.
+pub fn isolated_by_answers()
+    ensures { (r : Run) (end : World) → IsRun r end → IsolatedByAnswers r end }
+{}
+
+/// So it is of all injections, and all deliveries of datagrams that by the run's lists don't open at
+/// their end, or came before: in each run of two ends that were made for one another, whatever
+/// their keys, at each place up to which memory served.
+pub fn isolated_by_lists()
+    ensures { (r : Run) (end : World) → AreStarted r.start → IsRun r end → IsolatedByLists r }
 {}

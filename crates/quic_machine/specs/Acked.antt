@@ -1,8 +1,8 @@
 -- What an ACK frame makes of an end, and loss detection (RFC 9000, section 13.1; RFC 9002, sections 5 and 6.1).
-use Rattle.std.specs.Prelude.{ℕ, ◌-◌, ◌*◌, ◌^◌, min, Bool, true, ◌&&◌, if◌then◌else◌, List, [], ◌∷◌, ◌++◌, Option, Some, None}
+use Rattle.std.specs.Prelude.{ℕ, ◌-◌, ◌*◌, ◌^◌, min, Bool, true, false, ◌&&◌, if◌then◌else◌, List, [], ◌∷◌, ◌++◌, length, Option, Some, None, Result, Ok, Err}
 use Rattle.quic_send_buffer.specs.declared.stream_meta.StreamMeta.{StreamMeta}
 use Rattle.quic_wire.specs.Value.{AckValue}
-use Rattle.quic_congestion.specs.Congestion.{Told}
+use Rattle.quic_congestion.specs.Congestion.{Told, Congested}
 use Rattle.quic_recovery_core.specs.PendingAcks.{after_subtract}
 use Rattle.quic_time.specs.Clocks.{saturated}
 use Rattle.quic_time.specs.Rtt.{with_sample}
@@ -12,8 +12,10 @@ use Rattle.quic_streams_state.specs.State.{streams_of}
 use Rattle.quic_streams_state.specs.Acked.{after_stream_acked, after_stream_lost, after_reset_acked}
 use Rattle.quic_spaces.specs.Numbers.{cut_against}
 use Rattle.quic_machine.specs.Tracking.{TrackedPacket, Carried, asks_any, acked_by, not_acked_by, loss_delay, Verdict, verdict_at, lost_by, after_detection, after_answered}
-use Rattle.quic_machine.specs.End.{End, with_acknowledging, with_tracking, with_rtt, with_streams, peer_delay}
-use Rattle.quic_machine.specs.Control.{told_packets, told_acks_ended, told_losses}
+use Rattle.quic_machine.specs.End.{End, with_acknowledging, with_tracking, with_rtt, with_streams, with_told, with_marking, peer_delay}
+use Rattle.quic_spaces.specs.Marks.{Counts, marks_refused, marks_judged}
+use Rattle.quic_spaces.specs.declared.space.EcnError.{EcnError}
+use Rattle.quic_machine.specs.Control.{last_sent, told_packets, told_acks_ended, told_losses}
 
 -- ---- a packet that is acknowledged
 
@@ -111,6 +113,52 @@ abbrev pub sampled : Option TrackedPacket → AckValue → End → End
 sampled None a e = e
 sampled (Some p) a e = with_rtt e (with_sample e.path.rtt (told_delay e a) (e.closing.clock - p.time_sent)) (first_measured e.path.first_after_rtt e.numbers.next)
 
+-- ---- the marks that the peer counted (RFC 9000, section 13.4.2)
+
+-- the counts that came are kept; where they can't be right, nothing is marked any more
+abbrev pub counts_judged : Result Bool EcnError → Counts → End → End
+counts_judged (Ok grew) counts e = with_told e counts
+counts_judged (Err error) counts e = with_marking e false
+
+-- what judging counts answers that came where so many packets were newly acknowledged
+abbrev pub counts_answer : End → ℕ → Counts → Result Bool EcnError
+counts_answer e newly counts = marks_judged (marks_refused newly e.marks.told counts) e.marks.told counts
+
+-- counts are judged where a number is named above all that were before, since those of an older ACK may be smaller; where none come, the peer or the path doesn't
+-- keep marks, and nothing is marked any more
+abbrev pub counts_taken : Bool → ℕ → Option Counts → End → End
+counts_taken rises newly None e = with_marking e false
+counts_taken true newly (Some counts) e = counts_judged (counts_answer e newly counts) counts e
+counts_taken false newly (Some counts) e = e
+
+-- while datagrams are marked
+abbrev pub counts_seen : Bool → Bool → ℕ → Option Counts → End → End
+counts_seen true rises newly counts e = counts_taken rises newly counts e
+counts_seen false rises newly counts e = e
+
+-- of an ACK frame that newly acknowledges so many packets
+abbrev pub marks_seen : Bool → ℕ → AckValue → End → End
+marks_seen rises newly a e = counts_seen e.path.marking rises newly a.ecn e
+
+-- the controller is told where the count of CE grew (RFC 9002, section 7.1): the last packet newly acknowledged went at this moment
+abbrev pub told_grown : Result Bool EcnError → ℕ → ℕ → List Told
+told_grown (Ok true) now sent = Congested now sent false 0 ∷ []
+told_grown r now sent = []
+
+-- of counts that come, or of none
+abbrev pub told_taken : Bool → ℕ → Option Counts → ℕ → End → List Told
+told_taken true newly (Some counts) sent e = told_grown (counts_answer e newly counts) e.closing.clock sent
+told_taken rises newly counts sent e = []
+
+-- while datagrams are marked
+abbrev pub told_seen : Bool → Bool → ℕ → Option Counts → ℕ → End → List Told
+told_seen true rises newly counts sent e = told_taken rises newly counts sent e
+told_seen false rises newly counts sent e = []
+
+-- of an ACK frame that newly acknowledges these packets
+abbrev pub told_marks : Bool → Table TrackedPacket → AckValue → End → List Told
+told_marks rises acked a e = told_seen e.path.marking rises (length acked) a.ecn (last_sent acked) e
+
 -- ---- an ACK frame
 
 -- the peer answers: no probe has to go
@@ -121,11 +169,14 @@ answered e = with_tracking e (after_answered e.tracking)
 abbrev pub without_acked : Table TrackedPacket → AckValue → End → End
 without_acked acked a e = with_tracking (packets_acked acked e) (record e.tracking { packets = not_acked_by a e.tracking.packets })
 
--- an ACK frame that names tracked packets, which are these, or names none: these are acknowledged, the round trip is measured where it can be, and others are
--- lost. `rises` says whether a number is named above all that were before
+-- of the packets that it names, these are acknowledged, the round trip is measured where it can be, and others are lost
+abbrev pub losses_taken : Table TrackedPacket → Bool → AckValue → End → End
+losses_taken acked rises a e = answered (losses_detected (sampled (measured rises a acked) a (without_acked acked a e)))
+
+-- an ACK frame that names tracked packets, which are these, or names none: so it is of them, and the counts of marks are judged. `rises` says whether a number is named above all that were before
 abbrev pub after_named : Table TrackedPacket → Bool → AckValue → End → End
 after_named [] rises a e = e
-after_named (p ∷ ps) rises a e = answered (losses_detected (sampled (measured rises a (p ∷ ps)) a (without_acked (p ∷ ps) a e)))
+after_named (p ∷ ps) rises a e = marks_seen rises (length (p ∷ ps)) a (losses_taken (p ∷ ps) rises a e)
 
 -- the end after an ACK frame, whose greatest number is counted already
 abbrev pub after_acked : Bool → AckValue → End → End
@@ -137,12 +188,16 @@ after_acked rises a e = after_named (acked_by a e.tracking.packets) rises a e
 abbrev pub told_detected : Bool → End → List Told
 told_detected by_ack e = told_losses by_ack e (lost_by (verdict e) e.tracking.packets)
 
--- of an ACK frame that names tracked packets, which are these, or names none: they are acknowledged, this ends, and others are lost
+-- of the packets that an ACK frame names: these are acknowledged, this ends, and others are lost
+abbrev pub told_of_losses : Table TrackedPacket → Bool → AckValue → End → List Told
+told_of_losses acked rises a e =
+    let left = without_acked acked a e in
+    told_packets e acked ++ told_acks_ended left ++ told_detected true (sampled (measured rises a acked) a left)
+
+-- of an ACK frame that names tracked packets, which are these, or names none: so it is of them, and marks may show congestion
 abbrev pub told_named : Table TrackedPacket → Bool → AckValue → End → List Told
 told_named [] rises a e = []
-told_named (p ∷ ps) rises a e =
-    let acked = without_acked (p ∷ ps) a e in
-    told_packets e (p ∷ ps) ++ told_acks_ended acked ++ told_detected true (sampled (measured rises a (p ∷ ps)) a acked)
+told_named (p ∷ ps) rises a e = told_of_losses (p ∷ ps) rises a e ++ told_marks rises (p ∷ ps) a (losses_taken (p ∷ ps) rises a e)
 
 -- of an ACK frame, whose greatest number is counted already
 abbrev pub told_acked : Bool → AckValue → End → List Told

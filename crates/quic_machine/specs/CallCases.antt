@@ -2,6 +2,9 @@
 use Rattle.std.proofs.Common.{◌≡◌, ℕ, Bool, true, false, List, [], Option, Some, None, refl}
 use Rattle.std.specs.Prelude.{slice_get}
 use Rattle.quic_streams_state.specs.State.{Streams}
+use Rattle.quic_machine.specs.Timeouts.{Expiry}
+use Rattle.quic_machine.specs.Arrival.{Arrival, delivered_by}
+use Rattle.quic_machine.specs.declared.run.Delivery.{Delivery}
 use Rattle.quic_machine.specs.declared.run.Call.{Call}
 use Rattle.quic_machine.specs.declared.run.Call.TheVariants as calls
 use Rattle.quic_machine.specs.declared.run.Answer.{Answer}
@@ -55,9 +58,9 @@ pub record CallsTo (p : Policy) (e : End) (theirs : List (List ℕ)) (call : Cal
   -- bytes that don't open are handed in: no more than what the path counts changes
   pub heard : (path : Path) → IsSamePath e.path path → P (record e { path = path })
   -- a moment at which timers expire, a poll, a delivery, and what is told
-  pub times : (now : ℕ) (acks loss pacing : Bool) → is_timeout call ≡ true → P (at_expiry e now acks loss pacing)
+  pub times : (now : ℕ) (expiry : Expiry) → is_timeout call ≡ true → P (at_expiry e now expiry)
   pub polls : (now : ℕ) → is_poll call ≡ true → P (polled p e now).end
-  pub hears : (now : ℕ) (d : List ℕ) → is_delivery call ≡ true → P (received p e now d).end
+  pub hears : (arrival : Arrival) (d : List ℕ) → is_delivery call ≡ true → P (received p e arrival d).end
   pub tells : asks_event call ≡ true → P (end_after_event e)
 
 -- the same, whatever streams and messages are left
@@ -67,18 +70,18 @@ pub record Plain (p : Policy) (e : End) (call : Call) (P : End → Type 0) : Typ
   pub on_messages : (m : Messaging) → P (with_messages e m)
   pub pings : P (with_ping e true)
   pub heard : (path : Path) → IsSamePath e.path path → P (record e { path = path })
-  pub times : (now : ℕ) (acks loss pacing : Bool) → is_timeout call ≡ true → P (at_expiry e now acks loss pacing)
+  pub times : (now : ℕ) (expiry : Expiry) → is_timeout call ≡ true → P (at_expiry e now expiry)
   pub polls : (now : ℕ) → is_poll call ≡ true → P (polled p e now).end
-  pub hears : (now : ℕ) (d : List ℕ) → is_delivery call ≡ true → P (received p e now d).end
+  pub hears : (arrival : Arrival) (d : List ℕ) → is_delivery call ≡ true → P (received p e arrival d).end
   pub tells : (told : Bool) → P (at_event e told)
 
 -- ---- any call
 
 module _ (p : Policy) (e : End) (theirs : List (List ℕ)) (P : End → Type 0) where
   -- there is such a datagram or not
-  delivered_case : (o : Option (List ℕ)) (now : ℕ) → P e → ((d : List ℕ) → P (received p e now d).end) → P (after_delivered p e now o)
-  delivered_case None now same hears = same
-  delivered_case (Some d) now same hears = hears d
+  delivered_case : (o : Option (List ℕ)) (delivery : Delivery) → P e → ((d : List ℕ) → P (received p e (delivered_by delivery) d).end) → P (after_delivered p e delivery o)
+  delivered_case None delivery same hears = same
+  delivered_case (Some d) delivery same hears = hears d
 
   -- what holds in each case holds after a call
   pub by_call : (call : Call) (a : Answer) → CallsTo p e theirs call a P → P (after_call p e theirs call a)
@@ -86,9 +89,9 @@ module _ (p : Policy) (e : End) (theirs : List (List ℕ)) (P : End → Type 0) 
   by_call calls.Recv a c = c.on_messages refl (λ is. is)
   by_call calls.Ping a c = c.pings
   by_call (calls.Poll now) a c = c.polls now refl
-  by_call (calls.Timeout now) a c = by_expiry e now P c.same (λ acks loss pacing. c.times now acks loss pacing refl)
-  by_call (calls.Deliver delivery) a c = delivered_case (slice_get theirs delivery.index) delivery.now c.same (λ d. c.hears delivery.now d refl)
-  by_call (calls.Inject injection) a c = by_injection p e injection.now injection.bytes P c.same c.heard
+  by_call (calls.Timeout now) a c = by_expiry e now P c.same (λ expiry. c.times now expiry refl)
+  by_call (calls.Deliver delivery) a c = delivered_case (slice_get theirs delivery.index) delivery c.same (λ d. c.hears (delivered_by delivery) d refl)
+  by_call (calls.Inject injection) a c = by_injection p e injection P c.same c.heard
   by_call calls.Event a c = c.tells refl
   by_call (calls.Timer timer) a c = c.same
   by_call calls.NextTimeout a c = c.same

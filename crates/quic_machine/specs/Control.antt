@@ -10,6 +10,7 @@ use Rattle.quic_streams_parts.specs.Table.{Table}
 use Rattle.quic_spaces.specs.Persistent.{Loss}
 use Rattle.quic_spaces.specs.PersistentSteps.{is_persistent_after}
 use Rattle.quic_machine.specs.Tracking.{TrackedPacket}
+use Rattle.quic_machine.specs.Parts.{current_mtu}
 use Rattle.quic_machine.specs.End.{End, probe_timeout}
 
 -- ---- what is in flight (section 2)
@@ -30,7 +31,7 @@ bytes_in_flight e = sum_by (λ p. p.1.size) (flying e.path.generation e.tracking
 
 -- whether the window has no room for one more datagram
 abbrev pub is_window_full : End → Bool
-is_window_full e = nat_le e.path.window (bytes_in_flight e + e.path.size)
+is_window_full e = nat_le e.path.window (bytes_in_flight e + current_mtu e.path)
 
 -- the round trip over which sending is spread
 abbrev pub paced_rtt : End → ℕ
@@ -38,7 +39,7 @@ paced_rtt e = max (best_rtt e.path.rtt) 1
 
 -- the pacer, asked at the moment of the end whether one more datagram may go: the moment until which it has to wait, if it has to (section 7.7)
 abbrev pub pacer_answer : End → Option ℕ
-pacer_answer e = delay_of e.path.pacing (paced_rtt e) e.path.size e.path.size e.path.window e.closing.clock
+pacer_answer e = delay_of e.path.pacing (paced_rtt e) (current_mtu e.path) (current_mtu e.path) e.path.window e.closing.clock
 
 -- a moment counts that lies behind another
 abbrev pub if_later : ℕ → Option ℕ → Option ℕ
@@ -55,7 +56,7 @@ with_pacing e pacing = record e { path = record e.path { pacing = pacing } }
 
 -- the end after its pacer was asked
 abbrev pub pacer_asked : End → End
-pacer_asked e = with_pacing e (after_delay e.path.pacing (paced_rtt e) e.path.size e.path.size e.path.window e.closing.clock)
+pacer_asked e = with_pacing e (after_delay e.path.pacing (paced_rtt e) (current_mtu e.path) (current_mtu e.path) e.path.window e.closing.clock)
 
 -- the end after a datagram of so many bytes took its tokens
 abbrev pub paid : End → ℕ → End

@@ -1,5 +1,5 @@
 -- What holds of a draft, whichever frames go; and that a datagram has a frame.
-use Rattle.std.proofs.Common.{◌≡◌, ℕ, ◌+◌, ◌-◌, ◌≤◌, List, [], ◌∷◌, ◌++◌, Bool, true, false, ◌&&◌, ◌||◌, not, length, Some, refl, sym, ap, ◌∙◌, subst, arith, nat_lt, ◌⊎◌, inl, inr}
+use Rattle.std.proofs.Common.{◌≡◌, ℕ, ◌+◌, ◌-◌, ◌<◌, ◌≤◌, ◌^◌, List, [], ◌∷◌, ◌++◌, Bool, true, false, ◌&&◌, ◌||◌, not, length, Some, refl, sym, ap, ◌∙◌, subst, arith, nat_lt, ◌⊎◌, inl, inr}
 use Rattle.std.specs.Prelude.{if◌then◌else◌, map, ◌*◌}
 use Rattle.std.specs.List.{fold}
 use Rattle.std.proofs.lemmas.Bool.{and_parts}
@@ -19,11 +19,11 @@ use Rattle.quic_streams_state.specs.Control as control
 use Rattle.quic_streams_state.specs.Frames as of_streams
 use Rattle.quic_streams_laws.specs.KindLaws.{GoesFirst}
 use Rattle.quic_streams_laws.specs.ControlWalk.{GoesOn, by_control, by_stream_frames}
-use Rattle.quic_recovery_core.specs.PendingAcks.{can_send, is_filled}
-use Rattle.quic_recovery_core.specs.declared.spaces.pending_acks.TheConstants.{LAZY_ACK_THRESHOLD}
+use Rattle.quic_recovery_core.specs.PendingAcks.{lazy_threshold, can_send, is_filled}
 use Rattle.quic_spaces.specs.Numbers.{cut_against}
 use Rattle.quic_machine.specs.End.{End, number_of, with_streams, with_ping}
 use Rattle.quic_machine.specs.Control.{Gated}
+use Rattle.quic_machine.specs.Parts.{current_mtu}
 use Rattle.quic_machine.specs.Poll.{Draft, frame_room, fits, with_frame, left, ping_if, behind_control, with_control_frames, with_message, with_messages_of, with_message_frames, behind_stream, no_stream_frames, with_stream_frames, Kind, order, put, with_asking, no_frames, ack_of, with_ack, ack_fits, ack_if, composed_if, composed, asks_to_go, lazied, goes, draft_if}
 use Rattle.quic_machine.specs.Poll as poll
 
@@ -37,10 +37,16 @@ width_few n = go (nat_lt (2 * n) 256) (nat_lt (2 * n) 65536) (nat_lt (2 * n) 167
     go false false true = omega arith
     go false false false = omega arith
 
--- how many bytes a datagram has for frames at least
-pub room_most : (e : End) → length e.ids.active.id ≤ 20 → 1159 ≤ frame_room e
-room_most e short =
+-- a datagram has room for frames: the id to which it goes has 20 bytes at most, and the path takes 1200 (RFC 9000, sections 17.2 and 14)
+abbrev pub HasRoom : End → Type 0
+HasRoom e = (length e.ids.active.id ≤ 20) × (1200 ≤ current_mtu e.path) × (current_mtu e.path < 2 ^ 16)
+
+-- how many bytes it has for them at least
+pub room_most : (e : End) → HasRoom e → 1159 ≤ frame_room e
+room_most e room =
     let width = width_few (number_of e - cut_against e.numbers) in
+    let short = room.0 in
+    let size = room.1 in
     omega arith
 
 -- ---- one frame of each kind
@@ -206,7 +212,7 @@ by_leave P w false e due p = by_writing P w e p
 pub due_alone : (g : Gated) → goes g ≡ true → g.held ≡ true → can_send (lazied g.end).acknowledging ≡ true
 due_alone g is held = go g.end.acknowledging.due (is_filled g.end.acknowledging.runs) g.held held is
   where
-    go : (due filled held : Bool) → held ≡ true → (due && filled) || (not held && asks_to_go g.end) ≡ true → (due || nat_lt LAZY_ACK_THRESHOLD g.end.acknowledging.silent) && filled ≡ true
+    go : (due filled held : Bool) → held ≡ true → (due && filled) || (not held && asks_to_go g.end) ≡ true → (due || nat_lt lazy_threshold g.end.acknowledging.silent) && filled ≡ true
     go true true true h is = refl
     go true false true h is = absurd cc
     go false true true h is = absurd cc

@@ -22,7 +22,8 @@ use Rattle.quic_spaces.specs.Filter.{Filter, first_filter, allocated, after_allo
 use Rattle.quic_machine.specs.Tracking.{Tracking, nothing_tracked, loss_moment}
 use Rattle.quic_streams_state.specs.declared.state.StreamsState.{StreamsState}
 use Rattle.quic_streams_state.specs.State.{Streams, streams_of, new_streams, after_set_params}
-use Rattle.quic_machine.specs.Parts.{Path, Windows, first_path, Messaging, no_messaging, with_queues, Waiting, nothing_waits}
+use Rattle.quic_spaces.specs.Marks.{Counts}
+use Rattle.quic_machine.specs.Parts.{Path, Windows, first_path, Marks, no_marks, Messaging, no_messaging, with_queues, Waiting, nothing_waits}
 use Rattle.quic_messages.specs.Messages.{Messages}
 use Rattle.quic_machine.specs.Policy.{Policy, keys_policy}
 
@@ -35,6 +36,8 @@ pub record End : Type 0 where
   pub numbers : Numbers
   pub filter : Filter
   pub acknowledging : Pending
+  -- the marks with which packets came, here and at the peer (section 13.4)
+  pub marks : Marks
   -- when timers expire, and the datagrams that are tracked (RFC 9002, sections 2 and 6)
   pub timers : Timers
   pub tracking : Tracking
@@ -77,9 +80,10 @@ new_end side settings windows theirs own_id peer_id now validated word = record 
   numbers = no_numbers;
   filter = first_filter word;
   acknowledging = none_pending;
+  marks = no_marks;
   timers = no_timers;
   tracking = nothing_tracked now;
-  path = first_path validated (transport_of settings) windows now;
+  path = first_path validated (transport_of settings) theirs.max_udp_payload_size windows now;
   transport = transport_of settings;
   peer_params = theirs;
   streams = first_streams side settings theirs;
@@ -114,6 +118,14 @@ with_number_given word e = record e { numbers = number_given e.numbers (number_o
 -- the end with other packets to acknowledge
 abbrev pub with_acknowledging : End → Pending → End
 with_acknowledging e p = record e { acknowledging = p }
+
+-- the end with other counts of marks at the peer
+abbrev pub with_told : End → Counts → End
+with_told e counts = record e { marks = record e.marks { told = counts } }
+
+-- the end that marks its datagrams or doesn't
+abbrev pub with_marking : End → Bool → End
+with_marking e marking = record e { path = record e.path { marking = marking } }
 
 -- the timers with the one of acknowledgements set or stopped
 abbrev pub with_ack_timer : Timers → Option ℕ → Timers

@@ -1,7 +1,8 @@
 -- What a datagram that comes leaves, as cases: of the packets that an ACK frame names or that are lost, of frames, and of the packet that has them.
-use Rattle.std.proofs.Common.{◌≡◌, ℕ, Bool, true, false, not, ◌||◌, ◌==◌, List, [], ◌∷◌, map, Option, Some, None, Result, Ok, Err, refl, sym, ◌∙◌}
+use Rattle.std.proofs.Common.{◌≡◌, ℕ, Bool, true, false, not, ◌||◌, ◌==◌, List, [], ◌∷◌, map, length, Option, Some, None, Result, Ok, Err, refl, sym, ◌∙◌}
 use Rattle.std.specs.Prelude.{if◌then◌else◌}
 use Rattle.quic_wire.specs.Value.{FrameValue, AckValue, ack, stream, reset_stream, stop_sending, max_data, max_stream_data, max_streams, new_token, handshake_done, datagram}
+use Rattle.quic_wire_core.specs.declared.shared.EcnCodepoint.{EcnCodepoint}
 use Rattle.quic_wire.specs.Items.{items}
 use Rattle.quic_wire.specs.declared.frame.InvalidFrame.{InvalidFrame}
 use Rattle.quic_packet.specs.Header.{key_phase, reserved_bits}
@@ -12,6 +13,7 @@ use Rattle.quic_send_buffer.specs.declared.stream_meta.StreamMeta.{StreamMeta}
 use Rattle.quic_recovery_core.specs.Duplicates.{is_duplicate}
 use Rattle.quic_streams_state.specs.State.{Streams}
 use Rattle.quic_streams_parts.specs.Table.{Table}
+use Rattle.quic_machine.specs.Arrival.{Arrival}
 use Rattle.quic_machine.specs.declared.answers.State.{State}
 use Rattle.quic_machine.specs.declared.answers.State.TheVariants as states
 use Rattle.quic_machine.specs.declared.answers.DropReason.TheVariants as drops
@@ -20,14 +22,16 @@ use Rattle.quic_machine.specs.Policy.{Policy}
 use Rattle.quic_machine.specs.Closing.{ticked}
 use Rattle.quic_machine.specs.Ids.{known}
 use Rattle.quic_spaces.specs.Numbers.{number_opened, number_named}
+use Rattle.quic_spaces.specs.Marks.{Counts}
+use Rattle.quic_spaces.specs.declared.space.EcnError.{EcnError}
 use Rattle.quic_time.specs.Rtt.{Rtt}
 use Rattle.quic_messages.specs.declared.errors.ReceivedError.{ReceivedError}
 use Rattle.quic_messages.specs.Messages.{received_answer}
 use Rattle.quic_machine.specs.Parts.{Messaging}
 use Rattle.quic_machine.specs.Tracking.{Tracking, TrackedPacket, Carried, acked_by, Verdict, lost_by, after_detection}
-use Rattle.quic_machine.specs.End.{End, with_closing, closed_by, with_numbers, with_streams, with_messages, with_tracking, with_rtt}
+use Rattle.quic_machine.specs.End.{End, with_closing, closed_by, with_numbers, with_streams, with_messages, with_tracking, with_rtt, with_told, with_marking}
 use Rattle.quic_machine.specs.Opens.{own_id_length}
-use Rattle.quic_machine.specs.Acked.{without_known, reset_acked, resets_acked, stream_acked, streams_acked, packet_acked, packets_acked, stream_lost, streams_lost, again, carried_lost, packets_lost, lost_as, verdict, losses_detected, measured, sampled, without_acked, after_named, after_acked}
+use Rattle.quic_machine.specs.Acked.{without_known, reset_acked, resets_acked, stream_acked, streams_acked, packet_acked, packets_acked, stream_lost, streams_lost, again, carried_lost, packets_lost, lost_as, verdict, losses_detected, measured, sampled, without_acked, counts_judged, counts_answer, counts_seen, marks_seen, losses_taken, after_named, after_acked}
 use Rattle.quic_machine.specs.Receive.{Fault, violation, reason_of, Progress, goes_on, is_above, names_ungiven, message_taken, message_judged, take_message, take_frame, take_item, unless_fault, take_items, is_empty, take_payload, asks_in, after_taken, dropped, ends_as, by_state, opened_to, opened_as, opening, headed, received_in, received}
 
 -- ---- packets that are acknowledged, and those that are lost
@@ -56,6 +60,21 @@ module _ (P : End → Type 0) (lost : (m : StreamMeta) (e : End) → P e → P (
   packets_lost_keep waits (p ∷ ps) e i =
       packets_lost_keep waits ps (carried_lost p.1.carried e) (waits p.1.carried (streams_lost p.1.carried.stream_frames e) (streams_lost_keep p.1.carried.stream_frames e i))
 
+-- what holds of an end whatever marks the peer counted, and whether or not datagrams are marked, holds where counts came
+pub by_marks : (rises : Bool) (newly : ℕ) (a : AckValue) (e : End) (P : End → Type 0) → ((counts : Counts) (marking : Bool) → P (with_marking (with_told e counts) marking)) → P (marks_seen rises newly a e)
+by_marks rises newly a e P all = go e.path.marking rises a.ecn
+  where
+    judged : (r : Result Bool EcnError) (counts : Counts) → P (counts_judged r counts e)
+    judged (Ok grew) counts = all counts e.path.marking
+    judged (Err error) counts = all e.marks.told false
+
+    go : (marking rises : Bool) (o : Option Counts) → P (counts_seen marking rises newly o e)
+    go true true None = all e.marks.told false
+    go true false None = all e.marks.told false
+    go true true (Some counts) = judged (counts_answer e newly counts) counts
+    go true false (Some counts) = all e.marks.told e.path.marking
+    go false rises o = all e.marks.told e.path.marking
+
 -- what an ACK frame makes of an end, step by step
 pub record Settling (P : End → Type 0) : Type 0 where
   -- numbers that the peer knows of need no more acknowledgement
@@ -69,6 +88,8 @@ pub record Settling (P : End → Type 0) : Type 0 where
   pub tracked : (t : Tracking) (e : End) → P e → P (with_tracking e t)
   -- the round trip is measured
   pub measured : (r : Rtt) (first : Option ℕ) (e : End) → P e → P (with_rtt e r first)
+  -- the peer's counts of marks are kept, and marking may end
+  pub marked : (counts : Counts) (marking : Bool) (e : End) → P e → P (with_marking (with_told e counts) marking)
 
 module _ (P : End → Type 0) (c : Settling P) where
   -- what the peer knows of, if anything
@@ -105,7 +126,9 @@ module _ (P : End → Type 0) (c : Settling P) where
       let timed = sampled (measured rises a (p ∷ ps)) a left in
       let found = losses_detected timed in
       let stays : P left = c.tracked left.tracking (packets_acked (p ∷ ps) e) (packets_acked_keep (p ∷ ps) e i) in
-      c.tracked (after_named (p ∷ ps) rises a e).tracking found (losses_keep timed (sampled_keeps (measured rises a (p ∷ ps)) a left stays))
+      let taken = losses_taken (p ∷ ps) rises a e in
+      let kept : P taken = c.tracked taken.tracking found (losses_keep timed (sampled_keeps (measured rises a (p ∷ ps)) a left stays)) in
+      by_marks rises (length (p ∷ ps)) a taken P (λ counts marking. c.marked counts marking taken kept)
 
   -- an ACK frame, whose greatest number is counted already
   pub acked_keeps : (rises : Bool) (a : AckValue) (e : End) → P e → P (after_acked rises a e)
@@ -232,7 +255,7 @@ pub record Receives (P : End → Type 0) : Type 0 where
   pub begins : (now n : ℕ) (e : End) → P e → P (begun e now n)
   pub frame : (f : FrameValue) (e : End) → P e → P (take_frame f e).end
   -- all was taken, or a frame was at fault
-  pub takes : (n : ℕ) (asks : Bool) (e : End) → P e → P (after_taken n asks e)
+  pub takes : (n : ℕ) (asks : Bool) (mark : Option EcnCodepoint) (e : End) → P e → P (after_taken n asks mark e)
   pub closes : (reason : LostReason) (e : End) → P e → P (closed_by reason e)
 
 module _ (P : End → Type 0) (c : Receives P) where
@@ -245,42 +268,42 @@ module _ (P : End → Type 0) (c : Receives P) where
       go false = items_keep P c.frame is e i
 
   -- all frames were taken, or one was at fault
-  ends_keep : (fault : Option Fault) (asks : Bool) (n : ℕ) (e : End) → P e → P (ends_as fault asks n e).end
-  ends_keep None asks n e i = c.takes n asks e i
-  ends_keep (Some fault) asks n e i = c.closes (reason_of fault) e i
+  ends_keep : (fault : Option Fault) (asks : Bool) (n : ℕ) (mark : Option EcnCodepoint) (e : End) → P e → P (ends_as fault asks n mark e).end
+  ends_keep None asks n mark e i = c.takes n asks mark e i
+  ends_keep (Some fault) asks n mark e i = c.closes (reason_of fault) e i
 
   -- a packet whose number is new
-  state_keeps : (state : State) (o : Opening) (now : ℕ) (e : End) → P e → P (by_state state o now (with_numbers e (number_opened e.numbers o.number))).end
-  state_keeps states.Open o now e i =
-      let taken = take_payload o.first (items o.payload) (begun e now o.number) in
-      ends_keep taken.fault (asks_in (items o.payload)) o.number taken.end (payload_keeps o.first (items o.payload) (begun e now o.number) (c.begins now o.number e i))
-  state_keeps states.Closing o now e i = c.notes o.number e i
-  state_keeps states.Drained o now e i = c.notes o.number e i
-  state_keeps states.Failed o now e i = c.notes o.number e i
+  state_keeps : (state : State) (o : Opening) (arrival : Arrival) (e : End) → P e → P (by_state state o arrival (with_numbers e (number_opened e.numbers o.number))).end
+  state_keeps states.Open o arrival e i =
+      let taken = take_payload o.first (items o.payload) (begun e arrival.now o.number) in
+      ends_keep taken.fault (asks_in (items o.payload)) o.number arrival.mark taken.end (payload_keeps o.first (items o.payload) (begun e arrival.now o.number) (c.begins arrival.now o.number e i))
+  state_keeps states.Closing o arrival e i = c.notes o.number e i
+  state_keeps states.Drained o arrival e i = c.notes o.number e i
+  state_keeps states.Failed o arrival e i = c.notes o.number e i
 
   -- a packet that opened
-  opened_keeps : (o : Opening) (now : ℕ) (e : End) → P e → P (opened_to o now e).end
-  opened_keeps o now e i = go (key_phase o.first) (is_duplicate e.numbers.opened o.number)
+  opened_keeps : (o : Opening) (arrival : Arrival) (e : End) → P e → P (opened_to o arrival e).end
+  opened_keeps o arrival e i = go (key_phase o.first) (is_duplicate e.numbers.opened o.number)
     where
-      go : (a b : Bool) → P (if a then dropped drops.KeyPhase e else (if b then dropped drops.Duplicate e else by_state e.closing.state o now (with_numbers e (number_opened e.numbers o.number)))).end
+      go : (a b : Bool) → P (if a then dropped drops.KeyPhase e else (if b then dropped drops.Duplicate e else by_state e.closing.state o arrival (with_numbers e (number_opened e.numbers o.number)))).end
       go true b = i
       go false true = i
-      go false false = state_keeps e.closing.state o now e i
+      go false false = state_keeps e.closing.state o arrival e i
 
-  packet_keeps : (o : Option Opening) (now : ℕ) (e : End) → P e → P (opened_as o now e).end
-  packet_keeps None now e i = i
-  packet_keeps (Some o) now e i = opened_keeps o now e i
+  packet_keeps : (o : Option Opening) (arrival : Arrival) (e : End) → P e → P (opened_as o arrival e).end
+  packet_keeps None arrival e i = i
+  packet_keeps (Some o) arrival e i = opened_keeps o arrival e i
 
-  headed_keeps : (r : Result (List ℕ) HeaderError) (p : Policy) (e : End) (now : ℕ) (d : List ℕ) → P e → P (headed r p e now d).end
-  headed_keeps (Err error) p e now d i = i
-  headed_keeps (Ok id) p e now d i = packet_keeps (opening p e d) now e i
+  headed_keeps : (r : Result (List ℕ) HeaderError) (p : Policy) (e : End) (arrival : Arrival) (d : List ℕ) → P e → P (headed r p e arrival d).end
+  headed_keeps (Err error) p e arrival d i = i
+  headed_keeps (Ok id) p e arrival d i = packet_keeps (opening p e d) arrival e i
 
-  received_keeps : (state : State) (p : Policy) (e : End) (now : ℕ) (d : List ℕ) → P e → P (received_in state p e now d).end
-  received_keeps states.Failed p e now d i = i
-  received_keeps states.Drained p e now d i = i
-  received_keeps states.Open p e now d i = headed_keeps (decoded (fixed_length_id own_id_length) (known e.ids) d) p e now d i
-  received_keeps states.Closing p e now d i = headed_keeps (decoded (fixed_length_id own_id_length) (known e.ids) d) p e now d i
+  received_keeps : (state : State) (p : Policy) (e : End) (arrival : Arrival) (d : List ℕ) → P e → P (received_in state p e arrival d).end
+  received_keeps states.Failed p e arrival d i = i
+  received_keeps states.Drained p e arrival d i = i
+  received_keeps states.Open p e arrival d i = headed_keeps (decoded (fixed_length_id own_id_length) (known e.ids) d) p e arrival d i
+  received_keeps states.Closing p e arrival d i = headed_keeps (decoded (fixed_length_id own_id_length) (known e.ids) d) p e arrival d i
 
   -- what each step keeps holds after a datagram
-  pub by_received : (p : Policy) (e : End) (now : ℕ) (d : List ℕ) → P e → P (received p e now d).end
-  by_received p e now d i = received_keeps e.closing.state p e now d i
+  pub by_received : (p : Policy) (e : End) (arrival : Arrival) (d : List ℕ) → P e → P (received p e arrival d).end
+  by_received p e arrival d i = received_keeps e.closing.state p e arrival d i

@@ -6,6 +6,8 @@ use Rattle.quic_packet.specs.Header.{key_phase}
 use Rattle.quic_packet.specs.Datagram.{Opening}
 use Rattle.quic_packet.specs.Destination.{decoded, fixed_length_id}
 use Rattle.quic_packet.specs.declared.packet.HeaderError.{HeaderError}
+use Rattle.quic_machine.specs.Arrival.{Arrival, injected_by}
+use Rattle.quic_machine.specs.declared.run.Injection.{Injection}
 use Rattle.quic_machine.specs.declared.answers.State.{State}
 use Rattle.quic_machine.specs.declared.answers.State.TheVariants as states
 use Rattle.quic_machine.specs.declared.answers.DropReason.TheVariants as drops
@@ -20,38 +22,38 @@ use Rattle.quic_machine.specs.Receive.{dropped, by_state, opened_as, opening, he
 use Rattle.quic_machine.specs.Machine.{injected_if, after_injected_if, gave}
 
 -- a packet that doesn't open in key phase 0 is dropped
-packet_leaves : (o : Option Opening) (now : ℕ) (e : End) → is_some (in_phase o) ≡ false → (opened_as o now e).end ≡ e
-packet_leaves None now e none = refl
-packet_leaves (Some o) now e none = go (key_phase o.first) none
+packet_leaves : (o : Option Opening) (arrival : Arrival) (e : End) → is_some (in_phase o) ≡ false → (opened_as o arrival e).end ≡ e
+packet_leaves None arrival e none = refl
+packet_leaves (Some o) arrival e none = go (key_phase o.first) none
   where
     go : (b : Bool) → is_some (if b then None else Some o) ≡ false
-        → (if b then dropped drops.KeyPhase e else (if is_duplicate e.numbers.opened o.number then dropped drops.Duplicate e else by_state e.closing.state o now (with_numbers e (number_opened e.numbers o.number)))).end ≡ e
+        → (if b then dropped drops.KeyPhase e else (if is_duplicate e.numbers.opened o.number then dropped drops.Duplicate e else by_state e.closing.state o arrival (with_numbers e (number_opened e.numbers o.number)))).end ≡ e
     go true none = refl
     go false none = cc
 
-headed_leaves : (r : Result (List ℕ) HeaderError) (p : Policy) (e : End) (now : ℕ) (d : List ℕ) → is_some (opens_behind r p (expected e.numbers) d) ≡ false → (headed r p e now d).end ≡ e
-headed_leaves (Err error) p e now d none = refl
-headed_leaves (Ok id) p e now d none = packet_leaves (opening p e d) now e none
+headed_leaves : (r : Result (List ℕ) HeaderError) (p : Policy) (e : End) (arrival : Arrival) (d : List ℕ) → is_some (opens_behind r p (expected e.numbers) d) ≡ false → (headed r p e arrival d).end ≡ e
+headed_leaves (Err error) p e arrival d none = refl
+headed_leaves (Ok id) p e arrival d none = packet_leaves (opening p e d) arrival e none
 
-received_leaves : (state : State) (p : Policy) (e : End) (now : ℕ) (d : List ℕ) → would_open p e d ≡ false → (received_in state p e now d).end ≡ e
-received_leaves states.Failed p e now d none = refl
-received_leaves states.Drained p e now d none = refl
-received_leaves states.Open p e now d none = headed_leaves (decoded (fixed_length_id own_id_length) (known e.ids) d) p e now d none
-received_leaves states.Closing p e now d none = headed_leaves (decoded (fixed_length_id own_id_length) (known e.ids) d) p e now d none
+received_leaves : (state : State) (p : Policy) (e : End) (arrival : Arrival) (d : List ℕ) → would_open p e d ≡ false → (received_in state p e arrival d).end ≡ e
+received_leaves states.Failed p e arrival d none = refl
+received_leaves states.Drained p e arrival d none = refl
+received_leaves states.Open p e arrival d none = headed_leaves (decoded (fixed_length_id own_id_length) (known e.ids) d) p e arrival d none
+received_leaves states.Closing p e arrival d none = headed_leaves (decoded (fixed_length_id own_id_length) (known e.ids) d) p e arrival d none
 
 -- an injection leaves its end as it is
-pub injected_leaves : (p : Policy) (e : End) (now : ℕ) (d : List ℕ) → after_injected_if (would_open p e d) p e now d ≡ e
-injected_leaves p e now d = go (would_open p e d) refl
+pub injected_leaves : (p : Policy) (e : End) (injection : Injection) → after_injected_if (would_open p e injection.bytes) p e injection ≡ e
+injected_leaves p e injection = go (would_open p e injection.bytes) refl
   where
-    go : (b : Bool) → would_open p e d ≡ b → after_injected_if b p e now d ≡ e
+    go : (b : Bool) → would_open p e injection.bytes ≡ b → after_injected_if b p e injection ≡ e
     go true is = refl
-    go false is = received_leaves e.closing.state p e now d is
+    go false is = received_leaves e.closing.state p e (injected_by injection) injection.bytes is
 
 -- what holds of the end as it was, and of it whatever its path counts, holds after an injection
-pub by_injection : (p : Policy) (e : End) (now : ℕ) (d : List ℕ) (P : End → Type 0) → P e → ((path : Path) → IsSamePath e.path path → P (record e { path = path })) → P (after_injected_if (would_open p e d) p e now d)
-by_injection p e now d P same heard = subst P (sym (injected_leaves p e now d)) same
+pub by_injection : (p : Policy) (e : End) (injection : Injection) (P : End → Type 0) → P e → ((path : Path) → IsSamePath e.path path → P (record e { path = path })) → P (after_injected_if (would_open p e injection.bytes) p e injection)
+by_injection p e injection P same heard = subst P (sym (injected_leaves p e injection)) same
 
 -- it gives no datagram
-pub injected_gives : (b : Bool) (p : Policy) (e : End) (now : ℕ) (d : List ℕ) → gave (injected_if b p e now d) ≡ false
-injected_gives true p e now d = refl
-injected_gives false p e now d = refl
+pub injected_gives : (b : Bool) (p : Policy) (e : End) (injection : Injection) → gave (injected_if b p e injection) ≡ false
+injected_gives true p e injection = refl
+injected_gives false p e injection = refl

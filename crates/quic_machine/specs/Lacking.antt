@@ -1,6 +1,7 @@
 -- Where a call may lack memory.
 use Rattle.std.specs.Prelude.{ℕ, ◌≡◌, ◌≢◌, ◌⊎◌, Bool, true, false, nat_lt, List, [], ◌∷◌, length, slice_get, Option, Some, None, IsSome, IfSome, Result, Ok, Err}
 use Rattle.quic_assembler.specs.declared.assembler.Chunk.{Chunk}
+use Rattle.quic_machine.specs.Arrival.{delivered_by}
 use Rattle.quic_machine.specs.declared.answers.Failed.{Failed}
 use Rattle.quic_machine.specs.declared.answers.Received.{Received}
 use Rattle.quic_machine.specs.declared.answers.Received.TheVariants as receives
@@ -13,6 +14,7 @@ use Rattle.quic_streams_parts.specs.declared.answers.ReadableError.TheVariants a
 use Rattle.quic_streams_parts.specs.declared.answers.ReadError.{ReadError}
 use Rattle.quic_streams_parts.specs.declared.answers.ReadError.TheVariants as read_errors
 use Rattle.quic_machine.specs.declared.run.Call.{Call}
+use Rattle.quic_machine.specs.declared.run.Delivery.{Delivery}
 use Rattle.quic_machine.specs.declared.run.Call.TheVariants as calls
 use Rattle.quic_machine.specs.declared.run.Answer.{Answer}
 use Rattle.quic_machine.specs.declared.run.Answer.TheVariants as answers
@@ -81,9 +83,9 @@ StreamCallLacks is_open s p (calls.Stop id code) (answers.Stop answer) = answer 
 StreamCallLacks is_open s p call a = Unit {0}
 
 -- there is such a datagram, and its frames are taken
-abbrev pub DeliveryTakes : Policy → End → ℕ → Option (List ℕ) → Type 0
-DeliveryTakes p e now None = ⊥
-DeliveryTakes p e now (Some d) = TakesFrames (received p e now d).answer
+abbrev pub DeliveryTakes : Policy → End → Delivery → Option (List ℕ) → Type 0
+DeliveryTakes p e delivery None = ⊥
+DeliveryTakes p e delivery (Some d) = TakesFrames (received p e (delivered_by delivery) d).answer
 
 -- a probe takes what has to be sent again of a packet
 abbrev pub MovesRecord : End → Type 0
@@ -104,7 +106,7 @@ abbrev pub LacksWhere : Policy → End → List (List ℕ) → Call → Answer �
 LacksWhere p e theirs (calls.Send message makes_room) a = MessageCallLacks e (calls.Send message makes_room) a
 LacksWhere p e theirs (calls.Poll now) (answers.Poll (Err x)) = PollTakes p e now
 LacksWhere p e theirs (calls.Timeout now) (answers.Timeout (Err x)) = LosesOrHasFailed e now
-LacksWhere p e theirs (calls.Deliver delivery) (answers.Deliver receives.Failed) = DeliveryTakes p e delivery.now (slice_get theirs delivery.index)
+LacksWhere p e theirs (calls.Deliver delivery) (answers.Deliver receives.Failed) = DeliveryTakes p e delivery (slice_get theirs delivery.index)
 LacksWhere p e theirs call a = StreamCallLacks (is_open e.closing.state) e.streams e.waiting.frames call a
 
 -- a call for which a run takes memory of its own, before it makes it: a datagram that is given is kept, a message that is sent and what comes are copied, and

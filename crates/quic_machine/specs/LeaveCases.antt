@@ -2,7 +2,7 @@
 use Rattle.std.proofs.Common.{◌≡◌, ℕ, Bool, true, false, Option, Some, None, refl, ap}
 use Rattle.std.specs.Prelude.{if◌then◌else◌}
 use Rattle.quic_recovery_core.specs.PendingAcks.{Pending}
-use Rattle.quic_time.specs.Timers.{Timers, has_come}
+use Rattle.quic_time.specs.Timers.{Timers}
 use Rattle.quic_machine.specs.declared.answers.State.{State}
 use Rattle.quic_machine.specs.declared.answers.State.TheVariants as states
 use Rattle.quic_machine.specs.declared.answers.LostReason.{LostReason}
@@ -12,7 +12,7 @@ use Rattle.quic_machine.specs.Tracking.{Tracking, lost_by}
 use Rattle.quic_machine.specs.End.{End, with_closing, with_loss_timer}
 use Rattle.quic_machine.specs.Acked.{losses_detected, verdict}
 use Rattle.quic_machine.specs.FrameCases.{packets_lost_keep}
-use Rattle.quic_machine.specs.Timeouts.{acks_expired, loss_judged, loss_expired, pacing_expired, timed_out_in, timed_out}
+use Rattle.quic_machine.specs.Timeouts.{acks_expired, loss_judged, loss_expired, pacing_expired, Expiry, expiry_at, after_expiry, timed_out_in, timed_out}
 use Rattle.quic_machine.specs.Calls.{streams_told, closing_told, tells_message, message_told, others_told, end_after_event}
 
 -- ---- a timeout
@@ -25,9 +25,9 @@ at_timeout e now acks tracking timers = record e { closing = ticked e.closing no
 abbrev pub at_losses : End → ℕ → Pending → Timers → End
 at_losses e now acks timers = record (losses_detected (with_closing e (ticked e.closing now))) { acknowledging = acks; timers = timers }
 
--- an end that took a moment over, at which each of three timers expired or didn't
-abbrev pub at_expiry : End → ℕ → Bool → Bool → Bool → End
-at_expiry e now acks loss pacing = with_loss_timer (pacing_expired pacing (acks_expired acks (loss_expired loss (with_closing e (ticked e.closing now)))))
+-- an end that took a moment over, at which these timers expired
+abbrev pub at_expiry : End → ℕ → Expiry → End
+at_expiry e now expiry = after_expiry expiry (with_closing e (ticked e.closing now))
 
 -- losses change none of the packets to acknowledge
 losses_leave : (e : End) → (losses_detected e).acknowledging ≡ e.acknowledging
@@ -37,8 +37,8 @@ losses_leave e = packets_lost_keep (λ (x : End). x.acknowledging ≡ e.acknowle
 pub by_expired : (e : End) (now : ℕ) (P : End → Type 0)
     → ((acks : Pending) (tracking : Tracking) (timers : Timers) → acks.runs ≡ e.acknowledging.runs → tracking.packets ≡ e.tracking.packets → P (at_timeout e now acks tracking timers))
     → ((acks : Pending) (timers : Timers) → acks.runs ≡ e.acknowledging.runs → P (at_losses e now acks timers))
-    → (acks loss pacing : Bool) → P (at_expiry e now acks loss pacing)
-by_expired e now P changes loses acks loss pacing = go acks loss pacing e.tracking.loss_time refl
+    → (expiry : Expiry) → P (at_expiry e now expiry)
+by_expired e now P changes loses expiry = go expiry.acks expiry.loss expiry.pacing e.tracking.loss_time refl
   where
     begun : End
     begun = with_closing e (ticked e.closing now)
@@ -71,11 +71,11 @@ by_expired e now P changes loses acks loss pacing = go acks loss pacing e.tracki
     go false false false o is = let f = after false begun in changes e.acknowledging e.tracking f.timers refl refl
 
 -- an end that isn't open has no timer
-pub by_expiry : (e : End) (now : ℕ) (P : End → Type 0) → P e → ((acks loss pacing : Bool) → P (at_expiry e now acks loss pacing)) → P (timed_out e now).end
+pub by_expiry : (e : End) (now : ℕ) (P : End → Type 0) → P e → ((expiry : Expiry) → P (at_expiry e now expiry)) → P (timed_out e now).end
 by_expiry e now P same expires = go e.closing.state
   where
     go : (state : State) → P (timed_out_in state e now).end
-    go states.Open = let clock = (ticked e.closing now).clock in expires (has_come e.timers.max_ack_delay clock) (has_come e.timers.loss_detection clock) (has_come e.timers.pacing clock)
+    go states.Open = expires (expiry_at (ticked e.closing now).clock e.timers)
     go states.Closing = same
     go states.Drained = same
     go states.Failed = same

@@ -3,10 +3,12 @@ pub mod Closing
 pub mod Control
 pub mod Ids
 pub mod Parts
+pub mod PathLaws
 pub mod Tracking
 pub mod End
 pub mod Opens
 pub mod Acked
+pub mod Arrival
 pub mod Receive
 pub mod Poll
 pub mod Timeouts

@@ -4,16 +4,20 @@ use Rattle.std.specs.Option.{option_to_list}
 use Rattle.quic_wire_core.specs.declared.stream_id.Side.{Side}
 use Rattle.quic_wire_core.specs.declared.stream_id.Side.TheVariants.{Client, Server}
 use Rattle.quic_wire_core.specs.StreamId.{other_side}
+use Rattle.quic_machine.specs.Arrival.{delivered_by, injected_by}
 use Rattle.quic_machine.specs.declared.answers.State.TheVariants as states
 use Rattle.quic_machine.specs.declared.answers.Received.TheVariants as receives
 use Rattle.quic_machine.specs.declared.run.RunEvent.{RunEvent}
 use Rattle.quic_machine.specs.declared.run.Call.{Call}
+use Rattle.quic_machine.specs.declared.run.Delivery.{Delivery}
+use Rattle.quic_machine.specs.declared.run.Injection.{Injection}
 use Rattle.quic_machine.specs.declared.run.Call.TheVariants as calls
 use Rattle.quic_machine.specs.declared.run.Answer.{Answer}
 use Rattle.quic_machine.specs.declared.run.Answer.TheVariants as answers
 use Rattle.quic_machine.specs.declared.run.EndView.{EndView}
 use Rattle.quic_machine.specs.declared.run.View.{View}
 use Rattle.quic_congestion.specs.Congestion.{Told}
+use Rattle.quic_machine.specs.Parts.{current_mtu}
 use Rattle.quic_machine.specs.Policy.{Policy}
 use Rattle.quic_machine.specs.End.{End, streams_at, with_streams, with_window}
 use Rattle.quic_machine.specs.Control.{Control, after_told}
@@ -30,14 +34,14 @@ use Rattle.quic_machine.specs.Lacking.{LacksWhere}
 -- ---- one call at one end; `theirs` are the datagrams that the other end gave
 
 -- what a delivery is answered: no call is made where there is no such datagram
-abbrev pub IsDelivered : Policy → End → ℕ → Option (List ℕ) → Answer → Type 0
-IsDelivered p e now None a = a ≡ answers.NoDatagram
-IsDelivered p e now (Some d) a = (a ≡ answers.Deliver (received p e now d).answer) ⊎ (a ≡ answers.Deliver receives.Failed)
+abbrev pub IsDelivered : Policy → End → Delivery → Option (List ℕ) → Answer → Type 0
+IsDelivered p e delivery None a = a ≡ answers.NoDatagram
+IsDelivered p e delivery (Some d) a = (a ≡ answers.Deliver (received p e (delivered_by delivery) d).answer) ⊎ (a ≡ answers.Deliver receives.Failed)
 
 -- what an injection is answered: no call is made where it opens
-abbrev pub injected_if : Bool → Policy → End → ℕ → List ℕ → Answer
-injected_if true p e now d = answers.Opens
-injected_if false p e now d = answers.Inject (received p e now d).answer
+abbrev pub injected_if : Bool → Policy → End → Injection → Answer
+injected_if true p e injection = answers.Opens
+injected_if false p e injection = answers.Inject (received p e (injected_by injection) injection.bytes).answer
 
 -- what a call on streams may be answered
 abbrev pub AnswersOnStreams : End → Call → Answer → Type 0
@@ -54,22 +58,22 @@ IsAnswer p e theirs calls.Recv a = IsMessageAnswer e calls.Recv a
 IsAnswer p e theirs calls.Ping a = a ≡ answers.Ping
 IsAnswer p e theirs (calls.Poll now) a = (a ≡ answers.Poll (polled p e now).answer) ⊎ (a ≡ answers.Poll (Err (record {})))
 IsAnswer p e theirs (calls.Timeout now) a = (a ≡ answers.Timeout (timed_out e now).answer) ⊎ (a ≡ answers.Timeout (Err (record {})))
-IsAnswer p e theirs (calls.Deliver delivery) a = IsDelivered p e delivery.now (slice_get theirs delivery.index) a
-IsAnswer p e theirs (calls.Inject injection) a = a ≡ injected_if (would_open p e injection.bytes) p e injection.now injection.bytes
+IsAnswer p e theirs (calls.Deliver delivery) a = IsDelivered p e delivery (slice_get theirs delivery.index) a
+IsAnswer p e theirs (calls.Inject injection) a = a ≡ injected_if (would_open p e injection.bytes) p e injection
 IsAnswer p e theirs calls.Event a = a ≡ answers.Event (end_tells e)
 IsAnswer p e theirs (calls.Timer timer) a = a ≡ answers.Timer (timer_at timer e.timers)
 IsAnswer p e theirs calls.NextTimeout a = a ≡ answers.NextTimeout (next_timer e.timers)
 IsAnswer p e theirs call a = AnswersOnStreams e call a
 
 -- the end after a delivery
-abbrev pub after_delivered : Policy → End → ℕ → Option (List ℕ) → End
-after_delivered p e now None = e
-after_delivered p e now (Some d) = (received p e now d).end
+abbrev pub after_delivered : Policy → End → Delivery → Option (List ℕ) → End
+after_delivered p e delivery None = e
+after_delivered p e delivery (Some d) = (received p e (delivered_by delivery) d).end
 
 -- the end after an injection
-abbrev pub after_injected_if : Bool → Policy → End → ℕ → List ℕ → End
-after_injected_if true p e now d = e
-after_injected_if false p e now d = (received p e now d).end
+abbrev pub after_injected_if : Bool → Policy → End → Injection → End
+after_injected_if true p e injection = e
+after_injected_if false p e injection = (received p e (injected_by injection) injection.bytes).end
 
 -- what a call leaves, by its answer, where memory served
 abbrev pub after_call : Policy → End → List (List ℕ) → Call → Answer → End
@@ -78,8 +82,8 @@ after_call p e theirs calls.Recv a = end_on_messages e calls.Recv a
 after_call p e theirs calls.Ping a = end_after_ping e
 after_call p e theirs (calls.Poll now) a = (polled p e now).end
 after_call p e theirs (calls.Timeout now) a = (timed_out e now).end
-after_call p e theirs (calls.Deliver delivery) a = after_delivered p e delivery.now (slice_get theirs delivery.index)
-after_call p e theirs (calls.Inject injection) a = after_injected_if (would_open p e injection.bytes) p e injection.now injection.bytes
+after_call p e theirs (calls.Deliver delivery) a = after_delivered p e delivery (slice_get theirs delivery.index)
+after_call p e theirs (calls.Inject injection) a = after_injected_if (would_open p e injection.bytes) p e injection
 after_call p e theirs calls.Event a = end_after_event e
 after_call p e theirs (calls.Timer timer) a = e
 after_call p e theirs calls.NextTimeout a = e
@@ -185,15 +189,15 @@ pub record IsStep (k : Policies) (w : World) (event : RunEvent) (a : Answer) (ne
   pub others : next ≡ changed event.side w (end_at event.side next) (gives (policy_at event.side k) (end_met w event) event.call a) (control_at event.side next)
   pub lacking : LacksWhere (policy_at event.side k) (end_met w event) (given_by (other_side event.side) w) event.call a
 
--- what is seen of an end and its controller; what this stage has no call for is not there
+-- what is seen of an end and its controller
 abbrev pub end_view : Control → End → EndView
 end_view control e = record {
   state = e.closing.state;
   reason = e.closing.reason;
   validated = e.path.validated;
   timers = each_timer e.timers;
-  window = Some (control []);
-  current_mtu = None;
+  window = control [];
+  current_mtu = current_mtu e.path;
 }
 
 -- what is seen of both ends

@@ -8,10 +8,9 @@ use Rattle.quic_machine.specs.declared.run.Call.{Call}
 use Rattle.quic_machine.specs.declared.run.Call.TheVariants as calls
 use Rattle.quic_machine.specs.declared.run.Answer.{Answer}
 use Rattle.quic_machine.specs.declared.run.Answer.TheVariants as answers
-use Rattle.quic_machine.specs.Parts.{Messaging, with_queues}
+use Rattle.quic_machine.specs.Parts.{current_mtu, Messaging, with_queues}
 use Rattle.quic_machine.specs.End.{End, with_messages}
 use Rattle.quic_machine.specs.Calls.{is_open}
-use Rattle.quic_machine.specs.Poll.{current_mtu}
 
 -- what bounds the messages of an end: its settings, what the peer takes, and what a datagram takes
 abbrev pub limits_of : End → DatagramLimits
@@ -19,7 +18,7 @@ limits_of e = record {
   is_open = is_open e.closing.state;
   receive_buffer_size = e.transport.datagram_receive_buffer_size;
   send_buffer_size = e.transport.datagram_send_buffer_size;
-  max_size = max_size e.peer_params.max_datagram_frame_size current_mtu (length e.ids.active.id);
+  max_size = max_size e.peer_params.max_datagram_frame_size (current_mtu e.path) (length e.ids.active.id);
 }
 
 -- whether a call is one on messages

@@ -1,18 +1,20 @@
 -- Parts of an end of which this stage uses little: each has its place, so that what comes adds fields and moves none.
-use Rattle.std.specs.Prelude.{◌≡◌, ℕ, Bool, false, Option, None}
+use Rattle.std.specs.Prelude.{◌≡◌, ℕ, Bool, true, false, Option, None}
 use Rattle.quic_time.specs.Rtt.{Rtt, assumed_rtt}
 use Rattle.quic_config.specs.Transport.{TransportSettings, first_mtu}
 use Rattle.quic_congestion.specs.Pacer.{Pacing, new_pacing}
+use Rattle.quic_congestion.specs.Search.{Discovery, first_discovery, after_limit}
 use Rattle.quic_retransmits.specs.Retransmits as retransmits
 use Rattle.quic_messages.specs.Messages.{Messages, no_messages}
+use Rattle.quic_spaces.specs.Marks.{Counts, none_marked}
 
 -- the path to the peer
 pub record Path : Type 0 where
   -- whether the peer's address is validated (RFC 9000, section 8), which path of the connection it is (section 9), and how many bytes a datagram has at most
-  -- that it takes (section 14)
+  -- that it takes, with the search for more (section 14)
   pub validated : Bool
   pub generation : ℕ
-  pub size : ℕ
+  pub discovery : Discovery
   -- how long a round trip takes (RFC 9002, section 5), and which number was next when one was first measured (section 7.6.2)
   pub rtt : Rtt
   pub first_after_rtt : Option ℕ
@@ -21,34 +23,52 @@ pub record Path : Type 0 where
   pub pacing : Pacing
   -- whether the last poll gave nothing though neither window nor pacer held anything back (section 7.8)
   pub app_limited : Bool
+  -- whether datagrams are marked ECT(0), so that routers can tell of congestion (RFC 9000, section 13.4)
+  pub marking : Bool
 
 -- the window with which a controller begins, and the one that it shows when it is made
 pub record Windows : Type 0 where
   pub initial : ℕ
   pub present : ℕ
 
--- the first path, validated or not, made at a moment by these settings, with a controller that shows these windows
-abbrev pub first_path : Bool → TransportSettings → Windows → ℕ → Path
-first_path validated settings windows now = record {
+-- the first path, validated or not, made at a moment by these settings to a peer that takes so many bytes in a datagram, with a controller that shows these
+-- windows
+abbrev pub first_path : Bool → TransportSettings → ℕ → Windows → ℕ → Path
+first_path validated settings limit windows now = record {
   validated = validated;
   generation = 0;
-  size = first_mtu settings;
+  discovery = after_limit limit (first_discovery true None settings);
   rtt = assumed_rtt settings.initial_rtt;
   first_after_rtt = None;
   window = windows.present;
   pacing = new_pacing settings.initial_rtt windows.initial (first_mtu settings) now;
   app_limited = false;
+  marking = true;
 }
+
+-- how many bytes a datagram on a path has at most
+abbrev pub current_mtu : Path → ℕ
+current_mtu p = p.discovery.size
 
 -- the same path, whatever came on it
 pub record IsSamePath (p q : Path) : Type 0 where
   pub generation : q.generation ≡ p.generation
-  pub size : q.size ≡ p.size
+  pub discovery : q.discovery ≡ p.discovery
   pub rtt : q.rtt ≡ p.rtt
   pub first_after_rtt : q.first_after_rtt ≡ p.first_after_rtt
   pub window : q.window ≡ p.window
   pub pacing : q.pacing ≡ p.pacing
   pub app_limited : q.app_limited ≡ p.app_limited
+  pub marking : q.marking ≡ p.marking
+
+-- the marks of congestion (RFC 9000, section 13.4): how many packets came with each, and how many the peer said last
+pub record Marks : Type 0 where
+  pub came : Counts
+  pub told : Counts
+
+-- no packet came with a mark, and the peer told of none
+abbrev pub no_marks : Marks
+no_marks = record { came = none_marked; told = none_marked }
 
 -- messages that wait to be sent and those that came and weren't read (RFC 9221), and how often the application has still to be told that one came while none
 -- was unread

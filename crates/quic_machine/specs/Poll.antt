@@ -2,10 +2,10 @@
 use Rattle.std.specs.Prelude.{ℕ, ◌+◌, ◌-◌, ◌≡◌, Bool, true, false, ◌&&◌, ◌||◌, ◌==◌, not, nat_le, nat_lt, if◌then◌else◌, List, [], ◌∷◌, ◌++◌, map, length, replicate, ◌⊎◌, Option, Some, None, IsSome, Result, Ok, Err}
 use Rattle.std.specs.List.{list_any, fold}
 use Rattle.std.specs.Option.{is_some}
+use Rattle.quic_wire_core.specs.declared.shared.EcnCodepoint.{EcnCodepoint}
 use Rattle.quic_wire_core.specs.declared.shared.EcnCodepoint.TheVariants.{Ect0}
 use Rattle.quic_packet.specs.Number.{truncated}
 use Rattle.quic_wire.specs.Value.{FrameValue, AckValue, ack, ping, stream, datagram, asks}
-use Rattle.quic_wire.specs.AckSet.{ack_of_set}
 use Rattle.quic_wire.specs.Writing.{spelling, spelled_all, frame_size}
 use Rattle.quic_wire.specs.Grammar.{Payload}
 use Rattle.quic_packet.specs.Datagram.{sent}
@@ -23,18 +23,16 @@ use Rattle.quic_machine.specs.declared.answers.State.TheVariants as states
 use Rattle.quic_machine.specs.declared.answers.LostReason.TheVariants as reasons
 use Rattle.quic_congestion.specs.Congestion.{Told}
 use Rattle.quic_recovery_core.specs.PendingAcks.{can_send, is_filled, after_acks_sent, after_lazy}
-use Rattle.quic_spaces.specs.Acknowledging.{delay_at}
+use Rattle.quic_spaces.specs.Acknowledging.{ack_at}
+use Rattle.quic_spaces.specs.Marks.{told_counts}
 use Rattle.quic_machine.specs.Tracking.{TrackedPacket, carried_in, after_sent, without_record}
 use Rattle.quic_machine.specs.Closing.{ticked}
 use Rattle.quic_spaces.specs.Numbers.{can_number, cut_against}
 use Rattle.quic_spaces.specs.Records.{first_record}
 use Rattle.quic_machine.specs.Policy.{Policy}
+use Rattle.quic_machine.specs.Parts.{current_mtu}
 use Rattle.quic_machine.specs.End.{End, with_closing, closed_by, number_of, with_number_given, with_acknowledging, with_ack_timer_at, with_tracking, with_loss_timer, with_streams, with_queued, with_waiting, with_ping}
 use Rattle.quic_machine.specs.Control.{is_window_full, Gated, gated_if, paid, with_pacing_timer, with_app_limited, told_sent}
-
--- the most bytes of a datagram (RFC 9000, section 14.1)
-abbrev pub current_mtu : ℕ
-current_mtu = 1200
 
 -- ---- what is given
 
@@ -59,13 +57,18 @@ pub record Polled : Type 0 where
 abbrev pub gives_nothing : End → Polled
 gives_nothing e = record { answer = Ok None; datagram = None; end = e }
 
--- a datagram, marked ECT(0) (RFC 9000, section 13.4)
+-- the mark of a datagram (RFC 9000, section 13.4)
+abbrev pub mark_of : Bool → Option EcnCodepoint
+mark_of true = Some Ect0
+mark_of false = None
+
+-- a datagram, marked ECT(0) while the path is marked
 abbrev pub gives_datagram : List ℕ → End → Polled
-gives_datagram d e = record { answer = Ok (Some (record { size = length d; ecn = Some Ect0 })); datagram = Some d; end = e }
+gives_datagram d e = record { answer = Ok (Some (record { size = length d; ecn = mark_of e.path.marking })); datagram = Some d; end = e }
 
 -- how many bytes are left for frames: the datagram's less header, number and tag
 abbrev pub frame_room : End → ℕ
-frame_room e = current_mtu - (1 + length e.ids.active.id + (truncated (number_of e) (cut_against e.numbers)).width + 16)
+frame_room e = current_mtu e.path - (1 + length e.ids.active.id + (truncated (number_of e) (cut_against e.numbers)).width + 16)
 
 -- ---- what goes into a datagram, one frame behind another
 
@@ -135,7 +138,7 @@ with_stream_frames d = behind_stream d (of_streams.with_stream_frames d.end.tran
 
 -- what an ACK frame says at the moment of the end (RFC 9000, section 19.3)
 abbrev pub ack_of : End → AckValue
-ack_of e = ack_of_set (delay_at e.acknowledging e.closing.clock) e.acknowledging.runs None
+ack_of e = ack_at e.acknowledging e.closing.clock (told_counts e.marks.came)
 
 -- the end after an acknowledgement went
 abbrev pub after_ack : End → End
@@ -257,7 +260,7 @@ lazied e = with_acknowledging e (after_lazy e.acknowledging)
 
 -- how many bytes are left for frames at least, whichever number a datagram has: one takes four bytes at most
 abbrev pub least_room : End → ℕ
-least_room e = current_mtu - (length e.ids.active.id + 21)
+least_room e = current_mtu e.path - (length e.ids.active.id + 21)
 
 -- whether a message waits that a datagram takes
 abbrev pub message_waits : End → Bool

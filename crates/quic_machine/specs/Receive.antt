@@ -2,6 +2,7 @@
 use Rattle.std.specs.Prelude.{ℕ, ◌+◌, Bool, true, false, ◌==◌, ◌||◌, not, nat_le, nat_lt, if◌then◌else◌, List, [], ◌∷◌, ◌++◌, Option, Some, None, Result, Ok, Err}
 use Rattle.std.specs.List.{list_any}
 use Rattle.quic_wire_core.specs.TransportError.{ErrorValue}
+use Rattle.quic_wire_core.specs.declared.shared.EcnCodepoint.{EcnCodepoint}
 use Rattle.quic_wire_core.specs.declared.stream_id.Side.{Side}
 use Rattle.quic_wire_core.specs.declared.stream_id.Side.TheVariants.{Client, Server}
 use Rattle.quic_wire.specs.Value.{FrameValue, AckValue, ack, stream, reset_stream, stop_sending, max_data, max_stream_data, max_streams, new_token, handshake_done, datagram, asks}
@@ -12,6 +13,7 @@ use Rattle.quic_packet.specs.Datagram.{Opening, opened_packet}
 use Rattle.quic_wire.specs.declared.frame.InvalidFrame.{InvalidFrame}
 use Rattle.quic_packet.specs.declared.packet.HeaderError.{HeaderError}
 use Rattle.quic_packet.specs.declared.packet.HeaderError.TheVariants as headers
+use Rattle.quic_machine.specs.Arrival.{Arrival}
 use Rattle.quic_machine.specs.declared.answers.State.{State}
 use Rattle.quic_machine.specs.declared.answers.State.TheVariants as states
 use Rattle.quic_streams_parts.specs.declared.answers.Breach.{Breach}
@@ -31,7 +33,8 @@ use Rattle.quic_recovery_core.specs.Duplicates.{Seen, is_duplicate}
 use Rattle.quic_recovery_core.specs.PendingAcks.{Pending, after_insert, after_packet, packet_starts_wait}
 use Rattle.quic_time.specs.Timers.{Timers}
 use Rattle.quic_machine.specs.Parts.{Messaging}
-use Rattle.quic_spaces.specs.Acknowledging.{ack_due}
+use Rattle.quic_spaces.specs.Acknowledging.{ack_due, with_due}
+use Rattle.quic_spaces.specs.Marks.{after_mark, is_congested}
 use Rattle.quic_streams_state.specs.declared.state.StreamsState.{StreamsState}
 use Rattle.quic_streams_state.specs.State.{Streams, streams_of}
 use Rattle.quic_streams_state.specs.Opening.{sending_refusal, max_streams_breach, after_max_streams}
@@ -110,7 +113,7 @@ is_above None n = true
 is_above (Some m) n = nat_lt m n
 
 -- An ACK frame: the greatest number that it names counts, whatever else it names; then the tracked packets that it names are acknowledged, and others
--- lost. Its counts of marks are ignored. A number that was never given is a broken rule (RFC 9000, section 13.1), and so is the one that was left out last.
+-- lost. A number that was never given is a broken rule (RFC 9000, section 13.1), and so is the one that was left out last.
 abbrev pub names_ungiven : AckValue → End → Bool
 names_ungiven a e = nat_le e.numbers.next a.largest || list_any (λ r. names_skipped e.filter.last r.0 r.1) a.ranges
 
@@ -230,29 +233,31 @@ dropped reason e = record { answer = Dropped reason; end = e }
 abbrev pub timers_after : Timers → Pending → ℕ → ℕ → Bool → Seen → Timers
 timers_after t p now n asking seen = if packet_starts_wait p n asking seen then with_ack_timer t (Some (ack_due now)) else t
 
--- the whole payload of a packet of this number was taken, which asks for an acknowledgement or doesn't: the number is to be acknowledged
-abbrev pub number_noted : ℕ → Bool → End → End
-number_noted n asking e =
+-- the whole payload of a packet of this number was taken, which asks for an acknowledgement or doesn't, and came with this mark or with none: the number is to
+-- be acknowledged, at once where it is marked CE (section 13.2.1), and the mark counts (section 13.4.1)
+abbrev pub number_noted : ℕ → Bool → Option EcnCodepoint → End → End
+number_noted n asking mark e =
     let now = e.closing.clock in
-    let p = after_insert e.acknowledging n now in
+    let p = with_due (is_congested mark) (after_insert e.acknowledging n now) in
     record e {
       numbers = number_taken e.numbers n;
       acknowledging = after_packet p now n asking e.numbers.opened;
       timers = timers_after e.timers p now n asking e.numbers.opened;
+      marks = record e.marks { came = after_mark mark e.marks.came };
     }
 
 -- and the loss timer is set to what the frames left
-abbrev pub after_taken : ℕ → Bool → End → End
-after_taken n asking e = with_loss_timer (number_noted n asking e)
+abbrev pub after_taken : ℕ → Bool → Option EcnCodepoint → End → End
+after_taken n asking mark e = with_loss_timer (number_noted n asking mark e)
 
 -- all frames were taken, or one was at fault: those before it keep their effect
-abbrev pub ends_as : Option Fault → Bool → ℕ → End → Outcome
-ends_as None asking n e = record { answer = Taken; end = after_taken n asking e }
-ends_as (Some fault) asking n e = record { answer = Closed (error_of fault); end = closed_by (reason_of fault) e }
+abbrev pub ends_as : Option Fault → Bool → ℕ → Option EcnCodepoint → End → Outcome
+ends_as None asking n mark e = record { answer = Taken; end = after_taken n asking mark e }
+ends_as (Some fault) asking n mark e = record { answer = Closed (error_of fault); end = closed_by (reason_of fault) e }
 
 -- what a payload comes to that asks for an acknowledgement or doesn't, where it was taken so far
-abbrev pub judged : Progress → Bool → ℕ → Outcome
-judged p asking n = ends_as p.fault asking n p.end
+abbrev pub judged : Progress → Bool → ℕ → Option EcnCodepoint → Outcome
+judged p asking n mark = ends_as p.fault asking n mark p.end
 
 -- whether an item of a payload asks for an acknowledgement
 abbrev pub item_asks : Result FrameValue InvalidFrame → Bool
@@ -264,27 +269,27 @@ abbrev pub asks_in : List (Result FrameValue InvalidFrame) → Bool
 asks_in is = list_any item_asks is
 
 -- a packet that opened at an open end, under a number that didn't come before
-abbrev pub processed : Opening → ℕ → End → Outcome
-processed o now e = judged (take_payload o.first (items o.payload) (with_closing e (ticked e.closing now))) (asks_in (items o.payload)) o.number
+abbrev pub processed : Opening → Arrival → End → Outcome
+processed o arrival e = judged (take_payload o.first (items o.payload) (with_closing e (ticked e.closing arrival.now))) (asks_in (items o.payload)) o.number arrival.mark
 
 -- a closing end reads nothing of the packet
-abbrev pub by_state : State → Opening → ℕ → End → Outcome
-by_state states.Open o now e = processed o now e
-by_state states.Closing o now e = dropped drops.Closing e
-by_state states.Drained o now e = dropped drops.Drained e
-by_state states.Failed o now e = dropped drops.Failed e
+abbrev pub by_state : State → Opening → Arrival → End → Outcome
+by_state states.Open o arrival e = processed o arrival e
+by_state states.Closing o arrival e = dropped drops.Closing e
+by_state states.Drained o arrival e = dropped drops.Drained e
+by_state states.Failed o arrival e = dropped drops.Failed e
 
 -- a packet that opened: its key phase is 0, and its number is new
-abbrev pub opened_to : Opening → ℕ → End → Outcome
-opened_to o now e =
+abbrev pub opened_to : Opening → Arrival → End → Outcome
+opened_to o arrival e =
     if key_phase o.first then dropped drops.KeyPhase e
     else (if is_duplicate e.numbers.opened o.number then dropped drops.Duplicate e
-    else by_state e.closing.state o now (with_numbers e (number_opened e.numbers o.number)))
+    else by_state e.closing.state o arrival (with_numbers e (number_opened e.numbers o.number)))
 
 -- what a packet comes to, where it opened
-abbrev pub opened_as : Option Opening → ℕ → End → Outcome
-opened_as None now e = dropped drops.NotOpened e
-opened_as (Some o) now e = opened_to o now e
+abbrev pub opened_as : Option Opening → Arrival → End → Outcome
+opened_as None arrival e = dropped drops.NotOpened e
+opened_as (Some o) arrival e = opened_to o arrival e
 
 -- what a datagram opens to at an end, behind an own id
 abbrev pub opening : Policy → End → List ℕ → Option Opening
@@ -298,20 +303,20 @@ drop_of headers.FixedBit = drops.FixedBit
 drop_of headers.UnknownId = drops.UnknownId
 
 -- what a datagram comes to, by what its header says
-abbrev pub headed : Result (List ℕ) HeaderError → Policy → End → ℕ → List ℕ → Outcome
-headed (Err error) p e now d = dropped (drop_of error) e
-headed (Ok id) p e now d = opened_as (opening p e d) now e
+abbrev pub headed : Result (List ℕ) HeaderError → Policy → End → Arrival → List ℕ → Outcome
+headed (Err error) p e arrival d = dropped (drop_of error) e
+headed (Ok id) p e arrival d = opened_as (opening p e d) arrival e
 
 -- an end that is drained or has failed drops all
-abbrev pub received_in : State → Policy → End → ℕ → List ℕ → Outcome
-received_in states.Failed p e now d = dropped drops.Failed e
-received_in states.Drained p e now d = dropped drops.Drained e
-received_in states.Open p e now d = headed (decoded (fixed_length_id own_id_length) (known e.ids) d) p e now d
-received_in states.Closing p e now d = headed (decoded (fixed_length_id own_id_length) (known e.ids) d) p e now d
+abbrev pub received_in : State → Policy → End → Arrival → List ℕ → Outcome
+received_in states.Failed p e arrival d = dropped drops.Failed e
+received_in states.Drained p e arrival d = dropped drops.Drained e
+received_in states.Open p e arrival d = headed (decoded (fixed_length_id own_id_length) (known e.ids) d) p e arrival d
+received_in states.Closing p e arrival d = headed (decoded (fixed_length_id own_id_length) (known e.ids) d) p e arrival d
 
--- what an end makes of a datagram at a moment
-abbrev pub received : Policy → End → ℕ → List ℕ → Outcome
-received p e now d = received_in e.closing.state p e now d
+-- what an end makes of a datagram that comes
+abbrev pub received : Policy → End → Arrival → List ℕ → Outcome
+received p e arrival d = received_in e.closing.state p e arrival d
 
 -- ---- what the controller is told (RFC 9002, section 7)
 

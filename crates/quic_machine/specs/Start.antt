@@ -60,5 +60,5 @@ pub record IsController (control : Control) (size present : ℕ) : Type 0 where
 
 -- so do the controllers of two ends
 pub record AreControlled (w : World) : Type 0 where
-  pub client : IsController w.client_control w.client.path.size w.client.path.window
-  pub server : IsController w.server_control w.server.path.size w.server.path.window
+  pub client : IsController w.client_control (first_mtu w.client.transport) w.client.path.window
+  pub server : IsController w.server_control (first_mtu w.server.transport) w.server.path.window

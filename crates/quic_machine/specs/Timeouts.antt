@@ -2,7 +2,7 @@
 use Rattle.std.specs.Prelude.{ℕ, Bool, true, false, List, [], Option, Some, None, Result, Ok, Err}
 use Rattle.quic_congestion.specs.Congestion.{Told}
 use Rattle.quic_recovery_core.specs.PendingAcks.{after_timeout}
-use Rattle.quic_time.specs.Timers.{has_come}
+use Rattle.quic_time.specs.Timers.{Timers, has_come}
 use Rattle.quic_machine.specs.declared.answers.State.{State}
 use Rattle.quic_machine.specs.declared.answers.State.TheVariants as states
 use Rattle.quic_machine.specs.declared.answers.Failed.{Failed}
@@ -37,11 +37,23 @@ abbrev pub pacing_expired : Bool → End → End
 pacing_expired true e = with_pacing_timer e None
 pacing_expired false e = e
 
--- the timers of an open end that expired up to its moment; the loss timer is set anew
+-- which timers expired
+pub record Expiry : Type 0 where
+  pub acks : Bool
+  pub loss : Bool
+  pub pacing : Bool
+
+-- those that expire up to a moment
+abbrev pub expiry_at : ℕ → Timers → Expiry
+expiry_at now t = record { acks = has_come t.max_ack_delay now; loss = has_come t.loss_detection now; pacing = has_come t.pacing now }
+
+-- what they leave; the loss timer is set anew
+abbrev pub after_expiry : Expiry → End → End
+after_expiry x e = with_loss_timer (pacing_expired x.pacing (acks_expired x.acks (loss_expired x.loss e)))
+
+-- the timers of an open end that expired up to its moment
 abbrev pub expired : End → End
-expired e =
-    let now = e.closing.clock in
-    with_loss_timer (pacing_expired (has_come e.timers.pacing now) (acks_expired (has_come e.timers.max_ack_delay now) (loss_expired (has_come e.timers.loss_detection now) e)))
+expired e = after_expiry (expiry_at e.closing.clock e.timers) e
 
 -- an end that isn't open has no timer
 abbrev pub timed_out_in : State → End → ℕ → TimedOut

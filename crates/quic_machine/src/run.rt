@@ -182,7 +182,7 @@ pub enum Answer {
     NextTimeout(Option<Instant>),
 }
 
-/// What is seen of one end after an event. What this stage has no call for is `None`.
+/// What is seen of one end after an event.
 #[derive(Debug, Drop)]
 pub struct EndView {
     /// Whether it is open, closing, drained or failed (RFC 9000, section 10).
@@ -194,9 +194,9 @@ pub struct EndView {
     /// When each timer expires, if it is set, in the order of [`Timer`]'s variants.
     pub timers: [Option<Instant>; 9],
     /// The congestion window, in bytes.
-    pub window: Option<u64>,
-    /// The size of the largest datagram that is sent, in bytes.
-    pub current_mtu: Option<u16>,
+    pub window: u64,
+    /// The bytes of the greatest datagram that the path takes (RFC 9000, section 14).
+    pub current_mtu: u16,
 }
 
 /// What is seen of both ends after an event.

@@ -1,5 +1,5 @@
 -- A peer that isn't validated is sent no more than three times what it sent.
-use Rattle.std.proofs.Common.{◌≡◌, ℕ, ◌+◌, ◌*◌, ◌<◌, ◌≤◌, ◌^◌, false, not, ◌&&◌, nat_lt, List, [], ◌∷◌, refl, subst, arith}
+use Rattle.std.proofs.Common.{◌≡◌, ℕ, ◌+◌, ◌*◌, ◌<◌, ◌≤◌, ◌^◌, Bool, false, not, ◌&&◌, nat_lt, List, [], ◌∷◌, Option, refl, subst, arith}
 use Rattle.std.proofs.lemmas.Bool.{ltb-false}
 use Rattle.quic_time.specs.Clocks.{saturated}
 use Rattle.quic_config.specs.Transport.{TransportSettings}
@@ -22,10 +22,10 @@ later path (went bytes ∷ rest) unvalidated sent received threefold (free, allo
     let more = later (path_after_sent path bytes) rest unvalidated (omega arith) received (omega (arith, fit)) allowed in
     omega (arith, fit, more)
 
-pub first : {C : Type 0} (generation now initial : ℕ) (settings : TransportSettings) (controller : C) (datagrams : List Datagram)
-    → AreAllowed datagrams (new_path generation now settings controller initial) → bytes_went datagrams ≤ 3 * bytes_came datagrams
-first generation now initial settings controller datagrams allowed =
-    let more = later (new_path generation now settings controller initial) datagrams refl (omega arith) (omega arith) (omega arith) allowed in
+pub first : {C : Type 0} (searches : Bool) (limit : Option ℕ) (generation now initial : ℕ) (settings : TransportSettings) (controller : C) (datagrams : List Datagram)
+    → AreAllowed datagrams (new_path searches limit generation now settings controller initial) → bytes_went datagrams ≤ 3 * bytes_came datagrams
+first searches limit generation now initial settings controller datagrams allowed =
+    let more = later (new_path searches limit generation now settings controller initial) datagrams refl (omega arith) (omega arith) (omega arith) allowed in
     omega (arith, more)
 
 pub next : {C : Type 0} (prev : PathValue C) (generation now window : ℕ) (datagrams : List Datagram)

@@ -4,6 +4,7 @@ use Rattle.quic_time.specs.Clocks.{saturated}
 use Rattle.quic_time.specs.Rtt.{Rtt, assumed_rtt, best_rtt}
 use Rattle.quic_config.specs.Transport.{TransportSettings, first_mtu}
 use Rattle.quic_congestion.specs.Pacer.{Pacing, new_pacing}
+use Rattle.quic_congestion.specs.Search.{Discovery, first_discovery, after_reset}
 use Rattle.quic_paths.specs.InFlight.{Flight, no_flight, flight_with, flight_without}
 
 -- a path with its controller, whatever that is
@@ -21,17 +22,18 @@ pub record PathValue (C : Type 0) : Type 0 where
   pub validated : Bool
   pub received : ℕ
   pub sent : ℕ
-  -- the bytes of the greatest datagram (section 14)
-  pub size : ℕ
+  -- the bytes of the greatest datagram, and how more are looked for (section 14)
+  pub discovery : Discovery
   -- the number of the first packet that went after the round trip was sampled, if one did (RFC 9002,
   -- section 7.6.2)
   pub first_after_rtt : Option ℕ
   -- which path of the connection it is
   pub generation : ℕ
 
--- made at a moment, with a controller that begins with this window
-abbrev pub new_path : {C : Type 0} → ℕ → ℕ → TransportSettings → C → ℕ → PathValue C
-new_path generation now settings controller initial = record {
+-- made at a moment, with a controller that begins with this window; a greater size of datagrams is looked for or isn't, within the peer's limit if it is
+-- known
+abbrev pub new_path : {C : Type 0} → Bool → Option ℕ → ℕ → ℕ → TransportSettings → C → ℕ → PathValue C
+new_path searches limit generation now settings controller initial = record {
   rtt = assumed_rtt settings.initial_rtt;
   congestion = controller;
   pacing = new_pacing settings.initial_rtt initial (first_mtu settings) now;
@@ -40,7 +42,7 @@ new_path generation now settings controller initial = record {
   validated = false;
   received = 0;
   sent = 0;
-  size = first_mtu settings;
+  discovery = first_discovery searches limit settings;
   first_after_rtt = None;
   generation = generation;
 }
@@ -51,13 +53,13 @@ abbrev pub next_path : {C : Type 0} → PathValue C → ℕ → ℕ → ℕ → 
 next_path prev generation now window = record {
   rtt = prev.rtt;
   congestion = prev.congestion;
-  pacing = new_pacing (best_rtt prev.rtt) window prev.size now;
+  pacing = new_pacing (best_rtt prev.rtt) window prev.discovery.size now;
   in_flight = no_flight;
   marks = true;
   validated = false;
   received = 0;
   sent = 0;
-  size = prev.size;
+  discovery = prev.discovery;
   first_after_rtt = prev.first_after_rtt;
   generation = generation;
 }
@@ -69,7 +71,7 @@ path_after_reset path now settings controller initial = record path {
   rtt = assumed_rtt settings.initial_rtt;
   congestion = controller;
   pacing = new_pacing settings.initial_rtt initial (first_mtu settings) now;
-  size = first_mtu settings;
+  discovery = after_reset (first_mtu settings) settings.min_mtu path.discovery;
 }
 
 -- a packet went on the path

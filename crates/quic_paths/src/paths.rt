@@ -1,20 +1,20 @@
 //! A path to the peer (RFC 9000, sections 8 and 9; quinn-proto's `paths`).
 ghost use Rattle.std.specs.Prelude.{◌≡◌, ◌==◌, IfOk};
 ghost use Rattle.quic_config.specs.Transport.{first_mtu};
+ghost use Rattle.quic_congestion.specs.Search.{first_discovery};
 ghost use Rattle.quic_paths.specs.InFlight.{CanJoin, CanLeave};
 ghost use Rattle.quic_paths.specs.Paths.{new_path, next_path, path_after_reset, path_with, path_without, path_after_received, path_after_sent, is_blocked};
 
 use crate::in_flight::InFlight;
 use quic_config::TransportConfig;
-use quic_congestion::{Controller, ControllerFactory, Pacer};
+use quic_congestion::{Controller, ControllerFactory, MtuDiscovery, Pacer};
 use quic_time::{Instant, RttEstimator};
 use std::alloc::AllocError;
 use std::marker::Model;
 
 /// A path to the peer, with its controller (quinn-proto's `PathData`).
 ///
-/// It has no address, no challenges and no size search yet: the size of datagrams is the one that
-/// the settings begin with.
+/// It has no address and no challenges yet.
 #[derive(Drop)]
 pub struct PathData<C> {
     /// How long a round trip takes (RFC 9002, section 5).
@@ -25,6 +25,8 @@ pub struct PathData<C> {
     pub congestion: C,
     /// Spreads what goes over the round trip (RFC 9002, section 7.7).
     pub pacing: Pacer,
+    /// The greatest size of datagrams, and the search for a greater one (RFC 9000, section 14.3).
+    pub mtud: MtuDiscovery,
     /// What is in flight of the packets that went on this path, in bytes and packets.
     pub in_flight: InFlight,
     /// Whether the peer is known to receive at its address (RFC 9000, section 8).
@@ -34,7 +36,6 @@ pub struct PathData<C> {
     pub first_packet_after_rtt_sample: Option<u64>,
     total_sent: u64,
     total_recvd: u64,
-    current_mtu: u16,
     generation: u64,
 }
 
@@ -52,7 +53,7 @@ impl<C> Model for PathData<C> {
       validated = p.validated;
       received = p.total_recvd;
       sent = p.total_sent;
-      size = p.current_mtu;
+      discovery = p.mtud;
       first_after_rtt = p.first_packet_after_rtt_sample;
       generation = p.generation;
     } };
@@ -60,11 +61,12 @@ impl<C> Model for PathData<C> {
 
 impl<C: Controller> PathData<C> {
     /// A path made now, of which nothing was measured and whose peer isn't validated. The factory
-    /// makes its controller for the size of datagrams that the settings begin with.
-    ///
-    /// quinn-proto's also takes whether a greater size is looked for, and how many bytes the peer takes
-    /// at most: only the size search needs them.
+    /// makes its controller for the size of datagrams that the settings begin with. A greater one is
+    /// looked for where that is allowed and configured, within the peer's `max_udp_payload_size`, in
+    /// bytes, if it is known.
     pub fn new<F: ControllerFactory<Controller = C>>(
+        allow_mtud: bool,
+        peer_max_udp_payload_size: Option<u16>,
         generation: u64,
         now: Instant,
         config: &TransportConfig,
@@ -72,7 +74,7 @@ impl<C: Controller> PathData<C> {
     ) -> Self
         ensures { let controller = F.built factory.now now (first_mtu config.now) in
             let window = C.initial_of controller in
-            result ≡ new_path generation now config.now controller window }
+            result ≡ new_path allow_mtud peer_max_udp_payload_size generation now config.now controller window }
     {
         let mtu = config.get_initial_mtu();
         let initial_rtt = config.get_initial_rtt();
@@ -82,19 +84,19 @@ impl<C: Controller> PathData<C> {
             sending_ecn: true,
             pacing: Pacer::new(initial_rtt, congestion.initial_window(), mtu, now),
             congestion,
+            mtud: first_mtud(allow_mtud, peer_max_udp_payload_size, config),
             in_flight: InFlight::new(),
             validated: false,
             first_packet_after_rtt_sample: None,
             total_sent: 0,
             total_recvd: 0,
-            current_mtu: mtu,
             generation,
         }
     }
 
     /// A path made now in place of another, as the peer's address changed (RFC 9000, section 9).
-    /// Round trip, controller, size and the first packet after a sample are the other's, and the
-    /// pacer is made for them. Nothing is in flight on it, and its peer isn't validated.
+    /// Round trip, controller, size search and the first packet after a sample are the other's, and
+    /// the pacer is made for them. Nothing is in flight on it, and its peer isn't validated.
     ///
     /// An `Err` is want of memory for the controller.
     pub fn from_previous(prev: &Self, generation: u64, now: Instant) -> Result<Self, AllocError>
@@ -102,23 +104,24 @@ impl<C: Controller> PathData<C> {
             IfOk result (λ path. path ≡ next_path prev.now generation now window) }
     {
         let congestion = prev.congestion.try_clone()?;
+        let mtu = prev.mtud.current_mtu();
         Ok(PathData {
             rtt: prev.rtt,
             sending_ecn: true,
-            pacing: Pacer::new(prev.rtt.get(), congestion.window(), prev.current_mtu, now),
+            pacing: Pacer::new(prev.rtt.get(), congestion.window(), mtu, now),
             congestion,
+            mtud: prev.mtud,
             in_flight: InFlight::new(),
             validated: false,
             first_packet_after_rtt_sample: prev.first_packet_after_rtt_sample,
             total_sent: 0,
             total_recvd: 0,
-            current_mtu: prev.current_mtu,
             generation,
         })
     }
 
-    /// Forgets now what was measured: round trip, controller, size and pacer are as on a new path.
-    /// The rest stays. It is for a path of which it is known that it changed.
+    /// Forgets now what was measured: round trip, controller, size search and pacer are as on a new
+    /// path, within the peer's limit that is known. The rest stays. It is for a path of which it is known that it changed.
     pub fn reset<F: ControllerFactory<Controller = C>>(
         &mut self,
         now: Instant,
@@ -135,16 +138,16 @@ impl<C: Controller> PathData<C> {
         self.rtt = RttEstimator::new(initial_rtt);
         self.pacing = Pacer::new(initial_rtt, congestion.initial_window(), mtu, now);
         self.congestion = congestion;
-        self.current_mtu = mtu;
+        self.mtud.reset(mtu, config.get_min_mtu());
     }
 }
 
 impl<C> PathData<C> {
     /// The bytes of the greatest datagram (RFC 9000, section 14).
     pub fn current_mtu(&self) -> u16
-        ensures { result ≡ self.now.size }
+        ensures { result ≡ self.now.discovery.size }
     {
-        self.current_mtu
+        self.mtud.current_mtu()
     }
 
     /// Which path of the connection it is: each has a number of its own.
@@ -200,5 +203,18 @@ impl<C> PathData<C> {
         let limit = self.total_recvd.saturating_mul(3);
         !self.validated
             && u128::from(limit) < u128::from(self.total_sent) + u128::from(bytes_to_send)
+    }
+}
+
+/// The size with which a path begins, and the search for a greater one where it is allowed and
+/// configured.
+fn first_mtud(allowed: bool, limit: Option<u16>, config: &TransportConfig) -> MtuDiscovery
+    ensures { result ≡ first_discovery allowed limit config.now }
+{
+    let mtu = config.get_initial_mtu();
+    let least = config.get_min_mtu();
+    match config.get_mtu_discovery_config() {
+        Some(search) if allowed => MtuDiscovery::new(mtu, least, limit, search),
+        _ => MtuDiscovery::disabled(mtu, least),
     }
 }

@@ -1,8 +1,7 @@
 -- Numbers to acknowledge that come and go, one after another.
 use Rattle.std.specs.Prelude.{◌≡◌, ℕ, ◌≤◌, ◌<◌, ◌⊎◌, List, [], ◌∷◌, length, Option, None}
 use Rattle.quic_sets.specs.Runs.{Run, In}
-use Rattle.quic_recovery_core.specs.PendingAcks.{with_one, at_most, above, newer}
-use Rattle.quic_recovery_core.specs.declared.spaces.pending_acks.TheConstants.{MAX_ACK_RUNS}
+use Rattle.quic_recovery_core.specs.PendingAcks.{most_ack_runs, with_one, at_most, above, newer}
 
 -- a number came, or the peer knows of the numbers up to one
 pub data Change : Type 0 where
@@ -22,7 +21,7 @@ IsInLeast (r ∷ rs) k = In k r
 
 -- the number goes, since there would be a run too many
 abbrev pub IsDropped : List Run → ℕ → Type 0
-IsDropped rs k = (MAX_ACK_RUNS < length rs) × IsInLeast rs k
+IsDropped rs k = (most_ack_runs < length rs) × IsInLeast rs k
 
 -- the number was put in, and neither taken out since nor dropped with the run of the least number
 abbrev pub Waits : List Change → ℕ → Type 0

@@ -1,9 +1,8 @@
 -- What happens to the numbers to acknowledge, one step after another, and when an acknowledgement is due.
 use Rattle.std.specs.Prelude.{◌≡◌, ℕ, ◌+◌, ◌-◌, ◌^◌, ◌<◌, ◌⊎◌, Bool, true, false, max, min, not, List, [], ◌∷◌, Option, Some, None, unwrap_or, IsTrue}
 use Rattle.quic_recovery_core.specs.Duplicates.{Seen}
-use Rattle.quic_recovery_core.specs.PendingAcks.{Pending, none_pending, leaves_gap, shows_loss, after_packet, after_acks_sent, after_timeout, after_lazy, after_insert, after_subtract}
+use Rattle.quic_recovery_core.specs.PendingAcks.{lazy_threshold, Pending, none_pending, leaves_gap, shows_loss, after_packet, after_acks_sent, after_timeout, after_lazy, after_insert, after_subtract}
 use Rattle.quic_recovery_core.specs.AckRuns.{Change, came, known}
-use Rattle.quic_recovery_core.specs.declared.spaces.pending_acks.TheConstants.{LAZY_ACK_THRESHOLD}
 
 -- a packet comes (when, its number, whether it asks, the numbers told apart), an acknowledgement goes or is made due, the timer expires,
 -- a packet is made that goes anyway, the peer tells after how many packets, and how far out of order, it wants an acknowledgement,
@@ -173,7 +172,7 @@ IsDue (packet now n asks s ∷ steps) = IsDue steps ⊎ ((asks ≡ true) × ((th
 IsDue (sent ∷ steps) = ⊥
 IsDue (required ∷ steps) = Unit {0}
 IsDue (expired ∷ steps) = 0 < asking_since steps
-IsDue (lazy ∷ steps) = IsDue steps ⊎ (LAZY_ACK_THRESHOLD < min (silent_since steps) (2 ^ 64 - 1))
+IsDue (lazy ∷ steps) = IsDue steps ⊎ (lazy_threshold < min (silent_since steps) (2 ^ 64 - 1))
 IsDue (told threshold reordering ∷ steps) = IsDue steps
 IsDue (put k now ∷ steps) = IsDue steps
 IsDue (cut k ∷ steps) = IsDue steps

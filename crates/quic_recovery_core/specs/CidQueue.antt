@@ -4,7 +4,7 @@ use Rattle.std.specs.List.{list_any}
 use Rattle.std.specs.declared.ops.Range.{Range}
 use Rattle.quic_wire_core.specs.declared.shared.IssuedCid.{IssuedCid}
 use Rattle.quic_wire.specs.declared.frame.NewConnectionId.{NewConnectionId}
-use Rattle.quic_config.specs.declared.transport.TheConstants.{IDS_KEPT}
+use Rattle.quic_config.specs.Configs.{ids_kept}
 use Rattle.quic_recovery_core.specs.declared.cid_queue.InsertError.{InsertError}
 use Rattle.quic_recovery_core.specs.declared.cid_queue.InsertError.TheVariants.{Retired, ExceedsLimit}
 
@@ -17,7 +17,7 @@ pub record PeerIds : Type 0 where
 -- how many consecutive numbers are kept from the one in use on: as many ids as this end allows its peer (RFC 9000, section
 -- 18.2, 0x0e)
 abbrev pub kept_ids : ℕ
-kept_ids = IDS_KEPT
+kept_ids = ids_kept
 
 -- ids ascend by their numbers, which lie from the first on and below the end
 abbrev pub AscendWithin : List IssuedCid → ℕ → ℕ → Type 0

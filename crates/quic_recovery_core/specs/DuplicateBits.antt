@@ -2,7 +2,10 @@
 use Rattle.std.specs.Prelude.{ℕ, zero, suc, ◌-◌, Bool, ◌==◌, List, [], ◌∷◌, filter}
 use Rattle.std.specs.Int.{bit_at}
 use Rattle.quic_recovery_core.specs.Duplicates.{Seen}
-use Rattle.quic_recovery_core.specs.declared.spaces.dedup.TheConstants.{WINDOW_BITS}
+
+-- how many numbers below the greatest have a bit
+abbrev pub window_bits : ℕ
+window_bits = 128
 
 -- so many numbers below one, descending; fewer where they come to 0
 abbrev pub numbers_below : ℕ → ℕ → List ℕ
@@ -17,4 +20,4 @@ is_marked greatest window k = bit_at window (greatest - 1 - k) == 1
 -- the greatest, and the numbers below it whose bits are set
 abbrev pub seen : ℕ → ℕ → Seen
 seen zero window = []
-seen (suc greatest) window = greatest ∷ filter (is_marked greatest window) (numbers_below greatest WINDOW_BITS)
+seen (suc greatest) window = greatest ∷ filter (is_marked greatest window) (numbers_below greatest window_bits)

@@ -1,7 +1,6 @@
 -- Packet numbers that come one after another.
 use Rattle.std.specs.Prelude.{◌≡◌, ℕ, ◌+◌, ◌≤◌, ◌<◌, ◌⊎◌, List, [], ◌∷◌}
-use Rattle.quic_recovery_core.specs.Duplicates.{Seen, after_insert}
-use Rattle.quic_recovery_core.specs.declared.spaces.dedup.TheConstants.{DUPLICATE_SPAN}
+use Rattle.quic_recovery_core.specs.Duplicates.{duplicate_span, Seen, after_insert}
 
 -- the numbers that are told apart after these came, the latest first
 abbrev pub seen_after : List ℕ → Seen
@@ -16,7 +15,7 @@ Came (n ∷ ns) k = (k ≡ n) ⊎ Came ns k
 -- the number lies the span or more below one of them, and so below the greatest
 abbrev pub IsFarBelow : List ℕ → ℕ → Type 0
 IsFarBelow [] k = ⊥
-IsFarBelow (n ∷ ns) k = (k + DUPLICATE_SPAN ≤ n) ⊎ IsFarBelow ns k
+IsFarBelow (n ∷ ns) k = (k + duplicate_span ≤ n) ⊎ IsFarBelow ns k
 
 -- the number did not come, one above it did, and it does not lie the span or more below any
 abbrev pub Lacks : List ℕ → ℕ → Type 0

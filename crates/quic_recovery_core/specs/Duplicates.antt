@@ -1,7 +1,10 @@
 -- Which packet numbers came before (RFC 9000, section 12.3): a set of numbers, told apart near the greatest of them.
 use Rattle.std.specs.Prelude.{ℕ, ◌+◌, ◌-◌, Bool, false, cond, max, not, nat_lt, nat_le, ◌==◌, ◌&&◌, ◌||◌, List, [], ◌∷◌, Option, filter}
 use Rattle.std.specs.List.{range_with_len, find}
-use Rattle.quic_recovery_core.specs.declared.spaces.dedup.TheConstants.{DUPLICATE_SPAN}
+
+-- so far below the greatest, or farther, a number counts as one that came before (RFC 9000, section 12.3, which names no number: this is our choice)
+abbrev pub duplicate_span : ℕ
+duplicate_span = 129
 
 -- the numbers that came and lie nearer to the greatest than the span, the greatest first, each once
 abbrev pub Seen : Type 0
@@ -19,7 +22,7 @@ next_of (n ∷ ns) = n + 1
 
 -- whether a number lies nearer than the span to the greatest, or above it
 abbrev pub is_near : ℕ → ℕ → Bool
-is_near next k = nat_le next (k + DUPLICATE_SPAN)
+is_near next k = nat_le next (k + duplicate_span)
 
 -- whether a number counts as one that came before
 abbrev pub is_duplicate : Seen → ℕ → Bool

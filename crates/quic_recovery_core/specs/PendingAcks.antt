@@ -2,7 +2,15 @@
 use Rattle.std.specs.Prelude.{ℕ, ◌+◌, ◌-◌, ◌^◌, ◌≤◌, ◌<◌, Bool, true, false, cond, min, max, not, nat_lt, nat_le, ◌==◌, ◌&&◌, ◌||◌, List, [], ◌∷◌, length, Option, Some, None, unwrap_or, is_some, is_none}
 use Rattle.quic_sets.specs.Runs.{Run, Has, AreRuns}
 use Rattle.quic_recovery_core.specs.Duplicates.{Seen, smallest_missing}
-use Rattle.quic_recovery_core.specs.declared.spaces.pending_acks.TheConstants.{MAX_ACK_RUNS, LAZY_ACK_THRESHOLD}
+
+-- how many runs of numbers an ACK frame names at most (RFC 9000, section 13.2.3, which names no number: this is our choice)
+abbrev pub most_ack_runs : ℕ
+most_ack_runs = 64
+
+-- where more packets than this came that don't ask, an acknowledgement goes with a datagram that is made anyway (RFC 9000, section 13.2.1, which names no
+-- number: this is our choice)
+abbrev pub lazy_threshold : ℕ
+lazy_threshold = 10
 
 -- what is known of the packets that are to be acknowledged
 pub record Pending : Type 0 where
@@ -59,7 +67,7 @@ but_least (r ∷ rs) = rs
 
 -- where there are too many runs, the least goes
 abbrev pub at_most : List Run → List Run
-at_most rs = cond (nat_lt MAX_ACK_RUNS (length rs)) (but_least rs) rs
+at_most rs = cond (nat_lt most_ack_runs (length rs)) (but_least rs) rs
 
 -- the numbers from one up to another, if there are any, before others
 abbrev pub if_any : ℕ → ℕ → List Run → List Run
@@ -78,7 +86,7 @@ is_filled (r ∷ rs) = true
 -- a set that is kept: few maximal runs of numbers below the greatest u64
 pub record IsKept (rs : List Run) : Type 0 where
   pub runs : AreRuns rs
-  pub few : length rs ≤ MAX_ACK_RUNS
+  pub few : length rs ≤ most_ack_runs
   pub small : (k : ℕ) → Has rs k → k + 1 < 2 ^ 64
 
 -- the greatest number and its moment, after one came
@@ -167,4 +175,4 @@ after_timeout p = record p { due = nat_lt 0 p.asking }
 
 -- before a packet is made that goes anyway
 abbrev pub after_lazy : Pending → Pending
-after_lazy p = record p { due = p.due || nat_lt LAZY_ACK_THRESHOLD p.silent }
+after_lazy p = record p { due = p.due || nat_lt lazy_threshold p.silent }

@@ -2,6 +2,9 @@
 ghost use Rattle.std.specs.Prelude.{◌≡◌};
 ghost use Rattle.quic_recovery_core.specs.declared.spaces.dedup.TheConstants.{WINDOW_BITS};
 ghost use Rattle.quic_recovery_core.specs.CidQueue.{kept_ids};
+ghost use Rattle.quic_recovery_core.specs.DuplicateBits.{window_bits};
+ghost use Rattle.quic_recovery_core.specs.Duplicates.{duplicate_span};
+ghost use Rattle.quic_recovery_core.specs.PendingAcks.{most_ack_runs, lazy_threshold};
 
 pub mod ack_frequency;
 pub mod cid_queue;
@@ -18,11 +21,11 @@ use crate::spaces::pending_acks::{LAZY_ACK_THRESHOLD, MAX_ACK_RUNS};
 /// one that came (section 12.3), how many ids of the peer are kept (section 5.1.1), and how many of
 /// their retirements may wait (section 5.1.2). The sections name no numbers: these are our choice.
 pub fn constants_are_these()
-    ensures runs { MAX_ACK_RUNS ≡ 64 }
-    ensures silent { LAZY_ACK_THRESHOLD ≡ 10 }
-    ensures span { DUPLICATE_SPAN ≡ 129 }
-    ensures window { WINDOW_BITS ≡ 128 }
-    ensures ids { CidQueue.LEN ≡ 5 }
+    ensures runs { MAX_ACK_RUNS ≡ most_ack_runs }
+    ensures silent { LAZY_ACK_THRESHOLD ≡ lazy_threshold }
+    ensures span { DUPLICATE_SPAN ≡ duplicate_span }
+    ensures window { WINDOW_BITS ≡ window_bits }
+    ensures ids { CidQueue.LEN ≡ kept_ids }
     ensures in_definitions { kept_ids ≡ 5 }
     ensures retirements { CidQueue.MAX_PENDING_RETIREMENTS ≡ 50 }
 {}

@@ -12,7 +12,7 @@ fn at(nanos: u64) -> Instant {
 #[test]
 fn the_next_path_keeps_the_round_trip(rt: HostRuntime) -> Result<(), Fail> {
     let config = TransportConfig::default();
-    let mut path = PathData::new(0, at(0), &config, &NewRenoConfig::default());
+    let mut path = PathData::new(true, None, 0, at(0), &config, &NewRenoConfig::default());
     path.rtt
         .update(Duration::from_millis(0), Duration::from_millis(40));
     path.sent(1200, true);
@@ -30,7 +30,7 @@ fn the_next_path_keeps_the_round_trip(rt: HostRuntime) -> Result<(), Fail> {
 #[test]
 fn other_paths_change_nothing_in_flight(rt: HostRuntime) {
     let config = TransportConfig::default();
-    let mut path = PathData::new(3, at(0), &config, &NewRenoConfig::default());
+    let mut path = PathData::new(false, None, 3, at(0), &config, &NewRenoConfig::default());
     path.sent(1200, true);
     path.sent(40, false);
     assert!(rt; !path.remove_in_flight(2, 1200, true));
@@ -44,7 +44,7 @@ fn other_paths_change_nothing_in_flight(rt: HostRuntime) {
 #[test]
 fn a_reset_path_does_not_wait(rt: HostRuntime) {
     let config = TransportConfig::default();
-    let mut path = PathData::new(0, at(0), &config, &NewRenoConfig::default());
+    let mut path = PathData::new(true, None, 0, at(0), &config, &NewRenoConfig::default());
     let trip = path.rtt.get();
     for _ in 0..10 {
         path.pacing.on_transmit(1200);

@@ -6,11 +6,11 @@ use Rattle.std.specs.BTreeMap.{is_at}
 use Rattle.std.specs.BTreeSet.{insert_key}
 use Rattle.std.specs.Set.{remove_key}
 use Rattle.quic_wire_core.specs.declared.shared.IssuedCid.{IssuedCid}
+use Rattle.quic_wire_core.specs.declared.stream_id.Dir.TheVariants.{Bi, Uni}
 use Rattle.quic_wire.specs.Value.{StopSendingValue}
 use Rattle.quic_streams_parts.specs.Dirs.{Flags, no_flag, of}
 use Rattle.quic_retransmits.specs.declared.retransmits.ControlKind.{ControlKind}
 use Rattle.quic_retransmits.specs.declared.retransmits.ControlKind.TheVariants.{ResetStream, StopSending, MaxData, MaxStreamData, MaxStreams, DataBlocked, StreamDataBlocked}
-use Rattle.quic_retransmits.specs.declared.retransmits.TheConstants.{CONTROL_KINDS}
 
 -- MAX_DATA; DATA_BLOCKED; MAX_STREAMS of each kind; RESET_STREAM of these streams with these codes; STOP_SENDING; MAX_STREAM_DATA and STREAM_DATA_BLOCKED of the
 -- streams of these sets; NEW_CONNECTION_ID; RETIRE_CONNECTION_ID of these numbers; and ACK_FREQUENCY
@@ -120,6 +120,11 @@ can_retire r a z = nat_le (length r.retire_cids + (z - a)) most_retirements
 abbrev pub after_retire : Retransmits → ℕ → ℕ → Retransmits
 after_retire r a z = record r { retire_cids = r.retire_cids ++ range_with_len a (z - a) }
 
+-- the kinds of frames about streams, in the order in which they go into a datagram (RFC 9000, sections 19.4, 19.5, 19.9 to 19.13): RESET_STREAM, STOP_SENDING,
+-- MAX_DATA, MAX_STREAM_DATA, MAX_STREAMS of two-way and then of one-way streams, DATA_BLOCKED, STREAM_DATA_BLOCKED. The order is our choice
+abbrev pub control_kinds : List ControlKind
+control_kinds = ResetStream ∷ StopSending ∷ MaxData ∷ MaxStreamData ∷ MaxStreams Bi ∷ MaxStreams Uni ∷ DataBlocked ∷ StreamDataBlocked ∷ []
+
 -- ---- whether something goes
 
 -- whether something waits of a kind that may go: what has a gate counts where it is open, for the kind or on the stream
@@ -134,4 +139,4 @@ any_counts gate gate_on StreamDataBlocked r = list_any (λ id. gate_on StreamDat
 
 -- nothing waits that may go
 abbrev pub is_empty_where : (ControlKind → Bool) → (ControlKind → ℕ → Bool) → Retransmits → Bool
-is_empty_where gate gate_on r = not (list_any (λ kind. any_counts gate gate_on kind r) CONTROL_KINDS || is_any r.new_cids || is_any r.retire_cids || r.ack_frequency)
+is_empty_where gate gate_on r = not (list_any (λ kind. any_counts gate gate_on kind r) control_kinds || is_any r.new_cids || is_any r.retire_cids || r.ack_frequency)

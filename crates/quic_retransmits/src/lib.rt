@@ -3,6 +3,7 @@
 #![tactic(auto)]
 
 mod ids;
+pub mod laws;
 mod lists;
 mod queries;
 mod retransmits;

@@ -7,3 +7,4 @@ pub mod Taking
 pub mod Running
 pub mod Making
 pub mod Given
+mod Kept

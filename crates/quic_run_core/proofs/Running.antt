@@ -18,7 +18,7 @@ said-long : (line : List ℕ) → 1048576 < length line → said line ≡ None
 said-long line long = rw (lt-ltb 1048576 (length line) long) refl
 
 -- one line more is run
-run-push : (s : Stage) (lines : List (List ℕ)) (text : List ℕ) (t : Stage) (line more : List ℕ) (u : Stage) → IsRun s lines text t → Does (said line) t more u → IsRun s (lines ++ line ∷ []) (text ++ more) u
+pub run-push : (s : Stage) (lines : List (List ℕ)) (text : List ℕ) (t : Stage) (line more : List ℕ) (u : Stage) → IsRun s lines text t → Does (said line) t more u → IsRun s (lines ++ line ∷ []) (text ++ more) u
 run-push s [] text t line more u run does =
     let at : Does (said line) s more u = subst (λ (x : Stage). Does (said line) x more u) run.1 does in
     (more, u, [], at, (refl, refl), rw run.0 (sym (append-nil more)))
@@ -55,7 +55,7 @@ pub record Running (script old : Option (List ℕ)) (number : ℕ) (stage : Stag
   pub behind : IsBehind script done left
 
 -- all is left
-behind-none : (script : Option (List ℕ)) → IsBehind script [] script
+pub behind-none : (script : Option (List ℕ)) → IsBehind script [] script
 behind-none None = tt
 behind-none (Some bytes) = refl
 
@@ -69,7 +69,7 @@ running-none script old stage is = record {
 }
 
 -- the next line was taken, which isn't too long
-behind-more : (script : Option (List ℕ)) (done : List (List ℕ)) (left next : Option (List ℕ)) (line : List ℕ) → IsBehind script done left → IsNextLine left line next → (1048576 < length line → ⊥) → IsBehind script (done ++ line ∷ []) next
+pub behind-more : (script : Option (List ℕ)) (done : List (List ℕ)) (left next : Option (List ℕ)) (line : List ℕ) → IsBehind script done left → IsNextLine left line next → (1048576 < length line → ⊥) → IsBehind script (done ++ line ∷ []) next
 behind-more None done left next line b n short = tt
 behind-more (Some bytes) done None next line b n short = absurd b
 behind-more (Some bytes) done (Some rest) None line b n short = absurd n
@@ -80,7 +80,7 @@ behind-more (Some bytes) done (Some rest) (Some more) line b n short =
     ]
 
 -- a line that does something isn't too long
-does_short : (line : List ℕ) (s : Stage) (text : List ℕ) (t : Stage) → Does (said line) s text t → 1048576 < length line → ⊥
+pub does_short : (line : List ℕ) (s : Stage) (text : List ℕ) (t : Stage) → Does (said line) s text t → 1048576 < length line → ⊥
 does_short line s text t does long = rw (said-long line long) at does
 
 -- the next line was run, and its answer printed
@@ -107,7 +107,7 @@ pub running-some : (script old : Option (List ℕ)) (number : ℕ) (stage : Stag
 running-some script old number stage left new r = (r.done, stage, r.ran, begins_done script r.done left r.behind)
 
 -- no line is left
-all_done : (script : Option (List ℕ)) (done : List (List ℕ)) (left : Option (List ℕ)) → IsBehind script done left → IsOver left → IfSome script (λ bytes. lines_of bytes ≡ done)
+pub all_done : (script : Option (List ℕ)) (done : List (List ℕ)) (left : Option (List ℕ)) → IsBehind script done left → IsOver left → IfSome script (λ bytes. lines_of bytes ≡ done)
 all_done None done left b over = tt
 all_done (Some bytes) done None b over = absurd b
 all_done (Some bytes) done (Some rest) b over = b ∙ rw over (append-nil done)

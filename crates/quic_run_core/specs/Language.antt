@@ -1,5 +1,5 @@
 -- What a line of a script asks for.
-use Rattle.std.specs.Prelude.{ℕ, ℤ, pos, ◌≡◌, ◌^◌, Bool, true, false, ◌==◌, ◌&&◌, nat_lt, nat_le, if◌then◌else◌, List, [], ◌∷◌, length, codes, Option, Some, None, Result, Ok, Err, nat_eq}
+use Rattle.std.specs.Prelude.{ℕ, ℤ, pos, ◌≡◌, ◌^◌, Bool, true, false, ◌==◌, ◌&&◌, nat_lt, if◌then◌else◌, List, [], ◌∷◌, length, codes, Option, Some, None, Result, Ok, Err, nat_eq}
 use denote.Ref.{Bor}
 use Rattle.std.specs.Cmp.Lexicographic.{pointwise}
 use Rattle.std.specs.List.{slice_split}
@@ -94,15 +94,6 @@ varint_in (Some n) = varint_of n
 abbrev pub varint_named : List ℕ → Option ℕ
 varint_named word = varint_in (number_named word)
 
--- a count of streams, 2^60 at most (RFC 9000, section 4.6)
-abbrev pub count_in : Option ℕ → Option ℕ
-count_in None = None
-count_in (Some n) = if nat_le n (2 ^ 60) then Some n else None
-
--- the count of streams that a word names
-abbrev pub count_named : List ℕ → Option ℕ
-count_named word = count_in (number_named word)
-
 -- a priority, below 2^31
 abbrev pub priority_in : Option ℕ → Option ℤ
 priority_in None = None
@@ -154,8 +145,8 @@ setting_said name args =
     if is_word name (codes "receive_window") then one ReceiveWindow varint_named args
     else (if is_word name (codes "stream_window") then one StreamWindow varint_named args
     else (if is_word name (codes "send_window") then one SendWindow number_named args
-    else (if is_word name (codes "bidi") then one Bidi count_named args
-    else (if is_word name (codes "uni") then one Uni count_named args
+    else (if is_word name (codes "bidi") then one Bidi varint_named args
+    else (if is_word name (codes "uni") then one Uni varint_named args
     else (if is_word name (codes "messages") then one Messages number_named args
     else (if is_word name (codes "word") then one Word number_named args
     else (if is_word name (codes "pcg") then one Pcg number_named args

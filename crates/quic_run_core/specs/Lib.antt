@@ -14,3 +14,4 @@ pub mod Reading
 pub mod Outcomes
 pub mod Opened
 pub mod Refusals
+pub mod Erased

@@ -2,6 +2,7 @@
 #![tactic(auto)]
 
 mod answer;
+mod erasing;
 mod error;
 pub mod key;
 pub mod language;
@@ -14,6 +15,7 @@ mod session;
 mod show;
 mod words;
 
+pub use erasing::erase;
 pub use error::ScriptError;
 pub use runner::{run_script, run_script_within};
 pub use words::Words;

@@ -30,7 +30,7 @@ fn boxed(alloc: Global, session: Session) -> Result<Box<Session>, AllocError>
 
 /// A script as far as it was run.
 #[derive(Drop)]
-struct Runner {
+pub(crate) struct Runner {
     alloc: Global,
     client: Options,
     server: Options,
@@ -40,7 +40,7 @@ struct Runner {
 
 impl Runner {
     /// No line was run.
-    fn new(alloc: Global) -> Self
+    pub(crate) fn new(alloc: Global) -> Self
         ensures { stage_of result ≡ first_stage }
     {
         Runner {
@@ -77,7 +77,7 @@ impl Runner {
     }
 
     /// Runs one line, and gives what is printed of it.
-    fn run_line(&mut self, line: &[u8]) -> Result<String, LineError>
+    pub(crate) fn run_line(&mut self, line: &[u8]) -> Result<String, LineError>
         ensures { MatchResult result
             (λ text. Does (said line.now) (stage_of self.old) (string_bytes text) (stage_of self.new))
             (λ e. (e ≡ LineError.OutOfMemory) ⊎ ((e ≡ LineError.BadCommand) × IsRefused (said line.now) (stage_of self.old))) }

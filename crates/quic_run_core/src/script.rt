@@ -5,7 +5,7 @@ ghost use Rattle.std.specs.List.{list_any};
 ghost use Rattle.std.specs.Option.{SomeIff};
 ghost use Rattle.std.specs.Str.Parse.{IsNumeral, digits_value};
 ghost use Rattle.quic_run_core.specs.Named.{side_named, dir_named, mark_named, timer_named, bytes_named};
-ghost use Rattle.quic_run_core.specs.Language.{number_named, varint_named, count_in, count_named, priority_named, first, two, three, reading, resets, stops, delivers, injects, words_left, setting_said, settings_said, call_said, command_said, end_said, words_said, is_skipped, said, command_of, asked_of, asked_read, Reads, words as words_of};
+ghost use Rattle.quic_run_core.specs.Language.{number_named, varint_named, priority_named, first, two, three, reading, resets, stops, delivers, injects, words_left, setting_said, settings_said, call_said, command_said, end_said, words_said, is_skipped, said, command_of, asked_of, asked_read, Reads, words as words_of};
 
 use bytes::Bytes;
 use hex::FromHexError;
@@ -41,9 +41,9 @@ pub enum Setting {
     StreamWindow(VarInt),
     /// How many bytes may be written that the peer hasn't acknowledged.
     SendWindow(u64),
-    /// How many two-way streams the peer may have open at a time, 2^60 at most.
+    /// How many two-way streams the peer may have open at a time. It is cut to 2^60.
     Bidi(VarInt),
-    /// How many one-way streams the peer may have open at a time, 2^60 at most.
+    /// How many one-way streams the peer may have open at a time. It is cut to 2^60.
     Uni(VarInt),
     /// How many bytes of messages are kept unread: 0 where the end takes none.
     Messages(usize),
@@ -112,13 +112,6 @@ impl<'a> LineWords<'a> {
         ensures rest { words_left self.new.rest ≡ drop 1 (words_left self.old.rest) }
     {
         VarInt::from_u64(self.number()?).map_err(|_| LineError::BadCommand)
-    }
-
-    fn count(&mut self) -> Result<VarInt, LineError>
-        ensures answer { result ≡ ok_or (first count_named (words_left self.old.rest)) LineError.BadCommand }
-        ensures rest { words_left self.new.rest ≡ drop 1 (words_left self.old.rest) }
-    {
-        count_of(self.number()?).ok_or(LineError::BadCommand)
     }
 
     fn priority(&mut self) -> Result<i32, LineError>
@@ -236,16 +229,6 @@ fn number(word: &str) -> Option<u64>
     }
 }
 
-/// A count of streams, 2^60 at most (RFC 9000, section 4.6).
-fn count_of(number: u64) -> Option<VarInt>
-    ensures { result ≡ count_in (Some number) }
-{
-    if number > 1 << 60 {
-        return None;
-    }
-    VarInt::from_u64(number).ok()
-}
-
 /// An end: `c` for the client, `s` for the server.
 pub fn side(word: &str) -> Option<Side>
     ensures { result ≡ side_named word.now }
@@ -333,8 +316,8 @@ fn setting_of(name: &str, words: &mut LineWords) -> Result<Setting, LineError>
         "receive_window" => Ok(Setting::ReceiveWindow(words.varint()?)),
         "stream_window" => Ok(Setting::StreamWindow(words.varint()?)),
         "send_window" => Ok(Setting::SendWindow(words.number()?)),
-        "bidi" => Ok(Setting::Bidi(words.count()?)),
-        "uni" => Ok(Setting::Uni(words.count()?)),
+        "bidi" => Ok(Setting::Bidi(words.varint()?)),
+        "uni" => Ok(Setting::Uni(words.varint()?)),
         "messages" => Ok(Setting::Messages(words.index()?)),
         "word" => Ok(Setting::Word(words.number()?)),
         "pcg" => Ok(Setting::Pcg(words.number()?)),

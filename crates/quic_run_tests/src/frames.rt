@@ -27,13 +27,31 @@ pub(crate) fn sealed_for(
     first: u8,
     payload: &[u8],
 ) -> Result<Vec<u8>, AllocError> {
+    sealed_under(alloc, side, first, 0, payload)
+}
+
+/// The same under this number.
+pub(crate) fn sealed_under(
+    alloc: Global,
+    side: Side,
+    first: u8,
+    number: u8,
+    payload: &[u8],
+) -> Result<Vec<u8>, AllocError> {
     let mut out = Vec::new(alloc);
     out.push(first)?;
     out.extend_from_slice(&id_of(side))?;
-    out.extend_from_slice(&[0, 0, 0, 0])?;
+    out.extend_from_slice(&[0, 0, 0, number])?;
     out.extend_from_slice(payload)?;
     let keys = keys_for(!side);
-    seal_packet(&mut out, 0, 9, 0, &keys.header.local, &keys.packet.local)?;
+    seal_packet(
+        &mut out,
+        0,
+        9,
+        u64::from(number),
+        &keys.header.local,
+        &keys.packet.local,
+    )?;
     Ok(out)
 }
 

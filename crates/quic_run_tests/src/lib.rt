@@ -12,10 +12,14 @@ mod config;
 #[cfg(test)]
 mod ends;
 #[cfg(test)]
+mod erasing;
+#[cfg(test)]
 mod frames;
 #[cfg(test)]
 mod lacking;
 pub mod laws;
+#[cfg(test)]
+mod marks;
 #[cfg(test)]
 mod messages;
 #[cfg(test)]

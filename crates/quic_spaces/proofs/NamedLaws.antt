@@ -9,11 +9,14 @@ use Rattle.std.specs.declared.cmp.Ordering.TheVariants.{Less}
 use Rattle.std.specs.Cmp.{unsigned_tied, ranked}
 use Rattle.std.proofs.lemmas.Bool.{leb-true, le-leb, lt-leb, eq-eqb, ne_eqb, and_parts, and_right}
 use Rattle.std.proofs.lemmas.List.{append_assoc, reverse-append}
+use Rattle.std.specs.List.Sorted.{IsStrictlySortedBy}
+use Rattle.std.proofs.lemmas.List.Elements.{All-head, All-tail, All-same, All-filter}
+use Rattle.std.proofs.lemmas.List.Kept.{IsStrictlySortedBy-filter}
 use Rattle.std.proofs.lemmas.Map.Keys.{sorted_head, sorted_tail}
 use Rattle.quic_wire.specs.AckGrammar.{Below}
 use Rattle.quic_streams_parts.specs.Table.{Table, at, without}
-use Rattle.quic_sent_packets.specs.Packets.{TrackedPacket, Ascends, newest, newest_behind, is_within, within}
-use Rattle.quic_spaces.proofs.Tails.{found_above}
+use Rattle.quic_sent_packets.specs.Packets.{TrackedPacket, Ascends, oldest, newest, newest_behind, from, is_within, within}
+use Rattle.quic_spaces.proofs.Tails.{HoldsOfAll, holds_map, oldest_holds, found_above}
 use Rattle.quic_spaces.specs.Named.{outside, is_among, among, apart_from, Descends}
 
 less : (a b : ℕ) → nat_cmp a b ≡ Less → a < b
@@ -187,11 +190,6 @@ has_last (p ∷ ps) n e =
     let same : (newest_behind p ps).0 ≡ n = cc in
     (r.0, (newest_behind p ps).1, r.1 ∙ ap (λ (m : ℕ). r.0 ++ (m, (newest_behind p ps).1) ∷ []) same)
 
--- where there is none, there are none
-pub has_none : (ps : Table TrackedPacket) → option_map (λ p. p.0) (newest ps) ≡ None → ps ≡ []
-has_none [] e = refl
-has_none (p ∷ ps) e = absurd cc
-
 -- ---- ranges below all packets
 
 -- where no packet lies up to the end of the first range, none is in any
@@ -265,12 +263,45 @@ last_outside low high n es new l left = ap (outside low (n - 1)) left ∙ l.outs
 
 -- ---- the early end
 
-pub was_none : (o : Option ℕ) (none : Bool) → is_some o ≡ not none → none ≡ true → o ≡ None
-was_none None none is e = refl
-was_none (Some n) none is e = let no : true ≡ false = is ∙ ap not e in absurd cc
+-- the first packet has the least number
+pub first_holds : (es : Table TrackedPacket) (n : ℕ) → Ascends es → Some n ≡ option_map (λ p. p.0) (oldest (from 0 es)) → HoldsOfAll (λ m. n ≤ m) es
+first_holds es n up e = holds_map (λ m. nat_le 0 m ≡ true → n ≤ m) (λ m. n ≤ m) (λ m h. h (le-leb 0 m (omega arith))) es (oldest_holds (nat_le 0) es n up e)
 
--- where nothing lies up to the end of the first range, nothing is taken
-pub stops_at : (low high : ℕ) (rs all : List (ℕ × ℕ)) (es : Table TrackedPacket) → all ≡ (low, high) ∷ rs → Descends all → option_map (λ p. p.0) (newest (within 0 high es)) ≡ None → (among all es ≡ []) × (apart_from all es ≡ es)
-stops_at low high rs all es e down none =
-    let s = stops low high rs es (subst Descends e down) (has_none (within 0 high es) none) in
+-- where there is no first, there is none
+pub has_no_first : (es : Table TrackedPacket) → None ≡ option_map (λ p. p.0) (oldest (from 0 es)) → es ≡ []
+has_no_first [] e = refl
+has_no_first (x ∷ es) e = let here : nat_le 0 x.0 ≡ true = le-leb 0 x.0 (omega arith) in let no = rw here at e in absurd cc
+
+-- up to a number below all there is none
+none_within : (high n : ℕ) (es : Table TrackedPacket) → high < n → HoldsOfAll (λ m. n ≤ m) es → within 0 high es ≡ []
+none_within high n [] below holds = refl
+none_within high n (x ∷ es) below holds =
+    let l : n ≤ x.0 = All-head (λ (p : ℕ × TrackedPacket). n ≤ p.0) x es holds in
+    let past : nat_le x.0 high ≡ false = lt-leb x.0 high (omega (arith, below, l)) in
+    let apart : is_within 0 high x.0 ≡ false = and_right (nat_le 0 x.0) (nat_le x.0 high) past in
+    rw apart (none_within high n es below (All-tail (λ (p : ℕ × TrackedPacket). n ≤ p.0) x es holds))
+
+-- what is left lies no lower
+pub outside_holds : (low high n : ℕ) (es new : Table TrackedPacket) → new ≡ outside low high es → HoldsOfAll (λ m. n ≤ m) es → HoldsOfAll (λ m. n ≤ m) new
+outside_holds low high n es new left holds =
+    All-same (λ (p : ℕ × TrackedPacket). n ≤ p.0) new (outside low high es) left (All-filter (λ p. not (is_within low high p.0)) (λ (p : ℕ × TrackedPacket). n ≤ p.0) es holds)
+
+kept_keys : (test : ℕ → Bool) (es : Table TrackedPacket) → keys_of (filter (λ e. test e.0) es) ≡ filter test (keys_of es)
+kept_keys test [] = refl
+kept_keys test (x ∷ es) = go (test x.0) (kept_keys test es)
+  where
+    go : (b : Bool) → keys_of (filter (λ e. test e.0) es) ≡ filter test (keys_of es) → keys_of (cond b (x ∷ filter (λ e. test e.0) es) (filter (λ e. test e.0) es)) ≡ cond b (x.0 ∷ filter test (keys_of es)) (filter test (keys_of es))
+    go true ih = ap (λ (l : List ℕ). x.0 ∷ l) ih
+    go false ih = ih
+
+-- and its numbers ascend
+pub outside_ascends : (low high : ℕ) (es new : Table TrackedPacket) → new ≡ outside low high es → Ascends es → Ascends new
+outside_ascends low high es new left up =
+    let kept = IsStrictlySortedBy-filter nat_cmp (λ n. not (is_within low high n)) (keys_of es) up in
+    subst Ascends (sym left) (subst (IsStrictlySortedBy nat_cmp) (sym (kept_keys (λ n. not (is_within low high n)) es)) kept)
+
+-- where the first range ends below all packets, nothing is taken
+pub stops_at : (low high n : ℕ) (rs all : List (ℕ × ℕ)) (es : Table TrackedPacket) → all ≡ (low, high) ∷ rs → Descends all → high < n → HoldsOfAll (λ m. n ≤ m) es → (among all es ≡ []) × (apart_from all es ≡ es)
+stops_at low high n rs all es e down below holds =
+    let s = stops low high rs es (subst Descends e down) (none_within high n es below holds) in
     (ap (λ (l : List (ℕ × ℕ)). among l es) e ∙ s.0, ap (λ (l : List (ℕ × ℕ)). apart_from l es) e ∙ s.1)

@@ -1,6 +1,6 @@
 -- The tail of what is tracked as packets go and are taken out.
-use Rattle.std.proofs.Common.{◌≡◌, ℕ, ◌+◌, ◌-◌, ◌<◌, ◌≤◌, Bool, true, false, cond, not, nat_lt, nat_le, ◌==◌, ◌&&◌, [], ◌∷◌, length, filter, ◌^◌, Option, Some, None, is_some, IfSome, All, refl, sym, ap, ◌∙◌, subst, arith, ⊎_elim}
-use Rattle.std.specs.Option.{option_map}
+use Rattle.std.proofs.Common.{◌≡◌, ℕ, ◌+◌, ◌-◌, ◌<◌, ◌≤◌, Bool, true, false, cond, not, nat_lt, nat_le, min, max, ◌==◌, ◌&&◌, [], ◌∷◌, length, filter, ◌^◌, Option, Some, None, is_some, IfSome, All, refl, sym, ap, ◌∙◌, subst, arith, ⊎_elim}
+use Rattle.std.specs.Option.{option_map, unwrap_or}
 use Rattle.std.specs.List.{AllByRecursion}
 use Rattle.std.specs.Map.{keys_of}
 use Rattle.std.specs.BTreeMap.{is_at}
@@ -9,13 +9,13 @@ use Rattle.std.specs.declared.cmp.Ordering.{Ordering}
 use Rattle.std.specs.declared.cmp.Ordering.TheVariants.{Less, Equal, Greater}
 use Rattle.std.specs.Cmp.{nat_cmp_is, unsigned_tied, ranked}
 use Rattle.std.proofs.lemmas.Bool.{le-leb, lt-leb, eq-eqb, eqb-true, ne_eqb, cases_lt}
-use Rattle.std.proofs.lemmas.List.Elements.{All-head, All-tail, All-cons, All-same}
+use Rattle.std.proofs.lemmas.List.Elements.{All-nil, All-head, All-tail, All-cons, All-same}
 use Rattle.std.proofs.lemmas.Map.Keys.{sorted_head, sorted_tail}
 use Rattle.quic_streams_parts.specs.Table.{Table, at, put, without, added}
 use Rattle.quic_streams_parts.specs.TableLaws.{without-unknown, at-apart, at-without, at-without-apart, sorted-without}
 use Rattle.quic_sent_packets.specs.Packets.{TrackedPacket, Ascends, oldest, from, without_record}
 use Rattle.quic_spaces.specs.Tracking.{Tracking, is_behind, tail_of, forgets, forgotten, without_packet, asking_sent, after_sent}
-use Rattle.quic_spaces.specs.Tail.{tail_start, at_if, without_if, one_if}
+use Rattle.quic_spaces.specs.Tail.{tail_start, IsBehindFrom, at_if, without_if, one_if}
 
 abbrev Packets : Type 0
 Packets = Table TrackedPacket
@@ -23,9 +23,13 @@ Packets = Table TrackedPacket
 abbrev Numbered : Type 0
 Numbered = ℕ × TrackedPacket
 
+-- a condition holds of all numbers
+abbrev pub HoldsOfAll : (ℕ → Type 0) → Table TrackedPacket → Type 0
+HoldsOfAll P es = All (λ (p : ℕ × TrackedPacket). P p.0) es
+
 -- all numbers lie below one
 abbrev pub LieBelow : ℕ → Table TrackedPacket → Type 0
-LieBelow n es = All (λ (p : ℕ × TrackedPacket). p.0 < n) es
+LieBelow n es = HoldsOfAll (λ m. m < n) es
 
 -- the packets behind the greatest that asks
 abbrev pub tail : Option ℕ → Table TrackedPacket → Table TrackedPacket
@@ -102,17 +106,42 @@ added_apart (x ∷ es) n k v up ne = go (nat_cmp n x.0) (is_at (nat_cmp k) x.0) 
     go Greater true is at ih = rw at refl
     go Greater false is at ih = rw (at, is) (ap (λ (l : Packets). x ∷ l) ih)
 
--- what is left lies below too
-below_left : (es : Packets) (n k : ℕ) → LieBelow n es → LieBelow n (without es k)
-below_left [] n k below = below
-below_left (x ∷ es) n k below = go (is_at (nat_cmp k) x.0) (below_left es n k rest)
+-- what holds of all holds of what is left
+holds_left : (P : ℕ → Type 0) (es : Packets) (k : ℕ) → HoldsOfAll P es → HoldsOfAll P (without es k)
+holds_left P [] k holds = holds
+holds_left P (x ∷ es) k holds = go (is_at (nat_cmp k) x.0) (holds_left P es k rest)
   where
-    rest : LieBelow n es
-    rest = All-tail (λ (p : Numbered). p.0 < n) x es below
+    rest : HoldsOfAll P es
+    rest = All-tail (λ (p : Numbered). P p.0) x es holds
 
-    go : (b : Bool) → LieBelow n (without es k) → LieBelow n (cond b es (x ∷ without es k))
+    go : (b : Bool) → HoldsOfAll P (without es k) → HoldsOfAll P (cond b es (x ∷ without es k))
     go true ih = rest
-    go false ih = All-cons (λ (p : Numbered). p.0 < n) x (without es k) (All-head (λ (p : Numbered). p.0 < n) x es below) ih
+    go false ih = All-cons (λ (p : Numbered). P p.0) x (without es k) (All-head (λ (p : Numbered). P p.0) x es holds) ih
+
+-- what follows from it holds too
+pub holds_map : (P Q : ℕ → Type 0) → ((n : ℕ) → P n → Q n) → (es : Packets) → HoldsOfAll P es → HoldsOfAll Q es
+holds_map P Q f [] holds = All-nil (λ (p : Numbered). Q p.0)
+holds_map P Q f (x ∷ es) holds =
+    All-cons (λ (p : Numbered). Q p.0) x es (f x.0 (All-head (λ (p : Numbered). P p.0) x es holds)) (holds_map P Q f es (All-tail (λ (p : Numbered). P p.0) x es holds))
+
+-- behind a number all lie above it
+above_holds : (m : ℕ) (es : Packets) → AllByRecursion (λ y. nat_cmp m y ≡ Less) (keys_of es) → HoldsOfAll (λ n. m ≤ n) es
+above_holds m [] above = All-nil (λ (p : Numbered). m ≤ p.0)
+above_holds m (x ∷ es) above =
+    let l : m < x.0 = ranked m x.0 Less (sym above.0) in
+    All-cons (λ (p : Numbered). m ≤ p.0) x es (omega (arith, l)) (above_holds m es above.1)
+
+-- the first that passes a test is the least that does
+pub oldest_holds : (test : ℕ → Bool) (es : Packets) (k : ℕ) → Ascends es → Some k ≡ option_map (λ p. p.0) (oldest (filter (λ p. test p.0) es)) → HoldsOfAll (λ n. test n ≡ true → k ≤ n) es
+oldest_holds test [] k up e = absurd cc
+oldest_holds test (x ∷ es) k up e = go (test x.0) refl e (oldest_holds test es k (sorted_tail nat_cmp x.0 (keys_of es) up))
+  where
+    go : (b : Bool) → test x.0 ≡ b → Some k ≡ option_map (λ p. p.0) (oldest (cond b (x ∷ filter (λ p. test p.0) es) (filter (λ p. test p.0) es))) → (Some k ≡ option_map (λ p. p.0) (oldest (filter (λ p. test p.0) es)) → HoldsOfAll (λ n. test n ≡ true → k ≤ n) es) → HoldsOfAll (λ n. test n ≡ true → k ≤ n) (x ∷ es)
+    go true is f ih =
+        let same : k ≡ x.0 = cc in
+        let rest = holds_map (λ n. x.0 ≤ n) (λ n. test n ≡ true → k ≤ n) (λ n l passes. omega (arith, same, l)) es (above_holds x.0 es (sorted_head nat_cmp x.0 (keys_of es) up)) in
+        All-cons (λ (p : Numbered). test p.0 ≡ true → k ≤ p.0) x es (λ passes. omega (arith, same)) rest
+    go false is f ih = All-cons (λ (p : Numbered). test p.0 ≡ true → k ≤ p.0) x es (λ passes. let no : true ≡ false = sym passes ∙ is in absurd cc) (ih f)
 
 -- one of the tail is one fewer
 pub tail_without : (greatest : Option ℕ) (es : Packets) (k : ℕ) (v : TrackedPacket) → at es k ≡ Some v → length (tail greatest es) ≡ length (tail greatest (without es k)) + one_if (is_behind greatest k)
@@ -285,14 +314,26 @@ goes t p o up is = go (forgets t p) refl
 
 -- ---- what is asked of the tail
 
--- the packets from its start on are the tail, where that start has 64 bits
-tail_from : (greatest : Option ℕ) (es : Packets) → ((g : ℕ) → greatest ≡ Some g → g + 1 < 2 ^ 64) → from (tail_start greatest) es ≡ tail greatest es
-tail_from greatest [] small = refl
-tail_from greatest (x ∷ es) small = rw (same greatest small, tail_from greatest es small) refl
+-- the packets from its start on are the tail, where that start has 64 bits, and so are those from a number on below which it has none
+tail_from : (greatest : Option ℕ) (low : ℕ) (es : Packets) → ((g : ℕ) → greatest ≡ Some g → g + 1 < 2 ^ 64) → HoldsOfAll (IsBehindFrom greatest low) es → from (max (tail_start greatest) low) es ≡ tail greatest es
+tail_from greatest low [] small holds = refl
+tail_from greatest low (x ∷ es) small holds = rw (same greatest small (All-head (λ (p : Numbered). IsBehindFrom greatest low p.0) x es holds), tail_from greatest low es small (All-tail (λ (p : Numbered). IsBehindFrom greatest low p.0) x es holds)) refl
   where
-    same : (o : Option ℕ) → ((g : ℕ) → o ≡ Some g → g + 1 < 2 ^ 64) → nat_le (tail_start o) x.0 ≡ is_behind o x.0
-    same None s = le-leb 0 x.0 (omega arith)
-    same (Some g) s = let l : g + 1 < 2 ^ 64 = s g refl in grind (arith, l)
+    same : (o : Option ℕ) → ((g : ℕ) → o ≡ Some g → g + 1 < 2 ^ 64) → IsBehindFrom o low x.0 → nat_le (max (tail_start o) low) x.0 ≡ is_behind o x.0
+    same None s h = let l : low ≤ x.0 = h refl in le-leb (max 0 low) x.0 (omega (arith, l))
+    same (Some g) s h = behind (nat_lt g x.0) refl
+      where
+        fits : g + 1 < 2 ^ 64
+        fits = s g refl
+
+        behind : (b : Bool) → nat_lt g x.0 ≡ b → nat_le (max (tail_start (Some g)) low) x.0 ≡ b
+        behind true is =
+            let l : low ≤ x.0 = h is in
+            let above : g < x.0 = grind (arith, is) in
+            le-leb (max (min (g + 1) (2 ^ 64 - 1)) low) x.0 (omega (arith, l, above))
+        behind false is =
+            let under : x.0 ≤ g = grind (arith, is) in
+            lt-leb (max (min (g + 1) (2 ^ 64 - 1)) low) x.0 (omega (arith, under, fits))
 
 -- no tail lies above the greatest number of 64 bits
 tail_past : (g : ℕ) (es : Packets) → 2 ^ 64 ≤ g + 1 → LieBelow (2 ^ 64) es → tail (Some g) es ≡ []
@@ -312,11 +353,11 @@ tail_fits greatest es some below g is = ⊎_elim (λ (l : g + 1 < 2 ^ 64). l) pa
         absurd (omega (arith, some, none))
 
 -- the oldest of a long tail is forgotten
-pub forgets_oldest : (t : Tracking) (p : TrackedPacket) → p.asks ≡ false → 1000 < length (tail_of t) → LieBelow (2 ^ 64) t.packets
-    → option_map (λ p. p.0) (oldest (from (tail_start t.greatest_asking) t.packets)) ≡ option_map (λ p. p.0) (forgotten t p)
-forgets_oldest t p silent long below =
+pub forgets_oldest : (t : Tracking) (p : TrackedPacket) (low : ℕ) → p.asks ≡ false → 1000 < length (tail_of t) → LieBelow (2 ^ 64) t.packets → HoldsOfAll (IsBehindFrom t.greatest_asking low) t.packets
+    → option_map (λ p. p.0) (oldest (from (max (tail_start t.greatest_asking) low) t.packets)) ≡ option_map (λ p. p.0) (forgotten t p)
+forgets_oldest t p low silent long below holds =
     let many : nat_lt 1000 (length (tail_of t)) ≡ true = grind arith in
-    rw (tail_from t.greatest_asking t.packets (tail_fits t.greatest_asking t.packets (omega (arith, long)) below), silent, many) refl
+    rw (tail_from t.greatest_asking low t.packets (tail_fits t.greatest_asking t.packets (omega (arith, long)) below) holds, silent, many) refl
 
 -- none is forgotten otherwise
 pub asking_keeps : (t : Tracking) (p : TrackedPacket) → p.asks ≡ true → forgotten t p ≡ None
@@ -399,34 +440,45 @@ silent_sent t n p after silent left =
     ap (λ (es : Packets). record t { packets = es }) left
     ∙ ap (λ (b : Bool). asking_sent b n p.time_sent (record t { packets = added (without_packet (forgotten t p) t.packets) n p })) (sym silent)
 
--- ---- numbers stay below a limit
-
-pub below_added : (m : ℕ) (es : Packets) (n : ℕ) (v : TrackedPacket) → n < m → LieBelow m es → LieBelow m (added es n v)
-below_added m [] n v small below = All-cons (λ (p : Numbered). p.0 < m) (n, v) [] small below
-below_added m (x ∷ es) n v small below = go (nat_cmp n x.0) (below_added m es n v small rest)
+-- where the oldest of the tail is forgotten, if one is, the tail has none below it, nor below a lesser number
+pub forgetting_holds : (t : Tracking) (p : TrackedPacket) (o : Option ℕ) (low m : ℕ) → Ascends t.packets → o ≡ option_map (λ p. p.0) (forgotten t p) → m ≤ unwrap_or o low
+    → HoldsOfAll (IsBehindFrom t.greatest_asking low) t.packets → HoldsOfAll (IsBehindFrom t.greatest_asking m) t.packets
+forgetting_holds t p None low m up is le holds = holds_map (IsBehindFrom t.greatest_asking low) (IsBehindFrom t.greatest_asking m) (λ n h passes. let l : low ≤ n = h passes in omega (arith, l, le)) t.packets holds
+forgetting_holds t p (Some k) low m up is le holds = go (forgets t p) is
   where
-    rest : LieBelow m es
-    rest = All-tail (λ (p : Numbered). p.0 < m) x es below
+    go : (b : Bool) → Some k ≡ option_map (λ p. p.0) (cond b (oldest (tail_of t)) None) → HoldsOfAll (IsBehindFrom t.greatest_asking m) t.packets
+    go false e = absurd cc
+    go true e =
+        holds_map (IsBehindFrom t.greatest_asking k) (IsBehindFrom t.greatest_asking m) (λ n h passes. let l : k ≤ n = h passes in omega (arith, l, le)) t.packets (oldest_holds (is_behind t.greatest_asking) t.packets k up e)
 
-    here : x.0 < m
-    here = All-head (λ (p : Numbered). p.0 < m) x es below
+-- ---- what holds of all numbers goes on to hold
 
-    go : (r : Ordering) → LieBelow m (added es n v) → LieBelow m (match_ordering r ((n, v) ∷ x ∷ es) ((x.0, v) ∷ es) (x ∷ added es n v))
-    go Less ih = All-cons (λ (p : Numbered). p.0 < m) (n, v) (x ∷ es) small below
-    go Equal ih = All-cons (λ (p : Numbered). p.0 < m) (x.0, v) es here rest
-    go Greater ih = All-cons (λ (p : Numbered). p.0 < m) x (added es n v) here ih
+pub holds_added : (P : ℕ → Type 0) (es : Packets) (n : ℕ) (v : TrackedPacket) → P n → HoldsOfAll P es → HoldsOfAll P (added es n v)
+holds_added P [] n v here holds = All-cons (λ (p : Numbered). P p.0) (n, v) [] here holds
+holds_added P (x ∷ es) n v here holds = go (nat_cmp n x.0) (holds_added P es n v here rest)
+  where
+    rest : HoldsOfAll P es
+    rest = All-tail (λ (p : Numbered). P p.0) x es holds
 
-pub below_without : (m : ℕ) (es new : Packets) (k : ℕ) → new ≡ without es k → LieBelow m es → LieBelow m new
-below_without m es new k left below = All-same (λ (p : Numbered). p.0 < m) new (without es k) left (below_left es m k below)
+    first : P x.0
+    first = All-head (λ (p : Numbered). P p.0) x es holds
 
-pub below_without_if : (m : ℕ) (es new : Packets) (o : Option ℕ) → new ≡ without_if o es → LieBelow m es → LieBelow m new
-below_without_if m es new None left below = All-same (λ (p : Numbered). p.0 < m) new es left below
-below_without_if m es new (Some k) left below = below_without m es new k left below
+    go : (r : Ordering) → HoldsOfAll P (added es n v) → HoldsOfAll P (match_ordering r ((n, v) ∷ x ∷ es) ((x.0, v) ∷ es) (x ∷ added es n v))
+    go Less ih = All-cons (λ (p : Numbered). P p.0) (n, v) (x ∷ es) here holds
+    go Equal ih = All-cons (λ (p : Numbered). P p.0) (x.0, v) es first rest
+    go Greater ih = All-cons (λ (p : Numbered). P p.0) x (added es n v) first ih
+
+pub holds_without : (P : ℕ → Type 0) (es new : Packets) (k : ℕ) → new ≡ without es k → HoldsOfAll P es → HoldsOfAll P new
+holds_without P es new k left holds = All-same (λ (p : Numbered). P p.0) new (without es k) left (holds_left P es k holds)
+
+pub holds_without_if : (P : ℕ → Type 0) (es new : Packets) (o : Option ℕ) → new ≡ without_if o es → HoldsOfAll P es → HoldsOfAll P new
+holds_without_if P es new None left holds = All-same (λ (p : Numbered). P p.0) new es left holds
+holds_without_if P es new (Some k) left holds = holds_without P es new k left holds
 
 -- once a packet went
-pub below_sent : (m : ℕ) (es new : Packets) (o : Option ℕ) (n : ℕ) (v : TrackedPacket) → new ≡ added (without_if o es) n v → n < m → LieBelow m es → LieBelow m new
-below_sent m es new o n v is small below =
-    All-same (λ (p : Numbered). p.0 < m) new (added (without_if o es) n v) is (below_added m (without_if o es) n v small (below_without_if m es (without_if o es) o refl below))
+pub holds_sent : (P : ℕ → Type 0) (es new : Packets) (o : Option ℕ) (n : ℕ) (v : TrackedPacket) → new ≡ added (without_if o es) n v → P n → HoldsOfAll P es → HoldsOfAll P new
+holds_sent P es new o n v is here holds =
+    All-same (λ (p : Numbered). P p.0) new (added (without_if o es) n v) is (holds_added P (without_if o es) n v here (holds_without_if P es (without_if o es) o refl holds))
 
 -- ---- a record is taken from a packet
 
@@ -446,19 +498,19 @@ put_tail greatest (x ∷ es) k v = go (is_at (nat_cmp k) x.0) (put_tail greatest
         same true = omega (arith, ih)
         same false = ih
 
-pub below_put : (m : ℕ) (es : Packets) (k : ℕ) (v : TrackedPacket) → LieBelow m es → LieBelow m (put es k v)
-below_put m [] k v below = below
-below_put m (x ∷ es) k v below = go (is_at (nat_cmp k) x.0) (below_put m es k v rest)
+pub holds_put : (P : ℕ → Type 0) (es : Packets) (k : ℕ) (v : TrackedPacket) → HoldsOfAll P es → HoldsOfAll P (put es k v)
+holds_put P [] k v holds = holds
+holds_put P (x ∷ es) k v holds = go (is_at (nat_cmp k) x.0) (holds_put P es k v rest)
   where
-    rest : LieBelow m es
-    rest = All-tail (λ (p : Numbered). p.0 < m) x es below
+    rest : HoldsOfAll P es
+    rest = All-tail (λ (p : Numbered). P p.0) x es holds
 
-    here : x.0 < m
-    here = All-head (λ (p : Numbered). p.0 < m) x es below
+    here : P x.0
+    here = All-head (λ (p : Numbered). P p.0) x es holds
 
-    go : (b : Bool) → LieBelow m (put es k v) → LieBelow m (cond b ((x.0, v) ∷ es) (x ∷ put es k v))
-    go true ih = All-cons (λ (p : Numbered). p.0 < m) (x.0, v) es here rest
-    go false ih = All-cons (λ (p : Numbered). p.0 < m) x (put es k v) here ih
+    go : (b : Bool) → HoldsOfAll P (put es k v) → HoldsOfAll P (cond b ((x.0, v) ∷ es) (x ∷ put es k v))
+    go true ih = All-cons (λ (p : Numbered). P p.0) (x.0, v) es here rest
+    go false ih = All-cons (λ (p : Numbered). P p.0) x (put es k v) here ih
 
 -- what is left where a record was taken from a packet that is there
 pub put_at : (es new : Packets) (k : ℕ) (p : TrackedPacket) → Some p ≡ at es k → IfSome (at es k) (λ p. new ≡ put es k (without_record p)) → new ≡ put es k (without_record p)
@@ -467,5 +519,5 @@ put_at es new k p there left = subst (λ (o : Option TrackedPacket). IfSome o (�
 pub put_counted : (greatest : Option ℕ) (es new : Packets) (k : ℕ) (v : TrackedPacket) (count : ℕ) → new ≡ put es k v → count ≡ length (tail greatest es) → count ≡ length (tail greatest new)
 put_counted greatest es new k v count is counts = counts ∙ put_tail greatest es k v ∙ ap (λ (l : Packets). length (tail greatest l)) (sym is)
 
-pub below_same : (m : ℕ) (es new : Packets) (k : ℕ) (v : TrackedPacket) → new ≡ put es k v → LieBelow m es → LieBelow m new
-below_same m es new k v is below = All-same (λ (p : Numbered). p.0 < m) new (put es k v) is (below_put m es k v below)
+pub holds_same : (P : ℕ → Type 0) (es new : Packets) (k : ℕ) (v : TrackedPacket) → new ≡ put es k v → HoldsOfAll P es → HoldsOfAll P new
+holds_same P es new k v is holds = All-same (λ (p : Numbered). P p.0) new (put es k v) is (holds_put P es k v holds)

@@ -10,5 +10,6 @@ pub mod Persistent
 pub mod PersistentSteps
 pub mod Acknowledging
 pub mod Records
+pub mod Marks
 pub mod Space
 pub mod Probes

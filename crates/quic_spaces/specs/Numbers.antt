@@ -1,11 +1,6 @@
 -- Packet numbers of a space: those it gives and those it opened (RFC 9000, section 12.3).
 use Rattle.std.specs.Prelude.{ℕ, ◌+◌, ◌-◌, ◌^◌, max, Bool, nat_lt, ◌&&◌, [], Option, Some, None, unwrap_or}
-use Rattle.quic_recovery_core.specs.declared.spaces.dedup.TheConstants.{DUPLICATE_SPAN}
 use Rattle.quic_recovery_core.specs.Duplicates.{Seen, after_insert}
-
--- how far below the greatest opened number one counts as having come before
-abbrev pub duplicate_span : ℕ
-duplicate_span = DUPLICATE_SPAN
 
 -- the next number to give, the greatest own number that the peer named, the numbers opened, and the greatest whose whole payload was taken
 pub record Numbers : Type 0 where

@@ -1,5 +1,5 @@
 -- A packet number space of an end (RFC 9000, section 12.3; RFC 9002, section A.1): what it gave and opened, what it has to acknowledge, and what it waits for.
-use Rattle.std.specs.Prelude.{ℕ, ◌+◌, ◌-◌, Bool, true, false, not, nat_lt, ◌||◌, if◌then◌else◌, Option, Some, None, Result, Ok, Err}
+use Rattle.std.specs.Prelude.{ℕ, Bool, true, false, not, nat_lt, ◌||◌, Option, Some, None}
 use Rattle.std.proofs.Common.{lit<}
 use Rattle.quic_wire.specs.declared.frame.ack.EcnCounts.{EcnCounts}
 use Rattle.quic_recovery_core.specs.PendingAcks.{none_pending}
@@ -11,12 +11,10 @@ use Rattle.quic_spaces.specs.Numbers.{no_numbers}
 use Rattle.quic_spaces.specs.Tracking.{TrackedPacket, nothing_tracked, without_record}
 use Rattle.quic_spaces.specs.Records.{first_record}
 use Rattle.quic_spaces.specs.declared.space.PacketSpace.{PacketSpace}
-use Rattle.quic_spaces.specs.declared.space.EcnError.{EcnError}
-use Rattle.quic_spaces.specs.declared.space.EcnError.TheVariants as errors
 
--- no mark was counted
-abbrev pub no_marks : EcnCounts
-no_marks = record { ect0 = 0; ect1 = 0; ce = 0; small = (lit< tt, lit< tt, lit< tt) }
+-- no packet came with a mark
+abbrev pub no_counts : EcnCounts
+no_counts = record { ect0 = 0; ect1 = 0; ce = 0; small = (lit< tt, lit< tt, lit< tt) }
 
 -- nothing was given or opened since a moment
 abbrev pub new_space : ℕ → PacketSpace
@@ -26,7 +24,8 @@ new_space now = record {
   tracking = nothing_tracked now;
   ping_pending = false;
   immediate_ack_pending = false;
-  ecn_feedback = no_marks;
+  ecn_counters = no_counts;
+  ecn_feedback = no_counts;
 }
 
 -- whether something other than an acknowledgement waits to be sent, beside the bytes of streams
@@ -61,21 +60,3 @@ probe_queued false immediate s pending streams = record { space = s; pending = p
 -- what waits for a probe
 abbrev pub after_probe_queued : Bool → PacketSpace → Retransmits → StreamsState → Probed
 after_probe_queued immediate s pending streams = probe_queued (nat_lt 0 s.tracking.probes) immediate s pending streams
-
--- ---- marks that the peer counted (RFC 9000, section 13.4.2.1)
-
--- what is wrong with counts that came with so many packets newly acknowledged, if anything is: one fell, ECT(0), ECT(1) or CE; they grew by less than the
--- packets; those of ECT(0) and CE did, or that of ECT(1) grew, with which nothing is marked
-abbrev pub marks_refused : ℕ → EcnCounts → EcnCounts → Option EcnError
-marks_refused newly last counts =
-    if nat_lt counts.ect0 last.ect0 then Some errors.Ect0Regression
-    else (if nat_lt counts.ect1 last.ect1 then Some errors.Ect1Regression
-    else (if nat_lt counts.ce last.ce then Some errors.CeRegression
-    else (if nat_lt ((counts.ect0 - last.ect0) + (counts.ect1 - last.ect1) + (counts.ce - last.ce)) newly then Some errors.Bleaching
-    else (if nat_lt ((counts.ect0 - last.ect0) + (counts.ce - last.ce)) newly || nat_lt last.ect1 counts.ect1 then Some errors.Corruption
-    else None))))
-
--- what judging them answers: whether that of CE grew
-abbrev pub marks_judged : Option EcnError → EcnCounts → EcnCounts → Result Bool EcnError
-marks_judged None last counts = Ok (nat_lt last.ce counts.ce)
-marks_judged (Some error) last counts = Err error

@@ -1,15 +1,16 @@
 //! What is to be acknowledged, and when (RFC 9000, section 13.2).
-ghost use Rattle.std.specs.Prelude.{◌≡◌, ◌+◌, ◌≤◌, ◌<◌, ◌^◌, ◌++◌, [], None, true, length, vec_len, vec_capacity, IfOk, OnOk, OnErr};
+ghost use Rattle.std.specs.Prelude.{◌≡◌, ◌+◌, ◌≤◌, ◌<◌, ◌^◌, ◌++◌, [], true, length, vec_len, vec_capacity, IfOk, OnOk, OnErr};
 ghost use Rattle.quic_wire.specs.AckSet.{ack_of_set, ranges_of_set, greatest, IsSmall};
+ghost use Rattle.quic_wire.specs.AckView.{shown_ecn};
 ghost use Rattle.quic_wire.specs.AckWriting.{ack_spelling, ack_size};
 ghost use Rattle.quic_recovery_core.specs.declared.spaces.pending_acks.TheConstants.{MAX_ACK_RUNS};
 ghost use Rattle.quic_recovery_core.specs.PendingAcks.{none_pending, after_insert, after_packet, packet_starts_wait, after_subtract, after_timeout, after_lazy, can_send, is_filled, after_acks_sent};
-ghost use Rattle.quic_spaces.specs.Acknowledging.{ack_due, delay_at, ack_at, most_ack_bytes};
+ghost use Rattle.quic_spaces.specs.Acknowledging.{ack_due, with_due, delay_at, ack_at, most_ack_bytes};
 
 use quic_recovery_core::{Dedup, PendingAcks};
 use quic_sets::ArrayRangeSet;
 use quic_time::Instant;
-use quic_wire::frame::Ack;
+use quic_wire::frame::{Ack, EcnCounts};
 use std::alloc::{AllocError, Global};
 use std::marker::Model;
 
@@ -60,8 +61,9 @@ impl Acknowledging {
     }
 
     /// A packet of this number was taken at this moment, which asks for an acknowledgement or
-    /// doesn't: whether the timer of acknowledgements is to be set. `dedup` has the numbers opened,
-    /// this one too.
+    /// doesn't: whether the timer of acknowledgements is to be set. It is to be acknowledged at once
+    /// where it came with the mark CE (RFC 9000, section 13.2.1). `dedup` has the numbers opened, this
+    /// one too.
     ///
     /// # Errors
     ///
@@ -71,14 +73,18 @@ impl Acknowledging {
         number: u64,
         now: Instant,
         asks: bool,
+        congested: bool,
         dedup: &Dedup,
     ) -> Result<bool, AllocError>
         requires { number < 2 ^ 62 }
-        ensures waits { IfOk result (λ waits. waits ≡ packet_starts_wait (after_insert self.old number now) number asks dedup.now) }
-        ensures ok { OnOk result (self.new ≡ after_packet (after_insert self.old number now) now number asks dedup.now) }
+        ensures waits { IfOk result (λ waits. waits ≡ packet_starts_wait (with_due congested (after_insert self.old number now)) number asks dedup.now) }
+        ensures ok { OnOk result (self.new ≡ after_packet (with_due congested (after_insert self.old number now)) now number asks dedup.now) }
         ensures err { OnErr result (self.new ≡ self.old) }
     {
         self.pending.insert_one(number, now)?;
+        if congested {
+            self.pending.set_immediate_ack_required();
+        }
         Ok(self.pending.packet_received(now, number, asks, dedup))
     }
 
@@ -140,41 +146,43 @@ impl Acknowledging {
         (self.pending.ack_delay(now).as_micros() / ACK_DELAY_UNIT).min(MAX_DELAY)
     }
 
-    /// How many bytes the ACK frame of this moment takes, where there is a number to acknowledge.
-    pub fn size(&self, now: Instant) -> usize
+    /// How many bytes the ACK frame of this moment takes with these counts of marks, where there is
+    /// a number to acknowledge.
+    pub fn size(&self, now: Instant, ecn: Option<&EcnCounts>) -> usize
         requires { is_filled self.now.runs ≡ true }
-        ensures size { result ≡ ack_size (ack_at self.now now) }
+        ensures size { result ≡ ack_size (ack_at self.now now (shown_ecn ecn.entry)) }
         ensures most { result ≤ most_ack_bytes }
     {
-        Ack::size_of(self.delay(now), self.pending.ranges(), None)
+        Ack::size_of(self.delay(now), self.pending.ranges(), ecn)
     }
 
-    /// Appends the ACK frame of this moment, for which there is room: 1041 bytes are enough. There
-    /// is a number to acknowledge. No acknowledgement is due then until more packets come.
-    pub fn put(&mut self, now: Instant, out: &mut Vec<u8>)
+    /// Appends the ACK frame of this moment with these counts of marks, for which there is room:
+    /// 1065 bytes are enough. There is a number to acknowledge. No acknowledgement is due then until
+    /// more packets come.
+    pub fn put(&mut self, now: Instant, ecn: Option<&EcnCounts>, out: &mut Vec<u8>)
         requires some { is_filled self.old.runs ≡ true }
-        requires room { length self.old.runs ≤ MAX_ACK_RUNS → vec_len out.old + ack_size (ack_at self.old now) ≤ vec_capacity out.old }
-        ensures items { out.new.items ≡ out.old.items ++ ack_spelling (ack_at self.old now) }
-        ensures len { vec_len out.new ≡ vec_len out.old + ack_size (ack_at self.old now) }
-        ensures most { ack_size (ack_at self.old now) ≤ most_ack_bytes }
+        requires room { length self.old.runs ≤ MAX_ACK_RUNS → vec_len out.old + ack_size (ack_at self.old now (shown_ecn ecn)) ≤ vec_capacity out.old }
+        ensures items { out.new.items ≡ out.old.items ++ ack_spelling (ack_at self.old now (shown_ecn ecn.entry)) }
+        ensures len { vec_len out.new ≡ vec_len out.old + ack_size (ack_at self.old now (shown_ecn ecn.entry)) }
+        ensures most { ack_size (ack_at self.old now (shown_ecn ecn.entry)) ≤ most_ack_bytes }
         ensures capacity { vec_capacity out.old ≤ vec_capacity out.new }
         ensures next { self.new ≡ after_acks_sent self.old }
     {
         let delay = self.delay(now);
-        put_ack(out, delay, self.pending.ranges());
+        put_ack(out, delay, self.pending.ranges(), ecn);
         self.pending.acks_sent();
     }
 }
 
-/// Appends the ACK frame of numbers, for which there is room.
-fn put_ack(out: &mut Vec<u8>, delay: u64, ranges: &ArrayRangeSet)
+/// Appends the ACK frame of numbers with these counts of marks, for which there is room.
+fn put_ack(out: &mut Vec<u8>, delay: u64, ranges: &ArrayRangeSet, ecn: Option<&EcnCounts>)
     requires some { ranges.now ≡ [] → ⊥ }
     requires small { IsSmall ranges.now }
     requires delay { delay < 2 ^ 62 }
-    requires room { vec_len out.old + ack_size (ack_of_set delay ranges.now None) ≤ vec_capacity out.old }
-    ensures items { out.new.items ≡ out.old.items ++ ack_spelling (ack_of_set delay ranges.now None) }
-    ensures len { vec_len out.new ≡ vec_len out.old + ack_size (ack_of_set delay ranges.now None) }
+    requires room { vec_len out.old + ack_size (ack_of_set delay ranges.now (shown_ecn ecn)) ≤ vec_capacity out.old }
+    ensures items { out.new.items ≡ out.old.items ++ ack_spelling (ack_of_set delay ranges.now (shown_ecn ecn.entry)) }
+    ensures len { vec_len out.new ≡ vec_len out.old + ack_size (ack_of_set delay ranges.now (shown_ecn ecn.entry)) }
     ensures capacity { vec_capacity out.old ≤ vec_capacity out.new }
 {
-    Ack::encode(delay, ranges, None, out).unwrap()
+    Ack::encode(delay, ranges, ecn, out).unwrap()
 }

@@ -11,7 +11,9 @@ ghost use Rattle.quic_spaces.specs.Numbers.{number_given};
 ghost use Rattle.quic_spaces.specs.Tracking.{forgotten, after_sent};
 ghost use Rattle.quic_spaces.specs.Records.{first_record, has_record};
 ghost use Rattle.quic_spaces.specs.Probes.{probe_filled_for};
-ghost use Rattle.quic_spaces.specs.Space.{new_space, other_waits, after_probe_queued, marks_refused, marks_judged};
+ghost use Rattle.quic_spaces.specs.Space.{new_space, other_waits, after_probe_queued};
+ghost use Rattle.quic_spaces.specs.Marks.{after_mark, told_counts, marks_refused, marks_judged};
+ghost use Rattle.quic_wire.specs.AckView.{counts_view, ecn_view};
 
 use crate::acknowledging::Acknowledging;
 use crate::numbers::Numbers;
@@ -21,6 +23,7 @@ use quic_sent_packets::SentPacket;
 use quic_streams_state::StreamsState;
 use quic_time::Instant;
 use quic_wire::frame::EcnCounts;
+use quic_wire_core::EcnCodepoint;
 use std::alloc::{AllocError, Global};
 use thiserror::Error;
 
@@ -41,6 +44,8 @@ pub struct PacketSpace {
     pub ping_pending: bool,
     /// Whether IMMEDIATE_ACK waits (the ACK frequency extension).
     pub immediate_ack_pending: bool,
+    /// How many packets came with each congestion mark (RFC 9000, section 13.4.1).
+    pub ecn_counters: EcnCounts,
     /// How many packets the peer last said that came with each congestion mark.
     pub ecn_feedback: EcnCounts,
 }
@@ -105,6 +110,7 @@ impl PacketSpace {
             tracking: Tracking::new(alloc, now),
             ping_pending: false,
             immediate_ack_pending: false,
+            ecn_counters: EcnCounts::ZERO,
             ecn_feedback: EcnCounts::ZERO,
         }
     }
@@ -214,6 +220,27 @@ impl PacketSpace {
         }
     }
 
+    /// One packet more came, with this mark or with none (RFC 9000, section 13.4.1).
+    pub fn on_mark(&mut self, ecn: Option<EcnCodepoint>)
+        ensures counted { counts_view self.new.ecn_counters ≡ after_mark ecn (counts_view self.old.ecn_counters) }
+        ensures others { self.new ≡ record self.old { ecn_counters = self.new.ecn_counters } }
+    {
+        if let Some(mark) = ecn {
+            self.ecn_counters += mark;
+        }
+    }
+
+    /// The counts that an ACK frame tells: none before a packet came with a mark.
+    pub fn told_counts(&self) -> Option<EcnCounts>
+        ensures { ecn_view result ≡ told_counts (counts_view self.now.ecn_counters) }
+    {
+        let EcnCounts { ect0, ect1, ce } = self.ecn_counters;
+        if ect0 == 0 && ect1 == 0 && ce == 0 {
+            return None;
+        }
+        Some(self.ecn_counters)
+    }
+
     /// Takes over the counts of marks that came with so many packets newly acknowledged, and
     /// answers whether that of CE grew, which congestion makes.
     ///
@@ -222,7 +249,9 @@ impl PacketSpace {
     /// [`EcnError`] where the counts can't be right: the path or the peer doesn't keep marks. Then
     /// nothing changes.
     pub fn detect_ecn(&mut self, newly_acked: u64, counts: &EcnCounts) -> Result<bool, EcnError>
-        ensures answer { result ≡ marks_judged (marks_refused newly_acked self.old.ecn_feedback counts.now) self.old.ecn_feedback counts.now }
+        ensures answer { let last = counts_view self.old.ecn_feedback in
+            let now = counts_view counts.now in
+            result ≡ marks_judged (marks_refused newly_acked last now) last now }
         ensures ok { OnOk result (self.new ≡ record self.old { ecn_feedback = counts.now }) }
         ensures err { OnErr result (self.new ≡ self.old) }
     {
@@ -237,7 +266,7 @@ impl PacketSpace {
 
 /// What is wrong with counts after others, where so many packets were newly acknowledged.
 fn refused(newly: u64, last: &EcnCounts, counts: &EcnCounts) -> Option<EcnError>
-    ensures { result ≡ marks_refused newly last.now counts.now }
+    ensures { result ≡ marks_refused newly (counts_view last.now) (counts_view counts.now) }
 {
     if counts.ect0 < last.ect0 {
         return Some(EcnError::Ect0Regression);

@@ -33,19 +33,22 @@ pub struct Tracking {
     pub(crate) probes: u64,
     // How many packets are tracked above the last that asks.
     pub(crate) unacked_non_ack_eliciting_tail: u64,
+    // None of them has a number below this one, so that those that were forgotten aren't walked.
+    pub(crate) tail_from: u64,
 }
 
 impl Model for Tracking {
     ghost use Rattle.std.specs.Prelude.{◌≡◌, ◌<◌, ◌≤◌, ◌^◌, length, All};
     ghost use Rattle.quic_spaces.specs.Tracking as words;
+    ghost use Rattle.quic_spaces.specs.Tail.{IsBehindFrom};
     ghost use Rattle.quic_spaces.specs.Views.{tracking_of};
 
     ghost Value = { words.Tracking };
 
     ghost view = { tracking_of };
 
-    // The tail is counted. Numbers have 64 bits.
-    ghost invariant = { λ t. (t.unacked_non_ack_eliciting_tail ≡ length (words.tail_of (tracking_of t))) × All (λ p. p.0 < 2 ^ 64) t.packets };
+    // The tail is counted. Numbers have 64 bits. The tail begins at `tail_from` or behind it.
+    ghost invariant = { λ t. (t.unacked_non_ack_eliciting_tail ≡ length (words.tail_of (tracking_of t))) × All (λ p. p.0 < 2 ^ 64) t.packets × All (λ p. IsBehindFrom t.largest_ack_eliciting_sent t.tail_from p.0) t.packets };
 }
 
 /// Whether a number lies above the greatest that asks, if one does.
@@ -162,6 +165,7 @@ impl Tracking {
             timeouts: 0,
             probes: 0,
             unacked_non_ack_eliciting_tail: 0,
+            tail_from: 0,
         }
     }
 
@@ -207,8 +211,8 @@ impl Tracking {
         if packet.ack_eliciting || self.unacked_non_ack_eliciting_tail <= MOST_TAIL {
             return None;
         }
-        self.packets
-            .first_from(tail_start(self.largest_ack_eliciting_sent))
+        let start = tail_start(self.largest_ack_eliciting_sent);
+        self.packets.first_from(start.max(self.tail_from))
     }
 
     /// Whether a packet of this number makes the tail longer, once that of another number is gone,
@@ -246,8 +250,10 @@ impl Tracking {
             self.last_asking = time_sent;
             self.probes = self.probes.saturating_sub(1);
             self.unacked_non_ack_eliciting_tail = count_above(&self.packets, number);
+            self.tail_from = 0;
             return Ok(None);
         }
+        self.tail_from = oldest.unwrap_or(self.tail_from).min(number);
         self.unacked_non_ack_eliciting_tail = tail_after(
             self.unacked_non_ack_eliciting_tail,
             forgotten.is_some(),
@@ -318,8 +324,11 @@ impl Tracking {
         ensures taken { OnOk result (reverse taken.new.items ≡ among ranges.entry self.old.packets ++ reverse taken.old.items) }
         ensures others { self.new ≡ record self.old { packets = self.new.packets } }
     {
+        let Some(first) = self.packets.first_from(0) else {
+            return Ok(());
+        };
         for range in ranges {
-            if self.packets.last_within(0, *range.end()).is_none() {
+            if *range.end() < first {
                 return Ok(());
             }
             self.take_range(*range.start(), *range.end(), taken)?;

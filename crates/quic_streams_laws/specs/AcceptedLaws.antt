@@ -110,6 +110,10 @@ theirs side id = go side (initiator_of id)
     go Server Client e = refl
     go Server Server e = absurd (both_ways true e refl)
 
+-- and its id is told by its kind and its place
+pub peers_id : (side : Side) (id : ℕ) → is_own side id ≡ false → stream_id (other_side side) (dir_of id) (index_of id) ≡ id
+peers_id side id not_own = ap (λ x. stream_id x (dir_of id) (index_of id)) (sym (theirs side id not_own)) ∙ stream_id_of_parts id
+
 -- where none is found, each of the peer's streams of that kind that is opened was accepted
 pub all_accepted : (accepted : ℕ → Type 0) (dir : Dir) (s : StreamsState) (id : ℕ) → accept_answer dir s ≡ None → dir_of id ≡ dir → is_own s.side id ≡ false → is_opened s id ≡ true → HoldsAccepted accepted s → accepted id
 all_accepted accepted dir s id none kind not_own opened i =
@@ -118,7 +122,7 @@ all_accepted accepted dir s id none kind not_own opened i =
     let lt : index_of id < of (dir_of id) s.opening.remote = ltb-true (index_of id) (of (dir_of id) s.opening.remote) below in
     let here : index_of id < of dir s.opening.remote = subst (λ d. index_of id < of d s.opening.remote) kind lt in
     let it : accepted (stream_id (other_side s.side) dir (index_of id)) = i.each dir (index_of id) (omega arith) in
-    let whole : stream_id (other_side s.side) dir (index_of id) ≡ id = ap (λ x. stream_id x dir (index_of id)) (sym (theirs s.side id not_own)) ∙ (ap (λ d. stream_id (initiator_of id) d (index_of id)) (sym kind) ∙ stream_id_of_parts id) in
+    let whole : stream_id (other_side s.side) dir (index_of id) ≡ id = ap (λ d. stream_id (other_side s.side) d (index_of id)) (sym kind) ∙ peers_id s.side id not_own in
     subst accepted whole it
   where
     go : (b : Bool) → nat_lt (of dir s.opening.accepted) (of dir s.opening.remote) ≡ b → (accepted_if b s.side dir s.opening).0 ≡ None → of dir s.opening.remote ≤ of dir s.opening.accepted

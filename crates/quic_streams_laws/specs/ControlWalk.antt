@@ -8,9 +8,8 @@ use Rattle.quic_wire.specs.Writing.{frame_size}
 use Rattle.quic_streams_parts.specs.Table.{at}
 use Rattle.quic_streams_parts.specs.SendHalf.{SendHalf, frame_counts}
 use Rattle.quic_streams_parts.specs.Queue.{first_queued}
-use Rattle.quic_retransmits.specs.Retransmits.{Retransmits, others_of}
+use Rattle.quic_retransmits.specs.Retransmits.{Retransmits, others_of, control_kinds}
 use Rattle.quic_retransmits.specs.declared.retransmits.ControlKind.{ControlKind}
-use Rattle.quic_retransmits.specs.declared.retransmits.TheConstants.{CONTROL_KINDS}
 use Rattle.quic_streams_state.specs.Control.{Entry, Draft, waiting, without_first, first_dropped, first_sent, first_and_more, with_listed, with_kind, with_control_frames}
 use Rattle.quic_streams_laws.specs.KindLaws.{GoesFirst, first_goes}
 use Rattle.quic_streams_state.specs.ControlLaws as control_laws
@@ -48,7 +47,7 @@ module _ (most : ℕ) (P : Draft → Type 0) (c : GoesOn most P) where
 
   -- what each step keeps holds once all went
   pub by_control : (d : Draft) → P d → P (with_control_frames most d)
-  by_control d p = kinds_keep CONTROL_KINDS d p
+  by_control d p = kinds_keep control_kinds d p
 
 -- ---- STREAM frames
 

@@ -32,10 +32,10 @@ module _ {A : Type 0} where
   abbrev pub held : Slots A → Table A
   held p = numbered p.base p.slots
 
-  -- no more than 4096 slots, whose numbers fit 64 bits
+  -- no more than 65536 slots, whose numbers fit 64 bits
   pub record IsShort (p : Slots A) : Type 0 where
     pub numbers : p.base + length p.slots ≤ 2 ^ 64
-    pub span : length p.slots ≤ 4096
+    pub span : length p.slots ≤ 65536
 
   -- the first slot, if there is one, holds a value
   abbrev pub IsTrimmed : List (Option A) → Type 0

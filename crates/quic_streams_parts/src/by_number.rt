@@ -13,7 +13,7 @@ use std::alloc::{AllocError, Global};
 use std::collections::BTreeMap;
 use std::marker::Model;
 
-/// Values by number, for numbers that come nearly in order. One of the latest 4096 numbers is
+/// Values by number, for numbers that come nearly in order. One of the latest 65536 numbers is
 /// found, kept and taken out in constant time, amortized, and an earlier one in the logarithm of
 /// how many of those there are.
 #[derive(Drop)]

@@ -16,7 +16,7 @@ use std::marker::Model;
 /// and little memory.
 const MAX_SPARE: usize = 16;
 
-/// Values by number, for numbers that come nearly in order. One of the latest 4096 numbers is
+/// Values by number, for numbers that come nearly in order. One of the latest 65536 numbers is
 /// found, kept and taken out in constant time, amortized, and an earlier one in the logarithm of
 /// how many of those there are. Each value stays where it is on the heap, and a place that was given
 /// back is used again.

@@ -12,7 +12,7 @@ use std::marker::Model;
 use std::mem;
 
 /// How many numbers the ring goes over at most.
-const SPAN: u64 = 4096;
+const SPAN: u64 = 65_536;
 
 /// The latest values in slots, one for each number from `base` on. A slot is empty where its number
 /// was skipped, or where its value was taken out.
@@ -150,11 +150,11 @@ impl<T> Ring<T> {
     /// The first slot gets this number where there is none yet.
     fn start_at(&mut self, number: u64)
         requires from { self.old.base ≤ number }
-        requires near { 0 < length self.old.slots → number < self.old.base + 4096 }
+        requires near { 0 < length self.old.slots → number < self.old.base + 65536 }
         ensures held { held self.new ≡ held self.old }
         ensures base { self.old.base ≤ self.new.base }
         ensures from { self.new.base ≤ number }
-        ensures near { number < self.new.base + 4096 }
+        ensures near { number < self.new.base + 65536 }
         ensures slots { self.new.slots ≡ self.old.slots }
         ensures first { length self.old.slots ≡ 0 → self.new.base ≡ number }
     {
@@ -172,7 +172,7 @@ impl<T: Drop> Ring<T> {
     /// [`AllocError`] where memory lacks; no value changes.
     pub(crate) fn insert(&mut self, number: u64, value: T) -> Result<Option<T>, AllocError>
         requires from { self.old.base ≤ number }
-        requires near { 0 < length self.old.slots → number < self.old.base + 4096 }
+        requires near { 0 < length self.old.slots → number < self.old.base + 65536 }
         ensures replaced { IfOk result (λ replaced. replaced ≡ at (held self.old) number) }
         ensures ok { OnOk result (held self.new ≡ added (held self.old) number value) }
         ensures err { OnErr result (held self.new ≡ held self.old) }
@@ -234,7 +234,7 @@ impl<T: Drop> Ring<T> {
         ensures both { earlier.new.entries ++ held self.new ≡ earlier.old.entries ++ held self.old }
         ensures below { AllBelow self.new.base earlier.new.entries }
         ensures from { self.new.base ≤ number }
-        ensures near { OnOk result (0 < length self.new.slots → number < self.new.base + 4096) }
+        ensures near { OnOk result (0 < length self.new.slots → number < self.new.base + 65536) }
         ensures trimmed { IsTrimmed self.old.slots → IsTrimmed self.new.slots }
     {
         while !self.slots.is_empty() && number - self.base >= SPAN {

@@ -14,10 +14,9 @@ use Rattle.quic_streams_parts.specs.Dirs.{of, with_of}
 use Rattle.quic_streams_parts.specs.SendHalf.{SendHalf, is_ready, written_on}
 use Rattle.quic_streams_parts.specs.RecvHalf.{RecvHalf, takes_limits, raised_on}
 use Rattle.quic_streams_halves.specs.Halves.{changed}
-use Rattle.quic_retransmits.specs.Retransmits.{Retransmits, with_id, first_of, others_of}
+use Rattle.quic_retransmits.specs.Retransmits.{Retransmits, with_id, first_of, others_of, control_kinds}
 use Rattle.quic_retransmits.specs.declared.retransmits.ControlKind.{ControlKind}
 use Rattle.quic_retransmits.specs.declared.retransmits.ControlKind.TheVariants.{ResetStream, StopSending, MaxData, MaxStreamData, MaxStreams, DataBlocked, StreamDataBlocked}
-use Rattle.quic_retransmits.specs.declared.retransmits.TheConstants.{CONTROL_KINDS}
 use Rattle.quic_streams_state.specs.State.{StreamsState, Receiving, sending_half}
 use Rattle.quic_streams_state.specs.Opening.{announced_count}
 use Rattle.quic_streams_state.specs.Limits.{raised_data, raised_count, can_send_data_blocked, can_send_flow_control}
@@ -213,7 +212,7 @@ with_kind most d kind = with_listed kind most (waiting kind d.pending) d
 
 -- with the frames of all kinds
 abbrev pub with_control_frames : ℕ → Draft → Draft
-with_control_frames most d = fold (with_kind most) d CONTROL_KINDS
+with_control_frames most d = fold (with_kind most) d control_kinds
 
 -- the frames of all kinds behind so many bytes, and what they leave
 abbrev pub control_frames : ℕ → ℕ → StreamsState → Retransmits → Retransmits → Draft

@@ -16,8 +16,7 @@ use Rattle.quic_streams_parts.specs.Dirs.{of}
 use Rattle.quic_streams_parts.specs.RecvHalf.{RecvHalf}
 use Rattle.quic_retransmits.specs.declared.retransmits.ControlKind.{ControlKind}
 use Rattle.quic_retransmits.specs.declared.retransmits.ControlKind.TheVariants.{ResetStream, StopSending, MaxData, MaxStreamData, MaxStreams, DataBlocked, StreamDataBlocked}
-use Rattle.quic_retransmits.specs.declared.retransmits.TheConstants.{CONTROL_KINDS}
-use Rattle.quic_retransmits.specs.Retransmits.{Retransmits, merged, with_id, with_ids, first_of, others_of, is_any}
+use Rattle.quic_retransmits.specs.Retransmits.{Retransmits, merged, with_id, with_ids, first_of, others_of, is_any, control_kinds}
 use Rattle.quic_streams_state.specs.declared.state.StreamsState.{StreamsState}
 use Rattle.quic_streams_state.specs.Limits.{takes_limits_of, can_send_data_blocked}
 use Rattle.quic_streams_state.specs.Control.{stream_data_blocked_limit, may_go_on, Entry, reset_entry, stop_entry, data_entry, limit_frame, limit_entry, count_entry, blocked_entry, stream_blocked_entry, flagged, waiting, without_first}
@@ -56,7 +55,7 @@ place DataBlocked = 6
 place StreamDataBlocked = 7
 
 -- there it stands
-at_place : (kind : ControlKind) → slice_get CONTROL_KINDS (place kind) ≡ Some kind
+at_place : (kind : ControlKind) → slice_get control_kinds (place kind) ≡ Some kind
 unfolding place
 at_place ResetStream = refl
 at_place StopSending = refl
@@ -222,14 +221,14 @@ are_apart [] = true
 are_apart (kind ∷ kinds) = is_apart kind kinds && are_apart kinds
 
 -- so it is in the order in which they go
-pub kinds_apart : are_apart CONTROL_KINDS ≡ true
+pub kinds_apart : are_apart control_kinds ≡ true
 unfolding place
 kinds_apart = refl
 
 -- two kinds of one place are one
 pub same_place : (kind other : ControlKind) → (place kind == place other) ≡ true → kind ≡ other
 same_place kind other is =
-    let one : slice_get CONTROL_KINDS (place kind) ≡ slice_get CONTROL_KINDS (place other) = ap (slice_get CONTROL_KINDS) (eqb-true (place kind) (place other) is) in
+    let one : slice_get control_kinds (place kind) ≡ slice_get control_kinds (place other) = ap (slice_get control_kinds) (eqb-true (place kind) (place other) is) in
     same_some kind other (sym (at_place kind) ∙ one ∙ at_place other)
   where
     same_some : (k j : ControlKind) → Some k ≡ Some j → k ≡ j
@@ -261,20 +260,20 @@ counts_due kind p s resets on = go (due_is kind p s)
     go (inr is) = subst (λ (k : ControlKind). any_due s (waiting k p) ≡ true) (sym is) (first p.reset_stream resets (subst (λ (k : ControlKind). any_goes k p s ≡ true) is on))
 
 -- a test that one kind passes is passed by one of all
-pub listed : (test : ControlKind → Bool) (kind : ControlKind) → test kind ≡ true → list_any test CONTROL_KINDS ≡ true
-listed test kind passes = any_passes_from_place test CONTROL_KINDS (place kind) kind (at_place kind) passes
+pub listed : (test : ControlKind → Bool) (kind : ControlKind) → test kind ≡ true → list_any test control_kinds ≡ true
+listed test kind passes = any_passes_from_place test control_kinds (place kind) kind (at_place kind) passes
 
 -- something waits where something of a kind counts
 pub fills : (kind : ControlKind) (p : Retransmits) (s : StreamsState) → any_goes kind p s ≡ true → is_empty p s ≡ false
 fills kind p s on =
-    let kinds : Bool = list_any (λ k. any_goes k p s) CONTROL_KINDS in
+    let kinds : Bool = list_any (λ k. any_goes k p s) control_kinds in
     ap not (or_left (kinds || is_any p.new_cids || is_any p.retire_cids) p.ack_frequency
     (or_left (kinds || is_any p.new_cids) (is_any p.retire_cids)
     (or_left kinds (is_any p.new_cids) (listed (λ k. any_goes k p s) kind on))))
 
 -- and then something of a kind counts, where nothing else waits
 pub filled : (p : Retransmits) (s : StreamsState) → is_empty p s ≡ false → p.new_cids ≡ [] → p.retire_cids ≡ [] → p.ack_frequency ≡ false → (kind : ControlKind) × (any_goes kind p s ≡ true)
-filled p s some ids retired frequency = passing CONTROL_KINDS (alone (list_any (λ k. any_goes k p s) CONTROL_KINDS) (is_any p.new_cids) (is_any p.retire_cids) p.ack_frequency (ap is_any ids) (ap is_any retired) frequency (not-false _ some))
+filled p s some ids retired frequency = passing control_kinds (alone (list_any (λ k. any_goes k p s) control_kinds) (is_any p.new_cids) (is_any p.retire_cids) p.ack_frequency (ap is_any ids) (ap is_any retired) frequency (not-false _ some))
   where
     alone : (a b c d : Bool) → b ≡ false → c ≡ false → d ≡ false → (a || b || c || d) ≡ true → a ≡ true
     alone true b c d none no_other no_more on = refl
@@ -295,11 +294,11 @@ none_due p s empty kind = false_from_ne_true (any_due s (waiting kind p)) (λ du
 pub merged_fills : (p q : Retransmits) (s : StreamsState) → is_empty q s ≡ false → is_empty (merged p q) s ≡ false
 merged_fills p q s some =
     let m : Retransmits = merged p q in
-    let before : Bool = list_any (λ k. any_goes k q s) CONTROL_KINDS in
-    let after : Bool = list_any (λ k. any_goes k m s) CONTROL_KINDS in
+    let before : Bool = list_any (λ k. any_goes k q s) control_kinds in
+    let after : Bool = list_any (λ k. any_goes k m s) control_kinds in
     ap not (either (before || is_any q.new_cids || is_any q.retire_cids) q.ack_frequency (after || is_any m.new_cids || is_any m.retire_cids) m.ack_frequency
     (either (before || is_any q.new_cids) (is_any q.retire_cids) (after || is_any m.new_cids) (is_any m.retire_cids)
-    (either before (is_any q.new_cids) after (is_any m.new_cids) (each CONTROL_KINDS) (any_behind p.new_cids q.new_cids))
+    (either before (is_any q.new_cids) after (is_any m.new_cids) (each control_kinds) (any_behind p.new_cids q.new_cids))
     (any_behind p.retire_cids q.retire_cids))
     (or_right p.ack_frequency q.ack_frequency)
     (not-false _ some))

@@ -13,7 +13,7 @@ use Rattle.quic_machine.specs.Machine.{World, IsStep, Follows, view_of}
 use Rattle.quic_headline.specs.Runs.{In}
 use Rattle.quic_headline.specs.Observer.{Sent as SentAs, HoldsOffset, acked_until}
 use Rattle.quic_headline.specs.Headline.{IsHonest, IsRun}
-use Rattle.quic_headline.specs.Polls.{GaveNothing, IsFull, IsPaced, IsByteToGo, PollsSendWhatWaits, WindowIsOfHistory, flying, bytes_flying, size_at}
+use Rattle.quic_headline.specs.Polls.{GaveNothing, IsFull, IsPaced, IsByteToGo, PollsSendWhatWaits, WindowIsOfHistory, flying, bytes_flying}
 use Rattle.quic_worked.specs.Worked.{worked_policies, told_in, client_id, server_id, client_gives, once_written, once_sent, opens_stream, asks_datagram, gives_bytes, view_with, open_view}
 use Rattle.quic_worked.specs.Broken.{IsNoRun}
 use Rattle.quic_worked.specs.Reordered.{writes_bytes}
@@ -28,12 +28,12 @@ use Rattle.quic_worked.proofs.WorkedRun.{parameters_say, opens as opens_first, w
 
 -- ---- the premises
 
-held_started : AreStarted held_start
+pub held_started : AreStarted held_start
 held_started = record {
   client_making = record (making client_id) { windows = narrow_windows };
   server_making = record (making server_id) { windows = narrow_windows };
-  client_is = record { range = record { receive_window = lit< tt; stream_receive_window = lit< tt }; says = parameters_say; id = refl };
-  server_is = record { range = record { receive_window = lit< tt; stream_receive_window = lit< tt }; says = parameters_say; id = refl };
+  client_is = record { range = record { receive_window = lit< tt; stream_receive_window = lit< tt; initial_mtu = lit≤ tt }; says = parameters_say; id = refl };
+  server_is = record { range = record { receive_window = lit< tt; stream_receive_window = lit< tt; initial_mtu = lit≤ tt }; says = parameters_say; id = refl };
   client = subst (λ read. IsMade Client default_settings narrow_windows read client_id server_id 0 true 63 held_start.client) (sym parameters_say) refl;
   server = subst (λ read. IsMade Server default_settings narrow_windows read server_id client_id 0 true 63 held_start.server) (sym parameters_say) refl;
   client_gave = refl;
@@ -49,15 +49,15 @@ held_is_honest = record { start = held_started; keys = are_keys; ids = own_ids h
 
 -- ---- the machine's run
 
-opens : IsStep worked_policies held_start opens_stream (answers.Open (Some 0)) (once_held 1)
+pub opens : IsStep worked_policies held_start opens_stream (answers.Open (Some 0)) (once_held 1)
 unfolding once_held
 opens = record { answer = refl; end = refl; control = refl; others = refl; lacking = tt }
 
-writes : IsStep worked_policies (once_held 1) (writes_bytes (replicate 4000 0x61)) (answers.Write (Ok 4000)) (once_held 2)
+pub writes : IsStep worked_policies (once_held 1) (writes_bytes (replicate 4000 0x61)) (answers.Write (Ok 4000)) (once_held 2)
 unfolding once_held
 writes = record { answer = inl refl; end = refl; control = refl; others = refl; lacking = λ lacks. cc }
 
-gives : IsStep worked_policies (once_held 2) (asks_at Client 0) (gives_bytes 1200) (once_held 3)
+pub gives : IsStep worked_policies (once_held 2) (asks_at Client 0) (gives_bytes 1200) (once_held 3)
 unfolding once_held
 gives = record { answer = inl refl; end = refl; control = refl; others = refl; lacking = tt }
 
@@ -81,15 +81,15 @@ holds_again : IsStep worked_policies (once_held 7) (asks_at Client 1024000000) g
 unfolding once_held
 holds_again = record { answer = inl refl; end = refl; control = refl; others = refl; lacking = tt }
 
-unset_seen : held_view (view_with None None) ≡ view_of (once_held 1)
+pub unset_seen : held_view (view_with None None) ≡ view_of (once_held 1)
 unfolding once_held
 unset_seen = refl
 
-written_seen : held_view (view_with None None) ≡ view_of (once_held 2)
+pub written_seen : held_view (view_with None None) ≡ view_of (once_held 2)
 unfolding once_held
 written_seen = refl
 
-given_seen : full_view ≡ view_of (once_held 3)
+pub given_seen : full_view ≡ view_of (once_held 3)
 unfolding once_held
 given_seen = refl
 
@@ -211,11 +211,7 @@ unfolding once_held
 so_many = refl
 
 pub window_is_full : IsFull held_run Client 4 full_view
-window_is_full = record {
-  window = 2400;
-  shown = refl;
-  full = let same : bytes_flying held_run Client 4 + size_at held_run Client ≡ 2400 = ap (λ (n : ℕ). n + 1200) so_many in subst (λ (n : ℕ). 2400 ≤ n) (sym same) (lit≤ tt);
-}
+window_is_full = let same : bytes_flying held_run Client 4 + 1200 ≡ 2400 = ap (λ (n : ℕ). n + 1200) so_many in subst (λ (n : ℕ). 2400 ≤ n) (sym same) (lit≤ tt)
 
 -- ---- what goes wrong
 
@@ -234,11 +230,7 @@ first_waits = record { written = lit< tt; kept = refl; not_flying = λ h. h.amon
 
 -- its window has room, and it has no timer
 not_full : IsFull silent_run Client 3 (record { client = open_view; server = open_view }) → ⊥
-not_full f =
-    let shown : ◌≡◌ {A = Option ℕ} (Some 12000) (Some f.window) = f.shown in
-    let is : ◌≡◌ {A = ℕ} 12000 f.window = cc in
-    let most : 12000 ≤ 1200 = subst (λ (n : ℕ). n ≤ 1200) (sym is) f.full in
-    omega (arith, most)
+not_full f = let most : 12000 ≤ 1200 = f in omega (arith, most)
 
 not_paced : IsPaced silent_run Client 3 (record { client = open_view; server = open_view }) → ⊥
 not_paced p = let shown : ◌≡◌ {A = Option (Option ℕ)} (Some None) (Some (Some p.moment)) = p.shown in cc
@@ -264,12 +256,12 @@ silent_is_honest = honest silent_run silent_own
 -- ---- a client that shows another window
 
 pub seems_full : IsFull shrunk_run Client 3 shrunk_view
-seems_full = record { window = 1; shown = refl; full = lit≤ tt }
+seems_full = lit≤ tt
 
 pub shrunk_window : WindowIsOfHistory shrunk_run → ⊥
 shrunk_window h =
     let told = h Client 0 shrunk_view refl refl in
-    let shows : ◌≡◌ {A = Option ℕ} (Some 1) (Some 12000) = told.3 in
+    let shows : ◌≡◌ {A = ℕ} 1 12000 = told.3 in
     cc
 
 pub shrunk_is_none : IsNoRun shrunk_run

@@ -30,6 +30,13 @@ mod MeasuredRun
 mod SkippedRun
 mod ProbedRun
 mod HeldRun
+mod PacedRun
+mod FaultRuns
+mod FaultTimes
 mod LimitedRun
 mod UsedUpRun
+mod SilentEnd
+mod AskedTimers
 mod MessageRuns
+mod RestedRun
+mod IsolatedRuns

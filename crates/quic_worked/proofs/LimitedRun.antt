@@ -1,5 +1,5 @@
 -- The run in which each limit binds a write in turn, event by event; it meets the premises, and its writes take what is left. And machines whose writes don't.
-use Rattle.std.proofs.Common.{◌≡◌, ℕ, [], ◌∷◌, Some, Result, Ok, Err, true, false, refl, inl, inr, sym, ◌∙◌, subst, lit<}
+use Rattle.std.proofs.Common.{◌≡◌, ℕ, [], ◌∷◌, Some, Result, Ok, Err, true, false, refl, inl, inr, sym, ◌∙◌, subst, lit<, lit≤}
 use Rattle.quic_wire_core.specs.declared.stream_id.Side.{Side}
 use Rattle.quic_wire_core.specs.declared.stream_id.Side.TheVariants.{Client, Server}
 use Rattle.quic_sets.specs.Offsets.{with_offsets}
@@ -41,8 +41,8 @@ unfoldable pub limited_started : AreStarted limited_start
 limited_started = record {
   client_making = record { settings = keeps_seven; windows = steady; parameters = worked_parameters; id = client_id; moment = 0; validated = true; word = 63 };
   server_making = record { settings = takes_eight; windows = steady; parameters = narrow_parameters; id = server_id; moment = 0; validated = true; word = 63 };
-  client_is = record { range = record { receive_window = lit< tt; stream_receive_window = lit< tt }; says = parameters_say; id = refl };
-  server_is = record { range = record { receive_window = lit< tt; stream_receive_window = lit< tt }; says = narrow_say; id = refl };
+  client_is = record { range = record { receive_window = lit< tt; stream_receive_window = lit< tt; initial_mtu = lit≤ tt }; says = parameters_say; id = refl };
+  server_is = record { range = record { receive_window = lit< tt; stream_receive_window = lit< tt; initial_mtu = lit≤ tt }; says = narrow_say; id = refl };
   client = subst (λ read. IsMade Client keeps_seven steady read client_id server_id 0 true 63 limited_start.client) (sym narrow_say) refl;
   server = subst (λ read. IsMade Server takes_eight steady read server_id client_id 0 true 63 limited_start.server) (sym parameters_say) refl;
   client_gave = refl;
@@ -66,7 +66,7 @@ both_sent = record { client = sent_view; server = sent_view }
 abbrev one_heard : View
 one_heard = record { client = waiting_view; server = sent_view }
 
-opens : IsStep worked_policies limited_start opens_stream (answers.Open (Some 0)) limited_opened
+pub opens : IsStep worked_policies limited_start opens_stream (answers.Open (Some 0)) limited_opened
 opens = record { answer = refl; end = refl; control = refl; others = refl; lacking = tt }
 
 opens_both : IsStep worked_policies limited_opened opens_stream (answers.Open (Some 4)) limited_both

@@ -23,7 +23,7 @@ use Rattle.quic_worked.proofs.BrokenRuns.{IsRefused, stops, behind}
 
 -- ---- the events
 
-step_0 : IsStep worked_policies started (sends_message ping_message) is_sent (once_messaged 1)
+pub step_0 : IsStep worked_policies started (sends_message ping_message) is_sent (once_messaged 1)
 unfolding once_messaged
 step_0 = record { answer = inl refl; end = refl; control = refl; others = refl; lacking = λ lacks. cc }
 

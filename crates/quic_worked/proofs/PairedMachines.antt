@@ -1,5 +1,5 @@
 -- Machines that go wrong where one of two streams is reset: each breaks a clause, and the reference machine makes none of their runs.
-use Rattle.std.proofs.Common.{◌≡◌, ◌⊎◌, ℕ, List, [], ◌∷◌, ◌++◌, Some, None, Ok, Err, Bool, true, false, refl, inl, inr, sym, ap, ◌∙◌, subst, arith, length, map}
+use Rattle.std.proofs.Common.{◌≡◌, ◌⊎◌, ℕ, List, [], ◌∷◌, ◌++◌, Option, Some, None, Ok, Err, Bool, true, false, refl, inl, inr, sym, ap, ◌∙◌, subst, arith, length, map}
 use Rattle.std.specs.Prelude.{slice_index, ◌==◌, if◌then◌else◌}
 use Rattle.quic_wire_core.specs.declared.stream_id.Side.TheVariants.{Client, Server}
 use Rattle.quic_wire_core.specs.declared.stream_id.Dir.TheVariants.{Bi}
@@ -11,21 +11,25 @@ use Rattle.quic_assembler.specs.declared.assembler.Chunk.{Chunk}
 use Rattle.quic_machine.specs.declared.run.ReadCall.{ReadCall}
 use Rattle.quic_machine.specs.declared.run.RunEvent.{RunEvent}
 use Rattle.quic_machine.specs.declared.run.Answer.{Answer}
+use Rattle.quic_machine.specs.declared.run.Call.TheVariants as calls
 use Rattle.quic_machine.specs.declared.run.Answer.TheVariants as answers
 use Rattle.quic_machine.specs.declared.answers.State.TheVariants as states
 use Rattle.quic_retransmits.specs.Retransmits.{Retransmits}
 use Rattle.quic_machine.specs.Tracking.{TrackedPacket}
 use Rattle.quic_machine.specs.StreamCalls.{IsRead}
 use Rattle.quic_machine.specs.Machine.{World}
-use Rattle.quic_headline.specs.Runs.{Packet, Next, In, until, nexts, chunks_of, WasNamed, ResetHasArrived}
+use Rattle.quic_headline.specs.Runs.{Packet, Next, In, until, reset, nexts, chunks_of, WasNamed, ResetHasArrived}
 use Rattle.quic_headline.specs.Observer.{took}
 use Rattle.quic_headline.specs.InFlight.{in_flight, but_for_record, WaitsFor, TracksAt}
 use Rattle.quic_headline.specs.Duties.{Reset, Waits, IsCarried, DutiesAt, has_reset}
 use Rattle.quic_headline.specs.Headline.{Slices, AcceptsAll, FinishedMeansArrived, IsHonest}
-use Rattle.quic_worked.specs.Worked.{NextAnswers, started, accepts_stream, reads_stream}
+use Rattle.quic_headline.specs.Resets.{ResetsAreTold}
+use Rattle.quic_headline.specs.Ids.{IdsAreNew, AcceptedWereOpened}
+use Rattle.quic_headline.proofs.Places.Theorems.{resets_are_told, ids_are_new, accepted_were_opened}
+use Rattle.quic_worked.specs.Worked.{NextAnswers, started, opens_stream, accepts_stream, reads_stream}
 use Rattle.quic_worked.specs.Reordered.{abc, def}
 use Rattle.quic_worked.specs.Broken.{NeverAnswers, IsNoRun, NeverLeads, tells_finished}
-use Rattle.quic_worked.specs.Paired.{client_asks, ReadsSecond, second_bounds, giving_events, giving_answers, tells_stopped, paired_frames, pair_sent, pair_taken, first_accepted, reset_told, stop_taken, paired_run, told_of_reset, pair_giving, reset_forgotten, reset_changed, reset_unaccepted, second_unaccepted, other_bytes}
+use Rattle.quic_worked.specs.Paired.{client_asks, asks_reset, ReadsSecond, second_bounds, giving_events, giving_answers, tells_stopped, paired_frames, first_open, pair_sent, pair_taken, first_accepted, both_accepted, reset_told, reset_refused, stop_taken, paired_run, told_of_reset, other_code, opened_twice, accepted_early, accepted_twice, reset_of_second, pair_giving, reset_forgotten, reset_changed, reset_unaccepted, second_unaccepted, other_bytes}
 use Rattle.quic_worked.proofs.OwnIds.{honest}
 use Rattle.quic_worked.proofs.BrokenRuns.{IsRefused, stops, behind, read_of, not_next}
 use Rattle.quic_worked.proofs.WrongRuns.{ends_here, step_on, NotTo}
@@ -55,6 +59,21 @@ h_second_unaccepted read = honest (second_unaccepted read) (record { start = ref
 
 pub h_other_bytes : (read : ReadCall) → read.id ≡ 4 → IsHonest (other_bytes read)
 h_other_bytes read e = honest (other_bytes read) (record { start = refl; keys = refl; client = (tt, (tt, (inl refl, (inr (inl refl), (inl refl, (tt, (tt, (tt, (tt, (tt, (tt, tt))))))))))); server = (tt, (tt, (tt, (tt, (tt, (tt, (tt, (tt, (tt, (inl refl, (inr (inl e), tt))))))))))) })
+
+pub h_other_code : (read : ReadCall) → IsHonest (other_code read)
+h_other_code read = honest (other_code read) (record { start = refl; keys = refl; client = (tt, (tt, (inl refl, (inr (inl refl), (inl refl, (tt, (tt, (tt, (tt, (tt, tt)))))))))); server = (tt, (tt, (tt, (tt, (tt, (tt, (tt, (tt, (tt, (inl refl, tt)))))))))) })
+
+pub h_opened_twice : (read : ReadCall) → IsHonest (opened_twice read)
+h_opened_twice read = honest (opened_twice read) (record { start = refl; keys = refl; client = (tt, (tt, tt)); server = (tt, (tt, tt)) })
+
+pub h_accepted_early : IsHonest accepted_early
+h_accepted_early = honest accepted_early (record { start = refl; keys = refl; client = (tt, tt); server = (tt, tt) })
+
+pub h_accepted_twice : (read : ReadCall) → IsHonest (accepted_twice read)
+h_accepted_twice read = honest (accepted_twice read) (record { start = refl; keys = refl; client = (tt, (tt, (inl refl, (inr (inl refl), (inl refl, (tt, (tt, (tt, (tt, tt))))))))); server = (tt, (tt, (tt, (tt, (tt, (tt, (tt, (tt, (tt, tt))))))))) })
+
+pub h_reset_of_second : (read : ReadCall) → read.id ≡ 4 → IsHonest (reset_of_second read)
+h_reset_of_second read e = honest (reset_of_second read) (record { start = refl; keys = refl; client = (tt, (tt, (inl refl, (inr (inl refl), (inl refl, (tt, (tt, (tt, (tt, (tt, (tt, tt))))))))))); server = (tt, (tt, (tt, (tt, (tt, (tt, (tt, (tt, (tt, (inl refl, (inr (inl e), tt))))))))))) })
 
 -- ---- where the run goes
 
@@ -259,3 +278,84 @@ reads_no read by h = wrong_no (read_of reset_told.server.streams 4 true second_b
 
 pub no_other : (read : ReadCall) → ReadsSecond second_bounds read → IsNoRun (other_bytes read)
 no_other read by = behind_given (behind refl paired.takes (behind refl paired.accepts_first (behind refl paired.accepts_both (behind refl paired.tells_reset (stops _ _ _ _ _ (reads_no read by))))))
+
+-- ---- a reset is told with another code, or of another stream
+
+pub tells_rightly : (read : ReadCall) → ReadsSecond second_bounds read → ResetsAreTold (paired_run read)
+tells_rightly read by = resets_are_told (paired_run read) reset_refused (is_honest read by.id) (paired.is_run read by)
+
+pub tells_code : (read : ReadCall) → ResetsAreTold (other_code read) → ⊥
+tells_code read h =
+    let seven : ◌≡◌ {A = Option ℕ} (Some 7) (Some 9) = (h Server 9 refl).asked 0 9 (record { event = refl; answer = refl }) in
+    let clash : ◌≡◌ {A = ℕ} 7 9 = cc in
+    omega (arith, clash)
+
+pub tells_stream : (read : ReadCall) → read.id ≡ 4 → ResetsAreTold (reset_of_second read) → ⊥
+tells_stream read e h =
+    let never : ◌≡◌ {A = Option ℕ} None (Some 7) = subst (λ (id : ℕ). reset id (until (reset_of_second read) Client 10) ≡ Some 7) e ((h Server 10 refl).read read 7 [] (Err (read_errors.Reset 7) ∷ []) (record { event = refl; answer = refl })) in
+    cc
+
+code_no : IsRefused both_accepted asks_reset (answers.ReceivedReset (Ok (Some 9)))
+code_no is =
+    let clash : answers.ReceivedReset (Ok (Some 9)) ≡ answers.ReceivedReset (Ok (Some 7)) = is ∙ sym paired.tells_reset.answer in
+    let numbers : ◌≡◌ {A = ℕ} 9 7 = cc in
+    omega (arith, numbers)
+
+pub no_code : (read : ReadCall) → IsNoRun (other_code read)
+no_code read = behind_given (behind refl paired.takes (behind refl paired.accepts_first (behind refl paired.accepts_both (stops _ _ _ _ _ code_no))))
+
+-- what the read gives
+abbrev reset_nexts : NextAnswers
+reset_nexts = Err (read_errors.Reset 7) ∷ Err (read_errors.Reset 7) ∷ []
+
+reset_no : IsRead reset_told.server.streams 4 true second_bounds (answers.Read (Ok reset_nexts)) → ⊥
+reset_no h = not_next (Err (read_errors.Reset 7)) (next_answer told_bytes (after_read_begun reset_told.server.streams 4 true) 4 32) (gives def) right_next (λ e. cc) (λ e. cc) h.1.0
+
+stream_no : (read : ReadCall) → ReadsSecond second_bounds read → IsRefused reset_told (reads_stream read) (answers.Read (Ok reset_nexts))
+stream_no read by h = reset_no (read_of reset_told.server.streams 4 true second_bounds (answers.Read (Ok reset_nexts)) read by h)
+
+pub no_stream : (read : ReadCall) → ReadsSecond second_bounds read → IsNoRun (reset_of_second read)
+no_stream read by = behind_given (behind refl paired.takes (behind refl paired.accepts_first (behind refl paired.accepts_both (behind refl paired.tells_reset (stops _ _ _ _ _ (stream_no read by))))))
+
+-- ---- an id is given twice
+
+pub gives_once : (read : ReadCall) → ReadsSecond second_bounds read → IdsAreNew (paired_run read)
+gives_once read by = ids_are_new (paired_run read) reset_refused (is_honest read by.id) (paired.is_run read by)
+
+pub opens_again : (read : ReadCall) → IdsAreNew (opened_twice read) → ⊥
+opens_again read h = h Client 1 0 (calls.Open Bi) (answers.Open (Some 0)) refl (record { event = refl; answer = refl }) refl (inl refl)
+
+pub accepts_again : (read : ReadCall) → IdsAreNew (accepted_twice read) → ⊥
+accepts_again read h = h Server 8 0 (calls.Accept Bi) (answers.Accept (Some 0)) refl (record { event = refl; answer = refl }) refl (inl refl)
+
+opened_no : IsRefused first_open opens_stream (answers.Open (Some 0))
+opened_no is =
+    let clash : answers.Open (Some 0) ≡ answers.Open (Some 4) = is ∙ sym paired.opens_both.answer in
+    let numbers : ◌≡◌ {A = ℕ} 0 4 = cc in
+    omega (arith, numbers)
+
+accepted_no : IsRefused first_accepted accepts_stream (answers.Accept (Some 0))
+accepted_no is =
+    let clash : answers.Accept (Some 0) ≡ answers.Accept (Some 4) = is ∙ sym paired.accepts_both.answer in
+    let numbers : ◌≡◌ {A = ℕ} 0 4 = cc in
+    omega (arith, numbers)
+
+pub no_opened : (read : ReadCall) → IsNoRun (opened_twice read)
+no_opened read = behind refl paired.opens_first (stops _ _ _ _ _ opened_no)
+
+pub no_accepted : (read : ReadCall) → IsNoRun (accepted_twice read)
+no_accepted read = behind_given (behind refl paired.takes (behind refl paired.accepts_first (stops _ _ _ _ _ accepted_no)))
+
+-- ---- a stream is accepted before anything came
+
+pub opens_before : (read : ReadCall) → ReadsSecond second_bounds read → AcceptedWereOpened (paired_run read)
+opens_before read by = accepted_were_opened (paired_run read) reset_refused (is_honest read by.id) (paired.is_run read by)
+
+pub accepts_early : AcceptedWereOpened accepted_early → ⊥
+accepts_early h = (h Server 0 0 Bi refl (record { event = refl; answer = refl })).named.was_taken
+
+early_no : IsRefused started accepts_stream (answers.Accept (Some 0))
+early_no is = let clash : answers.Accept (Some 0) ≡ answers.Accept None = is in cc
+
+pub no_early : IsNoRun accepted_early
+no_early = stops _ _ _ _ _ early_no

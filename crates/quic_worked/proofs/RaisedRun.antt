@@ -16,7 +16,7 @@ use Rattle.quic_headline.specs.Headline.{IsRun}
 use Rattle.quic_headline.proofs.Places.Told.{in_left, in_right, in_append}
 use Rattle.quic_headline.specs.Grown.{DataHasGrown, CountHasGrown, GrownLimitsWaitAt}
 use Rattle.quic_headline.specs.Duties.{AllData, Limit, WasGiven, IsOwed, Waits, IsInFlight, IsUnderWay, LimitHasArrived, HasCome, DutiesAt}
-use Rattle.quic_worked.specs.Worked.{worked_policies, gives_bytes}
+use Rattle.quic_worked.specs.Worked.{worked_policies, gives_bytes, gives_unmarked}
 use Rattle.quic_worked.specs.Paired.{writes_on, asks_server}
 use Rattle.quic_worked.specs.Losses.{client_polled, server_polled}
 use Rattle.quic_worked.specs.Credit.{narrow_bytes, eight, credit_opened, credit_written, credit_sent, credit_taken, credit_accepted, credit_read, credit_given, credit_events, credit_until, count_taken, count_read, ReadsEight}
@@ -50,7 +50,7 @@ waits_third : IsStep worked_policies third_came client_waits (answers.Timeout (O
 unfolding third_came
 waits_third = record { answer = inl refl; end = refl; control = refl; others = refl; lacking = tt }
 
-names_third : IsStep worked_policies third_due client_polled (gives_bytes 32) third_named
+names_third : IsStep worked_policies third_due client_polled (gives_unmarked 32) third_named
 unfolding third_named
 names_third = record { answer = inl refl; end = refl; control = refl; others = refl; lacking = tt }
 
@@ -58,7 +58,7 @@ loses : IsStep worked_policies third_named ack_comes (answers.Deliver receives.T
 unfolding limit_lost
 loses = record { answer = inl refl; end = refl; control = refl; others = refl; lacking = tt }
 
-gives_again : IsStep worked_policies limit_lost server_polled (gives_bytes 33) limit_again
+gives_again : IsStep worked_policies limit_lost server_polled (gives_unmarked 33) limit_again
 unfolding limit_again
 gives_again = record { answer = inl refl; end = refl; control = refl; others = refl; lacking = tt }
 

@@ -1,5 +1,5 @@
 -- The run in which number 0 is left out, event by event, and a client that gives it all the same.
-use Rattle.std.proofs.Common.{◌≡◌, ℕ, true, List, [], ◌∷◌, Some, Ok, refl, inl, inr, sym, ap, ◌∙◌, subst, arith, lit<}
+use Rattle.std.proofs.Common.{◌≡◌, ℕ, true, List, [], ◌∷◌, Some, Ok, refl, inl, inr, sym, ap, ◌∙◌, subst, arith, lit<, lit≤}
 use Rattle.std.specs.Prelude.{slice_index}
 use Rattle.quic_wire_core.specs.TransportError.{plain_error}
 use Rattle.quic_wire_core.specs.declared.stream_id.Side.{Side}
@@ -35,8 +35,8 @@ pub skipping_started : AreStarted leaving_out
 skipping_started = record {
   client_making = record (making client_id) { word = 0 };
   server_making = making server_id;
-  client_is = record { range = record { receive_window = lit< tt; stream_receive_window = lit< tt }; says = parameters_say; id = refl };
-  server_is = record { range = record { receive_window = lit< tt; stream_receive_window = lit< tt }; says = parameters_say; id = refl };
+  client_is = record { range = record { receive_window = lit< tt; stream_receive_window = lit< tt; initial_mtu = lit≤ tt }; says = parameters_say; id = refl };
+  server_is = record { range = record { receive_window = lit< tt; stream_receive_window = lit< tt; initial_mtu = lit≤ tt }; says = parameters_say; id = refl };
   client = subst (λ read. IsMade Client default_settings steady read client_id server_id 0 true 0 leaving_out.client) (sym parameters_say) refl;
   server = server_is_made;
   client_gave = refl;

@@ -1,5 +1,5 @@
 -- The worked run meets the premises of the headline.
-use Rattle.std.proofs.Common.{◌≡◌, ℕ, zero, suc, slice_get, List, Some, true, refl, inl, sym, ap, subst, ◌∙◌, lit<}
+use Rattle.std.proofs.Common.{◌≡◌, ℕ, zero, suc, slice_get, List, Some, true, refl, inl, sym, ap, subst, ◌∙◌, lit<, lit≤}
 use Rattle.quic_wire_core.specs.declared.stream_id.Side.{Side}
 use Rattle.quic_machine.specs.declared.run.ReadCall.{ReadCall}
 use Rattle.quic_machine.specs.declared.run.RunEvent.{RunEvent}
@@ -18,7 +18,7 @@ abbrev pub making : List ℕ → Making
 making id = record { settings = default_settings; windows = steady; parameters = worked_parameters; id = id; moment = 0; validated = true; word = 63 }
 
 pub in_range : IsInRange default_settings
-in_range = record { receive_window = lit< tt; stream_receive_window = lit< tt }
+in_range = record { receive_window = lit< tt; stream_receive_window = lit< tt; initial_mtu = lit≤ tt }
 
 unfoldable pub are_started : AreStarted started
 are_started = record {

@@ -100,7 +100,7 @@ reads_two = record { answer = (refl, (inl refl, (inl refl, tt))); lacking = (λ 
 reads_only : once_read ≡ with_server once_accepted once_read.server
 reads_only = refl
 
-reads : (read : ReadCall) → ReadsBy two_chunks read
+pub reads : (read : ReadCall) → ReadsBy two_chunks read
     → IsStep worked_policies once_accepted (reads_stream read) (answers.Read (Ok all_nexts)) once_read
 reads = reads_at once_accepted once_read 0 true two_chunks all_nexts reads_two reads_only
 
@@ -109,15 +109,15 @@ pub sent_seen : record { client = sent_view; server = open_view } ≡ view_of on
 unfolding once_sent
 sent_seen = refl
 
-taken_seen : record { client = sent_view; server = waiting_view } ≡ view_of once_taken
+pub taken_seen : record { client = sent_view; server = waiting_view } ≡ view_of once_taken
 unfolding once_taken
 taken_seen = refl
 
-accepted_seen : record { client = sent_view; server = waiting_view } ≡ view_of once_accepted
+pub accepted_seen : record { client = sent_view; server = waiting_view } ≡ view_of once_accepted
 unfolding once_taken
 accepted_seen = refl
 
-read_seen : record { client = sent_view; server = waiting_view } ≡ view_of once_read
+pub read_seen : record { client = sent_view; server = waiting_view } ≡ view_of once_read
 unfolding once_taken
 read_seen = refl
 

@@ -20,7 +20,7 @@ use Rattle.quic_headline.specs.Observer.{took}
 use Rattle.quic_headline.specs.InFlight.{in_flight, TracksAt}
 use Rattle.quic_headline.specs.Headline.{FinishedIsTold, OrderedPrefix, NamesWereTaken, NumbersRise, IsNamedIn, frames_given}
 use Rattle.quic_worked.specs.Acknowledged.{client_acked, from_server}
-use Rattle.quic_worked.specs.Worked.{ReadsBy, gives_chunk, hello, started, once_sent, once_taken, worked_policies, sending_events, sending_answers, opens_stream, writes_hello, finishes_stream, delivers, asks_datagram, accepts_stream, reads_stream, gives_bytes}
+use Rattle.quic_worked.specs.Worked.{ReadsBy, gives_chunk, hello, started, once_sent, once_taken, worked_policies, sending_events, sending_answers, opens_stream, writes_hello, finishes_stream, delivers, asks_datagram, accepts_stream, reads_stream, gives_bytes, gives_unmarked}
 use Rattle.quic_worked.specs.Reordered.{delivers_at}
 use Rattle.quic_worked.specs.Broken.{hellp, IsNoRun, NeverLeads, asked_run, asks_event, tells_finished}
 use Rattle.quic_worked.specs.Losses.{server_waits, server_polled, client_polled, client_delivered, after_ping, pinged_once, once_lost, changed_again, again_given, again_taken, again_accepted, once_due, once_named, once_acked, once_told, wide_payload, wide_name, first_events, first_answers, first_taken, first_due, first_named, first_acked, first_run, above_acked, falling_events, falling_answers, ping_given, ping_and, word_given, falling}
@@ -35,7 +35,7 @@ use Rattle.quic_worked.proofs.LostRuns.{pings, gives_first, never_behind_lost}
 
 -- ---- lost bytes go again with another last one
 
-gives_again : IsStep worked_policies once_lost client_polled (gives_bytes 39) again_given
+gives_again : IsStep worked_policies once_lost client_polled (gives_unmarked 39) again_given
 unfolding again_given
 gives_again = record { answer = inl refl; end = refl; control = refl; others = refl; lacking = tt }
 
@@ -69,15 +69,15 @@ no_changed_again read by = behind_sent (never_behind_lost (behind refl gives_aga
 
 -- ---- an acknowledgement of one number more
 
-waits_once : IsStep worked_policies once_taken server_waits (answers.Timeout (Ok tt)) once_due
+pub waits_once : IsStep worked_policies once_taken server_waits (answers.Timeout (Ok tt)) once_due
 unfolding once_taken
 waits_once = record { answer = inl refl; end = refl; control = refl; others = refl; lacking = tt }
 
-names_once : IsStep worked_policies once_due server_polled (gives_bytes 32) once_named
+pub names_once : IsStep worked_policies once_due server_polled (gives_bytes 32) once_named
 unfolding once_named
 names_once = record { answer = inl refl; end = refl; control = refl; others = refl; lacking = tt }
 
-takes_name : IsStep worked_policies once_named client_delivered (answers.Deliver receives.Taken) once_acked
+pub takes_name : IsStep worked_policies once_named client_delivered (answers.Deliver receives.Taken) once_acked
 unfolding once_acked
 takes_name = record { answer = inl refl; end = refl; control = refl; others = refl; lacking = tt }
 
@@ -145,7 +145,7 @@ no_silence read = behind_sent (behind refl takes (behind refl waits_once (behind
 pub twice_told : (read : ReadCall) → FinishedIsTold (asked_run read (tells_finished ∷ tells_finished ∷ [])) → ⊥
 twice_told read h = let most : 2 ≤ 1 = (h Client 0 10 refl).0 in omega (arith, most)
 
-tells_once : IsStep worked_policies once_acked asks_event tells_finished once_told
+pub tells_once : IsStep worked_policies once_acked asks_event tells_finished once_told
 unfolding once_acked
 tells_once = record { answer = refl; end = refl; control = refl; others = refl; lacking = tt }
 

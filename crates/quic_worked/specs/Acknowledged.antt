@@ -5,6 +5,7 @@ use Rattle.quic_packet.specs.Datagram.{sent}
 use Rattle.quic_wire.specs.AckReading.{ack_at, ranges_at, range_at, some_ecn_at}
 use Rattle.quic_sets.specs.Offsets.{with_offsets}
 use Rattle.quic_sets.specs.Pieces.{joining, joined, with_range}
+use Rattle.quic_machine.specs.Arrival.{arriving}
 use Rattle.quic_machine.specs.End.{End}
 use Rattle.quic_machine.specs.Calls.{end_after_ping}
 use Rattle.quic_machine.specs.Policy.{Policy}
@@ -52,11 +53,11 @@ client_datagram number reference payload =
 
 -- what the client makes at a moment of the server's first datagram, with this payload
 abbrev pub client_takes : End → ℕ → List ℕ → Outcome
-client_takes client now payload = received worked_policies.client client now (from_server 0 payload)
+client_takes client now payload = received worked_policies.client client (arriving now None) (from_server 0 payload)
 
 -- what an injection of bytes at moment 0 is answered
 abbrev pub injected : Policy → End → List ℕ → Answer
-injected p e bytes = injected_if (would_open p e bytes) p e 0 bytes
+injected p e bytes = injected_if (would_open p e bytes) p e (record { now = 0; ecn = None; bytes = bytes })
 
 -- ---- the acknowledgement
 

@@ -22,8 +22,8 @@ closed_view reason = record {
   reason = Some reason;
   validated = true;
   timers = replicate 9 None;
-  window = Some steady_window;
-  current_mtu = None;
+  window = steady_window;
+  current_mtu = 1200;
 }
 
 -- the server is handed the client's datagram, answers with an error, and closes for a reason
@@ -73,6 +73,24 @@ early_limit = record {
       replicate 3 (record { client = open_view; server = open_view })
       ++ record { client = closed_view reasons.NumberLimit; server = open_view }
       ∷ [];
+  from_client = [];
+  from_server = [];
+}
+
+-- ---- an end that closes silently
+
+-- what is seen of an end that is drained, and shows no reason
+abbrev pub silent_view : EndView
+silent_view = record { state = states.Drained; reason = None; validated = true; timers = replicate 9 None; window = steady_window; current_mtu = 1200 }
+
+-- a client that is drained at its first poll, for no reason
+abbrev pub drains_silently : Run
+drains_silently = record {
+  keys = worked_policies;
+  start = started;
+  events = asks_datagram ∷ [];
+  answers = answers.Poll (Ok None) ∷ [];
+  views = record { client = silent_view; server = open_view } ∷ [];
   from_client = [];
   from_server = [];
 }

@@ -85,7 +85,7 @@ pub record Done : Type 0 where
 
 -- an end takes the frames of a packet of a number, at a moment
 abbrev pub taken : ℕ → ℕ → List FrameValue → End → Outcome
-taken now n frames e = judged (passed frames (begun e now n)) (list_any asks frames) n
+taken now n frames e = judged (passed frames (begun e now n)) (list_any asks frames) n None
 
 -- what is given at an end
 abbrev pub frames_given : End → ℕ → List FrameValue

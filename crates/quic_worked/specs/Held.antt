@@ -98,7 +98,7 @@ third_payload = (0x01 ∷ 0x0c ∷ 0x00 ∷ 0x49 ∷ 0x25 ∷ []) ++ replicate 1
 
 -- what is seen of both, where the client's loss timer is set so
 abbrev pub held_view : EndView → View
-held_view client = record { client = record client { window = Some narrow_window }; server = record (view_with None None) { window = Some narrow_window } }
+held_view client = record { client = record client { window = narrow_window }; server = record (view_with None None) { window = narrow_window } }
 
 -- so it is once a full datagram is in flight
 abbrev pub full_view : View
@@ -140,7 +140,7 @@ silent_run = record {
 
 -- the client shows a window of one byte, whatever its controller shows
 abbrev pub shrunk_view : View
-shrunk_view = record { client = record open_view { window = Some 1 }; server = open_view }
+shrunk_view = record { client = record open_view { window = 1 }; server = open_view }
 
 -- so nothing seems to fit, and the same poll gives nothing
 abbrev pub shrunk_run : Run

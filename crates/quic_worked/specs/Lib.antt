@@ -17,3 +17,7 @@ pub mod Measured
 pub mod Probed
 pub mod Messages
 pub mod Held
+pub mod Rested
+pub mod Isolated
+pub mod Paced
+pub mod Faults

@@ -15,7 +15,7 @@ use Rattle.quic_machine.specs.End.{End}
 use Rattle.quic_machine.specs.Machine.{World}
 use Rattle.quic_headline.specs.Runs.{Run}
 use Rattle.quic_worked.specs.Acknowledged.{client_acked, client_datagram, from_server, ack_payload}
-use Rattle.quic_worked.specs.Worked.{worked_policies, hello_datagram, started, with_client, once_sent, once_taken, after_event, ran, asks_datagram, delivery, accepts_stream, reads_stream, gives_chunk, gives_bytes, sending_events, sending_answers, open_view}
+use Rattle.quic_worked.specs.Worked.{worked_policies, hello_datagram, started, with_client, once_sent, once_taken, after_event, ran, asks_datagram, delivery, accepts_stream, reads_stream, gives_chunk, gives_bytes, gives_unmarked, sending_events, sending_answers, open_view}
 use Rattle.quic_worked.specs.Reordered.{delivers_at}
 use Rattle.quic_worked.specs.Broken.{hellp, answered_run, asks_event, tells_finished}
 
@@ -190,14 +190,14 @@ client_polled = record { side = Client; call = calls.Poll 25000000 }
 abbrev pub changed_again : ReadCall → Run
 changed_again read =
     losing_run (client_polled ∷ delivers_at 5 ∷ accepts_stream ∷ reads_stream read ∷ [])
-    (gives_bytes 39 ∷ answers.Deliver receives.Taken ∷ answers.Accept (Some 0) ∷ answers.Read (Ok (gives_chunk hellp ∷ [])) ∷ [])
+    (gives_unmarked 39 ∷ answers.Deliver receives.Taken ∷ answers.Accept (Some 0) ∷ answers.Read (Ok (gives_chunk hellp ∷ [])) ∷ [])
 
 -- ---- what is lost goes again
 
 -- it gives what was lost
 unfoldable pub again_given : World
 unfolding once_lost
-again_given = after_event worked_policies once_lost client_polled (gives_bytes 39)
+again_given = after_event worked_policies once_lost client_polled (gives_unmarked 39)
 
 -- which comes
 unfoldable pub again_taken : World

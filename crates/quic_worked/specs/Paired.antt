@@ -258,6 +258,34 @@ paired_run read = paired_with read paired_answers
 abbrev pub told_of_reset : ReadCall → Run
 told_of_reset read = paired_with read (take 14 paired_answers ++ tells_finished ∷ [])
 
+-- the server's application is told of the reset with another code
+abbrev pub other_code : ReadCall → Run
+other_code read = paired_with read (take 9 paired_answers ++ answers.ReceivedReset (Ok (Some 9)) ∷ [])
+
+-- the client's second stream has the id of the first
+abbrev pub opened_twice : ReadCall → Run
+opened_twice read = paired_with read (take 1 paired_answers ++ answers.Open (Some 0) ∷ [])
+
+-- the server accepts a stream before anything came
+abbrev pub accepted_early : Run
+accepted_early = record {
+  keys = worked_policies;
+  start = started;
+  events = accepts_stream ∷ [];
+  answers = answers.Accept (Some 0) ∷ [];
+  views = record { client = open_view; server = open_view } ∷ [];
+  from_client = [];
+  from_server = [];
+}
+
+-- the server accepts the first stream twice
+abbrev pub accepted_twice : ReadCall → Run
+accepted_twice read = paired_with read (take 8 paired_answers ++ answers.Accept (Some 0) ∷ [])
+
+-- a read of the second stream tells that it was reset, which it wasn't
+abbrev pub reset_of_second : ReadCall → Run
+reset_of_second read = paired_with read (take 10 paired_answers ++ answers.Read (Ok (Err (read_errors.Reset 7) ∷ Err (read_errors.Reset 7) ∷ [])) ∷ [])
+
 -- until the datagram is given
 abbrev pub pair_giving : ReadCall → Run
 pair_giving read = paired_with read giving_answers

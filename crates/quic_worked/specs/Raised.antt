@@ -16,7 +16,7 @@ use Rattle.quic_machine.specs.declared.run.View.{View}
 use Rattle.quic_machine.specs.End.{End}
 use Rattle.quic_machine.specs.Machine.{World, Follows, view_of}
 use Rattle.quic_headline.specs.Runs.{Run}
-use Rattle.quic_worked.specs.Worked.{worked_policies, client_id, with_server, after_event, reads_stream, gives_bytes}
+use Rattle.quic_worked.specs.Worked.{worked_policies, client_id, with_server, after_event, reads_stream, gives_bytes, gives_unmarked}
 use Rattle.quic_worked.specs.Acknowledged.{client_acked, client_datagram, from_server, ack_at_once}
 use Rattle.quic_worked.specs.Paired.{writes_on, asks_server}
 use Rattle.quic_worked.specs.Losses.{client_polled, server_polled}
@@ -77,13 +77,13 @@ losing_told =
     ++ ping_told
     ++ answers.Deliver receives.Taken
     ∷ answers.Timeout (Ok tt)
-    ∷ gives_bytes 32
+    ∷ gives_unmarked 32
     ∷ answers.Deliver receives.Taken
     ∷ []
 
 -- and what all of it is answered
 abbrev pub raised_told : List Answer
-raised_told = losing_told ++ gives_bytes 33 ∷ answers.Deliver receives.Taken ∷ answers.Write (Ok 8) ∷ []
+raised_told = losing_told ++ gives_unmarked 33 ∷ answers.Deliver receives.Taken ∷ answers.Write (Ok 8) ∷ []
 
 -- ---- what they leave
 
@@ -118,7 +118,7 @@ third_due = after_event worked_policies third_came client_waits (answers.Timeout
 -- it gives the acknowledgement
 unfoldable pub third_named : World
 unfolding third_came
-third_named = after_event worked_policies third_due client_polled (gives_bytes 32)
+third_named = after_event worked_policies third_due client_polled (gives_unmarked 32)
 
 -- the server takes it: the datagram with the limit is lost
 unfoldable pub limit_lost : World
@@ -128,7 +128,7 @@ limit_lost = after_event worked_policies third_named ack_comes (answers.Deliver 
 -- the limit goes again
 unfoldable pub limit_again : World
 unfolding limit_lost
-limit_again = after_event worked_policies limit_lost server_polled (gives_bytes 33)
+limit_again = after_event worked_policies limit_lost server_polled (gives_unmarked 33)
 
 -- it comes
 unfoldable pub limit_came : World

@@ -4,6 +4,7 @@
 use Rattle.std.specs.Prelude.{ℕ, List, [], ◌∷◌, ◌++◌, replicate, take, Option, Some, None, Ok}
 use Rattle.quic_wire_core.specs.declared.stream_id.Side.{Side}
 use Rattle.quic_wire_core.specs.declared.stream_id.Side.TheVariants.{Client, Server}
+use Rattle.quic_time.specs.declared.timer.Timer.TheVariants.{LossDetection}
 use Rattle.quic_machine.specs.declared.answers.Received.TheVariants as receives
 use Rattle.quic_machine.specs.declared.run.RunEvent.{RunEvent}
 use Rattle.quic_machine.specs.declared.run.Call.TheVariants as calls
@@ -13,7 +14,7 @@ use Rattle.quic_machine.specs.declared.run.View.{View}
 use Rattle.quic_machine.specs.Machine.{World, end_at, Follows}
 use Rattle.quic_headline.specs.Runs.{Run}
 use Rattle.quic_headline.specs.Observer.{terms_of, loss_due, watch}
-use Rattle.quic_worked.specs.Worked.{ran, worked_policies, started, delivery, once_sent, sending_events, sending_answers, gives_bytes, hello_datagram, open_view, view_with}
+use Rattle.quic_worked.specs.Worked.{ran, worked_policies, started, delivery, once_sent, sending_events, sending_answers, gives_bytes, hello_datagram, open_view, sent_view, view_with}
 use Rattle.quic_worked.specs.Acknowledged.{ack_payload, client_datagram, client_acked, from_server}
 
 -- an end's timers are served at a moment
@@ -118,3 +119,25 @@ due_at r side i = loss_due (terms_of (end_at side r.start)) (watch r side i).fli
 -- the machine never shows these views
 abbrev pub NeverShows : Run → Type 0
 NeverShows r = (end : World) → Follows r.keys r.start r.events r.answers r.views end → ⊥
+
+-- ---- timers that are asked for
+
+-- the client is asked when its timer of losses expires
+abbrev pub asks_loss : RunEvent
+asks_loss = record { side = Client; call = calls.Timer LossDetection }
+
+-- and when the next one does
+abbrev pub asks_next : RunEvent
+asks_next = record { side = Client; call = calls.NextTimeout }
+
+-- the client gives its datagram, and answers so
+abbrev pub asking_run : Option ℕ → Option ℕ → Run
+asking_run loss next = record {
+  keys = worked_policies;
+  start = started;
+  events = sending_events ++ asks_loss ∷ asks_next ∷ [];
+  answers = sending_answers ++ answers.Timer loss ∷ answers.NextTimeout next ∷ [];
+  views = replicate 3 (record { client = open_view; server = open_view }) ++ replicate 3 (record { client = sent_view; server = open_view });
+  from_client = hello_datagram ∷ [];
+  from_server = [];
+}

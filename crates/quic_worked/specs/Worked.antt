@@ -21,6 +21,7 @@ use Rattle.quic_wire.specs.Items.{frame_at, items_within, items}
 use Rattle.quic_packet.specs.Number.{truncated, number_bytes}
 use Rattle.quic_packet.specs.Keys.{Protection}
 use Rattle.quic_packet.specs.Datagram.{Opening, datagram_of, sent}
+use Rattle.quic_machine.specs.Arrival.{arriving}
 use Rattle.quic_machine.specs.declared.answers.State.TheVariants as states
 use Rattle.quic_machine.specs.declared.answers.Received.{Received}
 use Rattle.quic_machine.specs.declared.answers.Received.TheVariants as receives
@@ -297,7 +298,7 @@ hello_opening = record { first = 0x40; number = 0; payload = hello_payload }
 
 -- what the server makes of a datagram at moment 0
 abbrev pub at_server : End → List ℕ → Received
-at_server server datagram = (received worked_policies.server server 0 datagram).answer
+at_server server datagram = (received worked_policies.server server (arriving 0 None) datagram).answer
 
 -- a datagram of so many bytes that went at moment 0 with the bytes of stream 0 from one offset up to
 -- another, and with its end or not
@@ -393,6 +394,10 @@ all_nexts = gives_chunk hello ∷ Ok None ∷ []
 abbrev pub gives_bytes : ℕ → Answer
 gives_bytes size = answers.Poll (Ok (Some (record { size = size; ecn = Some Ect0 })))
 
+-- the same, once the peer or the path keeps no marks
+abbrev pub gives_unmarked : ℕ → Answer
+gives_unmarked size = answers.Poll (Ok (Some (record { size = size; ecn = None })))
+
 -- a write lacks memory
 abbrev pub write_lacks : Answer
 write_lacks = answers.Write (Err write_errors.Memory)
@@ -477,8 +482,8 @@ view_with loss moment = record {
   reason = None;
   validated = true;
   timers = loss ∷ replicate 7 None ++ moment ∷ [];
-  window = Some steady_window;
-  current_mtu = None;
+  window = steady_window;
+  current_mtu = 1200;
 }
 
 -- what is seen of an open end that has no timer set

@@ -11,10 +11,12 @@ ghost use Rattle.quic_headline.specs.Runs.{until};
 ghost use Rattle.quic_machine.specs.declared.answers.LostReason.TheVariants as reasons;
 ghost use Rattle.quic_headline.specs.Observer.{sents_until, next_number};
 ghost use Rattle.quic_headline.specs.Headline.{IsRun};
+ghost use Rattle.quic_headline.specs.Reasons.{ClosedHasAReason};
 ghost use Rattle.quic_headline.specs.Causes.{Shows, NoBlame, NumberLimit, PacketCame, TooManyPieces, TakenOrTooMany};
 ghost use Rattle.quic_worked.specs.Worked.{worked_policies, started, worked_run, hello_datagram};
 ghost use Rattle.quic_worked.specs.Broken.{IsNoRun};
-ghost use Rattle.quic_worked.specs.Closed.{below_limits, early_pieces, early_limit, last_run, last_closed};
+ghost use Rattle.quic_worked.specs.Closed.{below_limits, early_pieces, early_limit, drains_silently, last_run, last_closed};
+ghost use Rattle.quic_worked.specs.Timed.{NeverShows};
 
 /// In the worked run the packet of the client comes to the server, which takes it.
 pub fn hello_is_taken()
@@ -53,4 +55,12 @@ pub fn used_up_numbers_close()
     ensures shows { Shows last_run Client 5 (Some reasons.NumberLimit) }
     ensures next { next_number (sents_until last_run Client 6) ≡ 2 ^ 31 - 16 }
     ensures numbers { NumberLimit last_run }
+{}
+
+/// In that run the view shows why the client closed. A client that is drained at its first poll,
+/// and shows no reason, is none of the machine's.
+pub fn silent_end_shows()
+    ensures meets { ClosedHasAReason last_run }
+    ensures reasons { ClosedHasAReason drains_silently → ⊥ }
+    ensures machine { NeverShows drains_silently }
 {}

@@ -4,7 +4,10 @@ ghost use Rattle.std.specs.Prelude.{◌≡◌, ◌∷◌, [], Some, None};
 ghost use Rattle.quic_wire_core.specs.declared.stream_id.Side.TheVariants.{Client, Server};
 ghost use Rattle.quic_headline.specs.Headline.{IsRun};
 ghost use Rattle.quic_headline.specs.Moments.{debt, LossMoments, AckMoments};
-ghost use Rattle.quic_worked.specs.Timed.{once_later, timed_run, never_backs_off, never_resets, never_measures, waits_twice, due_at, NeverShows};
+ghost use Rattle.quic_headline.specs.Views.{ViewsTell};
+ghost use Rattle.quic_worked.specs.Worked.{once_sent};
+ghost use Rattle.quic_worked.specs.Broken.{IsNoRun};
+ghost use Rattle.quic_worked.specs.Timed.{once_later, asking_run, timed_run, never_backs_off, never_resets, never_measures, waits_twice, due_at, NeverShows};
 
 /// An acknowledgement is waited for 1024 ms after the datagram that asks, twice as long once the
 /// timer expired, and from the probe on; once a datagram in flight is acknowledged after 1060 ms,
@@ -48,4 +51,16 @@ pub fn acknowledgement_waits()
 pub fn second_delay_shows()
     ensures moments { AckMoments waits_twice → ⊥ }
     ensures machine { NeverShows waits_twice }
+{}
+
+/// Where the client is asked when its timer of losses expires, and when its next timer does, it
+/// answers what its view shows: 1024 ms behind its datagram. One that answers that no timer is set
+/// is none of the machine's.
+pub fn timers_are_told()
+    ensures run { IsRun (asking_run (Some 1024000000) (Some 1024000000)) once_sent }
+    ensures told { ViewsTell (asking_run (Some 1024000000) (Some 1024000000)) }
+    ensures timer { ViewsTell (asking_run None (Some 1024000000)) → ⊥ }
+    ensures next { ViewsTell (asking_run (Some 1024000000) None) → ⊥ }
+    ensures timer_machine { IsNoRun (asking_run None (Some 1024000000)) }
+    ensures next_machine { IsNoRun (asking_run (Some 1024000000) None) }
 {}

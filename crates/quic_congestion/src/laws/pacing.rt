@@ -1,7 +1,7 @@
 //! What the definitions of pacing say together.
 ghost use Rattle.std.specs.Prelude.{◌≡◌, ℕ, ◌+◌, ◌-◌, ◌*◌, ◌/◌, ◌<◌, ◌≤◌, ◌^◌, List, None, fold, is_none, IfSome};
 ghost use Rattle.quic_congestion.specs.declared.pacing.TheConstants.{BURST_INTERVAL_NANOS, MIN_BURST_SIZE, MAX_BURST_SIZE};
-ghost use Rattle.quic_congestion.specs.Pacer.{Pacing, IsPacing, capacity_of, new_pacing, after_datagram, tokens_after, after_delay, delay_of, goes_at_once, gained, time_for, Ask, Call, after_ask, answer_of, pacing_after, covered_bytes, AreAsked};
+ghost use Rattle.quic_congestion.specs.Pacer.{burst_interval, least_burst, most_burst, Pacing, IsPacing, capacity_of, new_pacing, after_datagram, tokens_after, after_delay, delay_of, goes_at_once, gained, time_for, Ask, Call, after_ask, answer_of, pacing_after, covered_bytes, AreAsked};
 
 /// Datagrams take as many tokens as they have bytes together, and all of them where they have more.
 pub fn tokens_are_bytes()
@@ -42,7 +42,7 @@ pub fn bytes_go_at_five_quarters()
 /// A full pacer lets go what the window gives in 2 ms, but at least 10 datagrams and at most 256:
 /// our choice, as RFC 9002, section 7.7, names no numbers.
 pub fn constants_are_these()
-    ensures interval { BURST_INTERVAL_NANOS ≡ 2000000 }
-    ensures least { MIN_BURST_SIZE ≡ 10 }
-    ensures most { MAX_BURST_SIZE ≡ 256 }
+    ensures interval { BURST_INTERVAL_NANOS ≡ burst_interval }
+    ensures least { MIN_BURST_SIZE ≡ least_burst }
+    ensures most { MAX_BURST_SIZE ≡ most_burst }
 {}

@@ -11,13 +11,14 @@ ghost use Rattle.quic_streams_parts.specs.Table.{at};
 ghost use Rattle.quic_sent_packets.specs.Packets.{asks_any, from};
 ghost use Rattle.quic_paths.specs.InFlight.{CanLeave, no_flight, flight_of};
 ghost use Rattle.quic_machine.specs.End.{with_end, with_tracking, with_rtt};
-ghost use Rattle.quic_machine.specs.Control.{bytes_in_flight, persistent_period, told_packet, told_packets, told_acks_ended};
+ghost use Rattle.quic_wire.specs.AckView.{counts_view};
+ghost use Rattle.quic_machine.specs.Control.{bytes_in_flight, last_sent, persistent_period, told_packet, told_packets, told_acks_ended};
 ghost use Rattle.quic_machine.specs.Tracking.{lost_by, kept_by, acked_by, not_acked_by};
-ghost use Rattle.quic_machine.specs.Acked.{without_known, carried_acked, carried_lost, packets_acked, packets_lost, verdict, losses_detected, told_delay, first_measured, after_acked, told_detected, told_acked};
+ghost use Rattle.quic_machine.specs.Acked.{without_known, carried_acked, carried_lost, packets_acked, packets_lost, verdict, losses_detected, told_delay, first_measured, counts_answer, counts_judged, marks_seen, told_grown, told_seen, after_acked, told_detected, told_acked};
 ghost use Rattle.quic_connection_core.specs.Flying.{flying_packets, is_flying, flight_left, less, HasAll};
 ghost use Rattle.quic_connection_core.specs.Losses.{none_lost, all_lost, told_lost};
 ghost use Rattle.quic_connection_core.specs.Telling.{telling, KeepsKeys};
-ghost use Rattle.quic_connection_core.specs.Tracked.{TakesLost, sampled_at, after_losses, with_resets_acked, with_frames_acked, with_carried_acked, with_frames_lost, with_carried_lost};
+ghost use Rattle.quic_connection_core.specs.Tracked.{TakesLost, acked_taken, acked_told, acked_count, sampled_at, after_losses, with_resets_acked, with_frames_acked, with_carried_acked, with_frames_lost, with_carried_lost};
 
 use crate::connection::Connection;
 use crate::connection::losses::Losses;
@@ -33,7 +34,7 @@ use quic_spaces::{Tracking, Verdict};
 use quic_streams_handles::EndStreams;
 use quic_streams_state::StreamsState;
 use quic_time::Duration;
-use quic_wire::frame::Ack;
+use quic_wire::frame::{Ack, EcnCounts};
 use rand_core::Rng;
 use std::alloc::AllocError;
 
@@ -128,6 +129,16 @@ fn if_measured(rises: bool, sent: Option<Instant>, acked: &[(u64, SentPacket)]) 
     if rises && asks_any(acked) { sent } else { None }
 }
 
+/// When the packet of the greatest number went, which stands first.
+fn last_sent(acked: &[(u64, SentPacket)]) -> Instant
+    ensures { result ≡ last_sent (reverse acked.now) }
+{
+    match acked.first() {
+        Some((_, packet)) => packet.time_sent,
+        None => Instant::from_nanos(0),
+    }
+}
+
 /// So many bytes, as far as 64 bits hold them.
 fn saturated(bytes: u128) -> u64
     ensures { result ≡ saturated bytes }
@@ -187,25 +198,80 @@ impl<H: HeaderKey + Drop, K: PacketKey + Drop, R: Rng + Drop, C: Controller> Con
 > {
     /// Takes an ACK frame whose greatest number is counted already, and lies above all that were
     /// named before or doesn't. The tracked packets that it names are acknowledged, the round trip
-    /// is measured where it can be, and packets that are late by number or by time are lost. One
-    /// that names no tracked packet changes nothing. An error is want of memory; the end is of no
+    /// is measured where it can be, packets that are late by number or by time are lost, and its
+    /// counts of marks are judged. One that names no tracked packet changes nothing. An error is want of memory; the end is of no
     /// more use then.
     pub(crate) fn on_ack_received(&mut self, frame: &Ack<'_>, rises: bool) -> Result<(), AllocError>
         ensures ok { OnOk result (self.new ≡ telling C.steps self.old (told_acked rises frame.now self.old.end) (after_acked rises frame.now self.old.end)) }
         ensures others { KeepsKeys self.old self.new }
     {
+        if let Some(acked) = self.take_acked(frame, rises)? {
+            let (newly, last) = acked;
+            self.see_marks(frame, rises, newly, last);
+        }
+        Ok(())
+    }
+
+    /// The same, but for the counts of marks: how many packets are newly acknowledged, and when the
+    /// last of them went, if there are some.
+    fn take_acked(
+        &mut self,
+        frame: &Ack<'_>,
+        rises: bool,
+    ) -> Result<Option<(u64, Instant)>, AllocError>
+        ensures ok { let named = acked_by frame.now self.old.end.tracking.packets in
+            OnOk result (self.new ≡ telling C.steps self.old (acked_told named rises frame.now self.old.end) (acked_taken named rises frame.now self.old.end)) }
+        ensures count { IfOk result (λ count. count ≡ acked_count (acked_by frame.now self.old.end.tracking.packets)) }
+        ensures others { KeepsKeys self.old self.new }
+    {
         let sent = self.sent_at(frame.largest());
         let acked = self.take_named(frame)?;
         if acked.is_empty() {
-            return Ok(());
+            return Ok(None);
         }
         let sent = if_measured(rises, sent, &acked);
+        let newly = acked.len() as u64;
+        let last = last_sent(&acked);
         self.on_packets_acked(acked)?;
         self.end_acks();
         self.update_rtt(frame, sent);
         self.detect_lost_packets(true)?;
         self.space.tracking.answered();
-        Ok(())
+        Ok(Some((newly, last)))
+    }
+
+    /// Judges the counts of marks of an ACK frame, while datagrams are marked: it newly acknowledged
+    /// so many packets, the last of which went at this moment. They are judged where its greatest
+    /// number lies above all that were named before. Where none come, or they can't be right, nothing
+    /// is marked any more; where that of CE grew, the path is congested (RFC 9000, section 13.4.2; RFC
+    /// 9002, section 7.1).
+    fn see_marks(&mut self, frame: &Ack<'_>, rises: bool, newly: u64, last: Instant)
+        ensures { self.new ≡ telling C.steps self.old (told_seen self.old.end.path.marking rises newly frame.now.ecn last self.old.end) (marks_seen rises newly frame.now self.old.end) }
+    {
+        if !self.path.sending_ecn {
+            return;
+        }
+        match frame.ecn() {
+            None => self.path.sending_ecn = false,
+            Some(counts) if rises => self.judge_marks(&counts, newly, last),
+            Some(_) => {}
+        }
+    }
+
+    /// The same of counts that are judged.
+    fn judge_marks(&mut self, counts: &EcnCounts, newly: u64, last: Instant)
+        ensures { let answer = counts_answer self.old.end newly (counts_view counts.now) in
+            self.new ≡ telling C.steps self.old (told_grown answer self.old.end.closing.clock last) (counts_judged answer (counts_view counts.now) self.old.end) }
+    {
+        match self.space.detect_ecn(newly, counts) {
+            Ok(false) => {}
+            Ok(true) => {
+                self.count_congestion();
+                let now = self.closing.clock();
+                tell_congested(&mut self.path, now, last, false, 0);
+            }
+            Err(_) => self.path.sending_ecn = false,
+        }
     }
 
     /// Takes out the tracked packets that an ACK frame names, the greatest number first: they are

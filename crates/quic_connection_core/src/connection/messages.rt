@@ -12,7 +12,6 @@ ghost use Rattle.quic_connection_core.specs.Frames.{message_part, messages_left}
 
 use crate::connection::Connection;
 use crate::connection::receiving::{Trouble, violation};
-use crate::connection::sending::CURRENT_MTU;
 use quic_congestion::Controller;
 use quic_messages::{DatagramLimits, DatagramState, Datagrams, ReceivedError, max_size};
 use quic_packet::crypto::{HeaderKey, PacketKey, TAG_LEN};
@@ -66,7 +65,8 @@ impl<H: HeaderKey + Drop, K: PacketKey + Drop, R: Rng + Drop, C: Controller> Con
         ensures { result ≡ message_waits self.now.end }
     {
         let header = 1 + self.ids.destination().len() + MAX_NUMBER_LENGTH;
-        self.datagrams.can_send(CURRENT_MTU - (header + TAG_LEN))
+        self.datagrams
+            .can_send(usize::from(self.path.current_mtu()) - (header + TAG_LEN))
     }
 }
 
@@ -88,7 +88,7 @@ impl<H, K, R, C: Controller> Connection<H, K, R, C> {
             send_buffer_size: self.transport.get_datagram_send_buffer_size(),
             max_size: max_size(
                 self.peer_params.max_datagram_frame_size,
-                CURRENT_MTU as u16,
+                self.path.current_mtu(),
                 self.ids.destination().len(),
             ),
         }

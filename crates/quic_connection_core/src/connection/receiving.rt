@@ -7,6 +7,7 @@ ghost use Rattle.quic_time.specs.Timers.{no_timers};
 ghost use Rattle.quic_wire.specs.FrameView.{frame_view, item_view};
 ghost use Rattle.quic_machine.specs.End.{with_end, policy_of, closed_by, HasFailed};
 ghost use Rattle.quic_machine.specs.Opens.{own_id_length, would_open};
+ghost use Rattle.quic_machine.specs.Arrival.{arriving};
 ghost use Rattle.quic_machine.specs.Receive.{is_above, names_ungiven, received, opened_to, processed, fault_of_breach, plain_error, take_ack, take_frame, take_item, take_items, take_payload, told_received, told_opened, told_processed, told_payload, told_items, told_item, told_ack, item_asks, asks_in, opening, error_of, reason_of, drop_of, violation};
 ghost use Rattle.quic_connection_core.specs.Drawn.{words_of};
 ghost use Rattle.quic_connection_core.specs.Telling.{telling, KeepsKeys};
@@ -108,37 +109,41 @@ impl<H: HeaderKey + Drop, K: PacketKey + Drop, R: Rng + Drop, C: Controller> Con
     /// the new number of one that a closing end opened counts as seen. Where it breaks a rule, the
     /// end closes; the frames before keep their effect, and its number isn't taken. Where memory
     /// lacks, the end fails for good. Its number is to be acknowledged once all its frames were
-    /// taken. Marks are not read yet. The datagram's bytes may be changed; to what isn't said.
+    /// taken, at once where it came with the mark CE, and its mark counts (sections 13.2.1 and 13.4.1). The datagram's bytes may be changed; to what isn't said.
     pub fn receive(
         &mut self,
         now: Instant,
         ecn: Option<EcnCodepoint>,
         datagram: &mut [u8],
     ) -> Received
-        ensures answer { result ≢ Received.Failed → result ≡ (received (policy_of H.protection K.aead (words_of R.stream) self.old) self.old.end now datagram.old).answer }
+        ensures answer { result ≢ Received.Failed → result ≡ (received (policy_of H.protection K.aead (words_of R.stream) self.old) self.old.end (arriving now ecn) datagram.old).answer }
         ensures end { result ≢ Received.Failed → self.new ≡ telling C.steps self.old
             (told_received (policy_of H.protection K.aead (words_of R.stream) self.old) self.old.end now datagram.old)
-            (received (policy_of H.protection K.aead (words_of R.stream) self.old) self.old.end now datagram.old).end }
+            (received (policy_of H.protection K.aead (words_of R.stream) self.old) self.old.end (arriving now ecn) datagram.old).end }
         ensures failed { result ≡ Received.Failed → HasFailed self.old self.new }
         ensures before { result ≡ Received.Failed → self.old.end.closing.state ≢ State.Failed }
         ensures stopped { result ≡ Received.Failed → self.new.end.timers ≡ no_timers }
-        ensures lacking { result ≡ Received.Failed → TakesFrames (received (policy_of H.protection K.aead (words_of R.stream) self.old) self.old.end now datagram.old).answer }
+        ensures lacking { result ≡ Received.Failed → TakesFrames (received (policy_of H.protection K.aead (words_of R.stream) self.old) self.old.end (arriving now ecn) datagram.old).answer }
     {
-        let _ = ecn;
         self.stats.udp_rx.on_datagram(datagram.len());
-        self.take_datagram(now, datagram)
+        self.take_datagram(now, ecn, datagram)
     }
 
-    /// Takes a datagram that came at this moment, opening it in place.
-    fn take_datagram(&mut self, now: Instant, datagram: &mut [u8]) -> Received
-        ensures answer { result ≢ Received.Failed → result ≡ (received (policy_of H.protection K.aead (words_of R.stream) self.old) self.old.end now datagram.old).answer }
+    /// Takes a datagram that came at this moment with this mark, opening it in place.
+    fn take_datagram(
+        &mut self,
+        now: Instant,
+        ecn: Option<EcnCodepoint>,
+        datagram: &mut [u8],
+    ) -> Received
+        ensures answer { result ≢ Received.Failed → result ≡ (received (policy_of H.protection K.aead (words_of R.stream) self.old) self.old.end (arriving now ecn) datagram.old).answer }
         ensures end { result ≢ Received.Failed → self.new ≡ telling C.steps self.old
             (told_received (policy_of H.protection K.aead (words_of R.stream) self.old) self.old.end now datagram.old)
-            (received (policy_of H.protection K.aead (words_of R.stream) self.old) self.old.end now datagram.old).end }
+            (received (policy_of H.protection K.aead (words_of R.stream) self.old) self.old.end (arriving now ecn) datagram.old).end }
         ensures failed { result ≡ Received.Failed → HasFailed self.old self.new }
         ensures before { result ≡ Received.Failed → self.old.end.closing.state ≢ State.Failed }
         ensures stopped { result ≡ Received.Failed → self.new.end.timers ≡ no_timers }
-        ensures lacking { result ≡ Received.Failed → TakesFrames (received (policy_of H.protection K.aead (words_of R.stream) self.old) self.old.end now datagram.old).answer }
+        ensures lacking { result ≡ Received.Failed → TakesFrames (received (policy_of H.protection K.aead (words_of R.stream) self.old) self.old.end (arriving now ecn) datagram.old).answer }
     {
         match self.state() {
             State::Failed => return Received::Dropped(DropReason::Failed),
@@ -151,7 +156,8 @@ impl<H: HeaderKey + Drop, K: PacketKey + Drop, R: Rng + Drop, C: Controller> Con
         let Ok(opened) = self.unprotect(datagram) else {
             return Received::Dropped(DropReason::NotOpened);
         };
-        self.take_opened(now, &opened, &datagram[opened.start..opened.end])
+        let payload = &datagram[opened.start..opened.end];
+        self.take_opened(now, ecn, &opened, payload)
     }
 
     /// The own id that a datagram is for, or why it is for none.
@@ -199,13 +205,19 @@ impl<H: HeaderKey + Drop, K: PacketKey + Drop, R: Rng + Drop, C: Controller> Con
     }
 
     /// Takes a packet that opened.
-    fn take_opened(&mut self, now: Instant, opened: &Opened, payload: &[u8]) -> Received
+    fn take_opened(
+        &mut self,
+        now: Instant,
+        ecn: Option<EcnCodepoint>,
+        opened: &Opened,
+        payload: &[u8],
+    ) -> Received
         requires { opened.now.number < 2 ^ 62 }
-        ensures answer { result ≢ Received.Failed → result ≡ (opened_to (record { first = opened.now.first; number = opened.now.number; payload = payload.now }) now self.old.end).answer }
-        ensures end { result ≢ Received.Failed → self.new ≡ telling C.steps self.old (told_opened (record { first = opened.now.first; number = opened.now.number; payload = payload.now }) now self.old.end) (opened_to (record { first = opened.now.first; number = opened.now.number; payload = payload.now }) now self.old.end).end }
+        ensures answer { result ≢ Received.Failed → result ≡ (opened_to (record { first = opened.now.first; number = opened.now.number; payload = payload.now }) (arriving now ecn) self.old.end).answer }
+        ensures end { result ≢ Received.Failed → self.new ≡ telling C.steps self.old (told_opened (record { first = opened.now.first; number = opened.now.number; payload = payload.now }) now self.old.end) (opened_to (record { first = opened.now.first; number = opened.now.number; payload = payload.now }) (arriving now ecn) self.old.end).end }
         ensures failed { result ≡ Received.Failed → HasFailed self.old self.new }
         ensures stopped { result ≡ Received.Failed → self.new.end.timers ≡ no_timers }
-        ensures lacking { result ≡ Received.Failed → TakesFrames (opened_to (record { first = opened.now.first; number = opened.now.number; payload = payload.now }) now self.old.end).answer }
+        ensures lacking { result ≡ Received.Failed → TakesFrames (opened_to (record { first = opened.now.first; number = opened.now.number; payload = payload.now }) (arriving now ecn) self.old.end).answer }
     {
         if opened.key_phase() {
             return Received::Dropped(DropReason::KeyPhase);
@@ -214,7 +226,7 @@ impl<H: HeaderKey + Drop, K: PacketKey + Drop, R: Rng + Drop, C: Controller> Con
             return Received::Dropped(DropReason::Duplicate);
         }
         match self.state() {
-            State::Open => self.process(now, opened, payload),
+            State::Open => self.process(now, ecn, opened, payload),
             State::Closing => Received::Dropped(DropReason::Closing),
             State::Drained => Received::Dropped(DropReason::Drained),
             State::Failed => Received::Dropped(DropReason::Failed),
@@ -222,30 +234,41 @@ impl<H: HeaderKey + Drop, K: PacketKey + Drop, R: Rng + Drop, C: Controller> Con
     }
 
     /// Takes the packet of a number that is new.
-    fn process(&mut self, now: Instant, opened: &Opened, payload: &[u8]) -> Received
+    fn process(
+        &mut self,
+        now: Instant,
+        ecn: Option<EcnCodepoint>,
+        opened: &Opened,
+        payload: &[u8],
+    ) -> Received
         requires { opened.now.number < 2 ^ 62 }
-        ensures answer { result ≢ Received.Failed → result ≡ (processed (record { first = opened.now.first; number = opened.now.number; payload = payload.now }) now self.old.end).answer }
-        ensures end { result ≢ Received.Failed → self.new ≡ telling C.steps self.old (told_processed (record { first = opened.now.first; number = opened.now.number; payload = payload.now }) now self.old.end) (processed (record { first = opened.now.first; number = opened.now.number; payload = payload.now }) now self.old.end).end }
+        ensures answer { result ≢ Received.Failed → result ≡ (processed (record { first = opened.now.first; number = opened.now.number; payload = payload.now }) (arriving now ecn) self.old.end).answer }
+        ensures end { result ≢ Received.Failed → self.new ≡ telling C.steps self.old (told_processed (record { first = opened.now.first; number = opened.now.number; payload = payload.now }) now self.old.end) (processed (record { first = opened.now.first; number = opened.now.number; payload = payload.now }) (arriving now ecn) self.old.end).end }
         ensures failed { result ≡ Received.Failed → HasFailed self.old self.new }
         ensures stopped { result ≡ Received.Failed → self.new.end.timers ≡ no_timers }
-        ensures lacking { result ≡ Received.Failed → TakesFrames (processed (record { first = opened.now.first; number = opened.now.number; payload = payload.now }) now self.old.end).answer }
+        ensures lacking { result ≡ Received.Failed → TakesFrames (processed (record { first = opened.now.first; number = opened.now.number; payload = payload.now }) (arriving now ecn) self.old.end).answer }
     {
         self.tick(now);
-        match self.take_packet(opened, payload) {
+        match self.take_packet(ecn, opened, payload) {
             Ok(()) => Received::Taken,
             Err(trouble) => self.close_for(trouble),
         }
     }
 
-    /// Takes the frames of a packet, and then its number.
-    fn take_packet(&mut self, opened: &Opened, payload: &[u8]) -> Result<(), Trouble>
+    /// Takes the frames of a packet, and then its number and its mark.
+    fn take_packet(
+        &mut self,
+        ecn: Option<EcnCodepoint>,
+        opened: &Opened,
+        payload: &[u8],
+    ) -> Result<(), Trouble>
         requires { opened.now.number < 2 ^ 62 }
-        ensures takes { TakesPacketAs result (take_payload opened.now.first (items payload.now) self.old.end) (asks_in (items payload.now)) opened.now.number self.new.end }
+        ensures takes { TakesPacketAs result (take_payload opened.now.first (items payload.now) self.old.end) (asks_in (items payload.now)) opened.now.number ecn self.new.end }
         ensures told { TellsAs result C.steps self.old (told_payload opened.now.first (items payload.now) self.old.end) self.new }
         ensures others { KeepsKeys self.old self.new }
     {
         let asks = self.take_payload(opened, payload)?;
-        self.take_number(opened.number, asks)?;
+        self.take_number(opened.number, asks, ecn)?;
         Ok(())
     }
 

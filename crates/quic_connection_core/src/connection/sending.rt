@@ -15,7 +15,8 @@ ghost use Rattle.quic_machine.specs.End.{with_end, with_tracking, with_window, w
 ghost use Rattle.quic_spaces.specs.Acknowledging.{most_ack_bytes};
 ghost use Rattle.quic_spaces.specs.Numbers.{can_number, cut_against};
 ghost use Rattle.quic_machine.specs.Tracking.{carried_in, retransmits_in, after_sent};
-ghost use Rattle.quic_machine.specs.Poll.{IsSilent, polled, told_polled, is_gated, gated, goes, draft_if, composed, frame_room, payload_of, datagram_of, datagram_size, paid_if, told_draft, after_given, asking, tracked, probed, lazied, ack_of, after_ack};
+ghost use Rattle.quic_machine.specs.Poll.{IsSilent, polled, told_polled, is_gated, gated, goes, draft_if, composed, mark_of, frame_room, payload_of, datagram_of, datagram_size, paid_if, told_draft, after_given, asking, tracked, probed, lazied, ack_of, after_ack};
+ghost use Rattle.quic_machine.specs.Parts.{current_mtu};
 ghost use Rattle.quic_machine.specs.Control.{is_window_full, by_window, told_sent};
 ghost use Rattle.quic_machine.specs.Lacking.{PollTakes, MovesRecord};
 ghost use Rattle.quic_connection_core.specs.Frames.{control_part, content, content_at, with_content, asked, ping_bytes, pinged, fits_behind, ack_bytes_if, acked_if, end_after_ack_if, tracked_as};
@@ -52,9 +53,6 @@ use quic_wire_core::reserved::append_zeros;
 use rand_core::Rng;
 use std::alloc::{AllocError, Global};
 use std::marker::Model;
-
-/// The most bytes of a datagram (RFC 9000, section 14.1).
-pub(crate) const CURRENT_MTU: usize = 1200;
 
 /// What a datagram carried that matters once it is acknowledged or lost.
 #[derive(Drop)]
@@ -141,7 +139,8 @@ impl<H: HeaderKey + Drop, K: PacketKey + Drop, R: Rng + Drop, C: Controller> Con
     /// set; a due acknowledgement goes alone then, and a probe that waits passes both (RFC 9002,
     /// sections 7, 7.5 and 7.7).
     ///
-    /// The datagram has at most 1200 bytes and is to be marked ECT(0). Where something goes and the
+    /// The datagram has at most [`Connection::current_mtu`] bytes and is to be marked as
+    /// the answer says: ECT(0), until an ACK shows that marks don't come through (section 13.4.2). Where something goes and the
     /// packet numbers are used up, the end closes, no timer of it is set any more, and nothing is
     /// given. An end that gives nothing and is open has nothing left to send but what is held back.
     ///
@@ -165,7 +164,7 @@ impl<H: HeaderKey + Drop, K: PacketKey + Drop, R: Rng + Drop, C: Controller> Con
         ensures nothing { OnErr result (out.new.items ≡ out.old.items) }
         ensures lacking { OnErr result (PollTakes (policy_of H.protection K.aead (words_of R.stream) self.old) (reading C.window_of self.old) now) }
         ensures still { self.old.end.closing.state ≡ State.Failed → self.new ≡ self.old }
-        ensures size { IfOk result (λ given. IfSome given (λ transmit. transmit.size ≤ 1200)) }
+        ensures size { IfOk result (λ given. IfSome given (λ transmit. transmit.size ≤ current_mtu self.old.end.path)) }
         ensures silent { result ≡ Ok None → self.new.end.closing.state ≡ State.Open → IsSilent self.new.end }
     {
         match self.state() {
@@ -191,7 +190,7 @@ impl<H: HeaderKey + Drop, K: PacketKey + Drop, R: Rng + Drop, C: Controller> Con
         ensures stopped { OnErr result (self.new.end.timers ≡ no_timers) }
         ensures nothing { OnErr result (out.new.items ≡ out.old.items) }
         ensures lacking { OnErr result (PollTakes (policy_of H.protection K.aead (words_of R.stream) self.old) self.old.end now) }
-        ensures size { IfOk result (λ given. IfSome given (λ transmit. transmit.size ≤ 1200)) }
+        ensures size { IfOk result (λ given. IfSome given (λ transmit. transmit.size ≤ current_mtu self.old.end.path)) }
         ensures silent { result ≡ Ok None → self.new.end.closing.state ≡ State.Open → IsSilent self.new.end }
     {
         self.tick(now);
@@ -209,8 +208,19 @@ impl<H: HeaderKey + Drop, K: PacketKey + Drop, R: Rng + Drop, C: Controller> Con
         let size = self.give(held, out)?;
         Ok(Some(Transmit {
             size,
-            ecn: Some(EcnCodepoint::Ect0),
+            ecn: self.mark(),
         }))
+    }
+
+    /// The mark of a datagram: ECT(0), while the path is marked (RFC 9000, section 13.4).
+    fn mark(&self) -> Option<EcnCodepoint>
+        ensures { result ≡ mark_of self.now.end.path.marking }
+    {
+        if self.path.sending_ecn {
+            Some(EcnCodepoint::Ect0)
+        } else {
+            None
+        }
     }
 
     /// Whether something goes: what asks unless it is held back, and a due acknowledgement in any
@@ -307,7 +317,7 @@ impl<H: HeaderKey + Drop, K: PacketKey + Drop, R: Rng + Drop, C: Controller> Con
         requires due { held ≡ true → can_send self.old.end.acknowledging ≡ true }
         ensures items { OnOk result (out.new.items ≡ out.old.items ++ datagram_of (policy_of H.protection K.aead (words_of R.stream) self.old) (draft_if held (lazied self.old.end))) }
         ensures size { IfOk result (λ size. vec_len out.new ≡ vec_len out.old + size) }
-        ensures most { IfOk result (λ size. size ≤ 1200) }
+        ensures most { IfOk result (λ size. size ≤ current_mtu self.old.end.path) }
         ensures end { OnOk result (self.new.end ≡ after_given (policy_of H.protection K.aead (words_of R.stream) self.old) (draft_if held (lazied self.old.end))) }
         ensures control { OnOk result (self.new.control ≡ after_calls C.steps self.old.control (told_draft (draft_if held (lazied self.old.end)))) }
         ensures keys { self.new.keys ≡ self.old.keys }
@@ -316,7 +326,7 @@ impl<H: HeaderKey + Drop, K: PacketKey + Drop, R: Rng + Drop, C: Controller> Con
         ensures stopped { OnErr result (self.new.end.timers ≡ no_timers) }
         ensures nothing { OnErr result (out.new.items ≡ out.old.items) }
     {
-        if out.reserve(CURRENT_MTU).is_err() {
+        if out.reserve(usize::from(self.path.current_mtu())).is_err() {
             self.fail();
             return Err(Failed);
         }
@@ -329,10 +339,10 @@ impl<H: HeaderKey + Drop, K: PacketKey + Drop, R: Rng + Drop, C: Controller> Con
     fn put_datagram(&mut self, held: bool, out: &mut Vec<u8>) -> Result<usize, Failed>
         requires number { can_number self.old.end.numbers ≡ true }
         requires due { held ≡ true → can_send self.old.end.acknowledging ≡ true }
-        requires room { vec_len out.old + 1200 ≤ vec_capacity out.old }
+        requires room { vec_len out.old + current_mtu self.old.end.path ≤ vec_capacity out.old }
         ensures items { OnOk result (out.new.items ≡ out.old.items ++ datagram_of (policy_of H.protection K.aead (words_of R.stream) self.old) (draft_if held self.old.end)) }
         ensures size { IfOk result (λ size. vec_len out.new ≡ vec_len out.old + size) }
-        ensures most { IfOk result (λ size. size ≤ 1200) }
+        ensures most { IfOk result (λ size. size ≤ current_mtu self.old.end.path) }
         ensures end { OnOk result (self.new.end ≡ after_given (policy_of H.protection K.aead (words_of R.stream) self.old) (draft_if held self.old.end)) }
         ensures control { OnOk result (self.new.control ≡ after_calls C.steps self.old.control (told_draft (draft_if held self.old.end))) }
         ensures keys { self.new.keys ≡ self.old.keys }
@@ -360,10 +370,10 @@ impl<H: HeaderKey + Drop, K: PacketKey + Drop, R: Rng + Drop, C: Controller> Con
     fn put_tracked(&mut self, held: bool, out: &mut Vec<u8>) -> Result<(), AllocError>
         requires number { can_number self.old.end.numbers ≡ true }
         requires due { held ≡ true → can_send self.old.end.acknowledging ≡ true }
-        requires room { vec_len out.old + 1200 ≤ vec_capacity out.old }
+        requires room { vec_len out.old + current_mtu self.old.end.path ≤ vec_capacity out.old }
         ensures items { OnOk result (out.new.items ≡ out.old.items ++ (header_bytes self.old.end.ids.active.id (truncated (number_of self.old.end) (cut_against self.old.end.numbers)) ++ payload_of (draft_if held self.old.end))) }
         ensures four { OnOk result (vec_len out.old + 1 + length self.old.end.ids.active.id + 4 ≤ vec_len out.new) }
-        ensures within { OnOk result (vec_len out.new + 16 ≤ vec_len out.old + 1200) }
+        ensures within { OnOk result (vec_len out.new + 16 ≤ vec_len out.old + current_mtu self.old.end.path) }
         ensures capacity { vec_capacity out.old ≤ vec_capacity out.new }
         ensures end { OnOk result (self.new.end ≡ paid_if (asking (draft_if held self.old.end).frames) (with_number_given (words_of R.stream self.old.random 0) (tracked (draft_if held self.old.end))) (datagram_size (draft_if held self.old.end))) }
         ensures control { OnOk result (self.new.control ≡ after_calls C.steps self.old.control (told_draft (draft_if held self.old.end))) }
@@ -375,6 +385,8 @@ impl<H: HeaderKey + Drop, K: PacketKey + Drop, R: Rng + Drop, C: Controller> Con
         ensures others { OnErr result (KeepsKeys self.old self.new) }
     {
         let start = out.len();
+        // The proof reads that the size has 16 bits.
+        let _most = self.path.current_mtu();
         let sent = self.put_plain(held, out)?;
         let size = (out.len() - start + TAG_LEN) as u16;
         self.track(size, sent)
@@ -454,10 +466,10 @@ impl<H: HeaderKey + Drop, K: PacketKey + Drop, R: Rng + Drop, C: Controller> Con
     fn put_plain(&mut self, held: bool, out: &mut Vec<u8>) -> Result<SentFrames, AllocError>
         requires number { can_number self.old.end.numbers ≡ true }
         requires due { held ≡ true → can_send self.old.end.acknowledging ≡ true }
-        requires room { vec_len out.old + 1200 ≤ vec_capacity out.old }
+        requires room { vec_len out.old + current_mtu self.old.end.path ≤ vec_capacity out.old }
         ensures items { OnOk result (out.new.items ≡ out.old.items ++ (header_bytes self.old.end.ids.active.id (truncated (number_of self.old.end) (cut_against self.old.end.numbers)) ++ payload_of (draft_if held self.old.end))) }
         ensures four { OnOk result (vec_len out.old + 1 + length self.old.end.ids.active.id + 4 ≤ vec_len out.new) }
-        ensures within { OnOk result (vec_len out.new + 16 ≤ vec_len out.old + 1200) }
+        ensures within { OnOk result (vec_len out.new + 16 ≤ vec_len out.old + current_mtu self.old.end.path) }
         ensures capacity { vec_capacity out.old ≤ vec_capacity out.new }
         ensures end { OnOk result (self.new ≡ with_end self.old (draft_if held self.old.end).end) }
         ensures size { OnOk result (vec_len out.new + 16 ≡ vec_len out.old + datagram_size (draft_if held self.old.end)) }
@@ -471,6 +483,8 @@ impl<H: HeaderKey + Drop, K: PacketKey + Drop, R: Rng + Drop, C: Controller> Con
         ensures grows { vec_len out.old ≤ vec_len out.new }
         ensures others { self.new ≡ with_end self.old self.new.end }
     {
+        // The proof reads that a datagram has 1200 bytes at least.
+        let _ = &self.path;
         let width = self.put_header(out);
         let body = out.len();
         let sent = self.put_leave(held, out)?;
@@ -571,8 +585,18 @@ impl<H: HeaderKey + Drop, K: PacketKey + Drop, R: Rng + Drop, C: Controller> Con
         ensures { result ≡ fits_behind self.now.end used }
     {
         let room = self.frame_room() - used;
-        self.space.acknowledging.is_filled()
-            && self.space.acknowledging.size(self.closing.clock()) <= room
+        self.space.acknowledging.is_filled() && self.ack_size() <= room
+    }
+
+    /// How many bytes the ACK frame of this moment takes. There is a number to acknowledge.
+    fn ack_size(&self) -> usize
+        requires { is_filled self.now.end.acknowledging.runs ≡ true }
+        ensures { result ≡ frame_size (ack (ack_of self.now.end)) }
+    {
+        let counts = self.space.told_counts();
+        self.space
+            .acknowledging
+            .size(self.closing.clock(), counts.as_ref())
     }
 
     /// Appends an ACK, for which there is room, and stops its timer: the greatest number that it
@@ -588,7 +612,9 @@ impl<H: HeaderKey + Drop, K: PacketKey + Drop, R: Rng + Drop, C: Controller> Con
         ensures largest { result ≡ greatest (ranges_of_set self.old.end.acknowledging.runs) }
     {
         let largest = self.space.acknowledging.largest();
-        self.space.acknowledging.put(self.closing.clock(), out);
+        let counts = self.space.told_counts();
+        let now = self.closing.clock();
+        self.space.acknowledging.put(now, counts.as_ref(), out);
         self.timers.stop(Timer::MaxAckDelay);
         self.count_ack();
         largest
@@ -696,10 +722,11 @@ impl<H: HeaderKey + Drop, K: PacketKey + Drop, R: Rng + Drop, C: Controller> Con
         requires number { can_number self.now.end.numbers ≡ true }
         ensures room { result ≡ frame_room self.now.end }
         ensures some { 1159 ≤ result }
-        ensures whole { 1 + length self.now.end.ids.active.id + (truncated (number_of self.now.end) (cut_against self.now.end.numbers)).width + result + 16 ≡ 1200 }
+        ensures whole { 1 + length self.now.end.ids.active.id + (truncated (number_of self.now.end) (cut_against self.now.end.numbers)).width + result + 16 ≡ current_mtu self.now.end.path }
+        ensures few { result < 2 ^ 16 }
     {
         let header = 1 + self.ids.destination().len() + self.packet_number().len();
-        CURRENT_MTU - (header + TAG_LEN)
+        usize::from(self.path.current_mtu()) - (header + TAG_LEN)
     }
 
     /// Appends the header of the next datagram, for which there is room: how many bytes its number
@@ -746,8 +773,8 @@ impl<H: HeaderKey + Drop, K: PacketKey + Drop, R: Rng + Drop, C: Controller> Con
 /// holds it back, whose window this is.
 fn pacer_answer<C>(path: &mut PathData<C>, window: u64, now: Instant) -> Option<Instant>
     requires { 0 < window }
-    ensures answer { result ≡ delay_of path.old.pacing (max (best_rtt path.old.rtt) 1) path.old.size path.old.size window now }
-    ensures path { path.new ≡ record path.old { pacing = after_delay path.old.pacing (max (best_rtt path.old.rtt) 1) path.old.size path.old.size window now } }
+    ensures answer { result ≡ delay_of path.old.pacing (max (best_rtt path.old.rtt) 1) path.old.discovery.size path.old.discovery.size window now }
+    ensures path { path.new ≡ record path.old { pacing = after_delay path.old.pacing (max (best_rtt path.old.rtt) 1) path.old.discovery.size path.old.discovery.size window now } }
 {
     let size = path.current_mtu();
     let rtt = path.rtt.get().max(Duration::from_nanos(1));

@@ -1,6 +1,7 @@
 //! What is counted of a connection.
 ghost use Rattle.std.specs.Prelude.{◌≡◌};
 ghost use Rattle.quic_time.specs.Rtt.{best_rtt};
+ghost use Rattle.quic_machine.specs.Parts.{current_mtu};
 
 use crate::connection::Connection;
 use quic_congestion::Controller;
@@ -13,7 +14,7 @@ impl<H, K, R, C: Controller> Connection<H, K, R, C> {
     pub fn stats(&self) -> ConnectionStats
         ensures rtt { result.path.rtt ≡ best_rtt self.now.end.path.rtt }
         ensures min_rtt { result.path.min_rtt ≡ self.now.end.path.rtt.least }
-        ensures size { result.path.current_mtu ≡ self.now.end.path.size }
+        ensures size { result.path.current_mtu ≡ current_mtu self.now.end.path }
         ensures window { result.path.cwnd ≡ C.window_of self.now.control }
     {
         let mut stats = self.stats;

@@ -225,9 +225,9 @@ module _ (t : Tally) where
         on_messages = λ on answer. i;
         pings = i;
         heard = λ path same. i;
-        times = λ now acks loss pacing set. by_expired e now (λ (f : End). Tallies t f.streams) (λ pending tracking timers runs packets. i) (λ pending timers runs. expiry_stays (λ (s : Streams). Tallies t s.state) e now (losing e.tracking.packets) i pending timers) acks loss pacing;
+        times = λ now expiry set. by_expired e now (λ (f : End). Tallies t f.streams) (λ pending tracking timers runs packets. i) (λ pending timers runs. expiry_stays (λ (s : Streams). Tallies t s.state) e now (losing e.tracking.packets) i pending timers) expiry;
         polls = λ now set. poll_tallies p e now i;
-        hears = λ now d set. cc;
+        hears = λ arrival d set. cc;
         tells = λ asks. by_event e (λ (f : End). Tallies t f.streams) i (λ told. by_polled (Tallies t) tallies_kept e.streams i);
       })
 
@@ -242,6 +242,7 @@ module _ (t : Tally) where
     again = λ carried e i. i;
     tracked = λ u e i. i;
     measured = λ r first e i. i;
+    marked = λ m marking e i. i;
   }
 
 -- ---- where as much is told

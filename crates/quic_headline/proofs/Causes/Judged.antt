@@ -2,10 +2,12 @@
 use Rattle.std.proofs.Common.{◌≡◌, ℕ, suc, ◌&&◌, Bool, true, false, List, [], ◌∷◌, ◌++◌, length, map, Option, Some, None, Ok, refl, sym, ap, ◌∙◌, subst, inl, inr, arith}
 use Rattle.std.specs.Prelude.{slice_get}
 use Rattle.std.proofs.lemmas.List.{append_assoc}
+use Rattle.quic_wire_core.specs.declared.shared.EcnCodepoint.{EcnCodepoint}
 use Rattle.quic_wire.specs.Value.{FrameValue}
 use Rattle.quic_wire.specs.Items.{items}
 use Rattle.quic_packet.specs.Datagram.{Opening}
 use Rattle.quic_packet.specs.Destination.{is_known}
+use Rattle.quic_machine.specs.Arrival.{Arrival, delivered_by}
 use Rattle.quic_machine.specs.declared.answers.State.{State}
 use Rattle.quic_machine.specs.declared.answers.State.TheVariants as states
 use Rattle.quic_machine.specs.declared.answers.Received.TheVariants.{Taken, Closed}
@@ -97,12 +99,15 @@ module _ (x y : Party) (delivery : Delivery) (a : Answer) where
     many = rw (same, n.alone h same call, n.number) c.many;
   }
 
-  module _ (joined : AreJoined x y) (meets : Meets y x) (s : Sent) (among : In s y.sents) (d : List ℕ) (given : IsSent y.policy x.id s d) (at_final : slice_get y.final delivery.index ≡ Some d) (is : a ≡ answers.Deliver (received x.policy x.end delivery.now d).answer) where
+  module _ (joined : AreJoined x y) (meets : Meets y x) (s : Sent) (among : In s y.sents) (d : List ℕ) (given : IsSent y.policy x.id s d) (at_final : slice_get y.final delivery.index ≡ Some d) (is : a ≡ answers.Deliver (received x.policy x.end (delivered_by delivery) d).answer) where
     abbrev i : Intake
     i = came_to x y
 
     abbrev now : ℕ
     now = delivery.now
+
+    abbrev arrival : Arrival
+    arrival = delivered_by delivery
 
     abbrev n : ℕ
     n = s.number
@@ -117,8 +122,8 @@ module _ (x y : Party) (delivery : Delivery) (a : Answer) where
       met_refused : x.end.closing.state ≡ states.Open → is_again n i.opened ≡ false → (f : Fault) → (arrived x.end now n frames).fault ≡ Some f → o.answer ≡ Closed (error_of f) → o.end.closing.reason ≡ Some (reason_of f) → o.end.closing.state ≡ states.Drained
           → j ≡ with_refused i n frames → Met o j
 
-    keeps_taken : Keeps x.end (after_taken n (asks_in (map Ok frames)) (arrived x.end now n frames).end)
-    keeps_taken =
+    keeps_taken : (codepoint : Option EcnCodepoint) → Keeps x.end (after_taken n (asks_in (map Ok frames)) codepoint (arrived x.end now n frames).end)
+    keeps_taken codepoint =
         let k = keeps_frames frames (begun x.end now n) in
         record { reason = ap (λ (c : Closing). c.reason) k.closing; state = ap (λ (c : Closing). c.state) k.closing }
 
@@ -126,16 +131,16 @@ module _ (x y : Party) (delivery : Delivery) (a : Answer) where
     cases = record {
       ignored = λ reason. met_nothing (record { reason = refl; state = refl }) (λ still. refl);
       noted = λ state reason. met_nothing (record { reason = refl; state = refl }) (λ still. refl);
-      takes = λ still_open new none. met_taken still_open new none refl keeps_taken refl;
+      takes = λ still_open new none mark. met_taken still_open new none refl (keeps_taken mark) refl;
       refuses = λ still_open new f fault. met_refused still_open new f fault refl refl refl refl;
     }
 
     -- what came then
     abbrev next : Intake
-    next = and_handed x.end.closing.state (Some d) x.policy (answers.Deliver (received x.policy x.end now d).answer) i
+    next = and_handed x.end.closing.state (Some d) x.policy (answers.Deliver (received x.policy x.end arrival d).answer) i
 
-    met : Met (received x.policy x.end now d) next
-    met = by_arrival y.policy x.policy x.id n s.reference frames d given x.end now i Met joined.to_x joined.y_lawful joined.x_long meets.known meets.knows cases
+    met : Met (received x.policy x.end arrival d) next
+    met = by_arrival y.policy x.policy x.id n s.reference frames d given x.end arrival i Met joined.to_x joined.y_lawful joined.x_long meets.known meets.knows cases
 
     abbrev opening : Opening
     opening = shown n s.reference given.payload
@@ -149,8 +154,8 @@ module _ (x y : Party) (delivery : Delivery) (a : Answer) where
 
         none_came : opens x.policy i.ids (expected_behind i.took) d ≡ None → next ≡ i
         none_came none =
-            ap (λ (state : State). and_handed state (Some d) x.policy (answers.Deliver (received x.policy x.end now d).answer) i) still_open
-            ∙ ap (λ (o : Option Opening). and_opened o (answers.Deliver (received x.policy x.end now d).answer) i) none
+            ap (λ (state : State). and_handed state (Some d) x.policy (answers.Deliver (received x.policy x.end arrival d).answer) i) still_open
+            ∙ ap (λ (o : Option Opening). and_opened o (answers.Deliver (received x.policy x.end arrival d).answer) i) none
 
         go : (b : Bool) → (is_known x.id i.ids && expands n s.reference (expected_behind i.took)) ≡ b → opens x.policy i.ids (expected_behind i.took) d ≡ Some opening
         go true e = shows true e
@@ -200,26 +205,26 @@ module _ (x y : Party) (delivery : Delivery) (a : Answer) where
     none_new : (x.end.closing.state ≡ states.Open → next ≡ i) → (h : CameThen) → h.before ≡ x.told → h.call ≡ now_told → ⊥
     none_new none h same call =
         let still_open : x.end.closing.state ≡ states.Open = ap (λ (t : Told). t.state) (sym call) ∙ h.was_open in
-        let next_is : next ≡ and_opened (Some h.opening) (answers.Deliver (received x.policy x.end now d).answer) i =
-        ap (λ (state : State). and_handed state (Some d) x.policy (answers.Deliver (received x.policy x.end now d).answer) i) still_open
-        ∙ ap (λ (o : Option Opening). and_opened o (answers.Deliver (received x.policy x.end now d).answer) i) (opens_now h same call) in
+        let next_is : next ≡ and_opened (Some h.opening) (answers.Deliver (received x.policy x.end arrival d).answer) i =
+        ap (λ (state : State). and_handed state (Some d) x.policy (answers.Deliver (received x.policy x.end arrival d).answer) i) still_open
+        ∙ ap (λ (o : Option Opening). and_opened o (answers.Deliver (received x.policy x.end arrival d).answer) i) (opens_now h same call) in
         let new : is_again h.opening.number i.opened ≡ false = ap (λ (ts : List Told). is_again h.opening.number (came_by x.policy (x.id ∷ []) y.final ts).opened) (sym same) ∙ h.new in
-        let count : length i.opened ≡ suc (length i.opened) = ap (λ (j : Intake). length j.opened) (sym (none still_open) ∙ next_is) ∙ fresh h.opening (answers.Deliver (received x.policy x.end now d).answer) i new in
+        let count : length i.opened ≡ suc (length i.opened) = ap (λ (j : Intake). length j.opened) (sym (none still_open) ∙ next_is) ∙ fresh h.opening (answers.Deliver (received x.policy x.end arrival d).answer) i new in
         omega arith
       where
         fresh : (o : Opening) (b : Answer) (j : Intake) → is_again o.number j.opened ≡ false → length (and_opened (Some o) b j).opened ≡ suc (length j.opened)
         fresh o b j new = rw new refl
 
-    judged_met : Judged (received x.policy x.end now d).end
+    judged_met : Judged (received x.policy x.end arrival d).end
     judged_met = go met
       where
-        go : Met (received x.policy x.end now d) next → Judged (received x.policy x.end now d).end
+        go : Met (received x.policy x.end arrival d) next → Judged (received x.policy x.end arrival d).end
         go (met_nothing keeps none) = nothing keeps (none_new none)
         go (met_taken still_open new none answer keeps came) = taken s among (is_new still_open new (ap (λ (j : Intake). length j.opened) came)) still_open none (is ∙ ap (λ r. answers.Deliver r) answer) keeps
         go (met_refused still_open new f fault answer reason state came) = refused s among (is_new still_open new (ap (λ (j : Intake). length j.opened) came)) still_open f fault (is ∙ ap (λ r. answers.Deliver r) answer) reason state
 
   -- a delivery, by whether there is such a datagram
-  judged_at : AreJoined x y → Meets y x → fails a ≡ false → (o : Option (List ℕ)) → slice_get y.given delivery.index ≡ o → IsDelivered x.policy x.end delivery.now o a → Judged (after_delivered x.policy x.end delivery.now o)
+  judged_at : AreJoined x y → Meets y x → fails a ≡ false → (o : Option (List ℕ)) → slice_get y.given delivery.index ≡ o → IsDelivered x.policy x.end delivery o a → Judged (after_delivered x.policy x.end delivery o)
   judged_at joined meets served None at is = nothing (record { reason = refl; state = refl }) (λ h same call. none h call)
     where
       none : (h : CameThen) → h.call ≡ now_told → ⊥

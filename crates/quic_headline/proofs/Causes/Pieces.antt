@@ -65,7 +65,7 @@ come_arrivals : (e : End) (now n : ℕ) (frames : List FrameValue) (i : Intake) 
 come_arrivals e now n frames i come = record {
   ignored = λ reason. come;
   noted = λ state reason still. (let clash : states.Closing ≡ states.Open = sym state ∙ still in cc);
-  takes = λ still_open new none still.
+  takes = λ still_open new none mark still.
       frames_come (came_in (with_taken i n frames).took) frames (begun e now n) (λ f j. came_now p i.took f j) (come_wider (came_in i.took) (came_in (with_taken i n frames).took) e.streams (came_before p i.took) (come still_open));
   refuses = λ still_open new f is still. cc;
 }

@@ -102,7 +102,7 @@ shut_arrivals : (e : End) (now n : ℕ) (frames : List FrameValue) (i : Intake) 
 shut_arrivals e now n frames i s = record {
   ignored = λ reason. s;
   noted = λ state reason. record { used = s.used; drained = s.drained };
-  takes = λ still_open new none. shut_open e (after_taken n (asks_in (map Ok frames)) (arrived e now n frames).end) i (with_taken i n frames) still_open s (ap (λ (c : Closing). c.reason) left.closing);
+  takes = λ still_open new none mark. shut_open e (after_taken n (asks_in (map Ok frames)) mark (arrived e now n frames).end) i (with_taken i n frames) still_open s (ap (λ (c : Closing). c.reason) left.closing);
   refuses = λ still_open new f is. record { used = λ same. absurd (no_limit f same); drained = λ reason same. refl };
 }
   where

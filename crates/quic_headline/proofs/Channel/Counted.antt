@@ -239,6 +239,7 @@ module _ (K : Side → Counts → Counts → Type 0) where
     again = λ carried e i. i;
     tracked = λ t e i. i;
     measured = λ r first e i. i;
+    marked = λ m marking e i. i;
   }
 
   -- any call but a delivery
@@ -258,9 +259,9 @@ module _ (K : Side → Counts → Counts → Type 0) where
         on_messages = λ on answer. i;
         pings = i;
         heard = λ path same. i;
-        times = λ now acks loss pacing set. by_expired e now (λ (f : End). Counted f.streams) (λ pending tracking timers runs packets. i) (λ pending timers runs. losses_keep (λ (x : End). Counted x.streams) settling (with_closing e (ticked e.closing now)) i) acks loss pacing;
+        times = λ now expiry set. by_expired e now (λ (f : End). Counted f.streams) (λ pending tracking timers runs packets. i) (λ pending timers runs. losses_keep (λ (x : End). Counted x.streams) settling (with_closing e (ticked e.closing now)) i) expiry;
         polls = λ now set. poll_counts p e now i;
-        hears = λ now d set. cc;
+        hears = λ arrival d set. cc;
         tells = λ asks. by_event e (λ (f : End). Counted f.streams) i (λ told. polled_counts e.streams i);
       })
 

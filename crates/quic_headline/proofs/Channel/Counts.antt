@@ -166,7 +166,7 @@ module _ (B : Way) (rests : RestsOn B) where
       comes = λ delivery is s among. (let after = frames_know y.end.streams s.frames (begun x.end delivery.now s.number) (c.takes.1.given s among) k.counts in record {
         ignored = λ reason. k.counts;
         noted = λ state reason. k.counts;
-        takes = λ state new none. after;
+        takes = λ state new none mark. after;
         refuses = λ state new f is. after;
       });
     });

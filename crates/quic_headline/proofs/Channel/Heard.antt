@@ -147,6 +147,7 @@ module _ (t : StreamsState) where
     again = λ carried e i. i;
     tracked = λ u e i. i;
     measured = λ r first e i. i;
+    marked = λ m marking e i. i;
   }
 
   -- any call but a delivery
@@ -163,9 +164,9 @@ module _ (t : StreamsState) where
         on_messages = λ on answer. i;
         pings = i;
         heard = λ path same. i;
-        times = λ now acks loss pacing set. by_expired e now (λ (f : End). Heard t f.streams) (λ pending tracking timers runs packets. i) (λ pending timers runs. losses_keep (λ (x : End). Heard t x.streams) settles (with_closing e (ticked e.closing now)) i) acks loss pacing;
+        times = λ now expiry set. by_expired e now (λ (f : End). Heard t f.streams) (λ pending tracking timers runs packets. i) (λ pending timers runs. losses_keep (λ (x : End). Heard t x.streams) settles (with_closing e (ticked e.closing now)) i) expiry;
         polls = λ now set. poll_heard p e now i;
-        hears = λ now d set. cc;
+        hears = λ arrival d set. cc;
         tells = λ asks. by_event e (λ (f : End). Heard t f.streams) i (λ told. by_polled (Heard t) heard_kept e.streams i);
       })
 

@@ -23,7 +23,8 @@ use Rattle.quic_machine.specs.Closing.{ticked}
 use Rattle.quic_spaces.specs.Numbers.{cut_against}
 use Rattle.quic_machine.specs.End.{End, number_of, with_closing}
 use Rattle.quic_machine.specs.Receive.{is_above, names_ungiven, message_judged, take_frame}
-use Rattle.quic_machine.specs.Poll.{Draft, Polled, current_mtu, ack_of, lazied, polled, draft_if, draft_of}
+use Rattle.quic_machine.specs.Parts.{current_mtu}
+use Rattle.quic_machine.specs.Poll.{Draft, Polled, ack_of, lazied, polled, draft_if, draft_of}
 use Rattle.quic_machine.specs.DraftLaws.{by_leave}
 use Rattle.quic_machine.specs.PollCases.{frames_padded, frames_at, by_poll, at_poll}
 use Rattle.quic_machine.specs.MessageCalls.{limits_of, after_on_messages}
@@ -206,6 +207,7 @@ module _ (window : Option ℕ) where
     again = λ carried e i. i;
     tracked = λ t e i. i;
     measured = λ r first e i. i;
+    marked = λ m marking e i. i;
   }
 
   frame_leaves : (f : FrameValue) (e : End) → Waits window e → Waits window (take_frame f e).end
@@ -229,15 +231,15 @@ module _ (window : Option ℕ) where
     on_messages = λ on answer. message_call_leaves window e sized i call a;
     pings = i;
     heard = λ path same. i;
-    times = λ now acks loss pacing set. by_expired e now (Waits window) (λ pending tracking timers runs packets. i) (λ pending timers runs. losses_keep (Waits window) settling (with_closing e (ticked e.closing now)) i) acks loss pacing;
+    times = λ now expiry set. by_expired e now (Waits window) (λ pending tracking timers runs packets. i) (λ pending timers runs. losses_keep (Waits window) settling (with_closing e (ticked e.closing now)) i) expiry;
     polls = λ now set. (poll_takes window p e now i).0;
-    hears = λ now d set. by_received (Waits window) (record {
+    hears = λ arrival d set. by_received (Waits window) (record {
       notes = λ n x j. j;
       begins = λ time n x j. j;
       frame = frame_leaves;
-      takes = λ n asks x j. j;
+      takes = λ n asks mark x j. j;
       closes = λ reason x j. j;
-    }) p e now d i;
+    }) p e arrival d i;
     tells = λ asks. by_event e (Waits window) i (λ was_told. i);
   })
 
@@ -257,7 +259,7 @@ MessagesFit x y = FitsAt y.end.transport.datagram_receive_buffer_size x
 fits_on : (B : Way) (x y : Party) (call : Call) (a : Answer) → Calls B x y call a → MessagesFit x y → MessagesFit (called x y.given call a) y
 fits_on B x y call a c i = record {
   told = ap (λ (theirs : ParameterValues). theirs.max_datagram_frame_size) (placed_call x.policy x.end y.given call a).peer ∙ i.told;
-  waiting = call_leaves window x.policy x.end y.given call a (λ room m. sized_taken window x.end.peer_params.max_datagram_frame_size current_mtu (length x.end.ids.active.id) room m i.told) i.waiting;
+  waiting = call_leaves window x.policy x.end y.given call a (λ room m. sized_taken window x.end.peer_params.max_datagram_frame_size (current_mtu x.end.path) (length x.end.ids.active.id) room m i.told) i.waiting;
   sent = λ s j. elim (in_append s x.sents (sents_by x.end call a) j) [ inl old ↦ i.sent s old | inr new ↦ goes call c.answer s new ];
 }
   where

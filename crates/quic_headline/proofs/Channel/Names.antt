@@ -52,7 +52,7 @@ module _ (B : Way) (rests : RestsOn B) (x y : Party) (call : Call) (a : Answer) 
     comes = λ delivery is s among. record {
       ignored = λ reason. grown_same x.end.streams;
       noted = λ state reason. grown_same x.end.streams;
-      takes = λ state new none. frames_grow s.frames (begun x.end delivery.now s.number);
+      takes = λ state new none mark. frames_grow s.frames (begun x.end delivery.now s.number);
       refuses = λ state new f is. frames_grow s.frames (begun x.end delivery.now s.number);
     };
   })
@@ -86,7 +86,7 @@ module _ (B : Way) (rests : RestsOn B) (x y : Party) (call : Call) (a : Answer) 
     arrivals_stop now s among = record {
       ignored = λ reason. stops_before;
       noted = λ state reason. stops_before;
-      takes = λ state new none. passed_stops;
+      takes = λ state new none mark. passed_stops;
       refuses = λ state new f is. passed_stops;
     }
       where

@@ -185,9 +185,9 @@ module _ (Q : ℕ → Type 0) where
     on_messages = λ on answer. i;
     pings = i;
     heard = λ path same. i;
-    times = λ now acks loss pacing set. by_expired e now (λ (f : End). StopsOf Q f.waiting.frames) (λ pending tracking timers runs packets. i) (λ pending timers runs. expiry_stays (λ (t : Streams). StopsOf Q t.pending) e now (losing e.tracking.packets carried) i pending timers) acks loss pacing;
+    times = λ now expiry set. by_expired e now (λ (f : End). StopsOf Q f.waiting.frames) (λ pending tracking timers runs packets. i) (λ pending timers runs. expiry_stays (λ (t : Streams). StopsOf Q t.pending) e now (losing e.tracking.packets carried) i pending timers) expiry;
     polls = λ now set. poll_streams (λ (t : Streams). StopsOf Q t.pending) p e now composed_stops i (ready_stays (λ (t : Streams). StopsOf Q t.pending) e now (losing e.tracking.packets carried) i);
-    hears = λ now d set. cc;
+    hears = λ arrival d set. cc;
     tells = λ asks. by_event e (λ (f : End). StopsOf Q f.waiting.frames) i (λ told. i);
   })
 
@@ -245,4 +245,5 @@ module _ (Q : ℕ → Type 0) where
     again = λ c e was i. again_holds e.waiting.frames c.retransmits i (from_stops Q c was.sent.frames was.is (sent was.sent was.among));
     tracked = λ t e i. i;
     measured = λ r first e i. i;
+    marked = λ m marking e i. i;
   }

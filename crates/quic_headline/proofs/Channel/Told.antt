@@ -181,7 +181,7 @@ module _ (B : Way) (w : IsWriting B) (x y : Party) (call : Call) (a : Answer) (c
       arrivals now n fs = record {
         ignored = λ reason. here;
         noted = λ state reason. here;
-        takes = λ state new none. stays_frames x.end.streams fs (begun x.end now n) here;
+        takes = λ state new none mark. stays_frames x.end.streams fs (begun x.end now n) here;
         refuses = λ state new f is. stays_frames x.end.streams fs (begun x.end now n) here;
       }
 

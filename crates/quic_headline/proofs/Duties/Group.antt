@@ -176,7 +176,7 @@ module _ (B : Way) (b : IsReadied B) (x y : Party) (call : Call) (a : Answer) (c
         record {
           ignored = λ reason. further what value _ (all.ignored reason);
           noted = λ state reason. further what value _ (all.noted state reason);
-          takes = λ state new none. further what value _ (all.takes state new none);
+          takes = λ state new none mark. further what value _ (all.takes state new none mark);
           refuses = λ state new f is. further what value _ (all.refuses state new f is);
         });
   })

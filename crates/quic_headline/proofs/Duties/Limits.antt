@@ -1,6 +1,6 @@
 -- A limit that was said waits to be said anew, stands in a datagram that is tracked, or came, each no less than it was said; or it matters
 -- no more. Each frame that comes keeps that, and calls take nothing off what waits.
-use Rattle.std.proofs.Common.{◌≡◌, ℕ, ◌≤◌, Bool, true, false, not, cond, List, [], ◌∷◌, filter, Option, Some, None, Ok, refl, sym, ap, ◌∙◌, subst, ◌⊎◌, inl, inr}
+use Rattle.std.proofs.Common.{◌≡◌, ℕ, ◌≤◌, Bool, true, false, not, cond, List, [], ◌∷◌, filter, Option, Some, None, Ok, refl, sym, ap, ◌∙◌, subst, ◌⊎◌, inl, inr, length}
 use Rattle.std.specs.List.{list_any}
 use Rattle.std.specs.Ordering.{nat_cmp}
 use Rattle.std.specs.BTreeMap.{is_at}
@@ -26,9 +26,9 @@ use Rattle.quic_machine.specs.Tracking.{Tracking, TrackedPacket, Carried, carrie
 use Rattle.quic_machine.specs.End.{End, streams_at}
 use Rattle.quic_machine.specs.Calls.{after_nexts}
 use Rattle.quic_machine.specs.StreamCalls.{after_on_streams}
-use Rattle.quic_machine.specs.Acked.{stream_lost, streams_lost, carried_lost, packets_lost, verdict, losses_detected, measured, sampled, without_acked, after_named}
+use Rattle.quic_machine.specs.Acked.{stream_lost, streams_lost, carried_lost, packets_lost, verdict, losses_detected, measured, sampled, without_acked, after_named, losses_taken}
 use Rattle.quic_machine.specs.Receive.{is_above, names_ungiven, take_frame, Outcome}
-use Rattle.quic_machine.specs.FrameCases.{OnStreams, Settling, named, ack_taken, acked_keeps, begun, passed, frames_leave}
+use Rattle.quic_machine.specs.FrameCases.{OnStreams, Settling, named, ack_taken, acked_keeps, begun, passed, frames_leave, by_marks}
 use Rattle.quic_machine.specs.FrameCases as cases
 use Rattle.quic_headline.specs.Runs.{Packet, Intake, In}
 use Rattle.quic_headline.specs.Observer.{Sent}
@@ -115,6 +115,7 @@ module _ (what : Limited) where
     again = λ c e w. waits_in what (streams_of e.streams (merged e.waiting.frames c.retransmits)) (merged_left what e.waiting.frames c.retransmits (waits_of what (streams_at e) w));
     tracked = λ t e w. w;
     measured = λ r first e w. w;
+    marked = λ m marking e w. w;
   }
 
   pub frame_waits : (f : FrameValue) (e : End) → IsWaiting what (streams_at e) → IsWaiting what (streams_at (take_frame f e).end)
@@ -240,7 +241,7 @@ module _ (took : List Packet) (own : List Sent) (what : Limited) (value : ℕ) (
   -- an ACK frame that names these packets
   named_flies : (ps : Table TrackedPacket) (rises : Bool) (a : AckValue) (e : End) → NamesTaken took a → FliesFrom own e.tracking.packets what value → LimitStands took own what value (after_named ps rises a e)
   named_flies [] rises a e takes i = inr (inr (inl i))
-  named_flies (p ∷ ps) rises a e takes i = go (names a number) refl
+  named_flies (p ∷ ps) rises a e takes i = by_marks rises (length (p ∷ ps)) a taken (LimitStands took own what value) (λ m marking. go (names a number) refl)
     where
       number : ℕ
       number = i.flies.sent.number
@@ -251,7 +252,10 @@ module _ (took : List Packet) (own : List Sent) (what : Limited) (value : ℕ) (
       o : Option TrackedPacket
       o = measured rises a (p ∷ ps)
 
-      go : (acked : Bool) → names a number ≡ acked → LimitStands took own what value (after_named (p ∷ ps) rises a e)
+      taken : End
+      taken = losses_taken (p ∷ ps) rises a e
+
+      go : (acked : Bool) → names a number ≡ acked → LimitStands took own what value taken
       go true on =
           let arrived = takes number on in
           let found = stands.taken arrived.packet arrived.was_taken in
@@ -315,7 +319,7 @@ module _ (took : List Packet) (own : List Sent) (what : Limited) (value : ℕ) (
   arrivals_stated e now n frames came takes i = record {
     ignored = λ reason. i;
     noted = λ state reason. record { knows = i.knows; stand = i.stand };
-    takes = λ state new none. record { knows = after.1.knows; stand = after.1.stand };
+    takes = λ state new none mark. record { knows = after.1.knows; stand = after.1.stand };
     refuses = λ state new f is. record { knows = after.1.knows; stand = after.1.stand };
   }
     where

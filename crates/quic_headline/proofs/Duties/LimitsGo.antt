@@ -483,9 +483,9 @@ call_stated took own what value p e theirs call a within apart other is i = go i
       on_messages = λ on answer. inr more;
       pings = inr more;
       heard = λ path same. inr more;
-      times = λ now acks loss pacing set. by_expired e now (λ (f : End). LimitStands took own what value f) (λ pending tracking timers runs packets.
-          inr (subst (λ (t : Table TrackedPacket). (limit_waits e.waiting.frames what ≡ true) ⊎ FliesFrom own t what value ⊎ LimitHasArrived took what value) (sym packets) more)) (λ pending timers runs. detected_more took own what value (with_closing e (ticked e.closing now)) more) acks loss pacing;
+      times = λ now expiry set. by_expired e now (λ (f : End). LimitStands took own what value f) (λ pending tracking timers runs packets.
+          inr (subst (λ (t : Table TrackedPacket). (limit_waits e.waiting.frames what ≡ true) ⊎ FliesFrom own t what value ⊎ LimitHasArrived took what value) (sym packets) more)) (λ pending timers runs. detected_more took own what value (with_closing e (ticked e.closing now)) more) expiry;
       polls = λ now set. cc;
-      hears = λ now d set. cc;
+      hears = λ arrival d set. cc;
       tells = λ asks. by_event e (λ (f : End). LimitStands took own what value f) (inr more) (λ told. inr more);
     })

@@ -33,12 +33,12 @@ use Rattle.quic_machine.specs.Tracking.{Tracking, TrackedPacket, Carried, carrie
 use Rattle.quic_machine.specs.End.{End, with_closing, streams_at, number_of}
 use Rattle.quic_machine.specs.Calls.{after_nexts, is_open}
 use Rattle.quic_machine.specs.StreamCalls.{IsStreamAnswer, if_ok, after_on_streams}
-use Rattle.quic_machine.specs.Acked.{without_known, reset_acked, resets_acked, stream_acked, streams_acked, packet_acked, packets_acked, stream_lost, streams_lost, carried_lost, packets_lost, verdict, losses_detected, measured, sampled, without_acked, after_named}
+use Rattle.quic_machine.specs.Acked.{without_known, reset_acked, resets_acked, stream_acked, streams_acked, packet_acked, packets_acked, stream_lost, streams_lost, carried_lost, packets_lost, verdict, losses_detected, measured, sampled, without_acked, after_named, losses_taken}
 use Rattle.quic_machine.specs.Receive.{is_above, names_ungiven, take_frame, Outcome}
 use Rattle.quic_machine.specs.Poll.{Polled, Draft, no_frames, ack_of, with_ping_frame, ping_if, with_control_frames, with_asking, with_ack, ack_fits, ack_if, composed_if, composed, asking, frame_room, lazied, packet_of, tracked, record_moved, polled, with_message, with_message_frames, goes, draft_if}
 use Rattle.quic_machine.specs.DraftLaws.{with_half_frame, by_streams, by_messages, due_alone}
 use Rattle.quic_machine.specs.PollCases.{ready_at, ready_leaves, draft_at, by_poll_to, composes}
-use Rattle.quic_machine.specs.FrameCases.{OnStreams, named, ack_taken, begun, passed, frames_leave}
+use Rattle.quic_machine.specs.FrameCases.{OnStreams, named, ack_taken, begun, passed, frames_leave, by_marks}
 use Rattle.quic_machine.specs.CallCases.{is_delivery, by_call}
 use Rattle.quic_machine.specs.LeaveCases.{by_expired, by_event}
 use Rattle.quic_machine.specs.Machine.{after_call}
@@ -184,7 +184,7 @@ module _ (took : List Packet) (id : ℕ) where
   named_stands (p ∷ ps) rises a e is was i =
       let o : Option TrackedPacket = measured rises a (p ∷ ps) in
       let left : End = without_acked (p ∷ ps) a e in
-      detected_stands (sampled o a left) (sampled_stands o a left (go i))
+      by_marks rises (length (p ∷ ps)) a (losses_taken (p ∷ ps) rises a e) (ResetStands took id) (λ m marking. detected_stands (sampled o a left) (sampled_stands o a left (go i)))
     where
       packets : Table TrackedPacket
       packets = e.tracking.packets
@@ -237,7 +237,7 @@ module _ (took : List Packet) (id : ℕ) where
 
     -- each case of a delivery
     pub arrivals_stand : (e : End) (now n : ℕ) (frames : List FrameValue) (came : Intake) → ((a : AckValue) → In (ack a) frames → NamesTaken took a) → AreTracked sents e.tracking.packets → ResetStands took id e → Arrivals e now n frames came (λ (o : Outcome) (j : Intake). ResetStands took id o.end)
-    arrivals_stand e now n frames came takes tracked i = record { ignored = λ reason. i; noted = λ state reason. i; takes = λ state new none. after; refuses = λ state new f is. after }
+    arrivals_stand e now n frames came takes tracked i = record { ignored = λ reason. i; noted = λ state reason. i; takes = λ state new none mark. after; refuses = λ state new f is. after }
       where
         after : ResetStands took id (arrived e now n frames).end
         after = frames_stand frames (begun e now n) takes tracked i
@@ -489,8 +489,8 @@ module _ (took : List Packet) (sents : List Sent) (id : ℕ) where
     on_messages = λ on answer. i;
     pings = i;
     heard = λ path same. i;
-    times = λ now acks loss pacing set. by_expired e now (ResetStands took id) (λ pending tracking timers runs packets. rw packets i) (λ pending timers runs. detected_stands took id (with_closing e (ticked e.closing now)) i) acks loss pacing;
+    times = λ now expiry set. by_expired e now (ResetStands took id) (λ pending tracking timers runs packets. rw packets i) (λ pending timers runs. detected_stands took id (with_closing e (ticked e.closing now)) i) expiry;
     polls = λ now set. polled_stands took sents id e now ascends were before new p (ready now) i;
-    hears = λ now d set. cc;
+    hears = λ arrival d set. cc;
     tells = λ asks. by_event e (ResetStands took id) i (λ told. i);
   })

@@ -1,8 +1,9 @@
 -- What was sent since the last datagram that asks asks for nothing: a packet that is forgotten carried nothing that has to reach the peer.
-use Rattle.std.proofs.Common.{◌≡◌, ℕ, ◌<◌, Bool, true, false, List, [], ◌∷◌, ◌++◌, Option, Some, None, refl, sym, ap, ◌∙◌, subst, inl, inr, arith}
+use Rattle.std.proofs.Common.{◌≡◌, ℕ, ◌<◌, Bool, true, false, List, [], ◌∷◌, ◌++◌, Option, Some, None, refl, sym, ap, ◌∙◌, subst, inl, inr, arith, length}
 use Rattle.std.proofs.lemmas.Bool.{le-ltb}
 use Rattle.quic_wire.specs.Value.{AckValue}
 use Rattle.quic_streams_parts.specs.Table.{Table}
+use Rattle.quic_machine.specs.Arrival.{Arrival}
 use Rattle.quic_machine.specs.declared.run.Call.{Call}
 use Rattle.quic_machine.specs.declared.run.Call.TheVariants as calls
 use Rattle.quic_machine.specs.declared.run.Answer.{Answer}
@@ -11,13 +12,13 @@ use Rattle.quic_machine.specs.Policy.{Policy}
 use Rattle.quic_machine.specs.Closing.{ticked}
 use Rattle.quic_machine.specs.Tracking.{Tracking, TrackedPacket, is_behind, asking_sent, acked_by}
 use Rattle.quic_machine.specs.End.{End, with_closing, with_loss_timer, number_of}
-use Rattle.quic_machine.specs.Acked.{measured, without_acked, after_named}
+use Rattle.quic_machine.specs.Acked.{measured, without_acked, after_named, losses_taken}
 use Rattle.quic_machine.specs.Receive.{received}
 use Rattle.quic_machine.specs.Poll.{Polled, Draft, asking, lazied, polled, goes, tracked}
 use Rattle.quic_machine.specs.PollCases.{ready_at, ready_leaves, draft_at, by_poll_to, composes}
-use Rattle.quic_machine.specs.Timeouts.{acks_expired, loss_judged, loss_expired, pacing_expired}
+use Rattle.quic_machine.specs.Timeouts.{Expiry, acks_expired, loss_judged, loss_expired, pacing_expired}
 use Rattle.quic_machine.specs.LeaveCases.{at_expiry}
-use Rattle.quic_machine.specs.FrameCases.{named, frame_keeps, frame_leaves, by_received}
+use Rattle.quic_machine.specs.FrameCases.{named, frame_keeps, frame_leaves, by_received, by_marks}
 use Rattle.quic_machine.specs.CallCases.{is_poll, by_plain_call}
 use Rattle.quic_machine.specs.Machine.{IsAnswer, after_call, fails, gave}
 use Rattle.quic_machine.specs.Control.{Gated}
@@ -74,10 +75,10 @@ Stays greatest e = e.tracking.greatest_asking ≡ greatest
 -- an ACK frame that names these leaves it
 named_stays : (greatest : Option ℕ) (ps : Table TrackedPacket) (rises : Bool) (a : AckValue) (e : End) → Stays greatest e → Stays greatest (after_named ps rises a e)
 named_stays greatest [] rises a e i = i
-named_stays greatest (p ∷ ps) rises a e i = ap (λ (t : Tracking). t.greatest_asking) (sampled_tracking (measured rises a (p ∷ ps)) a (without_acked (p ∷ ps) a e)) ∙ i
+named_stays greatest (p ∷ ps) rises a e i = by_marks rises (length (p ∷ ps)) a (losses_taken (p ∷ ps) rises a e) (Stays greatest) (λ m marking. ap (λ (t : Tracking). t.greatest_asking) (sampled_tracking (measured rises a (p ∷ ps)) a (without_acked (p ∷ ps) a e)) ∙ i)
 
 -- so does whatever comes
-received_stays : (greatest : Option ℕ) (p : Policy) (e : End) (now : ℕ) (d : List ℕ) → Stays greatest e → Stays greatest (received p e now d).end
+received_stays : (greatest : Option ℕ) (p : Policy) (e : End) (arrival : Arrival) (d : List ℕ) → Stays greatest e → Stays greatest (received p e arrival d).end
 received_stays greatest = by_received (Stays greatest) (record {
   notes = λ n x i. i;
   begins = λ now n x i. i;
@@ -86,13 +87,13 @@ received_stays greatest = by_received (Stays greatest) (record {
     on_streams = λ f x on i. frame_leaves (Stays greatest) f x on (λ streams. i);
     message = λ m x i. i;
   });
-  takes = λ n asks x i. i;
+  takes = λ n asks mark x i. i;
   closes = λ reason x i. i;
 })
 
 -- and timers that expire
-expired_stays : (e : End) (now : ℕ) (acks loss pacing : Bool) → Stays e.tracking.greatest_asking (at_expiry e now acks loss pacing)
-expired_stays e now acks loss pacing = after acks pacing (loss_expired loss begins) (expires loss)
+expired_stays : (e : End) (now : ℕ) (expiry : Expiry) → Stays e.tracking.greatest_asking (at_expiry e now expiry)
+expired_stays e now expiry = after expiry.acks expiry.pacing (loss_expired expiry.loss begins) (expires expiry.loss)
   where
     begins : End
     begins = with_closing e (ticked e.closing now)
@@ -119,9 +120,9 @@ other_stays p e theirs call a apart = by_plain_call p e theirs (Stays e.tracking
   on_messages = λ m. refl;
   pings = refl;
   heard = λ path same. refl;
-  times = λ now acks loss pacing is. expired_stays e now acks loss pacing;
+  times = λ now expiry is. expired_stays e now expiry;
   polls = λ now is. cc;
-  hears = λ now d is. received_stays e.tracking.greatest_asking p e now d refl;
+  hears = λ arrival d is. received_stays e.tracking.greatest_asking p e arrival d refl;
   tells = λ told. refl;
 })
 

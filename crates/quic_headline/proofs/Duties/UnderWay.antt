@@ -1,5 +1,5 @@
 -- What of an end's streams is in flight stands in a packet that it tracks: each call keeps that.
-use Rattle.std.proofs.Common.{◌≡◌, ℕ, Bool, true, false, not, List, [], ◌∷◌, ◌++◌, Option, Some, None, refl, sym, ap, ◌∙◌, subst, ◌⊎◌, inl, inr}
+use Rattle.std.proofs.Common.{◌≡◌, ℕ, Bool, true, false, not, List, [], ◌∷◌, ◌++◌, Option, Some, None, refl, sym, ap, ◌∙◌, subst, ◌⊎◌, inl, inr, length}
 use Rattle.std.proofs.lemmas.Bool.{or_parts}
 use Rattle.quic_wire.specs.Value.{FrameValue, AckValue, ack, ping, stream, reset_stream, stop_sending, max_data, max_stream_data, max_streams, asks, datagram}
 use Rattle.quic_send_buffer.specs.declared.stream_meta.StreamMeta.{StreamMeta}
@@ -19,12 +19,12 @@ use Rattle.quic_machine.specs.Tracking.{Tracking, TrackedPacket, Carried, dir_na
 use Rattle.quic_machine.specs.End.{End, with_closing, streams_at, number_of}
 use Rattle.quic_machine.specs.Calls.{is_open}
 use Rattle.quic_machine.specs.StreamCalls.{is_on_streams}
-use Rattle.quic_machine.specs.Acked.{without_known, resets_acked, stream_acked, streams_acked, packet_acked, packets_acked, stream_lost, streams_lost, carried_lost, packets_lost, verdict, losses_detected, measured, sampled, without_acked, after_named}
+use Rattle.quic_machine.specs.Acked.{without_known, resets_acked, stream_acked, streams_acked, packet_acked, packets_acked, stream_lost, streams_lost, carried_lost, packets_lost, verdict, losses_detected, measured, sampled, without_acked, after_named, losses_taken}
 use Rattle.quic_machine.specs.Receive.{is_above, names_ungiven, take_frame, Outcome}
 use Rattle.quic_machine.specs.Poll.{Polled, Draft, ack_of, asking, lazied, packet_of, tracked, polled, goes, draft_if}
 use Rattle.quic_machine.specs.DraftLaws.{by_leave, due_alone}
 use Rattle.quic_machine.specs.PollCases.{ready_at, ready_leaves, draft_at, by_poll_to, composes}
-use Rattle.quic_machine.specs.FrameCases.{OnStreams, named, ack_taken, begun, passed, resets_acked_keep, frames_leave}
+use Rattle.quic_machine.specs.FrameCases.{OnStreams, named, ack_taken, begun, passed, resets_acked_keep, frames_leave, by_marks}
 use Rattle.quic_machine.specs.CallCases.{is_delivery, by_call}
 use Rattle.quic_machine.specs.LeaveCases.{by_expired, by_event}
 use Rattle.quic_machine.specs.Machine.{IsAnswer, after_call}
@@ -157,7 +157,7 @@ module _ (done : ℕ → Wrote) where
       let few : TrackedEnds (without_acked (p ∷ ps) a e).tracking.packets = (λ q j. ends q (in_filter (λ r. not (names a r.0)) q packets j)) in
       let o : Option TrackedPacket = measured rises a (p ∷ ps) in
       let timed = sampled_fly o a (without_acked (p ∷ ps) a e) (few, acked) in
-      detected_fly (sampled o a (without_acked (p ∷ ps) a e)) timed.0 timed.1
+      by_marks rises (length (p ∷ ps)) a (losses_taken (p ∷ ps) rises a e) (Fly done) (λ m marking. detected_fly (sampled o a (without_acked (p ∷ ps) a e)) timed.0 timed.1)
 
   -- ---- frames on streams
 
@@ -210,7 +210,7 @@ module _ (done : ℕ → Wrote) where
 
   -- each case of a delivery
   pub arrivals_fly : (e : End) (now n : ℕ) (frames : List FrameValue) (came : Intake) → ((f : FrameValue) → In f frames → IsSmallLimit f) → TrackedEnds e.tracking.packets → Fly done e → Arrivals e now n frames came (λ (o : Outcome) (j : Intake). Fly done o.end)
-  arrivals_fly e now n frames came small ends i = record { ignored = λ reason. i; noted = λ state reason. i; takes = λ state new none. after; refuses = λ state new f is. after }
+  arrivals_fly e now n frames came small ends i = record { ignored = λ reason. i; noted = λ state reason. i; takes = λ state new none mark. after; refuses = λ state new f is. after }
     where
       after : Fly done (arrived e now n frames).end
       after = frames_fly frames (begun e now n) small ends i
@@ -334,8 +334,8 @@ call_fly done sents p e theirs call a apart is ascends were before new ends i = 
       on_messages = λ on answer. i;
       pings = i;
       heard = λ path same. i;
-      times = λ now acks loss pacing set. by_expired e now (Fly done) (λ pending tracking timers runs packets. subst (λ (t : Table TrackedPacket). AllFly (InPackets t) done e.streams) (sym packets) i) (λ pending timers runs. detected_fly done (with_closing e (ticked e.closing now)) ends i) acks loss pacing;
+      times = λ now expiry set. by_expired e now (Fly done) (λ pending tracking timers runs packets. subst (λ (t : Table TrackedPacket). AllFly (InPackets t) done e.streams) (sym packets) i) (λ pending timers runs. detected_fly done (with_closing e (ticked e.closing now)) ends i) expiry;
       polls = λ now set. polled_fly done sents e now ascends were before new p i;
-      hears = λ now d set. cc;
+      hears = λ arrival d set. cc;
       tells = λ asks. by_event e (Fly done) i (λ told. by_polled (AllFly F done) (fly_kept F done) e.streams i);
     }))

@@ -169,6 +169,7 @@ settles = record {
   again = λ c e w. waits_told (IsListed e.waiting.frames.max_stream_data) _ w.each (told_merged e.streams e.waiting.frames c.retransmits (told_of_waits (streams_at e) w));
   tracked = λ t e w. w;
   measured = λ r first e w. w;
+  marked = λ m marking e w. w;
 }
 
 -- one on streams
@@ -324,9 +325,9 @@ call_grown p e theirs call a within apart is w = by_call p e theirs (λ (f : End
   on_messages = λ on answer. w;
   pings = w;
   heard = λ path same. w;
-  times = λ now acks loss pacing set. by_expired e now (λ (f : End). Waits (streams_at f)) (λ pending tracking timers runs packets. w) (λ pending timers runs. losses_keep (λ (f : End). Waits (streams_at f)) settles (with_closing e (ticked e.closing now)) w) acks loss pacing;
+  times = λ now expiry set. by_expired e now (λ (f : End). Waits (streams_at f)) (λ pending tracking timers runs packets. w) (λ pending timers runs. losses_keep (λ (f : End). Waits (streams_at f)) settles (with_closing e (ticked e.closing now)) w) expiry;
   polls = λ now set. poll_streams Waits p e now composed_waits w (ready_streams Waits e now w (λ n t among. settles.again t.carried e w));
-  hears = λ now d set. cc;
+  hears = λ arrival d set. cc;
   tells = λ asks. by_event e (λ (f : End). Waits (streams_at f)) w (λ told.
       (let ids : List ℕ = e.waiting.frames.max_stream_data in
       waits_of ids _ (polled_keeps (Flagged ids) (decides ids) e.streams e.waiting.frames (flags_of (streams_at e) w)) ((quiet (IsListed ids)).polls e.streams w.each)));

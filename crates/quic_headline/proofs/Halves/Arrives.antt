@@ -78,4 +78,5 @@ settles_leave done took sents taken sent = record {
   again = λ c e was w. again_leaves done e w c (sent c was);
   tracked = λ t e w. w;
   measured = λ r first e w. w;
+  marked = λ m marking e w. w;
 }

@@ -160,6 +160,7 @@ settling = record {
   again = λ carried e i. i;
   tracked = λ t e i. i;
   measured = λ r first e i. i;
+  marked = λ m marking e i. i;
 }
 
 -- a frame with a small limit
@@ -179,7 +180,7 @@ small_arrivals : (e : End) (now n : ℕ) (frames : List FrameValue) (came : Inta
 small_arrivals e now n frames came small i = record {
   ignored = λ reason. i;
   noted = λ state reason. i;
-  takes = λ state new none. small_frames frames (begun e now n) small i;
+  takes = λ state new none mark. small_frames frames (begun e now n) small i;
   refuses = λ state new f is. small_frames frames (begun e now n) small i;
 }
 

@@ -125,12 +125,13 @@ module _ (took : List Packet) (sents : List Sent) (stands : Stands took sents) (
     again = λ c e was i. i;
     tracked = λ t e i. i;
     measured = λ r first e i. i;
+    marked = λ m marking e i. i;
   }
 
   -- so do all frames of a packet, taken or refused, whose ACK frames name packets that were taken
   pub finished_arrivals : (e : End) (now n : ℕ) (frames : List FrameValue) (came : Intake) → ((a : AckValue) → In (ack a) frames → NamesTaken took a) → ((f : FrameValue) → In f frames → IsSmallLimit f) → AreTracked sents e.tracking.packets → Holds e
       → Arrivals e now n frames came (λ (o : Outcome) (i : Intake). Holds o.end)
-  finished_arrivals e now n frames came names small tracked i = record { ignored = λ reason. i; noted = λ state reason. i; takes = λ state new none. after; refuses = λ state new f is. after }
+  finished_arrivals e now n frames came names small tracked i = record { ignored = λ reason. i; noted = λ state reason. i; takes = λ state new none mark. after; refuses = λ state new f is. after }
     where
       after : Holds (frames_arrived e now n frames).end
       after = frames_settle took sents stands frames Holds (record {

@@ -1,5 +1,5 @@
 -- What comes and what goes leave a pile of RESET_STREAM and STOP_SENDING: those that wait, and those that tracked packets carried.
-use Rattle.std.proofs.Common.{◌≡◌, ℕ, ◌+◌, ◌≤◌, ◌==◌, Bool, true, false, not, cond, List, [], ◌∷◌, ◌++◌, filter, Option, Some, None, refl, sym, ap, subst, inl, inr, arith}
+use Rattle.std.proofs.Common.{◌≡◌, ℕ, ◌+◌, ◌≤◌, ◌==◌, Bool, true, false, not, cond, List, [], ◌∷◌, ◌++◌, filter, Option, Some, None, refl, sym, ap, subst, inl, inr, arith, length}
 use Rattle.std.specs.Prelude.{if◌then◌else◌}
 use Rattle.std.specs.Option.{is_some}
 use Rattle.std.proofs.lemmas.Bool.{eq-eqb}
@@ -16,12 +16,13 @@ use Rattle.quic_streams_state.specs.State.{Streams}
 use Rattle.quic_streams_state.specs.Taking as taking
 use Rattle.quic_streams_state.specs.Acked.{sent_half, acked_at, after_stream_acked, reset_acked_at, after_reset_acked}
 use Rattle.quic_streams_laws.specs.KeepingLaws.{by_stream, by_reset_frame, by_stop_sending, by_max_data_where, by_max_stream_data, by_max_streams, by_stream_lost, by_stream_acked_where, by_reset_acked_where}
+use Rattle.quic_machine.specs.Arrival.{Arrival}
 use Rattle.quic_machine.specs.Policy.{Policy}
 use Rattle.quic_machine.specs.Tracking.{TrackedPacket, Carried, dir_named, acked_by, not_acked_by, is_lost, lost_by, kept_by}
-use Rattle.quic_machine.specs.End.{End, with_streams}
-use Rattle.quic_machine.specs.Acked.{without_known, reset_acked, resets_acked, stream_acked, streams_acked, packet_acked, packets_acked, stream_lost, streams_lost, again, carried_lost, packets_lost, verdict, losses_detected, measured, sampled, without_acked, after_named}
+use Rattle.quic_machine.specs.End.{End, with_streams, with_told, with_marking}
+use Rattle.quic_machine.specs.Acked.{without_known, reset_acked, resets_acked, stream_acked, streams_acked, packet_acked, packets_acked, stream_lost, streams_lost, again, carried_lost, packets_lost, verdict, losses_detected, measured, sampled, without_acked, after_named, losses_taken}
 use Rattle.quic_machine.specs.Receive.{take_frame, received}
-use Rattle.quic_machine.specs.FrameCases.{OnStreams, named, frame_keeps, by_received}
+use Rattle.quic_machine.specs.FrameCases.{OnStreams, named, frame_keeps, by_received, by_marks}
 use Rattle.quic_headline.specs.Runs.{In, names}
 use Rattle.quic_headline.proofs.Packets.MayGo.{WasReset}
 use Rattle.quic_headline.proofs.Packets.Named.{in_filter}
@@ -243,7 +244,8 @@ named_step (p ∷ ps) rises a e is h =
     let o = measured rises a (p ∷ ps) in
     let left : End = without_acked (p ∷ ps) a e in
     let found : End = losses_detected (sampled o a left) in
-    again_all found (after_named (p ∷ ps) rises a e) refl refl refl (losses_hold (sampled o a left) (sampled_hold o a left (acked_step (p ∷ ps) a e is h)))
+    let taken : End = losses_taken (p ∷ ps) rises a e in
+    by_marks rises (length (p ∷ ps)) a taken HoldsAll (λ m marking. again_all found (with_marking (with_told taken m) marking) refl refl refl (losses_hold (sampled o a left) (sampled_hold o a left (acked_step (p ∷ ps) a e is h))))
 
 -- ---- frames that come
 
@@ -284,7 +286,7 @@ frame_step (max_streams f) e on h = all_on e _ (λ r u. by_max_streams (InUse r)
 frame_step f e on h = absurd on
 
 -- whatever comes
-pub received_holds : (p : Policy) (e : End) (now : ℕ) (d : List ℕ) → HoldsAll e → HoldsAll (received p e now d).end
+pub received_holds : (p : Policy) (e : End) (arrival : Arrival) (d : List ℕ) → HoldsAll e → HoldsAll (received p e arrival d).end
 received_holds = by_received HoldsAll (record {
   notes = λ n e h. again_all e _ refl refl refl h;
   begins = λ now n e h. again_all e _ refl refl refl h;
@@ -293,6 +295,6 @@ received_holds = by_received HoldsAll (record {
     on_streams = λ f e on h. frame_step f e on h;
     message = λ m e h. again_all e _ refl refl refl h;
   });
-  takes = λ n asks e h. again_all e _ refl refl refl h;
+  takes = λ n asks mark e h. again_all e _ refl refl refl h;
   closes = λ reason e h. again_all e _ refl refl refl h;
 })

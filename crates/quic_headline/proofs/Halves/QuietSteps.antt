@@ -124,6 +124,7 @@ module _ (P : StreamsState → Type 0) (q : IsQuiet P) where
     again = λ carried e i. i;
     tracked = λ t e i. i;
     measured = λ r first e i. i;
+    marked = λ m marking e i. i;
   }
 
   -- ---- any call by which nothing comes and nothing is read
@@ -136,9 +137,9 @@ module _ (P : StreamsState → Type 0) (q : IsQuiet P) where
     on_messages = λ on answer. i;
     pings = i;
     heard = λ path same. i;
-    times = λ now acks loss pacing set. by_expired e now (λ (f : End). P f.streams) (λ pending tracking timers runs packets. i) (λ pending timers runs. losses_keep (λ (x : End). P x.streams) settles (with_closing e (ticked e.closing now)) i) acks loss pacing;
+    times = λ now expiry set. by_expired e now (λ (f : End). P f.streams) (λ pending tracking timers runs packets. i) (λ pending timers runs. losses_keep (λ (x : End). P x.streams) settles (with_closing e (ticked e.closing now)) i) expiry;
     polls = λ now set. poll_quiet p e now i;
-    hears = λ now d set. cc;
+    hears = λ arrival d set. cc;
     tells = λ asks. by_event e (λ (f : End). P f.streams) i (λ told. q.polls e.streams i);
   })
 

@@ -62,7 +62,7 @@ holds_arrivals : (side : Side) (done : ℕ → Wrote) (r : ℕ → Reads) (accep
 holds_arrivals side done r accepted e now n frames i says h = record {
   ignored = λ reason. h;
   noted = λ state reason. record { reads = h.reads; accepted_are = h.accepted_are; brought = h.brought };
-  takes = λ state new none. record {
+  takes = λ state new none mark. record {
     reads = frames_read done r frames (begun e now n) says h.reads;
     accepted_are = frames_accepted accepted frames (begun e now n) h.accepted_are;
     brought = frames_bring side (WasIn i.took) (WasIn (with_taken i n frames).took) frames (begun e now n) among none h.brought;
@@ -140,7 +140,7 @@ module _ (B : Way) (w : IsWriting B) where
         comes = λ delivery is s among. (let cases = holds_arrivals x.side (wrote y.told) (read x.told) (λ id. In id (accepts x.told)) x.end delivery.now s.number s.frames (came_to x y) (w.says y x c.takes s among) before in record {
           ignored = λ reason. at_once delivery _ _ is (cases.ignored reason);
           noted = λ closing reason. at_once delivery _ _ is (cases.noted closing reason);
-          takes = λ open_there new none. at_once delivery _ _ is (cases.takes open_there new none);
+          takes = λ open_there new none mark. at_once delivery _ _ is (cases.takes open_there new none mark);
           refuses = λ open_there new f fault. at_once delivery _ _ is (cases.refuses open_there new f fault);
         });
       })

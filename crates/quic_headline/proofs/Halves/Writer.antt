@@ -137,9 +137,9 @@ module _ (p : Policy) (e : End) (theirs : List (List ℕ)) (done : ℕ → Wrote
     on_messages = λ on answer. w;
     pings = w;
     heard = λ path same. w;
-    times = λ now acks loss pacing set. by_expired e now (λ (f : End). Writes done (streams_at f)) (λ pending tracking timers runs packets. w) (λ pending timers runs. expiry_stays (Writes done) e now (losing says) w pending timers) acks loss pacing;
+    times = λ now expiry set. by_expired e now (λ (f : End). Writes done (streams_at f)) (λ pending tracking timers runs packets. w) (λ pending timers runs. expiry_stays (Writes done) e now (losing says) w pending timers) expiry;
     polls = λ now set. poll_writes says now;
-    hears = λ now d set. absurd (off_streams (is_delivery call) apart set);
+    hears = λ arrival d set. absurd (off_streams (is_delivery call) apart set);
     tells = λ asks. by_event e (λ (f : End). Writes done (streams_at f)) w (λ told. record { keeps = by_polled (Keeping done) (keeping_kept done) e.streams w.keeps; waits = w.waits });
   }))
 
@@ -164,7 +164,7 @@ module _ (x y : Party) (p : PacketsHold x y) (back : PacketsHold y x) (say : Say
   arrivals_write now s among = record {
     ignored = λ reason. w;
     noted = λ state reason. w;
-    takes = λ state new none. (let a = passed_writes in record { keeps = a.keeps; waits = a.waits });
+    takes = λ state new none mark. (let a = passed_writes in record { keeps = a.keeps; waits = a.waits });
     refuses = λ state new f is. (let a = passed_writes in record { keeps = a.keeps; waits = a.waits });
   }
     where

@@ -1,11 +1,12 @@
 -- Behind a poll that gave nothing and left its end open: what its end still has to give is held back, as the view shows.
-use Rattle.std.proofs.Common.{◌≡◌, ℕ, zero, suc, ◌+◌, ◌<◌, ◌≤◌, true, List, [], ◌∷◌, ◌++◌, take, Option, Some, None, Ok, Err, refl, sym, ap, ◌∙◌, subst, ◌⊎◌, inl, inr, arith}
-use Rattle.std.specs.Prelude.{slice_get}
-use Rattle.std.proofs.lemmas.Bool.{leb-true}
+use Rattle.std.proofs.Common.{◌≡◌, ℕ, zero, suc, ◌+◌, ◌<◌, ◌≤◌, true, false, List, [], ◌∷◌, ◌++◌, take, Option, Some, None, Ok, Err, refl, sym, ap, ◌∙◌, subst, ◌⊎◌, inl, inr, arith}
+use Rattle.std.specs.Prelude.{slice_get, not, ◌&&◌}
+use Rattle.std.proofs.lemmas.Bool.{leb-true, or_parts}
 use Rattle.quic_wire_core.specs.declared.stream_id.Side.{Side}
 use Rattle.quic_wire_core.specs.declared.stream_id.Side.TheVariants.{Client, Server}
 use Rattle.quic_wire_core.specs.StreamId.{other_side}
 use Rattle.quic_time.specs.Timers.{each_timer}
+use Rattle.quic_recovery_core.specs.PendingAcks.{can_send}
 use Rattle.quic_congestion.specs.Congestion.{Told}
 use Rattle.quic_machine.specs.declared.answers.State.TheVariants as states
 use Rattle.quic_machine.specs.declared.run.RunEvent.{RunEvent}
@@ -14,9 +15,10 @@ use Rattle.quic_machine.specs.declared.run.Call.TheVariants as calls
 use Rattle.quic_machine.specs.declared.run.Answer.{Answer}
 use Rattle.quic_machine.specs.declared.run.Answer.TheVariants as answers
 use Rattle.quic_machine.specs.declared.run.View.{View}
+use Rattle.quic_machine.specs.Parts.{current_mtu}
 use Rattle.quic_machine.specs.Policy.{Policy}
 use Rattle.quic_machine.specs.End.{End, with_window}
-use Rattle.quic_machine.specs.Control.{Control, after_told, bytes_in_flight, is_window_full}
+use Rattle.quic_machine.specs.Control.{Control, Gated, after_told, bytes_in_flight, is_window_full}
 use Rattle.quic_machine.specs.Poll.{Polled, asks_to_go, rests, polled, told_polled}
 use Rattle.quic_machine.specs.PollCases.{ready_at}
 use Rattle.quic_machine.specs.Machine.{World, Policies, IsStep, Follows, policy_at, end_at, control_at, view_of}
@@ -24,7 +26,7 @@ use Rattle.quic_headline.specs.Runs.{Run, LeadsTo}
 use Rattle.quic_headline.specs.Observer.{Watch, watch}
 use Rattle.quic_headline.specs.Moments.{timers_in}
 use Rattle.quic_headline.specs.Headline.{IsHonest}
-use Rattle.quic_headline.specs.Polls.{window_in, pacing_timer, GaveNothing, bytes_flying, size_at, IsFull, IsPaced, IsHeldBack}
+use Rattle.quic_headline.specs.Polls.{window_in, mtu_in, pacing_timer, GaveNothing, bytes_flying, IsFull, IsPaced, IsHeldBack}
 use Rattle.quic_headline.proofs.Packets.Group.{PacketsHold}
 use Rattle.quic_headline.proofs.Packets.Sight.{Sight}
 use Rattle.quic_headline.proofs.Places.Parties.{Party, watch_of}
@@ -66,9 +68,14 @@ last_step k (suc i) w end (e ∷ events) (b ∷ answers) (v ∷ views) event a a
 -- ---- what a view shows
 
 -- the window that a controller shows
-window_shown : (side : Side) (w : World) → window_in (view_of w) side ≡ Some (control_at side w [])
+pub window_shown : (side : Side) (w : World) → window_in (view_of w) side ≡ control_at side w []
 window_shown Client w = refl
 window_shown Server w = refl
+
+-- and how many bytes a datagram has
+mtu_shown : (side : Side) (w : World) → mtu_in (view_of w) side ≡ current_mtu (end_at side w).path
+mtu_shown Client w = refl
+mtu_shown Server w = refl
 
 -- a poll that gave nothing was answered so by the machine
 none_answered : (r : Polled) → (answers.Poll (Ok None) ≡ answers.Poll r.answer) ⊎ (answers.Poll (Ok None) ≡ answers.Poll (Err (record {}))) → r.answer ≡ Ok None
@@ -103,13 +110,23 @@ module _ (r : Run) (side : Side) (i now : ℕ) (v : View) (w : World) (leads : L
   at_rest : end_at side w ≡ rests (ready_at met now)
   at_rest = left ∙ still.leaves
 
+  -- and no acknowledgement is due
+  pub none_due : can_send (end_at side w).acknowledging ≡ false
+  none_due =
+      let g : Gated = ready_at met now in
+      ap (λ (e : End). can_send e.acknowledging) at_rest ∙ (or_parts (can_send g.end.acknowledging) (not g.held && asks_to_go g.end) still.none).0
+
   -- the view shows the window that it read
-  pub window_at : window_in v side ≡ Some (end_at side w).path.window
+  pub window_at : window_in v side ≡ (end_at side w).path.window
   window_at =
       let told : control_at side w ≡ after_told (control_at side last.before) (told_polled met now) = last.step.control in
       let shows : control_at side w [] ≡ control_at side last.before [] = ap (λ (c : Control). c []) told ∙ ap (λ (ts : List Told). control_at side last.before (ts ++ [])) (quiet_tells policy met now still) in
       let read : (end_at side w).path.window ≡ control_at side last.before [] = ap (λ (e : End). e.path.window) left ∙ quiet_window policy met now still in
-      ap (λ (u : View). window_in u side) (shown r w i v leads g.shown) ∙ window_shown side w ∙ ap (λ (n : ℕ). Some n) (shows ∙ sym read)
+      ap (λ (u : View). window_in u side) (shown r w i v leads g.shown) ∙ window_shown side w ∙ shows ∙ sym read
+
+  -- how many bytes a datagram has
+  pub mtu_at : mtu_in v side ≡ current_mtu (end_at side w).path
+  mtu_at = ap (λ (u : View). mtu_in u side) (shown r w i v leads g.shown) ∙ mtu_shown side w
 
   -- and the timer of its pacer
   pub pacing_at : pacing_timer v side ≡ Some (end_at side w).timers.pacing
@@ -139,13 +156,14 @@ module _ (G : Way) (b : SaysWhatFlies G) (r : Run) (end : World) (honest : IsHon
   abbrev seen : Placed Sight r end side (suc i)
   seen = placed_less G Sight r end side (suc i) b.sight at
 
-  -- the end has as many bytes in flight as its observer counts, and its datagrams have the size that they began with
+  -- the end has as many bytes in flight as its observer counts
   when_full : is_window_full x.end ≡ true → IsFull r side (suc i) v
   when_full is =
       let bytes : bytes_in_flight x.end ≡ bytes_flying r side (suc i) = bytes_at r end honest side (suc i) seen opened in
-      let size : x.end.path.size ≡ size_at r side = (b.packets x y at.gives).size in
-      let most = leb-true x.end.path.window (bytes_in_flight x.end + x.end.path.size) is in
-      record { window = x.end.path.window; shown = window_at r side i now v at.world at.leads g; full = omega arith }
+      let window : window_in v side ≡ x.end.path.window = window_at r side i now v at.world at.leads g in
+      let size : mtu_in v side ≡ current_mtu x.end.path = mtu_at r side i now v at.world at.leads g in
+      let most = leb-true x.end.path.window (bytes_in_flight x.end + current_mtu x.end.path) is in
+      omega arith
 
   -- the clock of the end is its observer's
   when_paced : (moment : ℕ) → x.end.timers.pacing ≡ Some moment → x.end.closing.clock < moment → IsPaced r side (suc i) v

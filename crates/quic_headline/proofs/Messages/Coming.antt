@@ -119,7 +119,7 @@ comes_arrivals : (e : End) (now : ℕ) (s : Sent) (i : Intake) (sents : List Sen
 comes_arrivals e now s i sents told among before = record {
   ignored = λ reason. before;
   noted = λ state reason. record { most = before.most };
-  takes = λ state new none. record { most = brought new };
+  takes = λ state new none mark. record { most = brought new };
   refuses = λ state new f is. record { most = brought new };
 }
   where

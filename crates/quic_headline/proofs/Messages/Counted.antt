@@ -5,7 +5,7 @@ use Rattle.std.proofs.lemmas.Bool.{or_parts, or_from, eq-eqb}
 use Rattle.std.proofs.lemmas.List.{append_assoc}
 use Rattle.std.proofs.lemmas.List.Sums.{sum_by-append}
 use Rattle.quic_wire.specs.Value.{FrameValue, padding, datagram}
-use Rattle.quic_spaces.specs.Numbers.{duplicate_span}
+use Rattle.quic_recovery_core.specs.Duplicates.{duplicate_span}
 use Rattle.quic_messages.specs.declared.limits.DatagramLimits.{DatagramLimits}
 use Rattle.quic_messages.specs.Messages.{Messages, bytes_of, oldest, left_for, with_message, after_received}
 use Rattle.quic_messages.specs.Sending.{send_answer, after_send}

@@ -2,6 +2,8 @@
 use Rattle.std.proofs.Common.{◌≡◌, ℕ, ◌+◌, ◌-◌, ◌≤◌, false, List, [], ◌∷◌, ◌++◌, length, replicate, Option, Some, None, Ok, refl, sym, ap, ◌∙◌, subst, arith, Bool, true}
 use Rattle.std.specs.Prelude.{slice_get}
 use Rattle.std.proofs.lemmas.List.{append_assoc, append-nil}
+use Rattle.quic_machine.specs.Arrival.{delivered_by}
+use Rattle.quic_machine.specs.declared.run.Delivery.{Delivery}
 use Rattle.quic_packet.specs.Number.{truncated}
 use Rattle.quic_wire.specs.Value.{FrameValue, padding, ping, ack, stream, datagram}
 use Rattle.quic_streams_parts.specs.SendHalf.{frame_of}
@@ -74,15 +76,15 @@ drafted m held e alone = by_leave (Same m e) (record {
 }) held e alone (let none = often_none m in omega arith)
 
 -- what comes leaves the messages that wait to go
-delivery_leaves : (p : Policy) (e : End) (now : ℕ) (o : Option (List ℕ)) → (after_delivered p e now o).messages.queues.outgoing ≡ e.messages.queues.outgoing
-delivery_leaves p e now None = refl
-delivery_leaves p e now (Some d) = by_received (λ (f : End). f.messages.queues.outgoing ≡ e.messages.queues.outgoing) (record {
+delivery_leaves : (p : Policy) (e : End) (delivery : Delivery) (o : Option (List ℕ)) → (after_delivered p e delivery o).messages.queues.outgoing ≡ e.messages.queues.outgoing
+delivery_leaves p e delivery None = refl
+delivery_leaves p e delivery (Some d) = by_received (λ (f : End). f.messages.queues.outgoing ≡ e.messages.queues.outgoing) (record {
   notes = λ n x same. same;
   begins = λ moment n x same. same;
   frame = λ f x same. frame_messages (λ (q : Messages). q.outgoing ≡ e.messages.queues.outgoing) f x same (λ y is. received_leaves x.transport.datagram_receive_buffer_size y x.messages.queues ∙ same);
-  takes = λ n asks x same. same;
+  takes = λ n asks mark x same. same;
   closes = λ reason x same. same;
-}) p e now d refl
+}) p e (delivered_by delivery) d refl
 
 -- ---- any call
 
@@ -138,7 +140,7 @@ module _ (m : List ℕ) where
   goes_call p e theirs calls.Recv a is served = quiet_goes e.messages.queues.outgoing e.messages.queues.outgoing [] refl
   goes_call p e theirs (calls.Deliver delivery) a is served =
       let o : Option (List ℕ) = slice_get theirs delivery.index in
-      quiet_goes (after_delivered p e delivery.now o).messages.queues.outgoing e.messages.queues.outgoing [] (delivery_leaves p e delivery.now o)
+      quiet_goes (after_delivered p e delivery o).messages.queues.outgoing e.messages.queues.outgoing [] (delivery_leaves p e delivery o)
   goes_call p e theirs call a is served =
       quiet_goes (after_call p e theirs call a).messages.queues.outgoing e.messages.queues.outgoing []
       (call_messages (λ (q : Messages). q.outgoing ≡ e.messages.queues.outgoing) p e theirs call a refl refl refl refl)

@@ -18,7 +18,7 @@ use Rattle.quic_machine.specs.CallCases.{is_delivery, is_poll, by_call}
 module _ (P : Messages → Type 0) where
   -- packets that are acknowledged or lost
   settles : Settling (λ (f : End). P f.messages.queues)
-  settles = record { known = λ n x p. p; reset = λ id x p. p; acked = λ m x p. p; lost = λ m x p. p; again = λ c x p. p; tracked = λ t x p. p; measured = λ r first x p. p }
+  settles = record { known = λ n x p. p; reset = λ id x p. p; acked = λ m x p. p; lost = λ m x p. p; again = λ c x p. p; tracked = λ t x p. p; measured = λ r first x p. p; marked = λ m marking x p. p }
 
   -- what holds of the messages, and where one more is taken, holds behind a frame
   pub frame_messages : (f : FrameValue) (e : End) → P e.messages.queues → ((m : List ℕ) → f ≡ datagram m → P (after_received e.transport.datagram_receive_buffer_size m e.messages.queues)) → P (take_frame f e).end.messages.queues
@@ -42,8 +42,8 @@ module _ (P : Messages → Type 0) where
     on_messages = λ on answer. cc;
     pings = same;
     heard = λ path is. same;
-    times = λ now acks loss pacing set. by_expired e now (λ (f : End). P f.messages.queues) (λ pending tracking timers runs packets. same) (λ pending timers runs. losses_keep (λ (f : End). P f.messages.queues) settles (with_closing e (ticked e.closing now)) same) acks loss pacing;
+    times = λ now expiry set. by_expired e now (λ (f : End). P f.messages.queues) (λ pending tracking timers runs packets. same) (λ pending timers runs. losses_keep (λ (f : End). P f.messages.queues) settles (with_closing e (ticked e.closing now)) same) expiry;
     polls = λ now set. cc;
-    hears = λ now d set. cc;
+    hears = λ arrival d set. cc;
     tells = λ asks. by_event e (λ (f : End). P f.messages.queues) same (λ told. same);
   })

@@ -1,5 +1,5 @@
 -- The tracked packets stand by ascending numbers, whatever comes and whatever call is made.
-use Rattle.std.proofs.Common.{◌≡◌, ℕ, ◌+◌, ◌<◌, ◌≤◌, Bool, true, false, not, cond, List, [], ◌∷◌, ◌++◌, map, filter, Option, Some, None, refl, sym, ap, ◌∙◌, subst, inl, inr, arith}
+use Rattle.std.proofs.Common.{◌≡◌, ℕ, ◌+◌, ◌<◌, ◌≤◌, Bool, true, false, not, cond, List, [], ◌∷◌, ◌++◌, map, filter, Option, Some, None, refl, sym, ap, ◌∙◌, subst, inl, inr, arith, length}
 use Rattle.std.specs.Ordering.{nat_cmp, is_eq, match_ordering}
 use Rattle.std.specs.declared.cmp.Ordering.{Ordering}
 use Rattle.std.specs.declared.cmp.Ordering.TheVariants.{Less, Equal, Greater}
@@ -7,16 +7,17 @@ use Rattle.std.specs.BTreeMap.{is_at}
 use Rattle.std.proofs.lemmas.Cmp.{ranked}
 use Rattle.quic_wire.specs.Value.{AckValue}
 use Rattle.quic_streams_parts.specs.Table.{Table, put, added, without}
+use Rattle.quic_machine.specs.Arrival.{Arrival}
 use Rattle.quic_machine.specs.Policy.{Policy}
 use Rattle.quic_machine.specs.Closing.{ticked}
 use Rattle.quic_machine.specs.Tracking.{Tracking, TrackedPacket, without_packet, forgotten, after_sent, without_record, names, acked_by, is_lost}
 use Rattle.quic_machine.specs.End.{End, with_closing, number_of}
-use Rattle.quic_machine.specs.Acked.{verdict, losses_detected, measured, sampled, without_acked, after_named}
+use Rattle.quic_machine.specs.Acked.{verdict, losses_detected, measured, sampled, without_acked, after_named, losses_taken}
 use Rattle.quic_machine.specs.Receive.{received}
 use Rattle.quic_machine.specs.Poll.{Polled, Draft, packet_of, tracked, lazied, polled, goes}
 use Rattle.quic_machine.specs.PollCases.{ready_at, by_poll_to, composes, draft_at}
 use Rattle.quic_machine.specs.LeaveCases.{by_expired}
-use Rattle.quic_machine.specs.FrameCases.{named, frame_keeps, frame_leaves, by_received}
+use Rattle.quic_machine.specs.FrameCases.{named, frame_keeps, frame_leaves, by_received, by_marks}
 use Rattle.quic_machine.specs.CallCases.{by_plain_call}
 use Rattle.quic_machine.specs.Machine.{after_call}
 use Rattle.quic_machine.specs.declared.run.Call.{Call}
@@ -130,10 +131,11 @@ ascends_named [] rises k e a = a
 ascends_named (p ∷ ps) rises k e a =
     let o = measured rises k (p ∷ ps) in
     let left = without_acked (p ∷ ps) k e in
-    ascends_losses (sampled o k left) (subst (λ (t : Tracking). Ascending 0 t.packets) (sym (sampled_tracking o k left)) (ascends_filter (λ q. not (names k q.0)) 0 e.tracking.packets a))
+    let kept = ascends_losses (sampled o k left) (subst (λ (t : Tracking). Ascending 0 t.packets) (sym (sampled_tracking o k left)) (ascends_filter (λ q. not (names k q.0)) 0 e.tracking.packets a)) in
+    by_marks rises (length (p ∷ ps)) k (losses_taken (p ∷ ps) rises k e) Ascends (λ m marking. kept)
 
 -- whatever comes
-pub ascends_received : (p : Policy) (e : End) (now : ℕ) (d : List ℕ) → Ascends e → Ascends (received p e now d).end
+pub ascends_received : (p : Policy) (e : End) (arrival : Arrival) (d : List ℕ) → Ascends e → Ascends (received p e arrival d).end
 ascends_received = by_received Ascends (record {
   notes = λ n x a. a;
   begins = λ now n x a. a;
@@ -142,7 +144,7 @@ ascends_received = by_received Ascends (record {
     on_streams = λ f x on a. frame_leaves Ascends f x on (λ streams. a);
     message = λ m x a. a;
   });
-  takes = λ n asks x a. a;
+  takes = λ n asks mark x a. a;
   closes = λ reason x a. a;
 })
 
@@ -190,8 +192,8 @@ ascends_call p e theirs call answer a = by_plain_call p e theirs Ascends call an
   on_messages = λ m. a;
   pings = a;
   heard = λ path same. a;
-  times = λ now acks loss pacing is. by_expired e now Ascends (λ pending tracking timers runs packets. subst (λ (ps : Table TrackedPacket). Ascending 0 ps) (sym packets) a) (λ pending timers runs. ascends_losses (with_closing e (ticked e.closing now)) a) acks loss pacing;
+  times = λ now expiry is. by_expired e now Ascends (λ pending tracking timers runs packets. subst (λ (ps : Table TrackedPacket). Ascending 0 ps) (sym packets) a) (λ pending timers runs. ascends_losses (with_closing e (ticked e.closing now)) a) expiry;
   polls = λ now is. ascends_polled p e now a;
-  hears = λ now d is. ascends_received p e now d a;
+  hears = λ arrival d is. ascends_received p e arrival d a;
   tells = λ told. a;
 })

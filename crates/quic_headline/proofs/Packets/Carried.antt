@@ -18,7 +18,7 @@ offsets_same (stream f ∷ fs) = ap (λ (ms : List StreamMeta). offsets_in f ∷
 offsets_same (f ∷ fs) = offsets_same fs
 
 -- so is what they acknowledge
-acknowledged_same : (fs : List FrameValue) → first_acknowledged fs ≡ acked_in fs
+pub acknowledged_same : (fs : List FrameValue) → first_acknowledged fs ≡ acked_in fs
 acknowledged_same [] = refl
 acknowledged_same (ack a ∷ fs) = refl
 acknowledged_same (f ∷ fs) = acknowledged_same fs

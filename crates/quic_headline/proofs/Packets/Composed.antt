@@ -1,20 +1,19 @@
 -- What an end composes spells the payload of its next datagram, whatever its frames mean (RFC 9000, sections 12.4 and 19).
 use Rattle.std.proofs.Common.{◌≡◌, ℕ, ◌+◌, ◌-◌, ◌<◌, ◌≤◌, ◌^◌, zero, suc, Bool, true, false, cond, ◌&&◌, ◌||◌, ◌==◌, min, List, [], ◌∷◌, ◌++◌, length, drop, replicate, Some, None, refl, sym, ap, ◌⊎◌, inl, inr, arith}
-use Rattle.std.specs.Prelude.{nat_le, nat_lt, ◌/◌}
+use Rattle.std.specs.Prelude.{if◌then◌else◌, nat_le, nat_lt, ◌/◌}
 use Rattle.std.proofs.lemmas.Bool.{leb-true, ltb-false, and_parts}
 use Rattle.std.proofs.lemmas.List.{append-nil, append_assoc, length-append, length-take, length-drop}
 use Rattle.quic_wire_core.specs.Law.{length-shortest, varint_size_le}
 use Rattle.quic_packet.specs.Number.{truncated}
 use Rattle.quic_wire.specs.Value.{FrameValue, StreamValue, ack, padding, ping, stream, datagram}
 use Rattle.quic_wire.specs.Grammar.{Payload}
-use Rattle.quic_wire.specs.AckGrammar.{AckFits}
+use Rattle.quic_wire.specs.AckGrammar.{EcnFits, AckFits, has_ecn}
 use Rattle.quic_wire.specs.Writing.{spelling, stream_spelling, StreamFits, Fits, frame_size, width_of, offset_width}
 use Rattle.quic_wire.proofs.FrameWritten.{stream_form, spelling_form, stream_length}
 use Rattle.quic_wire.proofs.AckSet.{set_fits}
 use Rattle.quic_send_buffer.specs.Buffered as buffered
 use Rattle.quic_send_buffer.specs.Buffered.{Buffered, next_start, sent_end, writes_length}
-use Rattle.quic_recovery_core.specs.PendingAcks.{is_filled, delay_of, can_send}
-use Rattle.quic_recovery_core.specs.declared.spaces.pending_acks.TheConstants.{LAZY_ACK_THRESHOLD}
+use Rattle.quic_recovery_core.specs.PendingAcks.{lazy_threshold, is_filled, delay_of, can_send}
 use Rattle.quic_streams_parts.specs.Table.{at}
 use Rattle.quic_streams_parts.specs.SendHalf.{SendHalf, HasFrame, frame_of, frame_counts}
 use Rattle.quic_retransmits.specs.declared.retransmits.ControlKind.{ControlKind}
@@ -22,14 +21,16 @@ use Rattle.quic_streams_state.specs.State.{Streams, streams_of}
 use Rattle.quic_streams_state.specs.Control.{without_first, frame_told}
 use Rattle.quic_streams_laws.specs.KindLaws.{GoesFirst}
 use Rattle.quic_streams_state.specs.Frames.{after_frame_sent}
+use Rattle.quic_spaces.specs.Marks.{Counts, told_counts}
 use Rattle.quic_spaces.specs.Acknowledging.{written_delay, delay_at}
 use Rattle.quic_spaces.specs.Numbers.{cut_against}
 use Rattle.quic_machine.specs.End.{End, number_of, streams_at, with_ping}
 use Rattle.quic_machine.specs.Poll.{Draft, no_frames, with_frame, frame_room, fits, left, ping_if, with_ping_frame, with_control_frames, with_message, with_message_frames, with_asking, ack_of, with_ack, ack_fits, ack_if, composed_if, payload_of, lazied, asks_to_go, waits, draft_if, draft_of}
 use Rattle.quic_machine.specs.Control.{Gated}
+use Rattle.quic_machine.specs.Parts.{current_mtu}
 use Rattle.quic_machine.specs.PollCases.{frames_padded}
 use Rattle.quic_machine.specs.DraftLaws.{SendsHalf, stream_room, with_entry, with_half_frame, by_entries, by_messages, by_streams}
-use Rattle.quic_headline.proofs.Packets.Invariant.{Acks}
+use Rattle.quic_headline.proofs.Packets.Invariant.{CountsFit, Acks}
 use Rattle.quic_headline.proofs.Packets.Probes.{MayLeave}
 
 -- ---- what is known of streams
@@ -50,7 +51,7 @@ pub record IsSpellable (g : Gated) : Type 0 where
 
 -- what waits waits still where an acknowledgement becomes due
 pub waits_lazied : (e : End) → waits e ≡ true → waits (lazied e) ≡ true
-waits_lazied e on = go e.acknowledging.due (nat_lt LAZY_ACK_THRESHOLD e.acknowledging.silent) (is_filled e.acknowledging.runs) on
+waits_lazied e on = go e.acknowledging.due (nat_lt lazy_threshold e.acknowledging.silent) (is_filled e.acknowledging.runs) on
   where
     go : (due lazy filled : Bool) → ((due && filled) || asks_to_go e) ≡ true → (((due || lazy) && filled) || asks_to_go e) ≡ true
     go true lazy filled on = on
@@ -144,9 +145,17 @@ delay_small nanos =
     let eighths : ℕ = nanos / 1000 / 8 in
     omega arith
 
+-- counts that are told have a form
+counts_told : (came : Counts) → CountsFit came → EcnFits (told_counts came)
+counts_told came fit = go (came.0 == 0 && came.1 == 0 && came.2 == 0)
+  where
+    go : (none : Bool) → EcnFits (if none then None else Some came)
+    go true = tt
+    go false = fit
+
 -- what there is to acknowledge has an ACK frame
-pub ack_form : (e : End) → Acks e.acknowledging → is_filled e.acknowledging.runs ≡ true → AckFits (ack_of e)
-ack_form e acks filled = set_fits (delay_at e.acknowledging e.closing.clock) e.acknowledging.runs None acks.runs.runs some acks.small (delay_small (delay_of e.acknowledging.newest e.closing.clock)) tt
+pub ack_form : (e : End) → Acks e.acknowledging e.marks.came → is_filled e.acknowledging.runs ≡ true → AckFits (ack_of e)
+ack_form e acks filled = set_fits (delay_at e.acknowledging e.closing.clock) e.acknowledging.runs (told_counts e.marks.came) acks.runs.runs some acks.small (delay_small (delay_of e.acknowledging.newest e.closing.clock)) (counts_told e.marks.came acks.counts)
   where
     some : e.acknowledging.runs ≡ [] → ⊥
     some none = let off = ap is_filled none in cc
@@ -154,8 +163,12 @@ ack_form e acks filled = set_fits (delay_at e.acknowledging e.closing.clock) e.a
 -- it has a byte at least
 ack_some : (e : End) → 1 ≤ frame_size (ack (ack_of e))
 ack_some e =
-    let type : width_of 2 ≡ 1 = refl in
+    let first = type (has_ecn (ack_of e).ecn) in
     omega arith
+  where
+    type : (b : Bool) → 1 ≤ width_of (2 + (if b then 1 else 0))
+    type true = let three : width_of 3 ≡ 1 = refl in omega arith
+    type false = let two : width_of 2 ≡ 1 = refl in omega arith
 
 -- ---- drafts
 
@@ -225,8 +238,8 @@ ack_room d fits =
     (parts.0, omega arith)
 
 -- a message that fits is short
-pub message_form : (d : Draft) (m : List ℕ) → fits d (datagram m) ≡ true → Fits (datagram m)
-message_form d m fit =
+pub message_form : (d : Draft) (m : List ℕ) → current_mtu d.end.path < 2 ^ 16 → fits d (datagram m) ≡ true → Fits (datagram m)
+message_form d m sized fit =
     let within = leb-true (length d.bytes + frame_size (datagram m)) (frame_room d.end) fit in
     (omega arith, tt)
 
@@ -236,7 +249,8 @@ module _ (K : Streams → Type 0) (k : Spelling K) where
   -- a draft of an end of which this is known, with frames that stand so
   record Goes (S : Draft → Type 0) (d : Draft) : Type 0 where
     streams : K (streams_at d.end)
-    acks : Acks d.end.acknowledging
+    acks : Acks d.end.acknowledging d.end.marks.came
+    sized : current_mtu d.end.path < 2 ^ 16
     stands : S d
 
   -- PING goes
@@ -244,35 +258,36 @@ module _ (K : Streams → Type 0) (k : Spelling K) where
   ping_goes d g = go d.end.waiting.ping
     where
       go : (b : Bool) → Goes Behind (ping_if b d)
-      go true = record { streams = g.streams; acks = g.acks; stands = behind_fit d ping (with_ping d.end false) g.stands tt }
+      go true = record { streams = g.streams; acks = g.acks; sized = g.sized; stands = behind_fit d ping (with_ping d.end false) g.stands tt }
       go false = g
 
   -- ACK goes, where there are numbers
   ack_goes : (d : Draft) → is_filled d.end.acknowledging.runs ≡ true → Goes Behind d → Goes Behind (with_ack d)
   ack_goes d filled g = record {
     streams = g.streams;
-    acks = record { runs = g.acks.runs; small = g.acks.small };
+    acks = record { runs = g.acks.runs; small = g.acks.small; counts = g.acks.counts };
+    sized = g.sized;
     stands = behind_fit d (ack (ack_of d.end)) (with_ack d).end g.stands (ack_form d.end g.acks filled);
   }
 
   -- what waits beside the bytes of streams goes
   entries_go : (d : Draft) → Goes Behind d → Goes Behind (with_control_frames d)
   entries_go = by_entries (Goes Behind)
-      (λ d kind g. record { streams = k.drops (streams_at d.end) kind g.streams; acks = g.acks; stands = g.stands })
+      (λ d kind g. record { streams = k.drops (streams_at d.end) kind g.streams; acks = g.acks; sized = g.sized; stands = g.stands })
       (λ d kind f is g. (
       let one = k.control (streams_at d.end) kind f is g.streams in
-      record { streams = one.1; acks = g.acks; stands = behind_fit d f (with_entry d kind f).end g.stands one.0 }))
+      record { streams = one.1; acks = g.acks; sized = g.sized; stands = behind_fit d f (with_entry d kind f).end g.stands one.0 }))
 
   -- messages go
   messages_go : (d : Draft) → Goes Behind d → Goes Behind (with_message_frames d)
   messages_go = by_messages (Goes Behind)
-      (λ d m ms is fit g. record { streams = g.streams; acks = g.acks; stands = behind_fit d (datagram m) (with_message d m ms).end g.stands (message_form d m fit) })
+      (λ d m ms is fit g. record { streams = g.streams; acks = g.acks; sized = g.sized; stands = behind_fit d (datagram m) (with_message d m ms).end g.stands (message_form d m g.sized fit) })
 
   -- frames of streams go
   half_goes : SendsHalf (Goes Stands)
   half_goes d id h room found first some is counts g =
       let one = k.stream d.end.transport.send_fairness (streams_at d.end) id h room found counts g.streams in
-      record { streams = one.2; acks = g.acks; stands = go g.stands one.0 one.1 }
+      record { streams = one.2; acks = g.acks; sized = g.sized; stands = go g.stands one.0 one.1 }
     where
       go : Stands d → id < 2 ^ 62 → HasFrame h room → Stands (with_half_frame d id h room)
       go (inl before) small has = half_stands d id h room some is small has before
@@ -282,23 +297,23 @@ module _ (K : Streams → Type 0) (k : Spelling K) where
   asking_goes : (d : Draft) → Goes Behind d → Goes Stands (with_asking d)
   asking_goes d g =
       let before = messages_go (with_control_frames (with_ping_frame d)) (entries_go (with_ping_frame d) (ping_goes d g)) in
-      by_streams (Goes Stands) half_goes (with_message_frames (with_control_frames (with_ping_frame d))) (record { streams = before.streams; acks = before.acks; stands = inl before.stands })
+      by_streams (Goes Stands) half_goes (with_message_frames (with_control_frames (with_ping_frame d))) (record { streams = before.streams; acks = before.acks; sized = before.sized; stands = inl before.stands })
 
   -- an ACK frame goes behind it where it fits
   late_stands : (d : Draft) → Goes Stands d → (b : Bool) → ack_fits d ≡ b → Stands (ack_if b d)
   late_stands d g true is = go g.stands
     where
       go : Stands d → Stands (with_ack d)
-      go (inl before) = inl (ack_goes d (ack_room d is).0 (record { streams = g.streams; acks = g.acks; stands = before })).stands
+      go (inl before) = inl (ack_goes d (ack_room d is).0 (record { streams = g.streams; acks = g.acks; sized = g.sized; stands = before })).stands
       go (inr f) = let room = (ack_room d is).1 in let full = f.full in absurd (omega arith)
   late_stands d g false is = g.stands
 
   -- whether or not an ACK is due, and where a due one goes alone, what goes spells the payload
-  pub draft_spells : (held : Bool) (e : End) → MayLeave held e → Acks e.acknowledging → K (streams_at e) → Payload (frames_padded (draft_if held e)) (payload_of (draft_if held e))
-  draft_spells held e may acks streams = fills (draft_if held e) (go held may)
+  pub draft_spells : (held : Bool) (e : End) → MayLeave held e → Acks e.acknowledging e.marks.came → current_mtu e.path < 2 ^ 16 → K (streams_at e) → Payload (frames_padded (draft_if held e)) (payload_of (draft_if held e))
+  draft_spells held e may acks sized streams = fills (draft_if held e) (go held may)
     where
       first : Goes Behind (no_frames e)
-      first = record { streams = streams; acks = acks; stands = λ fs rest spells. spells }
+      first = record { streams = streams; acks = acks; sized = sized; stands = λ fs rest spells. spells }
 
       acked : can_send e.acknowledging ≡ true → Goes Behind (with_ack (no_frames e))
       acked due = ack_goes (no_frames e) (and_parts e.acknowledging.due (is_filled e.acknowledging.runs) due).1 first

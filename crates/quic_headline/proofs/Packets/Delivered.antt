@@ -1,6 +1,7 @@
 -- A datagram that an end gave, delivered to the other end: it opens as it was given, or not at all, and what is made of it then.
 use Rattle.std.proofs.Common.{◌≡◌, ℕ, zero, suc, ◌+◌, ◌-◌, ◌^◌, ◌<◌, ◌≤◌, Bool, true, false, cond, List, [], ◌∷◌, ◌++◌, length, map, Option, Some, None, Result, Ok, Err, refl, sym, ◌∙◌, ap, subst, arith}
 use Rattle.std.specs.Prelude.{◌==◌, ◌&&◌, ◌||◌, not}
+use Rattle.quic_wire_core.specs.declared.shared.EcnCodepoint.{EcnCodepoint}
 use Rattle.quic_wire.specs.Value.{FrameValue}
 use Rattle.quic_packet.specs.Number.{truncated, expanded}
 use Rattle.quic_packet.specs.Header.{first_byte, key_phase, reserved_bits}
@@ -15,6 +16,7 @@ use Rattle.quic_packet.proofs.Numbers.{fewest}
 use Rattle.quic_packet.proofs.Opening.{mates_open}
 use Rattle.quic_packet.proofs.Destinations.{fixed_length_finds, sent_is_decoded}
 use Rattle.quic_wire.proofs.FrameWhole.{payload_items}
+use Rattle.quic_machine.specs.Arrival.{Arrival}
 use Rattle.quic_machine.specs.declared.answers.State.{State}
 use Rattle.quic_machine.specs.declared.answers.State.TheVariants as states
 use Rattle.quic_machine.specs.declared.answers.DropReason.{DropReason}
@@ -138,20 +140,20 @@ pub record Arrivals (e : End) (now n : ℕ) (frames : List FrameValue) (i : Inta
   pub noted : e.closing.state ≡ states.Closing → (reason : DropReason) → P (dropped reason (with_numbers e (number_opened e.numbers n))) i
   -- it is taken
   pub takes : e.closing.state ≡ states.Open → is_again n i.opened ≡ false → (arrived e now n frames).fault ≡ None
-      → P (record { answer = Taken; end = after_taken n (asks_in (map Ok frames)) (arrived e now n frames).end }) (with_taken i n frames)
+      → (mark : Option EcnCodepoint) → P (record { answer = Taken; end = after_taken n (asks_in (map Ok frames)) mark (arrived e now n frames).end }) (with_taken i n frames)
   -- it is refused, and the end closes
   pub refuses : e.closing.state ≡ states.Open → is_again n i.opened ≡ false → (f : Fault) → (arrived e now n frames).fault ≡ Some f
       → P (record { answer = Closed (error_of f); end = closed_by (reason_of f) (arrived e now n frames).end }) (with_refused i n frames)
 
 -- what a packet comes to that opened, whose key phase is 0
-abbrev by_test : Bool → State → Opening → ℕ → End → Outcome
-by_test again s o now e = cond again (dropped drops.Duplicate e) (by_state s o now (with_numbers e (number_opened e.numbers o.number)))
+abbrev by_test : Bool → State → Opening → Arrival → End → Outcome
+by_test again s o arrival e = cond again (dropped drops.Duplicate e) (by_state s o arrival (with_numbers e (number_opened e.numbers o.number)))
 
-opened_tested : (o : Opening) (now : ℕ) (e : End) (again : Bool) (s : State) → key_phase o.first ≡ false → is_duplicate e.numbers.opened o.number ≡ again → e.closing.state ≡ s → opened_to o now e ≡ by_test again s o now e
-opened_tested o now e again s phase is state =
-    ap (λ (b : Bool). cond {A = Outcome} b (dropped drops.KeyPhase e) (by_test (is_duplicate e.numbers.opened o.number) e.closing.state o now e)) phase
-    ∙ ap (λ (b : Bool). by_test b e.closing.state o now e) is
-    ∙ ap (λ (x : State). by_test again x o now e) state
+opened_tested : (o : Opening) (arrival : Arrival) (e : End) (again : Bool) (s : State) → key_phase o.first ≡ false → is_duplicate e.numbers.opened o.number ≡ again → e.closing.state ≡ s → opened_to o arrival e ≡ by_test again s o arrival e
+opened_tested o arrival e again s phase is state =
+    ap (λ (b : Bool). cond {A = Outcome} b (dropped drops.KeyPhase e) (by_test (is_duplicate e.numbers.opened o.number) e.closing.state o arrival e)) phase
+    ∙ ap (λ (b : Bool). by_test b e.closing.state o arrival e) is
+    ∙ ap (λ (x : State). by_test again x o arrival e) state
 
 -- what came once a packet opened
 abbrev came_by : Bool → ℕ → List FrameValue → Answer → Intake → Intake
@@ -168,11 +170,11 @@ came_tested n reference fs payload a i again is spells =
     ∙ ap (λ (xs : List FrameValue). came_by again n xs a i) (frames_of_payload fs payload spells)
 
 -- what an open end makes of a packet that opened and is new
-processed_given : (n reference : ℕ) (frames : List FrameValue) (payload : List ℕ) (now : ℕ) (e : End) → n - reference < 2 ^ 31 → 0 < length frames → Payload frames payload
-    → processed (shown n reference payload) now (with_numbers e (number_opened e.numbers n)) ≡ judged (arrived e now n frames) (asks_in (map Ok frames)) n
-processed_given n reference frames payload now e near some spells =
-    ap (λ (x : Progress). judged x (asks_in (items payload)) n) (payload_taken (first_byte (truncated n reference).width) frames payload (begun e now n) (plain_number n reference near).1 some spells)
-    ∙ ap (λ (is : List (Result FrameValue InvalidFrame)). judged (arrived e now n frames) (asks_in is) n) (payload_items frames payload spells)
+processed_given : (n reference : ℕ) (frames : List FrameValue) (payload : List ℕ) (arrival : Arrival) (e : End) → n - reference < 2 ^ 31 → 0 < length frames → Payload frames payload
+    → processed (shown n reference payload) arrival (with_numbers e (number_opened e.numbers n)) ≡ judged (arrived e arrival.now n frames) (asks_in (map Ok frames)) n arrival.mark
+processed_given n reference frames payload arrival e near some spells =
+    ap (λ (x : Progress). judged x (asks_in (items payload)) n arrival.mark) (payload_taken (first_byte (truncated n reference).width) frames payload (begun e arrival.now n) (plain_number n reference near).1 some spells)
+    ∙ ap (λ (is : List (Result FrameValue InvalidFrame)). judged (arrived e arrival.now n frames) (asks_in is) n arrival.mark) (payload_items frames payload spells)
 
 -- P of an outcome and of what came with it, where both are known
 moved : (P : Outcome → Intake → Type 0) (came : Outcome → Intake) (o o' : Outcome) (i : Intake) → o ≡ o' → came o' ≡ i → P o' i → P o (came o)
@@ -183,20 +185,20 @@ abbrev handed_open : Policy → End → Intake → List ℕ → Outcome → Inta
 handed_open q e i d o = and_opened (opens q i.ids (expected_behind i.took) d) (answers.Deliver o.answer) i
 
 module _ (p q : Policy) (id : List ℕ) (n reference : ℕ) (frames : List FrameValue) (d : List ℕ) (g : IsGiven p id n reference frames d) (mates : CanOpen p q) (lawful : IsLawful p) (long : length id ≡ own_id_length)
-    (e : End) (now : ℕ) (i : Intake) (P : Outcome → Intake → Type 0) (ids : known e.ids ≡ i.ids) (cases : Arrivals e now n frames i P) where
+    (e : End) (arrival : Arrival) (i : Intake) (P : Outcome → Intake → Type 0) (ids : known e.ids ≡ i.ids) (cases : Arrivals e arrival.now n frames i P) where
   -- the outcome, where its id is known or isn't
   abbrev headed_if : Bool → Outcome
-  headed_if b = cond b (opened_as (shown_if (expands n reference (expected e.numbers)) n reference g.payload) now e) (dropped drops.UnknownId e)
+  headed_if b = cond b (opened_as (shown_if (expands n reference (expected e.numbers)) n reference g.payload) arrival e) (dropped drops.UnknownId e)
 
   -- it is that of the opening
-  headed_given : headed (decoded (fixed_length_id own_id_length) (known e.ids) d) q e now d ≡ headed_if (is_known id i.ids)
+  headed_given : headed (decoded (fixed_length_id own_id_length) (known e.ids) d) q e arrival d ≡ headed_if (is_known id i.ids)
   headed_given =
-      ap (λ (x : List (List ℕ)). headed (decoded (fixed_length_id own_id_length) x d) q e now d) ids
-      ∙ ap (λ (r : Result (List ℕ) HeaderError). headed r q e now d) (decoded_given p id n reference frames d g lawful long i.ids)
+      ap (λ (x : List (List ℕ)). headed (decoded (fixed_length_id own_id_length) x d) q e arrival d) ids
+      ∙ ap (λ (r : Result (List ℕ) HeaderError). headed r q e arrival d) (decoded_given p id n reference frames d g lawful long i.ids)
       ∙ go (is_known id i.ids)
     where
-      go : (b : Bool) → headed (known_as b id) q e now d ≡ headed_if b
-      go true = ap (λ (o : Option Opening). opened_as o now e) (opened_given p q id n reference frames d g mates long (expected e.numbers))
+      go : (b : Bool) → headed (known_as b id) q e arrival d ≡ headed_if b
+      go true = ap (λ (o : Option Opening). opened_as o arrival e) (opened_given p q id n reference frames d g mates long (expected e.numbers))
       go false = refl
 
   -- what came is by the same opening
@@ -205,37 +207,37 @@ module _ (p q : Policy) (id : List ℕ) (n reference : ℕ) (frames : List Frame
       ap (λ (y : Option Opening). and_opened y (answers.Deliver o.answer) i) (opens_given p q id n reference frames d g mates lawful long i.ids (expected_behind i.took))
       ∙ ap (λ (x : ℕ). and_opened (shown_if (is_known id i.ids && expands n reference x) n reference g.payload) (answers.Deliver o.answer) i) (sym k.expected)
 
-  closing_tested : (b again : Bool) → e.closing.state ≡ states.Closing → is_duplicate e.numbers.opened n ≡ again → P (opened_as (shown_if b n reference g.payload) now e) i
+  closing_tested : (b again : Bool) → e.closing.state ≡ states.Closing → is_duplicate e.numbers.opened n ≡ again → P (opened_as (shown_if b n reference g.payload) arrival e) i
   closing_tested false again state is = cases.ignored drops.NotOpened
-  closing_tested true true state is = subst (λ (o : Outcome). P o i) (sym (opened_tested (shown n reference g.payload) now e true states.Closing (plain_number n reference g.near).0 is state)) (cases.ignored drops.Duplicate)
-  closing_tested true false state is = subst (λ (o : Outcome). P o i) (sym (opened_tested (shown n reference g.payload) now e false states.Closing (plain_number n reference g.near).0 is state)) (cases.noted state drops.Closing)
+  closing_tested true true state is = subst (λ (o : Outcome). P o i) (sym (opened_tested (shown n reference g.payload) arrival e true states.Closing (plain_number n reference g.near).0 is state)) (cases.ignored drops.Duplicate)
+  closing_tested true false state is = subst (λ (o : Outcome). P o i) (sym (opened_tested (shown n reference g.payload) arrival e false states.Closing (plain_number n reference g.near).0 is state)) (cases.noted state drops.Closing)
 
   known_closing : (b : Bool) → e.closing.state ≡ states.Closing → P (headed_if b) i
   known_closing true state = closing_tested (expands n reference (expected e.numbers)) (is_duplicate e.numbers.opened n) state refl
   known_closing false state = cases.ignored drops.UnknownId
 
-  at_closing : e.closing.state ≡ states.Closing → P (headed (decoded (fixed_length_id own_id_length) (known e.ids) d) q e now d) i
+  at_closing : e.closing.state ≡ states.Closing → P (headed (decoded (fixed_length_id own_id_length) (known e.ids) d) q e arrival d) i
   at_closing state = subst (λ (o : Outcome). P o i) (sym headed_given) (known_closing (is_known id i.ids) state)
 
-  taken_or_refused : e.closing.state ≡ states.Open → is_again n i.opened ≡ false → (f : Option Fault) → (arrived e now n frames).fault ≡ f
-      → P (ends_as f (asks_in (map Ok frames)) n (arrived e now n frames).end) (came_by false n frames (answers.Deliver (ends_as f (asks_in (map Ok frames)) n (arrived e now n frames).end).answer) i)
-  taken_or_refused state new None is = cases.takes state new is
+  taken_or_refused : e.closing.state ≡ states.Open → is_again n i.opened ≡ false → (f : Option Fault) → (arrived e arrival.now n frames).fault ≡ f
+      → P (ends_as f (asks_in (map Ok frames)) n arrival.mark (arrived e arrival.now n frames).end) (came_by false n frames (answers.Deliver (ends_as f (asks_in (map Ok frames)) n arrival.mark (arrived e arrival.now n frames).end).answer) i)
+  taken_or_refused state new None is = cases.takes state new is arrival.mark
   taken_or_refused state new (Some f) is = cases.refuses state new f is
 
   open_tested : (b again : Bool) → e.closing.state ≡ states.Open → e.numbers.opened ≡ seen_after i.opened → is_again n i.opened ≡ again
-      → P (opened_as (shown_if b n reference g.payload) now e) (and_opened (shown_if b n reference g.payload) (answers.Deliver (opened_as (shown_if b n reference g.payload) now e).answer) i)
+      → P (opened_as (shown_if b n reference g.payload) arrival e) (and_opened (shown_if b n reference g.payload) (answers.Deliver (opened_as (shown_if b n reference g.payload) arrival e).answer) i)
   open_tested false again state w is = cases.ignored drops.NotOpened
   open_tested true true state w is =
-      moved P (λ (o : Outcome). and_opened (Some (shown n reference g.payload)) (answers.Deliver o.answer) i) (opened_to (shown n reference g.payload) now e) (dropped drops.Duplicate e) i
-      (opened_tested (shown n reference g.payload) now e true states.Open (plain_number n reference g.near).0 (is_duplicate-is i.opened e.numbers.opened n w ∙ is) state)
+      moved P (λ (o : Outcome). and_opened (Some (shown n reference g.payload)) (answers.Deliver o.answer) i) (opened_to (shown n reference g.payload) arrival e) (dropped drops.Duplicate e) i
+      (opened_tested (shown n reference g.payload) arrival e true states.Open (plain_number n reference g.near).0 (is_duplicate-is i.opened e.numbers.opened n w ∙ is) state)
       (came_tested n reference frames g.payload (answers.Deliver (dropped drops.Duplicate e).answer) i true is g.spells)
       (cases.ignored drops.Duplicate)
   open_tested true false state w is =
-      let outcome = judged (arrived e now n frames) (asks_in (map Ok frames)) n in
-      moved P (λ (o : Outcome). and_opened (Some (shown n reference g.payload)) (answers.Deliver o.answer) i) (opened_to (shown n reference g.payload) now e) outcome (came_by false n frames (answers.Deliver outcome.answer) i)
-      (opened_tested (shown n reference g.payload) now e false states.Open (plain_number n reference g.near).0 (is_duplicate-is i.opened e.numbers.opened n w ∙ is) state ∙ processed_given n reference frames g.payload now e g.near g.some g.spells)
+      let outcome = judged (arrived e arrival.now n frames) (asks_in (map Ok frames)) n arrival.mark in
+      moved P (λ (o : Outcome). and_opened (Some (shown n reference g.payload)) (answers.Deliver o.answer) i) (opened_to (shown n reference g.payload) arrival e) outcome (came_by false n frames (answers.Deliver outcome.answer) i)
+      (opened_tested (shown n reference g.payload) arrival e false states.Open (plain_number n reference g.near).0 (is_duplicate-is i.opened e.numbers.opened n w ∙ is) state ∙ processed_given n reference frames g.payload arrival e g.near g.some g.spells)
       (came_tested n reference frames g.payload (answers.Deliver outcome.answer) i false is g.spells)
-      (taken_or_refused state is (arrived e now n frames).fault refl)
+      (taken_or_refused state is (arrived e arrival.now n frames).fault refl)
 
   known_open : (b : Bool) → e.closing.state ≡ states.Open → Knows e.numbers i
       → P (headed_if b) (and_opened (shown_if (b && expands n reference (expected e.numbers)) n reference g.payload) (answers.Deliver (headed_if b).answer) i)
@@ -243,22 +245,22 @@ module _ (p q : Policy) (id : List ℕ) (n reference : ℕ) (frames : List Frame
   known_open false state k = cases.ignored drops.UnknownId
 
   at_open : e.closing.state ≡ states.Open → Knows e.numbers i
-      → P (headed (decoded (fixed_length_id own_id_length) (known e.ids) d) q e now d) (handed_open q e i d (headed (decoded (fixed_length_id own_id_length) (known e.ids) d) q e now d))
+      → P (headed (decoded (fixed_length_id own_id_length) (known e.ids) d) q e arrival d) (handed_open q e i d (headed (decoded (fixed_length_id own_id_length) (known e.ids) d) q e arrival d))
   at_open state k =
       let b : Bool = is_known id i.ids in
-      moved P (handed_open q e i d) (headed (decoded (fixed_length_id own_id_length) (known e.ids) d) q e now d) (headed_if b)
+      moved P (handed_open q e i d) (headed (decoded (fixed_length_id own_id_length) (known e.ids) d) q e arrival d) (headed_if b)
       (and_opened (shown_if (b && expands n reference (expected e.numbers)) n reference g.payload) (answers.Deliver (headed_if b).answer) i)
       headed_given (handed_given k (headed_if b)) (known_open b state k)
 
-  at_state : (s : State) → e.closing.state ≡ s → KnowsIn s e.numbers i → P (received_in s q e now d) (and_handed s (Some d) q (answers.Deliver (received_in s q e now d).answer) i)
+  at_state : (s : State) → e.closing.state ≡ s → KnowsIn s e.numbers i → P (received_in s q e arrival d) (and_handed s (Some d) q (answers.Deliver (received_in s q e arrival d).answer) i)
   at_state states.Open state k = at_open state k
   at_state states.Closing state k = at_closing state
   at_state states.Drained state k = cases.ignored drops.Drained
   at_state states.Failed state k = cases.ignored drops.Failed
 
 -- every delivery of a datagram that an honest end gave is one of the cases
-pub by_arrival : (p q : Policy) (id : List ℕ) (n reference : ℕ) (frames : List FrameValue) (d : List ℕ) (g : IsGiven p id n reference frames d) (e : End) (now : ℕ) (i : Intake) (P : Outcome → Intake → Type 0)
+pub by_arrival : (p q : Policy) (id : List ℕ) (n reference : ℕ) (frames : List FrameValue) (d : List ℕ) (g : IsGiven p id n reference frames d) (e : End) (arrival : Arrival) (i : Intake) (P : Outcome → Intake → Type 0)
     → CanOpen p q → IsLawful p → length id ≡ own_id_length → known e.ids ≡ i.ids → KnowsIn e.closing.state e.numbers i
-    → Arrivals e now n frames i P
-    → P (received q e now d) (and_handed e.closing.state (Some d) q (answers.Deliver (received q e now d).answer) i)
-by_arrival p q id n reference frames d g e now i P mates lawful long ids k cases = at_state p q id n reference frames d g mates lawful long e now i P ids cases e.closing.state refl k
+    → Arrivals e arrival.now n frames i P
+    → P (received q e arrival d) (and_handed e.closing.state (Some d) q (answers.Deliver (received q e arrival d).answer) i)
+by_arrival p q id n reference frames d g e arrival i P mates lawful long ids k cases = at_state p q id n reference frames d g mates lawful long e arrival i P ids cases e.closing.state refl k

@@ -16,15 +16,16 @@ use Rattle.quic_machine.specs.Policy.{Policy, CanOpen}
 use Rattle.quic_machine.specs.Closing.{Closing, ticked}
 use Rattle.quic_machine.specs.Opens.{own_id_length}
 use Rattle.quic_spaces.specs.Numbers.{Numbers, cut_against, greatest_of}
+use Rattle.quic_spaces.specs.Marks.{Counts}
 use Rattle.quic_machine.specs.Parts.{Path, Messaging}
 use Rattle.quic_streams_parts.specs.Table.{Table, added, put}
 use Rattle.quic_machine.specs.Tracking.{Tracking, TrackedPacket, carried_in, without_record, asks_any, is_behind, tail_of, forgets, forgotten, oldest, without_packet, asking_sent, acked_by, not_acked_by, Verdict, verdict_at, lost_by, kept_by, loss_time_of, after_detection, after_answered, after_loss_timeout, moment_or, probe_moment, backed_off}
-use Rattle.quic_machine.specs.End.{End, number_of, with_messages, with_tracking, with_rtt, probe_timeout}
-use Rattle.quic_machine.specs.Acked.{without_known, packet_acked, packets_acked, packets_lost, verdict, losses_detected, told_delay, measured, sampled, without_acked, after_named}
+use Rattle.quic_machine.specs.End.{End, number_of, with_messages, with_tracking, with_rtt, probe_timeout, with_told, with_marking}
+use Rattle.quic_machine.specs.Acked.{without_known, packet_acked, packets_acked, packets_lost, verdict, losses_detected, told_delay, measured, sampled, without_acked, after_named, losses_taken}
 use Rattle.quic_machine.specs.Receive.{is_above, names_ungiven, take_frame}
 use Rattle.quic_machine.specs.Poll.{Draft, asking, datagram_size, packet_of, after_given, draft_if}
 use Rattle.quic_machine.specs.Timeouts.{loss_judged, loss_expired}
-use Rattle.quic_machine.specs.FrameCases.{OnStreams, named, ack_taken, passed, streams_acked_keep, resets_acked_keep, packets_lost_keep, frame_leaves, frames_taken}
+use Rattle.quic_machine.specs.FrameCases.{OnStreams, named, ack_taken, passed, streams_acked_keep, resets_acked_keep, packets_lost_keep, frame_leaves, frames_taken, by_marks}
 use Rattle.quic_machine.specs.PollCases.{ready_at, frames_padded, Composes, composes}
 use Rattle.quic_headline.specs.Runs.{In, names}
 use Rattle.quic_headline.specs.Observer.{Sent, Terms, terms_of, asks_of, Flight, latest, late_by, is_lost, after_losses, is_greatest, of_number, measures, rtt_behind, settled_by, after_ack, after_frames, is_behind_asked, unasked, without_oldest, kept_flying, and_sent, waited, probe_due, due_or, loss_due, expired_for, sent_as}
@@ -212,14 +213,14 @@ timed_tells t now ss others ps rises a f e is acked stay w =
 named_waits : (t : Terms) (now : ℕ) (ss others : List Sent) (ps : Table TrackedPacket) (rises : Bool) (a : AckValue) (f : Flight) (e : End) → rises ≡ is_greatest f.named a.largest → AreWaited ss ps → AreWaited others (not_acked_by a e.tracking.packets)
     → Waits t now (counted a f) (held e) → Waits t now (settled_by t now a ss others f) (held (after_named ps rises a e))
 named_waits t now [] others [] rises a f e is acked stay w = w
-named_waits t now (s ∷ ss) others (p ∷ ps) rises a f e is acked stay w =
+named_waits t now (s ∷ ss) others (p ∷ ps) rises a f e is acked stay w = by_marks rises (length (p ∷ ps)) a (losses_taken (p ∷ ps) rises a e) (λ (x : End). Waits t now (settled_by t now a (s ∷ ss) others f) (held x)) (λ m marking.
     let found = losses_tell t now (settling t now a (s ∷ ss) others f) (timed (p ∷ ps) rises a e) (timed_tells t now (s ∷ ss) others (p ∷ ps) rises a f e is acked stay w.tells) in
     let told = found.0 in
     record {
       tells = record { terms = told.terms; clock = told.clock; named = told.named; waits = told.waits; asked = asked f.asked told.asked; rtt = told.rtt };
       loss_time = found.1;
       expiries = refl;
-    }
+    })
   where
     left : Tracking
     left = (losses_detected (timed (p ∷ ps) rises a e)).tracking
@@ -248,6 +249,8 @@ pub record Flies (frames : List FrameValue) (P : List Sent → List Sent → End
   pub acks : (flying acked ss left : List Sent) (ps : Table TrackedPacket) (e : End) → ((s : Sent) → In s ss → In s flying) → ((s : Sent) → In s left → In s flying) → AreWaited ss ps → P flying acked e → P left (acked ++ ss) (packets_acked ps e)
   -- the round trip is measured
   pub measured : (flying acked : List Sent) (r : Rtt) (first : Option ℕ) (e : End) → P flying acked e → P flying acked (with_rtt e r first)
+  -- counts of marks came
+  pub marked : (flying acked : List Sent) (counts : Counts) (marking : Bool) (e : End) → P flying acked e → P flying acked (with_marking (with_told e counts) marking)
   pub on_streams : (flying acked : List Sent) (f : FrameValue) (e : End) → In f frames → OnStreams f → P flying acked e → P flying acked (take_frame f e).end
   pub message : (flying acked : List Sent) (m : Messaging) (e : End) → P flying acked e → P flying acked (with_messages e m)
 
@@ -291,9 +294,12 @@ module _ (t : Terms) (now : ℕ) (frames : List FrameValue) (P : List Sent → L
       let ps' : Table TrackedPacket = p ∷ ps in
       let left : End = without_acked ps' a e in
       let found : End = losses_detected (timed ps' rises a e) in
+      let taken : End = losses_taken ps' rises a e in
+      let kept : P (settled_by t now a ss' others x).flying (x.acked ++ ss') taken =
       c.losing.tracked (settled_by t now a ss' others x).flying (x.acked ++ ss') (after_answered found.tracking) found
       (losses_fly P c.losing t now (settling t now a ss' others x) (x.acked ++ ss') (timed ps' rises a e) (timed_tells t now ss' others ps' rises a x e is acked stay w)
-      (sampled_flies others (x.acked ++ ss') (measured rises a ps') a left (c.losing.tracked others (x.acked ++ ss') left.tracking (packets_acked ps' e) (c.acks x.flying x.acked ss' others ps' e inside stays acked i))))
+      (sampled_flies others (x.acked ++ ss') (measured rises a ps') a left (c.losing.tracked others (x.acked ++ ss') left.tracking (packets_acked ps' e) (c.acks x.flying x.acked ss' others ps' e inside stays acked i)))) in
+      by_marks rises (length ps') a taken (P (settled_by t now a ss' others x).flying (x.acked ++ ss')) (λ m marking. c.marked (settled_by t now a ss' others x).flying (x.acked ++ ss') m marking taken kept)
   named_flies [] others (p ∷ ps) rises x a e is inside stays acked stay w i = absurd acked
   named_flies (s ∷ ss) others [] rises x a e is inside stays acked stay w i = absurd acked
 
@@ -363,6 +369,7 @@ frames_wait t now frames x e none w = (frames_fly t now frames (λ flying acked 
   names = λ flying acked a g among i. tt;
   acks = λ flying acked ss left ps g inside stays all i. tt;
   measured = λ flying acked r first g i. tt;
+  marked = λ flying acked m marking g i. tt;
   on_streams = λ flying acked f g among on i. tt;
   message = λ flying acked m g i. tt;
 }) x e none (record { waits = w; holds = tt })).waits

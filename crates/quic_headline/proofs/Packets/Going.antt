@@ -1,5 +1,5 @@
 -- Where something waits, a frame goes.
-use Rattle.std.proofs.Common.{◌≡◌, ℕ, zero, suc, ◌+◌, ◌-◌, ◌<◌, ◌≤◌, Bool, true, false, ◌==◌, ◌||◌, not, List, [], ◌∷◌, ◌++◌, length, Option, Some, None, refl, sym, ap, ◌∙◌, subst, ◌⊎◌, inl, inr, arith}
+use Rattle.std.proofs.Common.{◌≡◌, ℕ, zero, suc, ◌+◌, ◌-◌, ◌<◌, ◌≤◌, ◌^◌, Bool, true, false, ◌==◌, ◌||◌, not, List, [], ◌∷◌, ◌++◌, length, Option, Some, None, refl, sym, ap, ◌∙◌, subst, ◌⊎◌, inl, inr, arith}
 use Rattle.std.specs.Prelude.{if◌then◌else◌, map, nat_le, nat_lt, ◌*◌}
 use Rattle.std.specs.List.{list_any, fold}
 use Rattle.std.specs.Option.{is_some}
@@ -9,13 +9,12 @@ use Rattle.quic_wire_core.specs.Law.{length-shortest, varint_size_le}
 use Rattle.quic_wire.specs.Value.{FrameValue, ack, ping, stream, datagram}
 use Rattle.quic_wire.specs.Writing.{frame_size, width_of}
 use Rattle.quic_recovery_core.specs.PendingAcks.{can_send}
-use Rattle.quic_retransmits.specs.Retransmits.{Retransmits, nothing_waits, first_of}
+use Rattle.quic_retransmits.specs.Retransmits.{Retransmits, nothing_waits, first_of, control_kinds}
 use Rattle.quic_streams_parts.specs.Table.{at}
 use Rattle.quic_streams_parts.specs.Queue.{first_queued}
 use Rattle.quic_streams_parts.specs.SendHalf.{SendHalf, frame_of, frame_counts}
 use Rattle.quic_streams_state.specs.declared.state.StreamsState.{StreamsState}
 use Rattle.quic_retransmits.specs.declared.retransmits.ControlKind.{ControlKind}
-use Rattle.quic_retransmits.specs.declared.retransmits.TheConstants.{CONTROL_KINDS}
 use Rattle.quic_streams_state.specs.State.{Streams, streams_of}
 use Rattle.quic_streams_state.specs.Waiting.{is_empty, can_send_stream_data}
 use Rattle.quic_streams_state.specs.Control.{Entry, reset_frame, reset_entry, waiting, first_dropped, first_sent, first_and_more, with_listed, with_kind}
@@ -29,15 +28,15 @@ use Rattle.quic_messages.specs.Messages.{fitting, frame_bytes}
 use Rattle.quic_spaces.specs.Numbers.{cut_against}
 use Rattle.quic_machine.specs.Ids.{Ids}
 use Rattle.quic_machine.specs.End.{End, number_of, streams_at}
-use Rattle.quic_machine.specs.Poll.{Draft, current_mtu, no_frames, frame_room, least_room, fits, left, no_stream_frames, ping_if, with_control_frames, with_message, with_messages_of, with_message_frames, with_stream_frames, with_asking, ack_of, with_ack, ack_fits, ack_if, composed_if, composed, lazied, message_waits, asks_to_go, waits, draft_if, goes}
+use Rattle.quic_machine.specs.Poll.{Draft, no_frames, frame_room, least_room, fits, left, no_stream_frames, ping_if, with_control_frames, with_message, with_messages_of, with_message_frames, with_stream_frames, with_asking, ack_of, with_ack, ack_fits, ack_if, composed_if, composed, lazied, message_waits, asks_to_go, waits, draft_if, goes}
 use Rattle.quic_machine.specs.Control.{Gated}
 use Rattle.quic_machine.specs.PollCases.{ready_at, ready_leaves}
-use Rattle.quic_machine.specs.DraftLaws.{Writing, room_most, without_entry, by_entries, by_messages, by_streams, by_asking, due_alone}
+use Rattle.quic_machine.specs.Parts.{current_mtu}
+use Rattle.quic_machine.specs.DraftLaws.{Writing, HasRoom, room_most, without_entry, by_entries, by_messages, by_streams, by_asking, due_alone}
 use Rattle.quic_headline.specs.Runs.{In}
 use Rattle.quic_headline.proofs.Packets.Invariant.{Acks}
 use Rattle.quic_headline.proofs.Packets.Entries.{control_of, control_short}
 use Rattle.quic_headline.proofs.Packets.Composed.{Spelling, IsSpellable, waits_lazied, draft_spells}
-use Rattle.quic_headline.proofs.Packets.Probes.{ready_acks}
 
 -- ---- what is known of streams
 
@@ -163,7 +162,7 @@ room_least e =
     let between : ℕ = number_of e - cut_against e.numbers in
     go (nat_lt (2 * between) 256) (nat_lt (2 * between) 65536) (nat_lt (2 * between) 16777216)
   where
-    go : (a b c : Bool) → least_room e ≤ current_mtu - (1 + length e.ids.active.id + (if a then 1 else (if b then 2 else (if c then 3 else 4))) + 16)
+    go : (a b c : Bool) → least_room e ≤ current_mtu e.path - (1 + length e.ids.active.id + (if a then 1 else (if b then 2 else (if c then 3 else 4))) + 16)
     go true b c = omega arith
     go false true c = omega arith
     go false false true = omega arith
@@ -204,7 +203,7 @@ first_brings e d room u b =
 
 module _ (K : Streams → Type 0) (k : Spelling K) (c : Bringing K) where
   -- where something waits that counts, an entry is due
-  any_waits : (t : Streams) → K t → is_empty t.pending t.state ≡ false → any_of t.state t.pending CONTROL_KINDS ≡ true
+  any_waits : (t : Streams) → K t → is_empty t.pending t.state ≡ false → any_of t.state t.pending control_kinds ≡ true
   any_waits t i waits =
       let none = c.others t i in
       let some = filled t.pending t.state waits none.0 none.1 none.2 in
@@ -292,7 +291,7 @@ module _ (K : Streams → Type 0) (k : Spelling K) (c : Bringing K) where
   pub control_goes : (d : Draft) → length d.bytes + 25 ≤ frame_room d.end → K (streams_at d.end) → is_empty d.end.waiting.frames d.end.streams ≡ false
       → 0 < length (control.control_frames (frame_room d.end) (length d.bytes) d.end.streams d.end.waiting.frames nothing_waits).frames
   control_goes d room i waits =
-      kinds_go (frame_room d.end) CONTROL_KINDS (control.no_frames (length d.bytes) d.end.streams d.end.waiting.frames nothing_waits) kinds_apart (record { streams = i; room = room }) (any_waits (streams_at d.end) i waits)
+      kinds_go (frame_room d.end) control_kinds (control.no_frames (length d.bytes) d.end.streams d.end.waiting.frames nothing_waits) kinds_apart (record { streams = i; room = room }) (any_waits (streams_at d.end) i waits)
 
   -- where something waits that asks, a frame goes
   asking_goes : (e : End) → 1159 ≤ frame_room e → K (streams_at e) → asks_to_go e ≡ true → HasFrames (with_asking (no_frames e))
@@ -327,7 +326,7 @@ module _ (K : Streams → Type 0) (k : Spelling K) (c : Bringing K) where
       pinged false on = quiet on
 
   -- where something waits, a frame goes
-  pub composed_some : (e : End) → length e.ids.active.id ≤ 20 → K (streams_at e) → waits e ≡ true → HasFrames (composed e)
+  pub composed_some : (e : End) → HasRoom e → K (streams_at e) → waits e ≡ true → HasFrames (composed e)
   composed_some e short i waiting = go (can_send e.acknowledging) waiting
     where
       late : (b : Bool) → HasFrames (with_asking (no_frames e)) → HasFrames (ack_if b (with_asking (no_frames e)))
@@ -339,15 +338,17 @@ module _ (K : Streams → Type 0) (k : Spelling K) (c : Bringing K) where
       go false on = late (ack_fits (with_asking (no_frames e))) (asking_goes e (room_most e short) i on)
 
   -- so what goes of an end that is ready has a form, and a frame
-  spellable : (g : Gated) → goes g ≡ true → Acks g.end.acknowledging → length g.end.ids.active.id ≤ 20 → K (streams_at g.end) → IsSpellable g
-  spellable g waits acks short i = record { spells = draft_spells K k g.held (lazied g.end) (due_alone g waits) (record { runs = acks.runs; small = acks.small }) i; some = go g.held waits }
+  spellable : (g : Gated) → goes g ≡ true → Acks g.end.acknowledging g.end.marks.came → HasRoom g.end → K (streams_at g.end) → IsSpellable g
+  spellable g waits acks short i = record { spells = draft_spells K k g.held (lazied g.end) (due_alone g waits) (record { runs = acks.runs; small = acks.small; counts = acks.counts }) short.2 i; some = go g.held waits }
     where
       go : (held : Bool) → goes (record { held = held; end = g.end }) ≡ true → HasFrames (draft_if held (lazied g.end))
       go true on = omega arith
       go false on = composed_some (lazied g.end) short i (waits_lazied g.end on)
 
   -- at any moment
-  pub spellable_next : (e : End) → Acks e.acknowledging → length e.ids.active.id ≤ 20 → ((now : ℕ) → K (streams_at (ready_at e now).end)) → (now : ℕ) → goes (ready_at e now) ≡ true → IsSpellable (ready_at e now)
+  pub spellable_next : (e : End) → Acks e.acknowledging e.marks.came → HasRoom e → ((now : ℕ) → K (streams_at (ready_at e now).end)) → (now : ℕ) → goes (ready_at e now) ≡ true → IsSpellable (ready_at e now)
   spellable_next e acks short i now waits =
       let ids : (ready_at e now).end.ids ≡ e.ids = ap (λ (x : End). x.ids) (ready_leaves e now) in
-      spellable (ready_at e now) waits (subst Acks (sym (ready_acks e now)) acks) (subst (λ (x : Ids). length x.active.id ≤ 20) (sym ids) short) (i now)
+      let size : current_mtu (ready_at e now).end.path ≡ current_mtu e.path = ap (λ (x : End). current_mtu x.path) (ready_leaves e now) in
+      let room : HasRoom (ready_at e now).end = (subst (λ (x : Ids). length x.active.id ≤ 20) (sym ids) short.0, subst (λ (n : ℕ). 1200 ≤ n) (sym size) short.1, subst (λ (n : ℕ). n < 2 ^ 16) (sym size) short.2) in
+      spellable (ready_at e now) waits (subst (λ (x : End). Acks x.acknowledging x.marks.came) (sym (ready_leaves e now)) (record { runs = acks.runs; small = acks.small; counts = acks.counts })) room (i now)

@@ -1,5 +1,5 @@
 -- What holds of the packets between two ends, as one group: what the one gave, and what the other took of it.
-use Rattle.std.proofs.Common.{◌≡◌, ℕ, ◌<◌, ◌^◌, List, [], ◌∷◌, ◌++◌, length, false, refl, sym, ap, ◌∙◌, subst, arith, Bool, true}
+use Rattle.std.proofs.Common.{◌≡◌, ℕ, ◌<◌, ◌≤◌, ◌^◌, List, [], ◌∷◌, ◌++◌, length, false, refl, sym, ap, ◌∙◌, subst, arith, Bool, true}
 use Rattle.std.proofs.lemmas.List.{length-append}
 use Rattle.quic_machine.specs.declared.run.Call.{Call}
 use Rattle.quic_machine.specs.declared.run.Answer.{Answer}
@@ -9,6 +9,11 @@ use Rattle.quic_recovery_core.specs.PendingAcks.{Pending}
 use Rattle.quic_time.specs.Timers.{Timers}
 use Rattle.quic_machine.specs.declared.answers.State.{State}
 use Rattle.quic_machine.specs.Closing.{Closing, ticked}
+use Rattle.quic_config.specs.Transport.{IsInRange, transport_of, parameters_of}
+use Rattle.quic_machine.specs.PathLaws.{first_size}
+use Rattle.quic_machine.specs.Parts.{current_mtu}
+use Rattle.quic_machine.specs.Opens.{own_id_length}
+use Rattle.quic_machine.specs.DraftLaws.{HasRoom}
 use Rattle.quic_machine.specs.Policy.{Policy}
 use Rattle.quic_machine.specs.End.{End, with_closing, number_of}
 use Rattle.quic_machine.specs.Receive.{Outcome}
@@ -32,7 +37,7 @@ use Rattle.quic_headline.proofs.Packets.TrackedSteps.{tracked_step}
 use Rattle.quic_headline.proofs.Packets.Ascending.{Ascends, ascends_call}
 use Rattle.quic_headline.proofs.Packets.Naming.{were_sent_more, sent_arrivals, name_taken_on, name_taken_step}
 use Rattle.quic_headline.proofs.Places.Steps.{gives_count}
-use Rattle.quic_headline.proofs.Places.Parties.{sents_by, told_of, Party, called, came_to, AreJoined}
+use Rattle.quic_headline.proofs.Places.Parties.{sents_by, told_of, Party, called, came_to, AreJoined, Beginning, new_as}
 use Rattle.quic_headline.proofs.Places.Groups.{Way, Before, Early}
 use Rattle.quic_headline.proofs.Places.Coming.{Meets, by_coming, came_ids}
 use Rattle.quic_headline.proofs.Packets.Probes.{MayLeave, may_leave}
@@ -43,7 +48,8 @@ pub record PacketsHold (x y : Party) : Type 0 where
   pub gives : Gives x.policy y.id x.end.numbers x.end.filter.last x.sents x.given
   -- they go to the id of y, on a path that takes as many bytes as when x was made
   pub active : x.end.ids.active.id ≡ y.id
-  pub size : x.end.path.size ≡ x.made.path.size
+  pub size : current_mtu x.end.path ≡ current_mtu x.made.path
+  pub sized : (1200 ≤ current_mtu x.made.path) × (current_mtu x.made.path < 2 ^ 16)
   pub count : length x.given ≡ count_given x.told
   -- what x waits for was sent
   pub tracked : AreTracked x.sents x.end.tracking.packets
@@ -52,7 +58,7 @@ pub record PacketsHold (x y : Party) : Type 0 where
   pub named : NameTaken x.sents (came_to x y).took
   pub known : known y.end.ids ≡ (came_to y x).ids
   pub knows : KnowsIn y.end.closing.state y.end.numbers (came_to y x)
-  pub acks : Acks y.end.acknowledging
+  pub acks : Acks y.end.acknowledging y.end.marks.came
   -- each packet that y took was sent so
   pub taken : WereSent x.sents (came_to y x).took
   -- what y has to acknowledge, it took
@@ -62,12 +68,25 @@ pub record PacketsHold (x y : Party) : Type 0 where
 pub meets : (x y : Party) → PacketsHold x y → Meets x y
 meets x y p = record { each = p.gives.each; known = p.known; knows = p.knows }
 
+-- a datagram of x has room for frames, and fewer than 2 ^ 16 bytes
+pub has_room : (x y : Party) → PacketsHold x y → length y.id ≡ own_id_length → HasRoom x.end
+has_room x y p long =
+    let id : length x.end.ids.active.id ≡ own_id_length = ap (λ (bytes : List ℕ). length bytes) p.active ∙ long in
+    (omega arith, subst (λ (n : ℕ). 1200 ≤ n) (sym p.size) p.sized.0, subst (λ (n : ℕ). n < 2 ^ 16) (sym p.size) p.sized.1)
+
+-- an end that is made begins with datagrams of 1200 bytes at least, since its peer takes so many, and of no more than a UDP payload has
+made_sized : (x y : Beginning) → IsInRange x.making.settings → (1200 ≤ current_mtu (new_as x y).path) × (current_mtu (new_as x y).path < 2 ^ 16)
+made_sized x y range =
+    let size = first_size x.making.validated (transport_of x.making.settings) (parameters_of y.making.settings).max_udp_payload_size x.making.windows x.making.moment in
+    let initial = range.initial_mtu in
+    (omega arith, omega arith)
+
 -- ---- the end that takes
 
 -- what an end knows of what came, and has to acknowledge, where these were sent
 record Takes (sents : List Sent) (e : End) (i : Intake) : Type 0 where
   knows : KnowsIn e.closing.state e.numbers i
-  acks : Acks e.acknowledging
+  acks : Acks e.acknowledging e.marks.came
   taken : WereSent sents i.took
   acking : AreTaken e.acknowledging.runs i.took
 
@@ -98,9 +117,9 @@ knows_step q e theirs call a i other k = by_plain_call q e theirs (λ (f : End).
   on_messages = λ m. k;
   pings = k;
   heard = λ path same. k;
-  times = λ now acks loss pacing set. by_expired e now (λ (f : End). KnowsIn f.closing.state f.numbers i) (λ pending tracking timers runs packets. k) (λ pending timers runs. losses now pending timers) acks loss pacing;
+  times = λ now expiry set. by_expired e now (λ (f : End). KnowsIn f.closing.state f.numbers i) (λ pending tracking timers runs packets. k) (λ pending timers runs. losses now pending timers) expiry;
   polls = λ now set. knows_poll q e now i k;
-  hears = λ now d set. cc;
+  hears = λ arrival d set. cc;
   tells = λ told. k;
 })
   where
@@ -119,7 +138,7 @@ takes_arrivals e now s i sents among small t =
     record {
       ignored = λ reason. t;
       noted = λ state reason. record { knows = knows.noted state reason; acks = acks.noted state reason; taken = taken.noted state reason; acking = acking.noted state reason };
-      takes = λ state new none. record { knows = knows.takes state new none; acks = acks.takes state new none; taken = taken.takes state new none; acking = acking.takes state new none };
+      takes = λ state new none mark. record { knows = knows.takes state new none mark; acks = acks.takes state new none mark; taken = taken.takes state new none mark; acking = acking.takes state new none mark };
       refuses = λ state new f is. record { knows = knows.refuses state new f is; acks = acks.refuses state new f is; taken = taken.refuses state new f is; acking = acking.refuses state new f is };
     }
 
@@ -164,6 +183,7 @@ module _ (B : Way) (spells : (x y : Party) → AreJoined x y → B x y → B y x
         gives = gives_step x.policy x.end y.given a y.id x.given x.sents call c.answer c.served p.active (spells x y c.joined c.gives c.takes p back) p.gives;
         active = ap (λ (ids : Ids). ids.active.id) placed.ids ∙ p.active;
         size = placed.size ∙ p.size;
+        sized = p.sized;
         count = counted B x y call a c p.count;
         tracked = tracked_step x.policy x.end y.given call a x.sents c.answer c.served p.tracked;
         ascends = ascends_call x.policy x.end y.given call a p.ascends;
@@ -185,6 +205,7 @@ module _ (B : Way) (spells : (x y : Party) → AreJoined x y → B x y → B y x
         gives = back.gives;
         active = back.active;
         size = back.size;
+        sized = back.sized;
         count = back.count;
         tracked = back.tracked;
         ascends = back.ascends;
@@ -203,6 +224,7 @@ module _ (B : Way) (spells : (x y : Party) → AreJoined x y → B x y → B y x
       gives = record { rising = tt; below = λ s i. absurd i; next = refl; behind = omega arith; left_out = tt; each = tt };
       active = refl;
       size = refl;
+      sized = made_sized x y m.x_is.range;
       count = refl;
       tracked = λ n t is. absurd is;
       ascends = tt;
@@ -219,6 +241,7 @@ module _ (B : Way) (spells : (x y : Party) → AreJoined x y → B x y → B y x
       gives = p.gives;
       active = p.active;
       size = p.size;
+      sized = p.sized;
       count = p.count;
       tracked = p.tracked;
       ascends = p.ascends;

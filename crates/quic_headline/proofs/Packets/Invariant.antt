@@ -13,6 +13,7 @@ use Rattle.quic_machine.specs.declared.answers.State.{State}
 use Rattle.quic_machine.specs.declared.answers.State.TheVariants as states
 use Rattle.quic_machine.specs.Policy.{Policy}
 use Rattle.quic_streams_parts.specs.Table.{Table}
+use Rattle.quic_spaces.specs.Marks.{Counts}
 use Rattle.quic_spaces.specs.Numbers.{Numbers, expected, cut_against}
 use Rattle.quic_recovery_core.specs.DuplicateRuns.{seen_after}
 use Rattle.quic_recovery_core.specs.PendingAcks as pending
@@ -136,10 +137,15 @@ WereSent sents packets = (packet : Packet) → In packet packets → WasSent sen
 abbrev pub AreTaken : List Run → List Packet → Type 0
 AreTaken runs packets = (k : ℕ) → Has runs k → IsTaken packets k
 
--- the numbers that an end has to acknowledge: few maximal runs, below the greatest packet number
-pub record Acks (p : pending.Pending) : Type 0 where
+-- counts of marks that have a form as variable-length integers
+abbrev pub CountsFit : Counts → Type 0
+CountsFit counts = (counts.0 < 2 ^ 62) × (counts.1 < 2 ^ 62) × (counts.2 < 2 ^ 62)
+
+-- the numbers that an end has to acknowledge: few maximal runs, below the greatest packet number; with them it tells how many packets came with each mark
+pub record Acks (p : pending.Pending) (came : Counts) : Type 0 where
   pub runs : pending.IsKept p.runs
   pub small : IsSmall p.runs
+  pub counts : CountsFit came
 
 -- what an end that isn't open knows of what came: the number that it expects
 abbrev pub Expects : Numbers → Intake → Type 0

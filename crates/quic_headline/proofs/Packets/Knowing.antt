@@ -2,6 +2,7 @@
 use Rattle.std.proofs.Common.{◌≡◌, ℕ, ◌+◌, List, length, Option, Some, None, refl, sym, ap, ◌∙◌, subst, arith}
 use Rattle.std.specs.Prelude.{max}
 use Rattle.quic_wire.specs.Value.{FrameValue}
+use Rattle.quic_machine.specs.Arrival.{Arrival}
 use Rattle.quic_machine.specs.declared.answers.State.{State}
 use Rattle.quic_machine.specs.declared.answers.State.TheVariants as states
 use Rattle.quic_machine.specs.declared.run.Answer.TheVariants as answers
@@ -76,7 +77,7 @@ pub knows_arrivals : (e : End) (now n : ℕ) (frames : List FrameValue) (i : Int
 knows_arrivals e now n frames i k = record {
   ignored = λ reason. k;
   noted = λ state reason. knows_noted e.closing.state e.numbers n i state k;
-  takes = λ state new none. taken none;
+  takes = λ state new none mark. taken none;
   refuses = λ state new f is. refused;
 }
   where
@@ -92,8 +93,8 @@ knows_arrivals e now n frames i k = record {
         (knows_in_taken e.closing.state e.numbers left.numbers i n frames k keeps.numbers (named_frames frames (begun e now n) none))
 
 -- a datagram of an honest end is delivered: the end that it leaves knows what came then
-pub knows_delivered : (p q : Policy) (id : List ℕ) (n reference : ℕ) (frames : List FrameValue) (d : List ℕ) → IsGiven p id n reference frames d → (e : End) (now : ℕ) (i : Intake)
+pub knows_delivered : (p q : Policy) (id : List ℕ) (n reference : ℕ) (frames : List FrameValue) (d : List ℕ) → IsGiven p id n reference frames d → (e : End) (arrival : Arrival) (i : Intake)
     → CanOpen p q → IsLawful p → length id ≡ own_id_length → known e.ids ≡ i.ids → KnowsIn e.closing.state e.numbers i
-    → KnowsIn (received q e now d).end.closing.state (received q e now d).end.numbers (and_handed e.closing.state (Some d) q (answers.Deliver (received q e now d).answer) i)
-knows_delivered p q id n reference frames d g e now i mates lawful long ids k =
-    by_arrival p q id n reference frames d g e now i (λ o j. KnowsIn o.end.closing.state o.end.numbers j) mates lawful long ids k (knows_arrivals e now n frames i k)
+    → KnowsIn (received q e arrival d).end.closing.state (received q e arrival d).end.numbers (and_handed e.closing.state (Some d) q (answers.Deliver (received q e arrival d).answer) i)
+knows_delivered p q id n reference frames d g e arrival i mates lawful long ids k =
+    by_arrival p q id n reference frames d g e arrival i (λ o j. KnowsIn o.end.closing.state o.end.numbers j) mates lawful long ids k (knows_arrivals e arrival.now n frames i k)

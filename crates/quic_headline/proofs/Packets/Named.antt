@@ -1,8 +1,9 @@
 -- What ACK frames name: an end that takes some waits for no packet more, and where the peer took what they name, each packet that is acknowledged was taken.
-use Rattle.std.proofs.Common.{◌≡◌, ℕ, Bool, true, false, not, List, [], ◌∷◌, filter, cond, Option, Some, None, refl, sym, ap, ◌∙◌, subst, inl, inr}
+use Rattle.std.proofs.Common.{◌≡◌, ℕ, Bool, true, false, not, List, [], ◌∷◌, filter, cond, Option, Some, None, refl, sym, ap, ◌∙◌, subst, inl, inr, length}
 use Rattle.quic_wire.specs.Value.{FrameValue, AckValue, ack, stream, reset_stream, stop_sending, max_data, max_stream_data, max_streams, new_token, handshake_done, datagram}
 use Rattle.quic_send_buffer.specs.declared.stream_meta.StreamMeta.{StreamMeta}
 use Rattle.quic_streams_parts.specs.Table.{Table}
+use Rattle.quic_machine.specs.Arrival.{Arrival}
 use Rattle.quic_machine.specs.Policy.{Policy}
 use Rattle.quic_time.specs.Rtt.{Rtt}
 use Rattle.quic_time.specs.Timers.{Timers}
@@ -10,11 +11,12 @@ use Rattle.quic_recovery_core.specs.PendingAcks.{Pending}
 use Rattle.quic_machine.specs.Closing.{Closing, ticked}
 use Rattle.quic_machine.specs.Tracking.{Tracking, TrackedPacket, Carried, acked_by, Verdict, is_lost, lost_by, after_detection}
 use Rattle.quic_machine.specs.LeaveCases.{at_losses}
+use Rattle.quic_spaces.specs.Marks.{Counts}
 use Rattle.quic_machine.specs.Parts.{Messaging}
-use Rattle.quic_machine.specs.End.{End, with_closing, with_messages, with_tracking, with_rtt}
-use Rattle.quic_machine.specs.Acked.{without_known, reset_acked, resets_acked, stream_acked, streams_acked, packet_acked, packets_acked, stream_lost, streams_lost, again, carried_lost, packets_lost, verdict, losses_detected, measured, sampled, without_acked, after_named}
+use Rattle.quic_machine.specs.End.{End, with_closing, with_messages, with_tracking, with_rtt, with_told, with_marking}
+use Rattle.quic_machine.specs.Acked.{without_known, reset_acked, resets_acked, stream_acked, streams_acked, packet_acked, packets_acked, stream_lost, streams_lost, again, carried_lost, packets_lost, verdict, losses_detected, measured, sampled, without_acked, after_named, losses_taken}
 use Rattle.quic_machine.specs.Receive.{Progress, is_above, names_ungiven, take_message, take_frame, received}
-use Rattle.quic_machine.specs.FrameCases.{OnStreams, named, ack_taken, passed, message_leaves, frame_keeps, frame_leaves, frames_leave, by_received}
+use Rattle.quic_machine.specs.FrameCases.{OnStreams, named, ack_taken, passed, message_leaves, frame_keeps, frame_leaves, frames_leave, by_received, by_marks}
 use Rattle.quic_headline.specs.Runs.{Packet, In, IsTaken, names}
 use Rattle.quic_headline.specs.Observer.{Sent}
 use Rattle.quic_headline.proofs.Packets.Invariant.{IsCarriedFrom, AreTracked, RisingFrom, WereSent}
@@ -61,7 +63,9 @@ named_fewer [] rises a e n t i = i
 named_fewer (p ∷ ps) rises a e n t i =
     let o = measured rises a (p ∷ ps) in
     let left = without_acked (p ∷ ps) a e in
-    let timed : In (n, t) (sampled o a left).tracking.packets = losses_fewer (sampled o a left) n t i in
+    let taken = losses_taken (p ∷ ps) rises a e in
+    let there : In (n, t) taken.tracking.packets = by_marks rises (length (p ∷ ps)) a taken (λ (x : End). In (n, t) x.tracking.packets → In (n, t) taken.tracking.packets) (λ m marking j. j) i in
+    let timed : In (n, t) (sampled o a left).tracking.packets = losses_fewer (sampled o a left) n t there in
     in_filter (λ q. not (names a q.0)) (n, t) e.tracking.packets (subst (λ (x : Tracking). In (n, t) x.packets) (sampled_tracking o a left) timed)
 
 -- after any frame, behind what was left
@@ -73,18 +77,18 @@ frame_fewer e = frame_keeps (WaitsForFewer e) (record {
 })
 
 -- whatever comes adds none
-pub received_fewer : (p : Policy) (e : End) (now : ℕ) (d : List ℕ) → WaitsForFewer e (received p e now d).end
-received_fewer p e now d = by_received (WaitsForFewer e) (record {
+pub received_fewer : (p : Policy) (e : End) (arrival : Arrival) (d : List ℕ) → WaitsForFewer e (received p e arrival d).end
+received_fewer p e arrival d = by_received (WaitsForFewer e) (record {
   notes = λ n x w. w;
   begins = λ now n x w. w;
   frame = frame_fewer e;
-  takes = λ n asks x w. w;
+  takes = λ n asks mark x w. w;
   closes = λ reason x w. w;
-}) p e now d (λ n t i. i)
+}) p e arrival d (λ n t i. i)
 
 -- so each tracked packet was given still
-pub tracked_received : (p : Policy) (e : End) (now : ℕ) (d : List ℕ) (sents : List Sent) → AreTracked sents e.tracking.packets → AreTracked sents (received p e now d).end.tracking.packets
-tracked_received p e now d sents before n t i = before n t (received_fewer p e now d n t i)
+pub tracked_received : (p : Policy) (e : End) (arrival : Arrival) (d : List ℕ) (sents : List Sent) → AreTracked sents e.tracking.packets → AreTracked sents (received p e arrival d).end.tracking.packets
+tracked_received p e arrival d sents before n t i = before n t (received_fewer p e arrival d n t i)
 
 -- ---- what an ACK frame acknowledges, and what counts as lost
 
@@ -149,6 +153,8 @@ pub record SettlesOn (took : List Packet) (sents : List Sent) (P : End → Type 
   pub tracked : (t : Tracking) (e : End) → P e → P (with_tracking e t)
   -- the round trip is measured
   pub measured : (r : Rtt) (first : Option ℕ) (e : End) → P e → P (with_rtt e r first)
+  -- counts of marks came
+  pub marked : (counts : Counts) (marking : Bool) (e : End) → P e → P (with_marking (with_told e counts) marking)
 
 module _ (took : List Packet) (sents : List Sent) (P : End → Type 0) (s : SettlesOn took sents P) where
   -- what the peer knows of, if anything
@@ -211,7 +217,9 @@ module _ (took : List Packet) (sents : List Sent) (P : End → Type 0) (s : Sett
       let stay : AreTracked sents left.tracking.packets = (λ n t j. tracked n t (in_filter (λ q. not (names a q.0)) (n, t) e.tracking.packets j)) in
       let rest : AreTracked sents timed.tracking.packets = subst (λ (x : Tracking). AreTracked sents x.packets) (sym (sampled_tracking o a left)) stay in
       let acked : P left = s.tracked left.tracking (packets_acked (p ∷ ps) e) (packets_on (p ∷ ps) e was i) in
-      s.tracked (after_named (p ∷ ps) rises a e).tracking (losses_detected timed) (detected_on timed rest (sampled_on o a left acked))
+      let taken : End = losses_taken (p ∷ ps) rises a e in
+      let kept : P taken = s.tracked taken.tracking (losses_detected timed) (detected_on timed rest (sampled_on o a left acked)) in
+      by_marks rises (length (p ∷ ps)) a taken P (λ m marking. s.marked m marking taken kept)
 
   -- losses that a timeout detects, where the clock may go on
   pub expired_on : (e : End) (now : ℕ) → ((c : Closing) (x : End) → P x → P (with_closing x c)) → ((acks : Pending) (timers : Timers) (x : End) → P x → P (record x { acknowledging = acks; timers = timers })) → AreTracked sents e.tracking.packets → P e

@@ -113,7 +113,7 @@ ack_zeros runs (f ∷ frames) count all a (inl is) = all a (inl is)
 ack_zeros runs (f ∷ frames) count all a (inr i) = ack_zeros runs frames count (λ b j. all b (inr j)) a i
 
 -- a number that an ACK frame names is one that its giver has to acknowledge
-pub names_kept : (e : End) (now : ℕ) (a : AckValue) (k : ℕ) → Acks e.acknowledging → In (ack a) (frames_at e now) → names a k ≡ true → Has e.acknowledging.runs k
+pub names_kept : (e : End) (now : ℕ) (a : AckValue) (k : ℕ) → Acks e.acknowledging e.marks.came → In (ack a) (frames_at e now) → names a k ≡ true → Has e.acknowledging.runs k
 names_kept e now a k acks i named =
     let ready = lazied (ready_at e now).end in
     let d = draft_at e now in
@@ -137,7 +137,7 @@ pub sent_arrivals : (e : End) (now n : ℕ) (frames : List FrameValue) (i : Inta
 sent_arrivals e now n frames i sents s is same before = record {
   ignored = λ reason. before;
   noted = λ state reason. before;
-  takes = λ state new none. taken;
+  takes = λ state new none mark. taken;
   refuses = λ state new f at. before;
 }
   where
@@ -154,7 +154,7 @@ name_taken_on sents packets more on before s a k is i named =
     record { packet = t.packet; was_taken = on t.packet t.was_taken; is = t.is }
 
 -- what a call sends names numbers of packets that were taken
-pub name_taken_step : (e : End) (call : Call) (answer : Answer) (sents : List Sent) (packets : List Packet) → Acks e.acknowledging → AreTaken e.acknowledging.runs packets → NameTaken sents packets
+pub name_taken_step : (e : End) (call : Call) (answer : Answer) (sents : List Sent) (packets : List Packet) → Acks e.acknowledging e.marks.came → AreTaken e.acknowledging.runs packets → NameTaken sents packets
     → NameTaken (sents ++ sents_by e call answer) packets
 name_taken_step e (calls.Poll now) answer sents packets acks taken before = go (gave answer)
   where

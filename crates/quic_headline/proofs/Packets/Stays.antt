@@ -5,12 +5,15 @@ use Rattle.std.proofs.lemmas.Bool.{leb-false, or_parts}
 use Rattle.quic_sets.specs.Runs.{Has}
 use Rattle.quic_wire.specs.Value.{FrameValue, AckValue, ack, datagram}
 use Rattle.quic_recovery_core.specs.PendingAcks.{Pending, after_subtract}
+use Rattle.quic_spaces.specs.Marks.{Counts}
 use Rattle.quic_recovery_core.proofs.AckRunSteps.{above_kept, in_above}
+use Rattle.quic_machine.specs.Arrival.{Arrival}
 use Rattle.quic_machine.specs.declared.run.Call.{Call}
 use Rattle.quic_machine.specs.declared.run.Call.TheVariants as calls
 use Rattle.quic_machine.specs.declared.run.Answer.{Answer}
 use Rattle.quic_spaces.specs.Numbers.{Numbers, cut_against, greatest_of}
-use Rattle.quic_machine.specs.Parts.{Path}
+use Rattle.quic_congestion.specs.Search.{Discovery}
+use Rattle.quic_machine.specs.Parts.{Path, current_mtu}
 use Rattle.quic_machine.specs.Policy.{Policy}
 use Rattle.quic_parameters.specs.Parameters.{ParameterValues}
 use Rattle.quic_config.specs.Transport.{TransportSettings}
@@ -34,11 +37,11 @@ use Rattle.quic_headline.proofs.Packets.Probes.{may_leave}
 -- ---- an ACK frame
 
 -- fewer numbers to acknowledge
-acks_above : (p : Pending) (n : ℕ) → Acks p → Acks (after_subtract p n)
-acks_above p n acks = record { runs = above_kept p.runs n acks.runs; small = λ k h. acks.small k (in_above n k p.runs h).0 }
+acks_above : (p : Pending) (came : Counts) (n : ℕ) → Acks p came → Acks (after_subtract p n) came
+acks_above p came n acks = record { runs = above_kept p.runs n acks.runs; small = λ k h. acks.small k (in_above n k p.runs h).0; counts = acks.counts }
 
 -- the parts of an end that no ACK frame changes but by what it names: ids, of the path its place and its size, the clock, how it sends, what the peer told, and
--- which numbers are left out; and the numbers, and what is to be acknowledged
+-- which numbers are left out; and the numbers, what is to be acknowledged, and with which marks packets came
 pub record Kept : Type 0 where
   pub ids : Ids
   pub generation : ℕ
@@ -49,19 +52,21 @@ pub record Kept : Type 0 where
   pub filter : Filter
   pub numbers : Numbers
   pub acks : Pending
+  pub came : Counts
 
 -- those of an end
 abbrev pub kept : End → Kept
 kept e = record {
   ids = e.ids;
   generation = e.path.generation;
-  size = e.path.size;
+  size = current_mtu e.path;
   closing = e.closing;
   transport = e.transport;
   peer = e.peer_params;
   filter = e.filter;
   numbers = e.numbers;
   acks = e.acknowledging;
+  came = e.marks.came;
 }
 
 -- Packets that are acknowledged or lost leave them, and no number more is to be acknowledged.
@@ -74,7 +79,8 @@ pub record AreSettled (e f : Kept) : Type 0 where
   pub peer : f.peer ≡ e.peer
   pub filter : f.filter ≡ e.filter
   pub numbers : f.numbers ≡ e.numbers
-  pub acks : Acks e.acks → Acks f.acks
+  pub acks : Acks e.acks e.came → Acks f.acks f.came
+  pub came : f.came ≡ e.came
   pub fewer : (k : ℕ) → Has f.acks.runs k → Has e.acks.runs k
 
 abbrev pub Settles : End → End → Type 0
@@ -82,7 +88,7 @@ Settles e f = AreSettled (kept e) (kept f)
 
 -- nothing changed
 settles_same : (e : End) → Settles e e
-settles_same e = record { ids = refl; generation = refl; size = refl; closing = refl; transport = refl; peer = refl; filter = refl; numbers = refl; acks = λ acks. acks; fewer = λ k h. h }
+settles_same e = record { ids = refl; generation = refl; size = refl; closing = refl; transport = refl; peer = refl; filter = refl; numbers = refl; acks = λ acks. acks; came = refl; fewer = λ k h. h }
 
 -- each step of an ACK frame
 settling : (e : End) → Settling (Settles e)
@@ -96,7 +102,8 @@ settling e = record {
     peer = s.peer;
     filter = s.filter;
     numbers = s.numbers;
-    acks = λ acks. acks_above x.acknowledging n (s.acks acks);
+    acks = λ acks. acks_above x.acknowledging x.marks.came n (s.acks acks);
+    came = s.came;
     fewer = λ k h. s.fewer k (in_above n k x.acknowledging.runs h).0;
   };
   reset = λ id x s. s;
@@ -105,6 +112,7 @@ settling e = record {
   again = λ c x s. s;
   tracked = λ t x s. s;
   measured = λ r first x s. s;
+  marked = λ counts marking x s. s;
 }
 
 -- an ACK frame that was taken
@@ -127,7 +135,7 @@ pub record AreKept (e f : Kept) : Type 0 where
   pub peer : f.peer ≡ e.peer
   pub filter : f.filter ≡ e.filter
   pub numbers : f.numbers ≡ record e.numbers { largest_acked = f.numbers.largest_acked }
-  pub acks : Acks e.acks → Acks f.acks
+  pub acks : Acks e.acks e.came → Acks f.acks f.came
   pub fewer : (k : ℕ) → Has f.acks.runs k → Has e.acks.runs k
 
 abbrev pub Keeps : End → End → Type 0
@@ -220,7 +228,7 @@ pub stays_same : (e : End) → Stays e e
 stays_same e = record { ids = refl; generation = refl; size = refl; transport = refl; peer = refl; filter = refl; next = refl; behind = λ b. b }
 
 -- the same, whatever clock, tracked packets, streams and timers there are
-stays_like : (e x f : End) → f.ids ≡ x.ids → f.path.generation ≡ x.path.generation → f.path.size ≡ x.path.size → f.transport ≡ x.transport → f.peer_params ≡ x.peer_params → f.filter ≡ x.filter → f.numbers ≡ x.numbers → Stays e x → Stays e f
+stays_like : (e x f : End) → f.ids ≡ x.ids → f.path.generation ≡ x.path.generation → current_mtu f.path ≡ current_mtu x.path → f.transport ≡ x.transport → f.peer_params ≡ x.peer_params → f.filter ≡ x.filter → f.numbers ≡ x.numbers → Stays e x → Stays e f
 stays_like e x f ids generation size transport peer filter numbers s = record {
   ids = ids ∙ s.ids;
   generation = generation ∙ s.generation;
@@ -262,14 +270,14 @@ stays_frame e (datagram m) x s = message_leaves (Stays e) m x s (λ left. s)
 stays_frame e f x s = s
 
 -- whatever comes leaves them
-pub stays_received : (p : Policy) (e : End) (now : ℕ) (d : List ℕ) → Stays e (received p e now d).end
-stays_received p e now d = by_received (Stays e) (record {
+pub stays_received : (p : Policy) (e : End) (arrival : Arrival) (d : List ℕ) → Stays e (received p e arrival d).end
+stays_received p e arrival d = by_received (Stays e) (record {
   notes = λ n x s. record { ids = s.ids; generation = s.generation; size = s.size; transport = s.transport; peer = s.peer; filter = s.filter; next = s.next; behind = s.behind };
   begins = λ now n x s. record { ids = s.ids; generation = s.generation; size = s.size; transport = s.transport; peer = s.peer; filter = s.filter; next = s.next; behind = s.behind };
   frame = stays_frame e;
-  takes = λ n asks x s. record { ids = s.ids; generation = s.generation; size = s.size; transport = s.transport; peer = s.peer; filter = s.filter; next = s.next; behind = s.behind };
+  takes = λ n asks mark x s. record { ids = s.ids; generation = s.generation; size = s.size; transport = s.transport; peer = s.peer; filter = s.filter; next = s.next; behind = s.behind };
   closes = λ reason x s. record { ids = s.ids; generation = s.generation; size = s.size; transport = s.transport; peer = s.peer; filter = s.filter; next = s.next; behind = s.behind };
-}) p e now d (stays_same e)
+}) p e arrival d (stays_same e)
 
 -- losses that are detected at a moment leave them
 stays_losses : (e : End) (now : ℕ) (acks : Pending) (timers : Timers) → Stays e (at_losses e now acks timers)
@@ -285,10 +293,10 @@ stays_call p e theirs call a other = by_plain_call p e theirs (Stays e) call a (
   on_streams = λ t. stays_same e;
   on_messages = λ m. stays_same e;
   pings = stays_same e;
-  heard = λ path same. stays_like e e (record e { path = path }) refl same.generation same.size refl refl refl refl (stays_same e);
-  times = λ now acks loss pacing is. by_expired e now (Stays e) (λ pending tracking timers runs packets. stays_like e e (at_timeout e now pending tracking timers) refl refl refl refl refl refl refl (stays_same e)) (λ pending timers runs. stays_losses e now pending timers) acks loss pacing;
+  heard = λ path same. stays_like e e (record e { path = path }) refl same.generation (ap (λ (d : Discovery). d.size) same.discovery) refl refl refl refl (stays_same e);
+  times = λ now expiry is. by_expired e now (Stays e) (λ pending tracking timers runs packets. stays_like e e (at_timeout e now pending tracking timers) refl refl refl refl refl refl refl (stays_same e)) (λ pending timers runs. stays_losses e now pending timers) expiry;
   polls = λ now is. cc;
-  hears = λ now d is. stays_received p e now d;
+  hears = λ arrival d is. stays_received p e arrival d;
   tells = λ told. stays_like e e (at_event e told) refl refl refl refl refl refl refl (stays_same e);
 })
 
@@ -315,6 +323,6 @@ placed_call p e theirs (calls.Poll now) a = by_poll p e now (λ (q : Polled). Is
   gives = λ held t w moment pacing paid tracking timers is may ready some.
       let x : End = at_poll e now t w moment pacing e.path.app_limited in
       let c = composes held (lazied x) (may_leave e now held x ready some) in
-      record { ids = c.ids; generation = ap (λ (p : Path). p.generation) c.path; size = ap (λ (p : Path). p.size) c.path; transport = c.transport; peer = c.peer };
+      record { ids = c.ids; generation = ap (λ (p : Path). p.generation) c.path; size = ap current_mtu c.path; transport = c.transport; peer = c.peer };
 })
 placed_call p e theirs call a = let s = stays_call p e theirs call a refl in record { ids = s.ids; generation = s.generation; size = s.size; transport = s.transport; peer = s.peer }

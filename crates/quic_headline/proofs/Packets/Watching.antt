@@ -3,6 +3,7 @@ use Rattle.std.proofs.Common.{◌≡◌, ℕ, ◌+◌, ◌-◌, ◌<◌, ◌≤�
 use Rattle.std.specs.Prelude.{if◌then◌else◌}
 use Rattle.std.proofs.lemmas.Bool.{lt-ltb, le-ltb}
 use Rattle.std.proofs.lemmas.List.{append-nil}
+use Rattle.quic_wire_core.specs.declared.shared.EcnCodepoint.{EcnCodepoint}
 use Rattle.quic_wire.specs.Value.{FrameValue}
 use Rattle.quic_packet.specs.Datagram.{opened_packet}
 use Rattle.quic_packet.proofs.Opening.{sent_length}
@@ -187,7 +188,7 @@ pub arrivals_watched : (t : Terms) (w : Watch) (e : End) (delivery : Delivery) (
 arrivals_watched t w e delivery n frames i = record {
   ignored = λ reason. subst (λ (v : Watch). IsWatched t v e) (sym (nothing_delivered t w e.closing.state delivery)) i;
   noted = λ state reason. closed_watched t (with_delivery t w e.closing.state delivery w.intake) (with_numbers e (number_opened e.numbers n)) i.path (λ opened. (let clash : states.Closing ≡ states.Open = sym state ∙ opened in cc));
-  takes = λ state new none. taken state none;
+  takes = λ state new none mark. taken mark state none;
   refuses = λ state new f is. closed_watched t _ _ path (λ opened. cc);
 }
   where
@@ -197,9 +198,9 @@ arrivals_watched t w e delivery n frames i = record {
     path : after.path.generation ≡ 0
     path = (keeps_frames frames (begun e delivery.now n)).generation ∙ i.path
 
-    taken : e.closing.state ≡ states.Open → (arrived e delivery.now n frames).fault ≡ None → IsWatched t (with_delivery t w e.closing.state delivery (with_taken w.intake n frames)) (after_taken n (asks_in (map Ok frames)) after)
-    taken opened none =
-        subst (λ (v : Watch). IsWatched t v (after_taken n (asks_in (map Ok frames)) after)) (sym (packet_delivered t w e.closing.state delivery n frames opened)) (record {
+    taken : (mark : Option EcnCodepoint) → e.closing.state ≡ states.Open → (arrived e delivery.now n frames).fault ≡ None → IsWatched t (with_delivery t w e.closing.state delivery (with_taken w.intake n frames)) (after_taken n (asks_in (map Ok frames)) mark after)
+    taken mark opened none =
+        subst (λ (v : Watch). IsWatched t v (after_taken n (asks_in (map Ok frames)) mark after)) (sym (packet_delivered t w e.closing.state delivery n frames opened)) (record {
           path = path;
           flight = λ still.
               let begins : Waits t (max w.clock delivery.now) w.flight (held (begun e delivery.now n)) = ticked_waits t w.clock delivery.now w.flight (record (held e) { numbers = number_opened e.numbers n }) (numbers_wait t w.clock w.flight (held e) (number_opened e.numbers n) refl (i.flight opened)) in
@@ -464,9 +465,9 @@ leaves_call p e theirs call a apart silent other = by_plain_call p e theirs (Lea
   on_messages = λ m. record { state = refl; clock = refl; numbers = refl; tracking = refl; transport = refl; peer = refl; path = refl; rtt = refl };
   pings = record { state = refl; clock = refl; numbers = refl; tracking = refl; transport = refl; peer = refl; path = refl; rtt = refl };
   heard = λ path is. record { state = refl; clock = refl; numbers = refl; tracking = refl; transport = refl; peer = refl; path = is.generation; rtt = is.rtt };
-  times = λ now acks loss pacing is. cc;
+  times = λ now expiry is. cc;
   polls = λ now is. cc;
-  hears = λ now d is. cc;
+  hears = λ arrival d is. cc;
   tells = λ told. record { state = refl; clock = refl; numbers = refl; tracking = refl; transport = refl; peer = refl; path = refl; rtt = refl };
 })
 

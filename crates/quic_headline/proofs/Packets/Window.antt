@@ -2,10 +2,9 @@
 use Rattle.std.proofs.Common.{◌≡◌, ℕ, ◌+◌, Bool, true, false, List, [], ◌∷◌, refl, sym, ap, ◌∙◌, inl, inr}
 use Rattle.std.specs.Prelude.{◌⊎◌, ◌==◌, ◌||◌, nat_le}
 use Rattle.std.proofs.lemmas.Bool.{or_left, or_right, or_cases, eq-eqb, eqb-true, le-leb, leb-true}
-use Rattle.quic_recovery_core.specs.Duplicates.{Seen, is_duplicate}
+use Rattle.quic_recovery_core.specs.Duplicates.{duplicate_span, Seen, is_duplicate}
 use Rattle.quic_recovery_core.specs.DuplicateRuns.{seen_after, Came, IsFarBelow}
 use Rattle.quic_recovery_core.proofs.DuplicateLaws.{duplicates}
-use Rattle.quic_spaces.specs.Numbers.{duplicate_span}
 use Rattle.quic_headline.specs.Runs.{is_again}
 
 -- one of the numbers comes again

@@ -1,6 +1,7 @@
 -- What comes to an end by a call that it makes: nothing, or a datagram that the other sent.
 use Rattle.std.proofs.Common.{◌≡◌, ℕ, false, List, [], ◌∷◌, Option, Some, None, refl, sym, ap, ◌∙◌, subst, inl, inr}
 use Rattle.std.specs.Prelude.{slice_get}
+use Rattle.quic_machine.specs.Arrival.{delivered_by}
 use Rattle.quic_machine.specs.declared.run.Call.{Call}
 use Rattle.quic_machine.specs.declared.run.Call.TheVariants as calls
 use Rattle.quic_machine.specs.declared.run.Delivery.{Delivery}
@@ -55,12 +56,12 @@ pub record Comes (x y : Party) (call : Call) (a : Answer) (P : End → Intake �
 
 module _ (x y : Party) (a : Answer) (joined : AreJoined x y) (served : fails a ≡ false) (meets : Meets y x) (P : End → Intake → Type 0) where
   -- a delivery, by whether there is such a datagram
-  delivered : (delivery : Delivery) (o : Option (List ℕ)) → slice_get y.given delivery.index ≡ o → IsDelivered x.policy x.end delivery.now o a → Comes x y (calls.Deliver delivery) a P
-      → P (after_delivered x.policy x.end delivery.now o) (came_to (called x y.given (calls.Deliver delivery) a) y)
+  delivered : (delivery : Delivery) (o : Option (List ℕ)) → slice_get y.given delivery.index ≡ o → IsDelivered x.policy x.end delivery o a → Comes x y (calls.Deliver delivery) a P
+      → P (after_delivered x.policy x.end delivery o) (came_to (called x y.given (calls.Deliver delivery) a) y)
   delivered delivery None at is c = subst (λ (i : Intake). P x.end i) (sym (came_same x y (calls.Deliver delivery) a (ap (λ (b : Answer). handed y.final (calls.Deliver delivery) b) is))) (c.none delivery refl)
   delivered delivery (Some d) at (inr is) c = cc
   delivered delivery (Some d) at (inl is) c =
-      let o : Outcome = received x.policy x.end delivery.now d in
+      let o : Outcome = received x.policy x.end (delivered_by delivery) d in
       let found = step_at (IsSent y.policy x.id) y.sents y.given delivery.index d meets.each at in
       let s : Sent = found.0 in
       let more = joined.y_more in
@@ -70,7 +71,7 @@ module _ (x y : Party) (a : Answer) (joined : AreJoined x y) (served : fails a �
       ∙ ap (λ (b : Answer). and_handed x.end.closing.state (handed y.final (calls.Deliver delivery) b) x.policy b (came_to x y)) is
       ∙ ap (λ (h : Option (List ℕ)). and_handed x.end.closing.state h x.policy (answers.Deliver o.answer) (came_to x y)) there in
       subst (λ (i : Intake). P o.end i) (sym came)
-      (by_arrival y.policy x.policy x.id s.number s.reference s.frames d found.2 x.end delivery.now (came_to x y) (λ (r : Outcome) (i : Intake). P r.end i) joined.to_x joined.y_lawful joined.x_long meets.known meets.knows (c.comes delivery refl s found.1))
+      (by_arrival y.policy x.policy x.id s.number s.reference s.frames d found.2 x.end (delivered_by delivery) (came_to x y) (λ (r : Outcome) (i : Intake). P r.end i) joined.to_x joined.y_lawful joined.x_long meets.known meets.knows (c.comes delivery refl s found.1))
 
   -- what holds in each case holds of the end behind its call, and of what came
   pub by_coming : (call : Call) → IsAnswer x.policy x.end y.given call a → Comes x y call a P → P (called x y.given call a).end (came_to (called x y.given call a) y)

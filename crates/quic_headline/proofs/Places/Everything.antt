@@ -10,6 +10,8 @@ use Rattle.quic_headline.specs.Grown.{GrownLimitsWait}
 use Rattle.quic_headline.specs.Messages.{MessagesAtMostOnce}
 use Rattle.quic_headline.specs.Headline.{IsHonest, IsRun, OrderedPrefix, Slices, Once, EndAfterAll, BlockedOnlyWithoutBytes, AcceptsAll, FinishedMeansArrived, AcknowledgedWereTaken, NamesWereTaken, OpensExactly, NewestOpens, NumbersRise}
 use Rattle.quic_headline.specs.Moments.{LossMoments, LossTimerQuiet, AckMoments}
+use Rattle.quic_headline.specs.Resets.{ResetsAreTold}
+use Rattle.quic_headline.specs.Ids.{IdsAreNew, AcceptedWereOpened}
 use Rattle.quic_headline.specs.Polls.{AskingGoesWhereLet, ProbesPass}
 use Rattle.quic_machine.specs.PollCases.{ready_at}
 use Rattle.quic_headline.proofs.Packets.Probes.{ready_state}
@@ -27,12 +29,18 @@ use Rattle.quic_headline.proofs.Halves.Writer.{WritesHold, grows_behind}
 use Rattle.quic_headline.proofs.Halves.Joined.{GoesWell, streams_spell, streams_group}
 use Rattle.quic_headline.proofs.Halves.ReadGroup.{ReadsHold, reads_group}
 use Rattle.quic_headline.proofs.Halves.ReadClauses as reads
+use Rattle.quic_headline.proofs.Halves.ResetClause as resets
 use Rattle.quic_headline.proofs.Halves.Finishing.{finished_arrived, arrived_beside}
 use Rattle.quic_headline.proofs.Halves.Arrived.{Arrives}
+use Rattle.quic_headline.proofs.Amounts.Opens.{OfGiven, given_group}
+use Rattle.quic_headline.proofs.Amounts.NewIds.{IsGot, got_once}
+use Rattle.quic_headline.proofs.Amounts.NewIds as new_ids
 use Rattle.quic_headline.proofs.Causes.UsedUp.{Shut, shut_group}
 use Rattle.quic_headline.proofs.Causes.UsedUp as used_up
 use Rattle.quic_headline.proofs.Channel.Names.{NamesHold, names_group}
 use Rattle.quic_headline.proofs.Channel.Within.{Within, within_group}
+use Rattle.quic_headline.proofs.Channel.Openers.{Openers, openers_group}
+use Rattle.quic_headline.proofs.Channel.Openers as openers
 use Rattle.quic_headline.proofs.Duties.Group.{Flying, flying_group}
 use Rattle.quic_headline.proofs.Duties.Ledger as ledger
 use Rattle.quic_headline.proofs.Grown.Clause.{GrownWait, grown_group}
@@ -82,6 +90,16 @@ module _ (Ready : Way) (ready : IsReadying Ready) where
   -- and what is read
   pub all_read : Group Nothing (And All ReadsHold)
   all_read = both Nothing All ReadsHold all (reads_group (And Nothing All) is_writing)
+
+  -- ---- the streams of an application
+
+  -- and which were opened or accepted
+  pub all_got : Group Nothing (And All (OfGiven IsGot))
+  all_got = both Nothing All (OfGiven IsGot) all (given_group IsGot got_once (And Nothing All) is_writing)
+
+  -- and which the peer opened
+  pub all_reached : Group Nothing (And All Openers)
+  all_reached = both Nothing All Openers all (openers_group (And Nothing All) (λ x y h. h.1.0.0))
 
   -- ---- limits that grew
 
@@ -156,6 +174,15 @@ module _ (Ready : Way) (ready : IsReadying Ready) where
 
     pub accepts_all : AcceptsAll r
     accepts_all = reads.accepts_all (And All ReadsHold) says_read r end honest reads_place
+
+    pub accepted_were_opened : AcceptedWereOpened r
+    accepted_were_opened = openers.accepted_were_opened (And All Openers) (record { openers = λ x y h. h.1 }) r end honest (placed (And All Openers) all_reached r end honest run)
+
+    pub resets_are_told : ResetsAreTold r
+    resets_are_told = resets.resets_are_told (And All ReadsHold) says_read r end honest reads_place
+
+    pub ids_are_new : IdsAreNew r
+    ids_are_new = new_ids.ids_are_new (And All (OfGiven IsGot)) (record { got = λ x y h. h.1 }) r end (placed (And All (OfGiven IsGot)) all_got r end honest run)
 
     pub finished_means_arrived : FinishedMeansArrived r
     finished_means_arrived = finished_arrived All all (λ x y h. h.0.0) (λ x y h. h.0.1.0.says) (λ x y h. h.0.1.0.writes) r end honest run

@@ -35,15 +35,16 @@ use Rattle.quic_headline.proofs.Places.Placed.{party_at, Placed, watch_is, answe
 -- ---- injections
 
 -- whether bytes open is told by the answer
-told_by_answer : (p : Policy) (e : End) (now : ℕ) (d : List ℕ) (a : Answer) (b c : Bool) → b ≡ c → a ≡ injected_if b p e now d → (a ≡ answers.Opens) ↔ (c ≡ true)
-told_by_answer p e now d a true c same is = (λ told. sym same, λ opened. is)
-told_by_answer p e now d a false c same is = (λ told. cc, λ opened. cc)
+told_by_answer : (p : Policy) (e : End) (injection : Injection) (a : Answer) (b c : Bool) → b ≡ c → a ≡ injected_if b p e injection → (a ≡ answers.Opens) ↔ (c ≡ true)
+told_by_answer p e injection a true c same is = (λ told. sym same, λ opened. is)
+told_by_answer p e injection a false c same is = (λ told. cc, λ opened. cc)
 
 -- an end that has these ids and expects this number answers by them
-opens_by : (p : Policy) (e : End) (now : ℕ) (d : List ℕ) (a : Answer) (ids : List (List ℕ)) (x : ℕ) → known e.ids ≡ ids → expected e.numbers ≡ x → a ≡ injected_if (would_open p e d) p e now d
-    → (a ≡ answers.Opens) ↔ (is_some (opens p ids x d) ≡ true)
-opens_by p e now d a ids x has expects is =
-    told_by_answer p e now d a (would_open p e d) (is_some (opens p ids x d)) (ap (λ (xs : List (List ℕ)). is_some (opens p xs (expected e.numbers) d)) has ∙ ap (λ (n : ℕ). is_some (opens p ids n d)) expects) is
+opens_by : (p : Policy) (e : End) (injection : Injection) (a : Answer) (ids : List (List ℕ)) (x : ℕ) → known e.ids ≡ ids → expected e.numbers ≡ x → a ≡ injected_if (would_open p e injection.bytes) p e injection
+    → (a ≡ answers.Opens) ↔ (is_some (opens p ids x injection.bytes) ≡ true)
+opens_by p e injection a ids x has expects is =
+    let d : List ℕ = injection.bytes in
+    told_by_answer p e injection a (would_open p e d) (is_some (opens p ids x d)) (ap (λ (xs : List (List ℕ)). is_some (opens p xs (expected e.numbers) d)) has ∙ ap (λ (n : ℕ). is_some (opens p ids n d)) expects) is
 
 -- ---- what ACK frames name
 
@@ -127,7 +128,7 @@ module _ (r : Run) (end : World) (honest : IsHonest r) (side : Side) (i : ℕ) (
   pub opens_at : (injection : Injection) (a : Answer) → IsAt r i side (calls.Inject injection) a → (a ≡ answers.Opens) ↔ (would_open_at r side i injection.bytes ≡ true)
   opens_at injection a is =
       let came = took_is r honest at.world i side at.sents at.theirs in
-      opens_by here.policy here.end injection.now injection.bytes a (watch r side i).intake.ids (expected_behind (took r side i)) (at.takes.known ∙ sym (ap (λ (j : Intake). j.ids) came))
+      opens_by here.policy here.end injection a (watch r side i).intake.ids (expected_behind (took r side i)) (at.takes.known ∙ sym (ap (λ (j : Intake). j.ids) came))
       (expects_in here.end.closing.state here.end.numbers (came_to here there) at.takes.knows ∙ ap expected_behind (sym took_here))
       (answered r at.world end i side (calls.Inject injection) a at.goes_on is)
 

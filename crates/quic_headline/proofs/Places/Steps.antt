@@ -1,6 +1,7 @@
 -- How many datagrams a call gives: a poll that answers one gives one, and no other call gives any.
 use Rattle.std.proofs.Common.{◌≡◌, ℕ, Bool, List, [], length, false, Option, Some, None, refl, sym, ap, ◌∙◌, subst, ◌⊎◌, inl, inr}
 use Rattle.std.specs.Prelude.{slice_get, if◌then◌else◌, Err}
+use Rattle.quic_machine.specs.declared.run.Delivery.{Delivery}
 use Rattle.quic_streams_state.specs.declared.state.StreamsState.{StreamsState}
 use Rattle.quic_machine.specs.declared.run.Call.{Call}
 use Rattle.quic_machine.specs.declared.run.Call.TheVariants as calls
@@ -45,9 +46,9 @@ streams_give opened s (calls.ReceivedReset id) a is = ap gave is
 streams_give opened s call a is = absurd is
 
 -- nor does a delivery
-delivery_gives : (p : Policy) (e : End) (now : ℕ) (d : Option (List ℕ)) (a : Answer) → IsDelivered p e now d a → gave a ≡ false
-delivery_gives p e now None a is = ap gave is
-delivery_gives p e now (Some d) a is = either_gives a _ _ refl refl is
+delivery_gives : (p : Policy) (e : End) (delivery : Delivery) (d : Option (List ℕ)) (a : Answer) → IsDelivered p e delivery d a → gave a ≡ false
+delivery_gives p e delivery None a is = ap gave is
+delivery_gives p e delivery (Some d) a is = either_gives a _ _ refl refl is
 
 -- ---- any call
 
@@ -56,8 +57,8 @@ pub only_polls_give : (p : Policy) (e : End) (theirs : List (List ℕ)) (call : 
 only_polls_give p e theirs calls.Ping a other is = ap gave is
 only_polls_give p e theirs (calls.Poll now) a other is = cc
 only_polls_give p e theirs (calls.Timeout now) a other is = either_gives a _ _ refl refl is
-only_polls_give p e theirs (calls.Deliver delivery) a other is = delivery_gives p e delivery.now (slice_get theirs delivery.index) a is
-only_polls_give p e theirs (calls.Inject injection) a other is = ap gave is ∙ injected_gives (would_open p e injection.bytes) p e injection.now injection.bytes
+only_polls_give p e theirs (calls.Deliver delivery) a other is = delivery_gives p e delivery (slice_get theirs delivery.index) a is
+only_polls_give p e theirs (calls.Inject injection) a other is = ap gave is ∙ injected_gives (would_open p e injection.bytes) p e injection
 only_polls_give p e theirs calls.Event a other is = ap gave is
 only_polls_give p e theirs (calls.Timer timer) a other is = ap gave is
 only_polls_give p e theirs calls.NextTimeout a other is = ap gave is

@@ -7,6 +7,8 @@ use Rattle.quic_headline.specs.Messages.{MessagesAtMostOnce}
 use Rattle.quic_headline.specs.InFlight.{TracksInFlight}
 use Rattle.quic_headline.specs.Causes.{NumberLimit}
 use Rattle.quic_headline.specs.Moments.{LossMoments, LossTimerQuiet, AckMoments}
+use Rattle.quic_headline.specs.Resets.{ResetsAreTold}
+use Rattle.quic_headline.specs.Ids.{IdsAreNew, AcceptedWereOpened}
 use Rattle.quic_headline.specs.Polls.{PacerSetsItsTimer, AskingGoesWhereLet, ProbesPass, WindowIsOfHistory}
 use Rattle.quic_headline.specs.Headline.{IsHonest, IsRun, OrderedPrefix, Slices, Once, EndAfterAll, BlockedOnlyWithoutBytes, AcceptsAll, FinishedMeansArrived, AcknowledgedWereTaken, NamesWereTaken, OpensExactly, NewestOpens, NumbersRise}
 use Rattle.quic_headline.proofs.Halves.Ready.{Ready, ready_probes, ready_group}
@@ -37,6 +39,15 @@ blocked_only_without_bytes = everything.blocked_only_without_bytes Ready ready
 
 pub accepts_all : (r : Run) (end : World) → IsHonest r → IsRun r end → AcceptsAll r
 accepts_all = everything.accepts_all Ready ready
+
+pub accepted_were_opened : (r : Run) (end : World) → IsHonest r → IsRun r end → AcceptedWereOpened r
+accepted_were_opened = everything.accepted_were_opened Ready ready
+
+pub resets_are_told : (r : Run) (end : World) → IsHonest r → IsRun r end → ResetsAreTold r
+resets_are_told = everything.resets_are_told Ready ready
+
+pub ids_are_new : (r : Run) (end : World) → IsHonest r → IsRun r end → IdsAreNew r
+ids_are_new = everything.ids_are_new Ready ready
 
 pub finished_means_arrived : (r : Run) (end : World) → IsHonest r → IsRun r end → FinishedMeansArrived r
 finished_means_arrived = everything.finished_means_arrived Ready ready

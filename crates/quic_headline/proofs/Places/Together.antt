@@ -1,8 +1,7 @@
 -- The groups of a run put together: over one of streams, the packets, what observers know of them, and the timers; and the clauses that these give.
-use Rattle.std.proofs.Common.{◌≡◌, ℕ, List, length, ap, ◌∙◌, arith}
+use Rattle.std.proofs.Common.{ℕ}
 use Rattle.quic_wire_core.specs.declared.stream_id.Side.{Side}
 use Rattle.quic_streams_state.specs.State.{Streams}
-use Rattle.quic_machine.specs.Opens.{own_id_length}
 use Rattle.quic_machine.specs.Machine.{World}
 use Rattle.quic_machine.specs.End.{streams_at}
 use Rattle.quic_machine.specs.PollCases.{ready_at}
@@ -13,7 +12,7 @@ use Rattle.quic_headline.specs.Headline.{IsHonest, IsRun, AcknowledgedWereTaken,
 use Rattle.quic_headline.specs.Moments.{LossMoments, LossTimerQuiet, AckMoments}
 use Rattle.quic_headline.proofs.Packets.Composed.{Spelling}
 use Rattle.quic_headline.proofs.Packets.Going.{Bringing, spellable_next}
-use Rattle.quic_headline.proofs.Packets.Group.{PacketsHold, SpellsNext, packets_group}
+use Rattle.quic_headline.proofs.Packets.Group.{PacketsHold, has_room, SpellsNext, packets_group}
 use Rattle.quic_headline.proofs.Packets.Sight.{Sight, sight_group}
 use Rattle.quic_headline.proofs.Packets.Referring.{Refers, refers_group}
 use Rattle.quic_headline.proofs.Places.Parties.{Party, AreJoined}
@@ -40,9 +39,7 @@ pub record Spells (H : Way) : Type 1 where
 module _ (H : Way) (s : Spells H) where
   -- what goes of an end next has a form
   spells : (x y : Party) → AreJoined x y → And Nothing H x y → And Nothing H y x → PacketsHold x y → PacketsHold y x → SpellsNext x.end
-  spells x y joined there back p q =
-      let long : length x.end.ids.active.id ≡ own_id_length = ap (λ (id : List ℕ). length id) p.active ∙ joined.y_long in
-      spellable_next s.known s.spelling s.bringing x.end q.acks (omega arith) (s.holds x y p there.1)
+  spells x y joined there back p q = spellable_next s.known s.spelling s.bringing x.end q.acks (has_room x y p joined.y_long) (s.holds x y p there.1)
 
   module _ (streams : Group PacketsHold H) where
     -- the packets and the streams

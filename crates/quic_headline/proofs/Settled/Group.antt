@@ -118,10 +118,10 @@ module _ (arrived : ℕ → ℕ → Type 0) (end_arrived : ℕ → Type 0) (k : 
           on_messages = λ on answer. i;
           pings = i;
           heard = λ path same. i;
-          times = λ now acks loss pacing set. by_expired e now (λ (f : End). Settling arrived end_arrived k n w f.streams) (λ pending tracking timers runs packets. i)
-              (λ pending timers runs. expiry_stays (λ (t : Streams). Settling arrived end_arrived k n w t.state) e now (losing e.tracking.packets ends) i pending timers) acks loss pacing;
+          times = λ now expiry set. by_expired e now (λ (f : End). Settling arrived end_arrived k n w f.streams) (λ pending tracking timers runs packets. i)
+              (λ pending timers runs. expiry_stays (λ (t : Streams). Settling arrived end_arrived k n w t.state) e now (losing e.tracking.packets ends) i pending timers) expiry;
           polls = λ now set. cc;
-          hears = λ now d set. cc;
+          hears = λ arrival d set. cc;
           tells = λ asks. cc;
         }))
 
@@ -310,6 +310,7 @@ module _ (sents : List Sent) (w : ℕ → Wrote) (says : (s : Sent) → In s sen
     names = λ flying acked a e among i. i;
     acks = λ flying acked ss left ps e inside stays waits i. ((λ s j. i.0 s (stays s j)), sents_settle n w sents acked ss ps waits e (meta_sent n flying acked ss i.0 inside) i.1);
     measured = λ flying acked r first e i. i;
+    marked = λ flying acked m marking e i. i;
     on_streams = λ flying acked f e among on i. (i.0, settling_frame (λ id o. HoldsOffset acked id o) (λ id. HoldsEnd acked id) (known_of sents acked) n w f e on (small f among) i.1);
     message = λ flying acked m e i. i;
   }
@@ -338,6 +339,7 @@ module _ (took : List Packet) (sents : List Sent) (n : ℕ → ℕ) (w : ℕ →
     again = λ c e was i. i;
     tracked = λ t e i. i;
     measured = λ r first e i. i;
+    marked = λ m marking e i. i;
   }
     where
       carried_ended : (c : Carried) (m : StreamMeta) → WasCarried took c → In m c.stream_frames → m.fin ≡ true → (w m.id).ended ≡ true
@@ -386,7 +388,7 @@ module _ (B : Way) (b : SettlesOver B) (x y : Party) (call : Call) (a : Answer) 
 
   -- each case of a delivery, whether the packet is taken or refused
   always_arrives : (now : ℕ) (d : Sent) → In d y.sents → Arrivals x.end now d.number d.frames (came_to x y) (λ (o : Outcome) (i : Intake). Always (told_so x) (wrote x.told) o.end)
-  always_arrives now d among = record { ignored = λ reason. s.always; noted = λ state reason. s.always; takes = λ state new none. after; refuses = λ state new f is. after }
+  always_arrives now d among = record { ignored = λ reason. s.always; noted = λ state reason. s.always; takes = λ state new none mark. after; refuses = λ state new f is. after }
     where
       took : List Packet
       took = (came_to y x).took
@@ -405,7 +407,7 @@ module _ (B : Way) (b : SettlesOver B) (x y : Party) (call : Call) (a : Answer) 
   still_arrives delivery is d among = record {
     ignored = λ reason still. before still;
     noted = λ state reason still. (let clash : states.Closing ≡ states.Open = sym state ∙ still in cc);
-    takes = λ state new none still. taken state none;
+    takes = λ state new none mark still. taken state none;
     refuses = λ state new f is still. cc;
   }
     where

@@ -11,6 +11,7 @@ use Rattle.quic_machine.specs.declared.answers.Transmit.{Transmit}
 use Rattle.quic_machine.specs.declared.run.Call.TheVariants as calls
 use Rattle.quic_machine.specs.declared.run.Answer.TheVariants as answers
 use Rattle.quic_machine.specs.Policy.{Policy}
+use Rattle.quic_machine.specs.Parts.{current_mtu}
 use Rattle.quic_machine.specs.End.{End, with_window}
 use Rattle.quic_machine.specs.Control.{bytes_in_flight, paced_until, Gated, lets}
 use Rattle.quic_machine.specs.Poll.{Polled, composed, asking, probe_if, probed, lazied, asks_to_go, is_gated, gated, goes, draft_of, polled}
@@ -19,7 +20,7 @@ use Rattle.quic_machine.specs.PollCases.{ready_at, draft_at, by_gate, by_poll_to
 use Rattle.quic_headline.specs.Runs.{Run}
 use Rattle.quic_headline.specs.Observer.{Sent, asks_of, Watch, sents_until}
 use Rattle.quic_headline.specs.Headline.{IsHonest, IsRun}
-use Rattle.quic_headline.specs.Polls.{bytes_flying, size_at, AskingGoesWhereLet}
+use Rattle.quic_headline.specs.Polls.{bytes_flying, AskingGoesWhereLet}
 use Rattle.quic_headline.proofs.Packets.Invariant.{Acks}
 use Rattle.quic_headline.proofs.Packets.Flying.{asking_padded}
 use Rattle.quic_headline.proofs.Packets.Group.{PacketsHold}
@@ -58,7 +59,7 @@ giving p e now t = by_poll_to p e now (λ (q : Polled). q.answer ≡ Ok (Some t)
 
 -- The window of an end has room for one more datagram, and its pacer names no later moment.
 record IsLet (e : End) : Type 0 where
-  room : bytes_in_flight e + e.path.size < e.path.window
+  room : bytes_in_flight e + current_mtu e.path < e.path.window
   unpaced : paced_until e ≡ None
 
 -- a due ACK stays due
@@ -66,11 +67,11 @@ lazy_due : (p : Pending) → can_send p ≡ true → can_send (after_lazy p) ≡
 lazy_due p due = let both = and_parts p.due (is_filled p.runs) due in and_from (after_lazy p).due (is_filled p.runs) (or_left p.due _ both.0) both.1
 
 -- where no probe waits and what goes asks, both let it
-let_go : (e : End) → Acks e.acknowledging → e.tracking.probes ≡ 0 → goes (gated e) ≡ true → asking (draft_of (gated e)).frames ≡ true → IsLet e
+let_go : (e : End) → Acks e.acknowledging e.marks.came → e.tracking.probes ≡ 0 → goes (gated e) ≡ true → asking (draft_of (gated e)).frames ≡ true → IsLet e
 let_go e acks none = by_gate e (λ (g : Gated). goes g ≡ true → asking (draft_of g).frames ≡ true → IsLet e) (record {
   free = λ is some asks. absurd (idle (nothing is) some asks);
   full = λ gate is some asks. (let clash : ◌≡◌ {A = Bool} false true = asks in cc);
-  lets = λ gate room unpaced some asks. record { room = leb-false e.path.window (bytes_in_flight e + e.path.size) room; unpaced = unpaced };
+  lets = λ gate room unpaced some asks. record { room = leb-false e.path.window (bytes_in_flight e + current_mtu e.path) room; unpaced = unpaced };
   holds = λ moment gate room is some asks. (let clash : ◌≡◌ {A = Bool} false true = asks in cc);
 })
   where
@@ -82,7 +83,7 @@ let_go e acks none = by_gate e (λ (g : Gated). goes g ≡ true → asking (draf
 
     -- where nothing asks to go, an ACK goes alone
     idle : asks_to_go e ≡ false → goes (lets e) ≡ true → asking (composed (lazied e)).frames ≡ true → ⊥
-    idle silent some asks = both_ways (asking (composed (lazied e)).frames) (mute_composed (lazied e) (record { runs = acks.runs; small = acks.small }) (lazy_due e.acknowledging due) silent) asks
+    idle silent some asks = both_ways (asking (composed (lazied e)).frames) (mute_composed (lazied e) (record { runs = acks.runs; small = acks.small; counts = acks.counts }) (lazy_due e.acknowledging due) silent) asks
       where
         due : can_send e.acknowledging ≡ true
         due = elim (or_cases (can_send e.acknowledging) (asks_to_go e) some) [
@@ -104,7 +105,7 @@ module _ (H : Way) (g : Group Nothing (And (And PacketsHold H) Sight)) (r : Run)
   -- what asks and is no probe goes only where the window has room for it beside what is in flight, and the pacer names no later moment
   pub asking_goes_where_let : AskingGoesWhereLet r
   asking_goes_where_let side i now w next gave none = (
-    subst (λ (n : ℕ). n + size_at r side < control_at side w []) flight (subst (λ (n : ℕ). bytes_in_flight e + n < control_at side w []) h.gives.0.0.size room),
+    subst (λ (n : ℕ). n + current_mtu e.path < control_at side w []) flight room,
     free.unpaced,
   )
     where
@@ -143,10 +144,10 @@ module _ (H : Way) (g : Group Nothing (And (And PacketsHold H) Sight)) (r : Run)
       quiet = unprobed (begun e now) none
 
       free : IsLet (probed (begun e now))
-      free = let_go (probed (begun e now)) (subst (λ (z : End). Acks z.acknowledging) (sym quiet) h.takes.0.0.acks) (ap (λ (z : End). z.tracking.probes) quiet ∙ none) gives.some asks
+      free = let_go (probed (begun e now)) (subst (λ (z : End). Acks z.acknowledging z.marks.came) (sym quiet) h.takes.0.0.acks) (ap (λ (z : End). z.tracking.probes) quiet ∙ none) gives.some asks
 
-      room : bytes_in_flight e + e.path.size < control_at side w []
-      room = subst (λ (z : End). bytes_in_flight z + z.path.size < z.path.window) quiet free.room
+      room : bytes_in_flight e + current_mtu e.path < control_at side w []
+      room = subst (λ (z : End). bytes_in_flight z + current_mtu z.path < z.path.window) quiet free.room
 
       -- the observer counts the bytes in flight as the end does
       flight : bytes_in_flight e ≡ bytes_flying r side i

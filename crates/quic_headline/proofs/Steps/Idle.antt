@@ -21,7 +21,8 @@ use Rattle.quic_streams_state.specs.Control.{Entry, waiting, without_first, fram
 use Rattle.quic_streams_state.specs.ControlLaws.{is_due, any_due, none_due, others_wait, others_same, place, same_place}
 use Rattle.quic_spaces.specs.Numbers.{cut_against}
 use Rattle.quic_machine.specs.End.{End, number_of}
-use Rattle.quic_machine.specs.Poll.{Draft, current_mtu, no_frames, frame_room, least_room, fits, ping_if, with_control_frames, with_message_frames, with_stream_frames, ack_of, with_ack, composed_if, composed, asking, message_waits, asks_to_go}
+use Rattle.quic_machine.specs.Parts.{current_mtu}
+use Rattle.quic_machine.specs.Poll.{Draft, no_frames, frame_room, least_room, fits, ping_if, with_control_frames, with_message_frames, with_stream_frames, ack_of, with_ack, composed_if, composed, asking, message_waits, asks_to_go}
 use Rattle.quic_machine.specs.DraftLaws.{by_entries, by_messages, by_streams}
 use Rattle.quic_headline.proofs.Packets.Invariant.{Acks}
 use Rattle.quic_headline.proofs.Packets.Composed.{ack_form}
@@ -125,7 +126,7 @@ room_more e =
     let between : ℕ = number_of e - cut_against e.numbers in
     go (nat_lt (2 * between) 256) (nat_lt (2 * between) 65536) (nat_lt (2 * between) 16777216)
   where
-    go : (a b c : Bool) → current_mtu - (1 + length e.ids.active.id + (if a then 1 else (if b then 2 else (if c then 3 else 4))) + 16) ≤ least_room e + 3
+    go : (a b c : Bool) → current_mtu e.path - (1 + length e.ids.active.id + (if a then 1 else (if b then 2 else (if c then 3 else 4))) + 16) ≤ least_room e + 3
     go true b c = omega arith
     go false true c = omega arith
     go false false true = omega arith
@@ -134,7 +135,7 @@ room_more e =
 -- ---- what is composed
 
 -- where nothing waits that asks, a due ACK goes alone
-pub mute_composed : (e : End) → Acks e.acknowledging → can_send e.acknowledging ≡ true → asks_to_go e ≡ false → asking (composed e).frames ≡ false
+pub mute_composed : (e : End) → Acks e.acknowledging e.marks.came → can_send e.acknowledging ≡ true → asks_to_go e ≡ false → asking (composed e).frames ≡ false
 mute_composed e acks due none =
     let ping = or_parts e.waiting.ping (not (is_empty e.waiting.frames e.streams) || (message_waits e || can_send_stream_data e.streams)) none in
     let empty = or_parts (not (is_empty e.waiting.frames e.streams)) (message_waits e || can_send_stream_data e.streams) ping.1 in

@@ -1,6 +1,7 @@
 -- The timer of the pacer of an open end: a poll sets it to the moment that the pacer names, or stops it; any other call leaves it or stops it.
 use Rattle.std.proofs.Common.{◌≡◌, ℕ, Bool, true, false, List, [], Option, Some, None, refl, sym, ap, subst, ◌⊎◌, inl, inr}
 use Rattle.std.specs.Prelude.{if◌then◌else◌}
+use Rattle.quic_spaces.specs.Marks.{is_congested}
 use Rattle.quic_wire_core.specs.StreamId.{other_side}
 use Rattle.quic_recovery_core.specs.Duplicates.{Seen}
 use Rattle.quic_recovery_core.specs.PendingAcks.{Pending, after_insert, packet_starts_wait}
@@ -19,6 +20,7 @@ use Rattle.quic_machine.specs.Control.{Gated, paced_until, with_pacing_timer}
 use Rattle.quic_machine.specs.Timeouts.{acks_expired, loss_judged, loss_expired, pacing_expired}
 use Rattle.quic_machine.specs.Poll.{probed, lazied, goes, sends, polled_if, polled_in, polled}
 use Rattle.quic_machine.specs.Receive.{timers_after}
+use Rattle.quic_spaces.specs.Acknowledging.{with_due}
 use Rattle.quic_machine.specs.Machine.{after_call, end_at, control_at, given_by, policy_at}
 use Rattle.quic_machine.specs.CallCases.{is_poll, by_plain_call}
 use Rattle.quic_machine.specs.FrameCases.{Settling, Receives, named, acked_keeps, losses_keep, frame_keeps, frame_leaves, by_received}
@@ -87,7 +89,7 @@ pacing_after t p now n asks s = go (packet_starts_wait p n asks s)
 module _ (o : Option ℕ) where
   -- acknowledged and lost packets leave the timer
   settling : Settling (Paces o)
-  settling = record { known = λ n e i. i; reset = λ id e i. i; acked = λ m e i. i; lost = λ m e i. i; again = λ carried e i. i; tracked = λ t e i. i; measured = λ r first e i. i }
+  settling = record { known = λ n e i. i; reset = λ id e i. i; acked = λ m e i. i; lost = λ m e i. i; again = λ carried e i. i; tracked = λ t e i. i; measured = λ r first e i. i; marked = λ m marking e i. i }
 
   -- a datagram that comes does, and stops it where the end closes
   receives : Receives (Paces o)
@@ -95,7 +97,7 @@ module _ (o : Option ℕ) where
     notes = λ n e i. i;
     begins = λ now n e i. i;
     frame = frame_keeps (Paces o) (record { ack = λ rises a e i. acked_keeps (Paces o) settling rises a (named a e) i; on_streams = λ f e on i. frame_leaves (Paces o) f e on (λ t. i); message = λ m e i. i });
-    takes = λ n asks e i. subst (λ (q : Option ℕ). (q ≡ None) ⊎ (q ≡ o)) (sym (pacing_after e.timers (after_insert e.acknowledging n e.closing.clock) e.closing.clock n asks e.numbers.opened)) i;
+    takes = λ n asks mark e i. subst (λ (q : Option ℕ). (q ≡ None) ⊎ (q ≡ o)) (sym (pacing_after e.timers (with_due (is_congested mark) (after_insert e.acknowledging n e.closing.clock)) e.closing.clock n asks e.numbers.opened)) i;
     closes = λ reason e i. inl refl;
   }
 
@@ -127,9 +129,9 @@ module _ (o : Option ℕ) where
     on_messages = λ m. i;
     pings = i;
     heard = λ path same. i;
-    times = λ now acks loss pacing is. expired_paces pacing (acks_expired acks (loss_expired loss (with_closing e (ticked e.closing now)))) (acks_pace acks (loss_expired loss (with_closing e (ticked e.closing now))) (lost_paces loss (with_closing e (ticked e.closing now)) i));
+    times = λ now expiry is. expired_paces expiry.pacing (acks_expired expiry.acks (loss_expired expiry.loss (with_closing e (ticked e.closing now)))) (acks_pace expiry.acks (loss_expired expiry.loss (with_closing e (ticked e.closing now))) (lost_paces expiry.loss (with_closing e (ticked e.closing now)) i));
     polls = λ now is. cc;
-    hears = λ now d is. by_received (Paces o) receives p e now d i;
+    hears = λ arrival d is. by_received (Paces o) receives p e arrival d i;
     tells = λ told. i;
   })
 

@@ -1,10 +1,9 @@
 -- Where a probe waits, a poll that leaves its end open gives a datagram that asks for an acknowledgement (RFC 9002, sections 6.2.4 and 7.5).
-use Rattle.std.proofs.Common.{◌≡◌, ℕ, ◌+◌, ◌-◌, ◌<◌, ◌≤◌, List, [], ◌∷◌, ◌++◌, length, Bool, true, false, Some, None, Ok, refl, sym, ap, ◌∙◌, subst, ◌⊎◌, inl, inr, arith}
+use Rattle.std.proofs.Common.{◌≡◌, ℕ, ◌+◌, ◌-◌, ◌<◌, ◌≤◌, ◌^◌, List, [], ◌∷◌, ◌++◌, length, Bool, true, false, Some, None, Ok, refl, sym, ap, ◌∙◌, subst, ◌⊎◌, inl, inr, arith}
 use Rattle.std.specs.Prelude.{not, ◌||◌, ◌==◌}
 use Rattle.std.proofs.lemmas.Bool.{lt-ltb, or_left, or_right, and_right, and_parts, not-true, ne_eqb}
 use Rattle.std.proofs.lemmas.List.{length-append}
 use Rattle.std.proofs.lemmas.List.Folds.{list_any-append}
-use Rattle.quic_wire_core.specs.declared.shared.EcnCodepoint.TheVariants.{Ect0}
 use Rattle.quic_wire_core.specs.StreamId.{other_side}
 use Rattle.quic_wire.specs.Value.{FrameValue, padding, ack, ping, stream, connection_close, application_close, datagram, asks}
 use Rattle.quic_wire.specs.AckGrammar.{AckFits}
@@ -12,7 +11,7 @@ use Rattle.quic_wire.specs.Writing.{spelling}
 use Rattle.quic_wire.proofs.FrameWritten.{spelling_length}
 use Rattle.quic_wire.proofs.FrameRange.{size_most}
 use Rattle.quic_wire.proofs.AckSet.{set_length}
-use Rattle.quic_recovery_core.specs.PendingAcks.{is_filled, can_send}
+use Rattle.quic_recovery_core.specs.PendingAcks.{Pending, is_filled, can_send}
 use Rattle.quic_recovery_core.specs.declared.spaces.pending_acks.TheConstants.{MAX_ACK_RUNS}
 use Rattle.quic_retransmits.specs.Retransmits.{nothing_waits}
 use Rattle.quic_streams_parts.specs.Table.{added}
@@ -27,28 +26,28 @@ use Rattle.quic_machine.specs.declared.answers.Transmit.{Transmit}
 use Rattle.quic_machine.specs.declared.run.Call.TheVariants as calls
 use Rattle.quic_machine.specs.declared.run.Answer.{Answer}
 use Rattle.quic_machine.specs.declared.run.Answer.TheVariants as answers
+use Rattle.quic_machine.specs.Parts.{current_mtu}
 use Rattle.quic_machine.specs.Policy.{Policy}
 use Rattle.quic_machine.specs.Closing.{ticked}
 use Rattle.quic_machine.specs.Ids.{Ids}
 use Rattle.quic_machine.specs.Tracking.{Tracking, TrackedPacket, forgotten, without_packet, asking_sent, after_sent}
-use Rattle.quic_machine.specs.Opens.{own_id_length}
 use Rattle.quic_machine.specs.End.{End, number_of, with_closing, with_window, streams_at}
 use Rattle.quic_machine.specs.Control.{Gated, lets, gated_if, with_pacing_timer}
-use Rattle.quic_machine.specs.Poll.{Polled, Draft, no_frames, frame_room, ping_if, with_control_frames, with_message_frames, with_stream_frames, with_asking, ack_of, with_ack, ack_fits, ack_if, composed_if, composed, datagram_of, asking, packet_of, probed, lazied, message_waits, asks_to_go, goes, draft_of, sends, polled_if, polled_in, polled}
+use Rattle.quic_machine.specs.Poll.{mark_of, Polled, Draft, no_frames, frame_room, ping_if, with_control_frames, with_message_frames, with_stream_frames, with_asking, ack_of, with_ack, ack_fits, ack_if, composed_if, composed, datagram_of, asking, packet_of, probed, lazied, message_waits, asks_to_go, goes, draft_of, sends, polled_if, polled_in, polled}
 use Rattle.quic_machine.specs.Machine.{World, end_at, control_at, policy_at}
-use Rattle.quic_machine.specs.DraftLaws.{Writing, room_most, by_entries, by_messages, by_streams}
+use Rattle.quic_machine.specs.DraftLaws.{Writing, HasRoom, room_most, by_entries, by_messages, by_streams}
 use Rattle.quic_machine.specs.PollCases.{ready_at, frames_padded, frames_at, by_probed, composes}
 use Rattle.quic_headline.specs.Runs.{Run}
 use Rattle.quic_headline.specs.Headline.{IsHonest, IsRun}
 use Rattle.quic_headline.specs.Observer.{sents_until}
 use Rattle.quic_headline.specs.Polls.{IsMade, ProbesPass}
-use Rattle.quic_headline.proofs.Packets.Invariant.{Acks}
+use Rattle.quic_headline.proofs.Packets.Invariant.{CountsFit, Acks}
 use Rattle.quic_headline.proofs.Packets.Entries.{IsControl, control_of}
 use Rattle.quic_headline.proofs.Packets.Composed.{Spelling, ack_form}
 use Rattle.quic_headline.proofs.Packets.Going.{Bringing, control_goes}
 use Rattle.quic_headline.proofs.Packets.Flying.{asking_padded}
 use Rattle.quic_headline.proofs.Packets.Probes.{by_going}
-use Rattle.quic_headline.proofs.Packets.Group.{PacketsHold}
+use Rattle.quic_headline.proofs.Packets.Group.{PacketsHold, has_room}
 use Rattle.quic_headline.proofs.Packets.Sight.{Sight}
 use Rattle.quic_headline.proofs.Places.Parties.{sent_by, sents_by, Party}
 use Rattle.quic_headline.proofs.Places.Groups.{Way, Nothing, And, Group}
@@ -101,7 +100,7 @@ more_ask : (d : Draft) → Asks d → Asks (with_stream_frames (with_message_fra
 more_ask d is = by_streams Asks asks_stay.stream (with_message_frames d) (by_messages Asks asks_stay.message d is)
 
 -- an ACK frame leaves room for one more frame of control
-ack_leaves : (e : End) → Acks e.acknowledging → is_filled e.acknowledging.runs ≡ true → length e.ids.active.id ≤ 20 → length (spelling (ack (ack_of e))) + 25 ≤ frame_room e
+ack_leaves : (e : End) → Acks e.acknowledging e.marks.came → is_filled e.acknowledging.runs ≡ true → HasRoom e → length (spelling (ack (ack_of e))) + 25 ≤ frame_room e
 ack_leaves e acks filled short =
     let form : AckFits (ack_of e) = ack_form e acks filled in
     let long = spelling_length (ack (ack_of e)) form in
@@ -134,7 +133,7 @@ module _ (K : Streams → Type 0) (k : Spelling K) (c : Bringing K) where
       pinged false on = more_ask (with_control_frames d) (control_frames_ask d room i (not-true _ on))
 
   -- and what is composed
-  composed_asks : (e : End) → Acks e.acknowledging → length e.ids.active.id ≤ 20 → K (streams_at e) → has_probe e ≡ true → Asks (composed e)
+  composed_asks : (e : End) → Acks e.acknowledging e.marks.came → HasRoom e → K (streams_at e) → has_probe e ≡ true → Asks (composed e)
   composed_asks e acks short i waits = go (can_send e.acknowledging) refl
     where
       late : (b : Bool) (d : Draft) → Asks d → Asks (ack_if b d)
@@ -162,7 +161,7 @@ record GivesProbe (p : Policy) (e : End) (now : ℕ) : Type 0 where
   asks : asking (frames_at e now) ≡ true
   fewer : (polled p e now).end.tracking.probes + 1 ≡ e.tracking.probes
 
-module _ (K : Streams → Type 0) (k : Spelling K) (c : Bringing K) (p : Policy) (e : End) (now : ℕ) (waits : 0 < e.tracking.probes) (acks : Acks e.acknowledging) (short : length e.ids.active.id ≤ 20) (streams : K (streams_at (ready_at e now).end)) where
+module _ (K : Streams → Type 0) (k : Spelling K) (c : Bringing K) (p : Policy) (e : End) (now : ℕ) (waits : 0 < e.tracking.probes) (acks : Acks e.acknowledging e.marks.came) (short : HasRoom e) (streams : K (streams_at (ready_at e now).end)) where
   -- the end where something waits for each probe
   abbrev x : End
   x = probed (begun e now)
@@ -178,6 +177,14 @@ module _ (K : Streams → Type 0) (k : Spelling K) (c : Bringing K) (p : Policy)
   -- and so do the ids
   same_ids : x.ids ≡ e.ids
   same_ids = by_probed (begun e now) (λ (z : End). z.ids ≡ e.ids) refl refl (λ q probes is. refl)
+
+  -- and the marks with which packets came
+  same_came : x.marks.came ≡ e.marks.came
+  same_came = by_probed (begun e now) (λ (z : End). z.marks.came ≡ e.marks.came) refl refl (λ q probes is. refl)
+
+  -- and the size of datagrams
+  same_size : current_mtu x.path ≡ current_mtu e.path
+  same_size = by_probed (begun e now) (λ (z : End). current_mtu z.path ≡ current_mtu e.path) refl refl (λ q probes is. refl)
 
   -- something waits for them
   something : has_probe x ≡ true
@@ -197,8 +204,8 @@ module _ (K : Streams → Type 0) (k : Spelling K) (c : Bringing K) (p : Policy)
 
   -- which asks
   goes_asks : Asks (composed (lazied x))
-  goes_asks = composed_asks K k c (lazied x) (let there = subst Acks (sym same_acks) acks in record { runs = there.runs; small = there.small })
-      (subst (λ (ids : Ids). length ids.active.id ≤ 20) (sym same_ids) short) (subst (λ (g : Gated). K (streams_at g.end)) ungated streams) something
+  goes_asks = composed_asks K k c (lazied x) (let there = subst (λ (p : Pending). Acks p e.marks.came) (sym same_acks) acks in record { runs = there.runs; small = there.small; counts = subst CountsFit (sym same_came) there.counts })
+      (subst (λ (ids : Ids). length ids.active.id ≤ 20) (sym same_ids) short.0, subst (λ (n : ℕ). 1200 ≤ n) (sym same_size) short.1, subst (λ (n : ℕ). n < 2 ^ 16) (sym same_size) short.2) (subst (λ (g : Gated). K (streams_at g.end)) ungated streams) something
 
   -- and so do the frames of its datagram
   frames_ask : asking (frames_at e now) ≡ true
@@ -226,7 +233,7 @@ module _ (K : Streams → Type 0) (k : Spelling K) (c : Bringing K) (p : Policy)
     where
       go : (b : Bool) → polled p e now ≡ sends b p (lets x) → GivesProbe p e now
       go true is = record {
-        transmit = record { size = length (datagram_of p (draft_of (lets x))); ecn = Some Ect0 };
+        transmit = record { size = length (datagram_of p (draft_of (lets x))); ecn = mark_of (sends true p (lets x)).end.path.marking };
         answer = ap (λ (q : Polled). q.answer) is;
         asks = frames_ask;
         fewer = ap (λ (q : Polled). q.end.tracking.probes + 1) is ∙ fewer;
@@ -267,11 +274,8 @@ module _ (H : Way) (s : Spells H) (g : Group Nothing (And (And PacketsHold H) Si
       left : end_at side next ≡ (polled p e now).end
       left = made_end r i side (calls.Poll now) a w next m
 
-      long : length e.ids.active.id ≡ own_id_length
-      long = ap (λ (id : List ℕ). length id) h.gives.0.0.active ∙ h.joined.y_long
-
       gives : GivesProbe p e now
-      gives = gives_probe s.known s.spelling s.bringing p e now waits h.takes.0.0.acks (let eight = long in omega arith) (s.holds x y h.gives.0.0 h.gives.0.1 now) opened (sym (ap (λ (z : End). z.closing.state) left) ∙ still)
+      gives = gives_probe s.known s.spelling s.bringing p e now waits h.takes.0.0.acks (has_room x y h.gives.0.0 h.joined.y_long) (s.holds x y h.gives.0.0 h.gives.0.1 now) opened (sym (ap (λ (z : End). z.closing.state) left) ∙ still)
 
       said : a ≡ answers.Poll (Ok (Some gives.transmit))
       said = poll_answer p e now a m.step.answer (made_served r i side (calls.Poll now) a w next m) ∙ ap answers.Poll gives.answer

@@ -21,7 +21,7 @@ use Rattle.quic_headline.proofs.Places.Moments.{last_view}
 -- ---- one step
 
 -- the controller of one end shows at the second of two ends of a run what it shows at the first once it was told this
-abbrev ShowsAfter : Side → World → World → List Told → Type 0
+abbrev pub ShowsAfter : Side → World → World → List Told → Type 0
 ShowsAfter side w end told = (more : List Told) → control_at side end more ≡ control_at side w (told ++ more)
 
 -- the controller of the end that calls is told what the call tells
@@ -43,17 +43,17 @@ step_shows side k w next event a served s more = go side event.side event.call s
 -- ---- a run
 
 -- What a controller was told by a run, and shows then.
-record History (side : Side) (k : Policies) (w : World) (events : List RunEvent) (answers : List Answer) (end : World) : Type 0 where
-  told : List Told
-  was : WasTold side k w events answers end told
-  shows : ShowsAfter side w end told
+pub record History (side : Side) (k : Policies) (w : World) (events : List RunEvent) (answers : List Answer) (end : World) : Type 0 where
+  pub told : List Told
+  pub was : WasTold side k w events answers end told
+  pub shows : ShowsAfter side w end told
 
 -- nothing, where nothing was answered
 no_history : (side : Side) (k : Policies) (w : World) (events : List RunEvent) (end : World) → end ≡ w → History side k w events [] end
 no_history side k w events end is = record { told = []; was = (is, refl); shows = λ more. ap (λ (v : World). control_at side v more) is }
 
 -- so it is of any run whose answers were served
-history : (side : Side) (k : Policies) (w : World) (events : List RunEvent) (answers : List Answer) (views : List View) (end : World) → Follows k w events answers views end → list_any fails answers ≡ false → History side k w events answers end
+pub history : (side : Side) (k : Policies) (w : World) (events : List RunEvent) (answers : List Answer) (views : List View) (end : World) → Follows k w events answers views end → list_any fails answers ≡ false → History side k w events answers end
 history side k w [] [] [] end f served = no_history side k w [] end f
 history side k w (e ∷ events) [] [] end f served = no_history side k w (e ∷ events) end f
 history side k w [] [] (v ∷ views) end f served = absurd f
@@ -86,7 +86,7 @@ first_lead (suc i) k w (e ∷ events) (a ∷ answers) (v ∷ views) end f = let 
 -- ---- the clause
 
 -- a view shows the windows of both ends
-window_there : (side : Side) (w : World) → window_in (view_of w) side ≡ Some (control_at side w [])
+window_there : (side : Side) (w : World) → window_in (view_of w) side ≡ control_at side w []
 window_there Client w = refl
 window_there Server w = refl
 
@@ -99,5 +99,5 @@ window_is_of_history r end run side i v served there =
       lead.0,
       h.told,
       h.was,
-      ap (λ (u : View). window_in u side) seen ∙ window_there side lead.0 ∙ ap (λ (n : ℕ). Some n) (h.shows [] ∙ ap (λ (ts : List Told). control_at side r.start ts) (append-nil h.told)),
+      ap (λ (u : View). window_in u side) seen ∙ window_there side lead.0 ∙ h.shows [] ∙ ap (λ (ts : List Told). control_at side r.start ts) (append-nil h.told),
     )

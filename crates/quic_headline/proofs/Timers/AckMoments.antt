@@ -3,6 +3,8 @@
 use Rattle.std.proofs.Common.{◌≡◌, ℕ, zero, suc, ◌⊎◌, Bool, true, false, ◌||◌, List, [], ◌∷◌, ◌++◌, length, drop, map, replicate, Option, Some, None, Ok, refl, sym, ap, ◌∙◌, subst, inl, inr}
 use Rattle.std.specs.Prelude.{if◌then◌else◌, slice_get}
 use Rattle.std.specs.List.{list_any}
+use Rattle.quic_wire_core.specs.declared.shared.EcnCodepoint.{EcnCodepoint}
+use Rattle.quic_spaces.specs.Marks.{is_congested}
 use Rattle.quic_wire_core.specs.declared.stream_id.Side.{Side}
 use Rattle.quic_wire.specs.Value.{FrameValue, ack, asks, padding, datagram}
 use Rattle.quic_recovery_core.specs.PendingAcks.{after_insert, starts_wait, asking_counted}
@@ -16,8 +18,9 @@ use Rattle.quic_machine.specs.Policy.{Policy}
 use Rattle.quic_machine.specs.Closing.{ticked}
 use Rattle.quic_machine.specs.End.{End, with_closing, with_ack_timer, with_loss_timer}
 use Rattle.quic_machine.specs.Receive.{asks_in, after_taken, Outcome}
+use Rattle.quic_spaces.specs.Acknowledging.{with_due}
 use Rattle.quic_machine.specs.Poll.{Polled, Draft, lazied, polled, draft_if}
-use Rattle.quic_machine.specs.Timeouts.{loss_judged, acks_expired, loss_expired, pacing_expired}
+use Rattle.quic_machine.specs.Timeouts.{Expiry, loss_judged, acks_expired, loss_expired, pacing_expired}
 use Rattle.quic_machine.specs.Machine.{World, IsAnswer, after_call, fails, gave, end_at}
 use Rattle.quic_machine.specs.CallCases.{is_delivery, by_plain_call}
 use Rattle.quic_machine.specs.LeaveCases.{at_expiry}
@@ -108,7 +111,7 @@ HasTimer o e = e.timers.max_ack_delay ≡ o
 
 -- packets that are acknowledged or lost leave it
 timer_settles : (o : Option ℕ) → Settling (HasTimer o)
-timer_settles o = record { known = λ n y j. j; reset = λ id y j. j; acked = λ m y j. j; lost = λ m y j. j; again = λ carried y j. j; tracked = λ t y j. j; measured = λ r first y j. j }
+timer_settles o = record { known = λ n y j. j; reset = λ id y j. j; acked = λ m y j. j; lost = λ m y j. j; again = λ carried y j. j; tracked = λ t y j. j; measured = λ r first y j. j; marked = λ m marking y j. j }
 
 abbrev SetsNone : End → End → Type 0
 SetsNone e f = (moment : ℕ) → f.timers.max_ack_delay ≡ Some moment → e.timers.max_ack_delay ≡ Some moment
@@ -128,8 +131,8 @@ pacing_none : (pacing : Bool) (e : End) → (with_loss_timer (pacing_expired pac
 pacing_none true e = refl
 pacing_none false e = refl
 
-expired_none : (e : End) (now : ℕ) (acks loss pacing : Bool) → SetsNone e (at_expiry e now acks loss pacing)
-expired_none e now acks loss pacing moment set = acks_none e now acks loss moment (sym (pacing_none pacing (acks_expired acks (loss_expired loss (with_closing e (ticked e.closing now))))) ∙ set)
+expired_none : (e : End) (now : ℕ) (expiry : Expiry) → SetsNone e (at_expiry e now expiry)
+expired_none e now expiry moment set = acks_none e now expiry.acks expiry.loss moment (sym (pacing_none expiry.pacing (acks_expired expiry.acks (loss_expired expiry.loss (with_closing e (ticked e.closing now))))) ∙ set)
 
 draft_none : (held : Bool) (e : End) → MayLeave held e → SetsNone e (draft_if held e).end
 draft_none held e alone = by_leave (λ (d : Draft). SetsNone e d.end) (record { ack = λ d filled may i moment set. cc; ping = λ d i. i; drops = λ d kind i. i; control = λ d kind f is i. i; message = λ d m ms is fit i. i; stream = λ d id h room found first some is counts i. i }) held e alone (λ moment set. set)
@@ -157,9 +160,9 @@ call_none p e theirs call a apart = by_plain_call p e theirs (SetsNone e) call a
   on_messages = λ m moment set. set;
   pings = λ moment set. set;
   heard = λ path same moment set. set;
-  times = λ now acks loss pacing is. expired_none e now acks loss pacing;
+  times = λ now expiry is. expired_none e now expiry;
   polls = λ now is. polled_none p e now;
-  hears = λ now d is. (let clash : true ≡ false = sym is ∙ apart in cc);
+  hears = λ arrival d is. (let clash : true ≡ false = sym is ∙ apart in cc);
   tells = λ told moment set. set;
 })
 
@@ -186,10 +189,10 @@ asks_same [] = refl
 asks_same (f ∷ fs) = ap (λ (b : Bool). asks f || b) (asks_same fs)
 
 -- a packet sets it only where it asks
-taken_set : (e f : End) (n : ℕ) (asking : Bool) → f.timers.max_ack_delay ≡ e.timers.max_ack_delay → (moment : ℕ) → (after_taken n asking f).timers.max_ack_delay ≡ Some moment
+taken_set : (e f : End) (n : ℕ) (asking : Bool) (mark : Option EcnCodepoint) → f.timers.max_ack_delay ≡ e.timers.max_ack_delay → (moment : ℕ) → (after_taken n asking mark f).timers.max_ack_delay ≡ Some moment
     → (e.timers.max_ack_delay ≡ Some moment) ⊎ ((moment ≡ ack_due f.closing.clock) × (asking ≡ true))
-taken_set e f n false same moment set = inl (sym same ∙ set)
-taken_set e f n true same moment set = go (starts_wait (asking_counted (after_insert f.acknowledging n f.closing.clock) n f.numbers.opened)) set
+taken_set e f n false mark same moment set = inl (sym same ∙ set)
+taken_set e f n true mark same moment set = go (starts_wait (asking_counted (with_due (is_congested mark) (after_insert f.acknowledging n f.closing.clock)) n f.numbers.opened)) set
   where
     go : (b : Bool) → (if b then with_ack_timer f.timers (Some (ack_due f.closing.clock)) else f.timers).max_ack_delay ≡ Some moment → (e.timers.max_ack_delay ≡ Some moment) ⊎ ((moment ≡ ack_due f.closing.clock) × (true ≡ true))
     go true is = (let due : ack_due f.closing.clock ≡ moment = cc in inr (sym due, refl))
@@ -204,7 +207,7 @@ arrivals_set : (e : End) (now n : ℕ) (frames : List FrameValue) (i : Intake) �
 arrivals_set e now n frames i = record {
   ignored = λ reason moment set. inl set;
   noted = λ state reason moment set. inl set;
-  takes = λ state new none moment set. taken moment (taken_set e (arrived e now n frames).end n (asks_in (map Ok frames)) (frames_timer frames (begun e now n)) moment set);
+  takes = λ state new none mark moment set. taken moment (taken_set e (arrived e now n frames).end n (asks_in (map Ok frames)) mark (frames_timer frames (begun e now n)) moment set);
   refuses = λ state new f is moment set. cc;
 }
   where

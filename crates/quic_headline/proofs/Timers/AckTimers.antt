@@ -1,6 +1,7 @@
 -- At an open end the timer of acknowledgements is set only where a packet that asks came since the last acknowledgement went: each call keeps that.
 use Rattle.std.proofs.Common.{◌≡◌, ℕ, ◌+◌, ◌-◌, ◌^◌, ◌<◌, Bool, true, false, cond, min, List, Option, Some, None, refl, sym, ap, ◌∙◌, subst, arith}
 use Rattle.std.specs.Option.{is_some}
+use Rattle.quic_spaces.specs.Marks.{is_congested}
 use Rattle.quic_recovery_core.specs.Duplicates.{Seen}
 use Rattle.quic_recovery_core.specs.PendingAcks.{Pending, after_insert, asking_counted, starts_wait, after_packet}
 use Rattle.quic_time.specs.Timers.{Timers}
@@ -15,8 +16,9 @@ use Rattle.quic_machine.specs.Policy.{Policy}
 use Rattle.quic_machine.specs.Closing.{ticked}
 use Rattle.quic_machine.specs.End.{End, with_closing, closed_by, with_loss_timer}
 use Rattle.quic_machine.specs.Receive.{timers_after}
+use Rattle.quic_spaces.specs.Acknowledging.{with_due}
 use Rattle.quic_machine.specs.Poll.{Polled, Draft, with_ack, lazied, polled, draft_if}
-use Rattle.quic_machine.specs.Timeouts.{loss_judged, acks_expired, loss_expired, pacing_expired}
+use Rattle.quic_machine.specs.Timeouts.{Expiry, loss_judged, acks_expired, loss_expired, pacing_expired}
 use Rattle.quic_machine.specs.Machine.{World, Policies, after_call, Follows}
 use Rattle.quic_headline.specs.Headline.{AckTimerFollows, AckTimersFollow}
 use Rattle.quic_machine.specs.DraftLaws.{by_leave, due_alone}
@@ -39,7 +41,7 @@ closed_follows reason e = unset_follows (closed_by reason e) refl
 
 -- acknowledged and lost packets leave the timer, and the packets that ask count on
 settling : Settling AckTimerFollows
-settling = record { known = λ n e i. i; reset = λ id e i. i; acked = λ m e i. i; lost = λ m e i. i; again = λ carried e i. i; tracked = λ t e i. i; measured = λ r first e i. i }
+settling = record { known = λ n e i. i; reset = λ id e i. i; acked = λ m e i. i; lost = λ m e i. i; again = λ carried e i. i; tracked = λ t e i. i; measured = λ r first e i. i; marked = λ m marking e i. i }
 
 -- the timer waits or is left: the count stays
 wait_counts : (b : Bool) (p : Pending) (now : ℕ) → (cond b (record p { since = Some now }) p).asking ≡ p.asking
@@ -59,7 +61,7 @@ receives = record {
   notes = λ n e i. i;
   begins = λ now n e i. i;
   frame = frame_keeps AckTimerFollows (record { ack = λ rises a e i. acked_keeps AckTimerFollows settling rises a (named a e) i; on_streams = λ f e on i. frame_leaves AckTimerFollows f e on (λ t. i); message = λ m e i. i });
-  takes = λ n asks e i opened. packet_counts asks e.timers (after_insert e.acknowledging n e.closing.clock) e.closing.clock n e.numbers.opened (i opened);
+  takes = λ n asks mark e i opened. packet_counts asks e.timers (with_due (is_congested mark) (after_insert e.acknowledging n e.closing.clock)) e.closing.clock n e.numbers.opened (i opened);
   closes = λ reason e i. closed_follows reason e;
 }
 
@@ -105,10 +107,10 @@ pacing_follows : (pacing : Bool) (e : End) → AckTimerFollows e → AckTimerFol
 pacing_follows true e i = i
 pacing_follows false e i = i
 
-expired_follows : (e : End) (now : ℕ) (acks loss pacing : Bool) → AckTimerFollows e → AckTimerFollows (at_expiry e now acks loss pacing)
-expired_follows e now acks loss pacing i =
+expired_follows : (e : End) (now : ℕ) (expiry : Expiry) → AckTimerFollows e → AckTimerFollows (at_expiry e now expiry)
+expired_follows e now expiry i =
     let begun : End = with_closing e (ticked e.closing now) in
-    pacing_follows pacing (acks_expired acks (loss_expired loss begun)) (acks_follow acks loss begun i)
+    pacing_follows expiry.pacing (acks_expired expiry.acks (loss_expired expiry.loss begun)) (acks_follow expiry.acks expiry.loss begun i)
 
 -- what any call leaves
 call_follows : (p : Policy) (e : End) (theirs : List (List ℕ)) (call : Call) (a : Answer) → AckTimerFollows e → AckTimerFollows (after_call p e theirs call a)
@@ -118,9 +120,9 @@ call_follows p e theirs call a i = by_plain_call p e theirs AckTimerFollows call
   on_messages = λ m. i;
   pings = i;
   heard = λ path same. i;
-  times = λ now acks loss pacing is. expired_follows e now acks loss pacing i;
+  times = λ now expiry is. expired_follows e now expiry i;
   polls = λ now is. polled_follows p e now i;
-  hears = λ now d is. by_received AckTimerFollows receives p e now d i;
+  hears = λ arrival d is. by_received AckTimerFollows receives p e arrival d i;
   tells = λ told. i;
 })
 

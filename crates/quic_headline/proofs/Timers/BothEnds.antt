@@ -40,7 +40,7 @@ module _ (P : End → Type 0) (c : IsKept P) where
   left_keeps false p control e next theirs call a is i = subst P (sym is) (by_left p e theirs P i (λ window. c.shows window e) control call a (λ x. c.call p x theirs call a))
 
   -- a step
-  step_keeps : (k : Policies) (w next : World) (event : RunEvent) (a : Answer) → IsStep k w event a next → AtBoth P w → AtBoth P next
+  pub step_keeps : (k : Policies) (w next : World) (event : RunEvent) (a : Answer) → IsStep k w event a next → AtBoth P w → AtBoth P next
   step_keeps k w next event a step i = go event.side event.call step
     where
       go : (side : Side) (call : Call) → IsStep k w (record { side = side; call = call }) a next → AtBoth P next

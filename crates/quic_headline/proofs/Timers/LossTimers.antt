@@ -1,10 +1,11 @@
 -- At an open end the loss timer is set to the moment of what is tracked, and is set exactly while a packet that asks is: each call keeps that.
-use Rattle.std.proofs.Common.{◌≡◌, ℕ, ◌+◌, ◌≤◌, ◌⊎◌, Bool, true, false, not, ◌||◌, ◌==◌, List, [], ◌∷◌, ◌++◌, Option, Some, None, Result, refl, sym, ap, ◌∙◌, subst, inl, inr, arith}
+use Rattle.std.proofs.Common.{◌≡◌, ℕ, ◌+◌, ◌≤◌, ◌⊎◌, Bool, true, false, not, ◌||◌, ◌==◌, List, [], ◌∷◌, ◌++◌, Option, Some, None, Result, refl, sym, ap, ◌∙◌, subst, inl, inr, arith, length}
 use Rattle.std.specs.Prelude.{if◌then◌else◌, nat_lt}
 use Rattle.std.specs.Option.{is_some}
 use Rattle.std.specs.Ordering.{nat_cmp}
 use Rattle.std.specs.BTreeMap.{is_at}
 use Rattle.std.proofs.lemmas.Bool.{le-ltb}
+use Rattle.quic_wire_core.specs.declared.shared.EcnCodepoint.{EcnCodepoint}
 use Rattle.quic_recovery_core.specs.Duplicates.{is_duplicate}
 use Rattle.quic_time.specs.Clocks.{saturated}
 use Rattle.quic_time.specs.Rtt.{Rtt}
@@ -16,6 +17,7 @@ use Rattle.quic_packet.specs.declared.packet.HeaderError.{HeaderError}
 use Rattle.quic_wire.specs.Value.{FrameValue, AckValue}
 use Rattle.quic_wire.specs.Items.{items}
 use Rattle.quic_wire.specs.declared.frame.InvalidFrame.{InvalidFrame}
+use Rattle.quic_machine.specs.Arrival.{Arrival}
 use Rattle.quic_machine.specs.declared.answers.State.{State}
 use Rattle.quic_machine.specs.declared.answers.State.TheVariants as states
 use Rattle.quic_machine.specs.declared.answers.DropReason.TheVariants as drops
@@ -33,15 +35,15 @@ use Rattle.quic_machine.specs.Closing.{Closing, ticked}
 use Rattle.quic_spaces.specs.Numbers.{Numbers, number_opened}
 use Rattle.quic_machine.specs.Tracking.{Tracking, TrackedPacket, asks_any, without_record, is_behind, tail_of, forgets, forgotten, oldest, without_packet, asking_sent, after_sent, Verdict, is_lost, kept_by, loss_moment, moment_or, probe_moment, after_detection, acked_by, not_acked_by, names}
 use Rattle.quic_machine.specs.End.{End, with_closing, closed_by, with_numbers, number_of, with_ping, peer_delay, probe_timeout, with_loss_timer, with_window}
-use Rattle.quic_machine.specs.Acked.{verdict, losses_detected, measured, sampled, without_acked, after_named, after_acked}
+use Rattle.quic_machine.specs.Acked.{verdict, losses_detected, measured, sampled, without_acked, after_named, after_acked, losses_taken}
 use Rattle.quic_machine.specs.Receive.{Fault, violation, reason_of, take_frame, take_items, take_payload, is_empty, asks_in, after_taken, dropped, ends_as, by_state, opened_to, opened_as, opening, headed, received_in, received}
 use Rattle.quic_machine.specs.Poll.{Polled, Draft, packet_of, after_given, record_moved, lazied, draft_if, polled}
-use Rattle.quic_machine.specs.Timeouts.{acks_expired, loss_judged, loss_expired, pacing_expired}
+use Rattle.quic_machine.specs.Timeouts.{Expiry, acks_expired, loss_judged, loss_expired, pacing_expired}
 use Rattle.quic_machine.specs.Control.{Gated}
 use Rattle.quic_machine.specs.Machine.{World, Policies, after_call, Follows}
 use Rattle.quic_machine.specs.LeaveCases.{at_expiry}
 use Rattle.quic_machine.specs.CallCases.{by_plain_call}
-use Rattle.quic_machine.specs.FrameCases.{Settling, named, begun, acked_keeps, losses_keep, frame_keeps, frame_leaves, items_keep}
+use Rattle.quic_machine.specs.FrameCases.{Settling, named, begun, acked_keeps, losses_keep, frame_keeps, frame_leaves, items_keep, by_marks}
 use Rattle.quic_machine.specs.PollCases.{ready_at, by_poll_to, Composes, composes}
 use Rattle.quic_headline.specs.Runs.{In}
 use Rattle.quic_headline.specs.Headline.{LossTimerFollows, LossTimersFollow}
@@ -59,7 +61,7 @@ pub record Hears (P Q : End → Type 0) : Type 0 where
   pub notes : (n : ℕ) (e : End) → P e → P (with_numbers e (number_opened e.numbers n))
   pub begins : (now n : ℕ) (e : End) → P e → Q (begun e now n)
   pub frame : (f : FrameValue) (e : End) → Q e → Q (take_frame f e).end
-  pub takes : (n : ℕ) (asks : Bool) (e : End) → Q e → P (after_taken n asks e)
+  pub takes : (n : ℕ) (asks : Bool) (mark : Option EcnCodepoint) (e : End) → Q e → P (after_taken n asks mark e)
   pub closes : (reason : LostReason) (e : End) → Q e → P (closed_by reason e)
 
 module _ (P Q : End → Type 0) (c : Hears P Q) where
@@ -72,45 +74,45 @@ module _ (P Q : End → Type 0) (c : Hears P Q) where
       go false = items_keep Q c.frame is e i
 
   -- all frames were taken, or one was at fault
-  ends_hear : (fault : Option Fault) (asks : Bool) (n : ℕ) (e : End) → Q e → P (ends_as fault asks n e).end
-  ends_hear None asks n e i = c.takes n asks e i
-  ends_hear (Some fault) asks n e i = c.closes (reason_of fault) e i
+  ends_hear : (fault : Option Fault) (asks : Bool) (n : ℕ) (mark : Option EcnCodepoint) (e : End) → Q e → P (ends_as fault asks n mark e).end
+  ends_hear None asks n mark e i = c.takes n asks mark e i
+  ends_hear (Some fault) asks n mark e i = c.closes (reason_of fault) e i
 
   -- a packet whose number is new
-  state_hears : (state : State) (o : Opening) (now : ℕ) (e : End) → P e → P (by_state state o now (with_numbers e (number_opened e.numbers o.number))).end
-  state_hears states.Open o now e i =
-      let taken = take_payload o.first (items o.payload) (begun e now o.number) in
-      ends_hear taken.fault (asks_in (items o.payload)) o.number taken.end (payload_hears o.first (items o.payload) (begun e now o.number) (c.begins now o.number e i))
-  state_hears states.Closing o now e i = c.notes o.number e i
-  state_hears states.Drained o now e i = c.notes o.number e i
-  state_hears states.Failed o now e i = c.notes o.number e i
+  state_hears : (state : State) (o : Opening) (arrival : Arrival) (e : End) → P e → P (by_state state o arrival (with_numbers e (number_opened e.numbers o.number))).end
+  state_hears states.Open o arrival e i =
+      let taken = take_payload o.first (items o.payload) (begun e arrival.now o.number) in
+      ends_hear taken.fault (asks_in (items o.payload)) o.number arrival.mark taken.end (payload_hears o.first (items o.payload) (begun e arrival.now o.number) (c.begins arrival.now o.number e i))
+  state_hears states.Closing o arrival e i = c.notes o.number e i
+  state_hears states.Drained o arrival e i = c.notes o.number e i
+  state_hears states.Failed o arrival e i = c.notes o.number e i
 
   -- a packet that opened
-  opened_hears : (o : Opening) (now : ℕ) (e : End) → P e → P (opened_to o now e).end
-  opened_hears o now e i = go (key_phase o.first) (is_duplicate e.numbers.opened o.number)
+  opened_hears : (o : Opening) (arrival : Arrival) (e : End) → P e → P (opened_to o arrival e).end
+  opened_hears o arrival e i = go (key_phase o.first) (is_duplicate e.numbers.opened o.number)
     where
-      go : (a b : Bool) → P (if a then dropped drops.KeyPhase e else (if b then dropped drops.Duplicate e else by_state e.closing.state o now (with_numbers e (number_opened e.numbers o.number)))).end
+      go : (a b : Bool) → P (if a then dropped drops.KeyPhase e else (if b then dropped drops.Duplicate e else by_state e.closing.state o arrival (with_numbers e (number_opened e.numbers o.number)))).end
       go true b = i
       go false true = i
-      go false false = state_hears e.closing.state o now e i
+      go false false = state_hears e.closing.state o arrival e i
 
-  packet_hears : (o : Option Opening) (now : ℕ) (e : End) → P e → P (opened_as o now e).end
-  packet_hears None now e i = i
-  packet_hears (Some o) now e i = opened_hears o now e i
+  packet_hears : (o : Option Opening) (arrival : Arrival) (e : End) → P e → P (opened_as o arrival e).end
+  packet_hears None arrival e i = i
+  packet_hears (Some o) arrival e i = opened_hears o arrival e i
 
-  headed_hears : (r : Result (List ℕ) HeaderError) (p : Policy) (e : End) (now : ℕ) (d : List ℕ) → P e → P (headed r p e now d).end
-  headed_hears (Result.Err error) p e now d i = i
-  headed_hears (Result.Ok id) p e now d i = packet_hears (opening p e d) now e i
+  headed_hears : (r : Result (List ℕ) HeaderError) (p : Policy) (e : End) (arrival : Arrival) (d : List ℕ) → P e → P (headed r p e arrival d).end
+  headed_hears (Result.Err error) p e arrival d i = i
+  headed_hears (Result.Ok id) p e arrival d i = packet_hears (opening p e d) arrival e i
 
-  received_hears : (state : State) (p : Policy) (e : End) (now : ℕ) (d : List ℕ) → P e → P (received_in state p e now d).end
-  received_hears states.Failed p e now d i = i
-  received_hears states.Drained p e now d i = i
-  received_hears states.Open p e now d i = headed_hears (decoded (fixed_length_id own_id_length) (known e.ids) d) p e now d i
-  received_hears states.Closing p e now d i = headed_hears (decoded (fixed_length_id own_id_length) (known e.ids) d) p e now d i
+  received_hears : (state : State) (p : Policy) (e : End) (arrival : Arrival) (d : List ℕ) → P e → P (received_in state p e arrival d).end
+  received_hears states.Failed p e arrival d i = i
+  received_hears states.Drained p e arrival d i = i
+  received_hears states.Open p e arrival d i = headed_hears (decoded (fixed_length_id own_id_length) (known e.ids) d) p e arrival d i
+  received_hears states.Closing p e arrival d i = headed_hears (decoded (fixed_length_id own_id_length) (known e.ids) d) p e arrival d i
 
   -- what holds after a datagram
-  pub by_hearing : (p : Policy) (e : End) (now : ℕ) (d : List ℕ) → P e → P (received p e now d).end
-  by_hearing p e now d i = received_hears e.closing.state p e now d i
+  pub by_hearing : (p : Policy) (e : End) (arrival : Arrival) (d : List ℕ) → P e → P (received p e arrival d).end
+  by_hearing p e arrival d i = received_hears e.closing.state p e arrival d i
 
 -- ---- what is tracked
 
@@ -238,6 +240,7 @@ quiet_settles e = record {
   again = λ c x q. record { numbers = q.numbers; closing = q.closing };
   tracked = λ t x q. record { numbers = q.numbers; closing = q.closing };
   measured = λ r first x q. record { numbers = q.numbers; closing = q.closing };
+  marked = λ m marking x q. record { numbers = q.numbers; closing = q.closing };
 }
 
 -- a round trip that is measured leaves what is tracked
@@ -248,7 +251,7 @@ sampled_tracking (Some p) a e = refl
 -- an ACK frame that names these packets
 stands_named : (next : ℕ) (ps : Table TrackedPacket) (rises : Bool) (a : AckValue) (e : End) → Stands next e.tracking → Stands next (after_named ps rises a e).tracking
 stands_named next [] rises a e s = s
-stands_named next (p ∷ ps) rises a e s = record { lies = found.lies; asked = found.asked; late = found.late }
+stands_named next (p ∷ ps) rises a e s = by_marks rises (length (p ∷ ps)) a (losses_taken (p ∷ ps) rises a e) (λ (x : End). Stands next x.tracking) (λ m marking. record { lies = found.lies; asked = found.asked; late = found.late })
   where
     timed : End
     timed = sampled (measured rises a (p ∷ ps)) a (without_acked (p ∷ ps) a e)
@@ -276,7 +279,7 @@ hears = record {
   notes = λ n e i opened. (let s = i opened in record { stands = record { lies = s.stands.lies; asked = s.stands.asked; late = s.stands.late }; set = s.set });
   begins = λ now n e i opened. (i opened).stands;
   frame = frame_keeps FrameStands (record { ack = ack_stands; on_streams = λ f e on i. frame_leaves FrameStands f e on (λ t. i); message = λ m e i. i });
-  takes = λ n asks e i opened. record { stands = i opened; set = refl };
+  takes = λ n asks mark e i opened. record { stands = i opened; set = refl };
   closes = λ reason e i. closed_stands reason e;
 }
 
@@ -357,8 +360,8 @@ judged_stands e (Some moment) i opened =
     let s = i (ap (λ (c : Closing). c.state) (sym quiet.closing) ∙ opened) in
     subst (λ (n : Numbers). Stands n.next (losses_detected e).tracking) (sym quiet.numbers) (stands_detected e.numbers.next (verdict e) e.tracking s.lies s.asked)
 
-expired_stands : (e : End) (now : ℕ) (acks loss pacing : Bool) → LossStands e → LossStands (at_expiry e now acks loss pacing)
-expired_stands e now acks loss pacing i = after pacing (acks_expired acks (loss_expired loss begun)) (acked acks (loss_expired loss begun) (judged loss))
+expired_stands : (e : End) (now : ℕ) (expiry : Expiry) → LossStands e → LossStands (at_expiry e now expiry)
+expired_stands e now expiry i = after expiry.pacing (acks_expired expiry.acks (loss_expired expiry.loss begun)) (acked expiry.acks (loss_expired expiry.loss begun) (judged expiry.loss))
   where
     begun : End
     begun = with_closing e (ticked e.closing now)
@@ -383,9 +386,9 @@ call_stands p e theirs call a i = by_plain_call p e theirs LossStands call a (re
   on_messages = λ m opened. (let s = i opened in record { stands = s.stands; set = s.set });
   pings = λ opened. (let s = i opened in record { stands = s.stands; set = s.set });
   heard = λ path same opened. (let s = i opened in record { stands = s.stands; set = s.set ∙ ap (λ (r : Rtt). loss_moment (saturated (rtt_timeout r + peer_delay e)) e.tracking) (sym same.rtt) });
-  times = λ now acks loss pacing is. expired_stands e now acks loss pacing i;
+  times = λ now expiry is. expired_stands e now expiry i;
   polls = λ now is. polled_stands p e now i;
-  hears = λ now d is. by_hearing LossStands FrameStands hears p e now d i;
+  hears = λ arrival d is. by_hearing LossStands FrameStands hears p e arrival d i;
   tells = λ told opened. (let s = i opened in record { stands = s.stands; set = s.set });
 })
 

@@ -1,5 +1,6 @@
 -- An end that is open behind a call was open before it.
 use Rattle.std.proofs.Common.{◌≡◌, ℕ, Bool, List, sym, ap, ◌∙◌}
+use Rattle.quic_machine.specs.Timeouts.{Expiry}
 use Rattle.quic_machine.specs.declared.answers.State.TheVariants as states
 use Rattle.quic_machine.specs.declared.run.Call.{Call}
 use Rattle.quic_machine.specs.declared.run.Answer.{Answer}
@@ -28,11 +29,11 @@ opened_receives e = record {
     on_streams = λ f g on i. frame_leaves (WasOpen e) f g on (λ t. i);
     message = λ m f i. i;
   });
-  takes = λ n asks f i. i;
+  takes = λ n asks mark f i. i;
   closes = λ reason f i opened. cc;
 }
 
-opened_expired : (e : End) (now : ℕ) (acks loss pacing : Bool) → WasOpen e (at_expiry e now acks loss pacing)
+opened_expired : (e : End) (now : ℕ) (expiry : Expiry) → WasOpen e (at_expiry e now expiry)
 opened_expired e now = by_expired e now (WasOpen e) (λ pending tracking timers runs packets opened. opened) (λ pending timers runs opened. ap (λ (c : Closing). c.state) (sym (settles_losses (with_closing e (ticked e.closing now))).closing) ∙ opened)
 
 opened_polled : (p : Policy) (e : End) (now : ℕ) → WasOpen e (polled p e now).end
@@ -54,8 +55,8 @@ was_open p e theirs call a = by_plain_call p e theirs (WasOpen e) call a (record
   on_messages = λ m opened. opened;
   pings = λ opened. opened;
   heard = λ path same opened. opened;
-  times = λ now acks loss pacing is. opened_expired e now acks loss pacing;
+  times = λ now expiry is. opened_expired e now expiry;
   polls = λ now is. opened_polled p e now;
-  hears = λ now d is. by_received (WasOpen e) (opened_receives e) p e now d (λ opened. opened);
+  hears = λ arrival d is. by_received (WasOpen e) (opened_receives e) p e arrival d (λ opened. opened);
   tells = λ told opened. opened;
 })

@@ -1,5 +1,5 @@
 //! Paths.
-ghost use Rattle.std.specs.Prelude.{◌≡◌, ℕ, ◌+◌, ◌*◌, ◌-◌, ◌<◌, ◌≤◌, ◌^◌, ◌⊎◌, true, false, List, Some, None};
+ghost use Rattle.std.specs.Prelude.{◌≡◌, ℕ, ◌+◌, ◌*◌, ◌-◌, ◌<◌, ◌≤◌, ◌^◌, ◌⊎◌, Bool, true, false, List, Option, Some, None};
 ghost use Rattle.quic_config.specs.Transport.{TransportSettings, default_transport};
 ghost use Rattle.quic_congestion.specs.NewReno.{default_reno, reno_made};
 ghost use Rattle.quic_congestion.specs.Pacer.{delay_of};
@@ -24,9 +24,9 @@ pub fn bytes_wait_for_bytes<C>()
 /// is sent no more than three times what it sent (RFC 9000, section 8.1). So it is on a new path, on
 /// one in place of another, and from any moment on at which it was so.
 pub fn unvalidated_peers_get_threefold<C>()
-    ensures first { (generation now window : ℕ) (settings : TransportSettings) (controller : C)
-        (datagrams : List Datagram)
-        → AreAllowed datagrams (new_path generation now settings controller window)
+    ensures first { (searches : Bool) (limit : Option ℕ) (generation now window : ℕ)
+        (settings : TransportSettings) (controller : C) (datagrams : List Datagram)
+        → AreAllowed datagrams (new_path searches limit generation now settings controller window)
         → bytes_went datagrams ≤ 3 * bytes_came datagrams }
     ensures next { (prev : PathValue C) (generation now window : ℕ) (datagrams : List Datagram)
         → AreAllowed datagrams (next_path prev generation now window)
@@ -41,15 +41,19 @@ pub fn unvalidated_peers_get_threefold<C>()
 /// their size: asked at the moment at which they were made or reset, for any round trip and window,
 /// the pacer names no later one.
 pub fn fresh_paths_send_at_once<C>()
-    ensures new { (generation now initial rtt window : ℕ) (settings : TransportSettings)
-        (controller : C) → let path = new_path generation now settings controller initial in
-        delay_of path.pacing rtt path.size path.size window now ≡ None }
+    ensures new { (searches : Bool) (limit : Option ℕ) (generation now initial rtt window : ℕ)
+        (settings : TransportSettings) (controller : C)
+        → let path = new_path searches limit generation now settings controller initial in
+        let size = path.discovery.size in
+        delay_of path.pacing rtt size size window now ≡ None }
     ensures next { (prev : PathValue C) (generation now taken rtt window : ℕ)
         → let path = next_path prev generation now taken in
-        delay_of path.pacing rtt path.size path.size window now ≡ None }
+        let size = path.discovery.size in
+        delay_of path.pacing rtt size size window now ≡ None }
     ensures reset { (old : PathValue C) (now initial rtt window : ℕ) (settings : TransportSettings)
         (controller : C) → let path = path_after_reset old now settings controller initial in
-        delay_of path.pacing rtt path.size path.size window now ≡ None }
+        let size = path.discovery.size in
+        delay_of path.pacing rtt size size window now ≡ None }
 {}
 
 /// On a path of the default settings ten datagrams of 1200 bytes took all tokens. At 5 the next one

@@ -48,6 +48,27 @@ returns-clause-accepts_all g c =
     let r : Run = run_of keys (windows_of g.C.Controller.steps g.C.Controller.window_of) c.args.ends c.args.events.now o.answers.items o.views.items o.given in
     λ honest. c.accepts_all.ensures r (world_of (windows_of g.C.Controller.steps g.C.Controller.window_of) o.ends o.given) honest (record { codes = c.show_codes.ensures; follows = c.run_events.ensures.follows; from_client = refl; from_server = refl })
 
+pub returns-clause-ids_are_new : goal.returns-clause-ids_are_new
+returns-clause-ids_are_new g c =
+    let o = c.run_events.result in
+    let keys : Policies = policies_of g.H.HeaderKey.protection g.K.PacketKey.aead g.R.Rng.stream c.args.ends in
+    let r : Run = run_of keys (windows_of g.C.Controller.steps g.C.Controller.window_of) c.args.ends c.args.events.now o.answers.items o.views.items o.given in
+    λ honest. c.ids_are_new.ensures r (world_of (windows_of g.C.Controller.steps g.C.Controller.window_of) o.ends o.given) honest (record { codes = c.show_codes.ensures; follows = c.run_events.ensures.follows; from_client = refl; from_server = refl })
+
+pub returns-clause-accepted_were_opened : goal.returns-clause-accepted_were_opened
+returns-clause-accepted_were_opened g c =
+    let o = c.run_events.result in
+    let keys : Policies = policies_of g.H.HeaderKey.protection g.K.PacketKey.aead g.R.Rng.stream c.args.ends in
+    let r : Run = run_of keys (windows_of g.C.Controller.steps g.C.Controller.window_of) c.args.ends c.args.events.now o.answers.items o.views.items o.given in
+    λ honest. c.accepted_were_opened.ensures r (world_of (windows_of g.C.Controller.steps g.C.Controller.window_of) o.ends o.given) honest (record { codes = c.show_codes.ensures; follows = c.run_events.ensures.follows; from_client = refl; from_server = refl })
+
+pub returns-clause-resets_are_told : goal.returns-clause-resets_are_told
+returns-clause-resets_are_told g c =
+    let o = c.run_events.result in
+    let keys : Policies = policies_of g.H.HeaderKey.protection g.K.PacketKey.aead g.R.Rng.stream c.args.ends in
+    let r : Run = run_of keys (windows_of g.C.Controller.steps g.C.Controller.window_of) c.args.ends c.args.events.now o.answers.items o.views.items o.given in
+    λ honest. c.resets_are_told.ensures r (world_of (windows_of g.C.Controller.steps g.C.Controller.window_of) o.ends o.given) honest (record { codes = c.show_codes.ensures; follows = c.run_events.ensures.follows; from_client = refl; from_server = refl })
+
 pub returns-clause-finished_means_arrived : goal.returns-clause-finished_means_arrived
 returns-clause-finished_means_arrived g c =
     let o = c.run_events.result in
@@ -188,6 +209,13 @@ returns-clause-loss_timer_quiet g c =
     let r : Run = run_of keys (windows_of g.C.Controller.steps g.C.Controller.window_of) c.args.ends c.args.events.now o.answers.items o.views.items o.given in
     λ honest. c.loss_timer_quiet.ensures r (world_of (windows_of g.C.Controller.steps g.C.Controller.window_of) o.ends o.given) honest (record { codes = c.show_codes.ensures; follows = c.run_events.ensures.follows; from_client = refl; from_server = refl })
 
+pub returns-clause-views_tell : goal.returns-clause-views_tell
+returns-clause-views_tell g c =
+    let o = c.run_events.result in
+    let keys : Policies = policies_of g.H.HeaderKey.protection g.K.PacketKey.aead g.R.Rng.stream c.args.ends in
+    let r : Run = run_of keys (windows_of g.C.Controller.steps g.C.Controller.window_of) c.args.ends c.args.events.now o.answers.items o.views.items o.given in
+    λ honest. c.views_tell.ensures r (world_of (windows_of g.C.Controller.steps g.C.Controller.window_of) o.ends o.given) honest (record { codes = c.show_codes.ensures; follows = c.run_events.ensures.follows; from_client = refl; from_server = refl })
+
 pub returns-clause-loss_timers_follow : goal.returns-clause-loss_timers_follow
 returns-clause-loss_timers_follow g c =
     let o = c.run_events.result in
@@ -199,6 +227,27 @@ returns-clause-ack_timers_follow g c =
     let o = c.run_events.result in
     let keys : Policies = policies_of g.H.HeaderKey.protection g.K.PacketKey.aead g.R.Rng.stream c.args.ends in
     λ first i w leads. c.ack_timers_follow.ensures.runs keys (first_world (windows_of g.C.Controller.steps g.C.Controller.window_of) c.args.ends) w (take i c.args.events.now) (take i o.answers.items) (take i o.views.items) leads first
+
+pub returns-clause-isolated : goal.returns-clause-isolated
+returns-clause-isolated g c =
+    let o = c.run_events.result in
+    let keys : Policies = policies_of g.H.HeaderKey.protection g.K.PacketKey.aead g.R.Rng.stream c.args.ends in
+    let r : Run = run_of keys (windows_of g.C.Controller.steps g.C.Controller.window_of) c.args.ends c.args.events.now o.answers.items o.views.items o.given in
+    c.isolated.ensures r (world_of (windows_of g.C.Controller.steps g.C.Controller.window_of) o.ends o.given) (record { codes = c.show_codes.ensures; follows = c.run_events.ensures.follows; from_client = refl; from_server = refl })
+
+pub returns-clause-isolated_by_answers : goal.returns-clause-isolated_by_answers
+returns-clause-isolated_by_answers g c =
+    let o = c.run_events.result in
+    let keys : Policies = policies_of g.H.HeaderKey.protection g.K.PacketKey.aead g.R.Rng.stream c.args.ends in
+    let r : Run = run_of keys (windows_of g.C.Controller.steps g.C.Controller.window_of) c.args.ends c.args.events.now o.answers.items o.views.items o.given in
+    c.isolated_by_answers.ensures r (world_of (windows_of g.C.Controller.steps g.C.Controller.window_of) o.ends o.given) (record { codes = c.show_codes.ensures; follows = c.run_events.ensures.follows; from_client = refl; from_server = refl })
+
+pub returns-clause-isolated_by_lists : goal.returns-clause-isolated_by_lists
+returns-clause-isolated_by_lists g c =
+    let o = c.run_events.result in
+    let keys : Policies = policies_of g.H.HeaderKey.protection g.K.PacketKey.aead g.R.Rng.stream c.args.ends in
+    let r : Run = run_of keys (windows_of g.C.Controller.steps g.C.Controller.window_of) c.args.ends c.args.events.now o.answers.items o.views.items o.given in
+    λ started. c.isolated_by_lists.ensures r (world_of (windows_of g.C.Controller.steps g.C.Controller.window_of) o.ends o.given) started (record { codes = c.show_codes.ensures; follows = c.run_events.ensures.follows; from_client = refl; from_server = refl })
 
 pub returns-clause-numbers_rise : goal.returns-clause-numbers_rise
 returns-clause-numbers_rise g c =
@@ -213,6 +262,13 @@ returns-clause-no_blame g c =
     let keys : Policies = policies_of g.H.HeaderKey.protection g.K.PacketKey.aead g.R.Rng.stream c.args.ends in
     let r : Run = run_of keys (windows_of g.C.Controller.steps g.C.Controller.window_of) c.args.ends c.args.events.now o.answers.items o.views.items o.given in
     λ honest. c.no_blame.ensures r (world_of (windows_of g.C.Controller.steps g.C.Controller.window_of) o.ends o.given) honest (record { codes = c.show_codes.ensures; follows = c.run_events.ensures.follows; from_client = refl; from_server = refl })
+
+pub returns-clause-closed_has_a_reason : goal.returns-clause-closed_has_a_reason
+returns-clause-closed_has_a_reason g c =
+    let o = c.run_events.result in
+    let keys : Policies = policies_of g.H.HeaderKey.protection g.K.PacketKey.aead g.R.Rng.stream c.args.ends in
+    let r : Run = run_of keys (windows_of g.C.Controller.steps g.C.Controller.window_of) c.args.ends c.args.events.now o.answers.items o.views.items o.given in
+    λ honest. c.closed_has_a_reason.ensures r (world_of (windows_of g.C.Controller.steps g.C.Controller.window_of) o.ends o.given) honest (record { codes = c.show_codes.ensures; follows = c.run_events.ensures.follows; from_client = refl; from_server = refl })
 
 pub returns-clause-too_many_pieces : goal.returns-clause-too_many_pieces
 returns-clause-too_many_pieces g c =
@@ -234,3 +290,17 @@ returns-clause-taken_or_too_many g c =
     let keys : Policies = policies_of g.H.HeaderKey.protection g.K.PacketKey.aead g.R.Rng.stream c.args.ends in
     let r : Run = run_of keys (windows_of g.C.Controller.steps g.C.Controller.window_of) c.args.ends c.args.events.now o.answers.items o.views.items o.given in
     λ honest. c.taken_or_too_many.ensures r (world_of (windows_of g.C.Controller.steps g.C.Controller.window_of) o.ends o.given) honest (record { codes = c.show_codes.ensures; follows = c.run_events.ensures.follows; from_client = refl; from_server = refl })
+
+pub returns-clause-delivered_at_rest : goal.returns-clause-delivered_at_rest
+returns-clause-delivered_at_rest g c =
+    let o = c.run_events.result in
+    let keys : Policies = policies_of g.H.HeaderKey.protection g.K.PacketKey.aead g.R.Rng.stream c.args.ends in
+    let r : Run = run_of keys (windows_of g.C.Controller.steps g.C.Controller.window_of) c.args.ends c.args.events.now o.answers.items o.views.items o.given in
+    λ honest. c.delivered_at_rest.ensures r (world_of (windows_of g.C.Controller.steps g.C.Controller.window_of) o.ends o.given) honest (record { codes = c.show_codes.ensures; follows = c.run_events.ensures.follows; from_client = refl; from_server = refl })
+
+pub returns-clause-nothing_owed_at_rest : goal.returns-clause-nothing_owed_at_rest
+returns-clause-nothing_owed_at_rest g c =
+    let o = c.run_events.result in
+    let keys : Policies = policies_of g.H.HeaderKey.protection g.K.PacketKey.aead g.R.Rng.stream c.args.ends in
+    let r : Run = run_of keys (windows_of g.C.Controller.steps g.C.Controller.window_of) c.args.ends c.args.events.now o.answers.items o.views.items o.given in
+    λ honest. c.nothing_owed_at_rest.ensures r (world_of (windows_of g.C.Controller.steps g.C.Controller.window_of) o.ends o.given) honest (record { codes = c.show_codes.ensures; follows = c.run_events.ensures.follows; from_client = refl; from_server = refl })

@@ -7,7 +7,7 @@ use Rattle.quic_connection.specs.Ends.{world_of, policies_of}
 use Rattle.quic_connection.proofs.Runs.{follows_goes_on, reserved}
 use Rattle.quic_connection.specs.GoingOn.{go_same, go_then, are_own, are_on}
 use Rattle.quic_connection.proofs.running.run_events.Goals as goal
-use Rattle.quic_connection.proofs.running.run_events.Goals.{else-loop-event-test, then-loop-event-test+then-is_err, then-loop-event-test+else-is_err+else-is_err-2+in_default}
+use Rattle.quic_connection.proofs.running.run_events.Goals.{else-loop-event-test, then-loop-event-test+then-is_err, then-is_err-via-then-is_err, then-is_err-via-else-is_err+then-is_err-2, then-loop-event-test+else-is_err+else-is_err-2+in_default}
 
 pub loop-event-init : goal.loop-event-init
 loop-event-init g c = record {
@@ -64,4 +64,16 @@ returns-clause-goes_on g c =
       | else-loop-event-test w ↦ rw w.ends-is inv.goes_on
       | then-loop-event-test+then-is_err w ↦ rw w.ends-is inv.goes_on
       | then-loop-event-test+else-is_err+else-is_err-2+in_default w ↦ rw w.ends-is (go_then _ _ _ _ inv.goes_on w.step.ensures.goes_on)
+    ]
+
+pub returns-clause-follows : goal.returns-clause-follows
+returns-clause-follows g c =
+    let inv = c.loop-event.invariant in
+    elim c.loop-event-test.branch [
+      | else-loop-event-test w ↦ rw (w.ends-is, w.given-is, w.answers-is, w.views-is) inv.follows
+      | then-loop-event-test+then-is_err w ↦ elim w.then-is_err.branch [
+        | then-is_err-via-then-is_err x ↦ rw (w.ends-is, w.given-is, w.answers-is, w.reserve.ensures.items, w.views-is, x.views-is) inv.follows
+        | then-is_err-via-else-is_err+then-is_err-2 x ↦ rw (w.ends-is, w.given-is, w.answers-is, w.reserve.ensures.items, w.views-is, x.views-is, x.reserve-else-is_err.ensures.items) inv.follows
+        ]
+      | then-loop-event-test+else-is_err+else-is_err-2+in_default w ↦ search rules
     ]

@@ -5,7 +5,7 @@ use Rattle.quic_wire_core.specs.declared.stream_id.Side.TheVariants.{Client, Ser
 use Rattle.quic_packet.specs.declared.crypto.Keys.{Keys}
 use Rattle.quic_congestion.specs.Congestion.{Told, Steps, HasRoom, AreSized, last_size, after_calls}
 use Rattle.quic_parameters.specs.ParametersRead.{parameters_at}
-use Rattle.quic_config.specs.Transport.{parameters_of}
+use Rattle.quic_config.specs.Transport.{parameters_of, first_mtu}
 use Rattle.quic_machine.specs.declared.answers.ConfigError.{ConfigError}
 use Rattle.quic_machine.specs.declared.answers.ConfigError.TheVariants as config_errors
 use Rattle.quic_machine.specs.Policy.{Policy, keys_policy}
@@ -41,12 +41,30 @@ returns-clause-controlled g c =
     let server_says : parameters_at c.deref.result.now ≡ Ok (parameters_of c.args.server.config.settings) = rw c.deref.ensures.value c.in_ok-told_by_server.ensures.read_back in
     let client_says : parameters_at c.deref-2.result.now ≡ Ok (parameters_of c.args.client.config.settings) = rw c.deref-2.ensures.value c.in_ok-told_by_client.ensures.read_back in
     record {
-      client = is_controller C.steps C.size_of C.window_of client.control client.end.path.size client.end.path.window c.in_ok-end_for.ensures.roomy
+      client = is_controller C.steps C.size_of C.window_of client.control (first_mtu client.end.transport) client.end.path.window c.in_ok-end_for.ensures.roomy
           (made_window Client c.args.client.config.settings (windows_at C.initial_of C.window_of client.control) (parameters_at c.deref.result.now) (parameters_of c.args.server.config.settings) c.args.client.id c.args.server.id c.args.now c.args.client.validated (words_of g.R.Rng.stream c.args.client.random 0) client.end server_says c.in_ok-end_for.ensures.made)
           keeps;
-      server = is_controller C.steps C.size_of C.window_of server.control server.end.path.size server.end.path.window c.in_ok-end_for-2.ensures.roomy
+      server = is_controller C.steps C.size_of C.window_of server.control (first_mtu server.end.transport) server.end.path.window c.in_ok-end_for-2.ensures.roomy
           (made_window Server c.args.server.config.settings (windows_at C.initial_of C.window_of server.control) (parameters_at c.deref-2.result.now) (parameters_of c.args.client.config.settings) c.args.server.id c.args.client.id c.args.now c.args.server.validated (words_of g.R.Rng.stream c.args.server.random 0) server.end client_says c.in_ok-end_for-2.ensures.made)
           keeps;
+    }
+
+-- the windows hold two datagrams, as the controllers show them
+pub returns-clause-have_room : goal.returns-clause-have_room
+returns-clause-have_room g c =
+    let C = g.C.Controller in
+    let client = c.in_ok-end_for.field-0 in
+    let server = c.in_ok-end_for-2.field-0 in
+    let server_says : parameters_at c.deref.result.now ≡ Ok (parameters_of c.args.server.config.settings) = rw c.deref.ensures.value c.in_ok-told_by_server.ensures.read_back in
+    let client_says : parameters_at c.deref-2.result.now ≡ Ok (parameters_of c.args.client.config.settings) = rw c.deref-2.ensures.value c.in_ok-told_by_client.ensures.read_back in
+    record {
+      controlled = returns-clause-controlled g c;
+      client = subst (λ (n : ℕ). HasRoom (first_mtu client.end.transport) n)
+          (sym (made_window Client c.args.client.config.settings (windows_at C.initial_of C.window_of client.control) (parameters_at c.deref.result.now) (parameters_of c.args.server.config.settings) c.args.client.id c.args.server.id c.args.now c.args.client.validated (words_of g.R.Rng.stream c.args.client.random 0) client.end server_says c.in_ok-end_for.ensures.made))
+          c.in_ok-end_for.ensures.roomy.room;
+      server = subst (λ (n : ℕ). HasRoom (first_mtu server.end.transport) n)
+          (sym (made_window Server c.args.server.config.settings (windows_at C.initial_of C.window_of server.control) (parameters_at c.deref-2.result.now) (parameters_of c.args.client.config.settings) c.args.server.id c.args.client.id c.args.now c.args.server.validated (words_of g.R.Rng.stream c.args.server.random 0) server.end client_says c.in_ok-end_for-2.ensures.made))
+          c.in_ok-end_for-2.ensures.roomy.room;
     }
 
 -- what the ends are made of

@@ -1,44 +1,48 @@
 use Rattle.std.proofs.Common.{rules, ◌≡◌, ◌≤◌, ◌*◌, ℕ, false, length, refl, sym, ap, subst, ◌∙◌, arith}
-use Rattle.std.specs.Prelude.{Ok, ◌==◌}
+use Rattle.std.specs.Prelude.{Ok, ◌==◌, min}
 use Rattle.std.proofs.lemmas.Bool.{le-ltb}
 use Rattle.quic_parameters.specs.ParametersRead.{parameters_at}
+use Rattle.quic_parameters.specs.Parameters.{AreInRange}
 use Rattle.quic_config.specs.Transport.{transport_of, first_mtu}
 use Rattle.quic_congestion.specs.Congestion.{HasRoom}
 use Rattle.quic_machine.specs.End.{are_sizes_wrong, is_window_small}
 use Rattle.quic_connection_core.specs.Telling.{IsRoomy}
+use Rattle.quic_parameters.specs.declared.transport_parameters.id.TransportParameterId.TheVariants.{MaxUdpPayloadSize}
+use Rattle.quic_machine.specs.PathLaws.{size_by}
 use Rattle.quic_connection_core.proofs.Flights.{none_in_flight}
 use Rattle.quic_connection_core.proofs.connection.Connection.new.Goals as goal
 
 pub invariant_of-result : goal.invariant_of-result
 invariant_of-result g c =
-    let made = c.path.view_is ∙ c.new-path.ensures in
-    let size : c.path.inside.current_mtu ≡ c.get_initial_mtu-mtu.result = ap (λ p. p.size) made ∙ sym c.get_initial_mtu-mtu.ensures.value in
-    let bound : 1200 ≤ c.path.inside.current_mtu = omega (arith, size, c.get_initial_mtu-mtu.ensures.value, c.get_initial_mtu-mtu.ensures.bound) in
+    let made = c.path.view_is ∙ c.first_path-path.ensures in
     let flight = ap (λ p. p.in_flight) made in
-    let room : HasRoom c.path.inside.current_mtu c.window-window.result = record {
-      sized = omega (arith, size, c.get_initial_mtu-mtu.type_inv);
-      room = omega (arith, size, c.from.ensures, c.if-window-from.false);
+    let first : 1200 ≤ first_mtu c.transport-transport.result = c.get_initial_mtu-mtu.ensures.bound in
+    let size = ap (λ p. p.discovery.size) made ∙ ap (λ (n : ℕ). min n c.in-Ok.theirs.max_udp_payload_size) (size_by c.transport-transport.result.mtu_discovery_config (first_mtu c.transport-transport.result) c.transport-transport.result.min_mtu) in
+    let range : AreInRange c.in-Ok.theirs = search rules in
+    let least = (range.each MaxUdpPayloadSize).0 in
+    let room : HasRoom (first_mtu c.transport-transport.result) c.window-window.result = record {
+      sized = omega (arith, c.get_initial_mtu-mtu.ensures.value, c.get_initial_mtu-mtu.type_inv);
+      room = omega (arith, c.get_initial_mtu-mtu.ensures.value, c.from.ensures, c.if-window-from.false);
     } in
     let built = g.met.F.ControllerFactory.built_for_size c.factory.result.now c.args.now (first_mtu c.transport-transport.result) in
-    let shown : g.C.Controller.size_of c.path.inside.congestion ≡ c.path.inside.current_mtu = ap (λ p. g.C.Controller.size_of p.congestion) made ∙ built ∙ sym (ap (λ p. p.size) made) in
-    let roomy : IsRoomy g.C.Controller.size_of g.C.Controller.window_of c.path.inside.congestion c.path.inside.current_mtu = record { size = shown; room = subst (λ (k : ℕ). HasRoom c.path.inside.current_mtu k) c.window-window.ensures room } in
-    (search rules, search rules, bound, roomy, room, rw (flight, c.new-3.ensures) (none_in_flight _ _))
+    let shown : g.C.Controller.size_of c.path.inside.congestion ≡ first_mtu c.transport-transport.result = ap (λ p. g.C.Controller.size_of p.congestion) made ∙ built in
+    let roomy : IsRoomy g.C.Controller.size_of g.C.Controller.window_of c.path.inside.congestion (first_mtu c.transport-transport.result) = record { size = shown; room = subst (λ (k : ℕ). HasRoom (first_mtu c.transport-transport.result) k) c.window-window.ensures room } in
+    (search rules, search rules, record { first = first; current = omega (arith, size, first, least) }, roomy, room, rw (flight, c.new-3.ensures) (none_in_flight _ _))
 
 pub returns-clause-roomy : goal.returns-clause-roomy
 returns-clause-roomy g c =
-    let made = c.path.view_is ∙ c.new-path.ensures in
-    let size : c.path.inside.current_mtu ≡ c.get_initial_mtu-mtu.result = ap (λ p. p.size) made ∙ sym c.get_initial_mtu-mtu.ensures.value in
-    let room : HasRoom c.path.inside.current_mtu c.window-window.result = record {
-      sized = omega (arith, size, c.get_initial_mtu-mtu.type_inv);
-      room = omega (arith, size, c.from.ensures, c.if-window-from.false);
+    let made = c.path.view_is ∙ c.first_path-path.ensures in
+    let room : HasRoom (first_mtu c.transport-transport.result) c.window-window.result = record {
+      sized = omega (arith, c.get_initial_mtu-mtu.ensures.value, c.get_initial_mtu-mtu.type_inv);
+      room = omega (arith, c.get_initial_mtu-mtu.ensures.value, c.from.ensures, c.if-window-from.false);
     } in
     let built = g.met.F.ControllerFactory.built_for_size c.factory.result.now c.args.now (first_mtu c.transport-transport.result) in
-    let shown : g.C.Controller.size_of c.path.inside.congestion ≡ c.path.inside.current_mtu = ap (λ p. g.C.Controller.size_of p.congestion) made ∙ built ∙ sym (ap (λ p. p.size) made) in
-    record { size = shown; room = subst (λ (k : ℕ). HasRoom c.path.inside.current_mtu k) c.window-window.ensures room }
+    let shown : g.C.Controller.size_of c.path.inside.congestion ≡ first_mtu c.transport-transport.result = ap (λ p. g.C.Controller.size_of p.congestion) made ∙ built in
+    record { size = shown; room = subst (λ (k : ℕ). HasRoom (first_mtu c.transport-transport.result) k) c.window-window.ensures room }
 
 pub returns-clause-lawful : goal.returns-clause-lawful
 returns-clause-lawful g c =
-    let made = c.path.view_is ∙ c.new-path.ensures in
+    let made = c.path.view_is ∙ c.first_path-path.ensures in
     let settings = c.args.config.now.settings in
     let read : parameters_at c.args.peer_parameters.now ≡ Ok c.in-Ok.theirs = search rules in
     let own : length c.args.own_id ≡ 8 = search rules in

@@ -1,10 +1,11 @@
-use Rattle.std.proofs.Common.{arith, Bool, rules, ◌≡◌, ◌++◌, ◌-◌, ℕ, true, false, not, None, List, length, ◌&&◌, inr, sym, subst, ap, ◌∙◌}
+use Rattle.std.proofs.Common.{◌≤◌, arith, Bool, rules, ◌≡◌, ◌++◌, ◌-◌, ℕ, true, false, not, None, List, length, ◌&&◌, inr, sym, subst, ap, ◌∙◌}
 use Rattle.quic_spaces.specs.Filter.{Filter}
 use Rattle.quic_machine.specs.End.{End, with_end, policy_of, closed_by}
 use Rattle.quic_machine.specs.declared.answers.LostReason.TheVariants as reasons
 use Rattle.quic_spaces.specs.Numbers.{can_number}
 use Rattle.quic_machine.specs.Control.{Gated, with_pacing_timer, with_app_limited}
-use Rattle.quic_machine.specs.Poll.{draft_of, datagram_of, told_polled_in, told_polled, told_if, Polled, probed, goes, rests, IsSilent}
+use Rattle.quic_machine.specs.Parts.{current_mtu}
+use Rattle.quic_machine.specs.Poll.{mark_of, draft_of, datagram_of, told_polled_in, told_polled, told_if, Polled, probed, goes, rests, IsSilent}
 use Rattle.quic_connection_core.specs.Drawn.{words_of, after_words}
 use Rattle.quic_connection_core.proofs.Polls.{gives_takes, polled_idle, polled_closes, made_ready, made_held, made_gated, silent_rests, ready_filter, ready_gives, none_drawn}
 use Rattle.quic_connection_core.proofs.connection.Connection.poll_open.Goals as goal
@@ -12,7 +13,7 @@ use Rattle.quic_connection_core.specs.Given.{given_bytes}
 use Rattle.std.proofs.lemmas.List.{append-nil, length-append}
 use Rattle.std.specs.Prelude.{Result, Ok, Err, OnErr}
 use Rattle.quic_machine.specs.declared.answers.State.{State}
-use Rattle.quic_machine.specs.PollCases.{ready_at}
+use Rattle.quic_machine.specs.PollCases.{ready_leaves, ready_at}
 use Rattle.quic_machine.specs.Lacking.{MovesRecord}
 use Rattle.quic_congestion.specs.Congestion.{Told, after_calls}
 
@@ -258,7 +259,8 @@ returns-clause-answer g c =
     let long = ap length c.in_ok-size.ensures.items ∙ length-append c.args.out.now.items (datagram_of (policy_of g.H.HeaderKey.protection g.K.PacketKey.aead (words_of g.R.Rng.stream) z) (draft_of (record { held = held; end = z.end }))) in
     let more = c.in_ok-size.ensures.size in
     let size : c.in_ok-size.size ≡ length (datagram_of (policy_of g.H.HeaderKey.protection g.K.PacketKey.aead (words_of g.R.Rng.stream) z) (draft_of (record { held = held; end = z.end }))) = omega arith in
-    rw size (sym (ap (λ (x : Polled). x.answer) gives))
+    let mark = c.mark.ensures ∙ ap (λ (e : End). mark_of e.path.marking) c.in_ok-size.ensures.end in
+    rw (size, mark) (sym (ap (λ (x : Polled). x.answer) gives))
 
 pub returns-in_err-size-clause-lacking : goal.returns-in_err-size-clause-lacking
 returns-in_err-size-clause-lacking g c =
@@ -281,3 +283,15 @@ pub returns-in_err-queue_probe-clause-lacking : goal.returns-in_err-queue_probe-
 returns-in_err-queue_probe-clause-lacking g c =
     let w = c.args.self.now in
     on_err c.from_residual.result (inr (c.requires, subst (λ x. MovesRecord x.end) (c.self.view_is ∙ c.tick.ensures) c.in_err-queue_probe.ensures.lacking))
+
+pub returns-clause-size : goal.returns-clause-size
+returns-clause-size g c =
+    let w = c.args.self.now in
+    let z = c.is_held_back-held.new.self in
+    let held = c.is_held_back-held.result in
+    let probes : c.queue_probe.new.self ≡ with_end c.tick.new.self (probed (with_pacing_timer c.tick.new.self.end None)) = search rules in
+    let is = made_ready w c.tick.new.self c.queue_probe.new.self z c.args.now c.tick.ensures probes c.is_held_back-held.ensures.end in
+    let h = made_held w c.tick.new.self c.queue_probe.new.self c.args.now held c.tick.ensures probes c.is_held_back-held.ensures.held in
+    let gate = made_gated w z c.args.now held is h in
+    let same : current_mtu z.end.path ≡ current_mtu w.end.path = ap (λ (x : Gated). current_mtu x.end.path) gate ∙ ap (λ (x : End). current_mtu x.path) (ready_leaves w.end c.args.now) in
+    subst (λ n. c.in_ok-size.size ≤ n) same c.in_ok-size.ensures.most

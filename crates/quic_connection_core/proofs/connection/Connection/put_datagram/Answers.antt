@@ -1,4 +1,6 @@
-use Rattle.std.proofs.Common.{rules, ◌≡◌, ◌++◌, List, ℕ, false, sym, ap, ◌∙◌}
+use Rattle.std.proofs.Common.{rules, ◌≡◌, ◌+◌, ◌≤◌, ◌++◌, arith, List, ℕ, false, sym, ap, ◌∙◌}
+use Rattle.std.specs.Prelude.{vec_len}
+use Rattle.quic_machine.specs.Parts.{current_mtu}
 use Rattle.quic_spaces.specs.Numbers.{cut_against}
 use Rattle.quic_machine.specs.End.{with_number_given, with_loss_timer, number_of, policy_of}
 use Rattle.quic_machine.specs.Control.{with_app_limited}
@@ -32,3 +34,11 @@ returns-clause-control g c =
     let w = c.args.self.now in
     let told : c.put_tracked.new.self.control ≡ after_calls g.C.Controller.steps w.control (told_draft (draft_if c.args.held w.end)) = search rules in
     ap (λ x. x.control) c.set_loss_timer.ensures ∙ ap (λ x. x.control) c.self.view_is ∙ told
+
+pub returns-clause-most : goal.returns-clause-most
+returns-clause-most g c =
+    let within : vec_len c.put_tracked.new.out + 16 ≤ vec_len c.args.out.now + current_mtu c.args.self.now.end.path = search rules in
+    let sealed = c.seal.ensures.len in
+    let first = c.len-start.ensures in
+    let last = c.len.ensures in
+    omega (arith, within, sealed, first, last)

@@ -1,5 +1,6 @@
-use Rattle.std.proofs.Common.{rules, ◌≡◌, ◌-◌, ◌++◌, ℕ, true, false, Option, Some, sym, ap, ◌∙◌, arith}
+use Rattle.std.proofs.Common.{rules, ◌≡◌, ◌-◌, ◌++◌, take, ℕ, true, false, Option, Some, sym, ap, ◌∙◌, arith}
 use Rattle.std.specs.Prelude.{vec_len}
+use Rattle.std.proofs.lemmas.List.{take_at}
 use Rattle.quic_wire.specs.Value.{ack}
 use Rattle.quic_wire.specs.Writing.{spelling}
 use Rattle.quic_recovery_core.specs.PendingAcks.{can_send}
@@ -8,7 +9,8 @@ use Rattle.quic_spaces.specs.Acknowledging.{delay_at}
 use Rattle.quic_machine.specs.Tracking.{Carried, carried_in}
 use Rattle.quic_machine.specs.End.{End, with_end}
 use Rattle.quic_machine.specs.Poll.{ack_of, frame_room, asking}
-use Rattle.quic_connection_core.specs.Frames.{asked, fits_behind, end_after_ack_if}
+use Rattle.quic_connection_core.specs.Frames.{asked, fits_behind, ack_bytes_if, end_after_ack_if}
+use Rattle.quic_spaces.specs.Marks.{told_counts}
 use Rattle.quic_spaces.proofs.AckSize.{few_runs}
 use Rattle.quic_connection_core.proofs.Plain.{front_of}
 use Rattle.quic_connection_core.proofs.Asking.{asked_room, asked_numbers}
@@ -18,7 +20,7 @@ use Rattle.quic_connection_core.proofs.connection.Connection.put_frames.Goals as
 pub put_ack-largest-requires-clause-room : goal.put_ack-largest-requires-clause-room
 put_ack-largest-requires-clause-room g c few =
     let e = c.args.self.now.end in
-    let most = few_runs (delay_at e.acknowledging e.closing.clock) e.acknowledging.runs few in
+    let most = few_runs (delay_at e.acknowledging e.closing.clock) (told_counts e.marks.came) e.acknowledging.runs few in
     let some = c.requires.some in
     let room = c.requires.room in
     omega (arith, most, some, room)
@@ -162,3 +164,17 @@ returns-in_err-sent-clause-front g c =
     let old = c.args.out.now.ok.0 in
     let len = c.put_ack-largest.ensures.len in
     front_of c.args.out.now.items c.put_ack-largest.new.out.items c.put_asking.new.out.items (spelling (ack (ack_of c.args.self.now.end))) (vec_len c.args.out.now) (vec_len c.put_ack-largest.new.out) old (omega (arith, len)) c.put_ack-largest.ensures.items c.put_asking.ensures.front
+
+pub returns-in_ok-sent-clause-front : goal.returns-in_ok-sent-clause-front
+returns-in_ok-sent-clause-front g c =
+    let old = c.args.out.now.ok.0 in
+    let len = c.put_ack-largest.ensures.len in
+    front_of c.args.out.now.items c.put_ack-largest.new.out.items c.put_asking.new.out.items (spelling (ack (ack_of c.args.self.now.end))) (vec_len c.args.out.now) (vec_len c.put_ack-largest.new.out) old (omega (arith, len)) c.put_ack-largest.ensures.items c.put_asking.ensures.front
+
+pub returns-in_ok-sent-2-clause-front : goal.returns-in_ok-sent-2-clause-front
+returns-in_ok-sent-2-clause-front g c =
+    let e : End = c.args.self.now.end in
+    let mid = c.put_asking-else-is_ack_due.new.out in
+    let used : ℕ = vec_len mid - c.len-body.result in
+    front_of c.args.out.now.items mid.items c.put_late_ack-largest.new.out.items (asked e (vec_len c.args.out.now - c.len-body.result)).bytes (vec_len c.args.out.now) (vec_len mid) c.args.out.now.ok.0 c.in_ok-sent-2.ensures.grows c.in_ok-sent-2.ensures.items
+    (ap (λ z. take (vec_len mid) z) c.put_late_ack-largest.ensures.items ∙ take_at mid.items (ack_bytes_if (fits_behind c.put_asking-else-is_ack_due.new.self.end used) c.put_asking-else-is_ack_due.new.self.end) (vec_len mid) (sym mid.ok.0))

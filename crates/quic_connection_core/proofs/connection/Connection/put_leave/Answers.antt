@@ -1,8 +1,14 @@
-use Rattle.std.proofs.Common.{arith}
+use Rattle.std.proofs.Common.{take, ap, sym, ◌∙◌, arith}
+use Rattle.std.specs.Prelude.{vec_len}
 use Rattle.std.proofs.lemmas.Bool.{and_parts}
+use Rattle.std.proofs.lemmas.List.{take_at}
 use Rattle.quic_recovery_core.specs.PendingAcks.{is_filled}
 use Rattle.quic_spaces.specs.Acknowledging.{delay_at}
+use Rattle.quic_spaces.specs.Marks.{told_counts}
 use Rattle.quic_spaces.proofs.AckSize.{few_runs}
+use Rattle.quic_wire.specs.Value.{ack}
+use Rattle.quic_wire.specs.Writing.{spelling}
+use Rattle.quic_machine.specs.Poll.{ack_of}
 use Rattle.quic_connection_core.proofs.connection.Connection.put_leave.Goals as goal
 
 pub put_ack-largest-requires-clause-some : goal.put_ack-largest-requires-clause-some
@@ -13,7 +19,12 @@ put_ack-largest-requires-clause-some g c =
 pub put_ack-largest-requires-clause-room : goal.put_ack-largest-requires-clause-room
 put_ack-largest-requires-clause-room g c few =
     let e = c.args.self.now.end in
-    let most = few_runs (delay_at e.acknowledging e.closing.clock) e.acknowledging.runs few in
+    let most = few_runs (delay_at e.acknowledging e.closing.clock) (told_counts e.marks.came) e.acknowledging.runs few in
     let some = c.requires.some in
     let room = c.requires.room in
     omega (arith, most, some, room)
+
+pub returns-then-held-clause-front : goal.returns-then-held-clause-front
+returns-then-held-clause-front g c =
+    ap (λ z. take (vec_len c.args.out.now) z) c.put_ack-largest.ensures.items
+    ∙ take_at c.args.out.now.items (spelling (ack (ack_of c.args.self.now.end))) (vec_len c.args.out.now) (sym c.args.out.now.ok.0)

@@ -5,6 +5,7 @@ use Rattle.quic_packet.specs.Header.{header_bytes}
 use Rattle.quic_spaces.specs.Numbers.{cut_against}
 use Rattle.quic_machine.specs.End.{number_of}
 use Rattle.std.proofs.lemmas.List.{length-append}
+use Rattle.quic_machine.specs.Parts.{current_mtu}
 use Rattle.quic_machine.specs.Poll.{draft_if, payload_of, datagram_size}
 use Rattle.quic_connection_core.proofs.Plain.{front_of, same_numbers, same_filter, same_ids, payload_is, payload_long, size_is, size_of, plain_of}
 use Rattle.quic_connection_core.proofs.connection.Connection.put_plain.Goals as goal
@@ -13,6 +14,8 @@ pub put_leave-requires-clause-some : goal.put_leave-requires-clause-some
 put_leave-requires-clause-some g c =
     let width = c.put_header-width.ensures.width in
     let short = c.put_header-width.ensures.short in
+    let sized = c.self.invariant.2.current in
+    let same = ap (λ w. current_mtu w.end.path) c.self.view_is in
     omega arith
 
 pub put_leave-requires-clause-room : goal.put_leave-requires-clause-room
@@ -22,6 +25,8 @@ put_leave-requires-clause-room g c =
     let short = c.put_header-width.ensures.short in
     let capacity = c.put_header-width.ensures.capacity in
     let room = c.requires.room in
+    let sized = c.self.invariant.2.current in
+    let same = ap (λ w. current_mtu w.end.path) c.self.view_is in
     omega arith
 
 pub pad-requires-clause-room : goal.pad-requires-clause-room
@@ -35,6 +40,8 @@ pad-requires-clause-room g c =
     let one = c.put_header-width.ensures.capacity in
     let two = c.in_ok-sent.ensures.capacity in
     let room = c.requires.room in
+    let sized = c.self.invariant.2.current in
+    let same = ap (λ w. current_mtu w.end.path) c.self.view_is in
     omega arith
 
 pub returns-clause-items : goal.returns-clause-items
@@ -56,6 +63,8 @@ returns-clause-within g c =
     let short = c.put_header-width.ensures.short in
     let body = c.len-body.ensures in
     let padded = c.pad.ensures.len in
+    let sized = c.self.invariant.2.current in
+    let same = ap (λ w. current_mtu w.end.path) c.self.view_is in
     omega arith
 
 pub returns-clause-size : goal.returns-clause-size

@@ -2,7 +2,7 @@ use Rattle.quic_paths.proofs.Threefold.{first, next, later}
 use Rattle.quic_paths.proofs.laws.paths.unvalidated_peers_get_threefold.Goals as goal
 
 pub returns-clause-first : goal.returns-clause-first
-returns-clause-first g c = λ generation now initial settings controller datagrams. first generation now initial settings controller datagrams
+returns-clause-first g c = λ searches limit generation now initial settings controller datagrams. first searches limit generation now initial settings controller datagrams
 
 pub returns-clause-next : goal.returns-clause-next
 returns-clause-next g c = λ prev generation now window datagrams. next prev generation now window datagrams

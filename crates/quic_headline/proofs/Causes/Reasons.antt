@@ -1,0 +1,144 @@
+-- An end that isn't open has a reason, or failed: each call keeps that, and so views show it.
+use Rattle.std.proofs.Common.{◌≡◌, ℕ, zero, suc, Bool, true, false, List, [], ◌∷◌, slice_get, Option, Some, None, refl, sym, ap, subst}
+use Rattle.quic_wire_core.specs.declared.stream_id.Side.{Side}
+use Rattle.quic_wire_core.specs.declared.stream_id.Side.TheVariants.{Client, Server}
+use Rattle.quic_machine.specs.declared.answers.State.{State}
+use Rattle.quic_machine.specs.declared.answers.State.TheVariants as states
+use Rattle.quic_machine.specs.declared.answers.LostReason.{LostReason}
+use Rattle.quic_machine.specs.declared.answers.LostReason.TheVariants as reasons
+use Rattle.quic_machine.specs.declared.run.RunEvent.{RunEvent}
+use Rattle.quic_machine.specs.declared.run.Call.{Call}
+use Rattle.quic_machine.specs.declared.run.Answer.{Answer}
+use Rattle.quic_machine.specs.declared.run.View.{View}
+use Rattle.quic_machine.specs.Policy.{Policy}
+use Rattle.quic_machine.specs.Closing.{ticked}
+use Rattle.quic_machine.specs.End.{End, with_closing, with_loss_timer}
+use Rattle.quic_machine.specs.Start.{AreStarted}
+use Rattle.quic_machine.specs.Poll.{Polled, Draft, lazied, polled, draft_if}
+use Rattle.quic_machine.specs.Timeouts.{Expiry, loss_judged, acks_expired, loss_expired, pacing_expired}
+use Rattle.quic_machine.specs.Machine.{World, Policies, HasStopped, IsStep, after_call, view_of, Follows}
+use Rattle.quic_machine.specs.DraftLaws.{by_leave, due_alone}
+use Rattle.quic_machine.specs.LeaveCases.{at_expiry}
+use Rattle.quic_machine.specs.CallCases.{by_plain_call}
+use Rattle.quic_machine.specs.FrameCases.{Settling, Receives, named, acked_keeps, losses_keep, frame_keeps, frame_leaves, by_received}
+use Rattle.quic_machine.specs.PollCases.{ready_at, ready_leaves, by_poll_to, draft_at}
+use Rattle.quic_headline.specs.Runs.{Run, state_in}
+use Rattle.quic_headline.specs.Causes.{reason_in}
+use Rattle.quic_headline.specs.Headline.{IsHonest, IsRun}
+use Rattle.quic_headline.specs.Reasons.{Explains, ClosedHasAReason}
+use Rattle.quic_headline.proofs.Packets.Probes.{MayLeave, by_going}
+use Rattle.quic_headline.proofs.Places.Placed.{start_is}
+use Rattle.quic_headline.proofs.Timers.BothEnds.{AtBoth, IsKept, step_keeps}
+
+-- ---- an end
+
+-- an end explains why it isn't open
+abbrev pub IsExplained : End → Type 0
+IsExplained e = Explains e.closing.state e.closing.reason
+
+-- acknowledged and lost packets close nothing
+settling : Settling IsExplained
+settling = record { known = λ n e i. i; reset = λ id e i. i; acked = λ m e i. i; lost = λ m e i. i; again = λ carried e i. i; tracked = λ t e i. i; measured = λ r first e i. i; marked = λ m marking e i. i }
+
+-- a datagram that closes an end does so for a reason
+receives : Receives IsExplained
+receives = record {
+  notes = λ n e i. i;
+  begins = λ now n e i. i;
+  frame = frame_keeps IsExplained (record { ack = λ rises a e i. acked_keeps IsExplained settling rises a (named a e) i; on_streams = λ f e on i. frame_leaves IsExplained f e on (λ t. i); message = λ m e i. i });
+  takes = λ n asks mark e i. i;
+  closes = λ reason e i. tt;
+}
+
+-- what goes closes nothing
+draft_keeps : (held : Bool) (e : End) → MayLeave held e → IsExplained e → IsExplained (draft_if held e).end
+draft_keeps = by_leave (λ (d : Draft). IsExplained d.end) (record {
+  ack = λ d filled may i. i;
+  ping = λ d i. i;
+  drops = λ d kind i. i;
+  control = λ d kind f is i. i;
+  message = λ d m ms is fit i. i;
+  stream = λ d id h room found first some is counts i. i;
+})
+
+ready_keeps : (e : End) (now : ℕ) → IsExplained e → IsExplained (ready_at e now).end
+ready_keeps e now i = subst (λ (x : End). IsExplained x) (sym (ready_leaves e now)) i
+
+-- a poll closes an end for used-up numbers
+polled_keeps : (p : Policy) (e : End) (now : ℕ) → IsExplained e → IsExplained (polled p e now).end
+polled_keeps p e now i = by_poll_to p e now (λ (q : Polled). IsExplained q.end) (record {
+  silent = i;
+  failed = i;
+  nothing = λ is none. ready_keeps e now i;
+  used_up = tt;
+  gives = λ is may some. by_going IsExplained p (draft_at e now) (λ pacing. draft_keeps (ready_at e now).held (lazied (ready_at e now).end) (due_alone (ready_at e now) some) (ready_keeps e now i));
+})
+
+-- expired timers close nothing
+judged_keeps : (o : Option ℕ) (e : End) → IsExplained e → IsExplained (loss_judged o e)
+judged_keeps None e i = i
+judged_keeps (Some moment) e i = losses_keep IsExplained settling e i
+
+acks_keep : (acks loss : Bool) (e : End) → IsExplained e → IsExplained (acks_expired acks (loss_expired loss e))
+acks_keep true true e i = judged_keeps e.tracking.loss_time e i
+acks_keep true false e i = i
+acks_keep false true e i = judged_keeps e.tracking.loss_time e i
+acks_keep false false e i = i
+
+pacing_keeps : (pacing : Bool) (e : End) → IsExplained e → IsExplained (with_loss_timer (pacing_expired pacing e))
+pacing_keeps true e i = i
+pacing_keeps false e i = i
+
+expired_keeps : (e : End) (now : ℕ) (expiry : Expiry) → IsExplained e → IsExplained (at_expiry e now expiry)
+expired_keeps e now expiry i =
+    let begun : End = with_closing e (ticked e.closing now) in
+    pacing_keeps expiry.pacing (acks_expired expiry.acks (loss_expired expiry.loss begun)) (acks_keep expiry.acks expiry.loss begun i)
+
+-- what any call leaves
+call_keeps : (p : Policy) (e : End) (theirs : List (List ℕ)) (call : Call) (a : Answer) → IsExplained e → IsExplained (after_call p e theirs call a)
+call_keeps p e theirs call a i = by_plain_call p e theirs IsExplained call a (record {
+  same = i;
+  on_streams = λ t. i;
+  on_messages = λ m. i;
+  pings = i;
+  heard = λ path same. i;
+  times = λ now expiry is. expired_keeps e now expiry i;
+  polls = λ now is. polled_keeps p e now i;
+  hears = λ arrival d is. by_received IsExplained receives p e arrival d i;
+  tells = λ told. i;
+})
+
+-- an end that stops has none
+stopped : (e next : End) → HasStopped e next → IsExplained next
+stopped e next is = subst (λ (s : State). Explains s next.closing.reason) (sym is.0) (subst (λ (o : Option LostReason). Explains states.Failed o) (sym is.1) tt)
+
+kept : IsKept IsExplained
+kept = record { call = call_keeps; shows = λ window e i. i; stops = stopped }
+
+-- ---- views
+
+-- what views show of ends that explain themselves
+seen : (side : Side) (w : World) → AtBoth IsExplained w → Explains (state_in (view_of w) side) (reason_in (view_of w) side)
+seen Client w i = i.0
+seen Server w i = i.1
+
+-- each view of a run
+pub views_explain : (k : Policies) (w end : World) (events : List RunEvent) (told : List Answer) (views : List View) → Follows k w events told views end → AtBoth IsExplained w
+    → (side : Side) (place : ℕ) (view : View) → slice_get views place ≡ Some view → Explains (state_in view side) (reason_in view side)
+views_explain k w end events told [] f i side place view is = cc
+views_explain k w end [] [] (v ∷ views) f i side place view is = absurd f
+views_explain k w end (e ∷ events) [] (v ∷ views) f i side place view is = absurd f
+views_explain k w end [] (a ∷ told) (v ∷ views) f i side place view is = absurd f
+views_explain k w end (e ∷ events) (a ∷ told) (v ∷ views) f i side zero view is =
+    let same : v ≡ view = cc in
+    subst (λ (x : View). Explains (state_in x side) (reason_in x side)) same (subst (λ (x : View). Explains (state_in x side) (reason_in x side)) (sym f.2) (seen side f.0 (step_keeps IsExplained kept k w f.0 e a f.1 i)))
+views_explain k w end (e ∷ events) (a ∷ told) (v ∷ views) f i side (suc place) view is =
+    views_explain k f.0 end events told views f.3 (step_keeps IsExplained kept k w f.0 e a f.1 i) side place view is
+
+-- new ends are open
+explained_start : (w : World) → AreStarted w → AtBoth IsExplained w
+explained_start w s = (subst (λ (e : End). IsExplained e) (sym (start_is w s Client)) tt, subst (λ (e : End). IsExplained e) (sym (start_is w s Server)) tt)
+
+-- the clause
+pub closed_has_a_reason : (r : Run) (end : World) → IsHonest r → IsRun r end → ClosedHasAReason r
+closed_has_a_reason r end honest run = views_explain r.keys r.start end r.events r.answers r.views run.follows (explained_start r.start honest.start)

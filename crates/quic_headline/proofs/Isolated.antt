@@ -1,0 +1,5 @@
+-- What doesn't open at an end, and what came before, changes nothing there: a run less it is a run again.
+pub mod Idle
+pub mod Erasing
+pub mod Recalling
+pub mod Lists

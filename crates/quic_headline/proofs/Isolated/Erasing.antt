@@ -1,0 +1,100 @@
+-- A run less any choice of its idle events is a run again: the same answers, the same views, the same ends.
+use Rattle.std.proofs.Common.{◌≡◌, ℕ, suc, Bool, true, false, List, [], ◌∷◌, Option, Some, inl, inr, refl, sym, ap, ◌∙◌, subst}
+use Rattle.std.specs.Prelude.{if◌then◌else◌, slice_get}
+use Rattle.quic_wire_core.specs.declared.stream_id.Side.{Side}
+use Rattle.quic_machine.specs.declared.answers.DropReason.{DropReason}
+use Rattle.quic_machine.specs.declared.answers.DropReason.TheVariants as drops
+use Rattle.quic_machine.specs.declared.answers.Received.TheVariants as receives
+use Rattle.quic_machine.specs.declared.run.RunEvent.{RunEvent}
+use Rattle.quic_machine.specs.declared.run.Call.{Call}
+use Rattle.quic_machine.specs.declared.run.Call.TheVariants as calls
+use Rattle.quic_machine.specs.declared.run.Answer.{Answer}
+use Rattle.quic_machine.specs.declared.run.Answer.TheVariants as answers
+use Rattle.quic_machine.specs.declared.run.View.{View}
+use Rattle.quic_machine.specs.Machine.{World, Policies, Follows}
+use Rattle.quic_headline.specs.Runs.{Run, In}
+use Rattle.quic_headline.specs.Headline.{IsRun}
+use Rattle.quic_headline.specs.Isolated.{drops_whole, is_idle, without, OnlyIdle, Isolated, is_shut_out, is_answered_idle, of_both, answered_idle, IsolatedByAnswers}
+use Rattle.quic_headline.proofs.Isolated.Idle.{idle_leaves}
+
+-- ---- any choice
+
+-- what stays of a list was in it
+without_in : {X : Type 0} (gone : ℕ → Bool) (x : X) (xs : List X) → In x (without gone xs) → In x xs
+without_in gone x [] i = i
+without_in {X} gone x (y ∷ ys) i = go (gone 0) (without_in (λ j. gone (suc j)) x ys) i
+  where
+    rest : List X
+    rest = without (λ j. gone (suc j)) ys
+
+    go : (b : Bool) → (In x rest → In x ys) → In x (if b then rest else y ∷ rest) → In x (y ∷ ys)
+    go true later i = inr (later i)
+    go false later (inl is) = inl is
+    go false later (inr i) = inr (later i)
+
+-- no answer, whatever events there are
+unanswered : (k : Policies) (w end : World) (events : List RunEvent) → end ≡ w → Follows k w events [] [] end
+unanswered k w end [] same = same
+unanswered k w end (event ∷ events) same = same
+
+-- of the events that are answered only idle ones are chosen
+abbrev pub Chosen : (ℕ → Bool) → List RunEvent → List Answer → Type 0
+Chosen gone events told = (side : Side) (i : ℕ) (call : Call) (a : Answer) → gone i ≡ true → slice_get events i ≡ Some (record { side = side; call = call }) → slice_get told i ≡ Some a → is_idle call a ≡ true
+
+-- without them the others are answered so, and lead to the same ends
+pub erases : (k : Policies) (gone : ℕ → Bool) (w end : World) (events : List RunEvent) (told : List Answer) (views : List View) → Chosen gone events told → Follows k w events told views end
+    → Follows k w (without gone events) (without gone told) (without gone views) end
+erases k gone w end [] [] [] idle f = f
+erases k gone w end (event ∷ events) [] [] idle f = unanswered k w end (without gone (event ∷ events)) f
+erases k gone w end [] [] (v ∷ views) idle f = absurd f
+erases k gone w end (event ∷ events) [] (v ∷ views) idle f = absurd f
+erases k gone w end [] (a ∷ told) views idle f = absurd f
+erases k gone w end (event ∷ events) (a ∷ told) [] idle f = absurd f
+erases k gone w end (event ∷ events) (a ∷ told) (v ∷ views) idle f =
+    go (gone 0) refl (erases k (λ i. gone (suc i)) f.0 end events told views (λ side i call b chosen at_event at_answer. idle side (suc i) call b chosen at_event at_answer) f.3)
+  where
+    events_left : List RunEvent
+    events_left = without (λ i. gone (suc i)) events
+
+    told_left : List Answer
+    told_left = without (λ i. gone (suc i)) told
+
+    views_left : List View
+    views_left = without (λ i. gone (suc i)) views
+
+    go : (b : Bool) → gone 0 ≡ b → Follows k f.0 events_left told_left views_left end → Follows k w (if b then events_left else event ∷ events_left) (if b then told_left else a ∷ told_left) (if b then views_left else v ∷ views_left) end
+    go true chosen later = subst (λ (x : World). Follows k x events_left told_left views_left end) (idle_leaves k w f.0 event a (idle event.side 0 event.call a chosen refl refl) f.1) later
+    go false kept later = (f.0, f.1, f.2, later)
+
+-- so the run is one again
+pub isolated : (r : Run) (end : World) → IsRun r end → Isolated r end
+isolated r end run gone idle = record {
+  codes = λ event i. run.codes event (without_in gone event r.events i);
+  follows = erases r.keys gone r.start end r.events r.answers r.views (λ side i call a chosen at_event at_answer. idle side i call a chosen (record { event = at_event; answer = at_answer })) run.follows;
+  from_client = run.from_client;
+  from_server = run.from_server;
+}
+
+-- ---- the choice by answers
+
+-- what is chosen by an event and its answer is so of them
+pub of_chosen : (holds : RunEvent → Answer → Bool) (at_event : Option RunEvent) (at_answer : Option Answer) (event : RunEvent) (a : Answer) → of_both holds at_event at_answer ≡ true → at_event ≡ Some event → at_answer ≡ Some a → holds event a ≡ true
+of_chosen holds at_event at_answer event a chosen is_event is_answer =
+    sym (ap (λ (o : Option RunEvent). of_both holds o at_answer) is_event ∙ ap (λ (o : Option Answer). of_both holds (Some event) o) is_answer) ∙ chosen
+
+shut_out_whole : (reason : DropReason) → is_shut_out reason ≡ true → drops_whole reason ≡ true
+shut_out_whole drops.Closing out = out
+shut_out_whole reason out = refl
+
+answered_is_idle : (call : Call) (a : Answer) → is_answered_idle call a ≡ true → is_idle call a ≡ true
+answered_is_idle (calls.Inject injection) a out = refl
+answered_is_idle (calls.Deliver delivery) (answers.Deliver (receives.Dropped reason)) out = shut_out_whole reason out
+answered_is_idle call a out = out
+
+-- so only idle events are chosen
+pub chosen_idle : (r : Run) → OnlyIdle r (answered_idle r)
+chosen_idle r side i call a chosen at =
+    answered_is_idle call a (of_chosen (λ event b. is_answered_idle event.call b) (slice_get r.events i) (slice_get r.answers i) (record { side = side; call = call }) a chosen at.event at.answer)
+
+pub isolated_by_answers : (r : Run) (end : World) → IsRun r end → IsolatedByAnswers r end
+isolated_by_answers r end run = isolated r end run (answered_idle r) (chosen_idle r)

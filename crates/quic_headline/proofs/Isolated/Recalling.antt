@@ -1,0 +1,295 @@
+-- What an end knows of what came, whatever the keys and whoever sent it: the numbers that opened, the number that it expects, and its ids are those that the lists say.
+use Rattle.std.proofs.Common.{◌≡◌, ℕ, zero, suc, ◌+◌, Bool, true, false, ◌||◌, List, [], ◌∷◌, ◌++◌, Option, Some, None, Result, Ok, Err, inl, inr, refl, sym, ap, ◌∙◌, subst, arith}
+use Rattle.std.specs.Prelude.{if◌then◌else◌, slice_get, max, not, ◌==◌}
+use Rattle.quic_wire_core.specs.declared.shared.EcnCodepoint.{EcnCodepoint}
+use Rattle.quic_wire.specs.Items.{items}
+use Rattle.quic_wire.specs.declared.frame.InvalidFrame.{InvalidFrame}
+use Rattle.quic_wire.specs.Value.{FrameValue}
+use Rattle.quic_packet.specs.Header.{key_phase, reserved_bits}
+use Rattle.quic_packet.specs.Datagram.{Opening}
+use Rattle.quic_packet.specs.Destination.{decoded, fixed_length_id}
+use Rattle.quic_packet.specs.declared.packet.HeaderError.{HeaderError}
+use Rattle.quic_packet.specs.declared.packet.HeaderError.TheVariants as headers
+use Rattle.quic_recovery_core.specs.Duplicates.{Seen, is_duplicate, after_insert}
+use Rattle.quic_recovery_core.specs.DuplicateRuns.{seen_after}
+use Rattle.quic_spaces.specs.Numbers.{expected, after_greatest, greatest_of, number_opened}
+use Rattle.quic_machine.specs.Arrival.{Arrival, delivered_by}
+use Rattle.quic_machine.specs.declared.answers.State.{State}
+use Rattle.quic_machine.specs.declared.answers.State.TheVariants as states
+use Rattle.quic_machine.specs.declared.answers.DropReason.{DropReason}
+use Rattle.quic_machine.specs.declared.answers.DropReason.TheVariants as drops
+use Rattle.quic_machine.specs.declared.answers.Received.TheVariants as receives
+use Rattle.quic_machine.specs.declared.run.Call.{Call}
+use Rattle.quic_machine.specs.declared.run.Call.TheVariants as calls
+use Rattle.quic_machine.specs.declared.run.Delivery.{Delivery}
+use Rattle.quic_machine.specs.declared.run.Answer.{Answer}
+use Rattle.quic_machine.specs.declared.run.Answer.TheVariants as answers
+use Rattle.quic_machine.specs.Policy.{Policy}
+use Rattle.quic_machine.specs.Ids.{Ids, known}
+use Rattle.quic_machine.specs.Closing.{ticked}
+use Rattle.quic_machine.specs.End.{End, with_closing, with_numbers}
+use Rattle.quic_machine.specs.Control.{Control}
+use Rattle.quic_machine.specs.Opens.{own_id_length, in_phase, opens_behind, opens}
+use Rattle.quic_machine.specs.Receive.{Fault, Progress, Outcome, error_of, violation, is_empty, asks_in, take_frame, take_items, take_payload, dropped, ends_as, by_state, opened_to, opened_as, opening, drop_of, headed, received_in, received}
+use Rattle.quic_machine.specs.Poll.{Polled, Draft, lazied, polled, draft_if}
+use Rattle.quic_machine.specs.DraftLaws.{by_leave, due_alone}
+use Rattle.quic_machine.specs.FrameCases.{Settling, begun, named, losses_keep, acked_keeps, frame_keeps, frame_leaves, items_keep}
+use Rattle.quic_machine.specs.LeaveCases.{by_expired}
+use Rattle.quic_machine.specs.PollCases.{ready_at, ready_leaves, by_poll_to, draft_at}
+use Rattle.quic_machine.specs.CallCases.{is_delivery, by_plain_call, by_left}
+use Rattle.quic_machine.specs.Machine.{IsAnswer, IsDelivered, after_delivered, after_call, end_left, reads_window, fails}
+use Rattle.quic_headline.specs.Runs.{Intake, is_again, is_refused, packet_of, handed, expected_behind, and_opened, and_handed}
+use Rattle.quic_headline.specs.Isolated.{drops_whole, is_new}
+use Rattle.quic_headline.proofs.Packets.Intakes.{nothing_handed}
+use Rattle.quic_headline.proofs.Packets.Probes.{MayLeave, by_going}
+use Rattle.quic_headline.proofs.Packets.Window.{is_duplicate-is}
+
+-- an open end recalls what came; it is open, or it is drained or has failed
+pub record Recalls (state : State) (ids : Ids) (opened : Seen) (taken : Option ℕ) (i : Intake) : Type 0 where
+  pub never_closing : state ≡ states.Closing → ⊥
+  pub known : state ≡ states.Open → known ids ≡ i.ids
+  pub seen : state ≡ states.Open → opened ≡ seen_after i.opened
+  pub expected : state ≡ states.Open → after_greatest taken ≡ expected_behind i.took
+
+abbrev pub Keeps : End → Intake → Type 0
+Keeps e i = Recalls e.closing.state e.ids e.numbers.opened e.numbers.taken i
+
+-- an end that isn't open has nothing to recall
+drained_keeps : (ids : Ids) (opened : Seen) (taken : Option ℕ) (i : Intake) → Recalls states.Drained ids opened taken i
+drained_keeps ids opened taken i = record { never_closing = λ is. cc; known = λ is. absurd cc; seen = λ is. absurd cc; expected = λ is. absurd cc }
+
+-- ---- calls that are no delivery
+
+module _ (i : Intake) where
+  -- an end that recalls it still
+  abbrev Still : End → Type 0
+  Still e = Keeps e i
+
+  settling : Settling Still
+  settling = record { known = λ n e k. k; reset = λ id e k. k; acked = λ m e k. k; lost = λ m e k. k; again = λ carried e k. k; tracked = λ t e k. k; measured = λ r first e k. k; marked = λ m marking e k. k }
+
+  draft_still : (held : Bool) (e : End) → MayLeave held e → Still e → Still (draft_if held e).end
+  draft_still = by_leave (λ (d : Draft). Still d.end) (record {
+    ack = λ d filled may k. k;
+    ping = λ d k. k;
+    drops = λ d kind k. k;
+    control = λ d kind f is k. k;
+    message = λ d m ms is fit k. k;
+    stream = λ d id h room found first some is counts k. k;
+  })
+
+  ready_still : (e : End) (now : ℕ) → Still e → Still (ready_at e now).end
+  ready_still e now k = subst (λ (x : End). Still x) (sym (ready_leaves e now)) k
+
+  polled_still : (p : Policy) (e : End) (now : ℕ) → Still e → Still (polled p e now).end
+  polled_still p e now k = by_poll_to p e now (λ (q : Polled). Still q.end) (record {
+    silent = k;
+    failed = k;
+    nothing = λ is none. ready_still e now k;
+    used_up = let x : End = (ready_at e now).end in drained_keeps x.ids x.numbers.opened x.numbers.taken i;
+    gives = λ is may some. by_going Still p (draft_at e now) (λ pacing. draft_still (ready_at e now).held (lazied (ready_at e now).end) (due_alone (ready_at e now) some) (ready_still e now k));
+  })
+
+  call_still : (p : Policy) (e : End) (theirs : List (List ℕ)) (call : Call) (a : Answer) → is_delivery call ≡ false → Still e → Still (after_call p e theirs call a)
+  call_still p e theirs call a other k = by_plain_call p e theirs Still call a (record {
+    same = k;
+    on_streams = λ t. k;
+    on_messages = λ m. k;
+    pings = k;
+    heard = λ path same. k;
+    times = λ now expiry is. by_expired e now Still (λ pending tracking timers runs packets. k) (λ pending timers runs. losses_keep Still settling (with_closing e (ticked e.closing now)) k) expiry;
+    polls = λ now is. polled_still p e now k;
+    hears = λ arrival d is. absurd cc;
+    tells = λ told. k;
+  })
+
+  -- whichever window a poll reads
+  pub left_still : (p : Policy) (control : Control) (e : End) (theirs : List (List ℕ)) (call : Call) (a : Answer) → is_delivery call ≡ false → Still e → Still (end_left p control e theirs call a)
+  left_still p control e theirs call a other k = by_left p e theirs Still k (λ window k. k) control call a (λ x k. call_still p x theirs call a other k)
+
+-- ---- a packet that is new
+
+-- frames leave ids, numbers and state of an end that noted a number, but for the greatest number that was named
+record IsBegun (e : End) (n : ℕ) (ids : Ids) (opened : Seen) (taken : Option ℕ) (state : State) : Type 0 where
+  ids_same : ids ≡ e.ids
+  noted : opened ≡ after_insert e.numbers.opened n
+  taken_same : taken ≡ e.numbers.taken
+  state_same : state ≡ e.closing.state
+
+module _ (e : End) (n : ℕ) where
+  abbrev Begun : End → Type 0
+  Begun x = IsBegun e n x.ids x.numbers.opened x.numbers.taken x.closing.state
+
+  begun_settles : Settling Begun
+  begun_settles = record { known = λ m x b. b; reset = λ id x b. b; acked = λ m x b. b; lost = λ m x b. b; again = λ carried x b. b; tracked = λ t x b. b; measured = λ r first x b. b; marked = λ m marking x b. b }
+
+  frame_begun : (f : FrameValue) (x : End) → Begun x → Begun (take_frame f x).end
+  frame_begun = frame_keeps Begun (record { ack = λ rises a x b. acked_keeps Begun begun_settles rises a (named a x) b; on_streams = λ f x on b. frame_leaves Begun f x on (λ t. b); message = λ m x b. b })
+
+  payload_begun : (now first : ℕ) (is : List (Result FrameValue InvalidFrame)) → Begun (take_payload first is (begun e now n)).end
+  payload_begun now first is = go (not (reserved_bits first == 0) || is_empty is)
+    where
+      start : Begun (begun e now n)
+      start = record { ids_same = refl; noted = refl; taken_same = refl; state_same = refl }
+
+      go : (b : Bool) → Begun (if b then record { end = begun e now n; fault = Some violation } else take_items is (begun e now n)).end
+      go true = start
+      go false = items_keep Begun frame_begun is (begun e now n) start
+
+-- what came once a packet was taken, or was refused
+abbrev with_new : Opening → Answer → Intake → Intake
+with_new o a i = record {
+  ids = i.ids;
+  opened = o.number ∷ i.opened;
+  took = if is_refused a then i.took else packet_of o ∷ i.took;
+  part = if is_refused a then Some (packet_of o) else i.part;
+}
+
+-- the number that is expected behind one more
+expected_after : (taken : Option ℕ) (n x : ℕ) → after_greatest taken ≡ x → after_greatest (Some (greatest_of taken n)) ≡ max (n + 1) x
+expected_after None n x e = omega arith
+expected_after (Some m) n x e = omega arith
+
+-- all frames were taken of a packet that is new to an open end, or one was at fault, and then the end is drained
+ends_keeps : (fault : Option Fault) (asking : Bool) (mark : Option EcnCodepoint) (e x : End) (o : Opening) (i : Intake) → e.closing.state ≡ states.Open → Keeps e i → Begun e o.number x
+    → Keeps (ends_as fault asking o.number mark x).end (with_new o (answers.Deliver (ends_as fault asking o.number mark x).answer) i)
+ends_keeps None asking mark e x o i is_open k b = record {
+  never_closing = λ closing. k.never_closing (sym b.state_same ∙ closing);
+  known = λ still. ap (λ (ids : Ids). known ids) b.ids_same ∙ k.known is_open;
+  seen = λ still. b.noted ∙ ap (λ (s : Seen). after_insert s o.number) (k.seen is_open);
+  expected = λ still. expected_after x.numbers.taken o.number (expected_behind i.took) (ap (λ (t : Option ℕ). after_greatest t) b.taken_same ∙ k.expected is_open);
+}
+ends_keeps (Some fault) asking mark e x o i is_open k b = drained_keeps x.ids x.numbers.opened x.numbers.taken (with_new o (answers.Deliver (receives.Closed (error_of fault))) i)
+
+-- a packet that is new to an open end
+state_keeps : (state : State) (o : Opening) (arrival : Arrival) (e : End) (i : Intake) → e.closing.state ≡ state → state ≡ states.Open → Keeps e i
+    → Keeps (by_state state o arrival (with_numbers e (number_opened e.numbers o.number))).end (with_new o (answers.Deliver (by_state state o arrival (with_numbers e (number_opened e.numbers o.number))).answer) i)
+state_keeps states.Open o arrival e i here is_open k =
+    let p : Progress = take_payload o.first (items o.payload) (begun e arrival.now o.number) in
+    ends_keeps p.fault (asks_in (items o.payload)) arrival.mark e p.end o i here k (payload_begun e o.number arrival.now o.first (items o.payload))
+state_keeps states.Closing o arrival e i here is_open k = absurd cc
+state_keeps states.Drained o arrival e i here is_open k = absurd cc
+state_keeps states.Failed o arrival e i here is_open k = absurd cc
+
+-- ---- a delivery
+
+-- a packet that opened, or didn't, at an open end
+opened_keeps : (o : Opening) (arrival : Arrival) (e : End) (i : Intake) → e.closing.state ≡ states.Open → Keeps e i
+    → Keeps (opened_to o arrival e).end (and_opened (in_phase (Some o)) (answers.Deliver (opened_to o arrival e).answer) i)
+opened_keeps o arrival e i is_open k = go (key_phase o.first)
+  where
+    noted : End
+    noted = with_numbers e (number_opened e.numbers o.number)
+
+    tested : (twice again : Bool) → twice ≡ again
+        → Keeps (if twice then dropped drops.Duplicate e else by_state e.closing.state o arrival noted).end
+        (if again then i else with_new o (answers.Deliver (if twice then dropped drops.Duplicate e else by_state e.closing.state o arrival noted).answer) i)
+    tested true true same = k
+    tested false false same = state_keeps e.closing.state o arrival e i refl is_open k
+    tested true false same = absurd cc
+    tested false true same = absurd cc
+
+    go : (phase : Bool) → (let made = if phase then dropped drops.KeyPhase e else (if is_duplicate e.numbers.opened o.number then dropped drops.Duplicate e else by_state e.closing.state o arrival noted) in
+        Keeps made.end (and_opened (if phase then None else Some o) (answers.Deliver made.answer) i))
+    go true = k
+    go false = tested (is_duplicate e.numbers.opened o.number) (is_again o.number i.opened) (is_duplicate-is i.opened e.numbers.opened o.number (k.seen is_open))
+
+packet_keeps : (o : Option Opening) (arrival : Arrival) (e : End) (i : Intake) → e.closing.state ≡ states.Open → Keeps e i → Keeps (opened_as o arrival e).end (and_opened (in_phase o) (answers.Deliver (opened_as o arrival e).answer) i)
+packet_keeps None arrival e i is_open k = k
+packet_keeps (Some o) arrival e i is_open k = opened_keeps o arrival e i is_open k
+
+headed_keeps : (r : Result (List ℕ) HeaderError) (p : Policy) (e : End) (arrival : Arrival) (d : List ℕ) (i : Intake) → e.closing.state ≡ states.Open → Keeps e i
+    → Keeps (headed r p e arrival d).end (and_opened (opens_behind r p (expected e.numbers) d) (answers.Deliver (headed r p e arrival d).answer) i)
+headed_keeps (Err error) p e arrival d i is_open k = k
+headed_keeps (Ok id) p e arrival d i is_open k = packet_keeps (opening p e d) arrival e i is_open k
+
+-- what a datagram opens to at an open end is what it opens to by the lists
+pub opens_by_lists : (p : Policy) (e : End) (d : List ℕ) (i : Intake) → e.closing.state ≡ states.Open → Keeps e i → opens p (known e.ids) (expected e.numbers) d ≡ opens p i.ids (expected_behind i.took) d
+opens_by_lists p e d i is_open k = ap (λ (ids : List (List ℕ)). opens p ids (expected e.numbers) d) (k.known is_open) ∙ ap (λ (n : ℕ). opens p i.ids n d) (k.expected is_open)
+
+-- a datagram of whatever bytes
+pub received_keeps : (p : Policy) (e : End) (arrival : Arrival) (d : List ℕ) (i : Intake) → Keeps e i → Keeps (received p e arrival d).end (and_handed e.closing.state (Some d) p (answers.Deliver (received p e arrival d).answer) i)
+received_keeps p e arrival d i k = go e.closing.state refl
+  where
+    head : Result (List ℕ) HeaderError
+    head = decoded (fixed_length_id own_id_length) (known e.ids) d
+
+    go : (state : State) → e.closing.state ≡ state → Keeps (received_in state p e arrival d).end (and_handed state (Some d) p (answers.Deliver (received_in state p e arrival d).answer) i)
+    go states.Failed here = k
+    go states.Drained here = k
+    go states.Closing here = absurd (k.never_closing here)
+    go states.Open here =
+        subst (λ (o : Option Opening). Keeps (headed head p e arrival d).end (and_opened o (answers.Deliver (headed head p e arrival d).answer) i)) (opens_by_lists p e d i here k)
+        (headed_keeps head p e arrival d i here k)
+
+-- what stands in a list stands in a longer one
+pub first_get : {X : Type 0} (xs rest all : List X) (n : ℕ) (x : X) → xs ++ rest ≡ all → slice_get xs n ≡ Some x → slice_get all n ≡ Some x
+first_get xs rest all n x is there = ap (λ ys. slice_get ys n) (sym is) ∙ further xs n there
+  where
+    further : (ys : List _) (m : ℕ) → slice_get ys m ≡ Some x → slice_get (ys ++ rest) m ≡ Some x
+    further [] m q = cc
+    further (y ∷ ys) zero q = q
+    further (y ∷ ys) (suc m) q = further ys m q
+
+-- a delivery, of a datagram that the other end gave or of none; `final` are all that it gives
+delivered_keeps : (o : Option (List ℕ)) (p : Policy) (e : End) (theirs rest final : List (List ℕ)) (delivery : Delivery) (a : Answer) (i : Intake) → slice_get theirs delivery.index ≡ o → theirs ++ rest ≡ final → fails a ≡ false
+    → IsDelivered p e delivery o a → Keeps e i → Keeps (after_delivered p e delivery o) (and_handed e.closing.state (handed final (calls.Deliver delivery) a) p a i)
+delivered_keeps None p e theirs rest final delivery a i at first served is k =
+    subst (λ (b : Answer). Keeps e (and_handed e.closing.state (handed final (calls.Deliver delivery) b) p b i)) (sym is)
+    (subst (λ (j : Intake). Keeps e j) (sym (nothing_handed e.closing.state p answers.NoDatagram i)) k)
+delivered_keeps (Some d) p e theirs rest final delivery a i at first served (inl is) k =
+    let made : Outcome = received p e (delivered_by delivery) d in
+    let there : slice_get final delivery.index ≡ Some d = first_get theirs rest final delivery.index d first at in
+    subst (λ (b : Answer). Keeps made.end (and_handed e.closing.state (handed final (calls.Deliver delivery) b) p b i)) (sym is)
+    (subst (λ (h : Option (List ℕ)). Keeps made.end (and_handed e.closing.state h p (answers.Deliver made.answer) i)) (sym there) (received_keeps p e (delivered_by delivery) d i k))
+delivered_keeps (Some d) p e theirs rest final delivery a i at first served (inr is) k = let clash : ◌≡◌ {A = Bool} true false = sym (ap fails is) ∙ served in absurd cc
+
+-- any call that didn't fail: the end that it leaves recalls what came with it
+pub call_keeps : (p : Policy) (control : Control) (e : End) (theirs rest final : List (List ℕ)) (call : Call) (a : Answer) (i : Intake) → theirs ++ rest ≡ final → fails a ≡ false
+    → IsAnswer p (reads_window control call e) theirs call a → Keeps e i → Keeps (end_left p control e theirs call a) (and_handed e.closing.state (handed final call a) p a i)
+call_keeps p control e theirs rest final (calls.Deliver delivery) a i first served is k = delivered_keeps (slice_get theirs delivery.index) p e theirs rest final delivery a i refl first served is k
+call_keeps p control e theirs rest final call a i first served is k = subst (λ (j : Intake). Keeps (end_left p control e theirs call a) j) (sym (nothing_handed e.closing.state p a i)) (left_still i p control e theirs call a refl k)
+
+-- ---- a datagram that is nothing new
+
+-- it is dropped, and the end makes nothing of it
+abbrev pub IsDropped : Outcome → Type 0
+IsDropped made = (reason : DropReason) × (made.answer ≡ receives.Dropped reason) × (drops_whole reason ≡ true)
+
+header_drops : (error : HeaderError) → drops_whole (drop_of error) ≡ true
+header_drops headers.TooShort = refl
+header_drops headers.NotShort = refl
+header_drops headers.FixedBit = refl
+header_drops headers.UnknownId = refl
+
+-- a packet that opens is a duplicate
+opened_drops : (o : Opening) (arrival : Arrival) (e : End) (numbers : List ℕ) → e.numbers.opened ≡ seen_after numbers → is_new (in_phase (Some o)) numbers ≡ false → IsDropped (opened_to o arrival e)
+opened_drops o arrival e numbers seen = go (key_phase o.first)
+  where
+    tested : (twice again : Bool) → twice ≡ again → not again ≡ false → IsDropped (if twice then dropped drops.Duplicate e else by_state e.closing.state o arrival (with_numbers e (number_opened e.numbers o.number)))
+    tested true again same old = (drops.Duplicate, refl, refl)
+    tested false true same old = absurd cc
+    tested false false same old = absurd cc
+
+    go : (phase : Bool) → is_new (if phase then None else Some o) numbers ≡ false
+        → IsDropped (if phase then dropped drops.KeyPhase e else (if is_duplicate e.numbers.opened o.number then dropped drops.Duplicate e else by_state e.closing.state o arrival (with_numbers e (number_opened e.numbers o.number))))
+    go true old = (drops.KeyPhase, refl, refl)
+    go false old = tested (is_duplicate e.numbers.opened o.number) (is_again o.number numbers) (is_duplicate-is numbers e.numbers.opened o.number seen) old
+
+packet_drops : (o : Option Opening) (arrival : Arrival) (e : End) (numbers : List ℕ) → e.numbers.opened ≡ seen_after numbers → is_new (in_phase o) numbers ≡ false → IsDropped (opened_as o arrival e)
+packet_drops None arrival e numbers seen old = (drops.NotOpened, refl, refl)
+packet_drops (Some o) arrival e numbers seen old = opened_drops o arrival e numbers seen old
+
+headed_drops : (r : Result (List ℕ) HeaderError) (p : Policy) (e : End) (arrival : Arrival) (d : List ℕ) (numbers : List ℕ) → e.numbers.opened ≡ seen_after numbers → is_new (opens_behind r p (expected e.numbers) d) numbers ≡ false → IsDropped (headed r p e arrival d)
+headed_drops (Err error) p e arrival d numbers seen old = (drop_of error, refl, header_drops error)
+headed_drops (Ok id) p e arrival d numbers seen old = packet_drops (opening p e d) arrival e numbers seen old
+
+-- a datagram that by the lists is nothing new is dropped, whatever the state of its end
+pub old_is_dropped : (p : Policy) (e : End) (arrival : Arrival) (d : List ℕ) (i : Intake) → Keeps e i → is_new (opens p i.ids (expected_behind i.took) d) i.opened ≡ false → IsDropped (received p e arrival d)
+old_is_dropped p e arrival d i k old = go e.closing.state refl
+  where
+    go : (state : State) → e.closing.state ≡ state → IsDropped (received_in state p e arrival d)
+    go states.Failed here = (drops.Failed, refl, refl)
+    go states.Drained here = (drops.Drained, refl, refl)
+    go states.Closing here = absurd (k.never_closing here)
+    go states.Open here = headed_drops (decoded (fixed_length_id own_id_length) (known e.ids) d) p e arrival d i.opened (k.seen here) (ap (λ (o : Option Opening). is_new o i.opened) (opens_by_lists p e d i here k) ∙ old)

@@ -1,0 +1,9 @@
+-- Ends that rest: nothing of theirs waits, what they wrote has arrived, and they owe no acknowledgement.
+pub mod Between
+pub mod Sizes
+pub mod Quiet
+pub mod Delivered
+pub mod Awaited
+pub mod Reached
+pub mod Unanswered
+pub mod Owed

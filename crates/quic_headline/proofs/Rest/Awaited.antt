@@ -1,0 +1,180 @@
+-- At an open end where a packet that asks came since the last acknowledgement went, one is due, or the timer of acknowledgements is set: each call keeps that.
+use Rattle.std.proofs.Common.{◌≡◌, ℕ, ◌+◌, ◌-◌, ◌^◌, ◌<◌, ◌⊎◌, Bool, true, false, not, ◌||◌, ◌&&◌, cond, min, List, Option, Some, None, refl, sym, ap, ◌∙◌, subst, inl, inr, arith}
+use Rattle.std.specs.Prelude.{if◌then◌else◌, nat_lt, is_none}
+use Rattle.std.specs.Option.{is_some}
+use Rattle.std.proofs.lemmas.Bool.{and_parts, or_left, lt-ltb}
+use Rattle.quic_spaces.specs.Marks.{is_congested}
+use Rattle.quic_recovery_core.specs.Duplicates.{Seen}
+use Rattle.quic_recovery_core.specs.PendingAcks.{Pending, none_pending, is_filled, after_insert, asking_counted, starts_wait, after_packet}
+use Rattle.quic_recovery_core.specs.declared.spaces.pending_acks.TheConstants.{LAZY_ACK_THRESHOLD}
+use Rattle.quic_time.specs.Timers.{Timers}
+use Rattle.quic_wire_core.specs.declared.stream_id.Side.TheVariants.{Client, Server}
+use Rattle.quic_machine.specs.declared.answers.State.TheVariants as states
+use Rattle.quic_machine.specs.declared.answers.LostReason.{LostReason}
+use Rattle.quic_machine.specs.declared.answers.LostReason.TheVariants as reasons
+use Rattle.quic_machine.specs.declared.run.RunEvent.{RunEvent}
+use Rattle.quic_machine.specs.declared.run.Call.{Call}
+use Rattle.quic_machine.specs.declared.run.Answer.{Answer}
+use Rattle.quic_machine.specs.declared.run.View.{View}
+use Rattle.quic_machine.specs.Policy.{Policy}
+use Rattle.quic_machine.specs.Closing.{ticked}
+use Rattle.quic_machine.specs.Start.{AreStarted}
+use Rattle.quic_machine.specs.End.{End, with_closing, closed_by, with_ack_timer, with_loss_timer}
+use Rattle.quic_machine.specs.Receive.{timers_after}
+use Rattle.quic_spaces.specs.Acknowledging.{ack_due, with_due}
+use Rattle.quic_machine.specs.Poll.{Polled, Draft, lazied, polled, draft_if}
+use Rattle.quic_machine.specs.Timeouts.{Expiry, loss_judged, acks_expired, loss_expired, pacing_expired}
+use Rattle.quic_machine.specs.Machine.{World, Policies, after_call, Follows}
+use Rattle.quic_machine.specs.DraftLaws.{by_leave, due_alone}
+use Rattle.quic_machine.specs.LeaveCases.{at_expiry}
+use Rattle.quic_machine.specs.CallCases.{by_plain_call}
+use Rattle.quic_machine.specs.FrameCases.{Settling, Receives, named, acked_keeps, losses_keep, frame_keeps, frame_leaves, by_received}
+use Rattle.quic_machine.specs.PollCases.{ready_at, ready_leaves, by_poll_to, draft_at}
+use Rattle.quic_headline.proofs.Places.Placed.{start_is}
+use Rattle.quic_headline.proofs.Timers.BothEnds.{AtBoth, run_keeps}
+use Rattle.quic_headline.proofs.Packets.Probes.{MayLeave, by_going}
+
+-- Where packets that ask were counted, an acknowledgement is due or the timer is set; and it was set only for such a packet.
+pub record Comes (due : Bool) (asking : ℕ) (since timer : Option ℕ) : Type 0 where
+  pub waits : 0 < asking → (due ≡ true) ⊎ (is_some timer ≡ true)
+  pub counted : is_some since ≡ true → 0 < asking
+
+-- so it is of what is to be acknowledged, and a timer
+abbrev pub AckComes : Pending → Option ℕ → Type 0
+AckComes p timer = Comes p.due p.asking p.since timer
+
+-- and at an open end
+abbrev pub IsAwaited : End → Type 0
+IsAwaited e = e.closing.state ≡ states.Open → AckComes e.acknowledging e.timers.max_ack_delay
+
+-- an end that closed isn't open
+closed_awaited : (reason : LostReason) (e : End) → IsAwaited (closed_by reason e)
+closed_awaited reason e opened = cc
+
+-- ---- a datagram
+
+-- an acknowledgement may become due
+more_due : (b : Bool) (p : Pending) (timer : Option ℕ) → AckComes p timer → AckComes (record p { due = p.due || b }) timer
+more_due b p timer c = record { waits = λ some. elim (c.waits some) [ inl due ↦ inl (or_left p.due b due) | inr set ↦ inr set ]; counted = c.counted }
+
+-- a packet that asks: the timer is set, or an acknowledgement was due or is now, or the timer was set before
+asking_comes : (t : Timers) (p : Pending) (now n : ℕ) (s : Seen) (b : Bool) → starts_wait (asking_counted p n s) ≡ b → AckComes p t.max_ack_delay
+    → AckComes (cond b (record (asking_counted p n s) { since = Some now }) (asking_counted p n s)) (if b then with_ack_timer t (Some (ack_due now)) else t).max_ack_delay
+asking_comes t p now n s true is c = record { waits = λ some. inr refl; counted = λ some. omega arith }
+asking_comes t p now n s false is c = record { waits = λ some. go p.since refl is; counted = λ some. omega arith }
+  where
+    counted : Pending
+    counted = asking_counted p n s
+
+    send_case : (b : Bool) → (counted.due && is_filled counted.runs) ≡ b → not b ≡ false → counted.due ≡ true
+    send_case true can none = (and_parts counted.due (is_filled counted.runs) can).0
+    send_case false can none = cc
+
+    go : (o : Option ℕ) → p.since ≡ o → (is_none o && not (counted.due && is_filled counted.runs)) ≡ false → (counted.due ≡ true) ⊎ (is_some t.max_ack_delay ≡ true)
+    go None none quiet = inl (send_case (counted.due && is_filled counted.runs) refl quiet)
+    go (Some moment) set quiet = elim (c.waits (c.counted (ap (λ (o : Option ℕ). is_some o) set))) [ inl due ↦ inl (or_left p.due _ due) | inr timer ↦ inr timer ]
+
+packet_comes : (asks : Bool) (t : Timers) (p : Pending) (now n : ℕ) (s : Seen) → AckComes p t.max_ack_delay → AckComes (after_packet p now n asks s) (timers_after t p now n asks s).max_ack_delay
+packet_comes true t p now n s c = asking_comes t p now n s (starts_wait (asking_counted p n s)) refl c
+packet_comes false t p now n s c = c
+
+-- acknowledged and lost packets change neither
+settling : Settling IsAwaited
+settling = record { known = λ n e i. i; reset = λ id e i. i; acked = λ m e i. i; lost = λ m e i. i; again = λ carried e i. i; tracked = λ t e i. i; measured = λ r first e i. i; marked = λ m marking e i. i }
+
+receives : Receives IsAwaited
+receives = record {
+  notes = λ n e i. i;
+  begins = λ now n e i. i;
+  frame = frame_keeps IsAwaited (record { ack = λ rises a e i. acked_keeps IsAwaited settling rises a (named a e) i; on_streams = λ f e on i. frame_leaves IsAwaited f e on (λ t. i); message = λ m e i. i });
+  takes = λ n asks mark e i opened.
+      packet_comes asks e.timers (with_due (is_congested mark) (after_insert e.acknowledging n e.closing.clock)) e.closing.clock n e.numbers.opened (more_due (is_congested mark) e.acknowledging e.timers.max_ack_delay (i opened));
+  closes = λ reason e i. closed_awaited reason e;
+}
+
+-- ---- a poll
+
+-- an ACK that goes answers all, and no other frame changes what is awaited
+draft_awaited : (held : Bool) (e : End) → MayLeave held e → IsAwaited e → IsAwaited (draft_if held e).end
+draft_awaited = by_leave (λ (d : Draft). IsAwaited d.end) (record {
+  ack = λ d filled may i opened. record { waits = λ some. absurd (omega arith); counted = λ some. cc };
+  ping = λ d i. i;
+  drops = λ d kind i. i;
+  control = λ d kind f is i. i;
+  message = λ d m ms is fit i. i;
+  stream = λ d id h room found first some is counts i. i;
+})
+
+lazied_awaited : (e : End) → IsAwaited e → IsAwaited (lazied e)
+lazied_awaited e i opened = more_due (nat_lt LAZY_ACK_THRESHOLD e.acknowledging.silent) e.acknowledging e.timers.max_ack_delay (i opened)
+
+ready_awaited : (e : End) (now : ℕ) → IsAwaited e → IsAwaited (ready_at e now).end
+ready_awaited e now i = subst (λ (x : End). IsAwaited x) (sym (ready_leaves e now)) i
+
+polled_awaited : (p : Policy) (e : End) (now : ℕ) → IsAwaited e → IsAwaited (polled p e now).end
+polled_awaited p e now i = by_poll_to p e now (λ (q : Polled). IsAwaited q.end) (record {
+  silent = i;
+  failed = i;
+  nothing = λ is none. ready_awaited e now i;
+  used_up = closed_awaited reasons.NumberLimit (ready_at e now).end;
+  gives = λ is may some. by_going IsAwaited p (draft_at e now) (λ pacing. draft_awaited (ready_at e now).held (lazied (ready_at e now).end) (due_alone (ready_at e now) some) (lazied_awaited (ready_at e now).end (ready_awaited e now i)));
+})
+
+-- ---- any call
+
+-- losses change neither
+judged_awaited : (o : Option ℕ) (e : End) → IsAwaited e → IsAwaited (loss_judged o e)
+judged_awaited None e i = i
+judged_awaited (Some moment) e i = losses_keep IsAwaited settling e i
+
+-- where the timer of acknowledgements expires, one is due
+acks_awaited : (acks loss : Bool) (e : End) → IsAwaited e → IsAwaited (acks_expired acks (loss_expired loss e))
+acks_awaited true true e i opened = expired_comes (loss_judged e.tracking.loss_time e).acknowledging (judged_awaited e.tracking.loss_time e i opened)
+  where
+    expired_comes : {timer : Option ℕ} (p : Pending) → AckComes p timer → AckComes (record p { due = nat_lt 0 p.asking }) None
+    expired_comes p c = record { waits = λ some. inl (lt-ltb 0 p.asking some); counted = c.counted }
+acks_awaited true false e i opened = record { waits = λ some. inl (lt-ltb 0 e.acknowledging.asking some); counted = (i opened).counted }
+acks_awaited false true e i opened = judged_awaited e.tracking.loss_time e i opened
+acks_awaited false false e i opened = i opened
+
+pacing_awaited : (pacing : Bool) (e : End) → IsAwaited e → IsAwaited (with_loss_timer (pacing_expired pacing e))
+pacing_awaited true e i = i
+pacing_awaited false e i = i
+
+expired_awaited : (e : End) (now : ℕ) (expiry : Expiry) → IsAwaited e → IsAwaited (at_expiry e now expiry)
+expired_awaited e now expiry i =
+    let begun : End = with_closing e (ticked e.closing now) in
+    pacing_awaited expiry.pacing (acks_expired expiry.acks (loss_expired expiry.loss begun)) (acks_awaited expiry.acks expiry.loss begun i)
+
+call_awaited : (p : Policy) (e : End) (theirs : List (List ℕ)) (call : Call) (a : Answer) → IsAwaited e → IsAwaited (after_call p e theirs call a)
+call_awaited p e theirs call a i = by_plain_call p e theirs IsAwaited call a (record {
+  same = i;
+  on_streams = λ t. i;
+  on_messages = λ m. i;
+  pings = i;
+  heard = λ path same. i;
+  times = λ now expiry is. expired_awaited e now expiry i;
+  polls = λ now is. polled_awaited p e now i;
+  hears = λ arrival d is. by_received IsAwaited receives p e arrival d i;
+  tells = λ told. i;
+})
+
+-- ---- a run
+
+-- nothing came yet
+first_comes : AckComes none_pending None
+first_comes = record { waits = λ some. absurd (omega arith); counted = λ some. cc }
+
+starts_awaited : (w : World) → AreStarted w → AtBoth IsAwaited w
+starts_awaited w s = (
+  subst (λ (e : End). IsAwaited e) (sym (start_is w s Client)) (λ opened. first_comes),
+  subst (λ (e : End). IsAwaited e) (sym (start_is w s Server)) (λ opened. first_comes),
+)
+
+-- so it is at both ends, wherever a run leads
+pub acks_awaited_run : (k : Policies) (w end : World) (events : List RunEvent) (told : List Answer) (views : List View) → AreStarted w → Follows k w events told views end → AtBoth IsAwaited end
+acks_awaited_run k w end events told views s f = run_keeps IsAwaited (record {
+  call = call_awaited;
+  shows = λ window e i. i;
+  stops = λ e next is opened. let clash : states.Failed ≡ states.Open = sym is.0 ∙ opened in cc;
+}) k w end events told views f (starts_awaited w s)

@@ -1,0 +1,142 @@
+-- A run is one again without what doesn't open and what came before; and a machine on which that leaves something breaks the clause.
+use Rattle.std.proofs.Common.{◌≡◌, ℕ, zero, suc, Bool, true, false, [], ◌∷◌, ◌++◌, Some, None, refl, sym, inl, inr, subst, arith}
+use Rattle.quic_machine.specs.declared.answers.Received.TheVariants as receives
+use Rattle.quic_machine.specs.declared.answers.DropReason.TheVariants as drops
+use Rattle.quic_machine.specs.declared.run.Call.{Call}
+use Rattle.quic_machine.specs.declared.run.Answer.TheVariants as answers
+use Rattle.quic_machine.specs.InjectionCases.{injected_leaves}
+use Rattle.quic_machine.specs.Machine.{World, IsStep}
+use Rattle.quic_headline.specs.Headline.{IsRun}
+use Rattle.quic_headline.specs.Isolated.{is_idle, erased, OnlyIdle, Isolated, answered_idle, IsolatedByAnswers, listed_idle, IsolatedByLists}
+use Rattle.quic_headline.proofs.Isolated.Erasing.{chosen_idle}
+use Rattle.quic_worked.specs.Worked.{worked_policies, started, once_opened, once_written, once_ended, once_sent, once_taken, hello_datagram, delivers, sending_events, sending_answers}
+use Rattle.quic_worked.specs.Broken.{NeverAnswers, IsNoRun}
+use Rattle.quic_worked.specs.Isolated.{forged_datagram, forges, refused, asks_wait, noisy_run, quiet_run, noted_early, ticked_early}
+use Rattle.quic_worked.proofs.Codes.{no_codes}
+use Rattle.quic_worked.proofs.WorkedHonest.{call_of}
+use Rattle.quic_worked.proofs.WorkedRun as worked
+use Rattle.quic_worked.proofs.WorkedRun.{opens, writes, finishes, gives, takes, drops_duplicate}
+use Rattle.quic_worked.proofs.BrokenRuns.{IsRefused, stops, behind, behind_sent}
+
+-- ---- the run
+
+-- what the key refuses leaves both ends as they are, before the datagram came and behind it
+refused_first : (now : ℕ) → IsStep worked_policies once_sent (forges now) refused once_sent
+unfolding once_sent
+refused_first now = record { answer = refl; end = sym (injected_leaves worked_policies.server once_sent.server (record { now = now; ecn = None; bytes = forged_datagram })); control = refl; others = refl; lacking = tt }
+
+refused_again : (now : ℕ) → IsStep worked_policies once_taken (forges now) refused once_taken
+unfolding once_taken
+refused_again now = record { answer = refl; end = sym (injected_leaves worked_policies.server once_taken.server (record { now = now; ecn = None; bytes = forged_datagram })); control = refl; others = refl; lacking = tt }
+
+waits : IsStep worked_policies once_taken asks_wait (answers.Timer (Some 25000000)) once_taken
+unfolding once_taken
+waits = record { answer = refl; end = refl; control = refl; others = refl; lacking = tt }
+
+-- the client gave its datagram, and the server none
+gave_hello : hello_datagram ∷ [] ≡ once_taken.from_client
+unfolding once_taken
+gave_hello = refl
+
+gave_none : [] ≡ once_taken.from_server
+unfolding once_taken
+gave_none = refl
+
+pub noisy_is_run : IsRun noisy_run once_taken
+noisy_is_run = record {
+  codes = no_codes noisy_run.events refl;
+  follows = (
+    once_opened,
+    opens,
+    refl,
+    (
+      once_written,
+      writes,
+      refl,
+      (
+        once_ended,
+        finishes,
+        refl,
+        (
+          once_sent,
+          gives,
+          worked.sent_seen,
+          (
+            once_sent,
+            refused_first 1000000000,
+            worked.sent_seen,
+            (once_taken, takes, worked.taken_seen, (once_taken, drops_duplicate, worked.taken_seen, (once_taken, refused_again 1000000000, worked.taken_seen, (once_taken, waits, worked.taken_seen, refl)))),
+          ),
+        ),
+      ),
+    ),
+  );
+  from_client = gave_hello;
+  from_server = gave_none;
+}
+
+pub quiet_is_run : IsRun quiet_run once_taken
+quiet_is_run = record {
+  codes = no_codes quiet_run.events refl;
+  follows = (once_opened, opens, refl, (once_written, writes, refl, (once_ended, finishes, refl, (once_sent, gives, worked.sent_seen, (once_taken, takes, worked.taken_seen, (once_taken, waits, worked.taken_seen, refl))))));
+  from_client = gave_hello;
+  from_server = gave_none;
+}
+
+-- less what is chosen it is the quiet run
+pub noise_erased : erased (answered_idle noisy_run) noisy_run ≡ quiet_run
+noise_erased = refl
+
+-- ---- the machines
+
+-- the datagram is no duplicate where it comes first
+duplicate_no : IsRefused once_sent delivers (answers.Deliver (receives.Dropped drops.Duplicate))
+unfolding once_taken
+duplicate_no (inl e) = cc
+duplicate_no (inr e) = cc
+
+-- the timer doesn't expire a second later
+wait_no : IsRefused once_taken asks_wait (answers.Timer (Some 1025000000))
+unfolding once_taken
+wait_no e = let clash : ◌≡◌ {A = ℕ} 1025000000 25000000 = cc in omega (arith, clash)
+
+-- without what the key refused the datagram is no duplicate
+never_noted : NeverAnswers started (sending_events ++ delivers ∷ []) (sending_answers ++ answers.Deliver (receives.Dropped drops.Duplicate) ∷ [])
+never_noted = behind_sent (stops _ _ _ _ _ duplicate_no)
+
+-- the injection alone is left out
+abbrev fifth : ℕ → Bool
+fifth (suc (suc (suc (suc zero)))) = true
+fifth i = false
+
+-- it is idle
+fifth_idle : OnlyIdle noted_early fifth
+fifth_idle side zero call a chosen at = cc
+fifth_idle side (suc zero) call a chosen at = cc
+fifth_idle side (suc (suc zero)) call a chosen at = cc
+fifth_idle side (suc (suc (suc zero))) call a chosen at = cc
+fifth_idle side (suc (suc (suc (suc zero)))) call a chosen at = let same = call_of (forges 0) (record { side = side; call = call }) at.event in subst (λ (c : Call). is_idle c a ≡ true) same refl
+fifth_idle side (suc (suc (suc (suc (suc i))))) call a chosen at = let clash : ◌≡◌ {A = Bool} false true = chosen in absurd cc
+
+pub noted_isolated : (end : World) → Isolated noted_early end → ⊥
+noted_isolated end any = never_noted.never (erased fifth noted_early).views end (any fifth fifth_idle).follows
+
+-- by the lists the injection brings nothing, and the datagram is new
+pub noted_by_lists : IsolatedByLists noted_early → ⊥
+noted_by_lists less = let on = less 6 refl in never_noted.never (erased (listed_idle noted_early) noted_early).views on.world on.follows
+
+pub no_noted : IsNoRun noted_early
+no_noted = behind_sent (behind refl (refused_first 0) (stops _ _ _ _ _ duplicate_no))
+
+-- without it the acknowledgement waits 25 ms
+never_ticked : NeverAnswers started (sending_events ++ delivers ∷ asks_wait ∷ []) (sending_answers ++ answers.Deliver receives.Taken ∷ answers.Timer (Some 1025000000) ∷ [])
+never_ticked = behind_sent (behind refl takes (stops _ _ _ _ _ wait_no))
+
+pub ticked_by_answers : (end : World) → IsolatedByAnswers ticked_early end → ⊥
+ticked_by_answers end run = never_ticked.never (erased (answered_idle ticked_early) ticked_early).views end run.follows
+
+pub ticked_isolated : (end : World) → Isolated ticked_early end → ⊥
+ticked_isolated end any = ticked_by_answers end (any (answered_idle ticked_early) (chosen_idle ticked_early))
+
+pub no_ticked : IsNoRun ticked_early
+no_ticked = behind_sent (behind refl (refused_first 1000000000) (behind refl takes (stops _ _ _ _ _ wait_no)))

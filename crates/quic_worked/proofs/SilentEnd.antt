@@ -1,0 +1,34 @@
+-- An end that closes shows why; one that is drained for no reason is none of the machine's.
+use Rattle.std.proofs.Common.{◌≡◌, [], Some, None, Ok, refl, ap, ◌∙◌}
+use Rattle.quic_wire_core.specs.declared.stream_id.Side.TheVariants.{Client}
+use Rattle.quic_machine.specs.declared.answers.State.{State}
+use Rattle.quic_machine.specs.declared.answers.State.TheVariants as states
+use Rattle.quic_machine.specs.declared.run.Call.TheVariants as calls
+use Rattle.quic_machine.specs.declared.run.Answer.TheVariants as answers
+use Rattle.quic_machine.specs.declared.run.View.{View}
+use Rattle.quic_machine.specs.End.{End}
+use Rattle.quic_machine.specs.Machine.{end_left}
+use Rattle.quic_headline.specs.Reasons.{ClosedHasAReason}
+use Rattle.quic_headline.proofs.Causes.Reasons.{views_explain}
+use Rattle.quic_worked.specs.Worked.{worked_policies, started, open_view}
+use Rattle.quic_worked.specs.Closed.{silent_view, drains_silently, last_run, last_closed}
+use Rattle.quic_worked.specs.Timed.{NeverShows}
+use Rattle.quic_worked.proofs.UsedUpRun.{last_is_run}
+
+pub last_explains : ClosedHasAReason last_run
+last_explains = views_explain last_run.keys last_run.start last_closed last_run.events last_run.answers last_run.views last_is_run.follows (tt, tt)
+
+pub drains_wrongly : ClosedHasAReason drains_silently → ⊥
+drains_wrongly h = h Client 0 (record { client = silent_view; server = open_view }) refl
+
+-- a poll of a new end leaves it open
+stays_open : (end_left worked_policies.client started.client_control started.client [] (calls.Poll 0) (answers.Poll (Ok None))).closing.state ≡ states.Open
+stays_open = refl
+
+pub never_silent : NeverShows drains_silently
+never_silent end f =
+    let shown : states.Drained ≡ f.0.client.closing.state = ap (λ (v : View). v.client.state) f.2 in
+    let polls : f.0.client ≡ end_left worked_policies.client started.client_control started.client [] (calls.Poll 0) (answers.Poll (Ok None)) = f.1.end in
+    let left : f.0.client.closing.state ≡ states.Open = ap (λ (e : End). e.closing.state) polls ∙ stays_open in
+    let clash : states.Drained ≡ states.Open = shown ∙ left in
+    cc

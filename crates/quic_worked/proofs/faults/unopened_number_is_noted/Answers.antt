@@ -1,0 +1,5 @@
+use Rattle.quic_worked.proofs.FaultRuns.{noted_takes, noted_is_honest, noted_is_none}
+use Rattle.quic_worked.proofs.faults.unopened_number_is_noted.Goals as goal
+
+pub returns : goal.returns
+returns c = record { taken = noted_takes; premises = noted_is_honest; machine = noted_is_none }

@@ -1,0 +1,72 @@
+-- A run in which the pacer holds back what asks (RFC 9002, section 7.7): the client has no token left, and its datagram goes once it has as many as its pacer holds.
+use Rattle.std.specs.Prelude.{ℕ, true, List, [], ◌∷◌, ◌++◌, replicate, take, Some, None, Ok}
+use Rattle.quic_wire_core.specs.declared.stream_id.Side.TheVariants.{Client}
+use Rattle.quic_machine.specs.declared.answers.State.TheVariants as states
+use Rattle.quic_machine.specs.declared.run.RunEvent.{RunEvent}
+use Rattle.quic_machine.specs.declared.run.Answer.{Answer}
+use Rattle.quic_machine.specs.declared.run.Answer.TheVariants as answers
+use Rattle.quic_machine.specs.declared.run.EndView.{EndView}
+use Rattle.quic_machine.specs.declared.run.View.{View}
+use Rattle.quic_machine.specs.End.{End}
+use Rattle.quic_machine.specs.Machine.{World}
+use Rattle.quic_headline.specs.Runs.{Run}
+use Rattle.quic_worked.specs.Worked.{steady_window, worked_policies, ran, started, with_client, once_sent, hello, opens_stream, writes_hello, gives_bytes, open_view, view_with}
+use Rattle.quic_worked.specs.Acknowledged.{client_datagram}
+use Rattle.quic_worked.specs.Timed.{asks_at}
+use Rattle.quic_worked.specs.Held.{gives_nothing}
+
+-- an end whose pacer has no token
+abbrev pub without_tokens : End → End
+without_tokens e = record e { path = record e.path { pacing = record e.path.pacing { tokens = 0 } } }
+
+-- both ends, of which the client is so: no new end is, whose pacer is full
+abbrev pub paced_start : World
+paced_start = with_client started (without_tokens started.client)
+
+-- when the pacer is full: 12000 tokens take four fifths of 333 ms, since the window of 12000 bytes lets five quarters of itself go in a round trip
+abbrev pub full_again : ℕ
+full_again = 266400000
+
+-- the client writes the word, and is asked for a datagram at once, and then
+abbrev pub paced_events : List RunEvent
+paced_events = opens_stream ∷ writes_hello ∷ asks_at Client 0 ∷ asks_at Client full_again ∷ []
+
+-- what that is answered
+abbrev pub paced_answers : List Answer
+paced_answers = answers.Open (Some 0) ∷ answers.Write (Ok 5) ∷ gives_nothing ∷ gives_bytes 34 ∷ []
+
+-- what the first so many of these leave
+unfoldable pub once_paced : ℕ → World
+unfolding once_sent
+once_paced n = ran worked_policies paced_start (take n paced_events) (take n paced_answers)
+
+-- what is seen of a client whose timer of the pacer is set
+abbrev pub pacing_view : EndView
+pacing_view = record {
+  state = states.Open;
+  reason = None;
+  validated = true;
+  timers = replicate 6 None ++ Some full_again ∷ None ∷ None ∷ [];
+  window = steady_window;
+  current_mtu = 1200;
+}
+
+-- and of both ends then
+abbrev pub paced_view : View
+paced_view = record { client = pacing_view; server = open_view }
+
+-- the run
+abbrev pub paced_run : Run
+paced_run = record {
+  keys = worked_policies;
+  start = paced_start;
+  events = paced_events;
+  answers = paced_answers;
+  views =
+      replicate 2 (record { client = open_view; server = open_view })
+      ++ paced_view
+      ∷ record { client = view_with (Some 1290400000) None; server = open_view }
+      ∷ [];
+  from_client = client_datagram 0 0 ((0x0a ∷ 0x00 ∷ 0x05 ∷ []) ++ hello) ∷ [];
+  from_server = [];
+}

@@ -1,0 +1,35 @@
+//! Datagrams that don't open, and repeated ones, change nothing: computed on one run, and on runs
+//! of machines with a bug. Each function does nothing: its contract is the law.
+ghost use Rattle.std.specs.Prelude.{◌≡◌};
+ghost use Rattle.quic_machine.specs.Machine.{World};
+ghost use Rattle.quic_headline.specs.Headline.{IsRun};
+ghost use Rattle.quic_headline.specs.Isolated.{answered_idle, erased, Isolated, IsolatedByAnswers, IsolatedByLists};
+ghost use Rattle.quic_worked.specs.Worked.{once_taken};
+ghost use Rattle.quic_worked.specs.Broken.{IsNoRun};
+ghost use Rattle.quic_worked.specs.Isolated.{noisy_run, quiet_run, noted_early, ticked_early};
+
+/// A forged datagram is refused before and behind the client's own, which comes twice. Less the
+/// forged ones and the second copy it is the run in which the datagram comes once, and both lead to
+/// the same ends.
+pub fn noise_changes_nothing()
+    ensures noisy { IsRun noisy_run once_taken }
+    ensures quiet { IsRun quiet_run once_taken }
+    ensures erased { erased (answered_idle noisy_run) noisy_run ≡ quiet_run }
+{}
+
+/// Receiving: the number of a datagram counts as seen before the key opened it, so a forged one
+/// makes the datagram of that number a duplicate. By the answers that one may be left out as well;
+/// the lists say that it is new.
+pub fn refused_number_is_noted()
+    ensures isolated { (end : World) → Isolated noted_early end → ⊥ }
+    ensures by_lists { IsolatedByLists noted_early → ⊥ }
+    ensures machine { IsNoRun noted_early }
+{}
+
+/// Receiving: the moment at which a datagram came is taken over before the key opened it, so a
+/// forged one puts off the acknowledgement of the next.
+pub fn refused_moment_is_taken()
+    ensures isolated { (end : World) → Isolated ticked_early end → ⊥ }
+    ensures by_answers { (end : World) → IsolatedByAnswers ticked_early end → ⊥ }
+    ensures machine { IsNoRun ticked_early }
+{}
