@@ -74,6 +74,6 @@ returns-clause-follows g c =
       | then-loop-event-test+then-is_err w ↦ elim w.then-is_err.branch [
         | then-is_err-via-then-is_err x ↦ rw (w.ends-is, w.given-is, w.answers-is, w.reserve.ensures.items, w.views-is, x.views-is) inv.follows
         | then-is_err-via-else-is_err+then-is_err-2 x ↦ rw (w.ends-is, w.given-is, w.answers-is, w.reserve.ensures.items, w.views-is, x.views-is, x.reserve-else-is_err.ensures.items) inv.follows
-        ]
+      ]
       | then-loop-event-test+else-is_err+else-is_err-2+in_default w ↦ search rules
     ]
