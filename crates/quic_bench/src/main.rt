@@ -7,8 +7,8 @@
 //! before. Set-up is left out. The workloads:
 //!
 //! - `bulk bytes= verify= write= read= idle=`: so many bytes go on one stream, and are compared if
-//!   `verify` isn't 0; a write has at most `write` bytes and a read `read`, and `idle` other streams
-//!   stay open.
+//!   `verify` isn't 0; a write has at most `write` bytes and a read `read`, and `idle` other
+//!   streams stay open.
 //! - `unread`, with the same names: nothing is read before all is acknowledged.
 //! - `duplex bytes=`: so many bytes go each way at the same time.
 //! - `growth bytes= times=`: as `bulk`, so many times on one connection, a line for each.
@@ -61,8 +61,8 @@ use std::process::ExitCode;
 use std::rt::Runtime;
 use std::time::CpuClock;
 
-/// What `check` does: each line is a task. With 17,000 streams beside an idle one, its id falls out of
-/// the ring in which the others stand.
+/// What `check` does: each line is a task. With 17,000 streams beside an idle one, its id falls out
+/// of the ring in which the others stand.
 const CHECKS: [&str; 14] = [
     "bulk bytes=300001 verify=1",
     "bulk bytes=300001 verify=1 loss=50 reorder=50 seed=7",

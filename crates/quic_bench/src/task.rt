@@ -184,7 +184,8 @@ impl Values {
 }
 
 impl Task {
-    /// What a line asks for; none where a workload or a name isn't known, or the work can't be done.
+    /// What a line asks for; none where a workload or a name isn't known, or the work can't be
+    /// done.
     pub fn read(alloc: Global, line: &str) -> Result<Option<Self>, AllocError> {
         let mut words = line.split_whitespace();
         let Some(name) = words.next() else {
@@ -234,9 +235,9 @@ impl Task {
         })
     }
 
-    /// How many streams of each kind an end lets the other have open at once. Beside idle ones it allows
-    /// twice as many as are open: a limit is told anew only once it grew by an eighth of its count,
-    /// and the ends of the few others don't raise it so far.
+    /// How many streams of each kind an end lets the other have open at once. Beside idle ones it
+    /// allows twice as many as are open: a limit is told anew only once it grew by an eighth of its
+    /// count, and the ends of the few others don't raise it so far.
     fn streams(&self) -> u64 {
         match self.workload {
             Workload::Streams { open, idle: 0, .. } | Workload::Requests { open, .. } => open,

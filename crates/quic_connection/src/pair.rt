@@ -108,10 +108,10 @@ impl<H: HeaderKey + Drop, K: PacketKey + Drop, R: Rng + Drop, C: Controller> End
     ///
     /// # Errors
     ///
-    /// [`ConfigError`], the client's before the server's: `IdLength` where an id hasn't eight bytes,
-    /// `Size` where a size of datagrams is above what a UDP payload may have or the least is above
-    /// what the other end takes, `Window` where the congestion controller's window doesn't hold two
-    /// datagrams of the size that the path begins with, `Memory` where memory lacks.
+    /// [`ConfigError`], the client's before the server's: `IdLength` where an id hasn't eight
+    /// bytes, `Size` where a size of datagrams is above what a UDP payload may have or the least is
+    /// above what the other end takes, `Window` where the congestion controller's window doesn't
+    /// hold two datagrams of the size that the path begins with, `Memory` where memory lacks.
     pub fn new<F: ControllerFactory<Controller = C> + Drop>(
         alloc: Global,
         now: Instant,

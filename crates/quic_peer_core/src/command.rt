@@ -1,4 +1,5 @@
-//! The language of one end: a line sets an option of it, makes it, hands a datagram in, or is a call.
+//! The language of one end: a line sets an option of it, makes it, hands a datagram in, or is a
+//! call.
 ghost use Rattle.std.specs.Prelude.{◌≡◌, ◌⊎◌, Some, None, MatchResult, drop, ok_or};
 ghost use Rattle.quic_run_core.specs.Named.{side_named, bytes_named};
 ghost use Rattle.quic_run_core.specs.Language.{number_named, first, words_left, Reads, words as words_of};

@@ -138,13 +138,13 @@ impl Peer {
 }
 
 /// Drives one end of a connection by lines, each of which sets an option, makes the end, hands a
-/// datagram in or is a call: prints that the keys hide nothing, and then each answer before the next
-/// line is read.
+/// datagram in or is a call: prints that the keys hide nothing, and then each answer before the
+/// next line is read.
 ///
 /// `ReadFault`: the reader failed, or gave no end within 2^32 calls. `WriteFault`: the writer
 /// failed, or took nothing. `BadCommand`: a line isn't in the language; or it sets an option or
-/// makes the end when that is made, or needs the end before that. `OutOfMemory`: memory lacked. What
-/// was printed before stands.
+/// makes the end when that is made, or needs the end before that. `OutOfMemory`: memory lacked.
+/// What was printed before stands.
 pub fn run_peer<R: Read + Drop, W: Write>(
     alloc: Global,
     reader: R,

@@ -315,7 +315,8 @@ pub(crate) fn put_rest(out: &mut String, moment: Option<Instant>) -> Result<(), 
     }
 }
 
-/// Appends an answer. A datagram that was given out is the last of the `given` datagrams of its end.
+/// Appends an answer. A datagram that was given out is the last of the `given` datagrams of its
+/// end.
 pub fn put_answer(
     alloc: Global,
     out: &mut String,

@@ -1,4 +1,5 @@
-//! Keys that protect nothing, for scripts, tests and examples: payloads stay clear, and the tag shows the number and a mark.
+//! Keys that protect nothing, for scripts, tests and examples: payloads stay clear, and the tag
+//! shows the number and a mark.
 ghost use Rattle.std.specs.Prelude.{◌≡◌, ℕ, ◌+◌, ◌-◌, ◌<◌, ◌≤◌, ◌^◌, List, length, take, drop, slice_index};
 ghost use Rattle.quic_packet.specs.Keys.{with_header, sample, AreMates};
 ghost use Rattle.quic_wire_core.specs.StreamId.{other_side};
@@ -123,7 +124,8 @@ impl PacketKey for PlainKey {
     ghost adds_tag = { λ k. adds_tag k.mark };
 }
 
-/// How many packets a key may seal, and how many it may fail to open, unless it is given another limit.
+/// How many packets a key may seal, and how many it may fail to open, unless it is given another
+/// limit.
 pub const KEY_LIMIT: u64 = 1 << 23;
 
 /// The packet key of one end: its mark is the letter `c` or `s`.

@@ -1,4 +1,5 @@
-//! What other languages of lines share with scripts: how lines are read, what their words name, and how answers are printed.
+//! What other languages of lines share with scripts: how lines are read, what their words name, and
+//! how answers are printed.
 
 pub use crate::answer::{call_name, mark_name, put_answer, put_bytes, put_received};
 pub use crate::lines::Lines;

@@ -45,11 +45,11 @@ impl<R: Read + Drop> Lines<R> {
         })
     }
 
-    /// Puts the next line into the buffer, in place of what was there, and says whether there is one. Of a line that is
-    /// too long only so much is read that this can be told.
+    /// Puts the next line into the buffer, in place of what was there, and says whether there is
+    /// one. Of a line that is too long only so much is read that this can be told.
     ///
-    /// `ReadFault`: the reader failed, or was called too often. `OutOfMemory`: memory lacked. Nothing is said of the
-    /// lines then.
+    /// `ReadFault`: the reader failed, or was called too often. `OutOfMemory`: memory lacked.
+    /// Nothing is said of the lines then.
     pub fn next(&mut self, line: &mut Vec<u8>) -> Result<bool, ScriptError>
         requires { KnowsEnd R.remaining self.old }
         ensures known { KnowsEnd R.remaining self.new }

@@ -34,7 +34,8 @@ pub(crate) struct Runner {
     alloc: Global,
     client: Options,
     server: Options,
-    // None until the first line that isn't a setting. It lies on the heap, so that a runner is small.
+    // None until the first line that isn't a setting. It lies on the heap, so that a runner is
+    // small.
     session: Option<Box<Session>>,
 }
 
@@ -182,12 +183,13 @@ fn heading(alloc: Global, side: Side, name: &str) -> Result<String, AllocError>
     format!(in alloc; "{end} {name} ")
 }
 
-/// Runs a script, each of whose lines is a call at one of two ends, or lets both settle: prints each answer before the next
-/// line is run. The ends are made at the first line that isn't a setting.
+/// Runs a script, each of whose lines is a call at one of two ends, or lets both settle: prints
+/// each answer before the next line is run. The ends are made at the first line that isn't a
+/// setting.
 ///
-/// `ReadFault`: the reader failed, or gave no end within 2^32 calls. `WriteFault`: the writer failed, or took nothing.
-/// `BadCommand`: a line isn't in the language, or sets an option when the ends are made. `OutOfMemory`: memory lacked.
-/// What was printed before stands.
+/// `ReadFault`: the reader failed, or gave no end within 2^32 calls. `WriteFault`: the writer
+/// failed, or took nothing. `BadCommand`: a line isn't in the language, or sets an option when the
+/// ends are made. `OutOfMemory`: memory lacked. What was printed before stands.
 pub fn run_script<R: Read + Drop, W: Write>(
     alloc: Global,
     reader: R,

@@ -55,7 +55,8 @@ impl From<ConfigError> for LineError {
     }
 }
 
-/// An end that is made at moment 0. Its options and those of the peer are always lawful: an error is want of memory.
+/// An end that is made at moment 0. Its options and those of the peer are always lawful: an error
+/// is want of memory.
 fn make_end(alloc: Global, side: Side, own: &Options, peer: &Options) -> Result<End, LineError>
     ensures end { IfOk result (λ made. made.end ≡ first_end side own.now peer.now) }
     ensures control { IfOk result (λ made. made.control ≡ first_controller) }
@@ -100,7 +101,8 @@ pub(crate) struct Session {
 }
 
 impl Session {
-    /// Two ends with these options, which meet what the promises on runs ask of ends. An error is want of memory.
+    /// Two ends with these options, which meet what the promises on runs ask of ends. An error is
+    /// want of memory.
     pub(crate) fn new(alloc: Global, client: &Options, server: &Options) -> Result<Self, LineError>
         ensures world { IfOk result (λ session. world_of window_after session.ends session.given ≡ first_world client.now server.now) }
         ensures started { OnOk result (AreStarted (first_world client.now server.now)) }

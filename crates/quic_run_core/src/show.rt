@@ -111,8 +111,8 @@ fn learn(
     Ok(())
 }
 
-/// Appends the number and the payload of the datagram of this index. `numbers` are those of the end's first datagrams,
-/// as far as they were looked at.
+/// Appends the number and the payload of the datagram of this index. `numbers` are those of the
+/// end's first datagrams, as far as they were looked at.
 pub(crate) fn put_datagram(
     alloc: Global,
     side: Side,

@@ -122,8 +122,9 @@ fn refusal<R: Abort>(rt: &R, end: &mut End, datagram: &mut [u8]) -> Option<DropR
     }
 }
 
-/// The datagram of `hello` with this byte at this index isn't taken, for this reason: a long header, no fixed bit, another key
-/// phase, another id, another number, another tag, the tag of the server itself.
+/// The datagram of `hello` with this byte at this index isn't taken, for this reason: a long
+/// header, no fixed bit, another key phase, another id, another number, another tag, the tag of the
+/// server itself.
 const CHANGED: [(usize, u8, DropReason); 8] = [
     (0, 0xc8, DropReason::NotShort),
     (0, 0x08, DropReason::FixedBit),

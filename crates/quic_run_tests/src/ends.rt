@@ -45,8 +45,8 @@ fn making(
     }
 }
 
-/// Two ends that are made for one another at the moment 0: they and their keys meet what the promises
-/// on runs ask.
+/// Two ends that are made for one another at the moment 0: they and their keys meet what the
+/// promises on runs ask.
 fn ends_with(alloc: Global, transport: TransportConfig) -> Result<BothEnds, ConfigError>
     ensures started { IfOk result (λ ends. AreStarted (first_world window_after ends)) }
     ensures keys { IfOk result (λ ends. AreKeys (policies_of (λ _. plain_protection) (λ k. plain_aead k.mark) stream_from ends)) }
@@ -155,7 +155,8 @@ pub(crate) fn delivery(index: usize) -> RunEvent {
     event(Side::Server, Call::Deliver(delivery))
 }
 
-/// The client writes `hello` on its stream and ends it, and the server accepts the stream and reads it to its end.
+/// The client writes `hello` on its stream and ends it, and the server accepts the stream and reads
+/// it to its end.
 pub(crate) fn hello(alloc: Global) -> Result<[RunEvent; 7], AllocError> {
     let now = Instant::from_nanos(0);
     let bytes = Bytes::from_static(b"hello");

@@ -20,7 +20,8 @@ fn id_of(side: Side) -> [u8; 8] {
     }
 }
 
-/// A datagram for this end with this first byte under the number 0, which has four bytes, as its peer seals it.
+/// A datagram for this end with this first byte under the number 0, which has four bytes, as its
+/// peer seals it.
 pub(crate) fn sealed_for(
     alloc: Global,
     side: Side,
@@ -198,7 +199,8 @@ fn streams_keep_to_their_limits(rt: HostRuntime) -> Result<(), Fail> {
     Ok(())
 }
 
-// RFC 9000, sections 4.6 and 17.3.1: the first stream where none may be opened, and reserved bits that aren't 0.
+// RFC 9000, sections 4.6 and 17.3.1: the first stream where none may be opened, and reserved bits
+// that aren't 0.
 #[test]
 fn counts_and_reserved_bits_are_kept(rt: HostRuntime) -> Result<(), Fail> {
     let mut no_streams = TransportConfig::default();

@@ -1,5 +1,5 @@
-//! What the keys of scripts have to do with the run that the reference machine is computed on. The function does nothing: its
-//! contract is the law.
+//! What the keys of scripts have to do with the run that the reference machine is computed on. The
+//! function does nothing: its contract is the law.
 ghost use Rattle.std.specs.Prelude.{◌≡◌};
 ghost use Rattle.quic_wire_core.specs.declared.stream_id.Side.TheVariants.{Client, Server};
 ghost use Rattle.quic_congestion.specs.NewReno.{Reno};

@@ -104,8 +104,8 @@ impl Write for Answering<'_> {
     }
 }
 
-/// How a script ends whose reader fails behind this text or has no end and is called 100 times at most, what it prints, and how
-/// often the reader is called.
+/// How a script ends whose reader fails behind this text or has no end and is called 100 times at
+/// most, what it prints, and how often the reader is called.
 fn ended(alloc: Global, text: &[u8], endless: bool) -> (Result<(), ScriptError>, Vec<u8>, u64) {
     let mut out = Vec::new(alloc);
     let calls = Cell::new(0);
